@@ -1,0 +1,4 @@
+pub mod Objects
+pub mod Fits
+pub mod Bytes
+pub mod Orders

@@ -1,0 +1,7 @@
+use Rattle.std.proofs.Common.{rules}
+use Rattle.layout_core.proofs.Fits.{is_cut}
+use Rattle.layout_core.proofs.layout.Layout.of.Goals as goal
+
+pub invariant_of-result : goal.invariant_of-result
+invariant_of-result c =
+    is_cut _ _ _ _ _ (search rules) (search rules) c.chunk_of-chunk.ensures c.slab_order-order.ensures.order c.slab_room-room.ensures

@@ -1,0 +1,24 @@
+use Rattle.std.specs.Prelude.{◌≡◌, ℕ, ◌<◌, ◌≤◌, ◌++◌, List, true, take, length, replicate}
+use Rattle.model_core.specs.Layouts.{is_size, is_alignment, layout_of}
+
+-- the fields of a `Layout` are the numbers of its size and alignment
+pub record IsCut (size align chunk order count colours : ℕ) : Type 0 where
+  pub accepted_size : is_size size ≡ true
+  pub accepted_align : is_alignment align ≡ true
+  pub chunk_is : chunk ≡ (layout_of size align).chunk
+  pub order_is : order ≡ (layout_of size align).order
+  pub count_is : count ≡ (layout_of size align).count
+  pub colours_is : colours ≡ (layout_of size align).colours
+  pub some : 0 < chunk
+  pub sized : size ≤ chunk
+
+-- 16 bytes that begin with these and go on with zeroes
+abbrev pub padded : List ℕ → List ℕ
+padded xs = take 16 (xs ++ replicate 16 0)
+
+-- the fields of a `Pattern`: 16 bytes, of which all behind the first `len` are 0
+pub record IsHeld (bytes : List ℕ) (len : ℕ) : Type 0 where
+  pub some : 0 < len
+  pub few : len ≤ 16
+  pub padding : padded (take len bytes) ≡ bytes
+  pub taken : length (take len bytes) ≡ len

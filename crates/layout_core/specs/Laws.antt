@@ -1,0 +1,26 @@
+-- The laws of layouts, over all accepted sizes and alignments.
+use Rattle.std.specs.Prelude.{◌≡◌, ℕ, ◌<◌, ◌≤◌, true, false}
+use Rattle.model_core.specs.Layouts.{layout_of, is_size, is_alignment, is_small, is_thrifty}
+use Rattle.layout_core.specs.Cut.{cut}
+use Rattle.layout_core.specs.Objects.{Holds}
+
+-- what a slab's order is: 0 for small chunks, and else the least that leaves at most an eighth of the slab unused
+pub record IsLeastOrder (chunk order : ℕ) : Type 0 where
+  pub few : order ≤ 3
+  pub small : is_small chunk ≡ true → order ≡ 0
+  pub thrifty : is_small chunk ≡ false → is_thrifty chunk order ≡ true
+  pub least : is_small chunk ≡ false → (q : ℕ) → q < order → is_thrifty chunk q ≡ false
+
+abbrev pub EverySizeHasAnOrder : Type 0
+EverySizeHasAnOrder = (size align : ℕ) → is_size size ≡ true → is_alignment align ≡ true
+    → IsLeastOrder (layout_of size align).chunk (layout_of size align).order
+
+-- a byte that two objects hold is one object's
+abbrev pub ObjectsApart : Type 0
+ObjectsApart = (size align colour offset i j : ℕ) → is_size size ≡ true → is_alignment align ≡ true
+    → Holds (cut size align) colour offset 1 i → Holds (cut size align) colour offset 1 j → i ≡ j
+
+abbrev pub FewObjects : Type 0
+FewObjects = (size align : ℕ) → is_size size ≡ true → is_alignment align ≡ true
+    → (is_small (layout_of size align).chunk ≡ true → (layout_of size align).count ≤ 254)
+    × (is_small (layout_of size align).chunk ≡ false → (layout_of size align).count ≤ 16)

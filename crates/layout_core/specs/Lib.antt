@@ -1,0 +1,4 @@
+pub mod Cut
+pub mod Objects
+pub mod Inside
+pub mod Laws

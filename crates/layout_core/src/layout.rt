@@ -1,0 +1,209 @@
+ghost use Rattle.std.specs.Prelude.{◌≡◌, ℕ, ◌+◌, ◌-◌, ◌*◌, ◌/◌, ◌%◌, ◌<◌, ◌≤◌, true, IsTrue, MatchOption};
+ghost use Rattle.model_core.specs.Layouts.{is_size, is_alignment, is_small, object_offset, IsLayout};
+ghost use Rattle.model_core.specs.Layouts.{chunk_of as model_chunk_of, is_thrifty as model_is_thrifty, slab_order as model_slab_order, slab_room as model_slab_room};
+ghost use Rattle.layout_core.specs.Cut.{Cut, cut, numbers_of, layout_or_refusal};
+ghost use Rattle.layout_core.specs.Objects.{IsColour, Begins, Holds, IsOnly};
+
+use std::marker::Model;
+
+/// Why a size and an alignment have no layout.
+#[derive(Clone, Copy, Debug, PartialEq, Eq)]
+pub enum LayoutRefusal {
+    /// The size is 0 or above 4096 bytes.
+    BadSize,
+    /// The alignment is none of 8, 16, 32, 64, 128 and 256 bytes.
+    BadAlign,
+}
+
+/// Chunks below this many bytes are small.
+const SMALL: u32 = 512;
+
+/// How the slabs of a cache are cut into objects: an object size and an alignment, with the numbers that follow from
+/// them. All are bytes, but for the order, the count and the colours.
+#[derive(Clone, Copy, Debug)]
+pub struct Layout {
+    size: u32,
+    align: u32,
+    chunk: u32,
+    order: u8,
+    count: u32,
+    colours: u32,
+}
+
+impl Model for Layout {
+    ghost use Rattle.layout_core.specs.Cut.{Cut, numbers_of};
+    ghost use Rattle.layout_core.specs.Inside.{IsCut};
+
+    ghost Value = { Cut };
+
+    ghost view = { λ l. record { size = l.size; align = l.align } };
+
+    ghost invariant = { λ l. IsCut l.size l.align l.chunk l.order l.count l.colours };
+
+    ghost inverse = { λ l. record { size = l.size; align = l.align; chunk = (numbers_of l).chunk; order = (numbers_of l).order; count = (numbers_of l).count; colours = (numbers_of l).colours } };
+}
+
+impl Layout {
+    /// The layout for objects of `size` bytes, 1 to 4096, at multiples of `align`. The size is tested first.
+    pub fn of(size: u32, align: u32) -> Result<Layout, LayoutRefusal>
+        ensures { result ≡ layout_or_refusal size align }
+    {
+        if size == 0 || size > 4096 {
+            return Err(LayoutRefusal::BadSize);
+        }
+        if !matches!(align, 8 | 16 | 32 | 64 | 128 | 256) {
+            return Err(LayoutRefusal::BadAlign);
+        }
+        let chunk = chunk_of(size, align);
+        let order = slab_order(chunk);
+        let room = slab_room(chunk, order);
+        let count = room / chunk;
+        let colours = (room - count * chunk) / align + 1;
+        Ok(Layout {
+            size,
+            align,
+            chunk,
+            order,
+            count,
+            colours,
+        })
+    }
+
+    /// The bytes of an object, 1 to 4096.
+    pub fn size(&self) -> u32
+        ensures { result ≡ self.now.size }
+    {
+        self.size
+    }
+
+    /// What each object's first byte is a multiple of: 8, 16, 32, 64, 128 or 256.
+    pub fn align(&self) -> u32
+        ensures { result ≡ self.now.align }
+    {
+        self.align
+    }
+
+    /// A slab has `2^order` frames, and this is 0 to 3.
+    pub fn order(&self) -> u8
+        ensures { result ≡ (numbers_of self.now).order }
+    {
+        self.order
+    }
+
+    /// The bytes from the first of an object to the first of the next.
+    pub fn chunk(&self) -> u32
+        ensures { result ≡ (numbers_of self.now).chunk }
+    {
+        self.chunk
+    }
+
+    /// The objects of a slab.
+    pub fn count(&self) -> u32
+        ensures { result ≡ (numbers_of self.now).count }
+    {
+        self.count
+    }
+
+    /// How many colour offsets there are: the multiples of the alignment from 0 on.
+    pub fn colours(&self) -> u32
+        ensures { result ≡ (numbers_of self.now).colours }
+    {
+        self.colours
+    }
+
+    /// The objects are small: a slab is one frame, and its control record stands in the last 32 bytes.
+    pub fn in_page(&self) -> bool
+        ensures { result ≡ is_small (numbers_of self.now).chunk }
+    {
+        self.chunk < SMALL
+    }
+
+    /// A law that every layout lends its holder: at each colour offset the objects end within the slab, and below the
+    /// control record where that stands in the frame. The call does nothing.
+    pub fn fits(&self)
+        ensures { IsLayout self.now.size self.now.align (numbers_of self.now) }
+    {
+        let _ = &self.size;
+    }
+
+    /// Where object `i` begins, in bytes from the first of a slab with this colour offset.
+    pub fn offset(&self, colour: u32, i: u32) -> u32
+        requires colour { IsColour self.now colour }
+        requires object { i < (numbers_of self.now).count }
+        ensures { result ≡ object_offset (numbers_of self.now) colour i }
+    {
+        colour + i * self.chunk
+    }
+
+    /// The object that begins at this offset of a slab, if one does.
+    pub fn index_of(&self, colour: u32, offset: u32) -> Option<u32>
+        ensures { MatchOption result ((i : ℕ) → ¬ Begins self.now colour offset i) (IsOnly (Begins self.now colour offset)) }
+    {
+        let from = offset.checked_sub(colour)?;
+        let index = from / self.chunk;
+        if index < self.count && from % self.chunk == 0 {
+            Some(index)
+        } else {
+            None
+        }
+    }
+
+    /// The object whose bytes hold the range of `len` bytes from this offset on, if one does; none holds a range of no bytes.
+    pub fn holder(&self, colour: u32, offset: u32, len: u32) -> Option<u32>
+        ensures { MatchOption result ((i : ℕ) → ¬ Holds self.now colour offset len i) (IsOnly (Holds self.now colour offset len)) }
+    {
+        let from = offset.checked_sub(colour)?;
+        let index = from / self.chunk;
+        let inside = from % self.chunk;
+        if 0 < len && index < self.count && len <= self.size && inside <= self.size - len {
+            Some(index)
+        } else {
+            None
+        }
+    }
+}
+
+/// The size rounded up to a multiple of the alignment, and at least 16 bytes.
+fn chunk_of(size: u32, align: u32) -> u32
+    requires size { is_size size ≡ true }
+    requires align { is_alignment align ≡ true }
+    ensures { result ≡ model_chunk_of size align }
+{
+    ((size + align - 1) / align * align).max(16)
+}
+
+/// Chunks leave at most an eighth of a slab of `2^order` frames unused.
+fn is_thrifty(chunk: u32, order: u8) -> bool
+    requires chunk { 0 < chunk }
+    requires order { order ≤ 3 }
+    ensures { result ≡ model_is_thrifty chunk order }
+{
+    let bytes = 4096u32 << order;
+    bytes % chunk <= bytes / 8
+}
+
+/// The order of a slab: 0 for small objects, else the least that leaves at most an eighth unused.
+fn slab_order(chunk: u32) -> u8
+    requires { 0 < chunk }
+    ensures order { result ≡ model_slab_order chunk }
+    ensures few { result ≤ 3 }
+{
+    if chunk < SMALL || is_thrifty(chunk, 0) {
+        0
+    } else if is_thrifty(chunk, 1) {
+        1
+    } else if is_thrifty(chunk, 2) {
+        2
+    } else {
+        3
+    }
+}
+
+/// What objects and colour offsets may use of a slab.
+fn slab_room(chunk: u32, order: u8) -> u32
+    requires order { order ≡ model_slab_order chunk }
+    requires few { order ≤ 3 }
+    ensures { result ≡ model_slab_room chunk }
+{
+    if chunk < SMALL { 4064 } else { 4096 << order }
+}

@@ -1,0 +1,65 @@
+ghost use Rattle.std.specs.Prelude.{◌≡◌, ℕ, ◌+◌, ◌%◌, ◌<◌, ◌≤◌, List, Bool, true, ◌↔◌, take, length, IsSome, IfSome, slice_index, EachIndex};
+ghost use Rattle.model_core.specs.Layouts.{is_pattern, pattern_byte};
+
+use std::marker::Model;
+
+/// What an object holds when it is constructed: 1 to 16 bytes, over and over.
+#[derive(Clone, Copy, Debug)]
+pub struct Pattern {
+    bytes: [u8; 16],
+    len: u8,
+}
+
+impl Model for Pattern {
+    ghost use Rattle.std.specs.Prelude.{ℕ, List, take, length};
+    ghost use Rattle.layout_core.specs.Inside.{IsHeld, padded};
+
+    ghost Value = { List ℕ };
+
+    ghost view = { λ p. take p.len p.bytes };
+
+    ghost invariant = { λ p. IsHeld p.bytes p.len };
+
+    ghost inverse = { λ xs. record { bytes = padded xs; len = length xs } };
+
+    ghost inverse_ok = { λ p h. λ i. record { bytes = h.padding i; len = h.taken i } };
+}
+
+impl Pattern {
+    /// These bytes as a pattern, if they are 1 to 16.
+    pub fn new(bytes: &[u8]) -> Option<Pattern>
+        ensures some { IsSome result ↔ (is_pattern bytes.now ≡ true) }
+        ensures value { IfSome result (λ p. p ≡ bytes.now) }
+    {
+        if bytes.is_empty() || bytes.len() > 16 {
+            return None;
+        }
+        let mut held = [0; 16];
+        held[..bytes.len()].copy_from_slice(bytes);
+        Some(Pattern {
+            bytes: held,
+            len: bytes.len() as u8,
+        })
+    }
+
+    /// The bytes of the pattern, 1 to 16.
+    pub fn as_slice(&self) -> &[u8]
+        ensures value { result.now ≡ self.now }
+        ensures pattern { is_pattern self.now ≡ true }
+        ensures some { 0 < length result.now }
+    {
+        &self.bytes[..usize::from(self.len)]
+    }
+
+    /// Byte `j` of the slice becomes byte `j mod length` of the pattern: the slice is constructed (Bonwick).
+    pub fn fill(&self, out: &mut [u8])
+        ensures { EachIndex out.new (λ j. slice_index out.new j ≡ pattern_byte self.now j) }
+    {
+        let bytes = self.as_slice();
+        let mut from = 0;
+        for byte in out.iter_mut() {
+            *byte = bytes[from];
+            from = if from + 1 == bytes.len() { 0 } else { from + 1 };
+        }
+    }
+}

@@ -1,0 +1,75 @@
+-- Worked rows of the choice, by computation. All have slots of order 3, of 8 frames.
+use Rattle.std.proofs.Common.{◌≡◌, refl, ℕ, Bool, Some, None, Option, List, [], ◌∷◌}
+use Rattle.std.specs.Prelude.{map, filter, ◌++◌, nat_lt, ◌==◌}
+use Rattle.model_core.specs.Blocks.{Block, block, buddy, around, Taken, with_taken, without_taken}
+use Rattle.model_core.specs.Choice.{choose, is_free}
+
+-- slots 0 to n - 1 are held
+abbrev first_slots : ℕ → ℕ → Bool
+first_slots n u = nat_lt u n
+
+abbrev nothing : Taken
+nothing f = None
+
+-- the taken blocks of a list of first frames and orders
+abbrev blocks_of : List Block → Taken
+blocks_of [] = nothing
+blocks_of (b ∷ bs) = with_taken (blocks_of bs) b.first b.order
+
+-- frames 0 to 7, all taken
+abbrev full : Taken
+full = blocks_of (block 0 0 ∷ block 1 0 ∷ block 2 1 ∷ block 4 2 ∷ [])
+
+-- the aligned blocks of slot 0
+abbrev all_blocks : List Block
+all_blocks = map (λ f. block f 0) (0 ∷ 1 ∷ 2 ∷ 3 ∷ 4 ∷ 5 ∷ 6 ∷ 7 ∷ []) ++ map (λ f. block f 1) (0 ∷ 2 ∷ 4 ∷ 6 ∷ []) ++ block 0 2 ∷ block 4 2 ∷ block 0 3 ∷ []
+
+abbrev serve_rest : Taken → ℕ → Option Block → (Taken → List (Option ℕ)) → List (Option ℕ)
+serve_rest taken k None rest = None ∷ rest taken
+serve_rest taken k (Some b) rest = Some b.first ∷ rest (with_taken taken b.first k)
+
+-- what requests of these orders get in turn where n slots are held: the first frame, or None
+abbrev serve : ℕ → Taken → List ℕ → List (Option ℕ)
+serve n taken [] = []
+serve n taken (k ∷ ks) = serve_rest taken k (choose 3 (first_slots n) taken n k) (λ after. serve n after ks)
+
+-- nothing is held
+empty : serve 0 nothing (0 ∷ []) ≡ None ∷ []
+empty = refl
+
+-- splits keep the lower half; then the slot is used up
+splits_then_exhaustion : serve 1 nothing (0 ∷ 1 ∷ 2 ∷ 0 ∷ 0 ∷ []) ≡ Some 0 ∷ Some 2 ∷ Some 4 ∷ Some 1 ∷ None ∷ []
+splits_then_exhaustion = refl
+
+-- the upper halves of the splits are free, and nothing else
+upper_halves : filter (λ b. is_free 3 (first_slots 1) (blocks_of (block 0 0 ∷ [])) b) all_blocks ≡ block 1 0 ∷ block 2 1 ∷ block 4 2 ∷ []
+upper_halves = refl
+
+-- frames 0 to 7 in four blocks, given back in this order: joined with each buddy that is free
+joins : choose 3 (first_slots 1) (without_taken (without_taken (without_taken (without_taken full 0) 1) 2) 4) 1 0 ≡ Some (block 0 3)
+joins = refl
+
+-- frame 0 is given back while its buddy, frame 1, is taken: not joined
+not_joined : filter (λ b. is_free 3 (first_slots 1) (without_taken full 0) b) all_blocks ≡ block 0 0 ∷ []
+not_joined = refl
+
+-- frame 0 is free but too small for order 1
+too_small_passed_over : serve 1 (without_taken (without_taken full 0) 4) (1 ∷ 0 ∷ []) ≡ Some 4 ∷ Some 0 ∷ []
+too_small_passed_over = refl
+
+-- the least order goes before the least frame: slot 0 is whole, slot 1 is split
+order_before_frame : serve 2 (blocks_of (block 8 0 ∷ [])) (0 ∷ 3 ∷ 0 ∷ []) ≡ Some 9 ∷ Some 0 ∷ Some 10 ∷ []
+order_before_frame = refl
+
+-- slots need not follow one another
+only_slot_1 : choose 3 (λ u. u == 1) nothing 2 0 ≡ Some (block 8 3)
+only_slot_1 = refl
+
+lower_buddy : buddy (block 4 2) ≡ block 0 2
+lower_buddy = refl
+
+upper_buddy : buddy (block 8 1) ≡ block 10 1
+upper_buddy = refl
+
+around_frame_13 : around 13 2 ≡ block 12 2
+around_frame_13 = refl

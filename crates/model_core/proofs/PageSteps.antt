@@ -1,0 +1,192 @@
+-- Page blocks, slots and whole caches: the machine stays well formed.
+use Rattle.std.proofs.Common.{◌≡◌, ◌≢◌, ℕ, ◌+◌, ◌*◌, ◌/◌, ◌^◌, ◌<◌, ◌≤◌, Bool, true, false, not, eqb, ltb, leb, List, [], ◌∷◌, ◌++◌, map, Option, Some, None, Ok, refl, sym, ap, ◌∙◌, subst, arith}
+use Rattle.std.specs.Prelude.{if◌then◌else◌, filter}
+use Rattle.std.specs.List.{list_any, AllByRecursion as Each}
+use Rattle.std.proofs.lemmas.List.{map-id}
+use Rattle.std.proofs.lemmas.Nat.{pow_pos}
+use Rattle.std.proofs.Math.Nat.{div-mul-le_self, lt-div-mul-add}
+use Rattle.std.proofs.lemmas.Bool.{and_from, lt-ltb, ne_eqb, false≢true}
+use Rattle.model_core.specs.declared.refusals.AllocRefusal.{AllocRefusal}
+use Rattle.model_core.specs.declared.refusals.CacheRefusal.{CacheRefusal}
+use Rattle.model_core.specs.declared.refusals.DestroyRefusal.{DestroyRefusal}
+use Rattle.model_core.specs.declared.refusals.TakeBackRefusal.{TakeBackRefusal}
+use Rattle.model_core.specs.Blocks.{Block, block, slot_block}
+use Rattle.model_core.specs.Layouts.{layout_of, is_size, is_alignment}
+use Rattle.model_core.specs.Machine.{Cache, Machine, empty_machine, put_rising, least_missing, holds, taken_blocks, choice, order_in}
+use Rattle.model_core.specs.Slabs.{zeroed, is_empty, without_empty, reaped, destroyed, cache_of}
+use Rattle.model_core.specs.Operations.{Step, refuse, with_block, without_block, alloc_at, alloc_step, free_at, free_step, created, next_number, cache_step, destroy_of, destroy_step, reap_step, next_slot, after_grant, overlaps, is_busy, after_take_back, take_back_step}
+use Rattle.model_core.specs.WellFormed.{RisesFrom, IsApart, IsCut, IsCache, IsWellFormed}
+use Rattle.model_core.proofs.Lists.{IsIn, each_left, each_right, each_put, each_weaker, each_filter, each_map, each_unmap, any_none, none_any, find_in, Found, found, PutIn, put_in, put_rises, filter_rises, least_is_missing}
+use Rattle.model_core.proofs.Apart.{apart_first}
+use Rattle.model_core.proofs.Chosen.{chosen_apart, chosen_placed}
+use Rattle.model_core.proofs.Laid.{all_laid, laid_block, IsLaidOut, taken_laid, laid_out, well_formed}
+use Rattle.model_core.proofs.Kept.{block_put, blocks_filtered, given_back, slot_put, slot_gone}
+use Rattle.model_core.proofs.Split.{laid_without, filter_laid, laid_of, is_empty_laid, kept_laid, gone_laid, slab_blocks_laid}
+
+-- what both outcomes of a test keep
+pub either : {A : Type 0} (P : Machine → Type 0) (b : Bool) (s t : Step A) → P s.machine → P t.machine → P (if b then s else t).machine
+either P true s t p q = p
+either P false s t p q = q
+
+pub empty_kept : (order : ℕ) → IsWellFormed order empty_machine
+unfolding empty_machine
+empty_kept order = well_formed order empty_machine tt tt tt tt (record {
+  placed_blocks = tt;
+  placed_slabs = tt;
+  apart_blocks = tt;
+  apart_slabs = tt;
+  across = tt;
+  cut = tt;
+  mapped = λ place. refl;
+})
+
+-- Page blocks
+
+block_kept : (order first k : ℕ) (m : Machine) → IsWellFormed order m → choice order m k ≡ Some first → IsWellFormed order (with_block (block first k) m)
+block_kept order first k m w e =
+    let b : Block = block first k in
+    let slabs : List Block = map laid_block (all_laid m.caches) in
+    let p : PutIn (λ x. x.first) b m.blocks = put_in (λ x. x.first) b m.blocks in
+    let apart : Each (IsApart b) (m.blocks ++ slabs) = subst (Each (IsApart b)) (taken_laid m) (chosen_apart order k first m w.apart e) in
+    let l : IsLaidOut order m.slots m.blocks (all_laid m.caches) m.bytes = laid_out order m w in
+    well_formed order (with_block b m) w.slots_rise
+    (put_rises (λ x. x.first) 0 b m.blocks w.blocks_rise (omega arith) (each_weaker (IsApart b) (λ y. y.first ≢ first) (λ y h same. apart_first b y h (sym same)) m.blocks (each_left (IsApart b) m.blocks slabs apart)))
+    w.caches_rise w.caches
+    (subst (λ bs. IsLaidOut order m.slots bs (all_laid m.caches) m.bytes) (sym p.is)
+    (block_put order m.slots p.before p.later b (all_laid m.caches) m.bytes (subst (λ bs. IsLaidOut order m.slots bs (all_laid m.caches) m.bytes) p.was l)
+    (chosen_placed order k first m e) (subst (Each (IsApart b)) p.was (each_left (IsApart b) m.blocks slabs apart)) (each_right (IsApart b) m.blocks slabs apart)))
+
+alloc_at_kept : (order k : ℕ) (m : Machine) → IsWellFormed order m → (o : Option ℕ) → choice order m k ≡ o → IsWellFormed order (alloc_at k m o).machine
+alloc_at_kept order k m w None e = w
+alloc_at_kept order k m w (Some first) e = block_kept order first k m w e
+
+pub alloc_kept : (order k : ℕ) (m : Machine) → IsWellFormed order m → IsWellFormed order (alloc_step order k m).machine
+unfolding alloc_step
+alloc_kept order k m w = either (IsWellFormed order) (ltb order k) (refuse AllocRefusal.BadOrder m) (alloc_at k m (choice order m k)) w (alloc_at_kept order k m w (choice order m k) refl)
+
+pub free_kept : (order first : ℕ) (m : Machine) → IsWellFormed order m → IsWellFormed order (free_step first m).machine
+unfolding free_step
+free_kept order first m w = go (order_in m.blocks first)
+  where
+    go : (o : Option ℕ) → IsWellFormed order (free_at first m o).machine
+    go None = w
+    go (Some k) = well_formed order (without_block first m) w.slots_rise (filter_rises (λ b. b.first) (λ x. not (eqb x.first first)) 0 m.blocks w.blocks_rise) w.caches_rise w.caches
+        (blocks_filtered order m.slots (λ x. not (eqb x.first first)) m.blocks (all_laid m.caches) m.bytes (laid_out order m w))
+
+-- Slots
+
+pub grant_kept : (order : ℕ) (m : Machine) → IsWellFormed order m → IsWellFormed order (after_grant order m)
+unfolding after_grant next_slot
+grant_kept order m w =
+    let u : ℕ = least_missing 0 m.slots in
+    let missing : Each (λ v. v ≢ u) m.slots = least_is_missing 0 m.slots w.slots_rise in
+    let p : PutIn (λ v. v) u m.slots = put_in (λ v. v) u m.slots in
+    let new : list_any (λ v. eqb v u) m.slots ≡ false = any_none (λ v. eqb v u) m.slots (each_weaker (λ v. v ≢ u) (λ v. eqb v u ≡ false) (λ v. ne_eqb v u) m.slots missing) in
+    well_formed order (after_grant order m)
+    (subst (RisesFrom 0) (map-id (put_rising (λ v. v) u m.slots)) (put_rises (λ v. v) 0 u m.slots (subst (RisesFrom 0) (sym (map-id m.slots)) w.slots_rise) (omega arith) missing))
+    w.blocks_rise w.caches_rise w.caches
+    (subst (λ us. IsLaidOut order us m.blocks (all_laid m.caches) (after_grant order m).bytes) (sym p.is)
+    (slot_put order p.before p.later u m.blocks (all_laid m.caches) m.bytes (subst (λ us. list_any (λ v. eqb v u) us ≡ false) p.was new)
+    (subst (λ us. IsLaidOut order us m.blocks (all_laid m.caches) m.bytes) p.was (laid_out order m w))))
+
+-- a block in a slot makes it busy
+not_in_slot : (order slot : ℕ) (b : Block) → overlaps (slot_block order slot) b ≡ false → b.first / 2 ^ order ≢ slot
+not_in_slot order slot b e same = false≢true (sym e ∙ and_from (ltb (slot * 2 ^ order) (b.first + 2 ^ b.order)) (ltb b.first (slot * 2 ^ order + 2 ^ order))
+    (lt-ltb (slot * 2 ^ order) (b.first + 2 ^ b.order) (omega (arith, low, pow_pos b.order))) (lt-ltb b.first (slot * 2 ^ order + 2 ^ order) high))
+  where
+    low : slot * 2 ^ order ≤ b.first
+    low = subst (λ n. n * 2 ^ order ≤ b.first) same (div-mul-le_self b.first (2 ^ order))
+
+    high : b.first < slot * 2 ^ order + 2 ^ order
+    high = subst (λ n. b.first < n * 2 ^ order + 2 ^ order) same (lt-div-mul-add (pow_pos order))
+
+pub slot_gone_kept : (order slot : ℕ) (m : Machine) → IsWellFormed order m → is_busy order m slot ≡ false → IsWellFormed order (after_take_back order slot m)
+unfolding is_busy after_take_back
+slot_gone_kept order slot m w e =
+    let slabs : List Block = map laid_block (all_laid m.caches) in
+    let apart : Each (λ b. b.first / 2 ^ order ≢ slot) (m.blocks ++ slabs) = subst (Each (λ b. b.first / 2 ^ order ≢ slot)) (taken_laid m)
+    (each_weaker (λ b. overlaps (slot_block order slot) b ≡ false) (λ b. b.first / 2 ^ order ≢ slot) (not_in_slot order slot) (taken_blocks m) (none_any (overlaps (slot_block order slot)) (taken_blocks m) e)) in
+    well_formed order (after_take_back order slot m)
+    (subst (RisesFrom 0) (map-id (filter (λ v. not (eqb v slot)) m.slots)) (filter_rises (λ v. v) (λ v. not (eqb v slot)) 0 m.slots (subst (RisesFrom 0) (sym (map-id m.slots)) w.slots_rise)))
+    w.blocks_rise w.caches_rise w.caches
+    (slot_gone order m.slots slot m.blocks (all_laid m.caches) m.bytes (each_left (λ b. b.first / 2 ^ order ≢ slot) m.blocks slabs apart)
+    (each_unmap (λ b. b.first / 2 ^ order ≢ slot) laid_block (all_laid m.caches) (each_right (λ b. b.first / 2 ^ order ≢ slot) m.blocks slabs apart)) (laid_out order m w))
+
+abbrev done : Unit {0}
+done = tt
+
+pub take_back_kept : (order slot : ℕ) (m : Machine) → IsWellFormed order m → IsWellFormed order (take_back_step order slot m).machine
+unfolding take_back_step
+take_back_kept order slot m w = either (IsWellFormed order) (not (holds m slot)) (refuse TakeBackRefusal.NoSlot m) _ w (go (is_busy order m slot) refl)
+  where
+    go : (b : Bool) → is_busy order m slot ≡ b → IsWellFormed order (if b then refuse TakeBackRefusal.SlotBusy m else record { answer = Ok done; machine = after_take_back order slot m }).machine
+    go true e = w
+    go false e = slot_gone_kept order slot m w e
+
+-- Caches made, destroyed, reaped
+
+new_kept : (order number size align : ℕ) (pattern : List ℕ) (m : Machine) → IsWellFormed order m → is_size size ≡ true → is_alignment align ≡ true
+    → Each (λ x. x ≢ number) (map (λ c. c.number) m.caches) → IsWellFormed order (created number size align pattern m)
+unfolding layout_of
+new_kept order number size align pattern m w sized aligned missing =
+    let c : Cache = record { number = number; size = size; align = align; pattern = pattern; made = 0; slabs = [] } in
+    let p : PutIn (λ x. x.number) c m.caches = put_in (λ x. x.number) c m.caches in
+    let is : IsCache c = record { sized = sized; aligned = aligned; counted = omega arith; slabs_rise = tt; slabs_cut = tt } in
+    well_formed order (created number size align pattern m) w.slots_rise w.blocks_rise
+    (put_rises (λ x. x.number) 0 c m.caches w.caches_rise (omega arith) (each_unmap (λ x. x ≢ number) (λ x. x.number) m.caches missing))
+    (subst (Each IsCache) (sym p.is) (each_put IsCache p.before p.later c (subst (Each IsCache) p.was w.caches) is))
+    (subst (λ ls. IsLaidOut order m.slots m.blocks ls m.bytes) (ap all_laid p.was ∙ (sym (laid_without p.before p.later c refl) ∙ ap all_laid (sym p.is))) (laid_out order m w))
+
+pub cache_kept : (limit order size align : ℕ) (pattern : List ℕ) (m : Machine) → IsWellFormed order m → IsWellFormed order (cache_step limit size align pattern m).machine
+unfolding cache_step next_number
+cache_kept limit order size align pattern m w = go (is_size size) refl (is_alignment align) refl
+  where
+    made : is_size size ≡ true → is_alignment align ≡ true → IsWellFormed order (created (next_number m) size align pattern m)
+    made sized aligned = new_kept order (next_number m) size align pattern m w sized aligned (least_is_missing 0 (map (λ c. c.number) m.caches) w.caches_rise)
+
+    go : (a : Bool) → is_size size ≡ a → (b : Bool) → is_alignment align ≡ b
+        → IsWellFormed order (if not a then refuse CacheRefusal.BadSize m else if not b then refuse CacheRefusal.BadAlign m
+        else if leb limit (next_number m) then refuse CacheRefusal.NoCacheSlot m else record { answer = Ok (next_number m); machine = created (next_number m) size align pattern m }).machine
+    go false e b f = w
+    go true e false f = w
+    go true e true f = either (IsWellFormed order) (leb limit (next_number m)) (refuse CacheRefusal.NoCacheSlot m) _ w (made e f)
+
+-- the slabs of one cache given back
+gone_kept : (order : ℕ) (c : Cache) (m : Machine) → IsWellFormed order m → IsIn c m.caches → IsWellFormed order (destroyed c m)
+unfolding destroyed
+gone_kept order c m w i =
+    let f : Found (λ x. x.number) c m.caches = found (λ x. x.number) 0 c m.caches w.caches_rise i in
+    well_formed order (destroyed c m) w.slots_rise w.blocks_rise
+    (filter_rises (λ x. x.number) (λ x. not (eqb x.number c.number)) 0 m.caches w.caches_rise) (each_filter IsCache (λ x. not (eqb x.number c.number)) m.caches w.caches)
+    (subst (λ ls. IsLaidOut order m.slots m.blocks ls (destroyed c m).bytes) (filter_laid (λ n. not (eqb n c.number)) m.caches)
+    (subst (λ bs. IsLaidOut order m.slots m.blocks (filter (λ l. not (eqb l.number c.number)) (all_laid m.caches)) (zeroed bs m.bytes)) (ap (λ ls. map laid_block ls) (laid_of c m.caches f) ∙ sym (slab_blocks_laid c))
+    (given_back order m.slots m.blocks (λ l. eqb l.number c.number) (all_laid m.caches) m.bytes (laid_out order m w))))
+
+pub destroy_kept : (order number : ℕ) (m : Machine) → IsWellFormed order m → IsWellFormed order (destroy_step number m).machine
+unfolding destroy_step
+destroy_kept order number m w = go (cache_of m number) refl
+  where
+    go : (o : Option Cache) → cache_of m number ≡ o → IsWellFormed order (destroy_of m o).machine
+    go None e = w
+    go (Some c) e = either (IsWellFormed order) (list_any (λ s. not (is_empty s)) c.slabs) (refuse DestroyRefusal.CacheInUse m) _ w (gone_kept order c m w (find_in (λ x. eqb x.number number) c m.caches e).0)
+
+without_empty_is : (c : Cache) → IsCache c → IsCache (without_empty c)
+without_empty_is c h = record {
+  sized = h.sized;
+  aligned = h.aligned;
+  counted = h.counted;
+  slabs_rise = filter_rises (λ s. s.first) (λ s. not (is_empty s)) 0 c.slabs h.slabs_rise;
+  slabs_cut = each_weaker (IsCut c) (IsCut (without_empty c)) (λ s k. record { count = k.count; colour = k.colour }) (filter (λ s. not (is_empty s)) c.slabs) (each_filter (IsCut c) (λ s. not (is_empty s)) c.slabs h.slabs_cut);
+}
+
+numbers_same : (cs : List Cache) → map (λ c. c.number) cs ≡ map (λ c. c.number) (map without_empty cs)
+numbers_same [] = refl
+numbers_same (c ∷ cs) = ap (λ ns. c.number ∷ ns) (numbers_same cs)
+
+pub reap_kept : (order : ℕ) (m : Machine) → IsWellFormed order m → IsWellFormed order (reap_step m).machine
+unfolding reap_step reaped
+reap_kept order m w = well_formed order (reaped m) w.slots_rise w.blocks_rise (subst (RisesFrom 0) (numbers_same m.caches) w.caches_rise)
+    (each_map IsCache without_empty m.caches (each_weaker IsCache (λ c. IsCache (without_empty c)) without_empty_is m.caches w.caches))
+    (subst (λ ls. IsLaidOut order m.slots m.blocks ls (reaped m).bytes) (kept_laid m.caches)
+    (subst (λ bs. IsLaidOut order m.slots m.blocks (filter (λ l. not (is_empty_laid l)) (all_laid m.caches)) (zeroed bs m.bytes)) (sym (gone_laid m.caches))
+    (given_back order m.slots m.blocks is_empty_laid (all_laid m.caches) m.bytes (laid_out order m w))))

@@ -1,0 +1,69 @@
+-- The laws of blocks. Each is the contract of a function of the module `block_laws`.
+use Rattle.std.specs.Prelude.{◌≡◌, ◌⊎◌, ◌↔◌, ℕ, ◌+◌, ◌/◌, ◌^◌, ◌<◌, ◌≤◌, Bool, true, Some, MatchOption}
+use Rattle.model_core.specs.Blocks.{Block, block, HasFrame, IsAligned, buddy, around, slot_block, Taken, with_taken, without_taken, IsTaken, HasTaken, IsFree, IsChoice, IsWithout, IsSound}
+use Rattle.model_core.specs.Choice.{is_free, choose}
+
+-- each frame of a held slot that is not taken lies in exactly one free block
+abbrev pub EachFrameInOne : Type 0
+EachFrameInOne = (top : ℕ) (held : ℕ → Bool) (taken : Taken) (x : ℕ) → held (x / 2 ^ top) ≡ true → (IsTaken taken x → ⊥)
+    → (b : Block) × IsFree top held taken b × HasFrame b x × ((c : Block) → IsFree top held taken c → HasFrame c x → c ≡ b)
+
+-- Where order k is reserved at the first frame of the free block of order j at f, the free blocks
+-- lose that block and gain the upper halves of the splits, of the orders from k to j - 1.
+abbrev pub Splits : Type 0
+Splits = (top : ℕ) (held : ℕ → Bool) (taken : Taken) (f j k : ℕ) → IsFree top held taken (block f j) → k ≤ j → (b : Block)
+    → (IsFree top held (with_taken taken f k) b
+    ↔ ((IsFree top held taken b × (b ≡ block f j → ⊥)) ⊎ ((i : ℕ) × (k ≤ i) × (i < j) × (b ≡ block (f + 2 ^ i) i))))
+
+-- The block of order k at f, when released, is joined up to order j: at each order from k to j - 1
+-- its buddy is free, and at order j it is a whole slot or its buddy is not free.
+pub record JoinsTo (top : ℕ) (held : ℕ → Bool) (taken : Taken) (f k j : ℕ) : Type 0 where
+  pub rises : k ≤ j
+  pub within : j ≤ top
+  pub joined : (i : ℕ) → k ≤ i → i < j → IsFree top held taken (buddy (around f i))
+  pub stops : (j ≡ top) ⊎ (IsFree top held taken (buddy (around f j)) → ⊥)
+
+-- Where a block is released, the free blocks lose the buddies that it is joined with and gain the
+-- block that the joins give.
+abbrev pub Joins : Type 0
+Joins = (top : ℕ) (held : ℕ → Bool) (taken : Taken) (f k : ℕ) → IsSound top held taken → taken f ≡ Some k
+    → (j : ℕ) × JoinsTo top held taken f k j × ((b : Block)
+    → (IsFree top held (without_taken taken f) b
+    ↔ ((b ≡ around f j) ⊎ (IsFree top held taken b × ((i : ℕ) → k ≤ i → i < j → b ≡ buddy (around f i) → ⊥)))))
+
+-- what is reserved out of a free block is aligned, and all its frames lie in held slots and are not taken
+abbrev pub ReservedIsUntaken : Type 0
+ReservedIsUntaken = (top : ℕ) (held : ℕ → Bool) (taken : Taken) (f j k : ℕ) → IsFree top held taken (block f j) → k ≤ j
+    → IsAligned top (block f k) × ((x : ℕ) → HasFrame (block f k) x → (held (x / 2 ^ top) ≡ true) × (IsTaken taken x → ⊥))
+
+-- The taken blocks stay aligned, in held slots and apart: where one is reserved out of a free block ..
+abbrev pub ReserveStaysSound : Type 0
+ReserveStaysSound = (top : ℕ) (held : ℕ → Bool) (taken : Taken) (f j k : ℕ) → IsSound top held taken → IsFree top held taken (block f j) → k ≤ j
+    → IsSound top held (with_taken taken f k)
+
+-- .. where one is released ..
+abbrev pub ReleaseStaysSound : Type 0
+ReleaseStaysSound = (top : ℕ) (held : ℕ → Bool) (taken : Taken) (f : ℕ) → IsSound top held taken → IsSound top held (without_taken taken f)
+
+-- .. where slots are granted ..
+abbrev pub GrantStaysSound : Type 0
+GrantStaysSound = (top : ℕ) (held more : ℕ → Bool) (taken : Taken) → IsSound top held taken
+    → ((u : ℕ) → held u ≡ true → more u ≡ true) → IsSound top more taken
+
+-- .. and where slots without a taken frame are taken back.
+abbrev pub TakeBackStaysSound : Type 0
+TakeBackStaysSound = (top : ℕ) (held fewer : ℕ → Bool) (taken : Taken) → IsSound top held taken
+    → ((u : ℕ) → held u ≡ true → (fewer u ≡ true) ⊎ (HasTaken taken (slot_block top u) → ⊥)) → IsSound top fewer taken
+
+-- the test `is_free` is true of the free blocks alone
+abbrev pub FreeIsTested : Type 0
+FreeIsTested = (top : ℕ) (held : ℕ → Bool) (taken : Taken) (b : Block) → (is_free top held taken b ≡ true) ↔ IsFree top held taken b
+
+-- `choose` finds the choice, or answers None where no free block is large enough
+abbrev pub ChoiceIsFound : Type 0
+ChoiceIsFound = (top : ℕ) (held : ℕ → Bool) (taken : Taken) (slots k : ℕ) → ((u : ℕ) → held u ≡ true → u < slots)
+    → MatchOption (choose top held taken slots k) (IsWithout top held taken k) (IsChoice top held taken k)
+
+-- there is one choice at most
+abbrev pub OneChoice : Type 0
+OneChoice = (top : ℕ) (held : ℕ → Bool) (taken : Taken) (k : ℕ) (b c : Block) → IsChoice top held taken k b → IsChoice top held taken k c → b ≡ c

@@ -1,0 +1,52 @@
+-- The free block that a request gets, computed. `slots` is any number above all held slots; the
+-- answer does not depend on it.
+use Rattle.std.specs.Prelude.{ℕ, zero, suc, ◌+◌, ◌*◌, ◌/◌, ◌%◌, ◌^◌, Bool, false, not, ◌&&◌, ◌||◌, ◌==◌, nat_lt, nat_le, if◌then◌else◌, Option, Some, None, is_some}
+use Rattle.std.specs.Option.{option_and_then, option_map}
+use Rattle.model_core.specs.Blocks.{Block, block, Taken}
+use Rattle.model_core.specs.Numbered.{is_clear}
+
+-- some number below n passes
+abbrev pub is_any_below : (ℕ → Bool) → ℕ → Bool
+is_any_below p zero = false
+is_any_below p (suc n) = is_any_below p n || p n
+
+-- the number found so far, or else n if it passes
+abbrev pub found_or : (ℕ → Bool) → ℕ → Option ℕ → Option ℕ
+found_or p n (Some i) = Some i
+found_or p n None = if p n then Some n else None
+
+-- the least number below n that passes
+abbrev pub least : (ℕ → Bool) → ℕ → Option ℕ
+least p zero = None
+least p (suc n) = found_or p n (least p n)
+
+-- the block that begins at frame f, if its order is `order`, has frame x
+abbrev pub has_frame : ℕ → ℕ → Option ℕ → Bool
+has_frame x f None = false
+has_frame x f (Some order) = nat_le f x && nat_lt x (f + 2 ^ order)
+
+-- the test of `IsTaken`
+abbrev pub is_taken : Taken → ℕ → Bool
+is_taken taken x = is_any_below (λ f. has_frame x f (taken f)) (suc x)
+
+-- the frame lies in a held slot and is not taken
+abbrev pub is_available : ℕ → (ℕ → Bool) → Taken → ℕ → Bool
+is_available top held taken x = held (x / 2 ^ top) && not (is_taken taken x)
+
+-- the test of `IsFree`: aligned, all available, and a whole slot or not all available around it
+abbrev pub is_free : ℕ → (ℕ → Bool) → Taken → Block → Bool
+is_free top held taken b = (nat_le b.order top && b.first % 2 ^ b.order == 0)
+    && (is_clear (is_available top held taken) b.order (b.first / 2 ^ b.order)
+    && (b.order == top || not (is_clear (is_available top held taken) (suc b.order) (b.first / 2 ^ suc b.order))))
+
+-- the first frame of the first free block of order j
+abbrev pub first_free : ℕ → (ℕ → Bool) → Taken → ℕ → ℕ → Option ℕ
+first_free top held taken slots j = least (λ f. is_free top held taken (block f j)) (slots * 2 ^ top)
+
+-- the least order of at least k that has a free block
+abbrev pub first_order : ℕ → (ℕ → Bool) → Taken → ℕ → ℕ → Option ℕ
+first_order top held taken slots k = least (λ j. nat_le k j && is_some (first_free top held taken slots j)) (suc top)
+
+-- the block of `IsChoice`, or None where there is none
+abbrev pub choose : ℕ → (ℕ → Bool) → Taken → ℕ → ℕ → Option Block
+choose top held taken slots k = option_and_then (λ j. option_map (λ f. block f j) (first_free top held taken slots j)) (first_order top held taken slots k)

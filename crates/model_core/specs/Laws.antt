@@ -1,0 +1,116 @@
+-- The laws of the machine. Each is the contract of a function of the module `laws`.
+use Rattle.std.specs.Prelude.{◌≡◌, ℕ, ◌+◌, ◌*◌, ◌/◌, ◌^◌, ◌<◌, ◌≤◌, Bool, true, false, List, [], ◌∷◌, ◌++◌, length, Option, Some, None, ◌≢◌, Contains, AllPairs, nat_le, nat_lt, ◌&&◌, ⊤}
+use Rattle.model_core.specs.Blocks.{block, HasFrame, IsAligned, IsTaken}
+use Rattle.model_core.specs.Layouts.{is_small, object_place, pattern_byte}
+use Rattle.model_core.specs.Machine.{Slab, Cache, Machine, empty_machine, holds, slot_of, layout, taken_blocks, taken_in, choice}
+use Rattle.model_core.specs.Reach.{in_reach}
+use Rattle.model_core.specs.Operations.{free_step, take_step}
+use Rattle.std.specs.Result.{result_ok}
+use Rattle.model_core.specs.Runs.{Operation, Alloc, Free, Write, Create, Take, Give, Destroy, Reap, Grant, TakeBack, Reset, after, run}
+use Rattle.model_core.specs.WellFormed.{IsApart, in_slab, IsWellFormed}
+
+-- the block that a request gets is aligned, and all its frames lie in held slots and are not taken
+abbrev pub ChoiceIsUntaken : Type 0
+ChoiceIsUntaken = (order k first : ℕ) (m : Machine) → choice order m k ≡ Some first
+    → IsAligned order (block first k) × ((x : ℕ) → HasFrame (block first k) x → (holds m (x / 2 ^ order) ≡ true) × (IsTaken (taken_in m) x → ⊥))
+
+-- each operation keeps a machine well formed ..
+abbrev pub KeepsWellFormed : Type 0
+KeepsWellFormed = (limit order : ℕ) (operation : Operation) (m : Machine) → IsWellFormed order m → IsWellFormed order (after limit order operation m)
+
+-- .. so every machine that a list of operations leaves is
+abbrev pub RunsWellFormed : Type 0
+RunsWellFormed = (limit order : ℕ) (operations : List Operation) → IsWellFormed order (run limit order operations empty_machine)
+
+-- no two taken blocks share a frame
+abbrev pub TakenApart : Type 0
+TakenApart = (order : ℕ) (m : Machine) → IsWellFormed order m → AllPairs IsApart (taken_blocks m)
+
+-- an object, live or not
+pub record Object : Type 0 where
+  pub cache : Cache
+  pub slab : Slab
+  -- which of the slab's
+  pub index : ℕ
+
+pub record IsObject (m : Machine) (object : Object) : Type 0 where
+  pub cache_in : Contains m.caches object.cache
+  pub slab_in : Contains object.cache.slabs object.slab
+  pub index_in : object.index < (layout object.cache).count
+
+-- the object's first place
+abbrev pub place_of : Object → ℕ
+place_of object = object_place (layout object.cache) object.slab.first object.slab.colour object.index
+
+-- the place has one of the object's bytes
+abbrev pub HasByte : Object → ℕ → Type 0
+HasByte object place = (place_of object ≤ place) × (place < place_of object + object.cache.size)
+
+-- two objects that share a byte are one
+abbrev pub ObjectsApart : Type 0
+ObjectsApart = (order : ℕ) (m : Machine) → IsWellFormed order m → (a b : Object) → IsObject m a → IsObject m b
+    → (place : ℕ) → HasByte a place → HasByte b place → a ≡ b
+
+-- the objects of a small slab lie in its frame, below the last 32 bytes
+abbrev pub RecordsFree : Type 0
+RecordsFree = (order : ℕ) (m : Machine) → IsWellFormed order m → (object : Object) → IsObject m object → is_small (layout object.cache).chunk ≡ true
+    → (place : ℕ) → HasByte object place → (4096 * object.slab.first ≤ place) × (place < 4096 * object.slab.first + 4064)
+
+-- the place that a take answers
+abbrev pub taken_place : ℕ → Operation → Machine → Option ℕ
+taken_place order (Alloc k) m = None
+taken_place order (Free first) m = None
+taken_place order (Write place new) m = None
+taken_place order (Create size align pattern) m = None
+taken_place order (Take number) m = result_ok (take_step order number m).answer
+taken_place order (Give number place) m = None
+taken_place order (Destroy number) m = None
+taken_place order Reap m = None
+taken_place order Grant m = None
+taken_place order (TakeBack slot) m = None
+taken_place order Reset m = None
+
+-- no take of the list answers this place
+abbrev pub NeverTaken : ℕ → ℕ → ℕ → List Operation → Machine → Type 0
+NeverTaken limit order place [] m = ⊤
+NeverTaken limit order place (operation ∷ operations) m =
+    (taken_place order operation m ≢ Some place) × NeverTaken limit order place operations (after limit order operation m)
+
+-- Since a time at which the place was in no slab (so since before its slab was made) no take has answered it: an
+-- object that begins there reads as its cache's pattern. So it does when it is first handed out.
+abbrev pub ConstructedFirst : Type 0
+ConstructedFirst = (limit order : ℕ) (before since : List Operation) (object : Object) (j : ℕ)
+    → in_slab (run limit order before empty_machine) (place_of object) ≡ false
+    → NeverTaken limit order (place_of object) since (run limit order before empty_machine)
+    → IsObject (run limit order (before ++ since) empty_machine) object → j < object.cache.size
+    → (run limit order (before ++ since) empty_machine).bytes (place_of object + j) ≡ Some (pattern_byte object.cache.pattern j)
+
+-- a place whose slab is given back reads as zero
+abbrev pub SlabsLeaveZeroes : Type 0
+SlabsLeaveZeroes = (limit order : ℕ) (operation : Operation) (m : Machine) (place : ℕ) → IsWellFormed order m
+    → in_slab m place ≡ true → in_slab (after limit order operation m) place ≡ false → holds (after limit order operation m) (slot_of order place) ≡ true
+    → (after limit order operation m).bytes place ≡ Some 0
+
+-- a page block that is released keeps its bytes
+abbrev pub ReleasedBytesStay : Type 0
+ReleasedBytesStay = (first : ℕ) (m : Machine) → (free_step first m).machine.bytes ≡ m.bytes
+
+-- the operation writes this place
+abbrev pub writes : Operation → ℕ → Bool
+writes (Alloc k) place = false
+writes (Free first) place = false
+writes (Write begin new) place = nat_le begin place && nat_lt place (begin + length new)
+writes (Create size align pattern) place = false
+writes (Take number) place = false
+writes (Give number begin) place = false
+writes (Destroy number) place = false
+writes Reap place = false
+writes Grant place = false
+writes (TakeBack slot) place = false
+writes Reset place = false
+
+-- what is in reach before and after an operation, in a page block or in a live object, is changed by a write to it alone
+abbrev pub WritesAlone : Type 0
+WritesAlone = (limit order : ℕ) (operation : Operation) (m : Machine) (place : ℕ) → IsWellFormed order m
+    → in_reach m place 1 ≡ true → in_reach (after limit order operation m) place 1 ≡ true → writes operation place ≡ false
+    → (after limit order operation m).bytes place ≡ m.bytes place

@@ -1,0 +1,102 @@
+-- How a slab is cut into objects: numbers in bytes, unless frames are said.
+use Rattle.std.specs.Prelude.{◌≡◌, ℕ, ◌+◌, ◌-◌, ◌*◌, ◌/◌, ◌%◌, ◌^◌, ◌<◌, ◌≤◌, Bool, true, List, [], ◌∷◌, length, max, slice_index, if◌then◌else◌, nat_lt, nat_le, ◌&&◌, ◌==◌}
+use Rattle.std.specs.List.{list_any}
+
+-- the sizes of objects
+abbrev pub is_size : ℕ → Bool
+is_size size = nat_le 1 size && nat_le size 4096
+
+-- the alignments of objects
+abbrev pub is_alignment : ℕ → Bool
+is_alignment align = list_any (λ n. n == align) (8 ∷ 16 ∷ 32 ∷ 64 ∷ 128 ∷ 256 ∷ [])
+
+-- the layout of a cache's slabs
+pub record Layout : Type 0 where
+  -- from the first byte of an object to that of the next
+  pub chunk : ℕ
+  -- a slab has 2 ^ order frames
+  pub order : ℕ
+  -- what objects and colour offsets may use of a slab
+  pub room : ℕ
+  -- objects of a slab
+  pub count : ℕ
+  -- colour offsets
+  pub colours : ℕ
+
+-- the size rounded up to a multiple of the alignment, and at least 16
+abbrev pub chunk_of : ℕ → ℕ → ℕ
+chunk_of size align = max 16 ((size + align - 1) / align * align)
+
+-- the slabs of small objects have one frame, whose last 32 bytes are kept for the control record
+abbrev pub is_small : ℕ → Bool
+is_small chunk = nat_lt chunk 512
+
+-- the bytes of 2 ^ order frames
+abbrev pub bytes_of_order : ℕ → ℕ
+bytes_of_order order = 4096 * 2 ^ order
+
+-- chunks leave at most an eighth of a slab of this order unused
+abbrev pub is_thrifty : ℕ → ℕ → Bool
+is_thrifty chunk order = nat_le (bytes_of_order order % chunk) (bytes_of_order order / 8)
+
+-- the order of a slab: the least that is thrifty, for large objects (order 3 always is)
+abbrev pub slab_order : ℕ → ℕ
+slab_order chunk = if is_small chunk then 0 else if is_thrifty chunk 0 then 0 else if is_thrifty chunk 1 then 1 else if is_thrifty chunk 2 then 2 else 3
+
+-- the room of a slab
+abbrev pub slab_room : ℕ → ℕ
+slab_room chunk = if is_small chunk then 4064 else bytes_of_order (slab_order chunk)
+
+-- the layout for objects of a size and an alignment
+unfoldable pub layout_of : ℕ → ℕ → Layout
+layout_of size align =
+    let chunk = chunk_of size align in
+    let room = slab_room chunk in
+    let count = room / chunk in
+    record { chunk = chunk; order = slab_order chunk; room = room; count = count; colours = (room - count * chunk) / align + 1 }
+
+-- the colour offset of the slab that a cache makes after `made` others
+abbrev pub colour_offset : ℕ → ℕ → Layout → ℕ
+colour_offset align made l = align * (made % l.colours)
+
+-- where object i begins, from the slab's first byte on
+abbrev pub object_offset : Layout → ℕ → ℕ → ℕ
+object_offset l colour i = colour + i * l.chunk
+
+-- where object i of the slab at this frame begins
+abbrev pub object_place : Layout → ℕ → ℕ → ℕ → ℕ
+object_place l frame colour i = 4096 * frame + object_offset l colour i
+
+-- the byte at this offset of a slab is one of the `size` bytes of an object
+abbrev pub in_object : Layout → ℕ → ℕ → ℕ → Bool
+in_object l size colour offset = nat_le colour offset && (nat_lt ((offset - colour) / l.chunk) l.count && nat_lt ((offset - colour) % l.chunk) size)
+
+-- a slab with this colour offset holds its objects: they end within the room, and the room within the slab, below the control record where that stands in the frame
+pub record IsFit (l : Layout) (colour : ℕ) : Type 0 where
+  pub chunked : 16 ≤ l.chunk
+  pub some : 0 < l.count
+  pub few : l.count ≤ 256
+  pub inside : colour + l.count * l.chunk ≤ l.room
+  pub within : l.room ≤ bytes_of_order l.order
+  pub small : is_small l.chunk ≡ true → (l.order ≡ 0) × (l.room + 32 ≤ 4096)
+
+-- the layout of these numbers fits at each of its colour offsets
+pub record IsLayout (size align : ℕ) (l : Layout) : Type 0 where
+  pub sized : 0 < size
+  pub chunked : size ≤ l.chunk
+  pub aligned : (made i : ℕ) → object_offset l (colour_offset align made l) i % align ≡ 0
+  pub colours : 0 < l.colours
+  pub order : l.order ≤ 3
+  pub fits : (made : ℕ) → IsFit l (colour_offset align made l)
+
+-- for each size and alignment the objects of every colour offset are aligned, have their size and end within the room
+abbrev pub LayoutsFit : Type 0
+LayoutsFit = (size align : ℕ) → is_size size ≡ true → is_alignment align ≡ true → IsLayout size align (layout_of size align)
+
+-- a constructor: 1 to 16 bytes, over and over
+abbrev pub is_pattern : List ℕ → Bool
+is_pattern pattern = nat_le 1 (length pattern) && nat_le (length pattern) 16
+
+-- byte j of an object that is constructed
+abbrev pub pattern_byte : List ℕ → ℕ → ℕ
+pattern_byte pattern j = slice_index pattern (j % length pattern)

@@ -1,0 +1,12 @@
+pub mod Blocks
+pub mod Numbered
+pub mod Choice
+pub mod BlockLaws
+pub mod Layouts
+pub mod Machine
+pub mod Slabs
+pub mod Reach
+pub mod Operations
+pub mod Runs
+pub mod WellFormed
+pub mod Laws

@@ -1,0 +1,93 @@
+-- The private machine of a tenant: what it would have if no one else were there. Slots, frames and places are
+-- numbered from 0; a frame has 4096 places, one byte each.
+use Rattle.std.specs.Prelude.{ℕ, ◌+◌, ◌/◌, ◌^◌, Bool, List, [], ◌∷◌, ◌++◌, map, flat_map, max, Option, Some, None, option_map, if◌then◌else◌, nat_lt, nat_le, ◌&&◌, ◌==◌}
+use Rattle.std.specs.List.{list_any}
+use Rattle.model_core.specs.Blocks.{Block, block, Taken}
+use Rattle.model_core.specs.Choice.{choose}
+use Rattle.model_core.specs.Layouts.{Layout, layout_of}
+
+-- a block cut into objects
+pub record Slab : Type 0 where
+  pub first : ℕ
+  pub colour : ℕ
+  -- a flag for each object, in their order: whether it is live
+  pub live : List Bool
+
+pub record Cache : Type 0 where
+  pub number : ℕ
+  -- size and alignment of the objects
+  pub size : ℕ
+  pub align : ℕ
+  -- the constructor of the objects
+  pub pattern : List ℕ
+  -- slabs made since its creation, modulo the number of colours
+  pub made : ℕ
+  -- by rising first frame
+  pub slabs : List Slab
+
+pub record Machine : Type 0 where
+  -- the held slots, rising
+  pub slots : List ℕ
+  -- the live page blocks, by rising first frame
+  pub blocks : List Block
+  -- by rising number
+  pub caches : List Cache
+  -- the byte at a place, if one stands there
+  pub bytes : ℕ → Option ℕ
+
+unfoldable pub empty_machine : Machine
+empty_machine = record { slots = []; blocks = []; caches = []; bytes = λ place. None }
+
+-- x put at its place into a list that rises by key
+abbrev pub put_rising : {X : Type 0} → (X → ℕ) → X → List X → List X
+put_rising key x [] = x ∷ []
+put_rising key x (y ∷ ys) = if nat_lt (key x) (key y) then x ∷ (y ∷ ys) else y ∷ put_rising key x ys
+
+-- the least number from n on that a rising list does not have
+abbrev pub least_missing : ℕ → List ℕ → ℕ
+least_missing n [] = n
+least_missing n (x ∷ xs) = if x == n then least_missing (n + 1) xs else n
+
+-- a number above all of these
+abbrev pub beyond : List ℕ → ℕ
+beyond [] = 0
+beyond (x ∷ xs) = max (x + 1) (beyond xs)
+
+-- slot u is held
+abbrev pub holds : Machine → ℕ → Bool
+holds m u = list_any (λ v. v == u) m.slots
+
+-- the slot of a place; slots have 2 ^ order frames
+abbrev pub slot_of : ℕ → ℕ → ℕ
+slot_of order place = place / 4096 / 2 ^ order
+
+-- the place lies in a frame of the block
+abbrev pub in_block : ℕ → Block → Bool
+in_block place b = nat_le b.first (place / 4096) && nat_lt (place / 4096) (b.first + 2 ^ b.order)
+
+-- how the cache's slabs are cut
+abbrev pub layout : Cache → Layout
+layout c = layout_of c.size c.align
+
+abbrev pub slab_block : Cache → Slab → Block
+slab_block c s = block s.first (layout c).order
+
+abbrev pub slab_blocks : Cache → List Block
+slab_blocks c = map (slab_block c) c.slabs
+
+-- the taken blocks: page blocks, and the blocks of slabs
+unfoldable pub taken_blocks : Machine → List Block
+taken_blocks m = m.blocks ++ flat_map slab_blocks m.caches
+
+-- the order of the first block listed that begins at frame f
+abbrev pub order_in : List Block → Taken
+order_in [] f = None
+order_in (b ∷ bs) f = if b.first == f then Some b.order else order_in bs f
+
+-- the taken blocks, by first frame
+abbrev pub taken_in : Machine → Taken
+taken_in m = order_in (taken_blocks m)
+
+-- the first frame of the block of order k that a request gets
+unfoldable pub choice : ℕ → Machine → ℕ → Option ℕ
+choice order m k = option_map (λ b. b.first) (choose order (holds m) (taken_in m) (beyond m.slots) k)

@@ -1,0 +1,48 @@
+-- Lists of operations, and what they leave of a machine.
+use Rattle.std.specs.Prelude.{ℕ, List, [], ◌∷◌}
+use Rattle.model_core.specs.Machine.{Machine, empty_machine}
+use Rattle.model_core.specs.Operations.{alloc_step, free_step, write_step, cache_step, take_step, give_step, destroy_step, reap_step, after_grant, take_back_step}
+
+-- all that can change a machine
+pub data Operation : Type 0 where
+  -- a page block of this order taken
+  Alloc : ℕ → Operation
+  -- the page block at this frame released
+  Free : ℕ → Operation
+  -- bytes written from a place on
+  Write : ℕ → List ℕ → Operation
+  -- a cache made, of a size, an alignment and a pattern
+  Create : ℕ → ℕ → List ℕ → Operation
+  -- an object of this cache taken
+  Take : ℕ → Operation
+  -- the object of a cache at a place given back
+  Give : ℕ → ℕ → Operation
+  -- this cache destroyed
+  Destroy : ℕ → Operation
+  -- all empty slabs given back
+  Reap : Operation
+  -- a slot granted
+  Grant : Operation
+  -- this slot taken back
+  TakeBack : ℕ → Operation
+  -- everything taken away
+  Reset : Operation
+
+-- the machine after an operation; `limit` is on the number of caches, slots have 2 ^ order frames
+abbrev pub after : ℕ → ℕ → Operation → Machine → Machine
+after limit order (Alloc k) m = (alloc_step order k m).machine
+after limit order (Free first) m = (free_step first m).machine
+after limit order (Write place new) m = (write_step place new m).machine
+after limit order (Create size align pattern) m = (cache_step limit size align pattern m).machine
+after limit order (Take number) m = (take_step order number m).machine
+after limit order (Give number place) m = (give_step number place m).machine
+after limit order (Destroy number) m = (destroy_step number m).machine
+after limit order Reap m = (reap_step m).machine
+after limit order Grant m = after_grant order m
+after limit order (TakeBack slot) m = (take_back_step order slot m).machine
+after limit order Reset m = empty_machine
+
+-- the machine after a list of operations
+abbrev pub run : ℕ → ℕ → List Operation → Machine → Machine
+run limit order [] m = m
+run limit order (operation ∷ operations) m = run limit order operations (after limit order operation m)

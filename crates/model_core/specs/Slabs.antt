@@ -1,0 +1,109 @@
+-- Slabs and caches (Bonwick's object-caching allocator): kinds of slab, live objects, growth, handing out, giving back.
+use Rattle.std.specs.Prelude.{ℕ, ◌+◌, ◌-◌, ◌*◌, ◌%◌, Bool, false, not, List, [], ◌∷◌, map, filter, find, flat_map, replicate, Option, Some, None, slice_set, if◌then◌else◌, ◌&&◌, ◌==◌}
+use Rattle.std.specs.List.{list_any, list_all, position_or_len}
+use Rattle.model_core.specs.Blocks.{Block}
+use Rattle.model_core.specs.Layouts.{colour_offset, object_place, in_object, pattern_byte}
+use Rattle.model_core.specs.Machine.{Slab, Cache, Machine, layout, slab_block, slab_blocks, in_block, put_rising}
+
+-- all objects live
+abbrev pub is_full : Slab → Bool
+is_full s = list_all (λ live. live) s.live
+
+-- no object live
+abbrev pub is_empty : Slab → Bool
+is_empty s = not (list_any (λ live. live) s.live)
+
+abbrev pub is_partial : Slab → Bool
+is_partial s = not (is_full s) && not (is_empty s)
+
+pub record LiveObject : Type 0 where
+  pub slab : Slab
+  -- which object of the slab
+  pub index : ℕ
+  -- its first place
+  pub place : ℕ
+
+-- the live objects of a slab, given the flags from object i on
+abbrev pub live_from : Cache → Slab → ℕ → List Bool → List LiveObject
+live_from c s i [] = []
+live_from c s i (live ∷ rest) =
+    if live then record { slab = s; index = i; place = object_place (layout c) s.first s.colour i } ∷ live_from c s (i + 1) rest
+    else live_from c s (i + 1) rest
+
+abbrev pub live_in : Cache → Slab → List LiveObject
+live_in c s = live_from c s 0 s.live
+
+-- the live objects of a cache, by rising frame and index
+abbrev pub live_objects : Cache → List LiveObject
+live_objects c = flat_map (live_in c) c.slabs
+
+-- the cache with this number
+abbrev pub cache_of : Machine → ℕ → Option Cache
+cache_of m number = find (λ c. c.number == number) m.caches
+
+-- the slab of the cache at this frame
+abbrev pub slab_of : Cache → ℕ → Option Slab
+slab_of c first = find (λ s. s.first == first) c.slabs
+
+-- the machine with this cache in place of the one with its number
+abbrev pub with_cache : Cache → Machine → Machine
+with_cache c m = record m { caches = map (λ x. if x.number == c.number then c else x) m.caches }
+
+-- the cache with this slab in place of the one at its frame
+abbrev pub with_slab : Slab → Cache → Cache
+with_slab s c = record c { slabs = map (λ x. if x.first == s.first then s else x) c.slabs }
+
+-- the slab with object i live or not
+abbrev pub with_live : ℕ → Bool → Slab → Slab
+with_live i live s = record s { live = slice_set s.live i live }
+
+-- the slab that the cache makes next, at this frame
+abbrev pub new_slab : Cache → ℕ → Slab
+new_slab c first = record { first = first; colour = colour_offset c.align c.made (layout c); live = replicate (layout c).count false }
+
+-- the byte at a place of the slab when it is made: every object is constructed, and nothing else is there
+unfoldable pub fresh_byte : Cache → Slab → ℕ → Option ℕ
+fresh_byte c s place =
+    if in_object (layout c) c.size s.colour (place - 4096 * s.first)
+    then Some (pattern_byte c.pattern ((place - 4096 * s.first - s.colour) % (layout c).chunk)) else None
+
+-- the cache with a new slab at this frame
+unfoldable pub grown_cache : ℕ → Cache → Cache
+grown_cache first c = record c {
+  made = (c.made + 1) % (layout c).colours;
+  slabs = put_rising (λ s. s.first) (new_slab c first) c.slabs;
+}
+
+-- growth: the block at this frame becomes a slab of the cache
+unfoldable pub grown : ℕ → Cache → Machine → Machine
+grown first c m = with_cache (grown_cache first c) (record m {
+  bytes = λ place. if in_block place (slab_block c (new_slab c first)) then fresh_byte c (new_slab c first) place else m.bytes place;
+})
+
+-- the partial slab of least frame, else the empty one of least frame
+unfoldable pub slab_to_use : Option Slab → Option Slab → Option Slab
+slab_to_use (Some partial) empty = Some partial
+slab_to_use None empty = empty
+
+-- the least object of a slab that is not live
+abbrev pub next_object : Slab → ℕ
+next_object s = position_or_len not s.live
+
+-- the bytes after these blocks were slabs and are given back
+abbrev pub zeroed : List Block → (ℕ → Option ℕ) → ℕ → Option ℕ
+zeroed blocks bytes place = if list_any (in_block place) blocks then Some 0 else bytes place
+
+abbrev pub without_empty : Cache → Cache
+without_empty c = record c { slabs = filter (λ s. not (is_empty s)) c.slabs }
+
+-- the blocks of the cache's empty slabs
+abbrev pub empty_blocks : Cache → List Block
+empty_blocks c = map (slab_block c) (filter is_empty c.slabs)
+
+-- all empty slabs of all caches given back
+unfoldable pub reaped : Machine → Machine
+reaped m = record m { caches = map without_empty m.caches; bytes = zeroed (flat_map empty_blocks m.caches) m.bytes }
+
+-- the cache and its slabs given back
+unfoldable pub destroyed : Cache → Machine → Machine
+destroyed c m = record m { caches = filter (λ x. not (x.number == c.number)) m.caches; bytes = zeroed (slab_blocks c) m.bytes }
