@@ -15,7 +15,7 @@ use Rattle.model_core.proofs.Lists.{IsIn, each_left, each_right, each_put, each_
 use Rattle.model_core.proofs.Apart.{apart_first}
 use Rattle.model_core.proofs.Chosen.{chosen_apart, chosen_placed}
 use Rattle.model_core.proofs.Laid.{Laid, laid, laid_in, all_laid, laid_block, IsLaidOut, taken_laid, laid_out, well_formed}
-use Rattle.model_core.proofs.Kept.{flags_set, slab_put}
+use Rattle.model_core.proofs.Kept.{with_flags, flags_set, slab_put}
 use Rattle.model_core.proofs.Split.{in_middle, laid_parts}
 
 -- Membership
@@ -45,6 +45,27 @@ same_keys key before later x y e = map_append key before (y ∷ later) ∙ (ap (
 
 -- One flag set
 
+-- what it does to the slabs
+pub record IsFlagged (c : Cache) (s : Slab) (i : ℕ) (b : Bool) (m : Machine) : Type 0 where
+  pub xs : List Laid
+  pub ys : List Laid
+  pub was : all_laid m.caches ≡ xs ++ laid c s ∷ ys
+  pub is : all_laid (with_cache (with_slab (with_live i b s) c) m).caches ≡ xs ++ with_flags (slice_set s.live i b) (laid c s) ∷ ys
+
+pub flagged : (order : ℕ) (c : Cache) (s : Slab) (i : ℕ) (b : Bool) (m : Machine) → IsWellFormed order m → IsIn c m.caches → IsIn s c.slabs → IsFlagged c s i b m
+flagged order c s i b m w in_c in_s =
+    let is_c : IsCache c = each_in IsCache c m.caches w.caches in_c in
+    let fc : Found (λ x. x.number) c m.caches = found (λ x. x.number) 0 c m.caches w.caches_rise in_c in
+    let fs : Found (λ x. x.first) s c.slabs = found (λ x. x.first) 0 s c.slabs is_c.slabs_rise in_s in
+    let t : Slab = with_live i b s in
+    let d : Cache = with_slab t c in
+    record {
+      xs = all_laid fc.before ++ map (laid c) fs.before;
+      ys = map (laid c) fs.later ++ all_laid fc.later;
+      was = ap all_laid fc.is ∙ laid_parts fc.before fc.later c fs.before (s ∷ fs.later) fs.is;
+      is = ap all_laid (found_replaced (λ x. x.number) c m.caches fc d c.number refl) ∙ laid_parts fc.before fc.later d fs.before (t ∷ fs.later) (found_replaced (λ x. x.first) s c.slabs fs t s.first refl);
+    }
+
 pub live_kept : (order : ℕ) (c : Cache) (s : Slab) (i : ℕ) (b : Bool) (m : Machine) → IsWellFormed order m → IsIn c m.caches → IsIn s c.slabs
     → IsWellFormed order (with_cache (with_slab (with_live i b s) c) m)
 live_kept order c s i b m w in_c in_s =
@@ -55,10 +76,7 @@ live_kept order c s i b m w in_c in_s =
     let d : Cache = with_slab t c in
     let caches : (with_cache d m).caches ≡ fc.before ++ d ∷ fc.later = found_replaced (λ x. x.number) c m.caches fc d c.number refl in
     let slabs : d.slabs ≡ fs.before ++ t ∷ fs.later = found_replaced (λ x. x.first) s c.slabs fs t s.first refl in
-    let xs : List Laid = all_laid fc.before ++ map (laid c) fs.before in
-    let ys : List Laid = map (laid c) fs.later ++ all_laid fc.later in
-    let old : all_laid m.caches ≡ xs ++ laid c s ∷ ys = ap all_laid fc.is ∙ laid_parts fc.before fc.later c fs.before (s ∷ fs.later) fs.is in
-    let new : all_laid (with_cache d m).caches ≡ xs ++ laid d t ∷ ys = ap all_laid caches ∙ laid_parts fc.before fc.later d fs.before (t ∷ fs.later) slabs in
+    let h : IsFlagged c s i b m = flagged order c s i b m w in_c in_s in
     let cut : Each (IsCut d) (fs.before ++ s ∷ fs.later) = each_weaker (IsCut c) (IsCut d) (λ x k. record { count = k.count; colour = k.colour }) (fs.before ++ s ∷ fs.later) (subst (Each (IsCut c)) fs.is is_c.slabs_cut) in
     let cut_s : IsCut d s = each_middle (IsCut d) fs.before fs.later s cut in
     let is_d : IsCache d = record {
@@ -71,9 +89,9 @@ live_kept order c s i b m w in_c in_s =
     well_formed order (with_cache d m) w.slots_rise w.blocks_rise
     (subst (RisesFrom 0) (ap (λ xs. map (λ x. x.number) xs) fc.is ∙ (sym (same_keys (λ x. x.number) fc.before fc.later c d refl) ∙ ap (λ xs. map (λ x. x.number) xs) (sym caches))) w.caches_rise)
     (subst (Each IsCache) (sym caches) (each_put IsCache fc.before fc.later d (each_less IsCache fc.before fc.later c (subst (Each IsCache) fc.is w.caches)) is_d))
-    (subst (λ ls. IsLaidOut order m.slots m.blocks ls m.bytes) (sym new)
-    (flags_set order m.slots m.blocks xs ys (laid c s) (slice_set s.live i b) m.bytes (length-set {A = Bool} s.live i b)
-    (subst (λ ls. IsLaidOut order m.slots m.blocks ls m.bytes) old (laid_out order m w))))
+    (subst (λ ls. IsLaidOut order m.slots m.blocks ls m.bytes) (sym h.is)
+    (flags_set order m.slots m.blocks h.xs h.ys (laid c s) (slice_set s.live i b) m.bytes (length-set {A = Bool} s.live i b)
+    (subst (λ ls. IsLaidOut order m.slots m.blocks ls m.bytes) h.was (laid_out order m w))))
 
 -- Growth
 

@@ -7,8 +7,8 @@ use Rattle.model_core.specs.Blocks.{Block, block, HasFrame, IsAligned, IsChoice,
 use Rattle.model_core.specs.Choice.{choose}
 use Rattle.model_core.specs.Machine.{Machine, holds, beyond, taken_blocks, order_in, taken_in, choice}
 use Rattle.model_core.specs.WellFormed.{IsApart, AreApart}
-use Rattle.model_core.specs.Laws.{ChoiceIsUntaken}
-use Rattle.model_core.proofs.Choosing.{choice_is_found}
+use Rattle.model_core.specs.Laws.{ChoiceIsUntaken, ChoicesMeet}
+use Rattle.model_core.proofs.Choosing.{choice_is_found, one_choice}
 use Rattle.model_core.proofs.FreeBlocks.{reserved_is_untaken}
 use Rattle.model_core.proofs.Lists.{IsIn, each_in, each_from}
 use Rattle.model_core.proofs.Apart.{apart_first, has_first}
@@ -50,3 +50,30 @@ chosen_apart order k first m h e = each_from (IsApart (block first k)) (taken_bl
 -- .. and placed
 pub chosen_placed : (order k first : ℕ) (m : Machine) → choice order m k ≡ Some first → IsAligned order (block first k) × (holds m (first / 2 ^ order) ≡ true)
 chosen_placed order k first m e = ((choice_is_untaken order k first m e).0, ((choice_is_untaken order k first m e).1 first (has_first (block first k))).0)
+
+-- Another account of the same slots and blocks
+
+pub choices_meet : ChoicesMeet
+unfolding choice
+choices_meet order k held taken m same_slots same_blocks = (λ first j is. some first j is o found, λ none. no_choice none o found)
+  where
+    o : Option Block
+    o = choose order (holds m) (taken_in m) (beyond m.slots) k
+
+    slots : holds m ≡ held
+    slots = λ i u. same_slots u i
+
+    blocks : taken_in m ≡ taken
+    blocks = λ i f. same_blocks f i
+
+    found : MatchOption o (IsWithout order held taken k) (IsChoice order held taken k)
+    found = subst (λ h. MatchOption o (IsWithout order h taken k) (IsChoice order h taken k)) slots
+        (subst (λ t. MatchOption o (IsWithout order (holds m) t k) (IsChoice order (holds m) t k)) blocks (choice_is_found order (holds m) (taken_in m) (beyond m.slots) k (held_below m.slots)))
+
+    some : (first j : ℕ) → IsChoice order held taken k (block first j) → (p : Option Block) → MatchOption p (IsWithout order held taken k) (IsChoice order held taken k) → option_map (λ b. b.first) p ≡ Some first
+    some first j is None other = absurd (other (block first j) is.0 is.1)
+    some first j is (Some b) other = ap (λ c. Some c.first) (one_choice order held taken k b (block first j) other is)
+
+    no_choice : IsWithout order held taken k → (p : Option Block) → MatchOption p (IsWithout order held taken k) (IsChoice order held taken k) → option_map (λ b. b.first) p ≡ None
+    no_choice none None other = refl
+    no_choice none (Some b) other = absurd (none b other.0 other.1)

@@ -5,6 +5,7 @@ pub mod Bridge
 pub mod FreeBlocks
 pub mod Joining
 pub mod Choosing
+pub mod Marking
 mod LayoutRows
 mod Told
 mod PageRows
@@ -13,6 +14,7 @@ pub mod Layouts
 pub mod Lists
 pub mod Apart
 pub mod Chosen
+pub mod TakenSteps
 pub mod Laid
 pub mod Kept
 pub mod Split
@@ -21,3 +23,9 @@ pub mod CacheSteps
 pub mod Objects
 pub mod ByteSteps
 pub mod WellFormedRuns
+pub mod ObjectsApart
+pub mod Constructed
+pub mod ConstructedRuns
+pub mod BytesStay
+pub mod SlabsLeave
+mod Witnesses

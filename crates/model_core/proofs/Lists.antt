@@ -112,6 +112,16 @@ filter_in {X} p x (y ∷ ys) i = go (p y) refl i (filter_in p x ys)
     go true e (inr j) ih = (inr (ih j).0, (ih j).1)
     go false e j ih = (inr (ih j).0, (ih j).1)
 
+pub in_filter : {X : Type 0} (p : X → Bool) (x : X) (xs : List X) → IsIn x xs → p x ≡ true → IsIn x (filter p xs)
+in_filter p x [] i e = elim i [ ]
+in_filter {X} p x (y ∷ ys) i e = go (p y) refl i (λ j. in_filter p x ys j e)
+  where
+    go : (b : Bool) → p y ≡ b → IsIn x (y ∷ ys) → (IsIn x ys → IsIn x (filter p ys)) → IsIn x (cond b (y ∷ filter p ys) (filter p ys))
+    go true is (inl same) ih = inl same
+    go true is (inr j) ih = inr (ih j)
+    go false is (inl same) ih = absurd (false≢true (sym is ∙ (ap p same ∙ e)))
+    go false is (inr j) ih = ih j
+
 pub find_in : {X : Type 0} (p : X → Bool) (x : X) (xs : List X) → find p xs ≡ Some x → IsIn x xs × (p x ≡ true)
 find_in p x [] e = absurd (cc)
 find_in {X} p x (y ∷ ys) e = go (p y) refl e (find_in p x ys)

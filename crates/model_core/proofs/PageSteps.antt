@@ -14,7 +14,7 @@ use Rattle.model_core.specs.Blocks.{Block, block, slot_block}
 use Rattle.model_core.specs.Layouts.{layout_of, is_size, is_alignment}
 use Rattle.model_core.specs.Machine.{Cache, Machine, empty_machine, put_rising, least_missing, holds, taken_blocks, choice, order_in}
 use Rattle.model_core.specs.Slabs.{zeroed, is_empty, without_empty, reaped, destroyed, cache_of}
-use Rattle.model_core.specs.Operations.{Step, refuse, with_block, without_block, alloc_at, alloc_step, free_at, free_step, created, next_number, cache_step, destroy_of, destroy_step, reap_step, next_slot, after_grant, overlaps, is_busy, after_take_back, take_back_step}
+use Rattle.model_core.specs.Operations.{Step, refuse, with_block, without_block, alloc_at, alloc_step, free_at, free_step, created, next_number, create_step, cache_answer, cache_step, destroy_of, destroy_step, reap_step, next_slot, after_grant, overlaps, is_busy, after_take_back, take_back_step}
 use Rattle.model_core.specs.WellFormed.{RisesFrom, IsApart, IsCut, IsCache, IsWellFormed}
 use Rattle.model_core.proofs.Lists.{IsIn, each_left, each_right, each_put, each_weaker, each_filter, each_map, each_unmap, any_none, none_any, find_in, Found, found, PutIn, put_in, put_rises, filter_rises, least_is_missing}
 use Rattle.model_core.proofs.Apart.{apart_first}
@@ -100,19 +100,24 @@ not_in_slot order slot b e same = false≢true (sym e ∙ and_from (ltb (slot * 
     high : b.first < slot * 2 ^ order + 2 ^ order
     high = subst (λ n. b.first < n * 2 ^ order + 2 ^ order) same (lt-div-mul-add (pow_pos order))
 
+-- no taken block lies in a slot that is not busy
+pub not_busy : (order slot : ℕ) (m : Machine) → is_busy order m slot ≡ false → Each (λ b. b.first / 2 ^ order ≢ slot) (m.blocks ++ map laid_block (all_laid m.caches))
+unfolding is_busy
+not_busy order slot m e = subst (Each (λ b. b.first / 2 ^ order ≢ slot)) (taken_laid m)
+    (each_weaker (λ b. overlaps (slot_block order slot) b ≡ false) (λ b. b.first / 2 ^ order ≢ slot) (not_in_slot order slot) (taken_blocks m) (none_any (overlaps (slot_block order slot)) (taken_blocks m) e))
+
 pub slot_gone_kept : (order slot : ℕ) (m : Machine) → IsWellFormed order m → is_busy order m slot ≡ false → IsWellFormed order (after_take_back order slot m)
-unfolding is_busy after_take_back
+unfolding after_take_back
 slot_gone_kept order slot m w e =
     let slabs : List Block = map laid_block (all_laid m.caches) in
-    let apart : Each (λ b. b.first / 2 ^ order ≢ slot) (m.blocks ++ slabs) = subst (Each (λ b. b.first / 2 ^ order ≢ slot)) (taken_laid m)
-    (each_weaker (λ b. overlaps (slot_block order slot) b ≡ false) (λ b. b.first / 2 ^ order ≢ slot) (not_in_slot order slot) (taken_blocks m) (none_any (overlaps (slot_block order slot)) (taken_blocks m) e)) in
+    let apart : Each (λ b. b.first / 2 ^ order ≢ slot) (m.blocks ++ slabs) = not_busy order slot m e in
     well_formed order (after_take_back order slot m)
     (subst (RisesFrom 0) (map-id (filter (λ v. not (eqb v slot)) m.slots)) (filter_rises (λ v. v) (λ v. not (eqb v slot)) 0 m.slots (subst (RisesFrom 0) (sym (map-id m.slots)) w.slots_rise)))
     w.blocks_rise w.caches_rise w.caches
     (slot_gone order m.slots slot m.blocks (all_laid m.caches) m.bytes (each_left (λ b. b.first / 2 ^ order ≢ slot) m.blocks slabs apart)
     (each_unmap (λ b. b.first / 2 ^ order ≢ slot) laid_block (all_laid m.caches) (each_right (λ b. b.first / 2 ^ order ≢ slot) m.blocks slabs apart)) (laid_out order m w))
 
-abbrev done : Unit {0}
+abbrev pub done : Unit {0}
 done = tt
 
 pub take_back_kept : (order slot : ℕ) (m : Machine) → IsWellFormed order m → IsWellFormed order (take_back_step order slot m).machine
@@ -124,6 +129,12 @@ take_back_kept order slot m w = either (IsWellFormed order) (not (holds m slot))
     go false e = slot_gone_kept order slot m w e
 
 -- Caches made, destroyed, reaped
+
+pub created_laid : (number size align : ℕ) (pattern : List ℕ) (m : Machine) → all_laid (created number size align pattern m).caches ≡ all_laid m.caches
+created_laid number size align pattern m =
+    let c : Cache = record { number = number; size = size; align = align; pattern = pattern; made = 0; slabs = [] } in
+    let p : PutIn (λ x. x.number) c m.caches = put_in (λ x. x.number) c m.caches in
+    ap all_laid p.is ∙ (laid_without p.before p.later c refl ∙ ap all_laid (sym p.was))
 
 new_kept : (order number size align : ℕ) (pattern : List ℕ) (m : Machine) → IsWellFormed order m → is_size size ≡ true → is_alignment align ≡ true
     → Each (λ x. x ≢ number) (map (λ c. c.number) m.caches) → IsWellFormed order (created number size align pattern m)
@@ -138,7 +149,7 @@ new_kept order number size align pattern m w sized aligned missing =
     (subst (λ ls. IsLaidOut order m.slots m.blocks ls m.bytes) (ap all_laid p.was ∙ (sym (laid_without p.before p.later c refl) ∙ ap all_laid (sym p.is))) (laid_out order m w))
 
 pub cache_kept : (limit order size align : ℕ) (pattern : List ℕ) (m : Machine) → IsWellFormed order m → IsWellFormed order (cache_step limit size align pattern m).machine
-unfolding cache_step next_number
+unfolding cache_step create_step next_number
 cache_kept limit order size align pattern m w = go (is_size size) refl (is_alignment align) refl
   where
     made : is_size size ≡ true → is_alignment align ≡ true → IsWellFormed order (created (next_number m) size align pattern m)
@@ -146,10 +157,10 @@ cache_kept limit order size align pattern m w = go (is_size size) refl (is_align
 
     go : (a : Bool) → is_size size ≡ a → (b : Bool) → is_alignment align ≡ b
         → IsWellFormed order (if not a then refuse CacheRefusal.BadSize m else if not b then refuse CacheRefusal.BadAlign m
-        else if leb limit (next_number m) then refuse CacheRefusal.NoCacheSlot m else record { answer = Ok (next_number m); machine = created (next_number m) size align pattern m }).machine
+        else cache_answer (create_step limit size align pattern m)).machine
     go false e b f = w
     go true e false f = w
-    go true e true f = either (IsWellFormed order) (leb limit (next_number m)) (refuse CacheRefusal.NoCacheSlot m) _ w (made e f)
+    go true e true f = either (IsWellFormed order) (leb limit (next_number m)) (record { answer = None; machine = m }) (record { answer = Some (next_number m); machine = created (next_number m) size align pattern m }) w (made e f)
 
 -- the slabs of one cache given back
 gone_kept : (order : ℕ) (c : Cache) (m : Machine) → IsWellFormed order m → IsIn c m.caches → IsWellFormed order (destroyed c m)

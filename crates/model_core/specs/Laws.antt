@@ -1,10 +1,10 @@
 -- The laws of the machine. Each is the contract of a function of the module `laws`.
-use Rattle.std.specs.Prelude.{◌≡◌, ℕ, ◌+◌, ◌*◌, ◌/◌, ◌^◌, ◌<◌, ◌≤◌, Bool, true, false, List, [], ◌∷◌, ◌++◌, length, Option, Some, None, ◌≢◌, Contains, AllPairs, nat_le, nat_lt, ◌&&◌, ⊤}
-use Rattle.model_core.specs.Blocks.{block, HasFrame, IsAligned, IsTaken}
+use Rattle.std.specs.Prelude.{◌≡◌, ℕ, ◌+◌, ◌*◌, ◌/◌, ◌^◌, ◌<◌, ◌≤◌, Bool, true, false, List, [], ◌∷◌, ◌++◌, length, Option, Some, None, Ok, ◌≢◌, Contains, AllPairs, nat_le, nat_lt, ◌&&◌, ⊤}
+use Rattle.model_core.specs.Blocks.{block, HasFrame, IsAligned, Taken, with_taken, without_taken, IsTaken, IsChoice, IsWithout, IsSound}
 use Rattle.model_core.specs.Layouts.{is_small, object_place, pattern_byte}
 use Rattle.model_core.specs.Machine.{Slab, Cache, Machine, empty_machine, holds, slot_of, layout, taken_blocks, taken_in, choice}
 use Rattle.model_core.specs.Reach.{in_reach}
-use Rattle.model_core.specs.Operations.{free_step, take_step}
+use Rattle.model_core.specs.Operations.{alloc_step, free_step, take_step}
 use Rattle.std.specs.Result.{result_ok}
 use Rattle.model_core.specs.Runs.{Operation, Alloc, Free, Write, Create, Take, Give, Destroy, Reap, Grant, TakeBack, Reset, after, run}
 use Rattle.model_core.specs.WellFormed.{IsApart, in_slab, IsWellFormed}
@@ -13,6 +13,11 @@ use Rattle.model_core.specs.WellFormed.{IsApart, in_slab, IsWellFormed}
 abbrev pub ChoiceIsUntaken : Type 0
 ChoiceIsUntaken = (order k first : ℕ) (m : Machine) → choice order m k ≡ Some first
     → IsAligned order (block first k) × ((x : ℕ) → HasFrame (block first k) x → (holds m (x / 2 ^ order) ≡ true) × (IsTaken (taken_in m) x → ⊥))
+
+-- what another account of the held slots and the taken blocks chooses is what the machine chooses
+abbrev pub ChoicesMeet : Type 0
+ChoicesMeet = (order k : ℕ) (held : ℕ → Bool) (taken : Taken) (m : Machine) → ((u : ℕ) → holds m u ≡ held u) → ((f : ℕ) → taken_in m f ≡ taken f)
+    → ((first j : ℕ) → IsChoice order held taken k (block first j) → choice order m k ≡ Some first) × (IsWithout order held taken k → choice order m k ≡ None)
 
 -- each operation keeps a machine well formed ..
 abbrev pub KeepsWellFormed : Type 0
@@ -25,6 +30,20 @@ RunsWellFormed = (limit order : ℕ) (operations : List Operation) → IsWellFor
 -- no two taken blocks share a frame
 abbrev pub TakenApart : Type 0
 TakenApart = (order : ℕ) (m : Machine) → IsWellFormed order m → AllPairs IsApart (taken_blocks m)
+
+-- the taken blocks of a well formed machine are aligned, in held slots and apart, as the laws of blocks want them
+abbrev pub TakenSound : Type 0
+TakenSound = (order : ℕ) (m : Machine) → IsWellFormed order m → IsSound order (holds m) (taken_in m)
+
+-- a page block that is taken is one more taken block ..
+abbrev pub AllocTakes : Type 0
+AllocTakes = (order k first : ℕ) (m : Machine) → IsWellFormed order m → (alloc_step order k m).answer ≡ Ok first
+    → (f : ℕ) → taken_in (alloc_step order k m).machine f ≡ with_taken (taken_in m) first k f
+
+-- .. and one that is released is one fewer
+abbrev pub FreeReleases : Type 0
+FreeReleases = (order first k : ℕ) (m : Machine) → IsWellFormed order m → (free_step first m).answer ≡ Some k
+    → (f : ℕ) → taken_in (free_step first m).machine f ≡ without_taken (taken_in m) first f
 
 -- an object, live or not
 pub record Object : Type 0 where

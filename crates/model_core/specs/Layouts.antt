@@ -71,7 +71,8 @@ object_place l frame colour i = 4096 * frame + object_offset l colour i
 abbrev pub in_object : Layout → ℕ → ℕ → ℕ → Bool
 in_object l size colour offset = nat_le colour offset && (nat_lt ((offset - colour) / l.chunk) l.count && nat_lt ((offset - colour) % l.chunk) size)
 
--- a slab with this colour offset holds its objects: they end within the room, and the room within the slab, below the control record where that stands in the frame
+-- a slab with this colour offset holds its objects: they end within the room, and the room within the slab, below the
+-- control record where that stands in the frame
 pub record IsFit (l : Layout) (colour : ℕ) : Type 0 where
   pub chunked : 16 ≤ l.chunk
   pub some : 0 < l.count

@@ -1,5 +1,5 @@
 -- What can be done to a private machine: each step answers, and leaves a machine. A refused step leaves it as it was.
-use Rattle.std.specs.Prelude.{ℕ, ◌+◌, ◌^◌, Bool, true, false, not, List, [], ◌∷◌, length, map, filter, filter_map, find, flat_map, Option, Some, None, Result, Ok, Err, slice_get, if◌then◌else◌, nat_le, nat_lt, ◌&&◌, ◌-◌, ◌==◌}
+use Rattle.std.specs.Prelude.{ℕ, ◌+◌, ◌^◌, Bool, true, false, not, List, [], ◌∷◌, length, map, filter, filter_map, find, flat_map, Option, Some, None, Result, Ok, Err, ok_or, slice_get, if◌then◌else◌, nat_le, nat_lt, ◌&&◌, ◌-◌, ◌==◌}
 use Rattle.std.specs.List.{list_any, range_with_len}
 use Rattle.model_core.specs.declared.refusals.AllocRefusal.{AllocRefusal}
 use Rattle.model_core.specs.declared.refusals.ReadRefusal.{ReadRefusal}
@@ -82,13 +82,15 @@ create_step limit size align pattern m =
     if nat_le limit (next_number m) then record { answer = None; machine = m }
     else record { answer = Some (next_number m); machine = created (next_number m) size align pattern m }
 
+abbrev pub cache_answer : Step (Option ℕ) → Step (Result ℕ CacheRefusal)
+cache_answer step = record { answer = ok_or step.answer CacheRefusal.NoCacheSlot; machine = step.machine }
+
 -- a cache made, of any size and alignment
 unfoldable pub cache_step : ℕ → ℕ → ℕ → List ℕ → Machine → Step (Result ℕ CacheRefusal)
 cache_step limit size align pattern m =
     if not (is_size size) then refuse CacheRefusal.BadSize m
     else (if not (is_alignment align) then refuse CacheRefusal.BadAlign m
-    else (if nat_le limit (next_number m) then refuse CacheRefusal.NoCacheSlot m
-    else record { answer = Ok (next_number m); machine = created (next_number m) size align pattern m }))
+    else cache_answer (create_step limit size align pattern m))
 
 -- the least object of the slab that is not live is handed out
 abbrev pub hand_out : Cache → Slab → Machine → Step (Result ℕ TakeRefusal)

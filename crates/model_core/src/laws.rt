@@ -1,7 +1,7 @@
-//! The laws of the model, each the contract of a function that does nothing: call it where a proof needs the law.
+//! The laws of the machine, each the contract of a function that does nothing: call it where a proof needs the law.
 
 ghost use Rattle.model_core.specs.Layouts.{LayoutsFit};
-ghost use Rattle.model_core.specs.Laws.{ChoiceIsUntaken, KeepsWellFormed, RunsWellFormed};
+ghost use Rattle.model_core.specs.Laws.{ChoiceIsUntaken, ChoicesMeet, KeepsWellFormed, RunsWellFormed, TakenApart, TakenSound, AllocTakes, FreeReleases, ObjectsApart, RecordsFree, ConstructedFirst, WritesAlone, SlabsLeaveZeroes, ReleasedBytesStay};
 
 /// For each size and alignment the layout fits at each of its colour offsets.
 pub fn layouts_fit()
@@ -13,8 +13,43 @@ pub fn choice_is_untaken()
     ensures { ChoiceIsUntaken }
 {}
 
+/// What another account of the same held slots and taken blocks chooses is what the machine chooses.
+pub fn choices_meet()
+    ensures { ChoicesMeet }
+{}
+
 /// Every machine that a list of operations leaves is well formed.
 pub fn stays_well_formed()
     ensures step { KeepsWellFormed }
     ensures run { RunsWellFormed }
+{}
+
+/// The taken blocks of a well formed machine are sound, and a page block taken or released is one more or one fewer: so
+/// the laws of blocks say what becomes of the free blocks.
+pub fn taken_is_sound()
+    ensures sound { TakenSound }
+    ensures alloc { AllocTakes }
+    ensures free { FreeReleases }
+{}
+
+/// Taken blocks share no frame, objects of slabs share no byte, and those of small slabs stay below the last 32 bytes of
+/// their frame.
+pub fn objects_apart()
+    ensures blocks { TakenApart }
+    ensures objects { ObjectsApart }
+    ensures records { RecordsFree }
+{}
+
+/// An object that no take has answered since its slab was made reads as its cache's pattern, whatever was done between:
+/// so it is in constructed state when it is first handed out (Bonwick).
+pub fn constructed_first()
+    ensures { ConstructedFirst }
+{}
+
+/// Of what is in reach only a write changes a byte; a slab that is given back leaves zeroes; a page block that is released
+/// keeps its bytes.
+pub fn bytes_stay()
+    ensures writes { WritesAlone }
+    ensures slabs { SlabsLeaveZeroes }
+    ensures blocks { ReleasedBytesStay }
 {}

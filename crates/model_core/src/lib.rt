@@ -5,3 +5,4 @@
 pub mod block_laws;
 pub mod laws;
 pub mod refusals;
+pub mod search;

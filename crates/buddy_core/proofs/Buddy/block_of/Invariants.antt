@@ -1,0 +1,7 @@
+use Rattle.std.proofs.Common.{◌≡◌, ℕ, ◌*◌, ◌/◌, ◌^◌, ◌<◌, Some}
+use Rattle.buddy_core.specs.Content.{holding_of, taken_of}
+use Rattle.buddy_core.proofs.Buddy.block_of.Given as goal
+
+-- no taken block of a lower order begins where it would have to, to have the frame
+abbrev pub invariant-loop-k : goal.invariant-loop-k
+invariant-loop-k l = (j : ℕ) → j < l.k → taken_of (holding_of l.t l.self) (l.frame / 2 ^ j * 2 ^ j) ≡ Some j → ⊥

@@ -1,0 +1,131 @@
+-- A superblock under no slot, and a tenant that holds nothing.
+use Rattle.std.proofs.Common.{◌≡◌, ◌⊎◌, inl, inr, refl, sym, ◌∙◌, ap, ap₂, subst, ℕ, ◌+◌, ◌-◌, ◌*◌, ◌/◌, ◌%◌, ◌^◌, ◌<◌, ◌≤◌, false, Option, None, List, length, map, replicate, cond, zero, suc, ◌∷◌, arith}
+use Rattle.std.specs.Prelude.{is_some, count_by}
+use Rattle.std.specs.List.{range_with_len}
+use Rattle.std.proofs.lemmas.List.{get_or-replicate, get_or_past, length-replicate, same_lists}
+use Rattle.std.proofs.lemmas.List.Folds.{sum_by-replicate}
+use Rattle.std.proofs.lemmas.List.FromFn.{length-map-range_with_len, get_or-map-range_with_len}
+use Rattle.std.proofs.lemmas.Option.{none-some}
+use Rattle.std.proofs.lemmas.Nat.{pow_pos}
+use Rattle.std.proofs.lemmas.Bool.{cases_lt, false≢true, false_from_ne_true}
+use Rattle.model_core.specs.Blocks.{block}
+use Rattle.model_core.specs.Choice.{is_free}
+use Rattle.model_core.proofs.Choosing.{free_is_tested}
+use Rattle.buddy_core.specs.Content.{Holding, Content, nothing_held, opening, has_order, taken_blocks}
+use Rattle.buddy_core.specs.Stored.{Sheet, Row, blank_sheet, blank_row, sheet_of, row_of, slot_of, held_by, order_under, taken_by, holding_shown, content_shown}
+use Rattle.buddy_core.specs.Kept.{IsKept, IsRowKept, HasSheetSizes, HasRowSizes}
+use Rattle.buddy_core.proofs.Shown.{blank_of, bare_of}
+use Rattle.buddy_core.proofs.Counting.{count_none}
+use Rattle.buddy_core.proofs.Granting.{none_there}
+
+pub blank_sizes : (top : ℕ) → HasSheetSizes top (blank_sheet top)
+blank_sizes top = record {
+  words = (let size = length-replicate {A = ℕ} (2 ^ (top + 1) - 1) 0 in let some = pow_pos (top + 1) in omega arith);
+  orders = length-replicate {A = Option ℕ} (2 ^ top) None;
+}
+
+module _ (top : ℕ) (sheets : List Sheet) where
+  pub no_slot : (n v : ℕ) → slot_of (blank_row top n) v ≡ None
+  no_slot n v = none_there n v
+
+  begins_none : (n f : ℕ) → taken_by top sheets (blank_row top n) f ≡ None
+  begins_none n f = ap (λ o. order_under sheets o (f % 2 ^ top)) (no_slot n (f / 2 ^ top))
+
+  -- it has no taken block
+  table_blank : (n size : ℕ) → map (taken_by top sheets (blank_row top n)) (range_with_len 0 size) ≡ replicate {A = Option ℕ} size None
+  table_blank n size = same_lists _ _
+      (length-map-range_with_len (taken_by top sheets (blank_row top n)) 0 size ∙ sym (length-replicate {A = Option ℕ} size None))
+      (λ f d lt.
+      let within : f < size = subst (λ l. f < l) (length-map-range_with_len (taken_by top sheets (blank_row top n)) 0 size) lt in
+      get_or-map-range_with_len (taken_by top sheets (blank_row top n)) 0 size f f d within (omega arith) ∙ begins_none n f ∙ sym (get_or-replicate size f None d within))
+
+  pub blank_holding : (n : ℕ) → holding_shown top sheets (blank_row top n) ≡ nothing_held top n
+  blank_holding n =
+      ap held_from (table_blank n (length (blank_row top n).slots * 2 ^ top))
+      ∙ ap (λ l. held_from (replicate (l * 2 ^ top) None)) (length-replicate {A = Option ℕ} n None)
+    where
+      held_from : List (Option ℕ) → Holding
+      held_from b = record { slots = replicate n None; taken = b }
+
+  not_free : (n k f : ℕ) → is_free top (held_by (blank_row top n)) (taken_by top sheets (blank_row top n)) (block f k) ≡ false
+  not_free n k f = false_from_ne_true _ (λ e.
+      let free = (free_is_tested top (held_by (blank_row top n)) (taken_by top sheets (blank_row top n)) (block f k)).0 e in
+      false≢true (sym (ap is_some (no_slot n (f / 2 ^ top))) ∙ free.1))
+
+  pub blank_kept : IsRowKept top sheets (blank_row top (length sheets))
+  blank_kept = record {
+    sizes = record { slots = length-replicate {A = Option ℕ} (length sheets) None; free = length-replicate {A = ℕ} (top + 1) 0; taken = length-replicate {A = ℕ} (top + 1) 0 };
+    within = λ u m at. absurd (none-some m (sym (no_slot (length sheets) u) ∙ at));
+    sound = record {
+      placed = λ f k e. absurd (none-some k (sym (begins_none (length sheets) f) ∙ e));
+      apart = λ f k g j x e d a b. absurd (none-some k (sym (begins_none (length sheets) f) ∙ e));
+    };
+    shows = λ u m at. absurd (none-some m (sym (no_slot (length sheets) u) ∙ at));
+    free = λ k le. get_or-replicate (top + 1) k 0 0 (omega arith) ∙ sym (count_none _ (length sheets * 2 ^ top) (λ f lt. not_free (length sheets) k f));
+    taken = λ k le. get_or-replicate (top + 1) k 0 0 (omega arith)
+        ∙ sym (ap (taken_blocks k) (blank_holding (length sheets)) ∙ none_counted k (length sheets * 2 ^ top));
+  }
+    where
+      none_counted : (k n : ℕ) → count_by (has_order k) (replicate n None) ≡ 0
+      none_counted k n = sum_by-replicate (λ x. cond (has_order k x) 1 0) n None ∙ (let e : n * 0 ≡ 0 = omega arith in e)
+
+-- the stored opening
+module _ (top superblocks tenants : ℕ) where
+  abbrev pub all_blank : List Sheet
+  all_blank = replicate superblocks (blank_sheet top)
+
+  abbrev pub all_rows : List Row
+  all_rows = replicate tenants (blank_row top superblocks)
+
+  size : length (replicate superblocks (blank_sheet top)) ≡ superblocks
+  size = length-replicate superblocks (blank_sheet top)
+
+  any_slot : (t u : ℕ) → slot_of (row_of t (replicate tenants (blank_row top superblocks))) u ≡ None
+  any_slot t u = go (cases_lt t tenants)
+    where
+      go : (t < tenants) ⊎ (tenants ≤ t) → slot_of (row_of t (replicate tenants (blank_row top superblocks))) u ≡ None
+      go (inl lt) = ap (λ r. slot_of r u) (get_or-replicate tenants t (blank_row top superblocks) blank_of lt) ∙ none_there superblocks u
+      go (inr past) = ap (λ r. slot_of r u) (get_or_past (replicate tenants (blank_row top superblocks)) t blank_of (subst (λ n. n ≤ t) (sym (length-replicate tenants (blank_row top superblocks))) past))
+
+  sheet_is : (m : ℕ) → m < length (replicate superblocks (blank_sheet top)) → sheet_of m (replicate superblocks (blank_sheet top)) ≡ blank_sheet top
+  sheet_is m lt = get_or-replicate superblocks m (blank_sheet top) bare_of (subst (λ n. m < n) size lt)
+
+  pub opening_kept : top ≤ 8 → superblocks ≤ 256 → IsKept top (replicate superblocks (blank_sheet top)) (replicate tenants (blank_row top superblocks))
+  opening_kept small few = record {
+    small = small;
+    few = subst (λ n. n ≤ 256) (sym size) few;
+    sizes = λ m lt. subst (HasSheetSizes top) (sym (sheet_is m lt)) (blank_sizes top);
+    each = λ t lt. subst (IsRowKept top (replicate superblocks (blank_sheet top)))
+        (ap (blank_row top) size ∙ sym (get_or-replicate tenants t (blank_row top superblocks) blank_of (subst (λ n. t < n) (length-replicate tenants (blank_row top superblocks)) lt)))
+        (blank_kept top (replicate superblocks (blank_sheet top)));
+    apart = λ t u v w m a b. absurd (none-some m (sym (any_slot t u) ∙ a));
+    bare = λ m lt unused. sheet_is m lt;
+  }
+
+  pub opening_shown : content_shown top (replicate superblocks (blank_sheet top)) (replicate tenants (blank_row top superblocks)) ≡ opening top superblocks tenants
+  opening_shown = ap₂ content_of size (mapped tenants)
+    where
+      content_of : ℕ → List Holding → Content
+      content_of n ts = record { top = top; superblocks = n; tenants = ts }
+
+      mapped : (n : ℕ) → map (holding_shown top (replicate superblocks (blank_sheet top))) (replicate n (blank_row top superblocks)) ≡ replicate n (nothing_held top superblocks)
+      mapped zero = refl
+      mapped (suc n) = ap₂ ◌∷◌ (blank_holding top (replicate superblocks (blank_sheet top)) superblocks) (mapped n)
+
+-- a superblock whose words and taken blocks are all cleared
+pub cleared_sheet : (top : ℕ) (old new : Sheet) → HasSheetSizes top old → new.words ≡ replicate (length old.words) 0 → new.orders ≡ replicate (length old.orders) None → new ≡ blank_sheet top
+cleared_sheet top old new sizes words orders = ap₂ sheet_from
+    (words ∙ ap (λ n. replicate {A = ℕ} n 0) (let size = sizes.words in let e : length old.words ≡ 2 ^ (top + 1) - 1 = omega arith in e))
+    (orders ∙ ap (λ n. replicate {A = Option ℕ} n None) sizes.orders)
+  where
+    sheet_from : List ℕ → List (Option ℕ) → Sheet
+    sheet_from a b = record { words = a; orders = b }
+
+-- a tenant whose slots and counts are all cleared
+pub cleared_row : (top n : ℕ) (old new : Row) → HasRowSizes top n old → new.slots ≡ replicate (length old.slots) None → new.free ≡ replicate (length old.free) 0 → new.taken ≡ replicate (length old.taken) 0 → new ≡ blank_row top n
+cleared_row top n old new sizes slots free taken =
+    ap (λ a. row_from a new.free new.taken) (slots ∙ ap (λ l. replicate {A = Option ℕ} l None) sizes.slots)
+    ∙ ap₂ (row_from (replicate n None)) (free ∙ ap (λ l. replicate {A = ℕ} l 0) sizes.free) (taken ∙ ap (λ l. replicate {A = ℕ} l 0) sizes.taken)
+  where
+    row_from : List (Option ℕ) → List ℕ → List ℕ → Row
+    row_from a b c = record { slots = a; free = b; taken = c }

@@ -1,0 +1,54 @@
+-- The stored words by depth and number of the block, and what a write to one leaves.
+use Rattle.std.proofs.Common.{◌≡◌, ℕ, suc, ◌+◌, ◌-◌, ◌*◌, ◌/◌, ◌^◌, ◌<◌, ◌≤◌, List, length, get_or, set, inl, inr, ap, subst, ◌∙◌, arith}
+use Rattle.std.proofs.lemmas.Bool.{cases_order}
+use Rattle.std.proofs.lemmas.Nat.{pow_pos}
+use Rattle.std.proofs.lemmas.List.{get_or-set_same, get_or-set_other}
+use Rattle.std.proofs.Math.Nat.{pow-suc}
+use Rattle.std.proofs.Math.Pow.{pow_mono}
+use Rattle.buddy_core.specs.Tree.{word_at}
+
+-- a node at a depth has a number of its own
+node_deeper : (d e q r : ℕ) → q < 2 ^ d → d < e → 2 ^ d + q < 2 ^ e + r
+node_deeper d e q r h lt =
+    let deep = pow_mono {i = suc d} {j = e} (omega arith) in
+    omega (arith, pow-suc 2 d)
+
+pub node_apart : (d e q r : ℕ) → q < 2 ^ d → r < 2 ^ e → 2 ^ d + q ≡ 2 ^ e + r → (d ≡ e) × (q ≡ r)
+node_apart d e q r h g s = elim (cases_order d e) [
+  | inl same ↦ (same, let p = ap (λ i. 2 ^ i) same in omega arith)
+  | inr other ↦ absurd (elim other [ inl lt ↦ let b = node_deeper d e q r h lt in omega arith | inr lt ↦ let b = node_deeper e d r q g lt in omega arith ])
+]
+
+-- and is stored
+pub node_below : (top d k q : ℕ) → d + k ≡ top → q < 2 ^ d → 2 ^ d + q < 2 ^ (top + 1)
+node_below top d k q e h =
+    let deep = pow_mono {i = suc d} {j = top + 1} (omega arith) in
+    omega (arith, pow-suc 2 d)
+
+pub node_stored : (top d k q : ℕ) (words : List ℕ) → length words + 1 ≡ 2 ^ (top + 1) → d + k ≡ top → q < 2 ^ d → 2 ^ d + q ≤ length words
+node_stored top d k q words size e h = let below = node_below top d k q e h in omega arith
+
+pub word_at-set_same : (words : List ℕ) (i v d q : ℕ) → i + 1 ≡ 2 ^ d + q → i < length words → word_at (set words i v) d q ≡ v
+word_at-set_same words i v d q e h =
+    subst (λ j. get_or (set words i v) j 0 ≡ v) (let same : i ≡ 2 ^ d + q - 1 = omega arith in same) (get_or-set_same words i v 0 h)
+
+pub word_at-set_other : (words : List ℕ) (i v d q : ℕ) → (2 ^ d + q ≡ i + 1 → ⊥) → word_at (set words i v) d q ≡ word_at words d q
+word_at-set_other words i v d q ne = get_or-set_other words i (2 ^ d + q - 1) v 0 (λ e. ne (omega (arith, pow_pos d)))
+
+-- the halves of a node
+pub low_node : (d p n : ℕ) → n ≡ 2 ^ d + p → 2 ^ suc d + 2 * p ≡ 2 * n
+low_node d p n e = omega (arith, pow-suc 2 d)
+
+pub high_node : (d p n : ℕ) → n ≡ 2 ^ d + p → 2 ^ suc d + (2 * p + 1) ≡ 2 * n + 1
+high_node d p n e = omega (arith, pow-suc 2 d)
+
+pub half_small : (d p q : ℕ) → q / 2 ≡ p → p < 2 ^ d → q < 2 ^ suc d
+half_small d p q e h = omega (arith, pow-suc 2 d)
+
+-- where the words of other nodes are not
+pub far_whole : (d p n e q : ℕ) → n ≡ 2 ^ d + p → p < 2 ^ d → q < 2 ^ e → (e ≡ d → q ≡ p → ⊥) → 2 ^ e + q ≡ n → ⊥
+far_whole d p n e q s b h off t = let both = node_apart e d q p h b (omega arith) in off both.0 both.1
+
+pub far_half : (d p r n e q : ℕ) → n ≡ 2 ^ suc d + r → r / 2 ≡ p → p < 2 ^ d → q < 2 ^ e → (e ≡ suc d → q / 2 ≡ p → ⊥) → 2 ^ e + q ≡ n → ⊥
+far_half d p r n e q s a b h off t =
+    let both = node_apart e (suc d) q r h (half_small d p r a b) (omega arith) in off both.0 (ap (λ i. i / 2) both.1 ∙ a)

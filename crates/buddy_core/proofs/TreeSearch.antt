@@ -1,0 +1,162 @@
+-- The way down from the first word to the free block of an order with the least first frame.
+use Rattle.std.proofs.Common.{◌≡◌, ℕ, suc, ◌+◌, ◌-◌, ◌*◌, ◌/◌, ◌%◌, ◌^◌, ◌<◌, ◌≤◌, Bool, true, false, List, length, get_or, ◌⊎◌, inl, inr, refl, sym, ap, subst, ◌∙◌, arith}
+use Rattle.std.specs.Prelude.{slice_index}
+use Rattle.std.specs.Int.{bit_at}
+use Rattle.std.proofs.lemmas.Bool.{cases_eq, cond-false, false_from_ne_true}
+use Rattle.std.proofs.lemmas.Nat.{shl_below, shl_whole, shl-shr, one_shl, pow-add}
+use Rattle.std.proofs.Math.Nat.{pow-suc}
+use Rattle.std.proofs.Math.Pow.{pow_mono}
+use Rattle.model_core.specs.Numbered.{number_at, is_clear, IsOpen}
+use Rattle.buddy_core.specs.Tree.{orders, Shows, HasOpen, IsLeast}
+use Rattle.model_core.proofs.Bridge.{number_is}
+use Rattle.buddy_core.proofs.TreeOrders.{orders_clear, orders_halves, bit_apart, either_bit, orders_tell, orders_told, word_whole, word_inside}
+use Rattle.buddy_core.proofs.TreeNodes.{low_node}
+
+-- block q of order k has the free block of order j with the least first frame inside
+pub record Leads (ok : ℕ → Bool) (top j k q : ℕ) : Type 0 where
+  pub bit : bit_at (orders ok k q) j ≡ 1
+  pub around : (k ≡ top) ⊎ (is_clear ok (suc k) (q / 2) ≡ false)
+  pub least : (n p : ℕ) → j + n ≡ k → p < 2 ^ (top - j) → IsOpen ok top j p → q ≤ number_at n p
+
+-- the first word is that of the whole superblock
+pub first_word : (ok : ℕ → Bool) (top : ℕ) (words : List ℕ) → Shows top ok words → slice_index words 0 ≡ orders ok top 0
+first_word ok top words shows = shows.each 0 top 0 (omega arith) (omega arith) ∙ word_whole ok top 0
+
+pub leads_first : (ok : ℕ → Bool) (top j : ℕ) (words : List ℕ) → Shows top ok words → bit_at (slice_index words 0) j ≡ 1 → Leads ok top j top 0
+leads_first ok top j words shows h = record {
+  bit = subst (λ n. bit_at n j ≡ 1) (first_word ok top words shows) h;
+  around = inl refl;
+  least = λ n p s b o. omega arith;
+}
+
+-- a block that has a smaller free block inside is not one
+not_whole : (ok : ℕ → Bool) (k q j : ℕ) → j ≤ k → bit_at (orders ok (suc k) q) j ≡ 1 → is_clear ok (suc k) q ≡ false
+not_whole ok k q j h b = false_from_ne_true _ (λ t.
+    let whole = bit_apart (suc k) j (subst (λ n. bit_at n j ≡ 1) (orders_clear ok (suc k) q t) b) in omega arith)
+
+-- the word of the lower half
+pub low_word : (ok : ℕ → Bool) (top j k q d : ℕ) (words : List ℕ) → Shows top ok words → suc d + k ≡ top → q < 2 ^ d → j ≤ k → Leads ok top j (suc k) q
+    → (n : ℕ) → n ≡ 2 ^ d + q → slice_index words (2 * n - 1) ≡ orders ok k (2 * q)
+low_word ok top j k q d words shows s b h l n e =
+    let half : 2 * q / 2 ≡ q = omega arith in
+    ap (λ i. get_or words (i - 1) 0) (sym (low_node d q n e)) ∙ shows.each (suc d) k (2 * q) s (omega (arith, pow-suc 2 d))
+    ∙ word_inside ok top k (2 * q) (omega arith)
+    ∙ cond-false _ 0 _ (ap (λ i. is_clear ok (suc k) i) half ∙ not_whole ok k q j h l.bit)
+
+pub leads_low : (ok : ℕ → Bool) (top j k q : ℕ) → j ≤ k → Leads ok top j (suc k) q → bit_at (orders ok k (2 * q)) j ≡ 1 → Leads ok top j k (2 * q)
+leads_low ok top j k q h l b = record {
+  bit = b;
+  around = inr (ap (λ i. is_clear ok (suc k) i) (let half : 2 * q / 2 ≡ q = omega arith in half) ∙ not_whole ok k q j h l.bit);
+  least = λ n p s small o. let above = l.least (suc n) p (omega arith) small o in omega arith;
+}
+
+pub leads_high : (ok : ℕ → Bool) (top j k q : ℕ) → j ≤ k → k < top → Leads ok top j (suc k) q → (bit_at (orders ok k (2 * q)) j ≡ 1 → ⊥) → Leads ok top j k (2 * q + 1)
+leads_high ok top j k q h lt l off =
+    let split = not_whole ok k q j h l.bit in
+    record {
+      bit = elim (either_bit _ _ j (subst (λ n. bit_at n j ≡ 1) (orders_halves ok k q split) l.bit)) [ inl b ↦ absurd (off b) | inr b ↦ b ];
+      around = inr (ap (λ i. is_clear ok (suc k) i) (let half : (2 * q + 1) / 2 ≡ q = omega arith in half) ∙ split);
+      least = λ n p s small o.
+          let above = l.least (suc n) p (omega arith) small o in
+          elim (cases_eq (number_at n p) (2 * q)) [
+            | inl e ↦ absurd (off (orders_told ok k (2 * q) j (n, p, s, e, inner p o)))
+            | inr ne ↦ omega arith
+          ];
+    }
+  where
+    inner : (p : ℕ) → IsOpen ok top j p → IsOpen ok k j p
+    inner p (small, clear, around) = (h, clear, elim around [ inl e ↦ absurd (omega arith) | inr f ↦ inr f ])
+
+-- at its own order the block is found
+pub leads_last : (ok : ℕ → Bool) (top j q : ℕ) → j ≤ top → Leads ok top j j q → IsLeast ok top j q
+leads_last ok top j q h l = ((h, clear (orders_tell ok j q j l.bit), l.around), λ p small o. l.least 0 p (omega arith) small o)
+  where
+    clear : HasOpen ok j j q j → is_clear ok j q ≡ true
+    clear (n, p, s, a, (small, c, around)) = subst (λ i. is_clear ok j i ≡ true) (subst (λ i. number_at i p ≡ q) (let z : n ≡ 0 = omega arith in z) a) c
+
+-- the node after d steps down, and the next
+pub record Reached (top j d n : ℕ) (words : List ℕ) : Type 0 where
+  pub least : 2 ^ d ≤ n
+  pub depth : n < 2 * 2 ^ d
+  pub leads : (ok : ℕ → Bool) → Shows top ok words → bit_at (slice_index words 0) j ≡ 1 → Leads ok top j (top - d) (n - 2 ^ d)
+
+at_depth : (ok : ℕ → Bool) (top j d k q n e : ℕ) → e ≡ d + 1 → k ≡ top - suc d → n ≡ 2 ^ suc d + q → Leads ok top j k q → Leads ok top j (top - e) (n - 2 ^ e)
+at_depth ok top j d k q n e a b s l =
+    let e1 : e ≡ suc d = omega arith in
+    subst (λ i. Leads ok top j (top - i) (n - 2 ^ i)) (sym e1)
+    (subst (λ i. Leads ok top j i (n - 2 ^ suc d)) b
+    (subst (λ i. Leads ok top j k i) (let r : q ≡ n - 2 ^ suc d = omega arith in r) l))
+
+-- a block of the next order below, as a number
+below_top : (top d : ℕ) → d < top → top - d ≡ suc (top - suc d)
+below_top top d h = omega arith
+
+pub reached_low : (top j d n m e : ℕ) (words : List ℕ) → d + j < top → e ≡ d + 1 → m ≡ n * 2 → bit_at (slice_index words (m - 1)) j ≡ 1 → Reached top j d n words → Reached top j e m words
+reached_low top j d n m e words h a s bit r =
+    let k = top - suc d in
+    let q = n - 2 ^ d in
+    let least = r.least in
+    let depth = r.depth in
+    let wide : 2 ^ e ≡ 2 ^ d * 2 = ap (λ i. 2 ^ i) (let e1 : e ≡ suc d = omega arith in e1) ∙ pow-suc 2 d in
+    record {
+      least = omega arith;
+      depth = omega arith;
+      leads = λ ok shows root.
+          let l = subst (λ i. Leads ok top j i q) (below_top top d (omega arith)) (r.leads ok shows root) in
+          let same : slice_index words (m - 1) ≡ orders ok k (2 * q) =
+          ap (λ i. get_or words (i - 1) 0) (let t : m ≡ 2 * n = omega arith in t) ∙ low_word ok top j k q d words shows (omega arith) (omega arith) (omega arith) l n (omega arith) in
+          at_depth ok top j d k (2 * q) m e a refl (omega (arith, pow-suc 2 d)) (leads_low ok top j k q (omega arith) l (subst (λ i. bit_at i j ≡ 1) same bit));
+    }
+
+pub reached_high : (top j d n m e : ℕ) (words : List ℕ) → d + j < top → e ≡ d + 1 → m ≡ n * 2 → (bit_at (slice_index words (m - 1)) j ≡ 1 → ⊥) → Reached top j d n words → Reached top j e (m + 1) words
+reached_high top j d n m e words h a s off r =
+    let k = top - suc d in
+    let q = n - 2 ^ d in
+    let least = r.least in
+    let depth = r.depth in
+    let wide : 2 ^ e ≡ 2 ^ d * 2 = ap (λ i. 2 ^ i) (let e1 : e ≡ suc d = omega arith in e1) ∙ pow-suc 2 d in
+    record {
+      least = omega arith;
+      depth = omega arith;
+      leads = λ ok shows root.
+          let l = subst (λ i. Leads ok top j i q) (below_top top d (omega arith)) (r.leads ok shows root) in
+          let same : slice_index words (m - 1) ≡ orders ok k (2 * q) =
+          ap (λ i. get_or words (i - 1) 0) (let t : m ≡ 2 * n = omega arith in t) ∙ low_word ok top j k q d words shows (omega arith) (omega arith) (omega arith) l n (omega arith) in
+          at_depth ok top j d k (2 * q + 1) (m + 1) e a refl (omega (arith, pow-suc 2 d))
+          (leads_high ok top j k q (omega arith) (omega arith) l (λ b. off (subst (λ i. bit_at i j ≡ 1) (sym same) b)));
+    }
+
+-- a node on the way has a stored lower half
+pub reached_stored : (top j d n : ℕ) (words : List ℕ) → length words + 1 ≡ 2 ^ (top + 1) → d < top → Reached top j d n words → 2 * n + 1 ≤ length words
+reached_stored top j d n words size h r =
+    let least = r.least in
+    let depth = r.depth in
+    let deep = pow_mono {i = suc (suc d)} {j = top + 1} (omega arith) in
+    omega (arith, pow-suc 2 d, pow-suc 2 (suc d))
+
+-- the first frame of the block of the last node
+pub first_of : (top j n : ℕ) → j ≤ top → top ≤ 8 → 2 ^ (top - j) ≤ n → n < 2 * 2 ^ (top - j)
+    → (1 * 2 ^ top % 4294967296 ≡ 2 ^ top) × (n * 2 ^ j % 4294967296 ≡ 2 ^ top + (n - 2 ^ (top - j)) * 2 ^ j) × ((n - 2 ^ (top - j)) * 2 ^ j < 2 ^ top)
+first_of top j n h small least depth =
+    let d = top - j in
+    let q = n - 2 ^ d in
+    let whole : 2 ^ d * 2 ^ j ≡ 2 ^ top = sym (pow-add 2 d j) ∙ ap (λ i. 2 ^ i) (let s : d + j ≡ top = omega arith in s) in
+    let parts : n * 2 ^ j ≡ (2 ^ d + q) * 2 ^ j = ap (λ i. i * 2 ^ j) (let s : n ≡ 2 ^ d + q = omega arith in s) in
+    let below : q * 2 ^ j < 2 ^ top = subst (λ i. q * 2 ^ j < 2 ^ i) (let s : d + j ≡ top = omega arith in s) (shl_below q d j (omega arith)) in
+    (one_shl top 32 (omega arith), shl_whole n (suc d) j 32 (omega (arith, pow-suc 2 d)) (omega arith) ∙ omega arith, below)
+
+pub found_first : (top j d n r : ℕ) (words : List ℕ) → j ≤ top → d ≡ top - j → r ≡ (n - 2 ^ d) * 2 ^ j → Reached top j d n words
+    → (ok : ℕ → Bool) → Shows top ok words → bit_at (slice_index words 0) j ≡ 1 → (number_at j r * 2 ^ j ≡ r) × IsLeast ok top j (number_at j r)
+found_first top j d n r words h s e way ok shows root =
+    let q = n - 2 ^ d in
+    let number : number_at j r ≡ q = number_is j r ∙ ap (λ i. i / 2 ^ j) e ∙ shl-shr q j in
+    let l = subst (λ i. Leads ok top j i q) (let t : top - d ≡ j = omega arith in t) (way.leads ok shows root) in
+    (ap (λ i. i * 2 ^ j) number ∙ sym e, subst (λ i. IsLeast ok top j i) (sym number) (leads_last ok top j q h l))
+
+pub reached_first : (top j d : ℕ) (words : List ℕ) → d ≡ 0 → Reached top j d 1 words
+reached_first top j d words e =
+    subst (λ i. Reached top j i 1 words) (sym e) (record {
+      least = omega arith;
+      depth = omega arith;
+      leads = λ ok shows root. subst (λ i. Leads ok top j i 0) (let whole : top ≡ top - 0 = omega arith in whole) (leads_first ok top j words shows root);
+    })

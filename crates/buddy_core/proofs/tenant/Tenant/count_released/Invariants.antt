@@ -1,0 +1,11 @@
+use Rattle.std.proofs.Common.{◌≡◌, ◌⊎◌, ℕ, ◌+◌, ◌<◌, ◌≤◌, length, get_or}
+use Rattle.buddy_core.proofs.tenant.Tenant.count_released.Given as goal
+
+-- the buddies below `level` are no longer counted, and no other order changes
+abbrev pub invariant-loop-level : goal.invariant-loop-level
+invariant-loop-level l =
+    (length l.self-inside.free.items ≡ length l.initial.self-inside.free.items)
+    × ((i : ℕ) → l.order ≤ i → i < l.level → get_or l.self-inside.free.items i 0 + 1 ≡ get_or l.initial.self-inside.free.items i 0)
+    × ((i : ℕ) → (i < l.order) ⊎ (l.level ≤ i) → get_or l.self-inside.free.items i 0 ≡ get_or l.initial.self-inside.free.items i 0)
+    × (l.self-inside.slots.items ≡ l.initial.self-inside.slots.items)
+    × (l.self-inside.taken.items ≡ l.initial.self-inside.taken.items)

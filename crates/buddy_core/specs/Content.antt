@@ -1,0 +1,82 @@
+-- What the buddy system holds, tenant by tenant: slots with the superblocks under them, and taken
+-- blocks. Free blocks are not part of it: they follow from the held slots and the taken blocks.
+use Rattle.std.specs.Prelude.{ℕ, zero, suc, ◌+◌, ◌*◌, ◌^◌, ◌==◌, Bool, false, if◌then◌else◌, Option, Some, None, is_some, List, [], replicate, slice_index_or, slice_set, count_by}
+use Rattle.model_core.specs.Blocks.{Taken, block, IsSound}
+use Rattle.model_core.specs.Choice.{is_free}
+
+-- one tenant: the superblock under each slot, and at each frame the order of the taken block that begins there
+pub record Holding : Type 0 where
+  pub slots : List (Option ℕ)
+  pub taken : List (Option ℕ)
+
+-- `top` is the order of a superblock; tenants by number
+pub record Content : Type 0 where
+  pub top : ℕ
+  pub superblocks : ℕ
+  pub tenants : List Holding
+
+-- neither a slot nor a taken block
+abbrev pub nothing_held : ℕ → ℕ → Holding
+nothing_held top superblocks = record { slots = replicate superblocks None; taken = replicate (superblocks * 2 ^ top) None }
+
+-- no tenant holds anything
+abbrev pub opening : ℕ → ℕ → ℕ → Content
+opening top superblocks tenants =
+    record { top = top; superblocks = superblocks; tenants = replicate tenants (nothing_held top superblocks) }
+
+abbrev pub no_tenant : Holding
+no_tenant = record { slots = []; taken = [] }
+
+abbrev pub holding_of : ℕ → Content → Holding
+holding_of t c = slice_index_or c.tenants t no_tenant
+
+-- tenant t holds h now, and nothing else changes
+abbrev pub with_holding : ℕ → Holding → Content → Content
+with_holding t h c = record c { tenants = slice_set c.tenants t h }
+
+-- the superblock under a slot
+abbrev pub superblock_at : Holding → ℕ → Option ℕ
+superblock_at h u = slice_index_or h.slots u None
+
+abbrev pub is_held : Holding → ℕ → Bool
+is_held h u = is_some (superblock_at h u)
+
+-- the order of the taken block that begins at a frame
+abbrev pub taken_of : Holding → Taken
+taken_of h f = slice_index_or h.taken f None
+
+abbrev pub with_block : ℕ → ℕ → Holding → Holding
+with_block f k h = record h { taken = slice_set h.taken f (Some k) }
+
+abbrev pub without_block : ℕ → Holding → Holding
+without_block f h = record h { taken = slice_set h.taken f None }
+
+abbrev pub with_slot : ℕ → ℕ → Holding → Holding
+with_slot u m h = record h { slots = slice_set h.slots u (Some m) }
+
+abbrev pub without_slot : ℕ → Holding → Holding
+without_slot u h = record h { slots = slice_set h.slots u None }
+
+-- the taken blocks are aligned, lie in held slots and share no frame
+abbrev pub IsSoundHolding : ℕ → Holding → Type 0
+IsSoundHolding top h = IsSound top (is_held h) (taken_of h)
+
+-- how many numbers below n pass
+abbrev pub count_below : (ℕ → Bool) → ℕ → ℕ
+count_below p zero = 0
+count_below p (suc n) = count_below p n + (if p n then 1 else 0)
+
+-- how many free blocks of order k there are
+abbrev pub free_blocks : ℕ → ℕ → ℕ → Holding → ℕ
+free_blocks top superblocks k h = count_below (λ f. is_free top (is_held h) (taken_of h) (block f k)) (superblocks * 2 ^ top)
+
+abbrev pub has_order : ℕ → Option ℕ → Bool
+has_order k None = false
+has_order k (Some j) = j == k
+
+-- how many taken blocks of order k there are
+abbrev pub taken_blocks : ℕ → Holding → ℕ
+taken_blocks k h = count_by (has_order k) h.taken
+
+abbrev pub held_slots : Holding → ℕ
+held_slots h = count_by is_some h.slots

@@ -1,0 +1,6 @@
+pub mod Content
+pub mod Table
+pub mod Tree
+pub mod Stored
+pub mod Kept
+pub mod Roots

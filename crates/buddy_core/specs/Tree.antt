@@ -1,0 +1,49 @@
+-- The tree of orders of one superblock: node 1 is the whole superblock, of order `top`, and nodes 2i and 2i + 1 are
+-- the halves of node i. Node i is stored at index i - 1, so block q of order `top - d` is node 2 ^ d + q.
+-- Frames are those of the superblock, from 0; `ok` tells which are available.
+use Rattle.std.specs.Prelude.{◌≡◌, ℕ, zero, suc, ◌+◌, ◌-◌, ◌*◌, ◌/◌, ◌^◌, ◌<◌, ◌≤◌, ◌==◌, nat_lt, Bool, true, false, ◌&&◌, cond, List, length, slice_index, slice_set, bit_or}
+use Rattle.model_core.specs.Numbered.{number_at, is_clear, IsOpen}
+
+-- the orders of the free blocks in block q of order k, a bit for each, as if nothing lay around that block
+abbrev pub orders : (ℕ → Bool) → ℕ → ℕ → ℕ
+orders ok zero q = cond (ok q) 1 0
+orders ok (suc k) q =
+    cond (is_clear ok (suc k) q) (2 ^ suc k) (bit_or (orders ok k (2 * q)) (orders ok k (2 * q + 1)))
+
+-- the word of block q of order k in a superblock: nothing inside a larger free block is a free block
+abbrev pub word : (ℕ → Bool) → ℕ → ℕ → ℕ → ℕ
+word ok top k q = cond (nat_lt k top && is_clear ok (suc k) (q / 2)) 0 (orders ok k q)
+
+-- the stored word of block q at depth d
+abbrev pub word_at : List ℕ → ℕ → ℕ → ℕ
+word_at words d q = slice_index words (2 ^ d + q - 1)
+
+-- the stored words are those of the available frames
+pub record Shows (top : ℕ) (ok : ℕ → Bool) (words : List ℕ) : Type 0 where
+  pub size : length words + 1 ≡ 2 ^ (top + 1)
+  pub each : (d k q : ℕ) → d + k ≡ top → q < 2 ^ d → word_at words d q ≡ word ok top k q
+
+-- frame x lies in the block of order k around frame f
+abbrev pub IsWith : ℕ → ℕ → ℕ → Type 0
+IsWith k f x = number_at k x ≡ number_at k f
+
+-- `small` is `large` without the block of order k around frame f, all of it available in `large`
+pub record IsLess (small large : ℕ → Bool) (k f : ℕ) : Type 0 where
+  pub was : (x : ℕ) → IsWith k f x → large x ≡ true
+  pub gone : (x : ℕ) → IsWith k f x → small x ≡ false
+  pub kept : (x : ℕ) → (IsWith k f x → ⊥) → small x ≡ large x
+
+-- a block of order j is free inside block q of order k
+abbrev pub HasOpen : (ℕ → Bool) → ℕ → ℕ → ℕ → ℕ → Type 0
+HasOpen ok top k q j = (n p : ℕ) × (j + n ≡ k) × (number_at n p ≡ q) × IsOpen ok top j p
+
+-- the block of order j with the least first frame of those that are free
+abbrev pub IsLeast : (ℕ → Bool) → ℕ → ℕ → ℕ → Type 0
+IsLeast ok top j q = IsOpen ok top j q × ((p : ℕ) → p < 2 ^ (top - j) → IsOpen ok top j p → q ≤ p)
+
+-- the words once node n has its word from those of its halves, of order k each
+abbrev pub joined : List ℕ → ℕ → ℕ → List ℕ
+joined words n k =
+    cond (slice_index words (2 * n - 1) == 2 ^ k && slice_index words (2 * n) == 2 ^ k)
+    (slice_set (slice_set (slice_set words (2 * n - 1) 0) (2 * n) 0) (n - 1) (2 ^ (k + 1)))
+    (slice_set words (n - 1) (bit_or (slice_index words (2 * n - 1)) (slice_index words (2 * n))))

@@ -1,0 +1,245 @@
+//! The binary buddy system of a machine that is divided between tenants (Knuth, The Art of Computer
+//! Programming, volume 1, section 2.5).
+//!
+//! A superblock has `2^order` frames and stands under at most one slot of one tenant. The frames of
+//! slot `u` of a tenant are numbered from `u * 2^order` on. A block of order `k` has `2^k` frames,
+//! begins at a multiple of `2^k`, and is taken or not. A free block is an aligned block of held slots
+//! without a taken frame that no larger such block contains, so halves are joined at every release.
+//!
+//! Contracts see a [`Buddy`] as the slots and the taken blocks of each tenant. Behind them each
+//! superblock has a tree of words that tells the orders of the free blocks inside each of its blocks.
+#![tactic(auto)]
+
+ghost use Rattle.std.specs.Prelude.{◌≡◌, ℕ, ◌+◌, ◌*◌, ◌/◌, ◌^◌, ◌<◌, ◌≤◌, Some, None, List, length, slice_index, MatchOption, IfOk, OnOk, OnErr, IfNone, IfSome, OnSome, IsSome};
+ghost use Rattle.model_core.specs.Blocks.{Block, block, HasFrame, IsTaken, HasTaken, slot_block, IsChoice, IsWithout};
+ghost use Rattle.buddy_core.specs.Content.{Content, opening, nothing_held, holding_of, with_holding, superblock_at, is_held, taken_of, with_block, without_block, with_slot, without_slot, IsSoundHolding, free_blocks, taken_blocks, held_slots};
+ghost use Rattle.buddy_core.specs.Table.{IsTable};
+
+mod find;
+mod superblock;
+mod tenant;
+mod tree;
+
+use crate::superblock::Superblock;
+use crate::tenant::Tenant;
+use std::alloc::{AllocError, Global};
+use std::marker::Model;
+
+/// A frame of the slot is taken.
+#[derive(Clone, Copy, Debug, PartialEq, Eq)]
+pub struct SlotBusy;
+
+/// The buddy systems of all tenants.
+#[derive(Debug, Drop)]
+pub struct Buddy {
+    order: u8,
+    superblocks: Vec<Superblock>,
+    tenants: Vec<Tenant>,
+}
+
+impl Model for Buddy {
+    ghost use Rattle.buddy_core.specs.Content.{Content};
+
+    ghost Value = { Content };
+
+    ghost use Rattle.buddy_core.specs.Stored.{content_shown};
+    ghost use Rattle.buddy_core.specs.Kept.{IsKept};
+
+    ghost view = { λ a. content_shown a.order a.superblocks.items a.tenants.items };
+
+    ghost invariant = { λ a. IsKept a.order a.superblocks.items a.tenants.items };
+}
+
+impl Buddy {
+    /// A machine of `superblocks` superblocks of `2^order` frames each, and of tenants that hold nothing.
+    pub fn new(alloc: Global, order: u8, superblocks: u16, tenants: u8) -> Result<Buddy, AllocError>
+        requires order { order ≤ 8 }
+        requires superblocks { superblocks ≤ 256 }
+        requires tenants { tenants ≤ 64 }
+        ensures { IfOk result (λ b. b ≡ opening order superblocks tenants) }
+    {
+        let mut rows = Vec::new(alloc);
+        for _tenant in 0..tenants {
+            rows.push(Tenant::new(alloc, order, superblocks)?)?;
+        }
+        let mut sheets = Vec::new(alloc);
+        for _superblock in 0..superblocks {
+            sheets.push(Superblock::new(alloc, order)?)?;
+        }
+        Ok(Buddy {
+            order,
+            superblocks: sheets,
+            tenants: rows,
+        })
+    }
+
+    /// A law: each tenant's taken blocks are aligned, lie in held slots and share no frame.
+    pub fn holdings_are_sound(&self)
+        ensures { (t : ℕ) → t < length self.now.tenants → IsSoundHolding self.now.top (holding_of t self.now) }
+    {
+        let _ = &self.order;
+    }
+
+    /// A law: no superblock stands under two slots.
+    pub fn slots_are_apart(&self)
+        ensures { (t u v w m : ℕ) → superblock_at (holding_of t self.now) u ≡ Some m
+            → superblock_at (holding_of v self.now) w ≡ Some m → (t ≡ v) × (u ≡ w) }
+    {
+        let _ = &self.order;
+    }
+
+    /// Puts superblock `m` under a slot that tenant `t` does not hold. All its frames are free.
+    pub fn add_slot(&mut self, t: u8, slot: u16, m: u16)
+        requires tenant { t < length self.old.tenants }
+        requires slot { slot < self.old.superblocks }
+        requires superblock { m < self.old.superblocks }
+        requires free { superblock_at (holding_of t self.old) slot ≡ None }
+        requires unused { (other u : ℕ) → superblock_at (holding_of other self.old) u ≡ Some m → ⊥ }
+        ensures { self.new ≡ with_holding t (with_slot slot m (holding_of t self.old)) self.old }
+    {
+        let order = self.order;
+        self.superblocks[m as usize].fill(order);
+        self.tenants[t as usize].add_slot(slot, m, order);
+    }
+
+    /// Takes the superblock from under a slot of tenant `t`, unless a frame of the slot is taken.
+    pub fn drop_slot(&mut self, t: u8, slot: u16) -> Result<(), SlotBusy>
+        requires tenant { t < length self.old.tenants }
+        requires held { IsSome (superblock_at (holding_of t self.old) slot) }
+        ensures done { OnOk result ((HasTaken (taken_of (holding_of t self.old)) (slot_block self.old.top slot) → ⊥)
+            × (self.new ≡ with_holding t (without_slot slot (holding_of t self.old)) self.old)) }
+        ensures busy { OnErr result (HasTaken (taken_of (holding_of t self.old)) (slot_block self.old.top slot)
+            × (self.new ≡ self.old)) }
+    {
+        let order = self.order;
+        let Some(m) = self.tenants[t as usize].superblock(u32::from(slot)) else {
+            return Err(SlotBusy);
+        };
+        if self.superblocks[m as usize].root() != 1 << order {
+            return Err(SlotBusy);
+        }
+        self.superblocks[m as usize].clear();
+        self.tenants[t as usize].drop_slot(slot, order);
+        Ok(())
+    }
+
+    /// Lets go of all slots and all taken blocks of tenant `t`.
+    pub fn reset(&mut self, t: u8)
+        requires { t < length self.old.tenants }
+        ensures { self.new ≡ with_holding t (nothing_held self.old.top self.old.superblocks) self.old }
+    {
+        let slots = self.superblocks.len();
+        for slot in 0..slots {
+            if let Some(m) = self.tenants[t as usize].superblock(slot as u32) {
+                self.superblocks[m as usize].clear();
+            }
+        }
+        self.tenants[t as usize].clear();
+    }
+
+    /// The first frame of a block of order `k` that tenant `t` has taken now: the beginning of the
+    /// free block of least order of at least `k` and of these of the least first frame. `None` where
+    /// there is no free block of order `k` or more.
+    ///
+    /// While the block is too large it is split, and the upper half stays free.
+    pub fn reserve(&mut self, t: u8, k: u8) -> Option<u32>
+        requires tenant { t < length self.old.tenants }
+        requires order { k ≤ self.old.top }
+        ensures refused { IfNone result (IsWithout self.old.top (is_held (holding_of t self.old)) (taken_of (holding_of t self.old)) k
+            × (self.new ≡ self.old)) }
+        ensures done { IfSome result (λ f. (j : ℕ)
+            × (IsChoice self.old.top (is_held (holding_of t self.old)) (taken_of (holding_of t self.old)) k (block f j)
+            × (self.new ≡ with_holding t (with_block f k (holding_of t self.old)) self.old))) }
+    {
+        let place = find::find(&self.superblocks, self.tenants[t as usize].slots(), k)?;
+        let order = self.order;
+        let superblock = &mut self.superblocks[place.superblock as usize];
+        let first = superblock.search(order, place.order);
+        superblock.reserve_at(order, first, place.order, k);
+        self.tenants[t as usize].count_reserved(place.order, k);
+        Some((u32::from(place.slot) << order) + first)
+    }
+
+    /// The order of the taken block of tenant `t` that begins at `frame`, which is free now, joined at
+    /// once with its buddy while that is one free block. `None` where no taken block begins there.
+    pub fn release(&mut self, t: u8, frame: u32) -> Option<u8>
+        requires { t < length self.old.tenants }
+        ensures answer { result ≡ taken_of (holding_of t self.old) frame }
+        ensures refused { IfNone result (self.new ≡ self.old) }
+        ensures done { OnSome result (self.new ≡ with_holding t (without_block frame (holding_of t self.old)) self.old) }
+    {
+        let k = self.live_order(t, frame)?;
+        let order = self.order;
+        let m = self.tenants[t as usize].superblock(frame >> order)?;
+        let first = frame % (1 << order);
+        let superblock = &mut self.superblocks[m as usize];
+        superblock.release_at(order, first, k);
+        let joined = superblock.free_around(order, first, k);
+        self.tenants[t as usize].count_released(k, joined);
+        Some(k)
+    }
+
+    /// The order of the taken block of tenant `t` that begins at `frame`, if one does.
+    pub fn live_order(&self, t: u8, frame: u32) -> Option<u8>
+        requires { t < length self.now.tenants }
+        ensures { result ≡ taken_of (holding_of t self.now) frame }
+    {
+        let m = self.tenants[t as usize].superblock(frame >> self.order)?;
+        self.superblocks[m as usize].order_at(frame % (1 << self.order))
+    }
+
+    /// The taken block of tenant `t` that has `frame`: its first frame and its order. `None` where the
+    /// frame is not taken.
+    pub fn block_of(&self, t: u8, frame: u32) -> Option<(u32, u8)>
+        requires { t < length self.now.tenants }
+        ensures { MatchOption result (IsTaken (taken_of (holding_of t self.now)) frame → ⊥)
+            (λ b. (taken_of (holding_of t self.now) b.0 ≡ Some b.1) × HasFrame (block b.0 b.1) frame) }
+    {
+        for k in 0..=self.order {
+            let first = frame >> k << k;
+            if self.live_order(t, first) == Some(k) {
+                return Some((first, k));
+            }
+        }
+        None
+    }
+
+    /// How many free blocks of order `k` tenant `t` has.
+    pub fn free_count(&self, t: u8, k: u8) -> u32
+        requires tenant { t < length self.now.tenants }
+        requires order { k ≤ self.now.top }
+        ensures { result ≡ free_blocks self.now.top self.now.superblocks k (holding_of t self.now) }
+    {
+        self.tenants[t as usize].free_count(k)
+    }
+
+    /// How many taken blocks of order `k` tenant `t` has.
+    pub fn taken_count(&self, t: u8, k: u8) -> u32
+        requires tenant { t < length self.now.tenants }
+        requires order { k ≤ self.now.top }
+        ensures { result ≡ taken_blocks k (holding_of t self.now) }
+    {
+        self.tenants[t as usize].taken_count(k)
+    }
+
+    /// How many slots tenant `t` holds.
+    pub fn slots(&self, t: u8) -> u32
+        requires { t < length self.now.tenants }
+        ensures { result ≡ held_slots (holding_of t self.now) }
+    {
+        self.tenants[t as usize].held_slots()
+    }
+
+    /// The stored words of superblock `m`, node `i` at index `i - 1`. Node 1 is the whole superblock,
+    /// and nodes `2i` and `2i + 1` are the halves of node `i`. Bit `j` of a node is 1 exactly where a
+    /// free block of order `j` lies inside the node's block.
+    pub fn table(&self, m: u16) -> &[u16]
+        requires { m < self.now.superblocks }
+        ensures { IsTable self.now m result.now }
+    {
+        self.superblocks[m as usize].words()
+    }
+}
+
+#[cfg(test)]
+mod tests;

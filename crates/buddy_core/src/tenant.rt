@@ -1,0 +1,157 @@
+//! What is stored of one tenant.
+
+ghost use Rattle.std.specs.Prelude.{◌≡◌, ◌⊎◌, ℕ, replicate, count_by, is_some, ◌+◌, ◌-◌, ◌^◌, ◌<◌, ◌≤◌, Some, None, List, length, slice_index, slice_index_or, slice_set, IfOk};
+ghost use Rattle.buddy_core.specs.Stored.{blank_row};
+
+use std::alloc::{AllocError, Global};
+use std::marker::Model;
+
+/// The slots of one tenant, and by order how many free and taken blocks it has.
+#[derive(Debug, Drop)]
+pub struct Tenant {
+    slots: Vec<Option<u16>>,
+    free: Vec<u32>,
+    taken: Vec<u32>,
+}
+
+impl Model for Tenant {
+    ghost use Rattle.buddy_core.specs.Stored.{Row};
+
+    ghost Value = { Row };
+
+    ghost view = { λ a. record { slots = a.slots.items; free = a.free.items; taken = a.taken.items } };
+}
+
+impl Tenant {
+    /// A tenant that holds nothing.
+    pub fn new(alloc: Global, order: u8, superblocks: u16) -> Result<Tenant, AllocError>
+        requires { order ≤ 8 }
+        ensures { IfOk result (λ t. t ≡ blank_row order superblocks) }
+    {
+        let slots = vec![in alloc; None; superblocks as usize]?;
+        let free = vec![in alloc; 0; order as usize + 1]?;
+        let taken = vec![in alloc; 0; order as usize + 1]?;
+        Ok(Tenant { slots, free, taken })
+    }
+
+    /// The superblock under each slot.
+    pub fn slots(&self) -> &[Option<u16>]
+        ensures { result.now ≡ self.now.slots }
+    {
+        &self.slots
+    }
+
+    /// The superblock under `slot`; `None` also past the last slot.
+    pub fn superblock(&self, slot: u32) -> Option<u16>
+        ensures { result ≡ slice_index_or self.now.slots slot None }
+    {
+        self.slots.get(slot as usize).copied().flatten()
+    }
+
+    /// How many free blocks of `order` the tenant has.
+    pub fn free_count(&self, order: u8) -> u32
+        requires { order < length self.now.free }
+        ensures { result ≡ slice_index self.now.free order }
+    {
+        self.free[order as usize]
+    }
+
+    /// How many taken blocks of `order` the tenant has.
+    pub fn taken_count(&self, order: u8) -> u32
+        requires { order < length self.now.taken }
+        ensures { result ≡ slice_index self.now.taken order }
+    {
+        self.taken[order as usize]
+    }
+
+    /// How many slots the tenant holds.
+    pub fn held_slots(&self) -> u32
+        requires { length self.now.slots < 2 ^ 32 }
+        ensures { result ≡ count_by is_some self.now.slots }
+    {
+        self.slots.iter().filter(|slot| slot.is_some()).count() as u32
+    }
+
+    /// Puts a superblock, of which all frames are free, under an empty slot.
+    pub fn add_slot(&mut self, slot: u16, superblock: u16, order: u8)
+        requires slot { slot < length self.old.slots }
+        requires order { order < length self.old.free }
+        requires room { slice_index self.old.free order + 1 < 2 ^ 32 }
+        ensures { self.new ≡ record self.old {
+          slots = slice_set self.old.slots slot (Some superblock);
+          free = slice_set self.old.free order (slice_index self.old.free order + 1);
+        } }
+    {
+        self.slots[slot as usize] = Some(superblock);
+        self.free[order as usize] += 1;
+    }
+
+    /// Takes a superblock, of which all frames are free, from its slot.
+    pub fn drop_slot(&mut self, slot: u16, order: u8)
+        requires slot { slot < length self.old.slots }
+        requires order { order < length self.old.free }
+        requires some { 0 < slice_index self.old.free order }
+        ensures { self.new ≡ record self.old {
+          slots = slice_set self.old.slots slot None;
+          free = slice_set self.old.free order (slice_index self.old.free order - 1);
+        } }
+    {
+        self.slots[slot as usize] = None;
+        self.free[order as usize] -= 1;
+    }
+
+    /// Counts a block of `order` taken out of a free block of order `from`, whose other parts are free.
+    pub fn count_reserved(&mut self, from: u8, order: u8)
+        requires order { order ≤ from }
+        requires free { from < length self.old.free }
+        requires taken { from < length self.old.taken }
+        requires some { 0 < slice_index self.old.free from }
+        requires free_room { (i : ℕ) → slice_index self.old.free i + 1 < 2 ^ 32 }
+        requires taken_room { slice_index self.old.taken order + 1 < 2 ^ 32 }
+        ensures slots { self.new.slots ≡ self.old.slots }
+        ensures taken { self.new.taken ≡ slice_set self.old.taken order (slice_index self.old.taken order + 1) }
+        ensures size { length self.new.free ≡ length self.old.free }
+        ensures split { slice_index self.new.free from + 1 ≡ slice_index self.old.free from }
+        ensures halves { (i : ℕ) → order ≤ i → i < from → slice_index self.new.free i ≡ slice_index self.old.free i + 1 }
+        ensures others { (i : ℕ) → (i < order) ⊎ (from < i) → slice_index self.new.free i ≡ slice_index self.old.free i }
+    {
+        self.taken[order as usize] += 1;
+        self.free[from as usize] -= 1;
+        for level in order..from {
+            self.free[level as usize] += 1;
+        }
+    }
+
+    /// Counts a taken block of `order` joined with its buddies to a free block of order `to`.
+    pub fn count_released(&mut self, order: u8, to: u8)
+        requires order { order ≤ to }
+        requires free { to < length self.old.free }
+        requires taken { to < length self.old.taken }
+        requires some { 0 < slice_index self.old.taken order }
+        requires buddies { (i : ℕ) → order ≤ i → i < to → 0 < slice_index self.old.free i }
+        requires room { slice_index self.old.free to + 1 < 2 ^ 32 }
+        ensures slots { self.new.slots ≡ self.old.slots }
+        ensures taken { self.new.taken ≡ slice_set self.old.taken order (slice_index self.old.taken order - 1) }
+        ensures size { length self.new.free ≡ length self.old.free }
+        ensures joined { slice_index self.new.free to ≡ slice_index self.old.free to + 1 }
+        ensures buddies { (i : ℕ) → order ≤ i → i < to → slice_index self.new.free i + 1 ≡ slice_index self.old.free i }
+        ensures others { (i : ℕ) → (i < order) ⊎ (to < i) → slice_index self.new.free i ≡ slice_index self.old.free i }
+    {
+        self.taken[order as usize] -= 1;
+        for level in order..to {
+            self.free[level as usize] -= 1;
+        }
+        self.free[to as usize] += 1;
+    }
+
+    /// Lets go of all slots, and counts nothing.
+    pub fn clear(&mut self)
+        ensures slots { self.new.slots ≡ replicate (length self.old.slots) None }
+        ensures free { self.new.free ≡ replicate (length self.old.free) 0 }
+        ensures taken { self.new.taken ≡ replicate (length self.old.taken) 0 }
+    {
+        self.slots.fill(None);
+        self.free.fill(0);
+        self.taken.fill(0);
+    }
+}

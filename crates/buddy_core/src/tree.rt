@@ -1,0 +1,176 @@
+//! The tree of orders of one superblock, over its stored words.
+//!
+//! Node 1 is the whole superblock, nodes `2i` and `2i + 1` are the halves of node `i`, and node `i` is stored at
+//! index `i - 1`. Bit `j` of a node is 1 exactly where a free block of order `j` lies inside the node's block, so all
+//! words below a node that is one free block are 0.
+
+ghost use Rattle.std.specs.Prelude.{◌≡◌, ℕ, ◌+◌, ◌-◌, ◌*◌, ◌/◌, ◌^◌, ◌<◌, ◌≤◌, ◌==◌, Bool, true, false, cond, ◌&&◌, ◌↔◌, IsTrue, length, slice_index, slice_set, bit_or};
+ghost use Rattle.std.specs.Int.{bit_at};
+ghost use Rattle.model_core.specs.Numbered.{number_at, IsOpen};
+ghost use Rattle.buddy_core.specs.Tree.{Shows, IsLess, IsLeast, joined};
+
+/// Whether a node with this word has a free block of `order` inside, where `order` is at most 15.
+pub fn has(word: u16, order: u8) -> bool
+    requires { order < 16 }
+    ensures { IsTrue result ↔ (bit_at word order ≡ 1) }
+{
+    (word >> order) & 1 == 1
+}
+
+/// Writes the words of a superblock of which no frame is available.
+pub fn clear(words: &mut [u16])
+    ensures { (top : ℕ) → length words.old + 1 ≡ 2 ^ (top + 1) → Shows top (λ _. false) words.new }
+{
+    for word in words.iter_mut() {
+        *word = 0;
+    }
+}
+
+/// Writes the words of a superblock of which every frame is available, where `top` is its order, at most 8.
+pub fn fill(words: &mut [u16], top: u8)
+    requires small { top ≤ 8 }
+    requires size { length words.old + 1 ≡ 2 ^ (top + 1) }
+    ensures { Shows top (λ _. true) words.new }
+{
+    clear(words);
+    words[0] = 1 << top;
+}
+
+/// The first frame of the free block of `order` with the least first frame. A free block of that order must be there,
+/// which bit `order` of the first word tells.
+pub fn search(words: &[u16], top: u8, order: u8) -> u32
+    requires small { top ≤ 8 }
+    requires order { order ≤ top }
+    requires size { length words.now + 1 ≡ 2 ^ (top + 1) }
+    ensures within { result < 2 ^ top }
+    ensures found { (ok : ℕ → Bool) → Shows top ok words.now → bit_at (slice_index words.now 0) order ≡ 1
+        → (number_at order result * 2 ^ order ≡ result) × IsLeast ok top order (number_at order result) }
+{
+    let mut node = 1;
+    for _level in order..top {
+        node *= 2;
+        if !has(words[node - 1], order) {
+            node += 1;
+        }
+    }
+    ((node as u32) << order) - (1 << top)
+}
+
+/// The node of the block of `order` around frame `first`.
+pub fn node_of(top: u8, first: u32, order: u8) -> usize
+    requires small { top ≤ 8 }
+    requires order { order ≤ top }
+    requires first { first < 2 ^ top }
+    ensures value { result ≡ 2 ^ (top - order) + number_at order first }
+    ensures positive { 0 < result }
+    ensures within { result < 2 ^ (top + 1) }
+{
+    (((1 << top) + first) >> order) as usize
+}
+
+/// The node of the other half of the block that node `node` is a half of.
+fn sibling(node: usize) -> usize
+    requires { 0 < node }
+    ensures { result + node ≡ 4 * (node / 2) + 1 }
+{
+    if node % 2 == 0 { node + 1 } else { node - 1 }
+}
+
+/// Writes the word of `node` from the words of its halves, of order `order` each. Two free halves are one free block.
+fn join(words: &mut [u16], node: usize, order: u8)
+    requires positive { 0 < node }
+    requires within { 2 * node < length words.old }
+    requires order { order < 15 }
+    ensures { words.new ≡ joined words.old node order }
+{
+    let low = words[2 * node - 1];
+    let high = words[2 * node];
+    if low == 1 << order && high == 1 << order {
+        words[2 * node - 1] = 0;
+        words[2 * node] = 0;
+        words[node - 1] = 1 << (order + 1);
+    } else {
+        words[node - 1] = low | high;
+    }
+}
+
+/// Takes the block of `order` around frame `first` out of the free block of order `from` around it, which it splits.
+pub fn reserve_at(words: &mut [u16], top: u8, first: u32, from: u8, order: u8)
+    requires small { top ≤ 8 }
+    requires order { order ≤ from }
+    requires from { from ≤ top }
+    requires first { first < 2 ^ top }
+    requires size { length words.old + 1 ≡ 2 ^ (top + 1) }
+    ensures { (large small : ℕ → Bool) → Shows top large words.old → IsOpen large top from (number_at from first) → IsLess small large order first
+        → Shows top small words.new }
+{
+    let mut node = node_of(top, first, order);
+    words[node - 1] = 0;
+    for level in order..top {
+        if level < from {
+            words[sibling(node) - 1] = 1 << level;
+        }
+        node /= 2;
+        join(words, node, level);
+    }
+}
+
+/// Makes the block of `order` around frame `first` available, and joins it at once with its buddy while that is one
+/// free block.
+pub fn release_at(words: &mut [u16], top: u8, first: u32, order: u8)
+    requires small { top ≤ 8 }
+    requires order { order ≤ top }
+    requires first { first < 2 ^ top }
+    requires size { length words.old + 1 ≡ 2 ^ (top + 1) }
+    ensures { (small large : ℕ → Bool) → Shows top small words.old → IsLess small large order first → Shows top large words.new }
+{
+    let mut node = node_of(top, first, order);
+    words[node - 1] = 1 << order;
+    for level in order..top {
+        node /= 2;
+        join(words, node, level);
+    }
+}
+
+#[cfg(test)]
+mod tests {
+    use super::*;
+    use std::test::Fail;
+
+    const TOP: u8 = 3;
+
+    // Takes the first block of `order` out of the first free block of order `from`.
+    fn take(words: &mut [u16], from: u8, order: u8) -> u32
+        requires order { order ≤ from }
+        requires from { from ≤ 3 }
+        requires size { length words.old ≡ 15 }
+        ensures { result < 8 }
+    {
+        let first = search(words, TOP, from);
+        reserve_at(words, TOP, first, from, order);
+        first
+    }
+
+    // Orders 0, 0, 1 and 2 are taken, frames 0 and 4 given back, and order 1 is taken again.
+    #[test]
+    fn worked_example(rt: HostRuntime) -> Result<(), Fail> {
+        let mut words = [0; 15];
+        fill(&mut words, TOP);
+        assert_eq!(rt; take(&mut words, 3, 0), 0);
+        assert_eq!(rt; take(&mut words, 0, 0), 1);
+        assert_eq!(rt; take(&mut words, 1, 1), 2);
+        assert_eq!(rt; take(&mut words, 2, 2), 4);
+        assert_eq!(rt; words, [0; 15]);
+        release_at(&mut words, TOP, 0, 0);
+        release_at(&mut words, TOP, 4, 2);
+        assert_eq!(rt; words, [5, 1, 4, 1, 0, 0, 0, 1, 0, 0, 0, 0, 0, 0, 0]);
+        assert_eq!(rt; take(&mut words, 2, 1), 4);
+        assert_eq!(rt; words, [3, 1, 2, 1, 0, 0, 2, 1, 0, 0, 0, 0, 0, 0, 0]);
+        release_at(&mut words, TOP, 1, 0);
+        release_at(&mut words, TOP, 2, 1);
+        release_at(&mut words, TOP, 4, 1);
+        assert_eq!(rt; words[0], 8);
+        assert_eq!(rt; words[1..].iter().copied().max(), Some(0));
+        Ok(())
+    }
+}

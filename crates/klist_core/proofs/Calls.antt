@@ -1,0 +1,89 @@
+-- What is known in an insertion and in a removal before their writes.
+use Rattle.std.proofs.Common.{◌≡◌, ℕ, ◌+◌, ◌^◌, ◌<◌, ◌≤◌, List, [], Option, Some, None, length, get_or, set, ap, sym, ◌∙◌, subst, arith}
+use Rattle.std.specs.Prelude.{◌≢◌}
+use Rattle.std.proofs.Math.ListN.{get_or-map}
+use Rattle.std.proofs.lemmas.List.{length-map, length-set, get_or_read}
+use Rattle.std.proofs.lemmas.List.Sums.{count_by-le-length}
+use Rattle.klist_core.specs.Places.{place_at, is_in}
+use Rattle.klist_core.specs.Links.{up, down, IsNearest, IsLinked, head_at, node_at, places_of}
+use Rattle.klist_core.specs.declared.Head.{Head}
+use Rattle.klist_core.specs.declared.Node.{Node}
+use Rattle.klist_core.proofs.Tables.{count_inserted, count_removed}
+use Rattle.klist_core.proofs.Rewired.{IsWithin}
+use Rattle.klist_core.proofs.Linked.{nearest_within}
+
+-- node n, which was read as x, stands in list h under the key k
+pub record IsRemoval (heads : List Head) (nodes : List Node) (n : ℕ) (x : Node) (h k : ℕ) : Type 0 where
+  pub linked : IsLinked heads nodes
+  pub read : x ≡ node_at nodes n
+  pub place : place_at (places_of nodes) n ≡ Some (h, k)
+  pub in_heads : h < length heads
+  pub in_nodes : n < length nodes
+  pub left : IsWithin x.previous (length nodes)
+  pub right : IsWithin x.next (length nodes)
+  pub some : 1 ≤ (head_at heads h).len
+
+pub removal_known : (heads : List Head) (nodes : List Node) (n : ℕ) (x : Node) (h k : ℕ) → IsLinked heads nodes → n < length (places_of nodes) → x ≡ get_or nodes n x → x.place ≡ Some (h, k)
+    → IsRemoval heads nodes n x h k
+removal_known heads nodes n x h k t within got is = record {
+  linked = t;
+  read = read;
+  place = place;
+  in_heads = in_heads;
+  in_nodes = in_nodes;
+  left = subst (λ (y : Node). IsWithin y.previous (length nodes)) (sym read) (fitting _ (nearest_within down (places_of nodes) h _ _ (t.downwards.goes_on n h k place)));
+  right = subst (λ (y : Node). IsWithin y.next (length nodes)) (sym read) (fitting _ (nearest_within up (places_of nodes) h _ _ (t.upwards.goes_on n h k place)));
+  some = omega (arith, t.counted h in_heads, count_removed (places_of nodes) h n k within place);
+}
+  where
+    in_nodes : n < length nodes
+    in_nodes = omega (arith, length-map nodes (λ (y : Node). y.place))
+
+    read : x ≡ node_at nodes n
+    read = get_or_read nodes n x in_nodes got (node_at [] 0)
+
+    place : place_at (places_of nodes) n ≡ Some (h, k)
+    place = get_or-map (λ (y : Node). y.place) nodes n (node_at [] 0) ∙ (ap (λ (y : Node). y.place) (sym read) ∙ is)
+
+    in_heads : h < length heads
+    in_heads = t.table.headed n h k place
+
+    fitting : (o : Option ℕ) → IsWithin o (length (places_of nodes)) → IsWithin o (length nodes)
+    fitting o w = record { below = λ i e. omega (arith, w.below i e, length-map nodes (λ (y : Node). y.place)) }
+
+-- node n stands in no list, and the key k comes between `previous` and `next` of list h
+pub record IsInsertion (heads : List Head) (nodes : List Node) (h n k : ℕ) (previous next : Option ℕ) : Type 0 where
+  pub linked : IsLinked heads nodes
+  pub in_heads : h < length heads
+  pub in_nodes : n < length nodes
+  pub fits : k < 2 ^ 32
+  pub free : place_at (places_of nodes) n ≡ None
+  pub fresh : (i : ℕ) → place_at (places_of nodes) i ≢ Some (h, k)
+  pub before : IsNearest down (place_at (places_of nodes)) h (down k + 1) previous
+  pub after : IsNearest up (place_at (places_of nodes)) h (up k + 1) next
+  pub left : IsWithin previous (length nodes)
+  pub right : IsWithin next (length nodes)
+  pub room : (head_at heads h).len + 1 < 2 ^ 32
+
+pub insertion_known : (heads : List Head) (nodes : List Node) (h n k : ℕ) (previous next : Option ℕ) → IsLinked heads nodes → h < length heads → n < length (places_of nodes) → k < 2 ^ 32
+    → place_at (places_of nodes) n ≡ None → ((i : ℕ) → place_at (places_of nodes) i ≢ Some (h, k))
+    → IsNearest down (place_at (places_of nodes)) h (down k + 1) previous → IsNearest up (place_at (places_of nodes)) h (up k + 1) next → IsInsertion heads nodes h n k previous next
+insertion_known heads nodes h n k previous next t in_heads within fits free fresh before after = record {
+  linked = t;
+  in_heads = in_heads;
+  in_nodes = omega (arith, same_length);
+  fits = fits;
+  free = free;
+  fresh = fresh;
+  before = before;
+  after = after;
+  left = fitting previous (nearest_within down (places_of nodes) h _ previous before);
+  right = fitting next (nearest_within up (places_of nodes) h _ next after);
+  room = omega (arith, t.counted h in_heads, count_inserted (places_of nodes) h n k within free, count_by-le-length (is_in h) (set (places_of nodes) n (Some (h, k))), length-set (places_of nodes) n (Some (h, k)), t.table.small);
+}
+  where
+    same_length : length (places_of nodes) ≡ length nodes
+    same_length = length-map nodes (λ (y : Node). y.place)
+
+    fitting : (o : Option ℕ) → IsWithin o (length (places_of nodes)) → IsWithin o (length nodes)
+    fitting o w = record { below = λ i e. omega (arith, w.below i e, same_length) }

@@ -1,0 +1,11 @@
+pub mod Directions
+pub mod Changes
+pub mod Chains
+pub mod Tables
+pub mod Rewired
+pub mod Linked
+pub mod Listing
+pub mod OneList
+pub mod Walks
+pub mod Calls
+pub mod Fresh

@@ -1,0 +1,218 @@
+-- What the writes of an insertion and of a removal leave in the tables of heads and nodes.
+use Rattle.std.proofs.Common.{◌≡◌, ℕ, ◌<◌, List, Option, Some, None, [], length, set, get_or, refl, ap, sym, ◌∙◌, subst, arith}
+use Rattle.std.specs.Prelude.{◌≢◌}
+use Rattle.std.proofs.Math.ListN.{get_or-map}
+use Rattle.std.proofs.Math.Seq.{map-set_same}
+use Rattle.std.proofs.lemmas.List.{length-set, get_or-set_same, get_or-set_other, get_or_read, map-set}
+use Rattle.klist_core.specs.Links.{head_at, node_at, places_of}
+use Rattle.klist_core.specs.Writes.{heads_linked_after, heads_linked_before, nodes_linked_after, nodes_linked_before}
+use Rattle.klist_core.specs.declared.Head.{Head}
+use Rattle.klist_core.specs.declared.Node.{Node}
+use Rattle.klist_core.proofs.Chains.{IsRelinked}
+
+-- the node is one of the table, where there is one
+pub record IsWithin (o : Option ℕ) (len : ℕ) : Type 0 where
+  pub below : (i : ℕ) → o ≡ Some i → i < len
+
+-- a write that a field does not show
+unseen : {X Y : Type 0} (f : X → Y) (xs : List X) (i j : ℕ) (y d : X) → f y ≡ f (get_or xs i d) → f (get_or (set xs i y) j d) ≡ f (get_or xs j d)
+unseen {X} {Y} f xs i j y d e = sym (get_or-map f (set xs i y) j d) ∙ (ap (λ (zs : List Y). get_or zs j (f d)) (map-set_same f xs i y d e) ∙ get_or-map f xs j d)
+
+pub length_after : (o to : Option ℕ) (nodes : List Node) → length (nodes_linked_after o to nodes) ≡ length nodes
+length_after None to nodes = refl
+length_after (Some i) to nodes = length-set nodes i _
+
+heads_after : (o : Option ℕ) (h : ℕ) (to : Option ℕ) (heads : List Head) → length (heads_linked_after o h to heads) ≡ length heads
+heads_after None h to heads = length-set heads h _
+heads_after (Some i) h to heads = refl
+
+heads_before : (o : Option ℕ) (h : ℕ) (to : Option ℕ) (heads : List Head) → length (heads_linked_before o h to heads) ≡ length heads
+heads_before None h to heads = length-set heads h _
+heads_before (Some i) h to heads = refl
+
+places_after : (o to : Option ℕ) (nodes : List Node) → places_of (nodes_linked_after o to nodes) ≡ places_of nodes
+places_after None to nodes = refl
+places_after (Some i) to nodes = map-set_same (λ (n : Node). n.place) nodes i (record (node_at nodes i) { next = to }) (node_at [] 0) refl
+
+places_before : (o to : Option ℕ) (nodes : List Node) → places_of (nodes_linked_before o to nodes) ≡ places_of nodes
+places_before None to nodes = refl
+places_before (Some i) to nodes = map-set_same (λ (n : Node). n.place) nodes i (record (node_at nodes i) { previous = to }) (node_at [] 0) refl
+
+-- what the writes in the other direction do not show
+next_before : (o to : Option ℕ) (nodes : List Node) (i : ℕ) → (node_at (nodes_linked_before o to nodes) i).next ≡ (node_at nodes i).next
+next_before None to nodes i = refl
+next_before (Some j) to nodes i = unseen (λ (n : Node). n.next) nodes j i (record (node_at nodes j) { previous = to }) (node_at [] 0) refl
+
+previous_after : (o to : Option ℕ) (nodes : List Node) (i : ℕ) → (node_at (nodes_linked_after o to nodes) i).previous ≡ (node_at nodes i).previous
+previous_after None to nodes i = refl
+previous_after (Some j) to nodes i = unseen (λ (n : Node). n.previous) nodes j i (record (node_at nodes j) { next = to }) (node_at [] 0) refl
+
+first_before : (o : Option ℕ) (h : ℕ) (to : Option ℕ) (heads : List Head) (g : ℕ) → (head_at (heads_linked_before o h to heads) g).first ≡ (head_at heads g).first
+first_before None h to heads g = unseen (λ (x : Head). x.first) heads h g (record (head_at heads h) { last = to }) (head_at [] 0) refl
+first_before (Some i) h to heads g = refl
+
+last_after : (o : Option ℕ) (h : ℕ) (to : Option ℕ) (heads : List Head) (g : ℕ) → (head_at (heads_linked_after o h to heads) g).last ≡ (head_at heads g).last
+last_after None h to heads g = unseen (λ (x : Head). x.last) heads h g (record (head_at heads h) { first = to }) (head_at [] 0) refl
+last_after (Some i) h to heads g = refl
+
+len_after : (o : Option ℕ) (h : ℕ) (to : Option ℕ) (heads : List Head) (g : ℕ) → (head_at (heads_linked_after o h to heads) g).len ≡ (head_at heads g).len
+len_after None h to heads g = unseen (λ (x : Head). x.len) heads h g (record (head_at heads h) { first = to }) (head_at [] 0) refl
+len_after (Some i) h to heads g = refl
+
+len_before : (o : Option ℕ) (h : ℕ) (to : Option ℕ) (heads : List Head) (g : ℕ) → (head_at (heads_linked_before o h to heads) g).len ≡ (head_at heads g).len
+len_before None h to heads g = unseen (λ (x : Head). x.len) heads h g (record (head_at heads h) { last = to }) (head_at [] 0) refl
+len_before (Some i) h to heads g = refl
+
+-- what they do show, each in its own direction
+after_relinks : (o : Option ℕ) (h n : ℕ) (to : Option ℕ) (ends links : ℕ → Option ℕ) (heads : List Head) (nodes : List Node) → h < length heads → IsWithin o (length nodes)
+    → ((g : ℕ) → (head_at heads g).first ≡ ends g) → ((i : ℕ) → i ≢ n → (node_at nodes i).next ≡ links i)
+    → IsRelinked ends links (λ g. (head_at (heads_linked_after o h to heads) g).first) (λ i. (node_at (nodes_linked_after o to nodes) i).next) h n o to
+after_relinks None h n to ends links heads nodes lt w e f = record {
+  begin = λ _. ap (λ (x : Head). x.first) (get_or-set_same heads h (record (head_at heads h) { first = to }) (head_at [] 0) lt);
+  other_begin = λ g ne. ap (λ (x : Head). x.first) (get_or-set_other heads h g (record (head_at heads h) { first = to }) (head_at [] 0) (λ q. ne q refl)) ∙ e g;
+  link = λ i q. cc;
+  other_link = λ i ne _. f i ne;
+}
+after_relinks (Some j) h n to ends links heads nodes lt w e f = record {
+  begin = λ q. cc;
+  other_begin = λ g ne. e g;
+  link = λ i q. let same : j ≡ i = cc in subst (λ x. (node_at (set nodes j (record (node_at nodes j) { next = to })) x).next ≡ to) same
+      (ap (λ (x : Node). x.next) (get_or-set_same nodes j (record (node_at nodes j) { next = to }) (node_at [] 0) (w.below j refl)));
+  other_link = λ i ne q. ap (λ (x : Node). x.next) (get_or-set_other nodes j i (record (node_at nodes j) { next = to }) (node_at [] 0) (λ same. q (ap Some (sym same)))) ∙ f i ne;
+}
+
+before_relinks : (o : Option ℕ) (h n : ℕ) (to : Option ℕ) (ends links : ℕ → Option ℕ) (heads : List Head) (nodes : List Node) → h < length heads → IsWithin o (length nodes)
+    → ((g : ℕ) → (head_at heads g).last ≡ ends g) → ((i : ℕ) → i ≢ n → (node_at nodes i).previous ≡ links i)
+    → IsRelinked ends links (λ g. (head_at (heads_linked_before o h to heads) g).last) (λ i. (node_at (nodes_linked_before o to nodes) i).previous) h n o to
+before_relinks None h n to ends links heads nodes lt w e f = record {
+  begin = λ _. ap (λ (x : Head). x.last) (get_or-set_same heads h (record (head_at heads h) { last = to }) (head_at [] 0) lt);
+  other_begin = λ g ne. ap (λ (x : Head). x.last) (get_or-set_other heads h g (record (head_at heads h) { last = to }) (head_at [] 0) (λ q. ne q refl)) ∙ e g;
+  link = λ i q. cc;
+  other_link = λ i ne _. f i ne;
+}
+before_relinks (Some j) h n to ends links heads nodes lt w e f = record {
+  begin = λ q. cc;
+  other_begin = λ g ne. e g;
+  link = λ i q. let same : j ≡ i = cc in subst (λ x. (node_at (set nodes j (record (node_at nodes j) { previous = to })) x).previous ≡ to) same
+      (ap (λ (x : Node). x.previous) (get_or-set_same nodes j (record (node_at nodes j) { previous = to }) (node_at [] 0) (w.below j refl)));
+  other_link = λ i ne q. ap (λ (x : Node). x.previous) (get_or-set_other nodes j i (record (node_at nodes j) { previous = to }) (node_at [] 0) (λ same. q (ap Some (sym same)))) ∙ f i ne;
+}
+
+-- the same links, read from other tables
+relinked_same : (ends links e e' l l' : ℕ → Option ℕ) (h n : ℕ) (o to : Option ℕ) → IsRelinked ends links e l h n o to → ((g : ℕ) → e' g ≡ e g) → ((i : ℕ) → l' i ≡ l i)
+    → IsRelinked ends links e' l' h n o to
+relinked_same ends links e e' l l' h n o to r f g = record {
+  begin = λ q. f h ∙ r.begin q;
+  other_begin = λ x ne. f x ∙ r.other_begin x ne;
+  link = λ i q. g i ∙ r.link i q;
+  other_link = λ i ne q. g i ∙ r.other_link i ne q;
+}
+
+kept_after : (o to : Option ℕ) (nodes : List Node) (n : ℕ) → o ≢ Some n → (node_at (nodes_linked_after o to nodes) n).next ≡ (node_at nodes n).next
+kept_after None to nodes n ne = refl
+kept_after (Some j) to nodes n ne = ap (λ (x : Node). x.next) (get_or-set_other nodes j n (record (node_at nodes j) { next = to }) (node_at [] 0) (λ same. ne (ap Some (sym same))))
+
+kept_before : (o to : Option ℕ) (nodes : List Node) (n : ℕ) → o ≢ Some n → (node_at (nodes_linked_before o to nodes) n).previous ≡ (node_at nodes n).previous
+kept_before None to nodes n ne = refl
+kept_before (Some j) to nodes n ne = ap (λ (x : Node). x.previous) (get_or-set_other nodes j n (record (node_at nodes j) { previous = to }) (node_at [] 0) (λ same. ne (ap Some (sym same))))
+
+-- the tables after node n was written, `a` linked after `previous` and `b` before `next`, and the length of list h set
+abbrev pub nodes_rewired : List Node → ℕ → Node → (previous next a b : Option ℕ) → List Node
+nodes_rewired nodes n own previous next a b = nodes_linked_before next b (nodes_linked_after previous a (set nodes n own))
+
+abbrev pub heads_rewired : List Head → ℕ → (previous next a b : Option ℕ) → List Head
+heads_rewired heads h previous next a b = heads_linked_before next h b (heads_linked_after previous h a heads)
+
+abbrev pub heads_counted : List Head → ℕ → ℕ → List Head
+heads_counted heads h m = set heads h (record (head_at heads h) { len = m })
+
+pub record IsRewired (heads heads' : List Head) (nodes nodes' : List Node) (h n : ℕ) (own : Node) (previous next a b : Option ℕ) (m : ℕ) : Type 0 where
+  pub heads_stay : length heads' ≡ length heads
+  pub places : places_of nodes' ≡ set (places_of nodes) n own.place
+  pub upwards : IsRelinked (λ g. (head_at heads g).first) (λ i. (node_at nodes i).next) (λ g. (head_at heads' g).first) (λ i. (node_at nodes' i).next) h n previous a
+  pub downwards : IsRelinked (λ g. (head_at heads g).last) (λ i. (node_at nodes i).previous) (λ g. (head_at heads' g).last) (λ i. (node_at nodes' i).previous) h n next b
+  pub own_next : previous ≢ Some n → (node_at nodes' n).next ≡ own.next
+  pub own_previous : next ≢ Some n → (node_at nodes' n).previous ≡ own.previous
+  pub len : (head_at heads' h).len ≡ m
+  pub other_len : (g : ℕ) → g ≢ h → (head_at heads' g).len ≡ (head_at heads g).len
+
+pub rewired : (heads : List Head) (nodes : List Node) (h n : ℕ) (own : Node) (previous next a b : Option ℕ) (m : ℕ) → h < length heads → n < length nodes
+    → IsWithin previous (length nodes) → IsWithin next (length nodes)
+    → IsRewired heads (heads_counted (heads_rewired heads h previous next a b) h m) nodes (nodes_rewired nodes n own previous next a b) h n own previous next a b m
+rewired heads nodes h n own previous next a b m in_heads in_nodes left right = record {
+  heads_stay = length-set two h (record (head_at two h) { len = m }) ∙ (heads_before next h b one ∙ heads_after previous h a heads);
+  places = places_before next b after ∙ (places_after previous a written ∙ map-set (λ (x : Node). x.place) nodes n own);
+  upwards = relinked_same _ _ (λ g. (head_at one g).first) _ (λ i. (node_at after i).next) _ h n previous a
+      (after_relinks previous h n a (λ g. (head_at heads g).first) (λ i. (node_at nodes i).next) heads written in_heads (within previous left) (λ g. refl)
+      (λ i ne. ap (λ (x : Node). x.next) (get_or-set_other nodes n i own (node_at [] 0) ne)))
+      (λ g. unseen (λ (x : Head). x.first) two h g (record (head_at two h) { len = m }) (head_at [] 0) refl ∙ first_before next h b one g)
+      (λ i. next_before next b after i);
+  downwards = relinked_same _ _ (λ g. (head_at two g).last) _ (λ i. (node_at (nodes_linked_before next b after) i).previous) _ h n next b
+      (before_relinks next h n b (λ g. (head_at heads g).last) (λ i. (node_at nodes i).previous) one after in_one (within_after next right) (last_after previous h a heads)
+      (λ i ne. previous_after previous a written i ∙ ap (λ (x : Node). x.previous) (get_or-set_other nodes n i own (node_at [] 0) ne)))
+      (λ g. unseen (λ (x : Head). x.last) two h g (record (head_at two h) { len = m }) (head_at [] 0) refl)
+      (λ i. refl);
+  own_next = λ ne. next_before next b after n ∙ (kept_after previous a written n ne ∙ ap (λ (x : Node). x.next) here);
+  own_previous = λ ne. kept_before next b after n ne ∙ (previous_after previous a written n ∙ ap (λ (x : Node). x.previous) here);
+  len = ap (λ (x : Head). x.len) (get_or-set_same two h (record (head_at two h) { len = m }) (head_at [] 0) in_two);
+  other_len = λ g ne. ap (λ (x : Head). x.len) (get_or-set_other two h g (record (head_at two h) { len = m }) (head_at [] 0) ne) ∙ (len_before next h b one g ∙ len_after previous h a heads g);
+}
+  where
+    one : List Head
+    one = heads_linked_after previous h a heads
+
+    two : List Head
+    two = heads_linked_before next h b one
+
+    written : List Node
+    written = set nodes n own
+
+    after : List Node
+    after = nodes_linked_after previous a written
+
+    here : node_at written n ≡ own
+    here = get_or-set_same nodes n own (node_at [] 0) in_nodes
+
+    in_one : h < length one
+    in_one = omega (arith, heads_after previous h a heads)
+
+    in_two : h < length two
+    in_two = omega (arith, heads_before next h b one, heads_after previous h a heads)
+
+    within : (o : Option ℕ) → IsWithin o (length nodes) → IsWithin o (length written)
+    within o w = record { below = λ i e. omega (arith, w.below i e, length-set nodes n own) }
+
+    within_after : (o : Option ℕ) → IsWithin o (length nodes) → IsWithin o (length after)
+    within_after o w = record { below = λ i e. omega (arith, w.below i e, length-set nodes n own, length_after previous a written) }
+
+-- the same from what the calls say one after another, and the length that the last write reads
+pub rewired_by_calls : (heads heads1 heads2 : List Head) (nodes nodes1 nodes2 : List Node) (h n : ℕ) (own : Node) (previous next a b : Option ℕ) (y : Head) (m : ℕ) → h < length heads → n < length nodes
+    → IsWithin previous (length nodes) → IsWithin next (length nodes) → heads1 ≡ heads_linked_after previous h a heads → nodes1 ≡ nodes_linked_after previous a (set nodes n own)
+    → heads2 ≡ heads_linked_before next h b heads1 → nodes2 ≡ nodes_linked_before next b nodes1 → y ≡ get_or heads2 h y
+    → IsRewired heads (set heads2 h (record y { len = m })) nodes nodes2 h n own previous next a b m × (y.len ≡ (head_at heads h).len)
+rewired_by_calls heads heads1 heads2 nodes nodes1 nodes2 h n own previous next a b y m in_heads in_nodes left right e1 f1 e2 f2 got = (
+  subst (λ hs. IsRewired heads hs nodes nodes2 h n own previous next a b m) (sym same_heads)
+      (subst (λ ns. IsRewired heads (heads_counted two h m) nodes ns h n own previous next a b m) (sym same_nodes) (rewired heads nodes h n own previous next a b m in_heads in_nodes left right)),
+  ap (λ (x : Head). x.len) is ∙ (len_before next h b one h ∙ len_after previous h a heads h),
+)
+  where
+    one : List Head
+    one = heads_linked_after previous h a heads
+
+    two : List Head
+    two = heads_linked_before next h b one
+
+    same_two : heads2 ≡ two
+    same_two = e2 ∙ ap (heads_linked_before next h b) e1
+
+    same_nodes : nodes2 ≡ nodes_rewired nodes n own previous next a b
+    same_nodes = f2 ∙ ap (nodes_linked_before next b) f1
+
+    in_two : h < length heads2
+    in_two = omega (arith, ap length same_two, heads_before next h b one, heads_after previous h a heads)
+
+    is : y ≡ head_at two h
+    is = get_or_read heads2 h y in_two got (head_at [] 0) ∙ ap (λ (hs : List Head). head_at hs h) same_two
+
+    same_heads : set heads2 h (record y { len = m }) ≡ heads_counted two h m
+    same_heads = ap (λ (hs : List Head). set hs h (record y { len = m })) same_two ∙ ap (λ (x : Head). set two h (record x { len = m })) is

@@ -1,0 +1,53 @@
+-- A walk along a list, in one direction, to the first node of a rank or more.
+use Rattle.std.proofs.Common.{◌≡◌, ℕ, ◌+◌, ◌-◌, ◌^◌, ◌<◌, ◌≤◌, Option, Some, None, IsSome, IfSome, is_some, ap, arith}
+use Rattle.std.specs.Prelude.{MatchOption}
+use Rattle.klist_core.specs.Links.{NoneFrom, IsLeast, IsNearest}
+
+-- node j has the key k in list h, and no node of the bound or more has a lesser rank
+pub record IsNotPast (rank : ℕ → ℕ) (place : ℕ → Option (ℕ × ℕ)) (h bound j k : ℕ) : Type 0 where
+  pub here : place j ≡ Some (h, k)
+  pub least : (i k' : ℕ) → place i ≡ Some (h, k') → bound ≤ rank k' → rank k ≤ rank k'
+
+-- the walk has come to o, and not past the first node of the bound or more
+pub record IsOnWay (rank : ℕ → ℕ) (place : ℕ → Option (ℕ × ℕ)) (h bound : ℕ) (o : Option ℕ) : Type 0 where
+  pub is : MatchOption o (NoneFrom rank place h bound) (λ j. (k : ℕ) × IsNotPast rank place h bound j k)
+
+abbrev pub key_in : Option (ℕ × ℕ) → ℕ
+key_in None = 0
+key_in (Some p) = p.1
+
+-- how far the walk may still go
+abbrev pub way_left : (ℕ → ℕ) → (ℕ → Option (ℕ × ℕ)) → Option ℕ → ℕ
+way_left rank place None = 0
+way_left rank place (Some j) = 2 ^ 32 + 1 - rank (key_in (place j))
+
+module _ (rank : ℕ → ℕ) (place : ℕ → Option (ℕ × ℕ)) (h bound : ℕ) where
+  pub way_begun : (o : Option ℕ) → IsNearest rank place h 0 o → IsOnWay rank place h bound o
+  way_begun None v = record { is = λ i k e. let u = v.is i k e in absurd (omega arith) }
+  way_begun (Some j) v = let l : IsLeast rank place h 0 j v.is.0 = v.is.1 in record { is = (v.is.0, record { here = l.here; least = λ i k e le. l.least i k e (omega arith) }) }
+
+  pub way_placed : (j : ℕ) → IsOnWay rank place h bound (Some j) → IsSome (place j)
+  way_placed j v = let p : IsNotPast rank place h bound j v.is.0 = v.is.1 in ap is_some p.here
+
+  -- the key that was read of the node
+  pub way_key : (j r : ℕ) (v : IsOnWay rank place h bound (Some j)) → IfSome (place j) (λ p. r ≡ p.1) → r ≡ v.is.0
+  way_key j r v read = let p : IsNotPast rank place h bound j v.is.0 = v.is.1 in rw p.here at read
+
+  pub way_gone_on : (j k : ℕ) (o : Option ℕ) → rank k < bound → IsNearest rank place h (rank k + 1) o → IsOnWay rank place h bound o
+  way_gone_on j k None lt v = record { is = λ i k' e. let u = v.is i k' e in omega arith }
+  way_gone_on j k (Some i) lt v = let l : IsLeast rank place h (rank k + 1) i v.is.0 = v.is.1 in record { is = (v.is.0, record { here = l.here; least = λ x k' e le. l.least x k' e (omega arith) }) }
+
+  pub way_ended : (j : ℕ) (v : IsOnWay rank place h bound (Some j)) → bound ≤ rank v.is.0 → IsNearest rank place h bound (Some j)
+  way_ended j v le = let p : IsNotPast rank place h bound j v.is.0 = v.is.1 in record { is = (v.is.0, record { here = p.here; from = le; least = p.least }) }
+
+  pub way_exhausted : IsOnWay rank place h bound None → IsNearest rank place h bound None
+  way_exhausted v = record { is = v.is }
+
+  pub way_shortened : (j : ℕ) (o : Option ℕ) (v : IsOnWay rank place h bound (Some j)) → rank v.is.0 ≤ 2 ^ 32 → IsNearest rank place h (rank v.is.0 + 1) o → way_left rank place o < way_left rank place (Some j)
+  way_shortened j None v le n =
+      let p : IsNotPast rank place h bound j v.is.0 = v.is.1 in
+      rw p.here (omega arith)
+  way_shortened j (Some i) v le n =
+      let p : IsNotPast rank place h bound j v.is.0 = v.is.1 in
+      let l : IsLeast rank place h (rank v.is.0 + 1) i n.is.0 = n.is.1 in
+      rw (p.here, l.here) (omega (arith, l.from))

@@ -1,0 +1,39 @@
+-- What holds of the lists, and what an insertion and a removal do to them.
+use Rattle.std.specs.Prelude.{◌≡◌, ◌≢◌, ℕ, ◌<◌, List, Option, Some, None, length, count_by, ◌↔◌}
+use Rattle.std.specs.List.{Contains}
+use Rattle.klist_core.specs.Places.{Placed, IsTable, place_at, is_in, inserted, removed}
+use Rattle.klist_core.specs.Lists.{list_of, keys_of, put_by_key, without_node, RisesFrom}
+
+-- each list rises by key
+abbrev pub ListsRise : Type 0
+ListsRise = (s : Placed) (h : ℕ) → IsTable s → RisesFrom 0 (keys_of s.places h)
+
+-- a list has exactly the pairs of the nodes that stand in it
+abbrev pub ListsHoldPlaces : Type 0
+ListsHoldPlaces = (places : List (Option (ℕ × ℕ))) (h k i : ℕ) → Contains (list_of places h) (k, i) ↔ (place_at places i ≡ Some (h, k))
+
+-- and exactly their keys
+abbrev pub KeysHoldPlaces : Type 0
+KeysHoldPlaces = (places : List (Option (ℕ × ℕ))) (h k : ℕ) → Contains (keys_of places h) k ↔ ((i : ℕ) × (place_at places i ≡ Some (h, k)))
+
+-- a list is as long as there are nodes in it
+abbrev pub ListsCountPlaces : Type 0
+ListsCountPlaces = (places : List (Option (ℕ × ℕ))) (h : ℕ) → (length (list_of places h) ≡ count_by (is_in h) places) × (length (keys_of places h) ≡ count_by (is_in h) places)
+
+-- node i stands in no list, and no node of list h has the key k
+pub record MayInsert (s : Placed) (h i k : ℕ) : Type 0 where
+  pub node : i < length s.places
+  pub free : place_at s.places i ≡ None
+  pub fresh : (j : ℕ) → place_at s.places j ≢ Some (h, k)
+
+-- the named list gains the pair at its place by key, and every other list stays
+abbrev pub InsertionChangesOneList : Type 0
+InsertionChangesOneList = (s : Placed) (h i k : ℕ) → IsTable s → MayInsert s h i k
+    → (list_of (inserted s h i k).places h ≡ put_by_key (k, i) (list_of s.places h))
+    × ((g : ℕ) → g ≢ h → list_of (inserted s h i k).places g ≡ list_of s.places g)
+
+-- the list of the node loses its pair, and every other list stays
+abbrev pub RemovalChangesOneList : Type 0
+RemovalChangesOneList = (s : Placed) (h i k : ℕ) → IsTable s → place_at s.places i ≡ Some (h, k)
+    → (list_of (removed s i).places h ≡ without_node i (list_of s.places h))
+    × ((g : ℕ) → g ≢ h → list_of (removed s i).places g ≡ list_of s.places g)

@@ -1,0 +1,5 @@
+pub mod Places
+pub mod Lists
+pub mod Laws
+pub mod Links
+pub mod Writes

@@ -1,0 +1,55 @@
+-- What the links of a table say. A list has two directions, up and down the keys; what holds in one holds in the other.
+use Rattle.std.specs.Prelude.{◌≡◌, ℕ, ◌+◌, ◌-◌, ◌^◌, ◌<◌, ◌≤◌, Option, Some, None, List, length, map, slice_index_or, count_by, MatchOption}
+use Rattle.klist_core.specs.Places.{Placed, IsTable, place_at, is_in}
+use Rattle.klist_core.specs.declared.Head.{Head}
+use Rattle.klist_core.specs.declared.Node.{Node}
+
+-- a direction is a rank of keys, which rises along it
+abbrev pub up : ℕ → ℕ
+up key = key
+
+abbrev pub down : ℕ → ℕ
+down key = 2 ^ 32 - key
+
+-- no node of list h has a rank of bound or more
+abbrev pub NoneFrom : (ℕ → ℕ) → (ℕ → Option (ℕ × ℕ)) → ℕ → ℕ → Type 0
+NoneFrom rank place h bound = (i k : ℕ) → place i ≡ Some (h, k) → rank k < bound
+
+-- node j stands in list h under the key k, which has the least rank of bound or more
+pub record IsLeast (rank : ℕ → ℕ) (place : ℕ → Option (ℕ × ℕ)) (h bound j k : ℕ) : Type 0 where
+  pub here : place j ≡ Some (h, k)
+  pub from : bound ≤ rank k
+  pub least : (i k' : ℕ) → place i ≡ Some (h, k') → bound ≤ rank k' → rank k ≤ rank k'
+
+-- o is the first node of list h, in this direction, with a rank of bound or more
+pub record IsNearest (rank : ℕ → ℕ) (place : ℕ → Option (ℕ × ℕ)) (h bound : ℕ) (o : Option ℕ) : Type 0 where
+  pub is : MatchOption o (NoneFrom rank place h bound) (λ j. (k : ℕ) × IsLeast rank place h bound j k)
+
+-- o is the node after node i in this direction
+abbrev pub IsAfter : (ℕ → ℕ) → (ℕ → Option (ℕ × ℕ)) → ℕ → Option ℕ → Type 0
+IsAfter rank place i o = (h k : ℕ) → place i ≡ Some (h, k) → IsNearest rank place h (rank k + 1) o
+
+-- in this direction `ends` are the nodes where lists begin and `links` the nodes after nodes
+pub record IsChain (rank : ℕ → ℕ) (place : ℕ → Option (ℕ × ℕ)) (heads : ℕ) (ends links : ℕ → Option ℕ) : Type 0 where
+  pub begins : (h : ℕ) → h < heads → IsNearest rank place h 0 (ends h)
+  pub goes_on : (i : ℕ) → IsAfter rank place i (links i)
+
+abbrev pub head_at : List Head → ℕ → Head
+head_at heads h = slice_index_or heads h (record { first = None; last = None; len = 0 })
+
+abbrev pub node_at : List Node → ℕ → Node
+node_at nodes i = slice_index_or nodes i (record { place = None; previous = None; next = None })
+
+abbrev pub places_of : List Node → List (Option (ℕ × ℕ))
+places_of nodes = map (λ n. n.place) nodes
+
+-- what callers see of the table
+abbrev pub shown : List Head → List Node → Placed
+shown heads nodes = record { heads = length heads; places = places_of nodes }
+
+-- the links of a table and its lengths are those of its lists
+pub record IsLinked (heads : List Head) (nodes : List Node) : Type 0 where
+  pub table : IsTable (shown heads nodes)
+  pub upwards : IsChain up (place_at (places_of nodes)) (length heads) (λ h. (head_at heads h).first) (λ i. (node_at nodes i).next)
+  pub downwards : IsChain down (place_at (places_of nodes)) (length heads) (λ h. (head_at heads h).last) (λ i. (node_at nodes i).previous)
+  pub counted : (h : ℕ) → h < length heads → (head_at heads h).len ≡ count_by (is_in h) (places_of nodes)

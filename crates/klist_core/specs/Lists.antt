@@ -1,0 +1,34 @@
+-- The lists themselves: what stands in a list, as pairs of key and node that rise by key.
+use Rattle.std.specs.Prelude.{ℕ, ◌+◌, ◌==◌, ◌≤◌, List, [], ◌∷◌, Option, Some, None, map, filter, not, nat_lt, if◌then◌else◌, ⊤}
+
+-- the pair put before the first one with a greater key
+abbrev pub put_by_key : ℕ × ℕ → List (ℕ × ℕ) → List (ℕ × ℕ)
+put_by_key p [] = p ∷ []
+put_by_key p (q ∷ qs) = if nat_lt p.0 q.0 then p ∷ (q ∷ qs) else q ∷ put_by_key p qs
+
+-- the pairs with one more where node i stands in list h
+abbrev pub with_node : ℕ → ℕ → Option (ℕ × ℕ) → List (ℕ × ℕ) → List (ℕ × ℕ)
+with_node h i None qs = qs
+with_node h i (Some p) qs = if p.0 == h then put_by_key (p.1, i) qs else qs
+
+-- list h as far as the nodes from number i on stand in it; their places are given
+abbrev pub list_from : ℕ → ℕ → List (Option (ℕ × ℕ)) → List (ℕ × ℕ)
+list_from h i [] = []
+list_from h i (place ∷ places) = with_node h i place (list_from h (i + 1) places)
+
+-- list h: its (key, node) pairs
+abbrev pub list_of : List (Option (ℕ × ℕ)) → ℕ → List (ℕ × ℕ)
+list_of places h = list_from h 0 places
+
+-- the keys of list h
+abbrev pub keys_of : List (Option (ℕ × ℕ)) → ℕ → List ℕ
+keys_of places h = map (λ p. p.0) (list_of places h)
+
+-- the pairs without that of node i
+abbrev pub without_node : ℕ → List (ℕ × ℕ) → List (ℕ × ℕ)
+without_node i qs = filter (λ p. not (p.1 == i)) qs
+
+-- the numbers rise, from n on
+abbrev pub RisesFrom : ℕ → List ℕ → Type 0
+RisesFrom n [] = ⊤
+RisesFrom n (x ∷ xs) = (n ≤ x) × RisesFrom (x + 1) xs

@@ -1,0 +1,40 @@
+-- Ordered lists of nodes, by node: the list in which it stands and the key under which it stands there.
+use Rattle.std.specs.Prelude.{◌≡◌, ◌≢◌, ℕ, ◌==◌, ◌^◌, ◌<◌, ◌≤◌, Bool, false, List, Option, Some, None, length, slice_index_or, slice_set}
+
+-- heads: how many lists there are, numbered from 0. places: by node, its list and its key
+pub record Placed : Type 0 where
+  pub heads : ℕ
+  pub places : List (Option (ℕ × ℕ))
+
+abbrev pub place_at : List (Option (ℕ × ℕ)) → ℕ → Option (ℕ × ℕ)
+place_at places i = slice_index_or places i None
+
+-- the place is in list h
+abbrev pub is_in : ℕ → Option (ℕ × ℕ) → Bool
+is_in h None = false
+is_in h (Some p) = p.0 == h
+
+-- what holds of every table: its numbers fit 32 bits, and no two nodes of a list have one key
+pub record IsTable (s : Placed) : Type 0 where
+  pub few : s.heads < 2 ^ 32
+  pub small : length s.places < 2 ^ 32
+  pub headed : (i h k : ℕ) → place_at s.places i ≡ Some (h, k) → h < s.heads
+  pub keyed : (i h k : ℕ) → place_at s.places i ≡ Some (h, k) → k < 2 ^ 32
+  pub apart : (i j h k : ℕ) → place_at s.places i ≡ Some (h, k) → place_at s.places j ≡ Some (h, k) → i ≡ j
+
+-- node i put into list h under the key k
+abbrev pub inserted : Placed → ℕ → ℕ → ℕ → Placed
+inserted s h i k = record s { places = slice_set s.places i (Some (h, k)) }
+
+-- node i taken out of its list
+abbrev pub removed : Placed → ℕ → Placed
+removed s i = record s { places = slice_set s.places i None }
+
+-- no node stands in list h
+abbrev pub IsEmpty : List (Option (ℕ × ℕ)) → ℕ → Type 0
+IsEmpty places h = (i k : ℕ) → place_at places i ≢ Some (h, k)
+
+-- node i stands in list h under the key k, the least of the list
+pub record IsFirst (places : List (Option (ℕ × ℕ))) (h k i : ℕ) : Type 0 where
+  pub here : place_at places i ≡ Some (h, k)
+  pub least : (j k' : ℕ) → place_at places j ≡ Some (h, k') → k ≤ k'

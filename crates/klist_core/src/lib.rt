@@ -1,0 +1,320 @@
+//! Many ordered lists of nodes through one table of links.
+//!
+//! Nodes, lists and keys are numbers of 32 bits. A node stands in one list at most, under a key, and
+//! a list rises by key: no two of its nodes have the same key. Lists are doubly linked through their
+//! nodes, with a first and a last node for each list (Knuth, The Art of Computer Programming, 2.2.5).
+//!
+//! Only [`Lists::new`] allocates.
+#![tactic(auto)]
+
+ghost use Rattle.std.specs.Prelude.{◌≡◌, ◌≢◌, ℕ, ◌+◌, ◌<◌, Some, None, length, IsSome, IfSome, IfOk, MatchOption, slice_get, replicate, count_by};
+ghost use Rattle.std.specs.Option.{ForSome};
+ghost use Rattle.klist_core.specs.Places.{IsTable, IsEmpty, IsFirst, place_at, is_in, inserted, removed};
+ghost use Rattle.klist_core.specs.Lists.{list_of};
+ghost use Rattle.klist_core.specs.Links.{up, down, IsNearest, IsAfter};
+ghost use Rattle.klist_core.specs.Writes.{heads_linked_after, heads_linked_before, nodes_linked_after, nodes_linked_before};
+
+use std::alloc::{AllocError, Global};
+use std::marker::Model;
+
+pub mod laws;
+#[cfg(test)]
+mod tests;
+
+/// The two ends of a list and how many nodes stand in it.
+#[derive(Clone, Copy)]
+struct Head {
+    first: Option<u32>,
+    last: Option<u32>,
+    len: u32,
+}
+
+/// List and key of a node, and the nodes with the next lesser and the next greater key there.
+#[derive(Clone, Copy)]
+struct Node {
+    place: Option<(u32, u32)>,
+    previous: Option<u32>,
+    next: Option<u32>,
+}
+
+/// Ordered lists over one table of nodes. Lists are numbered by their heads, from 0, and so are nodes.
+#[derive(Drop)]
+pub struct Lists {
+    heads: Vec<Head>,
+    nodes: Vec<Node>,
+}
+
+impl Model for Lists {
+    ghost use Rattle.klist_core.specs.Places.{Placed};
+    ghost use Rattle.klist_core.specs.Links.{shown, IsLinked};
+
+    ghost Value = { Placed };
+
+    ghost view = { λ s. shown s.heads.items s.nodes.items };
+
+    ghost invariant = { λ s. IsLinked s.heads.items s.nodes.items };
+}
+
+impl Lists {
+    /// `heads` empty lists, and `nodes` nodes that stand in none.
+    ///
+    /// It asks for all memory that there will ever be, and answers `AllocError` where that is refused.
+    pub fn new(alloc: Global, nodes: u32, heads: u32) -> Result<Lists, AllocError>
+        ensures { IfOk result (λ s. s ≡ record { heads = heads; places = replicate nodes None }) }
+    {
+        let head = Head {
+            first: None,
+            last: None,
+            len: 0,
+        };
+        let node = Node {
+            place: None,
+            previous: None,
+            next: None,
+        };
+        let heads = vec![in alloc; head; heads as usize]?;
+        let nodes = vec![in alloc; node; nodes as usize]?;
+        Ok(Lists { heads, nodes })
+    }
+
+    /// What holds of every table, for callers whose proofs need it.
+    pub fn facts(&self)
+        ensures { IsTable self.now }
+    {
+        let _heads = &self.heads;
+    }
+
+    /// List and key of the node; None where it stands in no list.
+    pub fn place_of(&self, node: u32) -> Option<(u32, u32)>
+        requires { node < length self.now.places }
+        ensures { result ≡ place_at self.now.places node }
+    {
+        self.nodes[node as usize].place
+    }
+
+    /// How many nodes the list has.
+    pub fn len(&self, head: u32) -> u32
+        requires { head < self.now.heads }
+        ensures length { result ≡ length (list_of self.now.places head) }
+        ensures count { result ≡ count_by (is_in head) self.now.places }
+    {
+        let list = &self.heads[head as usize];
+        list.len
+    }
+
+    /// Least key of the list and its node; None where the list is empty.
+    pub fn first(&self, head: u32) -> Option<(u32, u32)>
+        requires { head < self.now.heads }
+        ensures head { result ≡ slice_get (list_of self.now.places head) 0 }
+        ensures least { MatchOption result (IsEmpty self.now.places head) (λ p. IsFirst self.now.places head p.0 p.1) }
+    {
+        self.facts();
+        let node = self.first_of(head)?;
+        Some((self.key_of(node), node))
+    }
+
+    /// Puts a node that stands in no list into the list, under a key that the list does not have.
+    ///
+    /// A key below the first of the list or above the last takes constant time. Any other is looked for
+    /// from the end whose key is nearer to it.
+    pub fn insert(&mut self, head: u32, node: u32, key: u32)
+        requires head { head < self.old.heads }
+        requires node { node < length self.old.places }
+        requires free { place_at self.old.places node ≡ None }
+        requires fresh { (i : ℕ) → place_at self.old.places i ≢ Some (head, key) }
+        ensures { self.new ≡ inserted self.old head node key }
+    {
+        let (previous, next) = self.neighbours(head, key);
+        self.nodes[node as usize] = Node {
+            place: Some((head, key)),
+            previous,
+            next,
+        };
+        link_after(&mut self.heads, &mut self.nodes, head, previous, Some(node));
+        link_before(&mut self.heads, &mut self.nodes, head, next, Some(node));
+        self.heads[head as usize].len += 1;
+    }
+
+    /// Takes a node out of the list in which it stands, in constant time.
+    pub fn remove(&mut self, node: u32)
+        requires node { node < length self.old.places }
+        requires placed { IsSome (place_at self.old.places node) }
+        ensures { self.new ≡ removed self.old node }
+    {
+        let Node {
+            place,
+            previous,
+            next,
+        } = self.nodes[node as usize];
+        let Some((head, _)) = place else {
+            unreachable!()
+        };
+        self.nodes[node as usize] = Node {
+            place: None,
+            previous: None,
+            next: None,
+        };
+        link_after(&mut self.heads, &mut self.nodes, head, previous, next);
+        link_before(&mut self.heads, &mut self.nodes, head, next, previous);
+        self.heads[head as usize].len -= 1;
+    }
+
+    /// The nodes between which a key comes that the list does not have.
+    fn neighbours(&self, head: u32, key: u32) -> (Option<u32>, Option<u32>)
+        requires head { head < self.now.heads }
+        requires fresh { (i : ℕ) → place_at self.now.places i ≢ Some (head, key) }
+        ensures previous { IsNearest down (place_at self.now.places) head (down key + 1) result.0 }
+        ensures next { IsNearest up (place_at self.now.places) head (up key + 1) result.1 }
+    {
+        self.facts();
+        if self.is_nearer_first(head, key) {
+            let next = self.first_above(head, key);
+            (self.before(head, next), next)
+        } else {
+            let previous = self.last_below(head, key);
+            (previous, self.after(head, previous))
+        }
+    }
+
+    /// The key is nearer to the first key of the list than to the last.
+    fn is_nearer_first(&self, head: u32, key: u32) -> bool
+        requires { head < self.now.heads }
+    {
+        match (self.first_of(head), self.last_of(head)) {
+            (Some(first), Some(last)) => {
+                key.abs_diff(self.key_of(first)) < key.abs_diff(self.key_of(last))
+            }
+            _ => true,
+        }
+    }
+
+    /// The first node of the list with a key above `key`, looked for from the first node on.
+    fn first_above(&self, head: u32, key: u32) -> Option<u32>
+        requires { head < self.now.heads }
+        ensures { IsNearest up (place_at self.now.places) head (up key + 1) result }
+    {
+        let mut next = self.first_of(head);
+        while let Some(node) = next {
+            if key < self.key_of(node) {
+                return next;
+            }
+            next = self.next_of(node);
+        }
+        next
+    }
+
+    /// The last node of the list with a key below `key`, looked for from the last node back.
+    fn last_below(&self, head: u32, key: u32) -> Option<u32>
+        requires { head < self.now.heads }
+        ensures { IsNearest down (place_at self.now.places) head (down key + 1) result }
+    {
+        let mut previous = self.last_of(head);
+        while let Some(node) = previous {
+            if self.key_of(node) < key {
+                return previous;
+            }
+            previous = self.previous_of(node);
+        }
+        previous
+    }
+
+    /// The node after `previous`, or the first of the list where there is none.
+    fn after(&self, head: u32, previous: Option<u32>) -> Option<u32>
+        requires head { head < self.now.heads }
+        requires placed { ForSome previous (λ i. IsSome (place_at self.now.places i)) }
+        ensures { MatchOption previous (IsNearest up (place_at self.now.places) head 0 result) (λ i. IsAfter up (place_at self.now.places) i result) }
+    {
+        match previous {
+            Some(node) => self.next_of(node),
+            None => self.first_of(head),
+        }
+    }
+
+    /// The node before `next`, or the last of the list where there is none.
+    fn before(&self, head: u32, next: Option<u32>) -> Option<u32>
+        requires head { head < self.now.heads }
+        requires placed { ForSome next (λ i. IsSome (place_at self.now.places i)) }
+        ensures { MatchOption next (IsNearest down (place_at self.now.places) head 0 result) (λ i. IsAfter down (place_at self.now.places) i result) }
+    {
+        match next {
+            Some(node) => self.previous_of(node),
+            None => self.last_of(head),
+        }
+    }
+
+    fn key_of(&self, node: u32) -> u32
+        requires { IsSome (place_at self.now.places node) }
+        ensures { IfSome (place_at self.now.places node) (λ p. result ≡ p.1) }
+    {
+        match self.place_of(node) {
+            Some((_, key)) => key,
+            None => unreachable!(),
+        }
+    }
+
+    fn first_of(&self, head: u32) -> Option<u32>
+        requires { head < self.now.heads }
+        ensures { IsNearest up (place_at self.now.places) head 0 result }
+    {
+        self.heads[head as usize].first
+    }
+
+    fn last_of(&self, head: u32) -> Option<u32>
+        requires { head < self.now.heads }
+        ensures { IsNearest down (place_at self.now.places) head 0 result }
+    {
+        self.heads[head as usize].last
+    }
+
+    fn next_of(&self, node: u32) -> Option<u32>
+        requires { IsSome (place_at self.now.places node) }
+        ensures { IsAfter up (place_at self.now.places) node result }
+    {
+        self.nodes[node as usize].next
+    }
+
+    fn previous_of(&self, node: u32) -> Option<u32>
+        requires { IsSome (place_at self.now.places node) }
+        ensures { IsAfter down (place_at self.now.places) node result }
+    {
+        self.nodes[node as usize].previous
+    }
+}
+
+/// Lets `to` come after `previous`, or first in the list where there is none.
+fn link_after(
+    heads: &mut Vec<Head>,
+    nodes: &mut Vec<Node>,
+    head: u32,
+    previous: Option<u32>,
+    to: Option<u32>,
+)
+    requires head { head < length heads.old.items }
+    requires previous { ForSome previous (λ i. i < length nodes.old.items) }
+    ensures heads { heads.new.items ≡ heads_linked_after previous head to heads.old.items }
+    ensures nodes { nodes.new.items ≡ nodes_linked_after previous to nodes.old.items }
+{
+    match previous {
+        Some(node) => nodes[node as usize].next = to,
+        None => heads[head as usize].first = to,
+    }
+}
+
+/// Lets `to` come before `next`, or last in the list where there is none.
+fn link_before(
+    heads: &mut Vec<Head>,
+    nodes: &mut Vec<Node>,
+    head: u32,
+    next: Option<u32>,
+    to: Option<u32>,
+)
+    requires head { head < length heads.old.items }
+    requires next { ForSome next (λ i. i < length nodes.old.items) }
+    ensures heads { heads.new.items ≡ heads_linked_before next head to heads.old.items }
+    ensures nodes { nodes.new.items ≡ nodes_linked_before next to nodes.old.items }
+{
+    match next {
+        Some(node) => nodes[node as usize].previous = to,
+        None => heads[head as usize].last = to,
+    }
+}

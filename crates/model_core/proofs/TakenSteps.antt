@@ -1,0 +1,113 @@
+-- The taken blocks of a machine are sound, and a page block taken or released is one more or one fewer.
+use Rattle.std.proofs.Common.{◌≡◌, ◌≢◌, ℕ, Bool, true, false, not, cond, eqb, ltb, List, [], ◌∷◌, ◌++◌, map, Option, Some, None, Ok, append_assoc, refl, sym, ap, ◌∙◌, subst, ◌⊎◌, inl, inr}
+use Rattle.std.specs.Prelude.{if◌then◌else◌, filter}
+use Rattle.std.specs.List.{AllByRecursion as Each}
+use Rattle.std.proofs.lemmas.List.{map-id}
+use Rattle.std.proofs.lemmas.Bool.{cases_eq, eqb-true, eqb-false, eq-eqb, ne_eqb}
+use Rattle.model_core.specs.declared.refusals.AllocRefusal.{AllocRefusal}
+use Rattle.model_core.specs.Blocks.{Block, block, with_taken, without_taken}
+use Rattle.model_core.specs.Machine.{Machine, taken_blocks, order_in, taken_in, choice}
+use Rattle.model_core.specs.Operations.{refuse, with_block, without_block, alloc_at, alloc_step, free_at, free_step}
+use Rattle.model_core.specs.WellFormed.{IsApart, AreApart, IsPlaced}
+use Rattle.model_core.specs.Laws.{TakenSound, AllocTakes, FreeReleases}
+use Rattle.model_core.proofs.Lists.{IsIn, each_in, each_left, each_weaker, PutIn, put_in}
+use Rattle.model_core.proofs.Apart.{apart_first, one_holder}
+use Rattle.model_core.proofs.Chosen.{chosen_apart}
+use Rattle.model_core.proofs.Laid.{all_laid, laid_block, taken_laid, laid_out}
+
+same_block : (b : Block) (f k : ℕ) → b.first ≡ f → b.order ≡ k → b ≡ block f k
+same_block b f k p q = λ i. block (p i) (q i)
+
+-- the block that a look-up finds
+order_in_is : (bs : List Block) (f k : ℕ) → order_in bs f ≡ Some k → IsIn (block f k) bs
+order_in_is [] f k e = absurd (cc)
+order_in_is (b ∷ bs) f k e = go (eqb b.first f) refl e (order_in_is bs f k)
+  where
+    go : (t : Bool) → eqb b.first f ≡ t → (if t then Some b.order else order_in bs f) ≡ Some k → (order_in bs f ≡ Some k → IsIn (block f k) bs) → IsIn (block f k) (b ∷ bs)
+    go true is e ih = let here : b.first ≡ f = eqb-true b.first f is in let same : b.order ≡ k = cc in inl (same_block b f k here same)
+    go false is e ih = inr (ih e)
+
+pub taken_sound : TakenSound
+taken_sound order m w = record {
+  placed = λ f k e. each_in (IsPlaced order m) (block f k) (taken_blocks m) w.placed (order_in_is (taken_blocks m) f k e);
+  apart = λ f k g j x e d in_f in_g. ap (λ b. b.first) (one_holder (λ b. b) (taken_blocks m) (block f k) (block g j) x
+      (subst AreApart (sym (map-id (taken_blocks m))) w.apart) (order_in_is (taken_blocks m) f k e) (order_in_is (taken_blocks m) g j d) in_f in_g);
+}
+
+-- One more
+
+order_in_put : (xs ys : List Block) (b : Block) → Each (λ x. x.first ≢ b.first) xs → (f : ℕ) → order_in (xs ++ b ∷ ys) f ≡ with_taken (order_in (xs ++ ys)) b.first b.order f
+order_in_put [] ys b e f = turned b.first f (Some b.order) (order_in ys f)
+  where
+    turned : (a c : ℕ) (p q : Option ℕ) → (if eqb a c then p else q) ≡ (if eqb c a then p else q)
+    turned a c p q = elim (cases_eq a c) [
+      | inl same ↦ ap (λ t. if t then p else q) (eq-eqb a c same) ∙ sym (ap (λ t. if t then p else q) (eq-eqb c a (sym same)))
+      | inr other ↦ ap (λ t. if t then p else q) (ne_eqb a c other) ∙ sym (ap (λ t. if t then p else q) (ne_eqb c a (λ same. other (sym same))))
+    ]
+order_in_put (x ∷ xs) ys b (ne, e) f = go (eqb x.first f) refl (order_in_put xs ys b e f)
+  where
+    go : (t : Bool) → eqb x.first f ≡ t → order_in (xs ++ b ∷ ys) f ≡ with_taken (order_in (xs ++ ys)) b.first b.order f
+        → (if t then Some x.order else order_in (xs ++ b ∷ ys) f) ≡ (if eqb f b.first then Some b.order else (if t then Some x.order else order_in (xs ++ ys) f))
+    go true is ih = sym (ap (λ t. if t then Some b.order else Some x.order) (ne_eqb f b.first (λ same. ne (eqb-true x.first f is ∙ same))))
+    go false is ih = ih
+
+apart_firsts : (b : Block) (bs : List Block) → Each (IsApart b) bs → Each (λ x. x.first ≢ b.first) bs
+apart_firsts b bs h = each_weaker (IsApart b) (λ x. x.first ≢ b.first) (λ x a same. apart_first b x a (sym same)) bs h
+
+with_block_takes : (b : Block) (m : Machine) → Each (IsApart b) m.blocks → (f : ℕ) → taken_in (with_block b m) f ≡ with_taken (taken_in m) b.first b.order f
+with_block_takes b m h f =
+    let slabs : List Block = map laid_block (all_laid m.caches) in
+    let p : PutIn (λ x. x.first) b m.blocks = put_in (λ x. x.first) b m.blocks in
+    let first : Each (λ x. x.first ≢ b.first) p.before = each_left (λ x. x.first ≢ b.first) p.before p.later (subst (Each (λ x. x.first ≢ b.first)) p.was (apart_firsts b m.blocks h)) in
+    ap (λ bs. order_in bs f) (taken_laid (with_block b m) ∙ (ap (λ bs. bs ++ slabs) p.is ∙ append_assoc p.before (b ∷ p.later) slabs))
+    ∙ (order_in_put p.before (p.later ++ slabs) b first f
+    ∙ ap (λ bs. with_taken (order_in bs) b.first b.order f) (sym (append_assoc p.before p.later slabs) ∙ (ap (λ bs. bs ++ slabs) (sym p.was) ∙ sym (taken_laid m))))
+
+pub alloc_takes : AllocTakes
+unfolding alloc_step
+alloc_takes order k first m w e = go (ltb order k) (choice order m k) refl e
+  where
+    go : (t : Bool) (o : Option ℕ) → choice order m k ≡ o → (if t then refuse AllocRefusal.BadOrder m else alloc_at k m o).answer ≡ Ok first
+        → (f : ℕ) → taken_in (if t then refuse AllocRefusal.BadOrder m else alloc_at k m o).machine f ≡ with_taken (taken_in m) first k f
+    go true o c e f = absurd (cc)
+    go false None c e f = absurd (cc)
+    go false (Some g) c e f =
+        let same : g ≡ first = cc in
+        let slabs : List Block = map laid_block (all_laid m.caches) in
+        with_block_takes (block g k) m (each_left (IsApart (block g k)) m.blocks slabs (subst (Each (IsApart (block g k))) (taken_laid m) (chosen_apart order k g m w.apart c))) f
+        ∙ ap (λ n. with_taken (taken_in m) n k f) same
+
+-- One fewer
+
+order_in_filter : (first : ℕ) (xs ys : List Block) → Each (λ y. y.first ≢ first) ys → (f : ℕ) → order_in (filter (λ x. not (eqb x.first first)) xs ++ ys) f ≡ without_taken (order_in (xs ++ ys)) first f
+order_in_filter first [] ys h f = go (cases_eq f first)
+  where
+    missing : (ys : List Block) → Each (λ y. y.first ≢ f) ys → order_in ys f ≡ None
+    missing [] h = refl
+    missing (y ∷ ys) (ne, h) = ap (λ t. if t then Some y.order else order_in ys f) (ne_eqb y.first f ne) ∙ missing ys h
+
+    go : (f ≡ first) ⊎ (f ≡ first → ⊥) → order_in ys f ≡ (if eqb f first then None else order_in ys f)
+    go (inl same) = missing ys (subst (λ n. Each (λ y. y.first ≢ n) ys) (sym same) h) ∙ sym (ap (λ t. if t then None else order_in ys f) (eq-eqb f first same))
+    go (inr other) = sym (ap (λ t. if t then None else order_in ys f) (ne_eqb f first other))
+order_in_filter first (x ∷ xs) ys h f = go (eqb x.first first) refl (eqb x.first f) refl (order_in_filter first xs ys h f)
+  where
+    go : (s : Bool) → eqb x.first first ≡ s → (t : Bool) → eqb x.first f ≡ t → order_in (filter (λ x. not (eqb x.first first)) xs ++ ys) f ≡ without_taken (order_in (xs ++ ys)) first f
+        → order_in (cond (not s) (x ∷ filter (λ x. not (eqb x.first first)) xs) (filter (λ x. not (eqb x.first first)) xs) ++ ys) f ≡ (if eqb f first then None else (if t then Some x.order else order_in (xs ++ ys) f))
+    go true is true at ih = let here : f ≡ first = sym (eqb-true x.first f at) ∙ eqb-true x.first first is in
+        ih ∙ (ap (λ b. if b then None else order_in (xs ++ ys) f) (eq-eqb f first here) ∙ sym (ap (λ b. if b then None else Some x.order) (eq-eqb f first here)))
+    go true is false at ih = ih
+    go false is true at ih = ap (λ b. if b then Some x.order else order_in (filter (λ x. not (eqb x.first first)) xs ++ ys) f) at
+        ∙ sym (ap (λ b. if b then None else Some x.order) (ne_eqb f first (λ same. eqb-false x.first first is (eqb-true x.first f at ∙ same))))
+    go false is false at ih = ap (λ b. if b then Some x.order else order_in (filter (λ x. not (eqb x.first first)) xs ++ ys) f) at ∙ ih
+
+pub free_releases : FreeReleases
+unfolding free_step
+free_releases order first k m w e = go (order_in m.blocks first) refl e
+  where
+    go : (o : Option ℕ) → order_in m.blocks first ≡ o → (free_at first m o).answer ≡ Some k → (f : ℕ) → taken_in (free_at first m o).machine f ≡ without_taken (taken_in m) first f
+    go None is e f = absurd (cc)
+    go (Some j) is e f =
+        let slabs : List Block = map laid_block (all_laid m.caches) in
+        let apart : Each (IsApart (block first j)) slabs = each_in (λ a. Each (IsApart a) slabs) (block first j) m.blocks (laid_out order m w).across (order_in_is m.blocks first j is) in
+        ap (λ bs. order_in bs f) (taken_laid (without_block first m))
+        ∙ (order_in_filter first m.blocks slabs (apart_firsts (block first j) slabs apart) f ∙ ap (λ bs. without_taken (order_in bs) first f) (sym (taken_laid m)))

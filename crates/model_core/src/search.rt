@@ -1,0 +1,164 @@
+//! The plain search for a free block: no lists and no tree, only the owners of the superblocks and one
+//! mark for each machine frame. It is slow, and the reference that faster allocators are tested against.
+
+ghost use Rattle.std.specs.Prelude.{◌≡◌, ◌⊎◌, ℕ, ◌+◌, ◌-◌, ◌*◌, ◌/◌, ◌%◌, ◌^◌, ◌<◌, ◌≤◌, Option, MatchOption, Some, length, slice_index, true, is_some, IfSome};
+ghost use Rattle.std.specs.Bool.{MatchBool};
+ghost use Rattle.model_core.specs.Blocks.{block, around, HasFrame, IsFree, IsChoice, IsWithout, IsAligned};
+ghost use Rattle.model_core.specs.Marks.{is_owner, superblock_under, is_held, mark_in, taken_by, AreMarked};
+
+/// Whether a superblock's owner is tenant `t` with slot `slot`.
+fn is_owner(owner: Option<(u8, u16)>, t: u8, slot: u32) -> bool
+    ensures { result ≡ is_owner t slot owner }
+{
+    match owner {
+        None => false,
+        Some((tenant, held)) => tenant == t && u32::from(held) == slot,
+    }
+}
+
+/// The superblock under slot `slot` of tenant `t`.
+pub fn superblock_under(owners: &[Option<(u8, u16)>], t: u8, slot: u32) -> Option<usize>
+    ensures value { result ≡ superblock_under owners.now t slot }
+    ensures within { IfSome result (λ m. m < length owners.now) }
+{
+    for (superblock, owner) in owners.iter().enumerate() {
+        if is_owner(*owner, t, slot) {
+            return Some(superblock);
+        }
+    }
+    None
+}
+
+/// One more than the greatest slot that tenant `t` holds, and 0 where it holds none.
+fn slots_end(owners: &[Option<(u8, u16)>], t: u8) -> u32
+    ensures small { result ≤ 65536 }
+    ensures above { (u : ℕ) → is_held owners.now t u ≡ true → u < result }
+{
+    let mut end = 0;
+    for owner in owners {
+        if let Some((tenant, slot)) = owner {
+            if *tenant == t {
+                end = end.max(u32::from(*slot) + 1);
+            }
+        }
+    }
+    end
+}
+
+/// Whether no frame from `first` on, `len` of them, has a mark.
+fn is_clear(marks: &[u8], first: usize, len: usize) -> bool
+    requires { first + len ≤ length marks.now }
+    ensures { MatchBool result
+        ((i : ℕ) → i < len → slice_index marks.now (first + i) ≡ 0)
+        ((i : ℕ) × (i < len) × (slice_index marks.now (first + i) ≡ 0 → ⊥)) }
+{
+    for i in 0..len {
+        if marks[first + i] != 0 {
+            return false;
+        }
+    }
+    true
+}
+
+/// The first frame of the aligned block of order `k` that has the frame `frame`.
+fn start_around(frame: u32, k: u8) -> u32
+    requires { k ≤ 8 }
+    ensures { result ≡ (around frame k).first }
+{
+    frame >> k << k
+}
+
+/// Whether no frame of the aligned block of order `k` at the local frame `first` has a mark, where its
+/// slot's superblock is `superblock`.
+fn is_block_clear(order: u8, marks: &[u8], superblock: usize, first: u32, k: u8) -> bool
+    requires order { order ≤ 8 }
+    requires within { superblock * 2 ^ order + 2 ^ order ≤ length marks.now }
+    requires aligned { IsAligned order (block first k) }
+    ensures { MatchBool result
+        ((x : ℕ) → HasFrame (block first k) x → mark_in marks.now (2 ^ order) (Some superblock) (x % 2 ^ order) ≡ 0)
+        ((x : ℕ) × HasFrame (block first k) x × (mark_in marks.now (2 ^ order) (Some superblock) (x % 2 ^ order) ≡ 0 → ⊥)) }
+{
+    let frames = 1usize << order;
+    is_clear(marks, superblock * frames + first as usize % frames, 1 << k)
+}
+
+/// Whether the block of order `k` at the local frame `first` is a free block of tenant `t`: in a held
+/// slot, without a taken frame, and not half of such a block.
+fn is_free_block(
+    order: u8,
+    owners: &[Option<(u8, u16)>],
+    marks: &[u8],
+    t: u8,
+    first: u32,
+    k: u8,
+) -> bool
+    requires order { order ≤ 8 }
+    requires frames { length marks.now ≡ length owners.now * 2 ^ order }
+    requires marked { AreMarked order owners.now marks.now t }
+    requires aligned { IsAligned order (block first k) }
+    ensures { MatchBool result
+        (IsFree order (is_held owners.now t) (taken_by order owners.now marks.now t) (block first k))
+        (IsFree order (is_held owners.now t) (taken_by order owners.now marks.now t) (block first k) → ⊥) }
+{
+    let Some(superblock) = superblock_under(owners, t, first >> order) else {
+        return false;
+    };
+    if !is_block_clear(order, marks, superblock, first, k) {
+        return false;
+    }
+    if k == order {
+        return true;
+    }
+    !is_block_clear(order, marks, superblock, start_around(first, k + 1), k + 1)
+}
+
+/// The least local frame at which a free block of order `k` of tenant `t` begins.
+fn first_free(order: u8, owners: &[Option<(u8, u16)>], marks: &[u8], t: u8, k: u8) -> Option<u32>
+    requires order { order ≤ 8 }
+    requires frames { length marks.now ≡ length owners.now * 2 ^ order }
+    requires marked { AreMarked order owners.now marks.now t }
+    requires of_slot { k ≤ order }
+    ensures { MatchOption result
+        ((f : ℕ) → IsFree order (is_held owners.now t) (taken_by order owners.now marks.now t) (block f k) → ⊥)
+        (λ f. IsFree order (is_held owners.now t) (taken_by order owners.now marks.now t) (block f k)
+        × ((g : ℕ) → IsFree order (is_held owners.now t) (taken_by order owners.now marks.now t) (block g k) → f ≤ g)) }
+{
+    let blocks = slots_end(owners, t) << (order - k);
+    for number in 0..blocks {
+        let first = number << k;
+        if is_free_block(order, owners, marks, t, first, k) {
+            return Some(first);
+        }
+    }
+    None
+}
+
+/// The free block of tenant `t` that a reservation of order `k` is cut out of: of the free blocks of at
+/// least that order one of least order, and of these the one of least local frame (Knuth, TAOCP 1, 2.5,
+/// leaves the choice of the frame open). The answer is its first local frame and its order; None where
+/// there is no such block.
+///
+/// `order` is that of a superblock, `owners` has the tenant and the slot of each superblock, and `marks`
+/// one byte for each machine frame: 0 where it is free, the order plus one where a taken block begins,
+/// and 255 inside one.
+pub fn find_free(
+    order: u8,
+    owners: &[Option<(u8, u16)>],
+    marks: &[u8],
+    t: u8,
+    k: u8,
+) -> Option<(u32, u8)>
+    requires order { order ≤ 8 }
+    requires frames { length marks.now ≡ length owners.now * 2 ^ order }
+    requires marked { AreMarked order owners.now marks.now t }
+    ensures { MatchOption result
+        (IsWithout order (is_held owners.now t) (taken_by order owners.now marks.now t) k)
+        (λ b. IsChoice order (is_held owners.now t) (taken_by order owners.now marks.now t) k (block b.0 b.1)) }
+{
+    for j in k..order + 1 {
+        if let Some(first) = first_free(order, owners, marks, t, j) {
+            return Some((first, j));
+        }
+    }
+    None
+}

@@ -1,0 +1,93 @@
+-- A grant and a take-back keep what is true of every space.
+use Rattle.std.proofs.Common.{◌≡◌, ◌≢◌, ℕ, ◌<◌, Bool, true, false, List, [], Option, Some, None, is_some, length, get_or, replicate, sym, ◌∙◌, ap, inl, inr, refl, arith}
+use Rattle.std.proofs.Math.ListN.{set}
+use Rattle.std.specs.Prelude.{if◌then◌else◌}
+use Rattle.std.proofs.lemmas.List.{get_or-set_same, get_or-set_other, set-get_or, length-set, length-replicate, get_or_past}
+use Rattle.std.proofs.lemmas.Bool.{cases_lt, cases_eq}
+use Rattle.std.proofs.lemmas.Bool.Decides.{nat_tests}
+use Rattle.space_core.specs.Content.{Content, IsSpace, owner_at, mark_at, row_of, superblock_at, is_of}
+use Rattle.space_core.specs.Changes.{granted, taken_back, scrubbed}
+use Rattle.space_core.specs.Laws.{IsApart}
+use Rattle.space_core.proofs.Banks.{after-set}
+use Rattle.space_core.proofs.Mapping.{within_from_some, superblock-lt}
+use Rattle.space_core.proofs.Mapped.{length-row_of-with_slot, counted-set, agree-set}
+
+-- only a tenant has a slot with something under it
+pub tenant-lt : (slots : List (List (Option ℕ))) (t u m : ℕ) → superblock_at slots t u ≡ Some m → t < length slots
+tenant-lt slots t u m under =
+    elim (cases_lt t (length slots)) [
+      | inl lt ↦ lt
+      | inr past ↦ let none = ap (λ (row : List (Option ℕ)). get_or row u None) (get_or_past slots t [] past) in absurd (cc)
+    ]
+
+pub is_of_self : (t u : ℕ) → is_of t (Some (t, u)) ≡ true
+is_of_self t u = grind (arith, nat_tests)
+
+is_of_other : (t u k : ℕ) → k ≢ t → is_of k (Some (t, u)) ≡ false
+is_of_other t u k differ = grind (arith, nat_tests)
+
+pub same_parts : (k v t u : ℕ) → (let p : Option (ℕ × ℕ) = Some (k, v) in p) ≡ Some (t, u) → (k ≡ t) × (v ≡ u)
+same_parts k v t u e = let q : (let p : ℕ × ℕ = (k, v) in p) ≡ (t, u) = cc in (ap (λ (p : ℕ × ℕ). p.0) q, ap (λ (p : ℕ × ℕ). p.1) q)
+
+pub taken_back-IsSpace : {s : Content} → IsSpace s → (t u m : ℕ) → superblock_at s.slots t u ≡ Some m → IsSpace (taken_back s t u m)
+taken_back-IsSpace {s} facts t u m under =
+    let owned = (facts.agree t u m).0 under in
+    let within = superblock-lt facts t u m under in
+    let tenant = tenant-lt s.slots t u m under in
+    let short = within_from_some (row_of s.slots t) u m under in
+    let slot : u < length s.owners = omega (arith, facts.rows t tenant) in
+    let row = set (row_of s.slots t) u None in
+    let is_t : is_of t (owner_at s.owners m) ≡ true = ap (is_of t) owned ∙ is_of_self t u in
+    record {
+      some = facts.some;
+      small = facts.small;
+      few = omega (arith, facts.few, length-set s.owners m None);
+      tenants = omega (arith, facts.tenants, length-set s.slots t row);
+      paired = facts.paired ∙ sym (length-set s.owners m None);
+      flagged = length-set s.marks m true ∙ (facts.flagged ∙ sym (length-set s.owners m None));
+      rows = λ k lt. length-row_of-with_slot s.slots t u None k tenant ∙ (facts.rows k (omega (arith, length-set s.slots t row)) ∙ sym (length-set s.owners m None));
+      sized = facts.sized;
+      agree = agree-set facts t u m None None tenant slot within (λ n e. absurd (cc)) (λ k v e. absurd (cc)) (λ k v e. same_parts k v t u (sym ((facts.agree k v m).0 e) ∙ owned)) (λ n e. let both = sym e ∙ under in cc);
+      counted = λ k lt. counted-set facts t u m None None tenant slot within (ap is_some under ∙ sym is_t) refl (λ j differ. ap (is_of j) owned ∙ is_of_other t u j differ) (λ j differ. refl) k (omega (arith, length-set s.slots t row));
+      spare = λ n lt ownerless unmarked. elim (cases_eq n m) [
+        | inl same ↦ let marked = ap (mark_at (set s.marks m true)) same ∙ get_or-set_same s.marks m true false (omega (arith, facts.flagged)) in absurd (cc)
+        | inr differ ↦ facts.spare n lt (sym (get_or-set_other s.owners m n None None differ) ∙ ownerless) (sym (get_or-set_other s.marks m n true false differ) ∙ unmarked)
+      ];
+    }
+
+pub granted-IsSpace : {s : Content} → IsSpace s → (t u m : ℕ) → t < length s.slots → u < length s.owners → m < length s.owners → superblock_at s.slots t u ≡ None → owner_at s.owners m ≡ None → IsSpace (granted s t u m)
+granted-IsSpace {s} facts t u m tenant slot within vacant unowned =
+    let o : Option (ℕ × ℕ) = Some (t, u) in
+    let zeroes : List ℕ = replicate s.unit 0 in
+    let row = set (row_of s.slots t) u (Some m) in
+    record {
+      some = facts.some;
+      small = facts.small;
+      few = omega (arith, facts.few, length-set s.owners m o);
+      tenants = omega (arith, facts.tenants, length-set s.slots t row);
+      paired = length-set s.banks m zeroes ∙ (facts.paired ∙ sym (length-set s.owners m o));
+      flagged = length-set s.marks m false ∙ (facts.flagged ∙ sym (length-set s.owners m o));
+      rows = λ k lt. length-row_of-with_slot s.slots t u (Some m) k tenant ∙ (facts.rows k (omega (arith, length-set s.slots t row)) ∙ sym (length-set s.owners m o));
+      sized = λ n lt. after-set (λ (xs : List ℕ). length xs ≡ s.unit) s.banks m zeroes n [] (omega (arith, facts.paired)) (λ _. length-replicate s.unit 0) (λ _. facts.sized n (omega (arith, length-set s.banks m zeroes)));
+      agree = agree-set facts t u m (Some m) o tenant slot within (λ n e. (cc, refl)) (λ k v e. let parts = same_parts k v t u (sym e) in (parts.0, parts.1, refl)) (λ k v e. let owned = (facts.agree k v m).0 e in absurd (cc)) (λ n e. absurd (cc));
+      counted = λ k lt. counted-set facts t u m (Some m) o tenant slot within (ap is_some vacant ∙ sym (ap (is_of t) unowned)) (sym (is_of_self t u)) (λ j differ. ap (is_of j) unowned) (λ j differ. is_of_other t u j differ) k (omega (arith, length-set s.slots t row));
+      spare = λ n lt ownerless unmarked. elim (cases_eq n m) [
+        | inl same ↦ let owned = ap (owner_at (set s.owners m o)) same ∙ get_or-set_same s.owners m o None within in absurd (cc)
+        | inr differ ↦ get_or-set_other s.banks m n zeroes [] differ ∙ facts.spare n (omega (arith, length-set s.banks m zeroes)) (sym (get_or-set_other s.owners m n o None differ) ∙ ownerless) (sym (get_or-set_other s.marks m n false false differ) ∙ unmarked)
+      ];
+    }
+
+-- scrubbed where it is marked, a superblock without owner reads as zero, and no other one changes
+pub banks-scrubbed : {s : Content} → IsSpace s → (m : ℕ) → m < length s.owners → owner_at s.owners m ≡ None → (if mark_at s.marks m then scrubbed s.banks m else s.banks) ≡ set s.banks m (replicate s.unit 0)
+banks-scrubbed {s} facts m within unowned = go (mark_at s.marks m) refl
+  where
+    go : (marked : Bool) → mark_at s.marks m ≡ marked → (if marked then scrubbed s.banks m else s.banks) ≡ set s.banks m (replicate s.unit 0)
+    go true e = ap (λ n. set s.banks m (replicate n 0)) (facts.sized m (omega (arith, facts.paired)))
+    go false e = sym (set-get_or s.banks m []) ∙ ap (λ bytes. set s.banks m bytes) (facts.spare m (omega (arith, facts.paired)) unowned e)
+
+-- the mapping is one to one
+pub space-IsApart : {s : Content} → IsSpace s → IsApart s
+space-IsApart {s} facts = record {
+  superblocks = λ t u m n first second. let q : (let o : Option ℕ = Some m in o) ≡ Some n = sym ((facts.agree t u m).1 first) ∙ (facts.agree t u n).1 second in cc;
+  slots = λ t u v w m first second. same_parts t u v w (sym ((facts.agree t u m).0 first) ∙ (facts.agree v w m).0 second);
+}

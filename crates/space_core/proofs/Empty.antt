@@ -1,0 +1,48 @@
+-- The space that boot makes.
+use Rattle.std.proofs.Common.{◌≡◌, ℕ, ◌<◌, ◌≤◌, ◌^◌, ◌*◌, zero, Bool, cond, false, List, [], Option, None, length, get_or, replicate, count_by, is_some, sym, ◌∙◌, ap, inl, inr, refl, arith}
+use Rattle.std.proofs.lemmas.List.{get_or-replicate, length-replicate, get_or_past}
+use Rattle.std.proofs.lemmas.List.Folds.{sum_by-replicate}
+use Rattle.std.proofs.lemmas.Bool.{cases_lt}
+use Rattle.space_core.specs.Content.{IsSpace, empty_space, superblock_at, is_of}
+
+-- copies of the default read as the default everywhere
+pub get_or-copies : {A : Type 0} (n i : ℕ) (d : A) → get_or (replicate n d) i d ≡ d
+get_or-copies n i d =
+    elim (cases_lt i n) [
+      | inl lt ↦ get_or-replicate n i d d lt
+      | inr past ↦ get_or_past (replicate n d) i d (omega (arith, length-replicate n d))
+    ]
+
+no_superblock : (tenants n t u : ℕ) → superblock_at (replicate tenants (replicate n None)) t u ≡ None
+no_superblock tenants n t u =
+    let none : Option ℕ = None in
+    let row = replicate n none in
+    elim (cases_lt t tenants) [
+      | inl lt ↦ ap (λ (r : List (Option ℕ)). get_or r u None) (get_or-replicate tenants t row [] lt) ∙ get_or-copies n u None
+      | inr past ↦ ap (λ (r : List (Option ℕ)). get_or r u None) (get_or_past (replicate tenants row) t [] (omega (arith, length-replicate tenants row)))
+    ]
+
+-- no copy counts
+count_by-copies : {A : Type 0} (p : A → Bool) (n : ℕ) (x : A) → p x ≡ false → count_by p (replicate n x) ≡ zero
+count_by-copies p n x fails =
+    sum_by-replicate (λ y. cond (p y) 1 0) n x ∙ (ap (λ b. n * cond b 1 0) fails ∙ omega arith)
+
+pub empty_space-IsSpace : (unit n tenants : ℕ) → 0 < unit → unit ≤ 2 ^ 20 → n ≤ 256 → tenants ≤ 64 → IsSpace (empty_space unit n tenants)
+empty_space-IsSpace unit n tenants some small few short =
+    let none : Option ℕ = None in
+    let nobody : Option (ℕ × ℕ) = None in
+    let row = replicate n none in
+    let zeroes : List ℕ = replicate unit 0 in
+    record {
+      some = some;
+      small = small;
+      few = omega (arith, length-replicate n nobody);
+      tenants = omega (arith, length-replicate tenants row);
+      paired = length-replicate n zeroes ∙ sym (length-replicate n nobody);
+      flagged = length-replicate n false ∙ sym (length-replicate n nobody);
+      rows = λ t lt. ap length (get_or-replicate tenants t row [] (omega (arith, length-replicate tenants row))) ∙ (length-replicate n none ∙ sym (length-replicate n nobody));
+      sized = λ m lt. ap length (get_or-replicate n m zeroes [] (omega (arith, length-replicate n zeroes))) ∙ length-replicate unit 0;
+      agree = λ t u m. (λ under. let free = no_superblock tenants n t u in absurd (cc), λ owned. let free = get_or-copies n m nobody in absurd (cc));
+      counted = λ t lt. ap (count_by is_some) (get_or-replicate tenants t row [] (omega (arith, length-replicate tenants row))) ∙ (count_by-copies is_some n none refl ∙ sym (count_by-copies (is_of t) n nobody refl));
+      spare = λ m lt ownerless unmarked. get_or-replicate n m zeroes [] (omega (arith, length-replicate n zeroes));
+    }

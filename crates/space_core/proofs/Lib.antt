@@ -1,0 +1,9 @@
+mod TableLemmas
+mod Mapping
+mod Banks
+mod Empty
+mod Mapped
+mod Changed
+mod Vacancy
+mod Places
+mod Own

@@ -1,0 +1,94 @@
+-- A slot and its superblock changed together keep the mapping the same both ways.
+use Rattle.std.proofs.Common.{◌≡◌, ◌≢◌, ◌⊎◌, ◌↔◌, ℕ, ◌+◌, ◌<◌, Bool, false, cond, List, [], Option, Some, None, is_some, length, get_or, count_by, sym, ◌∙◌, ap, subst, inl, inr, arith}
+use Rattle.std.proofs.Math.ListN.{set}
+use Rattle.std.proofs.lemmas.List.{get_or-set_same, get_or-set_other, length-set}
+use Rattle.std.proofs.lemmas.List.Sums.{sum_by-set}
+use Rattle.std.proofs.lemmas.Bool.{cases_eq}
+use Rattle.space_core.specs.Content.{Content, IsSpace, owner_at, row_of, superblock_at, is_of}
+use Rattle.space_core.specs.Changes.{with_slot}
+
+pub row_of-with_slot : (slots : List (List (Option ℕ))) (t u : ℕ) (x : Option ℕ) → t < length slots → row_of (with_slot slots t u x) t ≡ set (row_of slots t) u x
+row_of-with_slot slots t u x lt = get_or-set_same slots t (set (row_of slots t) u x) [] lt
+
+pub row_of_other-with_slot : (slots : List (List (Option ℕ))) (t u : ℕ) (x : Option ℕ) (k : ℕ) → k ≢ t → row_of (with_slot slots t u x) k ≡ row_of slots k
+row_of_other-with_slot slots t u x k differ = get_or-set_other slots t k (set (row_of slots t) u x) [] differ
+
+-- each row keeps its length
+pub length-row_of-with_slot : (slots : List (List (Option ℕ))) (t u : ℕ) (x : Option ℕ) (k : ℕ) → t < length slots → length (row_of (with_slot slots t u x) k) ≡ length (row_of slots k)
+length-row_of-with_slot slots t u x k lt =
+    elim (cases_eq k t) [
+      | inl same ↦ subst (λ n. length (row_of (with_slot slots t u x) n) ≡ length (row_of slots n)) (sym same) (ap length (row_of-with_slot slots t u x lt) ∙ length-set (row_of slots t) u x)
+      | inr differ ↦ ap length (row_of_other-with_slot slots t u x k differ)
+    ]
+
+-- the slot itself, and every other one
+pub superblock_at-with_slot : (slots : List (List (Option ℕ))) (t u : ℕ) (x : Option ℕ) → t < length slots → u < length (row_of slots t) → superblock_at (with_slot slots t u x) t u ≡ x
+superblock_at-with_slot slots t u x lt short =
+    ap (λ (row : List (Option ℕ)). get_or row u None) (row_of-with_slot slots t u x lt) ∙ get_or-set_same (row_of slots t) u x None short
+
+pub superblock_at_other-with_slot : (slots : List (List (Option ℕ))) (t u : ℕ) (x : Option ℕ) (k v : ℕ) → t < length slots → ((k ≡ t) × (v ≡ u) → ⊥) → superblock_at (with_slot slots t u x) k v ≡ superblock_at slots k v
+superblock_at_other-with_slot slots t u x k v lt differ =
+    elim (cases_eq k t) [
+      | inl same ↦ subst (λ n. superblock_at (with_slot slots t u x) n v ≡ superblock_at slots n v) (sym same) (ap (λ (row : List (Option ℕ)). get_or row v None) (row_of-with_slot slots t u x lt) ∙ get_or-set_other (row_of slots t) u v x None (λ e. differ (same, e)))
+      | inr apart ↦ ap (λ (row : List (Option ℕ)). get_or row v None) (row_of_other-with_slot slots t u x k apart)
+    ]
+
+abbrev pub one_if : Bool → ℕ
+one_if b = cond b 1 0
+
+cases_both : (a b c d : ℕ) → ((a ≡ b) × (c ≡ d)) ⊎ ((a ≡ b) × (c ≡ d) → ⊥)
+cases_both a b c d =
+    elim (cases_eq a b) [
+      | inl first ↦ elim (cases_eq c d) [ inl second ↦ inl (first, second) | inr differ ↦ inr (λ e. differ e.1) ]
+      | inr differ ↦ inr (λ e. differ e.0)
+    ]
+
+same_pair : {a b c d : ℕ} → a ≡ b → c ≡ d → (let p : ℕ × ℕ = (a, c) in p) ≡ (b, d)
+same_pair first second = λ i. (first i, second i)
+
+-- a count after one entry changed
+pub count_by-set : {A : Type 0} (p : A → Bool) (xs : List A) (i : ℕ) (x d : A) → i < length xs → count_by p (set xs i x) + cond (p (get_or xs i d)) 1 0 ≡ count_by p xs + cond (p x) 1 0
+count_by-set p xs i x d lt = sum_by-set (λ y. cond (p y) 1 0) xs i x d lt
+
+-- where slot and owner change alike for t and stay no other tenant's, each tenant still has as many slots as superblocks
+pub counted-set : {s : Content} → IsSpace s → (t u m : ℕ) (x : Option ℕ) (o : Option (ℕ × ℕ)) → t < length s.slots → u < length s.owners → m < length s.owners
+    → is_some (superblock_at s.slots t u) ≡ is_of t (owner_at s.owners m) → is_some x ≡ is_of t o
+    → ((k : ℕ) → k ≢ t → is_of k (owner_at s.owners m) ≡ false) → ((k : ℕ) → k ≢ t → is_of k o ≡ false)
+    → (k : ℕ) → k < length s.slots → count_by is_some (row_of (with_slot s.slots t u x) k) ≡ count_by (is_of k) (set s.owners m o)
+counted-set {s} facts t u m x o tenant slot within was is others other k lt =
+    let owners = count_by-set (is_of k) s.owners m o None within in
+    elim (cases_eq k t) [
+      | inl same ↦
+          let row = count_by-set is_some (row_of s.slots t) u x None (omega (arith, facts.rows t tenant)) in
+          let alike = facts.counted t tenant in
+          let owned = count_by-set (is_of t) s.owners m o None within in
+          subst (λ n. count_by is_some (row_of (with_slot s.slots t u x) n) ≡ count_by (is_of n) (set s.owners m o)) (sym same)
+          (ap (count_by is_some) (row_of-with_slot s.slots t u x tenant)
+          ∙ omega (arith, row, owned, alike, ap one_if was, ap one_if is))
+      | inr differ ↦
+          ap (count_by is_some) (row_of_other-with_slot s.slots t u x k differ)
+          ∙ omega (arith, owners, facts.counted k lt, ap one_if (others k differ), ap one_if (other k differ))
+    ]
+
+-- slot u of tenant t and the owner of superblock m changed to x and o, where both say the same before and after
+pub agree-set : {s : Content} → IsSpace s → (t u m : ℕ) (x : Option ℕ) (o : Option (ℕ × ℕ)) → t < length s.slots → u < length s.owners → m < length s.owners
+    → ((n : ℕ) → x ≡ Some n → (n ≡ m) × (o ≡ Some (t, u))) → ((k v : ℕ) → o ≡ Some (k, v) → (k ≡ t) × (v ≡ u) × (x ≡ Some m))
+    → ((k v : ℕ) → superblock_at s.slots k v ≡ Some m → (k ≡ t) × (v ≡ u)) → ((n : ℕ) → superblock_at s.slots t u ≡ Some n → n ≡ m)
+    → (k v n : ℕ) → (superblock_at (with_slot s.slots t u x) k v ≡ Some n) ↔ (owner_at (set s.owners m o) n ≡ Some (k, v))
+agree-set {s} facts t u m x o tenant slot within to_owner to_slot alone unique k v n =
+    let short : u < length (row_of s.slots t) = omega (arith, facts.rows t tenant) in
+    let here = superblock_at-with_slot s.slots t u x tenant short in
+    let owner = get_or-set_same s.owners m o None within in
+    let at_slot : (k ≡ t) × (v ≡ u) → superblock_at (with_slot s.slots t u x) k v ≡ x = λ e. rw (e.0, e.1) here in
+    let at_owner : n ≡ m → owner_at (set s.owners m o) n ≡ o = λ e. rw e owner in
+    let elsewhere = superblock_at_other-with_slot s.slots t u x k v tenant in
+    let kept = get_or-set_other s.owners m n o None in (
+      λ under. elim (cases_both k t v u) [
+        | inl same ↦ let found = to_owner n (sym (at_slot same) ∙ under) in at_owner found.0 ∙ (found.1 ∙ ap Some (same_pair (sym same.0) (sym same.1)))
+        | inr differ ↦ let was = sym (elsewhere differ) ∙ under in kept (λ e. differ (alone k v (was ∙ ap Some e))) ∙ (facts.agree k v n).0 was
+      ],
+      λ owned. elim (cases_eq n m) [
+        | inl same ↦ let found = to_slot k v (sym (at_owner same) ∙ owned) in at_slot (found.0, found.1) ∙ (found.2 ∙ ap Some (sym same))
+        | inr differ ↦ let was = (facts.agree k v n).1 (sym (kept differ) ∙ owned) in elsewhere (λ e. differ (unique n (rw (← e.0, ← e.1) was))) ∙ was
+      ],
+    )

@@ -1,0 +1,17 @@
+use Rattle.std.proofs.Common.{◌*◌, ◌^◌, ◌≤◌, ◌%◌, rules, arith}
+use Rattle.std.proofs.Math.Nat.{pow-le-pow_right}
+use Rattle.std.proofs.lemmas.Nat.{pow_pos}
+use Rattle.space_core.proofs.Empty.{empty_space-IsSpace}
+use Rattle.space_core.proofs.Space.new.Goals as goal
+
+pub invariant_of-result : goal.invariant_of-result
+invariant_of-result c =
+    let most : 2 ^ c.args.order ≤ 2 ^ 8 = pow-le-pow_right (omega arith) c.requires.order in
+    let positive = pow_pos c.args.order in
+    let owners = rw c.from.ensures at (c.in_ok-owners.ensures.items_if_clones_equal (λ y same. search rules)) in
+    let slots = rw (c.from-2.ensures, c.from-3.ensures) at c.in_ok-slots.ensures in
+    let banks = rw c.from-4.ensures at c.in_ok-banks.ensures in
+    let marks = rw c.from-5.ensures at (c.in_ok-marks.ensures.items_if_clones_equal (λ y same. search rules)) in
+    rw (owners, slots, banks, marks)
+    (empty_space-IsSpace (4096 * 2 ^ c.args.order % 4294967296) c.args.superblocks c.args.tenants
+    (omega (arith, most)) (omega (arith, most)) c.requires.superblocks c.requires.tenants)

@@ -1,0 +1,33 @@
+-- What a grant and a take-back change.
+use Rattle.std.specs.Prelude.{◌≡◌, ℕ, ◌<◌, true, false, List, Option, Some, None, IsSome, length, replicate, slice_set}
+use Rattle.space_core.specs.Content.{Content, bank, row_of, superblock_at}
+
+-- u is the least slot number that tenant t does not hold
+pub record IsLeastSlot (slots : List (List (Option ℕ))) (t u : ℕ) : Type 0 where
+  pub vacant : superblock_at slots t u ≡ None
+  pub below : (v : ℕ) → v < u → IsSome (superblock_at slots t v)
+
+-- the entry of tenant t and slot u replaced
+abbrev pub with_slot : List (List (Option ℕ)) → ℕ → ℕ → Option ℕ → List (List (Option ℕ))
+with_slot slots t u x = slice_set slots t (slice_set (row_of slots t) u x)
+
+-- every byte of superblock m set to zero
+abbrev pub scrubbed : List (List ℕ) → ℕ → List (List ℕ)
+scrubbed banks m = slice_set banks m (replicate (length (bank banks m)) 0)
+
+-- superblock m becomes slot u of tenant t: it reads as zero and has no mark
+abbrev pub granted : Content → ℕ → ℕ → ℕ → Content
+granted s t u m = record s {
+  owners = slice_set s.owners m (Some (t, u));
+  slots = with_slot s.slots t u (Some m);
+  banks = slice_set s.banks m (replicate s.unit 0);
+  marks = slice_set s.marks m false;
+}
+
+-- superblock m, slot u of tenant t, loses its owner: it keeps its bytes and has a mark
+abbrev pub taken_back : Content → ℕ → ℕ → ℕ → Content
+taken_back s t u m = record s {
+  owners = slice_set s.owners m None;
+  slots = with_slot s.slots t u None;
+  marks = slice_set s.marks m true;
+}

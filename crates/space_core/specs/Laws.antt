@@ -1,0 +1,42 @@
+-- What the equations of the calls say of each tenant's slots and bytes.
+use Rattle.std.specs.Prelude.{◌≡◌, ◌≢◌, ℕ, ◌+◌, ◌-◌, ◌/◌, ◌<◌, ◌==◌, ◌&&◌, nat_lt, nat_le, if◌then◌else◌, List, Some, None, IsSome, length, slice_index}
+use Rattle.space_core.specs.Content.{Content, bank, superblock_at, owner_at}
+use Rattle.space_core.specs.Windows.{home_of, window_of, with_window, byte_at, with_byte}
+use Rattle.space_core.specs.Changes.{granted, taken_back}
+
+-- no two superblocks stand under one slot, and no superblock under two
+pub record IsApart (s : Content) : Type 0 where
+  pub superblocks : (t u m n : ℕ) → owner_at s.owners m ≡ Some (t, u) → owner_at s.owners n ≡ Some (t, u) → m ≡ n
+  pub slots : (t u v w m : ℕ) → superblock_at s.slots t u ≡ Some m → superblock_at s.slots v w ≡ Some m → (t ≡ v) × (u ≡ w)
+
+-- tenant t has the same slots in s' as in s, and the same bytes there
+pub record IsSameFor (t : ℕ) (s s' : Content) : Type 0 where
+  pub slots : (u : ℕ) → superblock_at s'.slots t u ≡ superblock_at s.slots t u
+  pub banks : (u m : ℕ) → superblock_at s.slots t u ≡ Some m → bank s'.banks m ≡ bank s.banks m
+  pub bytes : (place : ℕ) → byte_at s' t place ≡ byte_at s t place
+  pub windows : (place len : ℕ) → window_of s' t place len ≡ window_of s t place len
+
+-- what is done for tenant t keeps every other tenant's slots and bytes
+pub record OthersStay (s : Content) : Type 0 where
+  pub window : (t place len : ℕ) (w : List ℕ) (other : ℕ) → other ≢ t → IsSameFor other s (with_window s t place len w)
+  pub byte : (t place b other : ℕ) → other ≢ t → IsSameFor other s (with_byte s t place b)
+  pub grant : (t u m other : ℕ) → owner_at s.owners m ≡ None → other ≢ t → IsSameFor other s (granted s t u m)
+  pub take_back : (t u m other : ℕ) → other ≢ t → IsSameFor other s (taken_back s t u m)
+
+-- bytes are those of tenant t from place on, len of them
+pub record IsRead (s : Content) (t place len : ℕ) (bytes : List ℕ) : Type 0 where
+  pub count : length bytes ≡ len
+  pub each : (i : ℕ) → i < len → byte_at s t (place + i) ≡ Some (slice_index bytes i)
+
+-- what the named tenant then reads at each place p
+pub record OwnBytes (s : Content) : Type 0 where
+  pub read : (t place len : ℕ) (bytes : List ℕ) → window_of s t place len ≡ Some bytes → IsRead s t place len bytes
+  pub window : (t place len : ℕ) (w : List ℕ) → IsSome (home_of s t place len) → length w ≡ len → (p : ℕ) → byte_at (with_window s t place len w) t p ≡ (if nat_le place p && nat_lt p (place + len) then Some (slice_index w (p - place)) else byte_at s t p)
+  pub byte : (t place b : ℕ) → IsSome (byte_at s t place) → (p : ℕ) → byte_at (with_byte s t place b) t p ≡ (if p == place then Some b else byte_at s t p)
+  pub grant : (t u m : ℕ) → t < length s.slots → u < length s.owners → m < length s.owners → owner_at s.owners m ≡ None → (p : ℕ) → byte_at (granted s t u m) t p ≡ (if p / s.unit == u then Some 0 else byte_at s t p)
+  pub take_back : (t u m : ℕ) → superblock_at s.slots t u ≡ Some m → (p : ℕ) → byte_at (taken_back s t u m) t p ≡ (if p / s.unit == u then None else byte_at s t p)
+
+-- which slots the named tenant then holds
+pub record OwnSlots (s : Content) : Type 0 where
+  pub grant : (t u m : ℕ) → t < length s.slots → u < length s.owners → (v : ℕ) → superblock_at (granted s t u m).slots t v ≡ (if v == u then Some m else superblock_at s.slots t v)
+  pub take_back : (t u m : ℕ) → superblock_at s.slots t u ≡ Some m → (v : ℕ) → superblock_at (taken_back s t u m).slots t v ≡ (if v == u then None else superblock_at s.slots t v)

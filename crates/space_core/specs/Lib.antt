@@ -1,0 +1,6 @@
+pub mod Content
+pub mod Windows
+pub mod Changes
+pub mod Lending
+pub mod Laws
+pub mod Tables

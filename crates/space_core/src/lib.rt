@@ -1,0 +1,384 @@
+//! The RAM of a partitioning kernel. It is cut into superblocks of one size. A superblock is free in
+//! the pool or stands under a slot of one tenant, and a tenant reaches the bytes of its own slots alone.
+//!
+//! Scrubbing is lazy: a superblock that is taken back keeps its bytes and gets a mark, and a marked
+//! one is set to zero before it is granted again. So no tenant reads what another one left.
+//!
+//! Only [`Space::new`] allocates.
+#![tactic(auto)]
+
+ghost use Rattle.std.specs.Prelude.{◌≡◌, ◌≢◌, ◌+◌, ◌*◌, ◌/◌, ◌^◌, ◌<◌, ◌≤◌, Some, None, false, length, position, is_none, count_by, replicate, option_map, IsSome, IfSome, IfOk, OnErr, MatchResult, slice_range, slice_set, vec_len, if◌then◌else◌};
+ghost use Rattle.std.specs.Borrow.{sem};
+ghost use Rattle.space_core.specs.Content.{IsSpace, bank, owner_at, mark_at, row_of, superblock_at, empty_space};
+ghost use Rattle.space_core.specs.Windows.{home_of, window_of, with_window, byte_at, with_byte};
+ghost use Rattle.space_core.specs.Changes.{IsLeastSlot, with_slot, scrubbed, granted, taken_back};
+ghost use Rattle.space_core.specs.Tables.{rows_of, bytes_of};
+ghost use Rattle.space_core.specs.Laws.{IsApart, OthersStay, OwnBytes, OwnSlots};
+ghost use Rattle.space_core.specs.Lending.{LendsWindow, LendsPart};
+
+use std::alloc::{AllocError, Global};
+use std::marker::Model;
+
+/// Bytes of a frame.
+pub const FRAME_BYTES: u32 = 4096;
+
+/// Every superblock has an owner.
+#[derive(Clone, Copy, Debug, PartialEq, Eq)]
+pub struct PoolEmpty;
+
+/// The tenant does not hold the slot.
+#[derive(Clone, Copy, Debug, PartialEq, Eq)]
+pub struct NoSlot;
+
+/// The RAM with its pool and the mapping both ways.
+///
+/// Superblocks and slots are numbered from 0 up to the number of superblocks, tenants from 0. A place
+/// of a tenant is a byte number: it lies in slot `place / unit`, where `unit` is the bytes of a superblock.
+#[derive(Drop)]
+pub struct Space {
+    unit: u32,
+    owners: Vec<Option<(u8, u16)>>,
+    slots: Vec<Vec<Option<u16>>>,
+    banks: Vec<Vec<u8>>,
+    marks: Vec<bool>,
+}
+
+impl Model for Space {
+    ghost use Rattle.space_core.specs.Content.{Content, IsSpace};
+    ghost use Rattle.space_core.specs.Tables.{rows_of, bytes_of};
+
+    ghost Value = { Content };
+
+    ghost view = { λ s. record { unit = s.unit; owners = s.owners.items; slots = rows_of s.slots; banks = bytes_of s.banks; marks = s.marks.items } };
+
+    ghost invariant = { λ s. IsSpace (record { unit = s.unit; owners = s.owners.items; slots = rows_of s.slots; banks = bytes_of s.banks; marks = s.marks.items }) };
+}
+
+impl Space {
+    /// RAM of `superblocks` superblocks of `2^order` frames each, for `tenants` tenants: every byte is
+    /// zero, and no superblock has an owner or a mark.
+    ///
+    /// It asks for all memory that there will ever be, and answers `AllocError` where that is refused.
+    pub fn new(alloc: Global, order: u8, superblocks: u16, tenants: u8) -> Result<Space, AllocError>
+        requires order { order ≤ 8 }
+        requires superblocks { superblocks ≤ 256 }
+        requires tenants { tenants ≤ 64 }
+        ensures { IfOk result (λ s. s ≡ empty_space (4096 * 2 ^ order) superblocks tenants) }
+    {
+        let unit = FRAME_BYTES << order;
+        let owners = vec![in alloc; None; usize::from(superblocks)]?;
+        let slots = make_rows(alloc, usize::from(tenants), usize::from(superblocks))?;
+        let banks = make_banks(alloc, usize::from(superblocks), unit as usize)?;
+        let marks = vec![in alloc; false; usize::from(superblocks)]?;
+        Ok(Space {
+            unit,
+            owners,
+            slots,
+            banks,
+            marks,
+        })
+    }
+
+    /// Gives the least superblock without owner to tenant `t`, as the least slot that it does not hold,
+    /// and answers slot and superblock. The slot reads as zero: a marked superblock is scrubbed first.
+    pub fn grant(&mut self, t: u8) -> Result<(u16, u16), PoolEmpty>
+        requires { t < length self.old.slots }
+        ensures superblock { MatchResult result (λ p. position is_none self.old.owners ≡ Some p.1) (λ _. position is_none self.old.owners ≡ None) }
+        ensures slot { IfOk result (λ p. IsLeastSlot self.old.slots t p.0) }
+        ensures below { IfOk result (λ p. (p.0 < length self.old.owners) × (p.1 < length self.old.owners)) }
+        ensures ok { IfOk result (λ p. self.new ≡ granted self.old t p.0 p.1) }
+        ensures fresh { IfOk result (λ p. bank self.new.banks p.1 ≡ replicate self.new.unit 0) }
+        ensures err { OnErr result (self.new ≡ self.old) }
+    {
+        let m = self.least_unowned().ok_or(PoolEmpty)?;
+        let u = self.least_slot(t);
+        scrub_marked(&mut self.banks, &mut self.marks, usize::from(m));
+        self.owners[usize::from(m)] = Some((t, u));
+        set_slot(&mut self.slots, t, usize::from(u), Some(m));
+        Ok((u, m))
+    }
+
+    /// Takes the superblock under a slot back from tenant `t`, and answers it. It keeps its bytes and
+    /// is marked, so that it is scrubbed before it is granted again.
+    pub fn take_back(&mut self, t: u8, slot: u32) -> Result<u16, NoSlot>
+        requires { t < length self.old.slots }
+        ensures superblock { MatchResult result (λ m. superblock_at self.old.slots t slot ≡ Some m) (λ _. superblock_at self.old.slots t slot ≡ None) }
+        ensures below { IfOk result (λ m. m < length self.old.owners) }
+        ensures ok { IfOk result (λ m. self.new ≡ taken_back self.old t slot m) }
+        ensures err { OnErr result (self.new ≡ self.old) }
+    {
+        let m = self.machine_of(t, slot).ok_or(NoSlot)?;
+        self.marks[usize::from(m)] = true;
+        self.owners[usize::from(m)] = None;
+        set_slot(&mut self.slots, t, slot as usize, None);
+        Ok(m)
+    }
+
+    /// The bytes of tenant `t` from `place` on, `len` of them. None for a range of no bytes, and for
+    /// one that does not lie in one slot that the tenant holds.
+    pub fn window(&self, t: u8, place: u32, len: u32) -> Option<&[u8]>
+        requires { t < length self.now.slots }
+        ensures value { option_map (λ bytes. bytes.now) result ≡ window_of self.now t place len }
+        ensures len { IfSome result (λ bytes. length bytes.now ≡ len) }
+    {
+        let at = place % self.unit;
+        if len == 0 || u64::from(at) + u64::from(len) > u64::from(self.unit) {
+            return None;
+        }
+        let m = self.machine_of(t, place / self.unit)?;
+        Some(part(&self.banks[usize::from(m)], at as usize, len as usize))
+    }
+
+    /// The bytes of tenant `t` from `place` on, to be written. When the borrow ends the range holds
+    /// what was written, and all else of RAM is as before.
+    pub fn window_mut(&mut self, t: u8, place: u32, len: u32) -> &mut [u8]
+        requires tenant { t < length self.old.slots }
+        requires in_reach { IsSome (home_of self.old t place len) }
+        ensures* writes_back { sem 𝓛 (LendsWindow self.entry t place len result) }
+        ensures value { window_of self.old t place len ≡ Some result.now }
+        ensures len { length result.now ≡ len }
+    {
+        let at = place % self.unit;
+        let m = self.held(t, place / self.unit);
+        self.part_mut(m, at as usize, len as usize)
+    }
+
+    /// Sets the bytes of tenant `t` from `place` on to zero, `len` of them.
+    pub fn zero(&mut self, t: u8, place: u32, len: u32)
+        requires tenant { t < length self.old.slots }
+        requires in_reach { IsSome (home_of self.old t place len) }
+        ensures { self.new ≡ with_window self.old t place len (replicate len 0) }
+    {
+        self.window_mut(t, place, len).fill(0);
+    }
+
+    /// The byte at a place of tenant `t`.
+    pub fn byte(&self, t: u8, place: u32) -> u8
+        requires tenant { t < length self.now.slots }
+        requires held { IsSome (superblock_at self.now.slots t (place / self.now.unit)) }
+        ensures { byte_at self.now t place ≡ Some result }
+    {
+        let at = place % self.unit;
+        let m = self.held(t, place / self.unit);
+        self.banks[m][at as usize]
+    }
+
+    /// Writes one byte at a place of tenant `t`.
+    pub fn set_byte(&mut self, t: u8, place: u32, byte: u8)
+        requires tenant { t < length self.old.slots }
+        requires held { IsSome (superblock_at self.old.slots t (place / self.old.unit)) }
+        ensures { self.new ≡ with_byte self.old t place byte }
+    {
+        let at = place % self.unit;
+        let m = self.held(t, place / self.unit);
+        set_byte_at(&mut self.banks, m, at as usize, byte);
+    }
+
+    /// The superblock under a slot of tenant `t`, None where it does not hold the slot.
+    pub fn machine_of(&self, t: u8, slot: u32) -> Option<u16>
+        requires { t < length self.now.slots }
+        ensures value { result ≡ superblock_at self.now.slots t slot }
+        ensures below { IfSome result (λ m. m < length self.now.owners) }
+    {
+        self.facts();
+        self.row(t).get(slot as usize).copied().flatten()
+    }
+
+    /// Tenant and slot of superblock `m`, None where it has no owner.
+    pub fn owner(&self, m: u16) -> Option<(u8, u16)>
+        requires { m < length self.now.owners }
+        ensures { result ≡ owner_at self.now.owners m }
+    {
+        self.owners[usize::from(m)]
+    }
+
+    /// All bytes of superblock `m`.
+    pub fn machine_bytes(&self, m: u16) -> &[u8]
+        requires { m < length self.now.owners }
+        ensures value { result.now ≡ bank self.now.banks m }
+        ensures len { length result.now ≡ self.now.unit }
+    {
+        self.banks[usize::from(m)].as_slice()
+    }
+
+    /// Whether superblock `m` is scrubbed before it is granted again.
+    pub fn is_marked(&self, m: u16) -> bool
+        requires { m < length self.now.owners }
+        ensures { result ≡ mark_at self.now.marks m }
+    {
+        self.marks[usize::from(m)]
+    }
+
+    /// How many superblocks have no owner.
+    pub fn unowned(&self) -> u16
+        ensures { result ≡ count_by is_none self.now.owners }
+    {
+        self.owners.iter().filter(|owner| owner.is_none()).count() as u16
+    }
+
+    /// A law: what is true of every `Space`. It costs nothing.
+    pub fn facts(&self)
+        ensures { IsSpace self.now }
+    {
+        let _ = &self.unit;
+    }
+
+    /// A law: no two superblocks stand under one slot, and none under two. It costs nothing.
+    pub fn slots_are_apart(&self)
+        ensures { IsApart self.now }
+    {
+        let _ = &self.unit;
+    }
+
+    /// A law: what any call does for one tenant keeps every other tenant's slots and bytes. It costs nothing.
+    pub fn others_stay(&self)
+        ensures { OthersStay self.now }
+    {
+        let _ = &self.unit;
+    }
+
+    /// A law: what a call does to the bytes that its tenant reads, place by place. It costs nothing.
+    pub fn own_bytes(&self)
+        ensures { OwnBytes self.now }
+    {
+        let _ = &self.unit;
+    }
+
+    /// A law: what a grant and a take-back do to the slots that the tenant holds. It costs nothing.
+    pub fn own_slots(&self)
+        ensures { OwnSlots self.now }
+    {
+        let _ = &self.unit;
+    }
+
+    /// The superblock under a slot that the tenant holds.
+    fn held(&self, t: u8, slot: u32) -> usize
+        requires tenant { t < length self.now.slots }
+        requires held { IsSome (superblock_at self.now.slots t slot) }
+        ensures value { superblock_at self.now.slots t slot ≡ Some result }
+        ensures below { result < length self.now.owners }
+    {
+        usize::from(self.machine_of(t, slot).unwrap())
+    }
+
+    /// The slots of tenant `t`.
+    fn row(&self, t: u8) -> &[Option<u16>]
+        requires { t < length self.now.slots }
+        ensures { result.now ≡ row_of self.now.slots t }
+    {
+        self.slots[usize::from(t)].as_slice()
+    }
+
+    fn least_unowned(&self) -> Option<u16>
+        ensures value { result ≡ position is_none self.now.owners }
+        ensures below { IfSome result (λ m. m < length self.now.owners) }
+    {
+        let m = first_none(&self.owners)?;
+        Some(m as u16)
+    }
+
+    /// The least slot that tenant `t` does not hold. There is one where a superblock has no owner.
+    fn least_slot(&self, t: u8) -> u16
+        requires tenant { t < length self.now.slots }
+        requires pool { IsSome (position is_none self.now.owners) }
+        ensures slot { IsLeastSlot self.now.slots t result }
+        ensures below { result < length self.now.owners }
+    {
+        self.facts();
+        first_none(self.row(t)).unwrap() as u16
+    }
+
+    fn part_mut(&mut self, m: usize, from: usize, len: usize) -> &mut [u8]
+        requires in_bounds { m < length self.old.owners }
+        requires owned { owner_at self.old.owners m ≢ None }
+        requires within { from + len ≤ self.old.unit }
+        ensures* writes_back { sem 𝓛 (LendsPart self.entry m from result) }
+        ensures value { result.now ≡ slice_range (bank self.old.banks m) from (from + len) }
+        ensures len { length result.now ≡ len }
+    {
+        let bank = &mut self.banks[m];
+        bank.slice_mut(from..from + len)
+    }
+}
+
+/// The index of the first `None`.
+fn first_none<T>(items: &[Option<T>]) -> Option<usize>
+    ensures value { result ≡ position is_none items.now }
+    ensures below { IfSome result (λ i. i < length items.now) }
+{
+    items.iter().position(|item| item.is_none())
+}
+
+fn part(bytes: &[u8], from: usize, len: usize) -> &[u8]
+    requires { from + len ≤ length bytes.now }
+    ensures value { result.now ≡ slice_range bytes.now from (from + len) }
+    ensures len { length result.now ≡ len }
+{
+    &bytes[from..from + len]
+}
+
+/// Sets every byte of superblock `m` to zero and clears its mark, where it is marked.
+fn scrub_marked(banks: &mut Vec<Vec<u8>>, marks: &mut Vec<bool>, m: usize)
+    requires bank { m < vec_len banks.old }
+    requires mark { m < vec_len marks.old }
+    ensures banks { bytes_of banks.new ≡ (if mark_at marks.old.items m then scrubbed (bytes_of banks.old) m else bytes_of banks.old) }
+    ensures marks { marks.new.items ≡ slice_set marks.old.items m false }
+{
+    if marks[m] {
+        scrub(banks, m);
+        marks[m] = false;
+    }
+}
+
+/// Sets every byte of superblock `m` to zero.
+fn scrub(banks: &mut Vec<Vec<u8>>, m: usize)
+    requires { m < vec_len banks.old }
+    ensures { bytes_of banks.new ≡ scrubbed (bytes_of banks.old) m }
+{
+    banks[m].fill(0);
+}
+
+fn set_byte_at(banks: &mut Vec<Vec<u8>>, m: usize, i: usize, byte: u8)
+    requires bank { m < vec_len banks.old }
+    requires byte { i < length (bank (bytes_of banks.old) m) }
+    ensures { bytes_of banks.new ≡ slice_set (bytes_of banks.old) m (slice_set (bank (bytes_of banks.old) m) i byte) }
+{
+    banks[m][i] = byte;
+}
+
+fn set_slot(slots: &mut Vec<Vec<Option<u16>>>, t: u8, u: usize, to: Option<u16>)
+    requires tenant { t < vec_len slots.old }
+    requires slot { u < length (row_of (rows_of slots.old) t) }
+    ensures { rows_of slots.new ≡ with_slot (rows_of slots.old) t u to }
+{
+    slots[usize::from(t)][u] = to;
+}
+
+/// For each of `tenants` tenants `superblocks` slots, with nothing under them.
+fn make_rows(
+    alloc: Global,
+    tenants: usize,
+    superblocks: usize,
+) -> Result<Vec<Vec<Option<u16>>>, AllocError>
+    ensures { IfOk result (λ rows. rows_of rows ≡ replicate tenants (replicate superblocks None)) }
+{
+    let mut rows = Vec::with_capacity(alloc, tenants)?;
+    for _ in 0..tenants {
+        rows.push(vec![in alloc; None; superblocks]?)?;
+    }
+    Ok(rows)
+}
+
+/// `count` superblocks of `unit` zero bytes.
+fn make_banks(alloc: Global, count: usize, unit: usize) -> Result<Vec<Vec<u8>>, AllocError>
+    ensures { IfOk result (λ banks. bytes_of banks ≡ replicate count (replicate unit 0)) }
+{
+    let mut banks = Vec::with_capacity(alloc, count)?;
+    for _ in 0..count {
+        banks.push(vec![in alloc; 0u8; unit]?)?;
+    }
+    Ok(banks)
+}
+
+#[cfg(test)]
+mod tests;

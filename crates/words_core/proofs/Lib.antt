@@ -1,0 +1,3 @@
+mod LineLemmas
+pub mod TextLemmas
+mod WordLemmas

@@ -1,0 +1,6 @@
+pub mod Cutting
+pub mod Words
+pub mod Numbers
+pub mod Grammar
+pub mod Texts
+pub mod Examples

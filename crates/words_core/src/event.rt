@@ -1,0 +1,71 @@
+ghost use Rattle.std.specs.Prelude.{◌≡◌, ◌≤◌, length};
+
+use arrayvec::ArrayVec;
+
+/// What a line without fault asks for.
+#[derive(Debug, Drop, PartialEq, Eq)]
+pub enum Event {
+    /// A command of the administrator, who grants superblocks to tenants.
+    Admin(AdminCommand),
+    /// A command of the tenant of this number, be there such a tenant or not.
+    Tenant(u32, Command),
+}
+
+/// A command of the administrator. Tenants are named by number, be there such a tenant or not.
+#[derive(Debug, Drop, PartialEq, Eq)]
+pub enum AdminCommand {
+    /// `admin grant T`: a superblock for the tenant.
+    Grant { tenant: u32 },
+    /// `admin takeback T SLOT`: the superblock under this slot of the tenant is taken back.
+    TakeBack { tenant: u32, slot: u32 },
+    /// `admin reset T`: all that the tenant has is taken back.
+    Reset { tenant: u32 },
+    /// `admin pool`: who owns which superblock.
+    Pool,
+}
+
+/// A command of a tenant. Its arguments are as they were written: none is known to be in range.
+#[derive(Debug, Drop, PartialEq, Eq)]
+pub enum Command {
+    /// `T alloc K`: a page block of `2^order` frames.
+    Alloc { order: u32 },
+    /// `T free FRAME`: the page block that begins at this frame of the tenant is given back.
+    Free { frame: u32 },
+    /// `T read PLACE LEN`: `len` bytes, from the tenant's byte number `place` on.
+    Read { place: u32, len: u32 },
+    /// `T write PLACE HEX`: 1 to 64 bytes, stored from the tenant's byte number `place` on.
+    Write { place: u32, bytes: ArrayVec<u8, 64> },
+}
+
+/// Why a line says nothing that can be done.
+#[derive(Clone, Copy, Debug, PartialEq, Eq)]
+pub enum LineFault {
+    /// The line has more than 255 bytes.
+    Long,
+    /// The first word names no actor, or the second no command of that actor.
+    Unknown,
+    /// The number of words isn't that of the command.
+    Words,
+    /// A word that has to be a number isn't one.
+    Number,
+    /// A word that has to be bytes in hex isn't that.
+    Hex,
+}
+
+impl LineFault {
+    ghost use Rattle.words_core.specs.Texts.{name_of_fault};
+
+    /// The name of the fault, as it is written.
+    pub fn name(&self) -> &'static str
+        ensures value { result.now ≡ name_of_fault self.now }
+        ensures short { length result.now ≤ 7 }
+    {
+        match self {
+            LineFault::Long => "Long",
+            LineFault::Unknown => "Unknown",
+            LineFault::Words => "Words",
+            LineFault::Number => "Number",
+            LineFault::Hex => "Hex",
+        }
+    }
+}

@@ -1,0 +1,69 @@
+ghost use Rattle.std.specs.Prelude.{◌≡◌, ◌<◌, ◌≤◌, ℕ, [], ◌∷◌, false, true, length, map, take, slice_index, MatchOption};
+ghost use Rattle.words_core.specs.Words.{is_blank, words_of};
+
+use arrayvec::ArrayVec;
+
+/// How many words of a line are looked at: no command has as many, so that a line with more is
+/// known by these to have too many.
+pub const MOST_WORDS: usize = 6;
+
+fn is_blank(byte: u8) -> bool
+    ensures { result ≡ is_blank byte }
+{
+    byte == b' ' || byte == b'\t'
+}
+
+/// How many blanks the bytes begin with.
+fn blanks_len(bytes: &[u8]) -> usize
+    ensures fits { result ≤ length bytes.now }
+    ensures blanks { (k : ℕ) → k < result → is_blank (slice_index bytes.now k) ≡ true }
+    ensures stops { result < length bytes.now → is_blank (slice_index bytes.now result) ≡ false }
+{
+    for (i, byte) in bytes.iter().enumerate() {
+        if !is_blank(*byte) {
+            return i;
+        }
+    }
+    bytes.len()
+}
+
+/// How many bytes stand before the first blank.
+fn word_len(bytes: &[u8]) -> usize
+    ensures fits { result ≤ length bytes.now }
+    ensures word { (k : ℕ) → k < result → is_blank (slice_index bytes.now k) ≡ false }
+    ensures stops { result < length bytes.now → is_blank (slice_index bytes.now result) ≡ true }
+{
+    for (i, byte) in bytes.iter().enumerate() {
+        if is_blank(*byte) {
+            return i;
+        }
+    }
+    bytes.len()
+}
+
+/// The first word, and what follows it; `None` where there are only blanks.
+fn next_word(bytes: &[u8]) -> Option<(&[u8], &[u8])>
+    ensures { MatchOption result (words_of bytes.now ≡ []) (λ found. words_of bytes.now ≡ found.0.now ∷ words_of found.1.now) }
+{
+    let bytes = &bytes[blanks_len(bytes)..];
+    if bytes.is_empty() {
+        return None;
+    }
+    Some(bytes.split_at(word_len(bytes)))
+}
+
+/// The words of a line in their order, without those past the sixth.
+pub fn split_words(line: &[u8]) -> ArrayVec<&[u8], MOST_WORDS>
+    ensures { map (λ word. word.now) result.items ≡ take 6 (words_of line.now) }
+{
+    let mut words = ArrayVec::new();
+    let mut rest = line;
+    while !words.is_full() {
+        let Some((word, after)) = next_word(rest) else {
+            return words;
+        };
+        words.push(word);
+        rest = after;
+    }
+    words
+}
