@@ -1,3 +1,2 @@
 mod LineLemmas
-pub mod TextLemmas
 mod WordLemmas

@@ -1,0 +1,19 @@
+-- The element at one index of a list of which one element was replaced, and of copies of one element.
+use Rattle.std.proofs.Common.{◌≡◌, ℕ, zero, suc, ◌<◌, ◌≢◌, List, [], ◌∷◌, Some, slice_get, slice_set, replicate, refl, ap, arith}
+
+pub slice_get-set_same : {A : Type 0} (xs : List A) (i : ℕ) (x y : A) → slice_get xs i ≡ Some x → slice_get (slice_set xs i y) i ≡ Some y
+slice_get-set_same [] i x y h = cc
+slice_get-set_same (z ∷ zs) zero x y h = refl
+slice_get-set_same (z ∷ zs) (suc i) x y h = slice_get-set_same zs i x y h
+
+pub slice_get-set_other : {A : Type 0} (xs : List A) (i j : ℕ) (y : A) → i ≢ j → slice_get (slice_set xs i y) j ≡ slice_get xs j
+slice_get-set_other [] i j y other = refl
+slice_get-set_other (z ∷ zs) zero zero y other = absurd (other refl)
+slice_get-set_other (z ∷ zs) zero (suc j) y other = refl
+slice_get-set_other (z ∷ zs) (suc i) zero y other = refl
+slice_get-set_other (z ∷ zs) (suc i) (suc j) y other = slice_get-set_other zs i j y (λ e. other (ap suc e))
+
+pub slice_get-replicate : {A : Type 0} (n i : ℕ) (x : A) → i < n → slice_get (replicate n x) i ≡ Some x
+slice_get-replicate zero i x h = absurd (omega arith)
+slice_get-replicate (suc n) zero x h = refl
+slice_get-replicate (suc n) (suc i) x h = slice_get-replicate n i x (omega arith)

@@ -1,0 +1,28 @@
+-- A private run leaves a machine that a run of the model's operations leaves.
+use Rattle.std.proofs.Common.{◌≡◌, ℕ, ◌&&◌, Bool, true, false, not, nat_le, if◌then◌else◌, [], ◌∷◌, refl, ap, ◌∙◌}
+use Rattle.model_core.specs.Machine.{Machine}
+use Rattle.model_core.specs.Operations.{Step, read_step}
+use Rattle.model_core.specs.Reach.{in_reach}
+use Rattle.words_core.specs.declared.event.Command.TheVariants as Ask
+use Rattle.kernel_core.specs.PrivateStep.{Entry, private_step, command_step}
+use Rattle.kernel_core.specs.PrivateRun.{private_run}
+use Rattle.kernel_core.specs.Laws.{EntriesAreOperations}
+
+if_stays : {A : Type 0} (test : Bool) (x y : Step A) (m : Machine) → x.machine ≡ m → y.machine ≡ m → (if test then x else y).machine ≡ m
+if_stays true x y m p q = p
+if_stays false x y m p q = q
+
+-- a read changes nothing
+read_stays : (place len : ℕ) (m : Machine) → (read_step place len m).machine ≡ m
+unfolding read_step
+read_stays place len m = if_stays (not (nat_le 1 len && nat_le len 64)) _ _ m refl (if_stays (not (in_reach m place len)) _ _ m refl refl)
+
+pub entries_are_operations : EntriesAreOperations
+unfolding private_step command_step
+entries_are_operations limit order [] m = refl
+entries_are_operations limit order (Entry.Ask (Ask.Alloc k) ∷ entries) m = entries_are_operations limit order entries _
+entries_are_operations limit order (Entry.Ask (Ask.Read place len) ∷ entries) m =
+    ap (λ n. (private_run limit order entries n).machine) (read_stays place len m) ∙ entries_are_operations limit order entries m
+entries_are_operations limit order (Entry.Grant ∷ entries) m = entries_are_operations limit order entries _
+entries_are_operations limit order (Entry.TakeBack slot ∷ entries) m = entries_are_operations limit order entries _
+entries_are_operations limit order (Entry.Reset ∷ entries) m = entries_are_operations limit order entries _

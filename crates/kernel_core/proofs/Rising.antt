@@ -1,0 +1,193 @@
+-- Lists that rise by key: what they have after one more is put into them, and that two with the same elements are one.
+use Rattle.std.proofs.Common.{◌≡◌, ◌≢◌, ℕ, ◌+◌, ◌<◌, ◌≤◌, ◌==◌, ◌||◌, nat_lt, Bool, true, false, if◌then◌else◌, Some, None, is_some, List, [], ◌∷◌, map, refl, sym, ap, ◌∙◌, subst, ⊎_elim, arith}
+use Rattle.std.specs.List.{list_any}
+use Rattle.std.proofs.lemmas.Bool.{false≢true, lt-ltb, ltb-true, eq-eqb, cases_eq, cases_lt}
+use Rattle.std.proofs.lemmas.Bool.Decides.{nat_tests}
+use Rattle.model_core.specs.Blocks.{Block, block}
+use Rattle.model_core.specs.Machine.{put_rising, least_missing, order_in}
+use Rattle.model_core.specs.WellFormed.{RisesFrom}
+
+pub is_same : (n : ℕ) → (n == n) ≡ true
+is_same n = eq-eqb n n refl
+
+pub is_other : (a b : ℕ) → a ≢ b → (a == b) ≡ false
+is_other a b other = grind (arith)
+
+pub not_less : (a b : ℕ) → b ≤ a → nat_lt a b ≡ false
+not_less a b le = grind (arith, nat_tests)
+
+-- u is one of the numbers
+abbrev pub has : ℕ → List ℕ → Bool
+has u xs = list_any (λ v. v == u) xs
+
+-- a list that rises from n has no lower number
+pub none_below : (n u : ℕ) (xs : List ℕ) → RisesFrom n xs → u < n → has u xs ≡ false
+none_below n u [] rises below = refl
+none_below n u (x ∷ xs) (low, rises) below =
+    let first : (x == u) ≡ false = is_other x u (λ same. absurd (omega arith)) in
+    ap (λ b. b || has u xs) first ∙ none_below (x + 1) u xs rises (omega arith)
+
+-- what a list has with one more number
+pub has-put : {X : Type 0} (key : X → ℕ) (x : X) (xs : List X) (u : ℕ) → has u (map key (put_rising key x xs)) ≡ ((key x == u) || has u (map key xs))
+has-put key x [] u = refl
+has-put key x (y ∷ ys) u = go (nat_lt (key x) (key y)) refl (has-put key x ys u)
+  where
+    swap : (a b c : Bool) → (a || (b || c)) ≡ (b || (a || c))
+    swap true true c = refl
+    swap true false c = refl
+    swap false true c = refl
+    swap false false c = refl
+
+    go : (less : Bool) → nat_lt (key x) (key y) ≡ less → has u (map key (put_rising key x ys)) ≡ ((key x == u) || has u (map key ys))
+        → has u (map key (if less then x ∷ y ∷ ys else y ∷ put_rising key x ys)) ≡ ((key x == u) || ((key y == u) || has u (map key ys)))
+    go true _ _ = refl
+    go false _ more = ap (λ b. (key y == u) || b) more ∙ swap (key y == u) (key x == u) (has u (map key ys))
+
+-- it still rises, if the number is new
+pub rises-put : {X : Type 0} (key : X → ℕ) (x : X) (n : ℕ) (xs : List X) → RisesFrom n (map key xs) → n ≤ key x → has (key x) (map key xs) ≡ false
+    → RisesFrom n (map key (put_rising key x xs))
+rises-put key x n [] rises low new = (low, tt)
+rises-put key x n (y ∷ ys) (first, rises) low new =
+    let other : key y ≢ key x = λ same. false≢true (sym new ∙ ap (λ b. b || has (key x) (map key ys)) (eq-eqb (key y) (key x) same)) in
+    go (nat_lt (key x) (key y)) refl (λ above. rises-put key x (key y + 1) ys rises above (sym (ap (λ b. b || has (key x) (map key ys)) (is_other (key y) (key x) other)) ∙ new)) other
+  where
+    go : (less : Bool) → nat_lt (key x) (key y) ≡ less → (key y + 1 ≤ key x → RisesFrom (key y + 1) (map key (put_rising key x ys))) → key y ≢ key x
+        → RisesFrom n (map key (if less then x ∷ y ∷ ys else y ∷ put_rising key x ys))
+    go true is more other = let less = ltb-true (key x) (key y) is in (low, (omega arith, rises))
+    go false is more other =
+        let above : key y + 1 ≤ key x = ⊎_elim (λ less. absurd (false≢true (sym is ∙ lt-ltb (key x) (key y) less))) (λ le. omega arith) (cases_lt (key x) (key y)) in
+        (first, more above)
+
+-- the least number that a rising list lacks
+pub least_missing_is : (n s : ℕ) (xs : List ℕ) → RisesFrom n xs → n ≤ s → has s xs ≡ false → ((u : ℕ) → n ≤ u → u < s → has u xs ≡ true) → least_missing n xs ≡ s
+least_missing_is n s [] rises low missing below =
+    ⊎_elim (λ less. absurd (false≢true (below n (omega arith) less))) (λ le. omega arith) (cases_lt n s)
+least_missing_is n s (x ∷ xs) (first, rises) low missing below =
+    let lacks : x ≢ s = λ same. false≢true (sym missing ∙ ap (λ b. b || has s xs) (eq-eqb x s same)) in
+    let missing_after : has s xs ≡ false = sym (ap (λ b. b || has s xs) (is_other x s lacks)) ∙ missing in
+    ⊎_elim
+    (λ same.
+    let higher : n + 1 ≤ s = omega (arith, lacks) in
+    let rises_after : RisesFrom (n + 1) xs = subst (λ k. RisesFrom (k + 1) xs) same rises in
+    ap (λ b. if b then least_missing (n + 1) xs else n) (eq-eqb x n same)
+    ∙ least_missing_is (n + 1) s xs rises_after higher missing_after
+    (λ u above less. sym (ap (λ b. b || has u xs) (is_other x u (λ e. absurd (omega arith)))) ∙ below u (omega arith) less))
+    (λ other.
+    let above : n < x = omega arith in
+    let absent : has n (x ∷ xs) ≡ false = none_below (n + 1) n (x ∷ xs) (omega arith, rises) (omega arith) in
+    ap (λ b. if b then least_missing (n + 1) xs else n) (is_other x n other)
+    ∙ ⊎_elim (λ less. absurd (false≢true (sym absent ∙ below n (omega arith) less))) (λ le. omega arith) (cases_lt n s))
+    (cases_eq x n)
+
+-- the rest of two rising lists with one head
+same_after : (x y : ℕ) (xs ys : List ℕ) (u : ℕ) → x ≡ y → RisesFrom (x + 1) xs → RisesFrom (x + 1) ys → has u (x ∷ xs) ≡ has u (y ∷ ys) → has u xs ≡ has u ys
+same_after x y xs ys u heads rises rises' same =
+    ⊎_elim
+    (λ here. let past : u < x + 1 = omega arith in none_below (x + 1) u xs rises past ∙ sym (none_below (x + 1) u ys rises' past))
+    (λ other.
+    sym (ap (λ b. b || has u xs) (is_other x u other)) ∙ same ∙ ap (λ b. b || has u ys) (is_other y u (λ e. other (heads ∙ e))))
+    (cases_eq x u)
+
+-- rising lists with other heads have other numbers
+heads_differ : (x y : ℕ) (xs ys : List ℕ) → RisesFrom (x + 1) xs → RisesFrom (y + 1) ys → x ≢ y → ((u : ℕ) → has u (x ∷ xs) ≡ has u (y ∷ ys)) → ⊥
+heads_differ x y xs ys rises rises' differ same =
+    ⊎_elim
+    (λ less.
+    let absent : has x (y ∷ ys) ≡ false = ap (λ b. b || has x ys) (is_other y x (λ e. differ (sym e))) ∙ none_below (y + 1) x ys rises' (omega arith) in
+    false≢true (sym absent ∙ sym (same x) ∙ ap (λ b. b || has x xs) (is_same x)))
+    (λ le.
+    let less : y < x = omega arith in
+    let absent : has y (x ∷ xs) ≡ false = ap (λ b. b || has y xs) (is_other x y differ) ∙ none_below (x + 1) y xs rises (omega arith) in
+    false≢true (sym absent ∙ same y ∙ ap (λ b. b || has y ys) (is_same y)))
+    (cases_lt x y)
+
+eq_comm : (a b : ℕ) → (a == b) ≡ (b == a)
+eq_comm a b = ⊎_elim (λ same. eq-eqb a b same ∙ sym (eq-eqb b a (sym same))) (λ other. is_other a b other ∙ sym (is_other b a (λ e. other (sym e)))) (cases_eq a b)
+
+some_none : {A : Type 0} {x : A} → Some x ≡ None → ⊥
+some_none {A} {x} e = cc
+
+-- where a block goes in before or after another one
+put_cases : (less : Bool) (b y : Block) (ys : List Block) (f : ℕ) → y.first ≢ b.first
+    → order_in (put_rising (λ x. x.first) b ys) f ≡ (if f == b.first then Some b.order else order_in ys f)
+    → order_in (if less then b ∷ y ∷ ys else y ∷ put_rising (λ x. x.first) b ys) f ≡ (if f == b.first then Some b.order else order_in (y ∷ ys) f)
+put_cases true b y ys f other after = ap (λ t. if t then Some b.order else order_in (y ∷ ys) f) (eq_comm b.first f)
+put_cases false b y ys f other after =
+    ⊎_elim
+    (λ here.
+    let not_new : (f == b.first) ≡ false = is_other f b.first (λ e. other (here ∙ e)) in
+    ap (λ t. if t then Some y.order else order_in (put_rising (λ x. x.first) b ys) f) (eq-eqb y.first f here)
+    ∙ sym (ap (λ t. if t then Some b.order else order_in (y ∷ ys) f) not_new ∙ ap (λ t. if t then Some y.order else order_in ys f) (eq-eqb y.first f here)))
+    (λ elsewhere.
+    let skip = is_other y.first f elsewhere in
+    ap (λ t. if t then Some y.order else order_in (put_rising (λ x. x.first) b ys) f) skip ∙ after
+    ∙ ap (λ o. if f == b.first then Some b.order else o) (sym (ap (λ t. if t then Some y.order else order_in ys f) skip)))
+    (cases_eq y.first f)
+
+-- two rising lists with the same numbers are one
+pub same_rising : (n : ℕ) (xs ys : List ℕ) → RisesFrom n xs → RisesFrom n ys → ((u : ℕ) → has u xs ≡ has u ys) → xs ≡ ys
+same_rising n [] [] _ _ _ = refl
+same_rising n [] (y ∷ ys) _ _ same = absurd (false≢true (same y ∙ ap (λ b. b || has y ys) (is_same y)))
+same_rising n (x ∷ xs) [] _ _ same = absurd (false≢true (sym (same x) ∙ ap (λ b. b || has x xs) (is_same x)))
+same_rising n (x ∷ xs) (y ∷ ys) (low, rises) (low', rises') same =
+    ⊎_elim
+    (λ heads.
+    let rises_y : RisesFrom (x + 1) ys = subst (λ k. RisesFrom (k + 1) ys) (sym heads) rises' in
+    let tails : (u : ℕ) → has u xs ≡ has u ys = λ u. same_after x y xs ys u heads rises rises_y (same u) in
+    ap (λ z. z ∷ xs) heads ∙ ap (λ zs. y ∷ zs) (same_rising (x + 1) xs ys rises rises_y tails))
+    (λ differ. absurd (heads_differ x y xs ys rises rises' differ same))
+    (cases_eq x y)
+
+-- order_in and a block put in at its place
+pub order_in-put : (b : Block) (bs : List Block) (f : ℕ) → order_in bs b.first ≡ None → order_in (put_rising (λ x. x.first) b bs) f ≡ (if f == b.first then Some b.order else order_in bs f)
+order_in-put b [] f new = ap (λ t. if t then Some b.order else None) (eq_comm b.first f)
+order_in-put b (y ∷ ys) f new =
+    let other : y.first ≢ b.first = λ same. absurd (some_none (sym (ap (λ t. if t then Some y.order else order_in ys b.first) (eq-eqb y.first b.first same)) ∙ new)) in
+    let new_after : order_in ys b.first ≡ None = sym (ap (λ t. if t then Some y.order else order_in ys b.first) (is_other y.first b.first other)) ∙ new in
+    put_cases (nat_lt b.first y.first) b y ys f other (order_in-put b ys f new_after)
+
+-- a rising list of blocks has a block at a frame exactly where it tells an order there
+pub has-order_in : (bs : List Block) (f : ℕ) → has f (map (λ b. b.first) bs) ≡ is_some (order_in bs f)
+has-order_in [] f = refl
+has-order_in (b ∷ bs) f = at_head (b.first == f) (has-order_in bs f)
+  where
+    at_head : (t : Bool) → has f (map (λ b. b.first) bs) ≡ is_some (order_in bs f) → (t || has f (map (λ b. b.first) bs)) ≡ is_some (if t then Some b.order else order_in bs f)
+    at_head true _ = refl
+    at_head false after = after
+
+-- and it tells none at a frame below
+pub order_below : (n f : ℕ) (bs : List Block) → RisesFrom n (map (λ b. b.first) bs) → f < n → order_in bs f ≡ None
+order_below n f [] _ _ = refl
+order_below n f (b ∷ bs) (low, rises) below =
+    ap (λ t. if t then Some b.order else order_in bs f) (is_other b.first f (λ e. absurd (omega arith))) ∙ order_below (b.first + 1) f bs rises (omega arith)
+
+block_same : (b c : Block) → b.first ≡ c.first → b.order ≡ c.order → b ≡ c
+block_same b c firsts orders = ap (λ f. block f b.order) firsts ∙ ap (λ k. block c.first k) orders
+
+-- what follows one head tells the same
+orders_after : (b c : Block) (bs cs : List Block) (f : ℕ) → b.first ≡ c.first → RisesFrom (b.first + 1) (map (λ x. x.first) bs) → RisesFrom (c.first + 1) (map (λ x. x.first) cs)
+    → order_in (b ∷ bs) f ≡ order_in (c ∷ cs) f → order_in bs f ≡ order_in cs f
+orders_after b c bs cs f firsts rises rises' same =
+    ⊎_elim
+    (λ here. order_below (b.first + 1) f bs rises (omega arith) ∙ sym (order_below (c.first + 1) f cs rises' (omega (arith, firsts))))
+    (λ other.
+    sym (ap (λ t. if t then Some b.order else order_in bs f) (is_other b.first f other)) ∙ same
+    ∙ ap (λ t. if t then Some c.order else order_in cs f) (is_other c.first f (λ e. other (firsts ∙ e))))
+    (cases_eq b.first f)
+
+-- two rising lists of blocks that tell the same orders are one
+pub same_blocks : (n : ℕ) (bs cs : List Block) → RisesFrom n (map (λ b. b.first) bs) → RisesFrom n (map (λ b. b.first) cs) → ((f : ℕ) → order_in bs f ≡ order_in cs f) → bs ≡ cs
+same_blocks n [] [] _ _ _ = refl
+same_blocks n [] (c ∷ cs) _ _ same = absurd (some_none (sym (same c.first ∙ ap (λ t. if t then Some c.order else order_in cs c.first) (is_same c.first))))
+same_blocks n (b ∷ bs) [] _ _ same = absurd (some_none (sym (ap (λ t. if t then Some b.order else order_in bs b.first) (is_same b.first)) ∙ same b.first))
+same_blocks n (b ∷ bs) (c ∷ cs) (low, rises) (low', rises') same =
+    let listed = same_rising n (map (λ b. b.first) (b ∷ bs)) (map (λ b. b.first) (c ∷ cs)) (low, rises) (low', rises')
+    (λ u. has-order_in (b ∷ bs) u ∙ ap is_some (same u) ∙ sym (has-order_in (c ∷ cs) u)) in
+    let firsts : b.first ≡ c.first = cc in
+    let told : Some b.order ≡ Some c.order =
+    sym (ap (λ t. if t then Some b.order else order_in bs b.first) (is_same b.first)) ∙ same b.first
+    ∙ ap (λ t. if t then Some c.order else order_in cs b.first) (eq-eqb c.first b.first (sym firsts)) in
+    let orders : b.order ≡ c.order = cc in
+    let rises_on : RisesFrom (b.first + 1) (map (λ x. x.first) cs) = subst (λ k. RisesFrom (k + 1) (map (λ x. x.first) cs)) (sym firsts) rises' in
+    let rest = same_blocks (b.first + 1) bs cs rises rises_on (λ f. orders_after b c bs cs f firsts rises rises' (same f)) in
+    ap (λ x. x ∷ bs) (block_same b c firsts orders) ∙ ap (λ xs. c ∷ xs) rest

@@ -1,0 +1,92 @@
+-- Worked traces and what they write, computed from the definitions: superblocks of order 3, two of them, two tenants.
+use Rattle.std.proofs.Common.{◌≡◌, ℕ, List, [], ◌∷◌, map, codes, refl}
+use Rattle.std.specs.Fmt.{digits}
+use Rattle.hex.specs.Hex.{encode_with}
+use Rattle.model_core.specs.Machine.{empty_machine, choice, taken_blocks}
+use Rattle.model_core.specs.Operations.{alloc_step, read_step, next_slot, after_grant}
+use Rattle.model_core.specs.Reach.{in_reach}
+use Rattle.words_core.specs.Grammar.{reading_of, judged, event_of, admin_command_of, command_of, grant_of, alloc_of, read_of}
+use Rattle.words_core.specs.Cutting.{lines_of_trace}
+use Rattle.words_core.specs.Words.{words_of}
+use Rattle.kernel_core.specs.Limits.{cache_limit}
+use Rattle.kernel_core.specs.PrivateStep.{Entry, command_step}
+use Rattle.kernel_core.specs.World.{opening_world, history, world_step, grant_step, tenant_step, answer}
+use Rattle.kernel_core.specs.Output.{output_of, line_step, reading_step, events_of, lines_for}
+use Rattle.kernel_core.specs.OwnList.{own_list}
+
+pub record Row : Type 0 where
+  pub trace : List ℕ
+  pub output : List ℕ
+
+abbrev pub rows : List Row
+rows =
+    record {
+      trace = codes "";
+      output = codes "";
+    }
+    ∷ record {
+      trace = codes "0 alloc 0\n";
+      output = codes "0> refused 1 NoFrames\n";
+    }
+    ∷ record {
+      trace = codes "admin grant 0\n0 alloc 0\n0 read 0 4\n";
+      output = codes "admin> granted 0 slot 0 superblock 0\n0> frame 0\n0> bytes 00000000\n";
+    }
+    ∷ record {
+      trace = codes "admin grant 0\n0 alloc 0\n0 alloc 1\n0 alloc 2\n0 alloc 0\n0 alloc 0\n0 alloc 4\n";
+      output = codes "admin> granted 0 slot 0 superblock 0\n0> frame 0\n0> frame 2\n0> frame 4\n0> frame 1\n0> refused 1 NoFrames\n0> refused 2 BadOrder\n";
+    }
+    ∷ record {
+      trace = codes "admin grant 0\n0 alloc 0\n0 alloc 0\n0 read 4095 2\n0 read 4095 1\n0 read 4294967295 64\n0 read 0 0\n0 read 4294967295 65\n";
+      output = codes "admin> granted 0 slot 0 superblock 0\n0> frame 0\n0> frame 1\n0> refused 4 OutOfReach\n0> bytes 00\n0> refused 4 OutOfReach\n0> refused 5 BadLength\n0> refused 5 BadLength\n";
+    }
+    ∷ record {
+      trace = codes "admin grant 1\nadmin grant 1\nadmin grant 0\n1 alloc 3\n1 alloc 3\n0 alloc 0\n";
+      output = codes "admin> granted 1 slot 0 superblock 0\nadmin> granted 1 slot 1 superblock 1\nadmin> refused 13 PoolEmpty\n1> frame 0\n1> frame 8\n0> refused 1 NoFrames\n";
+    }
+    ∷ record {
+      trace = codes "9 alloc 0\nadmin grant 9\nfrob\n0 frob\n0\n0 alloc\n0 alloc x\n0 alloc 4294967296\n00000000000 alloc 0\n# note\n\n";
+      output = codes "!> refused 12 NoTenant\nadmin> refused 12 NoTenant\n!> fault Unknown\n!> fault Unknown\n!> fault Words\n!> fault Words\n!> fault Number\n!> fault Number\n!> fault Number\n";
+    }
+    ∷ record {
+      trace = codes "0 alloc 0\r\n0 alloc 0";
+      output = codes "0> refused 1 NoFrames\n0> refused 1 NoFrames\n";
+    }
+    ∷ []
+
+-- what a trace writes on a new machine
+abbrev pub written : Row → List ℕ
+written r = output_of cache_limit 3 r.trace (opening_world 2 2)
+
+abbrev pub expected : Row → List ℕ
+expected r = r.output
+
+rows_are_written : map written rows ≡ map expected rows
+unfolding output_of opening_world line_step reading_step world_step grant_step tenant_step answer command_step alloc_step read_step next_slot after_grant in_reach choice taken_blocks empty_machine reading_of judged event_of admin_command_of command_of grant_of alloc_of read_of words_of digits encode_with
+rows_are_written = refl
+
+-- two traces in which tenant 0 does and is granted the same, and the others do much or nothing
+
+abbrev pub alone : List ℕ
+alone = codes "admin grant 0\n0 alloc 1\n0 read 8191 1\n0 alloc 3\n"
+
+abbrev pub among_others : List ℕ
+among_others = codes "admin grant 1\n1 alloc 0\n1 read 0 2\nadmin grant 0\n0 alloc 1\nfrob\nadmin grant 1\nadmin grant 0\n0 read 8191 1\n1 alloc 0\n0 alloc 3\n"
+
+abbrev pub own_list_of : List ℕ → List Entry
+own_list_of trace = own_list 0 (history cache_limit 3 (opening_world 2 2) (events_of (lines_of_trace trace)))
+
+abbrev pub lines_of_0 : List ℕ → List (List ℕ)
+lines_of_0 trace = lines_for 0 (output_of cache_limit 3 trace (opening_world 2 2))
+
+same_own_list : own_list_of alone ≡ own_list_of among_others
+unfolding output_of opening_world line_step reading_step world_step grant_step tenant_step answer command_step alloc_step read_step next_slot after_grant in_reach choice taken_blocks empty_machine reading_of judged event_of admin_command_of command_of grant_of alloc_of read_of words_of digits encode_with
+same_own_list = refl
+
+lines_alone : lines_of_0 alone ≡ codes "0> frame 0" ∷ codes "0> bytes 00" ∷ codes "0> refused 1 NoFrames" ∷ []
+unfolding output_of opening_world line_step reading_step world_step grant_step tenant_step answer command_step alloc_step read_step next_slot after_grant in_reach choice taken_blocks empty_machine reading_of judged event_of admin_command_of command_of grant_of alloc_of read_of words_of digits encode_with
+lines_alone = refl
+
+lines_among_others : lines_of_0 among_others ≡ codes "0> frame 0" ∷ codes "0> bytes 00" ∷ codes "0> refused 1 NoFrames" ∷ []
+unfolding output_of opening_world line_step reading_step world_step grant_step tenant_step answer command_step alloc_step read_step next_slot after_grant in_reach choice taken_blocks empty_machine reading_of judged event_of admin_command_of command_of grant_of alloc_of read_of words_of digits encode_with
+lines_among_others = refl

@@ -1,0 +1,128 @@
+-- In any run of the world a tenant's replies and machine are the private run of its own list.
+use Rattle.std.proofs.Common.{◌≡◌, ℕ, ◌<◌, ◌==◌, ◌≢◌, true, false, List, [], ◌∷◌, ◌++◌, Option, Some, None, is_none, position, slice_get, refl, ap, sym, subst, ◌∙◌, inl, inr, arith, append_assoc}
+use Rattle.std.proofs.lemmas.Bool.{cases_eq, eq-eqb}
+use Rattle.model_core.specs.Machine.{Machine, empty_machine}
+use Rattle.words_core.specs.declared.event.Event.{Event}
+use Rattle.words_core.specs.declared.event.Event.TheVariants as On
+use Rattle.words_core.specs.declared.event.AdminCommand.TheVariants as Do
+use Rattle.words_core.specs.declared.event.Command.{Command}
+use Rattle.kernel_core.specs.PrivateStep.{Entry, private_step}
+use Rattle.kernel_core.specs.PrivateRun.{private_run}
+use Rattle.kernel_core.specs.World.{World, WorldStep, answer, grant_step, tenant_step, world_step, history, world_after, opening_world}
+use Rattle.kernel_core.specs.OwnList.{own_entries, own_list, if_for, replies_to}
+use Rattle.kernel_core.specs.Laws.{IsPrivateRun, OwnRun, SameReplies, SameTexts, opening_history}
+use Rattle.kernel_core.specs.Output.{texts_for}
+use Rattle.kernel_core.proofs.MachineLists.{slice_get-set_same, slice_get-set_other, slice_get-replicate}
+
+-- what a step of the world did is to tenant t the private run of these entries
+abbrev pub Leaves : ℕ → ℕ → ℕ → List Entry → Machine → WorldStep → Type 0
+Leaves limit order t entries m s =
+    IsPrivateRun limit order entries m (if_for t s.reply.addressee s.reply.body) (slice_get s.world.machines t)
+
+-- one step of the world, of an event with the entries that it is to tenant t
+abbrev pub StepLeaves : ℕ → ℕ → ℕ → Event → Machine → WorldStep → Type 0
+StepLeaves limit order t event m s = Leaves limit order t (own_entries t event s.reply.body) m s
+
+pub is_same : (t : ℕ) → (t == t) ≡ true
+is_same t = eq-eqb t t refl
+
+pub is_other : (a b : ℕ) → a ≢ b → (a == b) ≡ false
+is_other a b other = grind (arith)
+
+tenant_same : (limit order t : ℕ) (command : Command) (w : World) (m : Machine) → slice_get w.machines t ≡ Some m
+    → StepLeaves limit order t (On.Tenant t command) m (tenant_step limit order t command w (Some m))
+unfolding tenant_step private_step
+tenant_same limit order t command w m here =
+    rw (is_same t) record { replies = refl; machine = slice_get-set_same w.machines t m _ here }
+
+tenant_other : (limit order t named : ℕ) (command : Command) (w : World) (m : Machine) (o : Option Machine) → slice_get w.machines t ≡ Some m → named ≢ t
+    → StepLeaves limit order t (On.Tenant named command) m (tenant_step limit order named command w o)
+unfolding tenant_step answer
+tenant_other limit order t named command w m None here other =
+    rw (is_other named t other) record { replies = refl; machine = here }
+tenant_other limit order t named command w m (Some n) here other =
+    rw (is_other named t other) record { replies = refl; machine = slice_get-set_other w.machines named t _ other ∙ here }
+
+grant_same : (limit order t : ℕ) (w : World) (m : Machine) (free : Option ℕ) → slice_get w.machines t ≡ Some m
+    → StepLeaves limit order t (On.Admin (Do.Grant t)) m (grant_step order t w (Some m) free)
+unfolding grant_step answer private_step
+grant_same limit order t w m None here = record { replies = refl; machine = here }
+grant_same limit order t w m (Some superblock) here =
+    rw (is_same t) record { replies = refl; machine = slice_get-set_same w.machines t m _ here }
+
+grant_other : (limit order t named : ℕ) (w : World) (m : Machine) (o : Option Machine) (free : Option ℕ) → slice_get w.machines t ≡ Some m → named ≢ t
+    → StepLeaves limit order t (On.Admin (Do.Grant named)) m (grant_step order named w o free)
+unfolding grant_step answer
+grant_other limit order t named w m None free here other = record { replies = refl; machine = here }
+grant_other limit order t named w m (Some n) None here other = record { replies = refl; machine = here }
+grant_other limit order t named w m (Some n) (Some superblock) here other =
+    rw (is_other named t other) record { replies = refl; machine = slice_get-set_other w.machines named t _ other ∙ here }
+
+-- one step of the world, to one tenant
+pub step_leaves : (limit order t : ℕ) (event : Event) (w : World) (m : Machine) → slice_get w.machines t ≡ Some m
+    → StepLeaves limit order t event m (world_step limit order event w)
+unfolding world_step
+step_leaves limit order t (On.Tenant named command) w m here =
+    elim (cases_eq named t) [
+      | inl same ↦ subst (λ n. StepLeaves limit order t (On.Tenant n command) m (world_step limit order (On.Tenant n command) w)) (sym same)
+          (subst (λ o. StepLeaves limit order t (On.Tenant t command) m (tenant_step limit order t command w o)) (sym here)
+          (tenant_same limit order t command w m here))
+      | inr other ↦ tenant_other limit order t named command w m (slice_get w.machines named) here other
+    ]
+step_leaves limit order t (On.Admin (Do.Grant named)) w m here =
+    elim (cases_eq named t) [
+      | inl same ↦ subst (λ n. StepLeaves limit order t (On.Admin (Do.Grant n)) m (world_step limit order (On.Admin (Do.Grant n)) w)) (sym same)
+          (subst (λ o. StepLeaves limit order t (On.Admin (Do.Grant t)) m (grant_step order t w o (position is_none w.owners))) (sym here)
+          (grant_same limit order t w m (position is_none w.owners) here))
+      | inr other ↦ grant_other limit order t named w m (slice_get w.machines named) (position is_none w.owners) here other
+    ]
+
+-- a private run of entries, and then of more
+machine-append : (limit order : ℕ) (xs ys : List Entry) (m : Machine)
+    → (private_run limit order (xs ++ ys) m).machine ≡ (private_run limit order ys (private_run limit order xs m).machine).machine
+machine-append limit order [] ys m = refl
+machine-append limit order (x ∷ xs) ys m = machine-append limit order xs ys (private_step limit order x m).machine
+
+replies-append : (limit order : ℕ) (xs ys : List Entry) (m : Machine)
+    → (private_run limit order (xs ++ ys) m).replies ≡ (private_run limit order xs m).replies ++ (private_run limit order ys (private_run limit order xs m).machine).replies
+replies-append limit order [] ys m = refl
+replies-append limit order (x ∷ xs) ys m =
+    ap (λ rs. (private_step limit order x m).replies ++ rs) (replies-append limit order xs ys (private_step limit order x m).machine)
+    ∙ sym (append_assoc (private_step limit order x m).replies _ _)
+
+join : {A : Type 0} {xs ys xs' ys' : List A} → xs ≡ xs' → ys ≡ ys' → xs ++ ys ≡ xs' ++ ys'
+join p q = cc
+
+-- a run of the world from any world in which the tenant has this machine
+pub run_leaves : (limit order t : ℕ) (events : List Event) (w : World) (m : Machine) → slice_get w.machines t ≡ Some m
+    → IsPrivateRun limit order (own_list t (history limit order w events)) m (replies_to t (history limit order w events))
+    (slice_get (world_after limit order w events).machines t)
+run_leaves limit order t [] w m here = record { replies = refl; machine = here }
+run_leaves limit order t (event ∷ events) w m here =
+    let step = step_leaves limit order t event w m here in
+    let own : List Entry = own_entries t event (world_step limit order event w).reply.body in
+    let rest = run_leaves limit order t events (world_step limit order event w).world (private_run limit order own m).machine step.machine in
+    record {
+      replies = join step.replies rest.replies ∙ sym (replies-append limit order own _ m);
+      machine = rest.machine ∙ ap Some (sym (machine-append limit order own _ m));
+    }
+
+pub opening-machine : (superblocks tenants t : ℕ) → t < tenants → slice_get (opening_world superblocks tenants).machines t ≡ Some empty_machine
+unfolding opening_world
+opening-machine superblocks tenants t here = slice_get-replicate tenants t empty_machine here
+
+pub own_run : OwnRun
+unfolding opening_history
+own_run limit order superblocks tenants t events here =
+    run_leaves limit order t events (opening_world superblocks tenants) empty_machine (opening-machine superblocks tenants t here)
+
+pub same_replies : SameReplies
+unfolding opening_history
+same_replies limit order superblocks tenants superblocks' tenants' t events events' same =
+    (own_run limit order superblocks tenants t events same.tenant).replies
+    ∙ ap (λ own. (private_run limit order own empty_machine).replies) same.own
+    ∙ sym (own_run limit order superblocks' tenants' t events' same.tenant').replies
+
+pub same_texts : SameTexts
+same_texts limit order superblocks tenants superblocks' tenants' t events events' same =
+    ap (texts_for t) (same_replies limit order superblocks tenants superblocks' tenants' t events events' same)

@@ -1,0 +1,193 @@
+-- The lines of a tenant in the output of a trace are the texts of the replies addressed to it.
+use Rattle.std.proofs.Common.{◌≡◌, ℕ, ◌<◌, ◌≤◌, ◌^◌, ◌≢◌, ◌==◌, nat_eq, Bool, true, false, List, [], ◌∷◌, ◌++◌, Option, Some, None, Result, Ok, Err, is_none, position, length, slice_get, map, filter, codes, decimal, refl, ap, sym, subst, ◌∙◌, inl, inr, arith, append_assoc}
+use Rattle.std.specs.List.{starts_with}
+use Rattle.std.proofs.lemmas.List.{append-nil, length-set, length-replicate}
+use Rattle.std.proofs.lemmas.List.Elements.{filter-append}
+use Rattle.std.proofs.lemmas.Grind.{flat_map-append}
+use Rattle.std.proofs.lemmas.Option.{slice_get_within}
+use Rattle.std.proofs.lemmas.Fmt.{decimal_injective}
+use Rattle.std.proofs.lemmas.Bool.{cases_eq}
+use Rattle.model_core.specs.Machine.{Machine, empty_machine}
+use Rattle.hex.specs.Hex.{encode_lower}
+use Rattle.words_core.specs.declared.event.Event.{Event}
+use Rattle.words_core.specs.declared.event.Event.TheVariants as On
+use Rattle.words_core.specs.declared.event.AdminCommand.TheVariants as Do
+use Rattle.words_core.specs.declared.event.Command.{Command}
+use Rattle.words_core.specs.declared.event.LineFault.{LineFault}
+use Rattle.words_core.specs.declared.reply.Addressee.{Addressee}
+use Rattle.words_core.specs.declared.reply.Addressee.TheVariants.{Admin, Nobody, Tenant}
+use Rattle.words_core.specs.declared.reply.Body.{Body}
+use Rattle.words_core.specs.declared.reply.Body.TheVariants.{Granted, Frame, Bytes, Refused, Fault}
+use Rattle.words_core.specs.declared.reply.Reply.{Reply}
+use Rattle.words_core.specs.Cutting.{lines_of_trace}
+use Rattle.words_core.specs.Grammar.{reading_of}
+use Rattle.words_core.specs.Texts.{addressee_text, body_texts, number_of_refusal, name_of_refusal, name_of_fault, text_of}
+use Rattle.kernel_core.specs.World.{World, WorldStep, answer, grant_step, tenant_step, world_step, history, opening_world}
+use Rattle.kernel_core.specs.OwnList.{if_for, replies_to}
+use Rattle.kernel_core.specs.Output.{reading_step, line_step, lines_step, output_of, event_in, events_of, lines_for, texts_for}
+use Rattle.kernel_core.specs.Laws.{OwnLines, SameLines, private_lines, opening_history}
+use Rattle.kernel_core.specs.PrivateRun.{private_run}
+use Rattle.kernel_core.proofs.TextLines.{AreTexts, body_text, addressee_is_text, cut_rows, decimal_digits, starts_same, starts_apart, starts_number}
+use Rattle.kernel_core.proofs.Runs as runs
+
+behind_2 : (front a b : List ℕ) → (front ++ a) ++ b ≡ front ++ (([] ++ a) ++ b)
+behind_2 front a b = append_assoc front a b
+
+behind_4 : (front a b c d : List ℕ) → (((front ++ a) ++ b) ++ c) ++ d ≡ front ++ (((([] ++ a) ++ b) ++ c) ++ d)
+behind_4 front a b c d = simp append_assoc
+
+behind_6 : (front a b c d e f : List ℕ) → (((((front ++ a) ++ b) ++ c) ++ d) ++ e) ++ f ≡ front ++ (((((([] ++ a) ++ b) ++ c) ++ d) ++ e) ++ f)
+behind_6 front a b c d e f = simp append_assoc
+
+alone : List ℕ → List (List ℕ)
+alone row = row ∷ []
+
+-- the rows of a reply are its body's, each behind the same front
+fronted : (front : List ℕ) (body : Body) → body_texts front body ≡ map (λ row. front ++ row) (body_texts [] body)
+unfolding alone
+fronted front (Granted tenant slot superblock) =
+    ap alone (behind_6 front (codes "granted ") (decimal tenant) (codes " slot ") (decimal slot) (codes " superblock ") (decimal superblock))
+fronted front (Frame frame) = ap alone (behind_2 front (codes "frame ") (decimal frame))
+fronted front (Bytes bytes) = ap alone (behind_2 front (codes "bytes ") (encode_lower bytes.items))
+fronted front (Refused refusal) =
+    ap alone (behind_4 front (codes "refused ") (decimal (number_of_refusal refusal)) (codes " ") (name_of_refusal refusal))
+fronted front (Fault fault) = ap alone (behind_2 front (codes "fault ") (name_of_fault fault))
+
+-- which rows behind one front are kept, where the front decides
+
+kept_all : (p : List ℕ → Bool) (front : List ℕ) (rows : List (List ℕ)) → ((row : List ℕ) → p (front ++ row) ≡ true)
+    → filter p (map (λ row. front ++ row) rows) ≡ map (λ row. front ++ row) rows
+kept_all p front [] h = refl
+kept_all p front (row ∷ rows) h = rw (h row) (ap (λ more. (front ++ row) ∷ more) (kept_all p front rows h))
+
+kept_none : (p : List ℕ → Bool) (front : List ℕ) (rows : List (List ℕ)) → ((row : List ℕ) → p (front ++ row) ≡ false)
+    → filter p (map (λ row. front ++ row) rows) ≡ []
+kept_none p front [] h = refl
+kept_none p front (row ∷ rows) h = rw (h row) (kept_none p front rows h)
+
+-- the row begins with the number of tenant t and `> `
+abbrev pub tells : ℕ → List ℕ → Bool
+tells t row = starts_with nat_eq row (decimal t ++ codes "> ")
+
+-- the tenant of an addressee, if it is one, has a number that `decimal` writes whole
+abbrev pub IsSmall : Addressee → Type 0
+IsSmall Admin = Unit {0}
+IsSmall Nobody = Unit {0}
+IsSmall (Tenant named) = named < 2 ^ 64
+
+false_unless : (b : Bool) → (b ≡ true → ⊥) → b ≡ false
+false_unless true h = absurd (h refl)
+false_unless false h = refl
+
+row_of_other : (t named : ℕ) (row : List ℕ) → t < 2 ^ 64 → named < 2 ^ 64 → named ≢ t → tells t ((decimal named ++ codes "> ") ++ row) ≡ false
+row_of_other t named row small small' other =
+    ap (tells t) (append_assoc (decimal named) (codes "> ") row)
+    ∙ false_unless (tells t (decimal named ++ (codes "> " ++ row))) (λ found.
+    other (sym (decimal_injective t named small small'
+    (starts_number (decimal named) (decimal t) (32 ∷ []) (32 ∷ row) (decimal_digits named) (decimal_digits t) found))))
+
+rows_same : (t : ℕ) (body : Body) → filter (tells t) (body_texts (addressee_text (Tenant t)) body) ≡ texts_for t (if_for t (Tenant t) body)
+rows_same t body =
+    rw (runs.is_same t)
+    (ap (filter (tells t)) (fronted (addressee_text (Tenant t)) body)
+    ∙ kept_all (tells t) (addressee_text (Tenant t)) _ (λ row. starts_same (addressee_text (Tenant t)) row)
+    ∙ sym (fronted (addressee_text (Tenant t)) body)
+    ∙ sym (append-nil (body_texts (addressee_text (Tenant t)) body)))
+
+-- of the rows of a reply those are kept that are for tenant t
+rows_for : (t : ℕ) (addressee : Addressee) (body : Body) → t < 2 ^ 64 → IsSmall addressee
+    → filter (tells t) (body_texts (addressee_text addressee) body) ≡ texts_for t (if_for t addressee body)
+rows_for t Admin body small small' =
+    ap (filter (tells t)) (fronted (codes "admin> ") body)
+    ∙ kept_none (tells t) (codes "admin> ") _ (λ row. starts_apart 97 (codes "dmin> " ++ row) (decimal t) (32 ∷ []) refl refl (decimal_digits t))
+rows_for t Nobody body small small' =
+    ap (filter (tells t)) (fronted (codes "!> ") body)
+    ∙ kept_none (tells t) (codes "!> ") _ (λ row. starts_apart 33 (codes "> " ++ row) (decimal t) (32 ∷ []) refl refl (decimal_digits t))
+rows_for t (Tenant named) body small small' =
+    elim (cases_eq named t) [
+      | inl same ↦ subst (λ n. filter (tells t) (body_texts (addressee_text (Tenant n)) body) ≡ texts_for t (if_for t (Tenant n) body)) (sym same) (rows_same t body)
+      | inr other ↦
+          let unlike : (named == t) ≡ false = runs.is_other named t other in
+          rw unlike
+          (ap (filter (tells t)) (fronted (addressee_text (Tenant named)) body)
+          ∙ kept_none (tells t) (addressee_text (Tenant named)) _ (λ row. row_of_other t named row small small' other))
+    ]
+
+-- a reply is told in rows without LF
+texts_of_reply : (reply : Reply) → AreTexts (body_texts (addressee_text reply.addressee) reply.body)
+texts_of_reply reply = body_text _ reply.body (addressee_is_text reply.addressee)
+
+-- the lines of tenant t in the text of a reply and what follows
+reply_lines : (t : ℕ) (reply : Reply) (rest : List ℕ) → t < 2 ^ 64 → IsSmall reply.addressee
+    → lines_for t (text_of reply ++ rest) ≡ texts_for t (if_for t reply.addressee reply.body) ++ lines_for t rest
+reply_lines t reply rest small small' =
+    ap (filter (tells t)) (cut_rows (body_texts (addressee_text reply.addressee) reply.body) rest (texts_of_reply reply))
+    ∙ filter-append (tells t) (body_texts (addressee_text reply.addressee) reply.body) (lines_of_trace rest)
+    ∙ ap (λ rows. rows ++ lines_for t rest) (rows_for t reply.addressee reply.body small small')
+
+-- what a step of the world keeps: the tenants, and that it answers tenants of the world alone
+
+pub record StaysNumbered (w : World) (s : WorldStep) : Type 0 where
+  pub tenants : length s.world.machines ≡ length w.machines
+  pub addressee : length w.machines ≤ 2 ^ 64 → IsSmall s.reply.addressee
+
+tenant_stays : (limit order named : ℕ) (command : Command) (w : World) (o : Option Machine) → slice_get w.machines named ≡ o
+    → StaysNumbered w (tenant_step limit order named command w o)
+unfolding tenant_step answer
+tenant_stays limit order named command w None is = record { tenants = refl; addressee = λ many. tt }
+tenant_stays limit order named command w (Some m) is = record {
+  tenants = length-set w.machines named _;
+  addressee = λ many. let within : named < length w.machines = slice_get_within w.machines named m is in omega arith;
+}
+
+grant_stays : (order named : ℕ) (w : World) (o : Option Machine) (free : Option ℕ) → StaysNumbered w (grant_step order named w o free)
+unfolding grant_step answer
+grant_stays order named w None free = record { tenants = refl; addressee = λ many. tt }
+grant_stays order named w (Some m) None = record { tenants = refl; addressee = λ many. tt }
+grant_stays order named w (Some m) (Some superblock) = record { tenants = length-set w.machines named _; addressee = λ many. tt }
+
+step_stays : (limit order : ℕ) (event : Event) (w : World) → StaysNumbered w (world_step limit order event w)
+unfolding world_step
+step_stays limit order (On.Tenant named command) w = tenant_stays limit order named command w (slice_get w.machines named) refl
+step_stays limit order (On.Admin (Do.Grant named)) w = grant_stays order named w (slice_get w.machines named) (position is_none w.owners)
+
+-- lines tell tenant t, from each world of at most 2 ^ 64 tenants, the replies of their events that are addressed to it
+abbrev pub Tell : ℕ → ℕ → ℕ → List (List ℕ) → Type 0
+Tell limit order t lines = (w : World) → length w.machines ≤ 2 ^ 64
+    → lines_for t (lines_step limit order lines w).written ≡ texts_for t (replies_to t (history limit order w (events_of lines)))
+
+-- so do they behind one more line
+reading_tells : (limit order t : ℕ) (reading : Result (Option Event) LineFault) (lines : List (List ℕ)) (w : World) → t < 2 ^ 64
+    → length w.machines ≤ 2 ^ 64 → Tell limit order t lines
+    → lines_for t ((reading_step limit order reading w).written ++ (lines_step limit order lines (reading_step limit order reading w).world).written)
+    ≡ texts_for t (replies_to t (history limit order w (event_in reading ++ events_of lines)))
+unfolding reading_step
+reading_tells limit order t (Ok None) lines w small many more = more w many
+reading_tells limit order t (Ok (Some event)) lines w small many more =
+    let stays = step_stays limit order event w in
+    let s : WorldStep = world_step limit order event w in
+    reply_lines t s.reply _ small (stays.addressee many)
+    ∙ ap (λ rows. texts_for t (if_for t s.reply.addressee s.reply.body) ++ rows) (more s.world (omega (arith, stays.tenants)))
+    ∙ sym (flat_map-append (body_texts (addressee_text (Tenant t))) (if_for t s.reply.addressee s.reply.body) _)
+reading_tells limit order t (Err fault) lines w small many more =
+    reply_lines t (record { addressee = Nobody; body = Fault fault }) _ small tt ∙ more w many
+
+lines_tell : (limit order t : ℕ) (lines : List (List ℕ)) → t < 2 ^ 64 → Tell limit order t lines
+unfolding line_step
+lines_tell limit order t [] small w many = refl
+lines_tell limit order t (line ∷ lines) small w many =
+    reading_tells limit order t (reading_of line) lines w small many (lines_tell limit order t lines small)
+
+pub own_lines : OwnLines
+unfolding output_of private_lines opening_history opening_world
+own_lines limit order superblocks tenants t trace many here =
+    lines_tell limit order t (lines_of_trace trace) (omega arith) (opening_world superblocks tenants)
+    (omega (arith, length-replicate tenants empty_machine))
+    ∙ ap (texts_for t) (runs.own_run limit order superblocks tenants t (events_of (lines_of_trace trace)) here).replies
+
+pub same_lines : SameLines
+unfolding private_lines
+same_lines limit order superblocks tenants superblocks' tenants' t trace trace' many many' same =
+    own_lines limit order superblocks tenants t trace many same.tenant
+    ∙ ap (λ own. texts_for t (private_run limit order own empty_machine).replies) same.own
+    ∙ sym (own_lines limit order superblocks' tenants' t trace' many' same.tenant')

@@ -1,0 +1,191 @@
+-- The lines of a reply: none holds an LF, so cutting gives them back; and each tells by its beginning to whom it is addressed.
+use Rattle.std.proofs.Common.{◌≡◌, ℕ, zero, suc, ◌+◌, slice_index, ◌<◌, ◌≤◌, ◌≢◌, ◌==◌, ◌/◌, ◌%◌, ◌&&◌, not, nat_eq, nat_le, Bool, true, false, if◌then◌else◌, List, [], ◌∷◌, ◌++◌, map, codes, decimal, refl, ap, sym, subst, ◌∙◌, arith, append_assoc}
+use Rattle.std.specs.List.{list_all, concat, starts_with, onto_first}
+use Rattle.std.specs.Fmt.{digits, digits_onto, digit_glyph}
+use Rattle.std.proofs.lemmas.List.Folds.{list_all-append}
+use Rattle.std.proofs.lemmas.Bool.{eq-eqb, eqb-true, lt-ltb, le-leb, leb-true}
+use Rattle.std.proofs.lemmas.Bool.Decides.{nat_tests}
+use Rattle.hex.specs.Hex.{encode_with, lower_digits, encode_lower}
+use Rattle.words_core.specs.declared.event.LineFault.TheVariants.{Long, Unknown, Words, Number, Hex}
+use Rattle.words_core.specs.declared.reply.Addressee.{Addressee}
+use Rattle.words_core.specs.declared.reply.Addressee.TheVariants.{Admin, Nobody, Tenant}
+use Rattle.words_core.specs.declared.reply.Body.{Body}
+use Rattle.words_core.specs.declared.reply.Body.TheVariants.{Granted, Frame, Bytes, Refused, Fault}
+use Rattle.words_core.specs.declared.reply.Refusal.{Refusal}
+use Rattle.words_core.specs.declared.event.LineFault.{LineFault}
+use Rattle.words_core.specs.declared.reply.Refusal.TheVariants.{NoFrames, BadOrder, NotABlock, OutOfReach, BadLength, BadSize, BadAlign, NoCacheSlot, NoCache, CacheInUse, NotAnObject, NoTenant, PoolEmpty, NoSlot, SlotBusy}
+use Rattle.words_core.specs.Cutting.{lines_of_trace}
+use Rattle.words_core.specs.Texts.{addressee_text, body_texts, number_of_refusal, name_of_refusal, name_of_fault}
+
+-- a byte that is no LF
+abbrev pub is_text : ℕ → Bool
+is_text b = not (b == 10)
+
+abbrev pub is_digit : ℕ → Bool
+is_digit b = nat_le 48 b && nat_le b 57
+
+-- a row without LF
+pub record IsText (row : List ℕ) : Type 0 where
+  pub all : list_all is_text row ≡ true
+
+-- all rows are without LF
+abbrev pub AreTexts : List (List ℕ) → Type 0
+AreTexts [] = Unit {0}
+AreTexts (row ∷ rows) = IsText row × AreTexts rows
+
+both_true : (a b : Bool) → a ≡ true → b ≡ true → (a && b) ≡ true
+both_true a b p q = rw (p, q) refl
+
+first_true : (a b : Bool) → (a && b) ≡ true → a ≡ true
+first_true true b h = refl
+first_true false b h = h
+
+second_true : (a b : Bool) → (a && b) ≡ true → b ≡ true
+second_true true b h = h
+second_true false b h = cc
+
+not_true : (b : Bool) → not b ≡ true → b ≡ false
+not_true true h = cc
+not_true false h = refl
+
+-- decimals
+
+glyph_digit : (d : ℕ) → d < 10 → is_digit (digit_glyph false d) ≡ true
+glyph_digit d h = rw (lt-ltb d 10 h) (both_true _ _ (le-leb 48 (48 + d) (omega arith)) (le-leb (48 + d) 57 (omega arith)))
+
+digits_onto_are : (k n : ℕ) (acc : List ℕ) → list_all is_digit acc ≡ true → list_all is_digit (digits_onto k 10 false n acc) ≡ true
+digits_onto_are zero n acc h = h
+digits_onto_are (suc k) n acc h =
+    let one : list_all is_digit (digit_glyph false (n % 10) ∷ acc) ≡ true = both_true _ _ (glyph_digit (n % 10) (omega arith)) h in
+    elim (n / 10 == 0) as (λ b. list_all is_digit (if b then digit_glyph false (n % 10) ∷ acc else digits_onto k 10 false (n / 10) (digit_glyph false (n % 10) ∷ acc)) ≡ true) [
+      | true ↦ one
+      | false ↦ digits_onto_are k (n / 10) (digit_glyph false (n % 10) ∷ acc) one
+    ]
+
+pub decimal_digits : (n : ℕ) → list_all is_digit (decimal n) ≡ true
+unfolding digits
+decimal_digits n = digits_onto_are 64 n [] refl
+
+digit_text : (d : ℕ) → is_digit d ≡ true → is_text d ≡ true
+digit_text d h =
+    let low : 48 ≤ d = leb-true 48 d (first_true (nat_le 48 d) _ h) in
+    let other : (d == 10) ≡ false = grind (arith, nat_tests) in
+    rw other refl
+
+digits_texts : (ds : List ℕ) → list_all is_digit ds ≡ true → list_all is_text ds ≡ true
+digits_texts [] h = refl
+digits_texts (d ∷ ds) h =
+    both_true _ _ (digit_text d (first_true (is_digit d) _ h)) (digits_texts ds (second_true (is_digit d) _ h))
+
+decimal_text : (n : ℕ) → list_all is_text (decimal n) ≡ true
+decimal_text n = digits_texts (decimal n) (decimal_digits n)
+
+-- bytes in hex
+
+at_text : (xs : List ℕ) (i : ℕ) → list_all is_text xs ≡ true → is_text (slice_index xs i) ≡ true
+at_text [] i h = refl
+at_text (x ∷ xs) zero h = first_true (is_text x) _ h
+at_text (x ∷ xs) (suc i) h = at_text xs i (second_true (is_text x) _ h)
+
+nibble_text : (i : ℕ) → is_text (slice_index lower_digits i) ≡ true
+nibble_text i = at_text lower_digits i refl
+
+hex_text : (bytes : List ℕ) → list_all is_text (encode_lower bytes) ≡ true
+unfolding encode_with
+hex_text [] = refl
+hex_text (b ∷ bytes) = both_true _ _ (nibble_text (b / 16)) (both_true _ _ (nibble_text (b % 16)) (hex_text bytes))
+
+-- a text and its LF in front of the rest are cut off as one line
+cut_one : (text rest : List ℕ) → list_all is_text text ≡ true → lines_of_trace ((text ++ 10 ∷ []) ++ rest) ≡ text ∷ lines_of_trace rest
+cut_one [] rest h = refl
+cut_one (b ∷ text) rest h =
+    let other : (b == 10) ≡ false = not_true (b == 10) (first_true (is_text b) _ h) in
+    rw other (ap (onto_first b) (cut_one text rest (second_true (is_text b) _ h)))
+
+pub cut_rows : (rows : List (List ℕ)) (rest : List ℕ) → AreTexts rows
+    → lines_of_trace (concat (map (λ text. text ++ 10 ∷ []) rows) ++ rest) ≡ rows ++ lines_of_trace rest
+cut_rows [] rest h = refl
+cut_rows (row ∷ rows) rest h =
+    ap lines_of_trace (append_assoc (row ++ 10 ∷ []) _ rest)
+    ∙ cut_one row _ h.0.all
+    ∙ ap (λ lines. row ∷ lines) (cut_rows rows rest h.1)
+
+refusal_text : (refusal : Refusal) → list_all is_text (name_of_refusal refusal) ≡ true
+refusal_text NoFrames = refl
+refusal_text BadOrder = refl
+refusal_text NotABlock = refl
+refusal_text OutOfReach = refl
+refusal_text BadLength = refl
+refusal_text BadSize = refl
+refusal_text BadAlign = refl
+refusal_text NoCacheSlot = refl
+refusal_text NoCache = refl
+refusal_text CacheInUse = refl
+refusal_text NotAnObject = refl
+refusal_text NoTenant = refl
+refusal_text PoolEmpty = refl
+refusal_text NoSlot = refl
+refusal_text SlotBusy = refl
+
+fault_text : (fault : LineFault) → list_all is_text (name_of_fault fault) ≡ true
+fault_text Long = refl
+fault_text Unknown = refl
+fault_text Words = refl
+fault_text Number = refl
+fault_text Hex = refl
+
+-- a text goes on with one more piece
+with_piece : {front : List ℕ} → IsText front → (more : List ℕ) → list_all is_text more ≡ true → IsText (front ++ more)
+with_piece {front} text more h = record { all = list_all-append is_text front more ∙ both_true _ _ text.all h }
+
+with_number : {front : List ℕ} → IsText front → (n : ℕ) → IsText (front ++ decimal n)
+with_number text n = with_piece text (decimal n) (decimal_text n)
+
+pub body_text : (front : List ℕ) (body : Body) → IsText front → AreTexts (body_texts front body)
+body_text front (Granted tenant slot superblock) h =
+    let of_tenant = with_number (with_piece h (codes "granted ") refl) tenant in
+    let of_slot = with_number (with_piece of_tenant (codes " slot ") refl) slot in
+    (with_number (with_piece of_slot (codes " superblock ") refl) superblock, tt)
+body_text front (Frame frame) h = (with_number (with_piece h (codes "frame ") refl) frame, tt)
+body_text front (Bytes bytes) h = (with_piece (with_piece h (codes "bytes ") refl) (encode_lower bytes.items) (hex_text bytes.items), tt)
+body_text front (Refused refusal) h =
+    let of_number = with_number (with_piece h (codes "refused ") refl) (number_of_refusal refusal) in
+    (with_piece (with_piece of_number (codes " ") refl) (name_of_refusal refusal) (refusal_text refusal), tt)
+body_text front (Fault fault) h = (with_piece (with_piece h (codes "fault ") refl) (name_of_fault fault) (fault_text fault), tt)
+
+pub addressee_is_text : (addressee : Addressee) → IsText (addressee_text addressee)
+addressee_is_text Admin = record { all = refl }
+addressee_is_text Nobody = record { all = refl }
+addressee_is_text (Tenant tenant) = with_piece (record { all = decimal_text tenant }) (codes "> ") refl
+
+-- whom a row is addressed to
+
+differ : (a b : ℕ) → a ≢ b → nat_eq a b ≡ false
+differ a b h = grind (arith, nat_tests)
+
+pub starts_same : (front rest : List ℕ) → starts_with nat_eq (front ++ rest) front ≡ true
+starts_same [] rest = refl
+starts_same (b ∷ front) rest = both_true _ _ (eq-eqb b b refl) (starts_same front rest)
+
+-- a row that begins with a byte that is no digit and no `>` begins with no number and `>`
+pub starts_apart : (b : ℕ) (rest ds tail : List ℕ) → is_digit b ≡ false → (62 == b) ≡ false → list_all is_digit ds ≡ true
+    → starts_with nat_eq (b ∷ rest) (ds ++ 62 ∷ tail) ≡ false
+starts_apart b rest [] tail unlike apart h = rw apart refl
+starts_apart b rest (d ∷ ds) tail unlike apart h =
+    let other : nat_eq d b ≡ false = differ d b (λ e. cc (unlike, subst (λ x. is_digit x ≡ true) e (first_true (is_digit d) _ h))) in
+    rw other refl
+
+-- `>` is no digit
+no_mark : (d : ℕ) → is_digit d ≡ true → d ≡ 62 → ⊥
+no_mark d h e = let wrong : false ≡ true = subst (λ x. is_digit x ≡ true) e h in cc
+
+-- a row that begins with a number and `>` begins with no other number and `>`
+pub starts_number : (ds es tail rest : List ℕ) → list_all is_digit ds ≡ true → list_all is_digit es ≡ true
+    → starts_with nat_eq (ds ++ 62 ∷ rest) (es ++ 62 ∷ tail) ≡ true → es ≡ ds
+starts_number [] [] tail rest h g found = refl
+starts_number [] (e ∷ es) tail rest h g found = absurd (no_mark e (first_true (is_digit e) _ g) (eqb-true e 62 (first_true (nat_eq e 62) _ found)))
+starts_number (d ∷ ds) [] tail rest h g found = absurd (no_mark d (first_true (is_digit d) _ h) (sym (eqb-true 62 d (first_true (nat_eq 62 d) _ found))))
+starts_number (d ∷ ds) (e ∷ es) tail rest h g found =
+    let same = eqb-true e d (first_true (nat_eq e d) _ found) in
+    let more = starts_number ds es tail rest (second_true (is_digit d) _ h) (second_true (is_digit e) _ g) (second_true (nat_eq e d) _ found) in
+    cc

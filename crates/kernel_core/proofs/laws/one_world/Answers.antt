@@ -1,0 +1,5 @@
+use Rattle.kernel_core.proofs.OneWorld.{one_world}
+use Rattle.kernel_core.proofs.laws.one_world.Goals as goal
+
+pub returns : goal.returns
+returns c = one_world

@@ -1,0 +1,11 @@
+pub mod Limits
+pub mod PrivateStep
+pub mod PrivateRun
+pub mod World
+pub mod OwnList
+pub mod Output
+pub mod Laws
+pub mod Parts
+pub mod Shows
+pub mod Booting
+pub mod Steps

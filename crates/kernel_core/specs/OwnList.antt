@@ -1,0 +1,46 @@
+-- What of a run concerns one tenant: the entries for its machine, and the replies addressed to it.
+use Rattle.std.specs.Prelude.{ℕ, ◌==◌, List, [], ◌∷◌, ◌++◌, Bool, true, false, if◌then◌else◌}
+use Rattle.words_core.specs.declared.event.Event.{Event}
+use Rattle.words_core.specs.declared.event.Event.TheVariants as On
+use Rattle.words_core.specs.declared.event.AdminCommand.TheVariants as Do
+use Rattle.words_core.specs.declared.reply.Addressee.{Addressee}
+use Rattle.words_core.specs.declared.reply.Addressee.TheVariants as To
+use Rattle.words_core.specs.declared.reply.Body.{Body}
+use Rattle.words_core.specs.declared.reply.Body.TheVariants.{Granted, Frame, Bytes, Refused, Fault}
+use Rattle.kernel_core.specs.PrivateStep.{Entry, Ask, Grant}
+use Rattle.kernel_core.specs.World.{Exchange}
+
+abbrev pub is_refused : Body → Bool
+is_refused (Granted tenant slot superblock) = false
+is_refused (Frame first) = false
+is_refused (Bytes bytes) = false
+is_refused (Refused refusal) = true
+is_refused (Fault fault) = false
+
+-- the entry, where the number that the event names is the tenant's
+abbrev pub if_named : ℕ → ℕ → Entry → List Entry
+if_named t named entry = if named == t then entry ∷ [] else []
+
+-- the entry, where moreover the administrator was not refused
+abbrev pub if_granted : ℕ → ℕ → Body → Entry → List Entry
+if_granted t named body entry = if is_refused body then [] else if_named t named entry
+
+-- what an event with its reply is to the machine of tenant t; superblock numbers do not stand in it
+abbrev pub own_entries : ℕ → Event → Body → List Entry
+own_entries t (On.Tenant named command) body = if_named t named (Ask command)
+own_entries t (On.Admin (Do.Grant named)) body = if_granted t named body Grant
+
+-- the tenant's own list: its commands, and what was granted to it, taken back and reset
+abbrev pub own_list : ℕ → List Exchange → List Entry
+own_list t [] = []
+own_list t (e ∷ es) = own_entries t e.event e.reply.body ++ own_list t es
+
+abbrev pub if_for : ℕ → Addressee → Body → List Body
+if_for t To.Admin body = []
+if_for t To.Nobody body = []
+if_for t (To.Tenant named) body = if named == t then body ∷ [] else []
+
+-- the replies addressed to tenant t
+abbrev pub replies_to : ℕ → List Exchange → List Body
+replies_to t [] = []
+replies_to t (e ∷ es) = if_for t e.reply.addressee e.reply.body ++ replies_to t es

@@ -1,0 +1,12 @@
+-- The private machine of one tenant, over a list of entries.
+use Rattle.std.specs.Prelude.{ℕ, List, [], ◌∷◌, ◌++◌}
+use Rattle.model_core.specs.Machine.{Machine}
+use Rattle.kernel_core.specs.PrivateStep.{Entry, Told, private_step}
+
+-- the replies to the tenant's commands, in order, and the last machine
+abbrev pub private_run : ℕ → ℕ → List Entry → Machine → Told
+private_run limit order [] m = record { replies = []; machine = m }
+private_run limit order (entry ∷ entries) m = record {
+  replies = (private_step limit order entry m).replies ++ (private_run limit order entries (private_step limit order entry m).machine).replies;
+  machine = (private_run limit order entries (private_step limit order entry m).machine).machine;
+}

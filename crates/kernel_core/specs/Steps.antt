@@ -1,0 +1,36 @@
+-- What one event does to a kernel, and what one command of a tenant does to what that tenant has.
+use Rattle.std.specs.Prelude.{◌≡◌, ◌≢◌, ℕ, ◌==◌, Bool, true, false}
+use Rattle.words_core.specs.declared.event.Event.{Event}
+use Rattle.words_core.specs.declared.event.Event.TheVariants as On
+use Rattle.words_core.specs.declared.event.AdminCommand.TheVariants as Do
+use Rattle.words_core.specs.declared.event.Command.{Command}
+use Rattle.words_core.specs.declared.reply.Body.{Body}
+use Rattle.words_core.specs.declared.reply.Reply.{Reply}
+use Rattle.model_core.specs.Machine.{Machine}
+use Rattle.kernel_core.specs.Limits.{cache_limit}
+use Rattle.kernel_core.specs.PrivateStep.{command_step}
+use Rattle.kernel_core.specs.World.{World, world_step}
+use Rattle.kernel_core.specs.OwnList.{is_refused}
+use Rattle.kernel_core.specs.Parts.{Parts, Keeps}
+use Rattle.kernel_core.specs.Shows.{Shows, ShowsMachine}
+
+-- the event names tenant t
+abbrev pub is_named : ℕ → Event → Bool
+is_named t (On.Tenant tenant command) = tenant == t
+is_named t (On.Admin (Do.Grant tenant)) = tenant == t
+
+-- the event is a step of whichever world the parts show
+pub record Steps (old : Parts) (event : Event) (new : Parts) (reply : Reply) : Type 0 where
+  pub order : new.order ≡ old.order
+  pub shows : (w : World) → Shows old w → Shows new (world_step cache_limit old.order event w).world
+  pub answer : (w : World) → Shows old w → reply ≡ (world_step cache_limit old.order event w).reply
+  pub refused : is_refused reply.body ≡ true → new ≡ old
+  pub others : (t : ℕ) → is_named t event ≡ false → Keeps old new t
+
+-- the command is a step of whichever machine the parts show for the tenant
+pub record StepsMachine (old : Parts) (t : ℕ) (command : Command) (new : Parts) (body : Body) : Type 0 where
+  pub kept : new ≡ record old { marks = new.marks }
+  pub shows : (m : Machine) → ShowsMachine old t m → ShowsMachine new t (command_step cache_limit old.order command m).machine
+  pub answer : (m : Machine) → ShowsMachine old t m → body ≡ (command_step cache_limit old.order command m).answer
+  pub refused : is_refused body ≡ true → new ≡ old
+  pub others : (u : ℕ) → u ≢ t → Keeps old new u
