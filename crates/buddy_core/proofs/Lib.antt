@@ -19,3 +19,4 @@ pub mod Granting
 pub mod Dropping
 pub mod Empty
 pub mod Resetting
+pub mod TakenLaws

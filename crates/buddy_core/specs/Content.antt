@@ -1,7 +1,7 @@
 -- What the buddy system holds, tenant by tenant: slots with the superblocks under them, and taken
 -- blocks. Free blocks are not part of it: they follow from the held slots and the taken blocks.
-use Rattle.std.specs.Prelude.{ℕ, zero, suc, ◌+◌, ◌*◌, ◌^◌, ◌==◌, Bool, false, if◌then◌else◌, Option, Some, None, is_some, List, [], replicate, slice_index_or, slice_set, count_by}
-use Rattle.model_core.specs.Blocks.{Taken, block, IsSound}
+use Rattle.std.specs.Prelude.{ℕ, zero, suc, ◌≡◌, ◌+◌, ◌*◌, ◌^◌, ◌<◌, ◌≤◌, ◌==◌, Bool, false, if◌then◌else◌, Option, Some, None, is_some, List, [], length, replicate, slice_index_or, slice_set, count_by}
+use Rattle.model_core.specs.Blocks.{Taken, with_taken, without_taken, block, IsSound}
 use Rattle.model_core.specs.Choice.{is_free}
 
 -- one tenant: the superblock under each slot, and at each frame the order of the taken block that begins there
@@ -80,3 +80,18 @@ taken_blocks k h = count_by (has_order k) h.taken
 
 abbrev pub held_slots : Holding → ℕ
 held_slots h = count_by is_some h.slots
+
+-- how long the lists are
+pub record IsSized (c : Content) : Type 0 where
+  pub small : c.top ≤ 8
+  pub few : c.superblocks ≤ 256
+  pub slots : (t : ℕ) → t < length c.tenants → length (holding_of t c).slots ≡ c.superblocks
+  pub taken : (t : ℕ) → t < length c.tenants → length (holding_of t c).taken ≡ c.superblocks * 2 ^ c.top
+
+-- a block more in a tenant's table is a block more among its taken blocks
+abbrev pub WithBlockTakes : Type 0
+WithBlockTakes = (h : Holding) (f k : ℕ) → f < length h.taken → taken_of (with_block f k h) ≡ with_taken (taken_of h) f k
+
+-- a block less in the table is a block less among the taken blocks
+abbrev pub WithoutBlockFrees : Type 0
+WithoutBlockFrees = (h : Holding) (f : ℕ) → taken_of (without_block f h) ≡ without_taken (taken_of h) f

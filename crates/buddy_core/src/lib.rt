@@ -12,7 +12,7 @@
 
 ghost use Rattle.std.specs.Prelude.{◌≡◌, ℕ, ◌+◌, ◌*◌, ◌/◌, ◌^◌, ◌<◌, ◌≤◌, Some, None, List, length, slice_index, MatchOption, IfOk, OnOk, OnErr, IfNone, IfSome, OnSome, IsSome};
 ghost use Rattle.model_core.specs.Blocks.{Block, block, HasFrame, IsTaken, HasTaken, slot_block, IsChoice, IsWithout};
-ghost use Rattle.buddy_core.specs.Content.{Content, opening, nothing_held, holding_of, with_holding, superblock_at, is_held, taken_of, with_block, without_block, with_slot, without_slot, IsSoundHolding, free_blocks, taken_blocks, held_slots};
+ghost use Rattle.buddy_core.specs.Content.{Content, opening, nothing_held, holding_of, with_holding, superblock_at, is_held, taken_of, with_block, without_block, with_slot, without_slot, IsSized, IsSoundHolding, free_blocks, taken_blocks, held_slots, WithBlockTakes, WithoutBlockFrees};
 ghost use Rattle.buddy_core.specs.Table.{IsTable};
 
 mod find;
@@ -76,6 +76,13 @@ impl Buddy {
     /// A law: each tenant's taken blocks are aligned, lie in held slots and share no frame.
     pub fn holdings_are_sound(&self)
         ensures { (t : ℕ) → t < length self.now.tenants → IsSoundHolding self.now.top (holding_of t self.now) }
+    {
+        let _ = &self.order;
+    }
+
+    /// A law: how many slots and frames each tenant may have.
+    pub fn sizes(&self)
+        ensures { IsSized self.now }
     {
         let _ = &self.order;
     }
@@ -240,6 +247,12 @@ impl Buddy {
         self.superblocks[m as usize].words()
     }
 }
+
+/// A law: a tenant's table of taken blocks changes as its taken blocks do.
+pub fn taken_follows()
+    ensures reserve { WithBlockTakes }
+    ensures release { WithoutBlockFrees }
+{}
 
 #[cfg(test)]
 mod tests;

@@ -1,6 +1,6 @@
 -- The first line of a trace that is not empty.
 use Rattle.std.proofs.Common.{◌≡◌, ℕ, zero, suc, ◌+◌, ◌<◌, ◌==◌, Bool, true, false, cond, List, [], ◌∷◌, Option, Some, None, length, take, drop, get_or, position, refl, ap, sym, ◌∙◌, arith, add-one}
-use Rattle.std.specs.List.{onto_first, position_from}
+use Rattle.std.specs.List.{onto_first, position_from, list_all}
 use Rattle.std.proofs.lemmas.List.Quantifiers.{position-Some}
 use Rattle.std.proofs.lemmas.Iterator.Adapters.{position_from-zero}
 use Rattle.words_core.specs.Cutting.{lines_of_trace}

@@ -21,6 +21,8 @@ pub entries_are_operations : EntriesAreOperations
 unfolding private_step command_step
 entries_are_operations limit order [] m = refl
 entries_are_operations limit order (Entry.Ask (Ask.Alloc k) ∷ entries) m = entries_are_operations limit order entries _
+entries_are_operations limit order (Entry.Ask (Ask.Free first) ∷ entries) m = entries_are_operations limit order entries _
+entries_are_operations limit order (Entry.Ask (Ask.Write place bytes) ∷ entries) m = entries_are_operations limit order entries _
 entries_are_operations limit order (Entry.Ask (Ask.Read place len) ∷ entries) m =
     ap (λ n. (private_run limit order entries n).machine) (read_stays place len m) ∙ entries_are_operations limit order entries m
 entries_are_operations limit order (Entry.Grant ∷ entries) m = entries_are_operations limit order entries _

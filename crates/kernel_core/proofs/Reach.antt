@@ -1,221 +1,250 @@
--- The machine's own words on reach, and the bytes of a range.
-use Rattle.std.proofs.Common.{◌≡◌, ◌≢◌, ℕ, suc, ◌+◌, ◌-◌, ◌*◌, ◌/◌, ◌%◌, ◌^◌, ◌<◌, ◌≤◌, ◌||◌, ◌&&◌, ◌⊎◌, not, nat_le, nat_lt, Bool, true, false, if◌then◌else◌, Option, Some, Result, Ok, Err, List, [], ◌∷◌, map, filter_map, take, drop, length, slice_index, slice_range, refl, sym, ap, ◌∙◌, subst, ⊎_elim, arith}
-use Rattle.std.specs.List.{list_any, range_with_len, cons_option}
-use Rattle.std.proofs.Math.Nat.{div-div-eq-div-mul}
-use Rattle.std.proofs.lemmas.Bool.{eq-eqb, cases_eq}
-use Rattle.std.proofs.lemmas.Bool.Decides.{nat_tests}
-use Rattle.std.proofs.lemmas.List.{get_or-take, get_or-drop, length-take-le, length-drop}
-use Rattle.std.proofs.lemmas.Nat.{mod_below, pow_pos, mul-le}
-use Rattle.model_core.specs.Blocks.{Block, block}
-use Rattle.model_core.specs.Machine.{Machine, slot_of, order_in}
-use Rattle.model_core.specs.Reach.{within_block, within_objects, in_reach}
-use Rattle.model_core.specs.Operations.{Step, refuse, read_step}
-use Rattle.model_core.specs.declared.refusals.ReadRefusal.{ReadRefusal}
-use Rattle.model_core.specs.WellFormed.{RisesFrom}
-use Rattle.model_core.proofs.Marking.{slot_of_frame, remainder_from}
-use Rattle.words_core.specs.declared.event.Command.TheVariants.{Read}
-use Rattle.words_core.specs.declared.reply.Body.TheVariants.{Refused}
-use Rattle.words_core.specs.declared.reply.Refusal.TheVariants as For
-use Rattle.kernel_core.specs.PrivateStep.{read_body, command_step}
-use Rattle.kernel_core.specs.Parts.{Parts, superblock_size, superblock_of, taken_of, byte_in, byte_at, IsInBlock, AreWhole}
+-- Reach: which ranges lie in a taken block, in the parts and in the private machine; what is read and written there.
+use Rattle.std.proofs.Common.{◌≡◌, ◌≢◌, ℕ, zero, suc, ◌+◌, ◌-◌, ◌*◌, ◌/◌, ◌%◌, ◌^◌, ◌<◌, ◌≤◌, ◌==◌, ◌&&◌, ◌||◌, not, nat_lt, nat_le, Bool, true, false, if◌then◌else◌, Option, Some, None, is_some, List, [], ◌∷◌, length, slice_index, slice_get, refl, sym, ap, ◌∙◌, subst, ⊎_elim, inl, inr, ◌⊎◌, arith}
+use Rattle.std.specs.List.{list_any, filter_map, range_with_len}
+use Rattle.std.specs.Prelude.{IsSome}
+use Rattle.std.proofs.lemmas.Bool.{false≢true, lt-ltb, ltb-true, le-leb, leb-true, and_parts, and_from, or_cases, false_from_ne_true}
+use Rattle.std.proofs.lemmas.Nat.{pow_pos, div-mul-add, mod-mul-add}
+use Rattle.std.proofs.lemmas.Option.{slice_get-get_or}
+use Rattle.std.proofs.Math.Nat.{lt-div-mul-add, div-mul-le_self, pow-le-pow_right, mod-eq_of_lt}
+use Rattle.model_core.specs.Blocks.{Block, block, HasFrame}
+use Rattle.model_core.specs.Numbered.{number_at}
+use Rattle.model_core.specs.Machine.{Machine, Cache}
+use Rattle.model_core.specs.Operations.{Step, read_step, write_step, written}
+use Rattle.model_core.specs.Reach.{is_within, within_block, within_objects, in_reach}
+use Rattle.model_core.proofs.Bridge.{number_of_frame, same_slot}
+use Rattle.space_core.specs.Content as spaces
+use Rattle.space_core.specs.Windows.{home_of, window_of, bytes_under, with_window, is_in_slot}
+use Rattle.space_core.specs.Laws.{IsRead, OwnBytes, OthersStay}
+use Rattle.buddy_core.specs.Content as buddies
+use Rattle.buddy_core.specs.Content.{holding_of, is_held, IsSoundHolding}
+use Rattle.words_core.specs.declared.event.Command.TheVariants.{Read, Write}
+use Rattle.words_core.specs.declared.reply.Body.TheVariants.{Bytes, Written, Refused}
+use Rattle.words_core.specs.declared.reply.Refusal.TheVariants.{BadLength, OutOfReach}
+use Rattle.kernel_core.specs.Limits.{cache_limit}
+use Rattle.kernel_core.specs.PrivateStep.{command_step}
+use Rattle.kernel_core.specs.Parts.{Parts, PartsAgree, superblock_of, taken_of, byte_at, IsInReach}
 use Rattle.kernel_core.specs.Shows.{ShowsMachine}
 use Rattle.kernel_core.specs.Steps.{StepsMachine}
-use Rattle.kernel_core.proofs.Rising.{is_same, is_other, order_below}
-use Rattle.kernel_core.proofs.Ownership.{under_at, some_none}
-use Rattle.kernel_core.proofs.Reading.{frame_inside}
-use Rattle.kernel_core.proofs.Worlds.{keeps_all}
+use Rattle.kernel_core.proofs.Rising.{some_none, Passing, any_from, any_tells}
+use Rattle.kernel_core.proofs.Pages.{stays, moves}
+use Rattle.kernel_core.proofs.Agreeing.{agree_banks}
 
-is_within_block : (place len : ℕ) (b : Block) → IsInBlock place len b.first b.order → within_block place len b ≡ true
-is_within_block place len b inside =
-    let ends : place + len ≤ 4096 * b.first + 4096 * 2 ^ b.order = omega (arith, inside.1) in
-    grind (arith, nat_tests)
+-- a range within n bytes from u * n on
+in_one : (n u p len : ℕ) → u * n ≤ p → p + len ≤ u * n + n → 0 < len → (p / n ≡ u) × (p % n + len ≤ n)
+in_one n u p len low high some =
+    let rest : ℕ = p - u * n in
+    let small : rest < n = omega arith in
+    let whole : u * n + rest ≡ p = omega arith in
+    let slot : p / n ≡ u = subst (λ x. x / n ≡ u) whole (div-mul-add u n rest small) in
+    let at : p % n ≡ rest = subst (λ x. x % n ≡ rest) whole (mod-mul-add u n rest small) in
+    (slot, omega arith)
 
-from_within_block : (place len : ℕ) (b : Block) → within_block place len b ≡ true → IsInBlock place len b.first b.order
-from_within_block place len b within =
-    let both : (4096 * b.first ≤ place) × (place + len ≤ 4096 * b.first + 4096 * 2 ^ b.order) = grind (arith, nat_tests) in
-    (both.0, omega (arith, both.1))
+-- an aligned block lies in the slot of its first frame
+in_slot : (top f o : ℕ) → o ≤ top → f % 2 ^ o ≡ 0 → f + 2 ^ o ≤ f / 2 ^ top * 2 ^ top + 2 ^ top
+in_slot top f o small aligned =
+    let last : ℕ = f + 2 ^ o - 1 in
+    let some : 0 < 2 ^ o = pow_pos o in
+    let same : last / 2 ^ top ≡ f / 2 ^ top = same_slot top o last f small (number_of_frame f o last aligned (omega arith, omega arith)) in
+    let below : last < last / 2 ^ top * 2 ^ top + 2 ^ top = lt-div-mul-add (pow_pos top) in
+    let below' : last < f / 2 ^ top * 2 ^ top + 2 ^ top = subst (λ n. last < n * 2 ^ top + 2 ^ top) same below in
+    omega arith
 
--- a block listed that has the range
-pub any_block : (place len first order : ℕ) (bs : List Block) → order_in bs first ≡ Some order → IsInBlock place len first order → list_any (within_block place len) bs ≡ true
-any_block place len first order [] told inside = absurd (some_none (sym told))
-any_block place len first order (b ∷ bs) told inside =
-    ⊎_elim
-    (λ here.
-    let same : Some b.order ≡ Some order = sym (ap (λ t. if t then Some b.order else order_in bs first) (eq-eqb b.first first here)) ∙ told in
-    let orders : b.order ≡ order = cc in
-    let inside_b : IsInBlock place len b.first b.order = subst (λ n. IsInBlock place len n b.order) (sym here) (subst (λ n. IsInBlock place len first n) (sym orders) inside) in
-    ap (λ t. t || list_any (within_block place len) bs) (is_within_block place len b inside_b))
-    (λ other.
-    let rest = any_block place len first order bs (sym (ap (λ t. if t then Some b.order else order_in bs first) (is_other b.first first other)) ∙ told) inside in
-    or_last (within_block place len b) (list_any (within_block place len) bs) rest)
-    (cases_eq b.first first)
+-- the superblock with the bytes of a range in reach
+pub home_some : (k : Parts) (t place len : ℕ) → PartsAgree k → IsSoundHolding k.buddy.top (holding_of t k.buddy) → IsInReach k t place len
+    → is_some (home_of k.space t place len) ≡ true
+home_some k t place len agree sound reach =
+    let placed = sound.placed reach.first reach.order reach.taken in
+    let z : ℕ = 2 ^ k.buddy.top in
+    let u : ℕ = reach.first / z in
+    let low : u * z ≤ reach.first = div-mul-le_self reach.first z in
+    let high : reach.first + 2 ^ reach.order ≤ u * z + z = in_slot k.buddy.top reach.first reach.order placed.0.0 placed.0.1 in
+    let unit : k.space.unit ≡ 4096 * z = subst (λ n. k.space.unit ≡ 4096 * 2 ^ n) (sym agree.top) agree.unit in
+    let one = in_one (4096 * z) u place len (omega (arith, reach.begins)) (omega (arith, reach.ends)) reach.some in
+    let fits : place % k.space.unit + len ≤ k.space.unit = subst (λ n. place % n + len ≤ n) (sym unit) one.1 in
+    let slot : place / k.space.unit ≡ u = subst (λ n. place / n ≡ u) (sym unit) one.0 in
+    let is_in : is_in_slot k.space.unit place len ≡ true =
+    and_from (nat_lt 0 len) (nat_le (place % k.space.unit + len) k.space.unit) (lt-ltb 0 len reach.some) (le-leb (place % k.space.unit + len) k.space.unit fits) in
+    ap (λ b. is_some (if b then superblock_of k t (place / k.space.unit) else None)) is_in
+    ∙ ap (λ n. is_some (superblock_of k t n)) slot
+    ∙ sym (ap is_some (agree.slots t u))
+    ∙ placed.1
+
+-- so the window has the bytes
+pub window_some : (k : Parts) (t place len : ℕ) → PartsAgree k → IsSoundHolding k.buddy.top (holding_of t k.buddy) → IsInReach k t place len
+    → window_of k.space t place len ≡ None → ⊥
+window_some k t place len agree sound reach = go (home_of k.space t place len) (home_some k t place len agree sound reach)
   where
-    or_last : (a c : Bool) → c ≡ true → (a || c) ≡ true
-    or_last true c _ = refl
-    or_last false c holds = holds
+    go : (o : Option ℕ) → is_some o ≡ true → bytes_under k.space.banks (place % k.space.unit) len o ≡ None → ⊥
+    go None is e = false≢true is
+    go (Some m) is e = some_none e
 
--- no block listed has the range, if none that is told does
-pub no_block : (n place len : ℕ) (bs : List Block) → RisesFrom n (map (λ b. b.first) bs) → ((first order : ℕ) → order_in bs first ≡ Some order → IsInBlock place len first order → ⊥)
-    → list_any (within_block place len) bs ≡ false
-no_block n place len [] rises none = refl
-no_block n place len (b ∷ bs) (low, rises) none =
-    let after = no_block (b.first + 1) place len bs rises (λ first order told inside.
-    none first order (told_after first order told) inside) in
-    at_head (within_block place len b) refl after
-  where
-    told_after : (first order : ℕ) → order_in bs first ≡ Some order → order_in (b ∷ bs) first ≡ Some order
-    told_after first order told =
-        let other : b.first ≢ first = λ same. some_none (sym told ∙ order_below (b.first + 1) first bs rises (omega arith)) in
-        ap (λ t. if t then Some b.order else order_in bs first) (is_other b.first first other) ∙ told
-
-    at_head : (within : Bool) → within_block place len b ≡ within → list_any (within_block place len) bs ≡ false → (within || list_any (within_block place len) bs) ≡ false
-    at_head true is _ = absurd (none b.first b.order (ap (λ t. if t then Some b.order else order_in bs b.first) (is_same b.first)) (from_within_block place len b is))
-    at_head false _ after = after
-
--- reach in a machine without caches
-pub in_reach_of_blocks : (x : Machine) (place len : ℕ) (found : Bool) → 0 < len → x.caches ≡ [] → list_any (within_block place len) x.blocks ≡ found → in_reach x place len ≡ found
+-- what is in reach in the parts is in reach in the machine ..
+pub reach_told : (k : Parts) (t place len : ℕ) (m : Machine) → ShowsMachine k t m → IsInReach k t place len → in_reach m place len ≡ true
 unfolding in_reach
-in_reach_of_blocks x place len found some caches blocks =
-    let positive : nat_lt 0 len ≡ true = grind (arith, nat_tests) in
-    ap (λ t. t && (list_any (within_block place len) x.blocks || list_any (within_objects place len) x.caches)) positive
-    ∙ ap (λ t. t || list_any (within_objects place len) x.caches) blocks
-    ∙ ap (λ cs. found || list_any (within_objects place len) cs) caches ∙ or_none found
-  where
-    or_none : (b : Bool) → (b || false) ≡ b
-    or_none true = refl
-    or_none false = refl
+reach_told k t place len m shown reach =
+    let here : list_any (within_block place len) m.blocks ≡ true =
+    any_from (within_block place len) m.blocks reach.first reach.order (shown.blocks reach.first ∙ reach.taken)
+    (and_from (nat_le (4096 * reach.first) place) (nat_le (place + len) (4096 * reach.first + 4096 * 2 ^ reach.order))
+    (le-leb (4096 * reach.first) place reach.begins)
+    (le-leb (place + len) (4096 * reach.first + 4096 * 2 ^ reach.order) (omega (arith, reach.ends)))) in
+    rw (lt-ltb 0 len reach.some) (rw here refl)
 
--- a range of places that have these bytes reads as them
-pub range_reads : (bytes : ℕ → Option ℕ) (place : ℕ) (xs : List ℕ) → ((i : ℕ) → i < length xs → bytes (place + i) ≡ Some (slice_index xs i))
+-- .. and nothing else
+pub reach_found : (k : Parts) (t place len : ℕ) (m : Machine) → ShowsMachine k t m → in_reach m place len ≡ true → IsInReach k t place len
+unfolding in_reach
+reach_found k t place len m shown found =
+    let parts = and_parts (nat_lt 0 len) (list_any (within_block place len) m.blocks || list_any (within_objects place len) m.caches) found in
+    ⊎_elim
+    (λ in_page.
+    let there = any_tells (within_block place len) 0 m.blocks shown.blocks_rise in_page in
+    let inside = and_parts (nat_le (4096 * there.first) place) (nat_le (place + len) (4096 * there.first + 4096 * 2 ^ there.order)) there.passes in
+    record {
+      some = ltb-true 0 len parts.0;
+      first = there.first;
+      order = there.order;
+      taken = sym (shown.blocks there.first) ∙ there.here;
+      begins = leb-true (4096 * there.first) place inside.0;
+      ends = let end = leb-true (place + len) (4096 * there.first + 4096 * 2 ^ there.order) inside.1 in omega arith;
+    })
+    (λ in_object. absurd (false≢true (sym (ap (λ cs. list_any (within_objects place len) cs) shown.caches) ∙ in_object)))
+    (or_cases (list_any (within_block place len) m.blocks) (list_any (within_objects place len) m.caches) parts.1)
+
+out_of_reach : (k : Parts) (t place len : ℕ) (m : Machine) → ShowsMachine k t m → (IsInReach k t place len → ⊥) → in_reach m place len ≡ false
+out_of_reach k t place len m shown beyond = false_from_ne_true (in_reach m place len) (λ found. beyond (reach_found k t place len m shown found))
+
+-- Reading
+
+cons_some : {A : Type 0} (o : Option A) (x : A) (f : ℕ → Option A) (is : List ℕ) → o ≡ Some x → (n : ℕ) → f n ≡ o → filter_map f (n ∷ is) ≡ x ∷ filter_map f is
+cons_some o x f is some n here = rw here (rw some refl)
+
+-- a range where these bytes stand, one after the other
+range_reads : (bytes : ℕ → Option ℕ) (place : ℕ) (xs : List ℕ) → ((i : ℕ) → i < length xs → bytes (place + i) ≡ Some (slice_index xs i))
     → filter_map bytes (range_with_len place (length xs)) ≡ xs
-range_reads bytes place [] reads = refl
-range_reads bytes place (x ∷ xs) reads =
-    let here : bytes place ≡ Some x = ap bytes (omega arith) ∙ reads 0 (omega arith) in
-    ap (λ o. cons_option o (filter_map bytes (range_with_len (place + 1) (length xs)))) here
-    ∙ ap (λ ys. x ∷ ys) (range_reads bytes (place + 1) xs (λ i below. ap bytes (omega arith) ∙ reads (suc i) (omega arith)))
+range_reads bytes place [] each = refl
+range_reads bytes place (x ∷ xs) each =
+    let at : place + 0 ≡ place = omega arith in
+    let first : bytes place ≡ Some x = subst (λ p. bytes p ≡ Some x) at (each 0 (omega arith)) in
+    cons_some (bytes place) x bytes (range_with_len (place + 1) (length xs)) first place refl
+    ∙ ap (λ ys. x ∷ ys) (range_reads bytes (place + 1) xs (λ i below.
+    let shift : place + suc i ≡ place + 1 + i = omega arith in
+    subst (λ p. bytes p ≡ Some (slice_index xs i)) shift (each (suc i) (omega arith))))
 
--- a range inside a superblock is inside the memory
-pub range_in_ram : (k : Parts) (m place len size : ℕ) → AreWhole k → size ≡ superblock_size k.order → m < length k.owners
-    → place % superblock_size k.order + len ≤ superblock_size k.order → m * size + place % size + len ≤ length k.ram
-range_in_ram k m place len size whole sized within fits =
-    let Z = superblock_size k.order in
-    let above : m * Z + place % Z + len ≤ length k.ram =
-    omega (arith, whole.ram, fits, mul-le (m + 1) Z (length k.owners) Z (omega arith) (omega arith)) in
-    subst (λ n. m * n + place % n + len ≤ length k.ram) (sym sized) above
+bad_is : (order place len : ℕ) (m : Machine) → (nat_le 1 len && nat_le len 64) ≡ false
+    → command_step cache_limit order (Read place len) m ≡ record { answer = Refused BadLength; machine = m }
+unfolding command_step read_step
+bad_is order place len m bad = rw bad refl
 
--- The places of a range that lies in a block
+beyond_is : (order place len : ℕ) (m : Machine) → (nat_le 1 len && nat_le len 64) ≡ true → in_reach m place len ≡ false
+    → command_step cache_limit order (Read place len) m ≡ record { answer = Refused OutOfReach; machine = m }
+unfolding command_step read_step
+beyond_is order place len m good beyond = rw good (rw beyond refl)
 
--- they are in one slot
-slot_in_block : (k : Parts) (t place len first order i : ℕ) → AreWhole k → taken_of k t first ≡ Some order → IsInBlock place len first order → i < len
-    → slot_of k.order (place + i) ≡ first / 2 ^ k.order
-slot_in_block k t place len first order i whole taken inside below =
-    let placed = (whole.sound t).placed first order taken in
-    let at : IsInBlock (place + i) 1 first order = (omega (arith, inside.0), omega (arith, inside.1)) in
-    slot_of_frame k.order (block first order) ((place + i) / 4096) placed.0 (frame_inside (place + i) 1 first order (omega arith) at)
+read_is : (order place len : ℕ) (xs : List ℕ) (m : Machine) → (nat_le 1 len && nat_le len 64) ≡ true → in_reach m place len ≡ true
+    → filter_map m.bytes (range_with_len place len) ≡ xs
+    → command_step cache_limit order (Read place len) m ≡ record { answer = Bytes (record { items = xs }); machine = m }
+unfolding command_step read_step
+read_is order place len xs m good reach read = rw good (rw reach (ap (λ ys. record { answer = Bytes (record { items = ys }); machine = m }) read))
 
--- and follow one another in its superblock
-place_in_block : (k : Parts) (t place len first order i : ℕ) → AreWhole k → taken_of k t first ≡ Some order → IsInBlock place len first order → i < len
-    → (slot_of k.order (place + i) ≡ slot_of k.order place) × ((place + i) % superblock_size k.order ≡ place % superblock_size k.order + i)
-place_in_block k t place len first order i whole taken inside below =
-    let Z = superblock_size k.order in
-    let zero_more : place + 0 ≡ place = omega arith in
-    let some : 0 < len = omega arith in
-    let here = ap (λ p. slot_of k.order p) (sym zero_more) ∙ slot_in_block k t place len first order 0 whole taken inside some in
-    let there = slot_in_block k t place len first order i whole taken inside below in
-    let same : place / Z ≡ (place + i) / Z =
-    sym (div-div-eq-div-mul place 4096 (2 ^ k.order)) ∙ here ∙ sym there ∙ div-div-eq-div-mul (place + i) 4096 (2 ^ k.order) in
-    (there ∙ sym here, omega (arith, remainder_from Z place (place + i) same (omega arith)))
+good_length : (len : ℕ) → 1 ≤ len → len ≤ 64 → (nat_le 1 len && nat_le len 64) ≡ true
+good_length len low high = and_from (nat_le 1 len) (nat_le len 64) (le-leb 1 len low) (le-leb len 64 high)
 
--- so that the range fits in it
-pub range_fits : (k : Parts) (t place len first order : ℕ) → AreWhole k → 0 < len → taken_of k t first ≡ Some order → IsInBlock place len first order
-    → place % superblock_size k.order + len ≤ superblock_size k.order
-range_fits k t place len first order whole some taken inside =
-    let Z = superblock_size k.order in
-    let last = place_in_block k t place len first order (len - 1) whole taken inside (omega arith) in
-    let positive : 0 < Z = omega (arith, pow_pos k.order) in
-    omega (arith, last.1, mod_below (place + (len - 1)) Z positive)
+-- no byte is asked for, or more than 64
+pub read_bad : (k : Parts) (t place len : ℕ) → PartsAgree k → (1 ≤ len → len ≤ 64 → ⊥) → StepsMachine k t (Read place len) k (Refused BadLength)
+read_bad k t place len agree bad = stays k t (Read place len) (Refused BadLength) agree
+    (λ m shown. bad_is k.order place len m (false_from_ne_true (nat_le 1 len && nat_le len 64) (λ good.
+    let parts = and_parts (nat_le 1 len) (nat_le len 64) good in
+    bad (leb-true 1 len parts.0) (leb-true len 64 parts.1))))
 
-part_at : (xs : List ℕ) (start len i : ℕ) → i < len → slice_index (slice_range xs start (start + len)) i ≡ slice_index xs (start + i)
-part_at xs start len i below =
-    let size : start + len - start ≡ len = omega arith in
-    ap (λ n. slice_index (take n (drop start xs)) i) size ∙ get_or-take len (drop start xs) i 0 below ∙ get_or-drop start xs i 0
+pub read_beyond : (k : Parts) (t place len : ℕ) → PartsAgree k → 1 ≤ len → len ≤ 64 → (IsInReach k t place len → ⊥) → StepsMachine k t (Read place len) k (Refused OutOfReach)
+read_beyond k t place len agree low high beyond = stays k t (Read place len) (Refused OutOfReach) agree
+    (λ m shown. beyond_is k.order place len m (good_length len low high) (out_of_reach k t place len m shown beyond))
 
-part_long : (xs : List ℕ) (start len : ℕ) → start + len ≤ length xs → length (slice_range xs start (start + len)) ≡ len
-part_long xs start len fits =
-    let size : start + len - start ≡ len = omega arith in
-    ap (λ n. length (take n (drop start xs))) size ∙ length-take-le len (drop start xs) (omega (arith, length-drop start xs))
+pub read_done : (k : Parts) (t place len : ℕ) (xs : List ℕ) → PartsAgree k → 1 ≤ len → len ≤ 64 → IsInReach k t place len → IsRead k.space t place len xs
+    → StepsMachine k t (Read place len) k (Bytes (record { items = xs }))
+read_done k t place len xs agree low high reach is = stays k t (Read place len) (Bytes (record { items = xs })) agree
+    (λ m shown. read_is k.order place len xs m (good_length len low high) (reach_told k t place len m shown reach)
+    (subst (λ n. filter_map m.bytes (range_with_len place n) ≡ xs) is.count
+    (range_reads m.bytes place xs (λ i below. shown.bytes (place + i) ∙ is.each i (omega (arith, is.count))))))
 
--- the machine's bytes of the range are those in the memory
-bytes_shown : (k : Parts) (t m place len first order : ℕ) (x : Machine) → AreWhole k → ShowsMachine k t x → 0 < len
-    → superblock_of k t (slot_of k.order place) ≡ Some m → taken_of k t first ≡ Some order → IsInBlock place len first order
-    → filter_map x.bytes (range_with_len place len)
-    ≡ slice_range k.ram (m * superblock_size k.order + place % superblock_size k.order) (m * superblock_size k.order + place % superblock_size k.order + len)
-unfolding byte_at
-bytes_shown k t m place len first order x whole shown some under taken inside =
-    let Z = superblock_size k.order in
-    let start = m * Z + place % Z in
-    let within = (under_at k.owners t (slot_of k.order place) m under).0 in
-    let long = part_long k.ram start len (range_in_ram k m place len Z whole refl within (range_fits k t place len first order whole some taken inside)) in
-    ap (λ n. filter_map x.bytes (range_with_len place n)) (sym long)
-    ∙ range_reads x.bytes place (slice_range k.ram start (start + len)) (λ i below.
-    let near : i < len = omega (arith, long) in
-    let at = place_in_block k t place len first order i whole taken inside near in
-    let index : m * Z + (place + i) % Z ≡ start + i = omega (arith, at.1) in
-    shown.bytes (place + i)
-    ∙ ap (λ o. byte_in k.ram Z o ((place + i) % Z)) (ap (λ u. superblock_of k t u) at.0 ∙ under)
-    ∙ ap (λ n. Some (slice_index k.ram n)) index ∙ ap (λ n. Some n) (sym (part_at k.ram start len i near)))
+-- Writing
 
--- What the command is to the machine
+-- the parts with bytes written over a range of the tenant
+abbrev pub stored : ℕ → ℕ → List ℕ → Parts → Parts
+stored t place xs k = record k { space = with_window k.space t place (length xs) xs }
 
--- an answer that leaves the machine as it is
-abbrev answered : Result (List ℕ) ReadRefusal → Machine → Step (Result (List ℕ) ReadRefusal)
-answered a x = record { answer = a; machine = x }
-
-steps_answered : (k : Parts) (t place len : ℕ) (a : Result (List ℕ) ReadRefusal) → ((x : Machine) → ShowsMachine k t x → read_step place len x ≡ answered a x)
-    → StepsMachine k t (Read place len) k (read_body a)
-unfolding command_step
-steps_answered k t place len a same = record {
-  kept = refl;
-  shows = λ x shown. subst (λ (s : Step (Result (List ℕ) ReadRefusal)). ShowsMachine k t s.machine) (sym (same x shown)) shown;
-  answer = λ x shown. sym (ap (λ (s : Step (Result (List ℕ) ReadRefusal)). read_body s.answer) (same x shown));
-  refused = λ _. refl;
-  others = λ u _. keeps_all k u;
+write_shows : (k : Parts) (t place : ℕ) (xs : List ℕ) (m : Machine) → OwnBytes k.space → IsSome (home_of k.space t place (length xs))
+    → ShowsMachine k t m → ShowsMachine (stored t place xs k) t (record m { bytes = written place xs m.bytes })
+write_shows k t place xs m own home shown = record {
+  slots_rise = shown.slots_rise;
+  slots = shown.slots;
+  blocks_rise = shown.blocks_rise;
+  blocks = shown.blocks;
+  caches = shown.caches;
+  bytes = λ p. at p (nat_le place p && nat_lt p (place + length xs)) refl ∙ sym (own.window t place (length xs) xs home refl p);
 }
+  where
+    at : (p : ℕ) (b : Bool) → (nat_le place p && nat_lt p (place + length xs)) ≡ b
+        → (if b then slice_get xs (p - place) else m.bytes p) ≡ (if b then Some (slice_index xs (p - place)) else byte_at k t p)
+    at p true is =
+        let parts = and_parts (nat_le place p) (nat_lt p (place + length xs)) is in
+        let low : place ≤ p = leb-true place p parts.0 in
+        let high : p < place + length xs = ltb-true p (place + length xs) parts.1 in
+        slice_get-get_or xs (p - place) 0 (omega arith)
+    at p false is = shown.bytes p
 
--- too few or too many bytes
-pub read_bad_length : (k : Parts) (t place len : ℕ) → (len < 1) ⊎ ((1 ≤ len) × (64 < len)) → StepsMachine k t (Read place len) k (Refused For.BadLength)
-unfolding read_step
-read_bad_length k t place len bad =
-    let test : (nat_le 1 len && nat_le len 64) ≡ false = ⊎_elim (λ few. grind (arith, nat_tests)) (λ many. grind (arith, nat_tests)) bad in
-    steps_answered k t place len (Err ReadRefusal.BadLength) (λ x shown.
-    ap (λ b. if not b then refuse ReadRefusal.BadLength x else (if not (in_reach x place len) then refuse ReadRefusal.OutOfReach x else answered (Ok (filter_map x.bytes (range_with_len place len))) x)) test)
+written_is : (order place : ℕ) (xs : List ℕ) (m : Machine) → in_reach m place (length xs) ≡ true
+    → command_step cache_limit order (Write place (record { items = xs })) m ≡ record { answer = Written (length xs); machine = record m { bytes = written place xs m.bytes } }
+unfolding command_step write_step
+written_is order place xs m reach = rw reach refl
 
--- a length in order: reach decides
-read_in_order : (x : Machine) (place len : ℕ) (found : Bool) → 1 ≤ len → len ≤ 64 → in_reach x place len ≡ found
-    → read_step place len x ≡ (if not found then refuse ReadRefusal.OutOfReach x else answered (Ok (filter_map x.bytes (range_with_len place len))) x)
-unfolding read_step
-read_in_order x place len found some few reach =
-    let test : (nat_le 1 len && nat_le len 64) ≡ true = grind (arith, nat_tests) in
-    ap (λ b. if not b then refuse ReadRefusal.BadLength x else (if not (in_reach x place len) then refuse ReadRefusal.OutOfReach x else answered (Ok (filter_map x.bytes (range_with_len place len))) x)) test
-    ∙ ap (λ b. if not b then refuse ReadRefusal.OutOfReach x else answered (Ok (filter_map x.bytes (range_with_len place len))) x) reach
+not_written : (order place : ℕ) (xs : List ℕ) (m : Machine) → in_reach m place (length xs) ≡ false
+    → command_step cache_limit order (Write place (record { items = xs })) m ≡ record { answer = Refused OutOfReach; machine = m }
+unfolding command_step write_step
+not_written order place xs m beyond = rw beyond refl
 
--- in no block
-pub read_out_of_reach : (k : Parts) (t place len : ℕ) → 1 ≤ len → len ≤ 64 → ((first order : ℕ) → taken_of k t first ≡ Some order → IsInBlock place len first order → ⊥)
-    → StepsMachine k t (Read place len) k (Refused For.OutOfReach)
-read_out_of_reach k t place len some few none =
-    steps_answered k t place len (Err ReadRefusal.OutOfReach) (λ x shown.
-    read_in_order x place len false some few
-    (in_reach_of_blocks x place len false (omega arith) shown.caches
-    (no_block 0 place len x.blocks shown.blocks_rise (λ first order told inside. none first order (sym (shown.blocks first) ∙ told) inside))))
+after_write : ℕ → List ℕ → Machine → Machine
+after_write place xs m = record m { bytes = written place xs m.bytes }
 
--- inside one block: the bytes in the memory
-pub read_bytes : (k : Parts) (t m place len first order : ℕ) → AreWhole k → 1 ≤ len → len ≤ 64
-    → superblock_of k t (slot_of k.order place) ≡ Some m → taken_of k t first ≡ Some order → IsInBlock place len first order
-    → StepsMachine k t (Read place len) k
-    (read_body (Ok (slice_range k.ram (m * superblock_size k.order + place % superblock_size k.order) (m * superblock_size k.order + place % superblock_size k.order + len))))
-read_bytes k t m place len first order whole some few under taken inside =
-    let start = m * superblock_size k.order + place % superblock_size k.order in
-    steps_answered k t place len (Ok (slice_range k.ram start (start + len))) (λ x shown.
-    read_in_order x place len true some few
-    (in_reach_of_blocks x place len true (omega arith) shown.caches (any_block place len first order x.blocks (shown.blocks first ∙ taken) inside))
-    ∙ ap (λ bytes. answered (Ok bytes) x) (bytes_shown k t m place len first order x whole shown (omega arith) under taken inside))
+pub write_beyond : (k : Parts) (t place : ℕ) (xs : List ℕ) → PartsAgree k → (IsInReach k t place (length xs) → ⊥) → StepsMachine k t (Write place (record { items = xs })) k (Refused OutOfReach)
+write_beyond k t place xs agree beyond = stays k t (Write place (record { items = xs })) (Refused OutOfReach) agree
+    (λ m shown. not_written k.order place xs m (out_of_reach k t place (length xs) m shown beyond))
+
+pub write_done : (k : Parts) (t place : ℕ) (xs : List ℕ) → PartsAgree k → IsSoundHolding k.buddy.top (holding_of t k.buddy) → OwnBytes k.space → OthersStay k.space
+    → IsInReach k t place (length xs) → StepsMachine k t (Write place (record { items = xs })) (stored t place xs k) (Written (length xs))
+unfolding after_write
+write_done k t place xs agree sound own others reach =
+    moves k (stored t place xs k) t (Write place (record { items = xs })) (Written (length xs)) (after_write place xs)
+    refl refl refl (agree_banks k _ agree) refl
+    (λ m shown. written_is k.order place xs m (reach_told k t place (length xs) m shown reach))
+    (λ m shown. write_shows k t place xs m own (home_some k t place (length xs) agree sound reach) shown)
+    (λ u other. record { space = others.window t place (length xs) xs u other; buddy = refl })
+
+-- Testing reach
+
+-- a taken block is no larger than a superblock
+pub small_order : (k : Parts) (t first order : ℕ) → PartsAgree k → IsSoundHolding k.buddy.top (holding_of t k.buddy) → taken_of k t first ≡ Some order → order ≤ 8
+small_order k t f o agree sound taken = omega (arith, (sound.placed f o taken).0.0, agree.top, agree.order)
+
+pub small_power : (o : ℕ) → o ≤ 8 → 2 ^ o ≤ 256
+small_power o small = let two : 0 < 2 = omega arith in pow-le-pow_right two small
+
+pub small_shift : (o : ℕ) → o ≤ 8 → 1 * 2 ^ o % 18446744073709551616 ≡ 2 ^ o
+small_shift o small =
+    let one : 1 * 2 ^ o ≡ 2 ^ o = omega arith in
+    let below : 2 ^ o < 18446744073709551616 = omega (arith, small_power o small) in
+    ap (λ n. n % 18446744073709551616) one ∙ mod-eq_of_lt below
+
+-- the range lies in the block that has its first frame
+pub reach_is : (k : Parts) (t place len first order : ℕ) → 0 < len → taken_of k t first ≡ Some order → HasFrame (block first order) (place / 4096)
+    → place + len ≤ 4096 * (first + 2 ^ order) → IsInReach k t place len
+reach_is k t place len f o some taken has ends = record { some = some; first = f; order = o; taken = taken; begins = omega (arith, has.0); ends = ends }
+
+pub reach_ends : (k : Parts) (t place len first order : ℕ) → IsSoundHolding k.buddy.top (holding_of t k.buddy) → taken_of k t first ≡ Some order → HasFrame (block first order) (place / 4096)
+    → IsInReach k t place len → place + len ≤ 4096 * (first + 2 ^ order)
+reach_ends k t place len f o sound taken has reach =
+    let inside : HasFrame (block reach.first reach.order) (place / 4096) =
+    (omega (arith, reach.begins), omega (arith, reach.some, reach.ends)) in
+    let same : reach.first ≡ f = sound.apart reach.first reach.order f o (place / 4096) reach.taken taken inside has in
+    let orders : Some reach.order ≡ Some o = sym reach.taken ∙ ap (taken_of k t) same ∙ taken in
+    let order : reach.order ≡ o = cc in
+    subst (λ n. place + len ≤ 4096 * (f + 2 ^ n)) order (subst (λ n. place + len ≤ 4096 * (n + 2 ^ reach.order)) same reach.ends)

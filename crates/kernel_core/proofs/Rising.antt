@@ -1,7 +1,7 @@
 -- Lists that rise by key: what they have after one more is put into them, and that two with the same elements are one.
-use Rattle.std.proofs.Common.{◌≡◌, ◌≢◌, ℕ, ◌+◌, ◌<◌, ◌≤◌, ◌==◌, ◌||◌, nat_lt, Bool, true, false, if◌then◌else◌, Some, None, is_some, List, [], ◌∷◌, map, refl, sym, ap, ◌∙◌, subst, ⊎_elim, arith}
+use Rattle.std.proofs.Common.{◌≡◌, ◌≢◌, ℕ, zero, suc, ◌+◌, ◌<◌, ◌≤◌, ◌==◌, ◌||◌, not, ◌⊎◌, inl, inr, filter, nat_lt, nat_eq, Bool, true, false, cond, if◌then◌else◌, Option, Some, None, is_some, List, [], ◌∷◌, map, refl, sym, ap, ◌∙◌, subst, ⊎_elim, arith}
 use Rattle.std.specs.List.{list_any}
-use Rattle.std.proofs.lemmas.Bool.{false≢true, lt-ltb, ltb-true, eq-eqb, cases_eq, cases_lt}
+use Rattle.std.proofs.lemmas.Bool.{false≢true, lt-ltb, ltb-true, eq-eqb, cases_eq, cases_lt, or_right, or_cases}
 use Rattle.std.proofs.lemmas.Bool.Decides.{nat_tests}
 use Rattle.model_core.specs.Blocks.{Block, block}
 use Rattle.model_core.specs.Machine.{put_rising, least_missing, order_in}
@@ -104,7 +104,7 @@ heads_differ x y xs ys rises rises' differ same =
 eq_comm : (a b : ℕ) → (a == b) ≡ (b == a)
 eq_comm a b = ⊎_elim (λ same. eq-eqb a b same ∙ sym (eq-eqb b a (sym same))) (λ other. is_other a b other ∙ sym (is_other b a (λ e. other (sym e)))) (cases_eq a b)
 
-some_none : {A : Type 0} {x : A} → Some x ≡ None → ⊥
+pub some_none : {A : Type 0} {x : A} → Some x ≡ None → ⊥
 some_none {A} {x} e = cc
 
 -- where a block goes in before or after another one
@@ -156,7 +156,7 @@ has-order_in (b ∷ bs) f = at_head (b.first == f) (has-order_in bs f)
     at_head false after = after
 
 -- and it tells none at a frame below
-pub order_below : (n f : ℕ) (bs : List Block) → RisesFrom n (map (λ b. b.first) bs) → f < n → order_in bs f ≡ None
+order_below : (n f : ℕ) (bs : List Block) → RisesFrom n (map (λ b. b.first) bs) → f < n → order_in bs f ≡ None
 order_below n f [] _ _ = refl
 order_below n f (b ∷ bs) (low, rises) below =
     ap (λ t. if t then Some b.order else order_in bs f) (is_other b.first f (λ e. absurd (omega arith))) ∙ order_below (b.first + 1) f bs rises (omega arith)
@@ -191,3 +191,108 @@ same_blocks n (b ∷ bs) (c ∷ cs) (low, rises) (low', rises') same =
     let rises_on : RisesFrom (b.first + 1) (map (λ x. x.first) cs) = subst (λ k. RisesFrom (k + 1) (map (λ x. x.first) cs)) (sym firsts) rises' in
     let rest = same_blocks (b.first + 1) bs cs rises rises_on (λ f. orders_after b c bs cs f firsts rises rises' (same f)) in
     ap (λ x. x ∷ bs) (block_same b c firsts orders) ∙ ap (λ xs. c ∷ xs) rest
+
+either_way : {A : Type 0} (b : Bool) (x : A) → x ≡ (if b then x else x)
+either_way true x = refl
+either_way false x = refl
+
+-- a list of blocks less those at one frame
+pub order_in-filter : (first : ℕ) (bs : List Block) (f : ℕ)
+    → order_in (filter (λ b. not (b.first == first)) bs) f ≡ (if f == first then None else order_in bs f)
+order_in-filter first [] f = either_way (f == first) None
+order_in-filter first (b ∷ bs) f = at_head (cases_eq b.first first) (order_in-filter first bs f)
+  where
+    rest : List Block
+    rest = filter (λ b. not (b.first == first)) bs
+
+    at_head : (b.first ≡ first) ⊎ (b.first ≡ first → ⊥) → order_in rest f ≡ (if f == first then None else order_in bs f)
+        → order_in (if not (b.first == first) then b ∷ rest else rest) f ≡ (if f == first then None else order_in (b ∷ bs) f)
+    at_head (inl same) after =
+        ap (λ t. order_in (if not t then b ∷ rest else rest) f) (eq-eqb b.first first same) ∙ after
+        ∙ ⊎_elim
+        (λ here. ap (λ t. if t then None else order_in bs f) (eq-eqb f first here) ∙ sym (ap (λ t. if t then None else order_in (b ∷ bs) f) (eq-eqb f first here)))
+        (λ elsewhere.
+        ap (λ t. if t then None else order_in bs f) (is_other f first elsewhere)
+        ∙ sym (ap (λ t. if t then None else order_in (b ∷ bs) f) (is_other f first elsewhere)
+        ∙ ap (λ t. if t then Some b.order else order_in bs f) (is_other b.first f (λ e. elsewhere (sym e ∙ same)))))
+        (cases_eq f first)
+    at_head (inr other) after =
+        ap (λ t. order_in (if not t then b ∷ rest else rest) f) (is_other b.first first other)
+        ∙ ⊎_elim
+        (λ here.
+        ap (λ t. if t then Some b.order else order_in rest f) (eq-eqb b.first f here)
+        ∙ sym (ap (λ t. if t then None else order_in (b ∷ bs) f) (is_other f first (λ e. other (here ∙ e)))
+        ∙ ap (λ t. if t then Some b.order else order_in bs f) (eq-eqb b.first f here)))
+        (λ elsewhere.
+        ap (λ t. if t then Some b.order else order_in rest f) (is_other b.first f elsewhere) ∙ after
+        ∙ ap (λ o. if f == first then None else o) (sym (ap (λ t. if t then Some b.order else order_in bs f) (is_other b.first f elsewhere))))
+        (cases_eq b.first f)
+
+-- a list of numbers less one of them
+pub has-filter : (u : ℕ) (xs : List ℕ) (v : ℕ) → has v (filter (λ x. not (x == u)) xs) ≡ (if v == u then false else has v xs)
+has-filter u [] v = either_way (v == u) false
+has-filter u (x ∷ xs) v = at_head (cases_eq x u) (has-filter u xs v)
+  where
+    rest : List ℕ
+    rest = filter (λ x. not (x == u)) xs
+
+    at_head : (x ≡ u) ⊎ (x ≡ u → ⊥) → has v rest ≡ (if v == u then false else has v xs)
+        → has v (if not (x == u) then x ∷ rest else rest) ≡ (if v == u then false else has v (x ∷ xs))
+    at_head (inl same) after =
+        ap (λ t. has v (if not t then x ∷ rest else rest)) (eq-eqb x u same) ∙ after
+        ∙ ⊎_elim
+        (λ here. ap (λ t. if t then false else has v xs) (eq-eqb v u here) ∙ sym (ap (λ t. if t then false else has v (x ∷ xs)) (eq-eqb v u here)))
+        (λ elsewhere.
+        ap (λ t. if t then false else has v xs) (is_other v u elsewhere)
+        ∙ sym (ap (λ t. if t then false else has v (x ∷ xs)) (is_other v u elsewhere)
+        ∙ ap (λ t. t || has v xs) (is_other x v (λ e. elsewhere (sym e ∙ same)))))
+        (cases_eq v u)
+    at_head (inr other) after =
+        ap (λ t. has v (if not t then x ∷ rest else rest)) (is_other x u other)
+        ∙ ⊎_elim
+        (λ here.
+        ap (λ t. t || has v rest) (eq-eqb x v here)
+        ∙ sym (ap (λ t. if t then false else has v (x ∷ xs)) (is_other v u (λ e. other (here ∙ e)))
+        ∙ ap (λ t. t || has v xs) (eq-eqb x v here)))
+        (λ elsewhere.
+        ap (λ t. t || has v rest) (is_other x v elsewhere) ∙ after
+        ∙ ap (λ o. if v == u then false else o) (sym (ap (λ t. t || has v xs) (is_other x v elsewhere))))
+        (cases_eq x v)
+
+-- a test that a block of a list passes
+pub any_from : (p : Block → Bool) (bs : List Block) (f o : ℕ) → order_in bs f ≡ Some o → p (block f o) ≡ true → list_any p bs ≡ true
+any_from p [] f o is passes = absurd (some_none (sym is))
+any_from p (b ∷ bs) f o is passes =
+    ⊎_elim
+    (λ here.
+    let told : Some b.order ≡ Some o = sym (ap (λ t. if t then Some b.order else order_in bs f) (eq-eqb b.first f here)) ∙ is in
+    let orders : b.order ≡ o = cc in
+    ap (λ t. t || list_any p bs) (ap p (block_same b (block f o) here orders) ∙ passes))
+    (λ other.
+    or_right (p b) (list_any p bs)
+    (any_from p bs f o (sym (ap (λ t. if t then Some b.order else order_in bs f) (is_other b.first f other)) ∙ is) passes))
+    (cases_eq b.first f)
+
+-- some block of a rising list passes a test
+pub record Passing (p : Block → Bool) (bs : List Block) : Type 0 where
+  pub first : ℕ
+  pub order : ℕ
+  pub here : order_in bs first ≡ Some order
+  pub passes : p (block first order) ≡ true
+
+pub any_tells : (p : Block → Bool) (n : ℕ) (bs : List Block) → RisesFrom n (map (λ b. b.first) bs) → list_any p bs ≡ true → Passing p bs
+any_tells p n [] rises found = absurd (false≢true found)
+any_tells p n (b ∷ bs) (low, rises) found =
+    ⊎_elim
+    (λ head. record { first = b.first; order = b.order; here = ap (λ t. if t then Some b.order else order_in bs b.first) (is_same b.first); passes = head })
+    (λ more.
+    let there = any_tells p (b.first + 1) bs rises more in
+    let other : b.first ≢ there.first = λ same.
+    some_none (sym there.here ∙ order_below (b.first + 1) there.first bs rises (omega (arith, same))) in
+    record {
+      first = there.first;
+      order = there.order;
+      here = ap (λ t. if t then Some b.order else order_in bs there.first) (is_other b.first there.first other) ∙ there.here;
+      passes = there.passes;
+    })
+    (or_cases (p b) (list_any p bs) found)

@@ -1,16 +1,16 @@
 -- Worked traces and what they write, computed from the definitions: superblocks of order 3, two of them, two tenants.
 use Rattle.std.proofs.Common.{◌≡◌, ℕ, List, [], ◌∷◌, map, codes, refl}
 use Rattle.std.specs.Fmt.{digits}
-use Rattle.hex.specs.Hex.{encode_with}
+use Rattle.hex.specs.Hex.{encode_with, decode_pairs}
 use Rattle.model_core.specs.Machine.{empty_machine, choice, taken_blocks}
-use Rattle.model_core.specs.Operations.{alloc_step, read_step, next_slot, after_grant}
+use Rattle.model_core.specs.Operations.{alloc_step, free_step, read_step, write_step, next_slot, after_grant, after_take_back, take_back_step, is_busy}
 use Rattle.model_core.specs.Reach.{in_reach}
-use Rattle.words_core.specs.Grammar.{reading_of, judged, event_of, admin_command_of, command_of, grant_of, alloc_of, read_of}
+use Rattle.words_core.specs.Grammar.{reading_of, judged, event_of, admin_command_of, command_of, grant_of, take_back_of, reset_of, pool_of, alloc_of, free_of, read_of, write_of}
 use Rattle.words_core.specs.Cutting.{lines_of_trace}
 use Rattle.words_core.specs.Words.{words_of}
 use Rattle.kernel_core.specs.Limits.{cache_limit}
 use Rattle.kernel_core.specs.PrivateStep.{Entry, command_step}
-use Rattle.kernel_core.specs.World.{opening_world, history, world_step, grant_step, tenant_step, answer}
+use Rattle.kernel_core.specs.World.{opening_world, history, world_step, grant_step, tenant_step, slot_step, reset_step, answer}
 use Rattle.kernel_core.specs.Output.{output_of, line_step, reading_step, events_of, lines_for}
 use Rattle.kernel_core.specs.OwnList.{own_list}
 
@@ -52,6 +52,34 @@ rows =
       trace = codes "0 alloc 0\r\n0 alloc 0";
       output = codes "0> refused 1 NoFrames\n0> refused 1 NoFrames\n";
     }
+    ∷ record {
+      trace = codes "admin grant 0\n0 alloc 0\n0 alloc 1\n0 alloc 2\n0 free 0\n0 free 4\n0 alloc 1\n0 alloc 0\n0 free 4\n0 free 2\n0 free 0\n0 alloc 3\n";
+      output = codes "admin> granted 0 slot 0 superblock 0\n0> frame 0\n0> frame 2\n0> frame 4\n0> freed 0\n0> freed 2\n0> frame 0\n0> frame 4\n0> freed 0\n0> freed 1\n0> freed 1\n0> frame 0\n";
+    }
+    ∷ record {
+      trace = codes "admin grant 0\nadmin grant 0\nadmin takeback 0 0\n0 alloc 0\nadmin grant 0\n0 alloc 0\n0 alloc 3\n";
+      output = codes "admin> granted 0 slot 0 superblock 0\nadmin> granted 0 slot 1 superblock 1\nadmin> taken superblock 0\n0> frame 8\nadmin> granted 0 slot 0 superblock 0\n0> frame 9\n0> frame 0\n";
+    }
+    ∷ record {
+      trace = codes "admin grant 1\n1 alloc 0\n1 write 0 aa\n1 free 0\nadmin takeback 1 0\nadmin grant 0\n0 alloc 0\n0 read 0 1\n";
+      output = codes "admin> granted 1 slot 0 superblock 0\n1> frame 0\n1> written 1\n1> freed 0\nadmin> taken superblock 0\nadmin> granted 0 slot 0 superblock 0\n0> frame 0\n0> bytes 00\n";
+    }
+    ∷ record {
+      trace = codes "admin grant 0\n0 alloc 0\n0 write 0 0a0B\n0 read 0 3\n0 free 0\n0 alloc 0\n0 read 0 2\n";
+      output = codes "admin> granted 0 slot 0 superblock 0\n0> frame 0\n0> written 2\n0> bytes 0a0b00\n0> freed 0\n0> frame 0\n0> bytes 0a0b\n";
+    }
+    ∷ record {
+      trace = codes "admin grant 0\n0 alloc 0\nadmin takeback 0 0\nadmin takeback 0 1\nadmin takeback 9 0\n0 free 0\n0 free 0\nadmin takeback 0 0\nadmin takeback 0 0\n";
+      output = codes "admin> granted 0 slot 0 superblock 0\n0> frame 0\nadmin> refused 15 SlotBusy\nadmin> refused 14 NoSlot\nadmin> refused 12 NoTenant\n0> freed 0\n0> refused 3 NotABlock\nadmin> taken superblock 0\nadmin> refused 14 NoSlot\n";
+    }
+    ∷ record {
+      trace = codes "admin grant 1\nadmin grant 1\n1 alloc 3\nadmin reset 1\n1 alloc 0\nadmin reset 2\nadmin grant 0\n";
+      output = codes "admin> granted 1 slot 0 superblock 0\nadmin> granted 1 slot 1 superblock 1\n1> frame 0\nadmin> reset 1 superblocks 2\n1> refused 1 NoFrames\nadmin> refused 12 NoTenant\nadmin> granted 0 slot 0 superblock 0\n";
+    }
+    ∷ record {
+      trace = codes "admin pool\nadmin grant 1\nadmin pool\n";
+      output = codes "admin> pool free 2 of 2\nadmin> superblock 0 free\nadmin> superblock 1 free\nadmin> granted 1 slot 0 superblock 0\nadmin> pool free 1 of 2\nadmin> superblock 0 tenant 1 slot 0\nadmin> superblock 1 free\n";
+    }
     ∷ []
 
 -- what a trace writes on a new machine
@@ -62,7 +90,7 @@ abbrev pub expected : Row → List ℕ
 expected r = r.output
 
 rows_are_written : map written rows ≡ map expected rows
-unfolding output_of opening_world line_step reading_step world_step grant_step tenant_step answer command_step alloc_step read_step next_slot after_grant in_reach choice taken_blocks empty_machine reading_of judged event_of admin_command_of command_of grant_of alloc_of read_of words_of digits encode_with
+unfolding take_back_of reset_of pool_of free_of write_of decode_pairs after_take_back free_step write_step take_back_step is_busy slot_step reset_step output_of opening_world line_step reading_step world_step grant_step tenant_step answer command_step alloc_step read_step next_slot after_grant in_reach choice taken_blocks empty_machine reading_of judged event_of admin_command_of command_of grant_of alloc_of read_of words_of digits encode_with
 rows_are_written = refl
 
 -- two traces in which tenant 0 does and is granted the same, and the others do much or nothing
@@ -80,13 +108,13 @@ abbrev pub lines_of_0 : List ℕ → List (List ℕ)
 lines_of_0 trace = lines_for 0 (output_of cache_limit 3 trace (opening_world 2 2))
 
 same_own_list : own_list_of alone ≡ own_list_of among_others
-unfolding output_of opening_world line_step reading_step world_step grant_step tenant_step answer command_step alloc_step read_step next_slot after_grant in_reach choice taken_blocks empty_machine reading_of judged event_of admin_command_of command_of grant_of alloc_of read_of words_of digits encode_with
+unfolding take_back_of reset_of pool_of free_of write_of decode_pairs after_take_back free_step write_step take_back_step is_busy slot_step reset_step output_of opening_world line_step reading_step world_step grant_step tenant_step answer command_step alloc_step read_step next_slot after_grant in_reach choice taken_blocks empty_machine reading_of judged event_of admin_command_of command_of grant_of alloc_of read_of words_of digits encode_with
 same_own_list = refl
 
 lines_alone : lines_of_0 alone ≡ codes "0> frame 0" ∷ codes "0> bytes 00" ∷ codes "0> refused 1 NoFrames" ∷ []
-unfolding output_of opening_world line_step reading_step world_step grant_step tenant_step answer command_step alloc_step read_step next_slot after_grant in_reach choice taken_blocks empty_machine reading_of judged event_of admin_command_of command_of grant_of alloc_of read_of words_of digits encode_with
+unfolding take_back_of reset_of pool_of free_of write_of decode_pairs after_take_back free_step write_step take_back_step is_busy slot_step reset_step output_of opening_world line_step reading_step world_step grant_step tenant_step answer command_step alloc_step read_step next_slot after_grant in_reach choice taken_blocks empty_machine reading_of judged event_of admin_command_of command_of grant_of alloc_of read_of words_of digits encode_with
 lines_alone = refl
 
 lines_among_others : lines_of_0 among_others ≡ codes "0> frame 0" ∷ codes "0> bytes 00" ∷ codes "0> refused 1 NoFrames" ∷ []
-unfolding output_of opening_world line_step reading_step world_step grant_step tenant_step answer command_step alloc_step read_step next_slot after_grant in_reach choice taken_blocks empty_machine reading_of judged event_of admin_command_of command_of grant_of alloc_of read_of words_of digits encode_with
+unfolding take_back_of reset_of pool_of free_of write_of decode_pairs after_take_back free_step write_step take_back_step is_busy slot_step reset_step output_of opening_world line_step reading_step world_step grant_step tenant_step answer command_step alloc_step read_step next_slot after_grant in_reach choice taken_blocks empty_machine reading_of judged event_of admin_command_of command_of grant_of alloc_of read_of words_of digits encode_with
 lines_among_others = refl

@@ -1,14 +1,16 @@
 -- In any run of the world a tenant's replies and machine are the private run of its own list.
-use Rattle.std.proofs.Common.{◌≡◌, ℕ, ◌<◌, ◌==◌, ◌≢◌, true, false, List, [], ◌∷◌, ◌++◌, Option, Some, None, is_none, position, slice_get, refl, ap, sym, subst, ◌∙◌, inl, inr, arith, append_assoc}
+use Rattle.std.proofs.Common.{◌≡◌, ℕ, ◌<◌, ◌==◌, ◌≢◌, true, false, List, [], ◌∷◌, ◌++◌, Option, Some, None, Result, Ok, Err, is_none, position, slice_get, refl, ap, sym, subst, ◌∙◌, inl, inr, arith, append_assoc}
 use Rattle.std.proofs.lemmas.Bool.{cases_eq, eq-eqb}
 use Rattle.model_core.specs.Machine.{Machine, empty_machine}
+use Rattle.model_core.specs.Operations.{take_back_step}
+use Rattle.model_core.specs.declared.refusals.TakeBackRefusal.{TakeBackRefusal}
 use Rattle.words_core.specs.declared.event.Event.{Event}
 use Rattle.words_core.specs.declared.event.Event.TheVariants as On
 use Rattle.words_core.specs.declared.event.AdminCommand.TheVariants as Do
 use Rattle.words_core.specs.declared.event.Command.{Command}
 use Rattle.kernel_core.specs.PrivateStep.{Entry, private_step}
 use Rattle.kernel_core.specs.PrivateRun.{private_run}
-use Rattle.kernel_core.specs.World.{World, WorldStep, answer, grant_step, tenant_step, world_step, history, world_after, opening_world}
+use Rattle.kernel_core.specs.World.{World, WorldStep, answer, grant_step, tenant_step, taken_back, slot_step, reset_step, world_step, history, world_after, opening_world}
 use Rattle.kernel_core.specs.OwnList.{own_entries, own_list, if_for, replies_to}
 use Rattle.kernel_core.specs.Laws.{IsPrivateRun, OwnRun, SameReplies, SameTexts, opening_history}
 use Rattle.kernel_core.specs.Output.{texts_for}
@@ -58,10 +60,45 @@ grant_other limit order t named w m (Some n) None here other = record { replies 
 grant_other limit order t named w m (Some n) (Some superblock) here other =
     rw (is_other named t other) record { replies = refl; machine = slice_get-set_other w.machines named t _ other ∙ here }
 
+taken_back_same : (limit order t slot : ℕ) (w : World) (m : Machine) (answered : Result (Unit {0}) TakeBackRefusal) → slice_get w.machines t ≡ Some m
+    → StepLeaves limit order t (On.Admin (Do.TakeBack t slot)) m (taken_back t slot w (take_back_step order slot m).machine answered)
+unfolding answer private_step
+taken_back_same limit order t slot w m (Ok done) here =
+    rw (is_same t) record { replies = refl; machine = slice_get-set_same w.machines t m _ here }
+taken_back_same limit order t slot w m (Err TakeBackRefusal.NoSlot) here = record { replies = refl; machine = here }
+taken_back_same limit order t slot w m (Err TakeBackRefusal.SlotBusy) here = record { replies = refl; machine = here }
+
+taken_back_other : (limit order t named slot : ℕ) (w : World) (m after : Machine) (answered : Result (Unit {0}) TakeBackRefusal) → slice_get w.machines t ≡ Some m → named ≢ t
+    → StepLeaves limit order t (On.Admin (Do.TakeBack named slot)) m (taken_back named slot w after answered)
+unfolding answer
+taken_back_other limit order t named slot w m after (Ok done) here other =
+    rw (is_other named t other) record { replies = refl; machine = slice_get-set_other w.machines named t _ other ∙ here }
+taken_back_other limit order t named slot w m after (Err TakeBackRefusal.NoSlot) here other = record { replies = refl; machine = here }
+taken_back_other limit order t named slot w m after (Err TakeBackRefusal.SlotBusy) here other = record { replies = refl; machine = here }
+
+slot_other : (limit order t named slot : ℕ) (w : World) (m : Machine) (o : Option Machine) → slice_get w.machines t ≡ Some m → named ≢ t
+    → StepLeaves limit order t (On.Admin (Do.TakeBack named slot)) m (slot_step order named slot w o)
+unfolding slot_step answer
+slot_other limit order t named slot w m None here other = record { replies = refl; machine = here }
+slot_other limit order t named slot w m (Some n) here other = taken_back_other limit order t named slot w m _ (take_back_step order slot n).answer here other
+
+reset_same : (limit order t : ℕ) (w : World) (m : Machine) → slice_get w.machines t ≡ Some m
+    → StepLeaves limit order t (On.Admin (Do.Reset t)) m (reset_step t w (Some m))
+unfolding reset_step private_step
+reset_same limit order t w m here =
+    rw (is_same t) record { replies = refl; machine = slice_get-set_same w.machines t m _ here }
+
+reset_other : (limit order t named : ℕ) (w : World) (m : Machine) (o : Option Machine) → slice_get w.machines t ≡ Some m → named ≢ t
+    → StepLeaves limit order t (On.Admin (Do.Reset named)) m (reset_step named w o)
+unfolding reset_step answer
+reset_other limit order t named w m None here other = rw (is_other named t other) record { replies = refl; machine = here }
+reset_other limit order t named w m (Some n) here other =
+    rw (is_other named t other) record { replies = refl; machine = slice_get-set_other w.machines named t _ other ∙ here }
+
 -- one step of the world, to one tenant
 pub step_leaves : (limit order t : ℕ) (event : Event) (w : World) (m : Machine) → slice_get w.machines t ≡ Some m
     → StepLeaves limit order t event m (world_step limit order event w)
-unfolding world_step
+unfolding world_step slot_step answer
 step_leaves limit order t (On.Tenant named command) w m here =
     elim (cases_eq named t) [
       | inl same ↦ subst (λ n. StepLeaves limit order t (On.Tenant n command) m (world_step limit order (On.Tenant n command) w)) (sym same)
@@ -76,6 +113,21 @@ step_leaves limit order t (On.Admin (Do.Grant named)) w m here =
           (grant_same limit order t w m (position is_none w.owners) here))
       | inr other ↦ grant_other limit order t named w m (slice_get w.machines named) (position is_none w.owners) here other
     ]
+step_leaves limit order t (On.Admin (Do.TakeBack named slot)) w m here =
+    elim (cases_eq named t) [
+      | inl same ↦ subst (λ n. StepLeaves limit order t (On.Admin (Do.TakeBack n slot)) m (world_step limit order (On.Admin (Do.TakeBack n slot)) w)) (sym same)
+          (subst (λ o. StepLeaves limit order t (On.Admin (Do.TakeBack t slot)) m (slot_step order t slot w o)) (sym here)
+          (taken_back_same limit order t slot w m (take_back_step order slot m).answer here))
+      | inr other ↦ slot_other limit order t named slot w m (slice_get w.machines named) here other
+    ]
+step_leaves limit order t (On.Admin (Do.Reset named)) w m here =
+    elim (cases_eq named t) [
+      | inl same ↦ subst (λ n. StepLeaves limit order t (On.Admin (Do.Reset n)) m (world_step limit order (On.Admin (Do.Reset n)) w)) (sym same)
+          (subst (λ o. StepLeaves limit order t (On.Admin (Do.Reset t)) m (reset_step t w o)) (sym here)
+          (reset_same limit order t w m here))
+      | inr other ↦ reset_other limit order t named w m (slice_get w.machines named) here other
+    ]
+step_leaves limit order t (On.Admin Do.Pool) w m here = record { replies = refl; machine = here }
 
 -- a private run of entries, and then of more
 machine-append : (limit order : ℕ) (xs ys : List Entry) (m : Machine)

@@ -1,5 +1,5 @@
 -- The lines of a tenant in the output of a trace are the texts of the replies addressed to it.
-use Rattle.std.proofs.Common.{◌≡◌, ℕ, ◌<◌, ◌≤◌, ◌^◌, ◌≢◌, ◌==◌, nat_eq, Bool, true, false, List, [], ◌∷◌, ◌++◌, Option, Some, None, Result, Ok, Err, is_none, position, length, slice_get, map, filter, codes, decimal, refl, ap, sym, subst, ◌∙◌, inl, inr, arith, append_assoc}
+use Rattle.std.proofs.Common.{◌≡◌, ℕ, ◌+◌, count_by, ◌<◌, ◌≤◌, ◌^◌, ◌≢◌, ◌==◌, nat_eq, Bool, true, false, List, [], ◌∷◌, ◌++◌, Option, Some, None, Result, Ok, Err, is_none, position, length, slice_get, map, filter, codes, decimal, refl, ap, sym, subst, ◌∙◌, inl, inr, arith, append_assoc}
 use Rattle.std.specs.List.{starts_with}
 use Rattle.std.proofs.lemmas.List.{append-nil, length-set, length-replicate}
 use Rattle.std.proofs.lemmas.List.Elements.{filter-append}
@@ -8,6 +8,8 @@ use Rattle.std.proofs.lemmas.Option.{slice_get_within}
 use Rattle.std.proofs.lemmas.Fmt.{decimal_injective}
 use Rattle.std.proofs.lemmas.Bool.{cases_eq}
 use Rattle.model_core.specs.Machine.{Machine, empty_machine}
+use Rattle.model_core.specs.Operations.{take_back_step}
+use Rattle.model_core.specs.declared.refusals.TakeBackRefusal.{TakeBackRefusal}
 use Rattle.hex.specs.Hex.{encode_lower}
 use Rattle.words_core.specs.declared.event.Event.{Event}
 use Rattle.words_core.specs.declared.event.Event.TheVariants as On
@@ -17,12 +19,12 @@ use Rattle.words_core.specs.declared.event.LineFault.{LineFault}
 use Rattle.words_core.specs.declared.reply.Addressee.{Addressee}
 use Rattle.words_core.specs.declared.reply.Addressee.TheVariants.{Admin, Nobody, Tenant}
 use Rattle.words_core.specs.declared.reply.Body.{Body}
-use Rattle.words_core.specs.declared.reply.Body.TheVariants.{Granted, Frame, Bytes, Refused, Fault}
+use Rattle.words_core.specs.declared.reply.Body.TheVariants.{Granted, TakenBack, WasReset, Owners, Frame, Freed, Bytes, Written, Refused, Fault}
 use Rattle.words_core.specs.declared.reply.Reply.{Reply}
 use Rattle.words_core.specs.Cutting.{lines_of_trace}
 use Rattle.words_core.specs.Grammar.{reading_of}
-use Rattle.words_core.specs.Texts.{addressee_text, body_texts, number_of_refusal, name_of_refusal, name_of_fault, text_of}
-use Rattle.kernel_core.specs.World.{World, WorldStep, answer, grant_step, tenant_step, world_step, history, opening_world}
+use Rattle.words_core.specs.Texts.{addressee_text, body_texts, owner_text, owner_texts, number_of_refusal, name_of_refusal, name_of_fault, text_of}
+use Rattle.kernel_core.specs.World.{World, WorldStep, answer, grant_step, tenant_step, taken_back, slot_step, reset_step, world_step, history, opening_world}
 use Rattle.kernel_core.specs.OwnList.{if_for, replies_to}
 use Rattle.kernel_core.specs.Output.{reading_step, line_step, lines_step, output_of, event_in, events_of, lines_for, texts_for}
 use Rattle.kernel_core.specs.Laws.{OwnLines, SameLines, private_lines, opening_history}
@@ -33,11 +35,28 @@ use Rattle.kernel_core.proofs.Runs as runs
 behind_2 : (front a b : List ℕ) → (front ++ a) ++ b ≡ front ++ (([] ++ a) ++ b)
 behind_2 front a b = append_assoc front a b
 
+behind_3 : (front a b c : List ℕ) → ((front ++ a) ++ b) ++ c ≡ front ++ ((([] ++ a) ++ b) ++ c)
+behind_3 front a b c = simp append_assoc
+
 behind_4 : (front a b c d : List ℕ) → (((front ++ a) ++ b) ++ c) ++ d ≡ front ++ (((([] ++ a) ++ b) ++ c) ++ d)
 behind_4 front a b c d = simp append_assoc
 
 behind_6 : (front a b c d e f : List ℕ) → (((((front ++ a) ++ b) ++ c) ++ d) ++ e) ++ f ≡ front ++ (((((([] ++ a) ++ b) ++ c) ++ d) ++ e) ++ f)
 behind_6 front a b c d e f = simp append_assoc
+
+owner_fronted : (front : List ℕ) (superblock : ℕ) (owner : Option (ℕ × ℕ)) → owner_text front superblock owner ≡ front ++ owner_text [] superblock owner
+owner_fronted front superblock None = behind_3 front (codes "superblock ") (decimal superblock) (codes " free")
+owner_fronted front superblock (Some (tenant, slot)) =
+    behind_6 front (codes "superblock ") (decimal superblock) (codes " tenant ") (decimal tenant) (codes " slot ") (decimal slot)
+
+both_rows : {row row' : List ℕ} {rows rows' : List (List ℕ)} → row ≡ row' → rows ≡ rows' → row ∷ rows ≡ row' ∷ rows'
+both_rows same same_rows = cc
+
+owners_fronted : (front : List ℕ) (superblock : ℕ) (owners : List (Option (ℕ × ℕ)))
+    → owner_texts front superblock owners ≡ map (λ row. front ++ row) (owner_texts [] superblock owners)
+owners_fronted front superblock [] = refl
+owners_fronted front superblock (owner ∷ owners) =
+    both_rows (owner_fronted front superblock owner) (owners_fronted front (superblock + 1) owners)
 
 alone : List ℕ → List (List ℕ)
 alone row = row ∷ []
@@ -47,6 +66,14 @@ fronted : (front : List ℕ) (body : Body) → body_texts front body ≡ map (λ
 unfolding alone
 fronted front (Granted tenant slot superblock) =
     ap alone (behind_6 front (codes "granted ") (decimal tenant) (codes " slot ") (decimal slot) (codes " superblock ") (decimal superblock))
+fronted front (TakenBack superblock) = ap alone (behind_2 front (codes "taken superblock ") (decimal superblock))
+fronted front (WasReset tenant superblocks) =
+    ap alone (behind_4 front (codes "reset ") (decimal tenant) (codes " superblocks ") (decimal superblocks))
+fronted front (Owners owners) =
+    both_rows (behind_4 front (codes "pool free ") (decimal (count_by is_none owners.items)) (codes " of ") (decimal (length owners.items)))
+    (owners_fronted front 0 owners.items)
+fronted front (Freed order) = ap alone (behind_2 front (codes "freed ") (decimal order))
+fronted front (Written count) = ap alone (behind_2 front (codes "written ") (decimal count))
 fronted front (Frame frame) = ap alone (behind_2 front (codes "frame ") (decimal frame))
 fronted front (Bytes bytes) = ap alone (behind_2 front (codes "bytes ") (encode_lower bytes.items))
 fronted front (Refused refusal) =
@@ -146,10 +173,29 @@ grant_stays order named w None free = record { tenants = refl; addressee = λ ma
 grant_stays order named w (Some m) None = record { tenants = refl; addressee = λ many. tt }
 grant_stays order named w (Some m) (Some superblock) = record { tenants = length-set w.machines named _; addressee = λ many. tt }
 
+taken_back_stays : (named slot : ℕ) (w : World) (after : Machine) (answered : Result (Unit {0}) TakeBackRefusal) → StaysNumbered w (taken_back named slot w after answered)
+unfolding answer
+taken_back_stays named slot w after (Ok done) = record { tenants = length-set w.machines named _; addressee = λ many. tt }
+taken_back_stays named slot w after (Err TakeBackRefusal.NoSlot) = record { tenants = refl; addressee = λ many. tt }
+taken_back_stays named slot w after (Err TakeBackRefusal.SlotBusy) = record { tenants = refl; addressee = λ many. tt }
+
+slot_stays : (order named slot : ℕ) (w : World) (o : Option Machine) → StaysNumbered w (slot_step order named slot w o)
+unfolding slot_step answer
+slot_stays order named slot w None = record { tenants = refl; addressee = λ many. tt }
+slot_stays order named slot w (Some m) = taken_back_stays named slot w _ (take_back_step order slot m).answer
+
+reset_stays : (named : ℕ) (w : World) (o : Option Machine) → StaysNumbered w (reset_step named w o)
+unfolding reset_step answer
+reset_stays named w None = record { tenants = refl; addressee = λ many. tt }
+reset_stays named w (Some m) = record { tenants = length-set w.machines named _; addressee = λ many. tt }
+
 step_stays : (limit order : ℕ) (event : Event) (w : World) → StaysNumbered w (world_step limit order event w)
-unfolding world_step
+unfolding world_step answer
 step_stays limit order (On.Tenant named command) w = tenant_stays limit order named command w (slice_get w.machines named) refl
 step_stays limit order (On.Admin (Do.Grant named)) w = grant_stays order named w (slice_get w.machines named) (position is_none w.owners)
+step_stays limit order (On.Admin (Do.TakeBack named slot)) w = slot_stays order named slot w (slice_get w.machines named)
+step_stays limit order (On.Admin (Do.Reset named)) w = reset_stays named w (slice_get w.machines named)
+step_stays limit order (On.Admin Do.Pool) w = record { tenants = refl; addressee = λ many. tt }
 
 -- lines tell tenant t, from each world of at most 2 ^ 64 tenants, the replies of their events that are addressed to it
 abbrev pub Tell : ℕ → ℕ → ℕ → List (List ℕ) → Type 0

@@ -1,5 +1,5 @@
 -- The lines of a reply: none holds an LF, so cutting gives them back; and each tells by its beginning to whom it is addressed.
-use Rattle.std.proofs.Common.{◌≡◌, ℕ, zero, suc, ◌+◌, slice_index, ◌<◌, ◌≤◌, ◌≢◌, ◌==◌, ◌/◌, ◌%◌, ◌&&◌, not, nat_eq, nat_le, Bool, true, false, if◌then◌else◌, List, [], ◌∷◌, ◌++◌, map, codes, decimal, refl, ap, sym, subst, ◌∙◌, arith, append_assoc}
+use Rattle.std.proofs.Common.{◌≡◌, ℕ, zero, suc, ◌+◌, Option, Some, None, is_none, count_by, length, slice_index, ◌<◌, ◌≤◌, ◌≢◌, ◌==◌, ◌/◌, ◌%◌, ◌&&◌, not, nat_eq, nat_le, Bool, true, false, if◌then◌else◌, List, [], ◌∷◌, ◌++◌, map, codes, decimal, refl, ap, sym, subst, ◌∙◌, arith, append_assoc}
 use Rattle.std.specs.List.{list_all, concat, starts_with, onto_first}
 use Rattle.std.specs.Fmt.{digits, digits_onto, digit_glyph}
 use Rattle.std.proofs.lemmas.List.Folds.{list_all-append}
@@ -10,12 +10,12 @@ use Rattle.words_core.specs.declared.event.LineFault.TheVariants.{Long, Unknown,
 use Rattle.words_core.specs.declared.reply.Addressee.{Addressee}
 use Rattle.words_core.specs.declared.reply.Addressee.TheVariants.{Admin, Nobody, Tenant}
 use Rattle.words_core.specs.declared.reply.Body.{Body}
-use Rattle.words_core.specs.declared.reply.Body.TheVariants.{Granted, Frame, Bytes, Refused, Fault}
+use Rattle.words_core.specs.declared.reply.Body.TheVariants.{Granted, TakenBack, WasReset, Owners, Frame, Freed, Bytes, Written, Refused, Fault}
 use Rattle.words_core.specs.declared.reply.Refusal.{Refusal}
 use Rattle.words_core.specs.declared.event.LineFault.{LineFault}
 use Rattle.words_core.specs.declared.reply.Refusal.TheVariants.{NoFrames, BadOrder, NotABlock, OutOfReach, BadLength, BadSize, BadAlign, NoCacheSlot, NoCache, CacheInUse, NotAnObject, NoTenant, PoolEmpty, NoSlot, SlotBusy}
 use Rattle.words_core.specs.Cutting.{lines_of_trace}
-use Rattle.words_core.specs.Texts.{addressee_text, body_texts, number_of_refusal, name_of_refusal, name_of_fault}
+use Rattle.words_core.specs.Texts.{addressee_text, body_texts, owner_text, owner_texts, number_of_refusal, name_of_refusal, name_of_fault}
 
 -- a byte that is no LF
 abbrev pub is_text : ℕ → Bool
@@ -141,11 +141,30 @@ with_piece {front} text more h = record { all = list_all-append is_text front mo
 with_number : {front : List ℕ} → IsText front → (n : ℕ) → IsText (front ++ decimal n)
 with_number text n = with_piece text (decimal n) (decimal_text n)
 
+owner_is_text : (front : List ℕ) (superblock : ℕ) (owner : Option (ℕ × ℕ)) → IsText front → IsText (owner_text front superblock owner)
+owner_is_text front superblock None h = with_piece (with_number (with_piece h (codes "superblock ") refl) superblock) (codes " free") refl
+owner_is_text front superblock (Some (tenant, slot)) h =
+    let of_tenant = with_number (with_piece (with_number (with_piece h (codes "superblock ") refl) superblock) (codes " tenant ") refl) tenant in
+    with_number (with_piece of_tenant (codes " slot ") refl) slot
+
+owners_are_texts : (front : List ℕ) (superblock : ℕ) (owners : List (Option (ℕ × ℕ))) → IsText front → AreTexts (owner_texts front superblock owners)
+owners_are_texts front superblock [] h = tt
+owners_are_texts front superblock (owner ∷ owners) h = (owner_is_text front superblock owner h, owners_are_texts front (superblock + 1) owners h)
+
 pub body_text : (front : List ℕ) (body : Body) → IsText front → AreTexts (body_texts front body)
 body_text front (Granted tenant slot superblock) h =
     let of_tenant = with_number (with_piece h (codes "granted ") refl) tenant in
     let of_slot = with_number (with_piece of_tenant (codes " slot ") refl) slot in
     (with_number (with_piece of_slot (codes " superblock ") refl) superblock, tt)
+body_text front (TakenBack superblock) h = (with_number (with_piece h (codes "taken superblock ") refl) superblock, tt)
+body_text front (WasReset tenant superblocks) h =
+    let of_tenant = with_number (with_piece h (codes "reset ") refl) tenant in
+    (with_number (with_piece of_tenant (codes " superblocks ") refl) superblocks, tt)
+body_text front (Owners owners) h =
+    let of_free = with_number (with_piece h (codes "pool free ") refl) (count_by is_none owners.items) in
+    (with_number (with_piece of_free (codes " of ") refl) (length owners.items), owners_are_texts front 0 owners.items h)
+body_text front (Freed order) h = (with_number (with_piece h (codes "freed ") refl) order, tt)
+body_text front (Written count) h = (with_number (with_piece h (codes "written ") refl) count, tt)
 body_text front (Frame frame) h = (with_number (with_piece h (codes "frame ") refl) frame, tt)
 body_text front (Bytes bytes) h = (with_piece (with_piece h (codes "bytes ") refl) (encode_lower bytes.items) (hex_text bytes.items), tt)
 body_text front (Refused refusal) h =

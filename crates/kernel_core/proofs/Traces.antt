@@ -1,6 +1,10 @@
 -- The lines of a trace, run one after the other.
-use Rattle.std.proofs.Common.{◌≡◌, ℕ, ◌<◌, ◌≤◌, List, [], ◌∷◌, ◌++◌, Result, Ok, Err, OnErr, length, take, refl, ap, sym, subst, ◌∙◌, arith, append_assoc}
-use Rattle.std.proofs.Math.Seq.{take-append_seam}
+use Rattle.std.proofs.Common.{◌≡◌, ℕ, ◌<◌, ◌≤◌, ◌^◌, List, [], ◌∷◌, ◌++◌, ◌+◌, Option, Some, slice_get, get_or, add-one, Result, Ok, Err, OnErr, length, take, refl, ap, sym, subst, ◌∙◌, arith, append_assoc}
+use Rattle.std.specs.List.{concat}
+use Rattle.std.proofs.Math.Seq.{take-append_seam, take-suc}
+use Rattle.std.proofs.lemmas.List.Folds.{concat-append}
+use Rattle.std.proofs.lemmas.Option.{slice_get-get_or}
+use Rattle.kernel_core.proofs.Owners.{same_some}
 use Rattle.std.proofs.lemmas.List.{append-nil, nil_from_length, length-replicate}
 use Rattle.model_core.specs.Machine.{empty_machine}
 use Rattle.words_core.specs.Cutting.{lines_of_trace}
@@ -108,3 +112,13 @@ pub own_written : OwnLines → (k : Parts) (superblocks tenants t : ℕ) (input 
 own_written own k superblocks tenants t input output few shown here written =
     ap (lines_for t) (written (opening_world superblocks tenants) shown)
     ∙ own cache_limit k.order superblocks tenants t input (omega (arith, opening_tenants superblocks tenants, shown.tenants)) here
+
+-- the first rows of a reply, with one more
+pub rows_more : (rows : List (List ℕ)) (i : ℕ) (row : List ℕ) → i < length rows → slice_get rows i ≡ Some row
+    → concat (take (i + 1) rows) ≡ concat (take i rows) ++ row
+rows_more rows i row below here =
+    let at : get_or rows i [] ≡ row = same_some _ _ (sym (slice_get-get_or rows i [] below) ∙ here) in
+    ap (λ n. concat (take n rows)) (add-one i)
+    ∙ ap concat (take-suc rows i [] below)
+    ∙ concat-append (take i rows) (get_or rows i [] ∷ [])
+    ∙ ap (λ x. concat (take i rows) ++ x) (append-nil (get_or rows i []) ∙ at)

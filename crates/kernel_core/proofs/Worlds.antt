@@ -1,23 +1,24 @@
 -- From what one event does to the parts to what it does to the world that they show.
-use Rattle.std.proofs.Common.{◌≡◌, ◌≢◌, ℕ, zero, suc, ◌<◌, ◌≤◌, Some, None, is_some, List, [], ◌∷◌, length, slice_get, slice_set, refl, sym, ap, ◌∙◌, subst, ⊎_elim, arith}
-use Rattle.std.proofs.lemmas.Bool.{false≢true, eq-eqb, cases_eq}
+use Rattle.std.proofs.Common.{◌≡◌, ◌≢◌, ℕ, zero, suc, ◌<◌, ◌≤◌, ◌==◌, Bool, true, false, Option, Some, None, is_some, List, [], ◌∷◌, length, slice_get, slice_set, refl, sym, ap, ◌∙◌, subst, ⊎_elim, arith}
+use Rattle.std.proofs.lemmas.Bool.{cases_eq, eq-eqb}
 use Rattle.std.proofs.lemmas.List.{length-set}
 use Rattle.model_core.specs.Machine.{Machine}
-use Rattle.model_core.specs.Marks.{Owners}
-use Rattle.words_core.specs.declared.event.Event.{Event}
+use Rattle.space_core.specs.Laws.{IsSameFor}
+use Rattle.space_core.specs.Content as spaces
+use Rattle.buddy_core.specs.Content as buddies
 use Rattle.words_core.specs.declared.event.Event.TheVariants as On
 use Rattle.words_core.specs.declared.event.Command.{Command}
-use Rattle.words_core.specs.declared.reply.Reply.{Reply}
-use Rattle.words_core.specs.declared.reply.Body.{Body}
-use Rattle.words_core.specs.declared.reply.Addressee.{Addressee}
 use Rattle.words_core.specs.declared.reply.Addressee.TheVariants as To
+use Rattle.words_core.specs.declared.reply.Body.{Body}
+use Rattle.words_core.specs.declared.event.Event.{Event}
+use Rattle.words_core.specs.declared.reply.Addressee.{Addressee}
+use Rattle.words_core.specs.declared.reply.Reply.{Reply}
 use Rattle.words_core.specs.declared.reply.Refusal.TheVariants.{NoTenant}
-use Rattle.words_core.specs.declared.reply.Refusal.{Refusal}
 use Rattle.words_core.specs.declared.reply.Body.TheVariants.{Refused}
 use Rattle.kernel_core.specs.Limits.{cache_limit}
-use Rattle.kernel_core.specs.World.{World, WorldStep, answer, tenant_step, world_step}
 use Rattle.kernel_core.specs.PrivateStep.{command_step}
-use Rattle.kernel_core.specs.Parts.{Parts, Keeps}
+use Rattle.kernel_core.specs.World.{World, WorldStep, answer, tenant_step, world_step}
+use Rattle.kernel_core.specs.Parts.{Parts, PartsAgree, Keeps}
 use Rattle.kernel_core.specs.Shows.{ShowsMachine, Shows}
 use Rattle.kernel_core.specs.Steps.{Steps, StepsMachine}
 use Rattle.kernel_core.proofs.MachineLists.{slice_get-set_same, slice_get-set_other}
@@ -35,25 +36,30 @@ get_within (x ∷ xs) (suc i) within = get_within xs i (omega arith)
 some_same : {A : Type 0} (x y : A) → Some x ≡ Some y → x ≡ y
 some_same x y e = cc
 
+-- a space that stays is the same for all
+pub same_all : (t : ℕ) (s : spaces.Content) → IsSameFor t s s
+same_all t s = record { slots = λ u. refl; banks = λ u m here. refl; bytes = λ place. refl; windows = λ place len. refl }
+
 -- parts that stay keep all
 pub keeps_all : (k : Parts) (t : ℕ) → Keeps k k t
-keeps_all k t = record { superblocks = λ slot. refl; taken = λ frame. refl; bytes = λ place. refl }
+keeps_all k t = record { space = same_all t k.space; buddy = refl }
 
 -- parts that keep what a tenant has show the same machine for it
 pub keeps_shows : (k k' : Parts) (t : ℕ) (m : Machine) → Keeps k k' t → ShowsMachine k t m → ShowsMachine k' t m
 keeps_shows k k' t m keeps shown = record {
   slots_rise = shown.slots_rise;
-  slots = λ slot. shown.slots slot ∙ sym (ap is_some (keeps.superblocks slot));
+  slots = λ slot. shown.slots slot ∙ sym (ap is_some (keeps.space.slots slot));
   blocks_rise = shown.blocks_rise;
-  blocks = λ frame. shown.blocks frame ∙ sym (keeps.taken frame);
+  blocks = λ frame. shown.blocks frame ∙ sym (ap (λ h. buddies.taken_of h frame) keeps.buddy);
   caches = shown.caches;
-  bytes = λ place. shown.bytes place ∙ sym (keeps.bytes place);
+  bytes = λ place. shown.bytes place ∙ sym (keeps.space.bytes place);
 }
 
 -- one tenant's machine changes, and the owners
-pub shows_changed : (k k' : Parts) (w : World) (t : ℕ) (m m' : Machine) (owners : Owners) → Shows k w → k'.tenants ≡ k.tenants → owners ≡ k'.owners
+pub shows_changed : (k k' : Parts) (w : World) (t : ℕ) (m m' : Machine) (owners : List (Option (ℕ × ℕ))) → Shows k w → PartsAgree k' → k'.tenants ≡ k.tenants → owners ≡ k'.space.owners
     → slice_get w.machines t ≡ Some m → ShowsMachine k' t m' → ((u : ℕ) → u ≢ t → Keeps k k' u) → Shows k' (record { owners = owners; machines = slice_set w.machines t m' })
-shows_changed k k' w t m m' owners shown same_tenants same_owners here shown' keeps = record {
+shows_changed k k' w t m m' owners shown agree same_tenants same_owners here shown' keeps = record {
+  agree = agree;
   owners = same_owners;
   tenants = length-set w.machines t m' ∙ shown.tenants ∙ sym same_tenants;
   machines = λ u n there. ⊎_elim
@@ -66,12 +72,12 @@ shows_changed k k' w t m m' owners shown same_tenants same_owners here shown' ke
       (cases_eq u t);
 }
 
--- a refused event changes nothing
-pub steps_refused : (k : Parts) (event : Event) (to : Addressee) (refusal : Refusal)
-    → ((w : World) → Shows k w → world_step cache_limit k.order event w ≡ answer to (Refused refusal) w)
-    → Steps k event k (record { addressee = to; body = Refused refusal })
+-- an answer that changes nothing
+pub steps_answered : (k : Parts) (event : Event) (to : Addressee) (body : Body)
+    → ((w : World) → Shows k w → world_step cache_limit k.order event w ≡ answer to body w)
+    → Steps k event k (record { addressee = to; body = body })
 unfolding answer
-steps_refused k event to refusal same = record {
+steps_answered k event to body same = record {
   order = refl;
   shows = λ w shown. subst (λ (s : WorldStep). Shows k s.world) (sym (same w shown)) shown;
   answer = λ w shown. sym (ap (λ (s : WorldStep). s.reply) (same w shown));
@@ -79,41 +85,32 @@ steps_refused k event to refusal same = record {
   others = λ t _. keeps_all k t;
 }
 
--- the reply to a tenant
-abbrev pub tenant_reply : ℕ → Body → Reply
-tenant_reply t body = record { addressee = To.Tenant t; body = body }
+pub false_is : (b : Bool) → b ≡ false → b ≡ true → ⊥
+false_is b isnt is = cc
 
--- what a command of a tenant that there is is to the world
-tenant_is : (k : Parts) (w : World) (t : ℕ) (command : Command) (x : Machine) → slice_get w.machines t ≡ Some x
-    → world_step cache_limit k.order (On.Tenant t command) w ≡ tenant_step cache_limit k.order t command w (Some x)
-unfolding world_step
-tenant_is k w t command x here = ap (λ o. tenant_step cache_limit k.order t command w o) here
-
--- a step of the tenant's machine is a step of the world
-pub steps_tenant : (k k' : Parts) (t : ℕ) (command : Command) (body : Body) → t < k.tenants → StepsMachine k t command k' body
-    → Steps k (On.Tenant t command) k' (tenant_reply t body)
-unfolding tenant_step
-steps_tenant k k' t command body known steps = record {
-  order = ap (λ (p : Parts). p.order) steps.kept;
-  shows = λ w shown.
-      let (x, here) = get_within w.machines t (omega (arith, shown.tenants)) in
-      subst (λ (s : WorldStep). Shows k' s.world) (sym (tenant_is k w t command x here))
-      (shows_changed k k' w t x (command_step cache_limit k.order command x).machine w.owners shown (ap (λ (p : Parts). p.tenants) steps.kept)
-      (shown.owners ∙ sym (ap (λ (p : Parts). p.owners) steps.kept)) here (steps.shows x (shown.machines t x here)) steps.others);
-  answer = λ w shown.
-      let (x, here) = get_within w.machines t (omega (arith, shown.tenants)) in
-      ap (λ b. tenant_reply t b) (steps.answer x (shown.machines t x here)) ∙ sym (ap (λ (s : WorldStep). s.reply) (tenant_is k w t command x here));
-  refused = steps.refused;
-  others = λ u named. steps.others u (λ same. false≢true (sym named ∙ eq-eqb t u (sym same)));
-}
-
--- and there is none where there is no such tenant
-pub steps_unknown : (k : Parts) (t : ℕ) (command : Command) → k.tenants ≤ t → Steps k (On.Tenant t command) k (record { addressee = To.Nobody; body = Refused NoTenant })
+-- the tenant has no machine
+pub unknown_tenant : (k : Parts) (t : ℕ) (command : Command) → k.tenants ≤ t
+    → Steps k (On.Tenant t command) k (record { addressee = To.Nobody; body = Refused NoTenant })
 unfolding world_step tenant_step
-steps_unknown k t command unknown =
-    steps_refused k (On.Tenant t command) To.Nobody NoTenant
+unknown_tenant k t command past =
+    steps_answered k (On.Tenant t command) To.Nobody (Refused NoTenant)
     (λ w shown. ap (λ o. tenant_step cache_limit k.order t command w o) (get_past w.machines t (omega (arith, shown.tenants))))
 
--- one event written in two ways
-pub same_event : (k : Parts) (event event' : Event) (k' : Parts) (reply : Reply) → Steps k event k' reply → event ≡ event' → Steps k event' k' reply
-same_event k event event' k' reply steps same = subst (λ e. Steps k e k' reply) same steps
+-- a command of a tenant is a step of its machine
+pub steps_asked : (k k' : Parts) (t : ℕ) (command : Command) (body : Body) → t < k.tenants → StepsMachine k t command k' body
+    → Steps k (On.Tenant t command) k' (record { addressee = To.Tenant t; body = body })
+unfolding world_step tenant_step
+steps_asked k k' t command body known steps = record {
+  order = steps.order;
+  shows = λ w shown.
+      let (m, here) = get_within w.machines t (omega (arith, shown.tenants)) in
+      subst (λ o. Shows k' (tenant_step cache_limit k.order t command w o).world) (sym here)
+      (shows_changed k k' w t m (command_step cache_limit k.order command m).machine w.owners shown steps.agree steps.tenants
+      (shown.owners ∙ sym steps.owners) here (steps.shows m (shown.machines t m here)) steps.others);
+  answer = λ w shown.
+      let (m, here) = get_within w.machines t (omega (arith, shown.tenants)) in
+      subst (λ o. record { addressee = To.Tenant t; body = body } ≡ (tenant_step cache_limit k.order t command w o).reply) (sym here)
+      (ap (λ b. record { addressee = To.Tenant t; body = b }) (steps.answer m (shown.machines t m here)));
+  refused = steps.refused;
+  others = λ u named. steps.others u (λ same. false_is (t == u) named (eq-eqb t u (sym same)));
+}

@@ -70,7 +70,9 @@ SameLines = (limit order superblocks tenants superblocks' tenants' t : ℕ) (tra
 -- what an entry is to the model: an operation, or nothing where it only reads
 abbrev pub operations_in : Entry → List Operation
 operations_in (Entry.Ask (Ask.Alloc k)) = Operation.Alloc k ∷ []
+operations_in (Entry.Ask (Ask.Free first)) = Operation.Free first ∷ []
 operations_in (Entry.Ask (Ask.Read place len)) = []
+operations_in (Entry.Ask (Ask.Write place bytes)) = Operation.Write place bytes.items ∷ []
 operations_in Entry.Grant = Operation.Grant ∷ []
 operations_in (Entry.TakeBack slot) = Operation.TakeBack slot ∷ []
 operations_in Entry.Reset = Operation.Reset ∷ []

@@ -7,5 +7,6 @@ pub mod Output
 pub mod Laws
 pub mod Parts
 pub mod Shows
-pub mod Booting
 pub mod Steps
+pub mod Booting
+pub mod GivenUp

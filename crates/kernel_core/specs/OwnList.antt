@@ -6,14 +6,19 @@ use Rattle.words_core.specs.declared.event.AdminCommand.TheVariants as Do
 use Rattle.words_core.specs.declared.reply.Addressee.{Addressee}
 use Rattle.words_core.specs.declared.reply.Addressee.TheVariants as To
 use Rattle.words_core.specs.declared.reply.Body.{Body}
-use Rattle.words_core.specs.declared.reply.Body.TheVariants.{Granted, Frame, Bytes, Refused, Fault}
-use Rattle.kernel_core.specs.PrivateStep.{Entry, Ask, Grant}
+use Rattle.words_core.specs.declared.reply.Body.TheVariants.{Granted, TakenBack, WasReset, Owners, Frame, Freed, Bytes, Written, Refused, Fault}
+use Rattle.kernel_core.specs.PrivateStep.{Entry, Ask, Grant, TakeBack, Reset}
 use Rattle.kernel_core.specs.World.{Exchange}
 
 abbrev pub is_refused : Body → Bool
 is_refused (Granted tenant slot superblock) = false
+is_refused (TakenBack superblock) = false
+is_refused (WasReset tenant superblocks) = false
+is_refused (Owners owners) = false
 is_refused (Frame first) = false
+is_refused (Freed order) = false
 is_refused (Bytes bytes) = false
+is_refused (Written count) = false
 is_refused (Refused refusal) = true
 is_refused (Fault fault) = false
 
@@ -29,6 +34,9 @@ if_granted t named body entry = if is_refused body then [] else if_named t named
 abbrev pub own_entries : ℕ → Event → Body → List Entry
 own_entries t (On.Tenant named command) body = if_named t named (Ask command)
 own_entries t (On.Admin (Do.Grant named)) body = if_granted t named body Grant
+own_entries t (On.Admin (Do.TakeBack named slot)) body = if_granted t named body (TakeBack slot)
+own_entries t (On.Admin (Do.Reset named)) body = if_named t named Reset
+own_entries t (On.Admin Do.Pool) body = []
 
 -- the tenant's own list: its commands, and what was granted to it, taken back and reset
 abbrev pub own_list : ℕ → List Exchange → List Entry

@@ -1,13 +1,13 @@
 -- The private machine of one tenant, a step at a time.
-use Rattle.std.specs.Prelude.{ℕ, List, [], ◌∷◌, Result, Ok, Err}
+use Rattle.std.specs.Prelude.{ℕ, List, [], ◌∷◌, Option, Some, None, Result, Ok, Err}
 use Rattle.model_core.specs.Machine.{Machine, empty_machine}
-use Rattle.model_core.specs.Operations.{Step, alloc_step, read_step, after_grant, take_back_step}
+use Rattle.model_core.specs.Operations.{Step, alloc_step, free_step, read_step, write_step, after_grant, take_back_step}
 use Rattle.model_core.specs.declared.refusals.AllocRefusal.{AllocRefusal}
 use Rattle.model_core.specs.declared.refusals.ReadRefusal.{ReadRefusal}
 use Rattle.words_core.specs.declared.event.Command.{Command}
-use Rattle.words_core.specs.declared.event.Command.TheVariants.{Alloc, Read}
+use Rattle.words_core.specs.declared.event.Command.TheVariants.{Alloc, Free, Read, Write}
 use Rattle.words_core.specs.declared.reply.Body.{Body}
-use Rattle.words_core.specs.declared.reply.Body.TheVariants.{Frame, Bytes, Refused}
+use Rattle.words_core.specs.declared.reply.Body.TheVariants.{Frame, Freed, Bytes, Written, Refused}
 use Rattle.words_core.specs.declared.reply.Refusal.{Refusal}
 
 -- what the tenant is told of an operation on its machine
@@ -17,10 +17,18 @@ alloc_body (Ok frame) = Frame frame
 alloc_body (Err AllocRefusal.BadOrder) = Refused Refusal.BadOrder
 alloc_body (Err AllocRefusal.NoFrames) = Refused Refusal.NoFrames
 
+abbrev pub free_body : Option ℕ → Body
+free_body (Some order) = Freed order
+free_body None = Refused Refusal.NotABlock
+
 abbrev pub read_body : Result (List ℕ) ReadRefusal → Body
 read_body (Ok bytes) = Bytes (record { items = bytes })
 read_body (Err ReadRefusal.BadLength) = Refused Refusal.BadLength
 read_body (Err ReadRefusal.OutOfReach) = Refused Refusal.OutOfReach
+
+abbrev pub write_body : Option ℕ → Body
+write_body (Some count) = Written count
+write_body None = Refused Refusal.OutOfReach
 
 -- the operation, with its answer put as the body of a reply
 abbrev pub told_by : {A : Type 0} → (A → Body) → Step A → Step Body
@@ -30,7 +38,9 @@ told_by body step = record { answer = body step.answer; machine = step.machine }
 -- 2 ^ order frames.
 unfoldable pub command_step : ℕ → ℕ → Command → Machine → Step Body
 command_step limit order (Alloc k) m = told_by alloc_body (alloc_step order k m)
+command_step limit order (Free frame) m = told_by free_body (free_step frame m)
 command_step limit order (Read place len) m = told_by read_body (read_step place len m)
+command_step limit order (Write place bytes) m = told_by write_body (write_step place bytes.items m)
 
 -- all that reaches the machine of a tenant: its own command, a superblock granted, a slot taken back, a reset
 pub data Entry : Type 0 where

@@ -11,13 +11,16 @@ use Rattle.kernel_core.specs.Limits.{cache_limit}
 use Rattle.kernel_core.specs.PrivateStep.{command_step}
 use Rattle.kernel_core.specs.World.{World, world_step}
 use Rattle.kernel_core.specs.OwnList.{is_refused}
-use Rattle.kernel_core.specs.Parts.{Parts, Keeps}
+use Rattle.kernel_core.specs.Parts.{Parts, PartsAgree, Keeps}
 use Rattle.kernel_core.specs.Shows.{Shows, ShowsMachine}
 
 -- the event names tenant t
 abbrev pub is_named : ℕ → Event → Bool
 is_named t (On.Tenant tenant command) = tenant == t
 is_named t (On.Admin (Do.Grant tenant)) = tenant == t
+is_named t (On.Admin (Do.TakeBack tenant slot)) = tenant == t
+is_named t (On.Admin (Do.Reset tenant)) = tenant == t
+is_named t (On.Admin Do.Pool) = false
 
 -- the event is a step of whichever world the parts show
 pub record Steps (old : Parts) (event : Event) (new : Parts) (reply : Reply) : Type 0 where
@@ -29,7 +32,10 @@ pub record Steps (old : Parts) (event : Event) (new : Parts) (reply : Reply) : T
 
 -- the command is a step of whichever machine the parts show for the tenant
 pub record StepsMachine (old : Parts) (t : ℕ) (command : Command) (new : Parts) (body : Body) : Type 0 where
-  pub kept : new ≡ record old { marks = new.marks }
+  pub order : new.order ≡ old.order
+  pub tenants : new.tenants ≡ old.tenants
+  pub owners : new.space.owners ≡ old.space.owners
+  pub agree : PartsAgree new
   pub shows : (m : Machine) → ShowsMachine old t m → ShowsMachine new t (command_step cache_limit old.order command m).machine
   pub answer : (m : Machine) → ShowsMachine old t m → body ≡ (command_step cache_limit old.order command m).answer
   pub refused : is_refused body ≡ true → new ≡ old

@@ -1,7 +1,9 @@
 -- The world of all tenants: who owns each superblock, and a private machine for each tenant.
-use Rattle.std.specs.Prelude.{ℕ, List, [], ◌∷◌, Option, Some, None, is_none, position, slice_get, slice_set, replicate}
+use Rattle.std.specs.Prelude.{ℕ, ◌==◌, ◌&&◌, Bool, false, List, [], ◌∷◌, Option, Some, None, Result, Ok, Err, if◌then◌else◌, is_none, map, count_by, position, slice_get, slice_set, replicate}
+use Rattle.std.specs.List.{position_or_len}
 use Rattle.model_core.specs.Machine.{Machine, empty_machine}
-use Rattle.model_core.specs.Operations.{next_slot, after_grant}
+use Rattle.model_core.specs.Operations.{next_slot, after_grant, take_back_step}
+use Rattle.model_core.specs.declared.refusals.TakeBackRefusal.{TakeBackRefusal}
 use Rattle.words_core.specs.declared.event.Event.{Event}
 use Rattle.words_core.specs.declared.event.Event.TheVariants as On
 use Rattle.words_core.specs.declared.event.AdminCommand.TheVariants as Do
@@ -9,7 +11,8 @@ use Rattle.words_core.specs.declared.event.Command.{Command}
 use Rattle.words_core.specs.declared.reply.Addressee.{Addressee}
 use Rattle.words_core.specs.declared.reply.Addressee.TheVariants as To
 use Rattle.words_core.specs.declared.reply.Body.{Body}
-use Rattle.words_core.specs.declared.reply.Body.TheVariants.{Granted, Refused}
+use Rattle.words_core.specs.declared.reply.Body.TheVariants.{Granted, TakenBack, WasReset, Owners, Refused}
+use Rattle.words_core.specs.declared.reply.Refusal.{Refusal}
 use Rattle.words_core.specs.declared.reply.Refusal.TheVariants.{NoTenant, PoolEmpty}
 use Rattle.words_core.specs.declared.reply.Reply.{Reply}
 use Rattle.kernel_core.specs.PrivateStep.{command_step}
@@ -46,6 +49,47 @@ grant_step order t w (Some m) (Some superblock) = record {
   };
 }
 
+-- the superblock is the tenant's
+abbrev pub is_of : ℕ → Option (ℕ × ℕ) → Bool
+is_of t None = false
+is_of t (Some owner) = owner.0 == t
+
+-- the superblock is the tenant's, under this slot
+abbrev pub is_owner : ℕ → ℕ → Option (ℕ × ℕ) → Bool
+is_owner t slot None = false
+is_owner t slot (Some owner) = owner.0 == t && owner.1 == slot
+
+-- no owner, where the owner passes the test
+abbrev pub given_up : (Option (ℕ × ℕ) → Bool) → Option (ℕ × ℕ) → Option (ℕ × ℕ)
+given_up test owner = if test owner then None else owner
+
+-- the superblock under the slot has no owner any more, unless the tenant's machine refused; `after` is what became of it
+abbrev pub taken_back : ℕ → ℕ → World → Machine → Result (Unit {0}) TakeBackRefusal → WorldStep
+taken_back t slot w after (Ok done) = record {
+  reply = record { addressee = To.Admin; body = TakenBack (position_or_len (is_owner t slot) w.owners) };
+  world = record {
+    owners = map (given_up (is_owner t slot)) w.owners;
+    machines = slice_set w.machines t after;
+  };
+}
+taken_back t slot w after (Err TakeBackRefusal.NoSlot) = answer To.Admin (Refused Refusal.NoSlot) w
+taken_back t slot w after (Err TakeBackRefusal.SlotBusy) = answer To.Admin (Refused Refusal.SlotBusy) w
+
+unfoldable pub slot_step : ℕ → ℕ → ℕ → World → Option Machine → WorldStep
+slot_step order t slot w None = answer To.Admin (Refused NoTenant) w
+slot_step order t slot w (Some m) = taken_back t slot w (take_back_step order slot m).machine (take_back_step order slot m).answer
+
+-- the tenant's machine is empty, and none of its superblocks has an owner
+unfoldable pub reset_step : ℕ → World → Option Machine → WorldStep
+reset_step t w None = answer To.Admin (Refused NoTenant) w
+reset_step t w (Some m) = record {
+  reply = record { addressee = To.Admin; body = WasReset t (count_by (is_of t) w.owners) };
+  world = record {
+    owners = map (given_up (is_of t)) w.owners;
+    machines = slice_set w.machines t empty_machine;
+  };
+}
+
 -- the command is a step of that tenant's machine alone
 unfoldable pub tenant_step : ℕ → ℕ → ℕ → Command → World → Option Machine → WorldStep
 tenant_step limit order t command w None = answer To.Nobody (Refused NoTenant) w
@@ -58,6 +102,9 @@ tenant_step limit order t command w (Some m) = record {
 unfoldable pub world_step : ℕ → ℕ → Event → World → WorldStep
 world_step limit order (On.Tenant t command) w = tenant_step limit order t command w (slice_get w.machines t)
 world_step limit order (On.Admin (Do.Grant t)) w = grant_step order t w (slice_get w.machines t) (position is_none w.owners)
+world_step limit order (On.Admin (Do.TakeBack t slot)) w = slot_step order t slot w (slice_get w.machines t)
+world_step limit order (On.Admin (Do.Reset t)) w = reset_step t w (slice_get w.machines t)
+world_step limit order (On.Admin Do.Pool) w = answer To.Admin (Owners (record { items = w.owners })) w
 
 -- an event with its reply
 pub record Exchange : Type 0 where

@@ -1,19 +1,19 @@
-//! The kernel: the memory of the machine, who owns which superblock of it, and a mark for each of its frames.
-//! It is plain: blocks are found by looking through the marks.
+//! The kernel: the memory of the machine with its pool, and the buddy systems of all tenants over it.
 
-ghost use Rattle.std.specs.Prelude.{◌≡◌, ◌≢◌, ◌↔◌, ℕ, ◌+◌, ◌-◌, ◌*◌, ◌/◌, ◌%◌, ◌^◌, ◌<◌, ◌≤◌, length, IfOk, OnOk, true, false, slice_range};
-ghost use Rattle.std.specs.Prelude.{is_none, position, slice_index, replicate, None, IfErr};
-ghost use Rattle.model_core.specs.Marks.{is_held, superblock_under};
-ghost use Rattle.kernel_core.specs.Parts.{machine_frame, mark_after};
+ghost use Rattle.std.specs.Prelude.{◌≡◌, ◌≢◌, ◌↔◌, ℕ, ◌+◌, ◌*◌, ◌^◌, ◌<◌, ◌≤◌, length, IfOk, IsSome, true, false};
 ghost use Rattle.kernel_core.specs.Limits.{cache_limit};
 ghost use Rattle.kernel_core.specs.World.{World, opening_world, world_step};
+ghost use Rattle.kernel_core.specs.GivenUp.{GivesUp};
+ghost use Rattle.space_core.specs.Windows.{home_of, with_window};
+ghost use Rattle.kernel_core.specs.Limits.{superblock_limit};
 
 use arrayvec::ArrayVec;
-use model_core::search::{find_free, superblock_under};
+use buddy_core::Buddy;
+use space_core::{FRAME_BYTES, Space};
 use std::alloc::Global;
 use std::marker::Model;
 use thiserror::Error;
-use words_core::{Addressee, AdminCommand, Body, Command, Event, Refusal, Reply};
+use words_core::{Addressee, AdminCommand, Body, Command, Event, MOST_SUPERBLOCKS, Refusal, Reply};
 
 /// The sizes of a machine.
 #[derive(Clone, Copy, Debug, PartialEq, Eq)]
@@ -38,34 +38,36 @@ pub enum BootError {
 }
 
 /// A machine shared by tenants.
+///
+/// The memory's mapping and the buddy systems have the same superblock under each slot of each tenant.
 #[derive(Drop)]
 pub struct Kernel {
     order: u8,
+    superblocks: u16,
     tenants: u8,
-    ram: Vec<u8>,
-    owners: Vec<Option<(u8, u16)>>,
-    marks: Vec<u8>,
+    space: Space,
+    buddy: Buddy,
 }
 
 impl Model for Kernel {
-    ghost use Rattle.kernel_core.specs.Parts.{Parts, AreWhole};
+    ghost use Rattle.kernel_core.specs.Parts.{Parts, PartsAgree};
 
     ghost Value = { Parts };
 
     ghost view = { λ k. record {
       order = k.order;
+      superblocks = k.superblocks;
       tenants = k.tenants;
-      ram = k.ram.items;
-      owners = k.owners.items;
-      marks = k.marks.items;
+      space = k.space;
+      buddy = k.buddy;
     } };
 
-    ghost invariant = { λ k. AreWhole (record {
+    ghost invariant = { λ k. PartsAgree (record {
       order = k.order;
+      superblocks = k.superblocks;
       tenants = k.tenants;
-      ram = k.ram.items;
-      owners = k.owners.items;
-      marks = k.marks.items;
+      space = k.space;
+      buddy = k.buddy;
     }) };
 }
 
@@ -86,9 +88,10 @@ impl Kernel {
     ghost use Rattle.std.specs.Prelude.{MatchOption, Option, Some};
     ghost use Rattle.kernel_core.specs.Booting.{is_bootable};
     ghost use Rattle.kernel_core.specs.OwnList.{is_refused};
-    ghost use Rattle.kernel_core.specs.Parts.{Parts, AreWhole, opening_parts, superblock_of, superblock_bytes, superblock_size, machine_frame, taken_of, IsInBlock, Keeps};
+    ghost use Rattle.kernel_core.specs.Parts.{Parts, PartsAgree, opening_parts, superblock_of, superblock_bytes, IsInReach, Keeps};
     ghost use Rattle.kernel_core.specs.Shows.{Shows, ShowsMachine};
     ghost use Rattle.kernel_core.specs.Steps.{is_named, Steps, StepsMachine};
+    ghost use Rattle.space_core.specs.Content.{mark_at, owner_at};
 
     /// A machine of these sizes: all its memory is zero, and no superblock has an owner.
     ///
@@ -102,17 +105,21 @@ impl Kernel {
         if !config.is_bootable() {
             return Err(BootError::BadConfig);
         }
-        let superblocks = config.superblocks as usize;
-        let frames = superblocks << config.order;
-        let owners = no_owners(alloc, superblocks)?;
-        let marks = zeros(alloc, frames)?;
-        let ram = zeros(alloc, frames * 4096)?;
+        let order = config.order as u8;
+        let superblocks = config.superblocks as u16;
+        let tenants = config.tenants as u8;
+        let Ok(space) = Space::new(alloc, order, superblocks, tenants) else {
+            return Err(BootError::Memory);
+        };
+        let Ok(buddy) = Buddy::new(alloc, order, superblocks, tenants) else {
+            return Err(BootError::Memory);
+        };
         Ok(Kernel {
-            order: config.order as u8,
-            tenants: config.tenants as u8,
-            ram,
-            owners,
-            marks,
+            order,
+            superblocks,
+            tenants,
+            space,
+            buddy,
         })
     }
 
@@ -126,30 +133,45 @@ impl Kernel {
 
         ensures refused { is_refused result.body ≡ true → self.new ≡ self.old }
 
-        // All other tenants keep their slots, the superblocks under them, their blocks and their bytes.
+        // All other tenants keep their slots, the superblocks under them with all their bytes, and their blocks.
         ensures others { (t : ℕ) → is_named t event.now ≡ false → Keeps self.old self.new t }
     {
         match event {
-            Event::Admin(command) => self.administer(command),
+            Event::Admin(AdminCommand::Grant { tenant }) => self.grant(*tenant),
+            Event::Admin(AdminCommand::TakeBack { tenant, slot }) => self.take_back(*tenant, *slot),
+            Event::Admin(AdminCommand::Reset { tenant }) => self.reset(*tenant),
+            Event::Admin(AdminCommand::Pool) => self.pool(),
             Event::Tenant(tenant, command) => self.ask(*tenant, command),
         }
     }
 
     /// The superblock under slot `slot` of tenant `t`: the one that has both as its owner.
     pub fn superblock_of(&self, t: u8, slot: u32) -> Option<u16>
-        ensures { result ≡ superblock_of self.now t slot }
+        ensures value { result ≡ superblock_of self.now t slot }
+        ensures owner { (m : ℕ) → (result ≡ Some m) ↔ (owner_at self.now.space.owners m ≡ Some (t, slot)) }
     {
-        superblock_under(&self.owners, t, slot).map(|superblock| superblock as u16)
+        self.space.facts();
+        if t >= self.tenants {
+            return None;
+        }
+        self.space.machine_of(t, slot)
     }
 
     /// The bytes of superblock `superblock`, `2^order * 4096` of them.
     pub fn machine_bytes(&self, superblock: u16) -> &[u8]
-        requires { superblock < length self.now.owners }
-        ensures { result.now ≡ superblock_bytes self.now superblock }
+        requires { superblock < self.now.superblocks }
+        ensures value { result.now ≡ superblock_bytes self.now superblock }
+        ensures len { length result.now ≡ 4096 * 2 ^ self.now.order }
     {
-        let size = 4096usize << self.order;
-        let start = usize::from(superblock) * size;
-        &self.ram[start..start + size]
+        self.space.machine_bytes(superblock)
+    }
+
+    /// Whether superblock `superblock` keeps bytes of an earlier owner, so that it is set to zero before it is granted.
+    pub fn is_marked(&self, superblock: u16) -> bool
+        requires { superblock < self.now.superblocks }
+        ensures { result ≡ mark_at self.now.space.marks superblock }
+    {
+        self.space.is_marked(superblock)
     }
 
     /// A superblock has `2^order` frames of 4096 bytes.
@@ -161,9 +183,9 @@ impl Kernel {
 
     /// How many superblocks the machine has.
     pub fn superblocks(&self) -> u32
-        ensures { result ≡ length self.now.owners }
+        ensures { result ≡ self.now.superblocks }
     {
-        self.owners.len() as u32
+        u32::from(self.superblocks)
     }
 
     /// How many tenants share the machine, numbered from 0.
@@ -173,43 +195,102 @@ impl Kernel {
         u32::from(self.tenants)
     }
 
-    /// What holds between the parts of every kernel.
-    pub fn parts_are_whole(&self)
-        ensures { AreWhole self.now }
+    /// The memory, with its pool and its mapping.
+    pub fn space(&self) -> &Space
+        ensures { result.now ≡ self.now.space }
     {
-        let _ = &self.order;
+        &self.space
     }
 
-    /// Runs a command of the administrator.
-    fn administer(&mut self, command: &AdminCommand) -> Reply
-        ensures { Steps self.old (Event.Admin command.now) self.new result }
+    /// The buddy systems: the held slots and the taken blocks of each tenant.
+    pub fn buddy(&self) -> &Buddy
+        ensures { result.now ≡ self.now.buddy }
     {
-        match command {
-            AdminCommand::Grant { tenant } => self.grant(*tenant),
-        }
+        &self.buddy
+    }
+
+    /// A law: what holds between the parts of every kernel. It costs nothing.
+    pub fn parts_agree(&self)
+        ensures { PartsAgree self.now }
+    {
+        let _ = &self.order;
     }
 
     /// Gives the tenant the least superblock without owner, under the least slot that it does not hold.
     fn grant(&mut self, tenant: u32) -> Reply
         ensures { Steps self.old (Event.Admin (AdminCommand.Grant tenant)) self.new result }
     {
+        self.space.facts();
+        self.space.others_stay();
+        self.space.own_bytes();
+        self.space.own_slots();
+        self.buddy.sizes();
         if tenant >= u32::from(self.tenants) {
             return to_admin(Body::Refused(Refusal::NoTenant));
         }
         let t = tenant as u8;
-        let Some(superblock) = first_unowned(&self.owners) else {
+        let Ok((slot, superblock)) = self.space.grant(t) else {
             return to_admin(Body::Refused(Refusal::PoolEmpty));
         };
-        let slot = next_slot(&self.owners, t);
-        self.owners[superblock] = Some((t, slot));
+        self.buddy.add_slot(t, slot, superblock);
         to_admin(Body::Granted {
             tenant: t,
             slot,
-            superblock: superblock as u16,
+            superblock,
         })
     }
 
-    /// Runs a command of the tenant of this number, if there is one.
+    /// Takes the superblock under a slot back from the tenant, where no frame of the slot is taken.
+    fn take_back(&mut self, tenant: u32, slot: u32) -> Reply
+        ensures { Steps self.old (Event.Admin (AdminCommand.TakeBack tenant slot)) self.new result }
+    {
+        self.space.facts();
+        self.space.others_stay();
+        self.space.own_bytes();
+        self.space.own_slots();
+        self.buddy.sizes();
+        self.buddy.holdings_are_sound();
+        if tenant >= u32::from(self.tenants) {
+            return to_admin(Body::Refused(Refusal::NoTenant));
+        }
+        let t = tenant as u8;
+        let Some(superblock) = self.space.machine_of(t, slot) else {
+            return to_admin(Body::Refused(Refusal::NoSlot));
+        };
+        let Ok(()) = self.buddy.drop_slot(t, slot as u16) else {
+            return to_admin(Body::Refused(Refusal::SlotBusy));
+        };
+        let Ok(_) = self.space.take_back(t, slot) else {
+            unreachable!()
+        };
+        to_admin(Body::TakenBack(superblock))
+    }
+
+    /// Takes all that the tenant has, and answers how many superblocks that are.
+    fn reset(&mut self, tenant: u32) -> Reply
+        ensures { Steps self.old (Event.Admin (AdminCommand.Reset tenant)) self.new result }
+    {
+        self.buddy.sizes();
+        if tenant >= u32::from(self.tenants) {
+            return to_admin(Body::Refused(Refusal::NoTenant));
+        }
+        let t = tenant as u8;
+        self.buddy.reset(t);
+        let superblocks = give_up(&mut self.space, self.superblocks, t);
+        to_admin(Body::WasReset {
+            tenant: t,
+            superblocks,
+        })
+    }
+
+    /// Tells who owns each superblock.
+    fn pool(&self) -> Reply
+        ensures { Steps self.now (Event.Admin AdminCommand.Pool) self.now result }
+    {
+        to_admin(Body::Owners(owners(&self.space, self.superblocks)))
+    }
+
+    /// Runs a tenant's command.
     fn ask(&mut self, tenant: u32, command: &Command) -> Reply
         ensures { Steps self.old (Event.Tenant tenant command.now) self.new result }
     {
@@ -220,110 +301,103 @@ impl Kernel {
             };
         }
         let t = tenant as u8;
-        let body = self.obey(t, command);
+        let body = self.run(t, command);
         Reply {
             addressee: Addressee::Tenant(t),
             body,
         }
     }
 
-    /// Runs the command of a tenant that there is.
-    fn obey(&mut self, t: u8, command: &Command) -> Body
+    /// Runs a command of a tenant that there is.
+    fn run(&mut self, t: u8, command: &Command) -> Body
+        requires { t < self.old.tenants }
         ensures { StepsMachine self.old t command.now self.new result }
     {
         match command {
             Command::Alloc { order } => self.alloc(t, *order),
+            Command::Free { frame } => self.free(t, *frame),
             Command::Read { place, len } => self.read(t, *place, *len),
+            Command::Write { place, bytes } => self.write(t, *place, bytes),
         }
     }
 
     /// Takes a page block of `2^order` frames.
     fn alloc(&mut self, t: u8, order: u32) -> Body
+        requires { t < self.old.tenants }
         ensures { StepsMachine self.old t (Command.Alloc order) self.new result }
     {
+        self.buddy.sizes();
+        self.buddy.holdings_are_sound();
         if order > u32::from(self.order) {
             return Body::Refused(Refusal::BadOrder);
         }
-        let k = order as u8;
-        let Some((first, _)) = find_free(self.order, &self.owners, &self.marks, t, k) else {
+        let Some(frame) = self.buddy.reserve(t, order as u8) else {
             return Body::Refused(Refusal::NoFrames);
         };
-        let Some(frame) = machine_frame(self.order, &self.owners, t, first) else {
-            unreachable!()
+        Body::Frame(frame)
+    }
+
+    /// Releases the page block that begins at a frame; its bytes stay.
+    fn free(&mut self, t: u8, frame: u32) -> Body
+        requires { t < self.old.tenants }
+        ensures { StepsMachine self.old t (Command.Free frame) self.new result }
+    {
+        self.buddy.sizes();
+        let Some(order) = self.buddy.release(t, frame) else {
+            return Body::Refused(Refusal::NotABlock);
         };
-        mark_block(&mut self.marks, frame, k);
-        Body::Frame(first)
+        Body::Freed(order)
     }
 
     /// Reads `len` bytes from `place` on.
     fn read(&self, t: u8, place: u32, len: u32) -> Body
+        requires { t < self.now.tenants }
         ensures { StepsMachine self.now t (Command.Read place len) self.now result }
     {
-        self.parts_are_whole();
+        self.space.own_bytes();
+        self.buddy.holdings_are_sound();
         if len < 1 || len > 64 {
             return Body::Refused(Refusal::BadLength);
         }
-        let Some(superblock) = self.reached(t, place, len) else {
+        if !self.is_in_reach(t, place, len) {
             return Body::Refused(Refusal::OutOfReach);
-        };
-        Body::Bytes(self.bytes_from(superblock, place, len))
-    }
-
-    /// The `len` bytes of a superblock from the place on that is `place` of its slot's tenant.
-    fn bytes_from(&self, superblock: usize, place: u32, len: u32) -> ArrayVec<u8, 64>
-        requires superblock { superblock < length self.now.owners }
-        requires len { len ≤ 64 }
-        requires within { place % superblock_size self.now.order + len ≤ superblock_size self.now.order }
-        ensures { let start = superblock * superblock_size self.now.order + place % superblock_size self.now.order
-            in result.items ≡ slice_range self.now.ram start (start + len) }
-    {
-        let size = 4096usize << self.order;
-        let start = superblock * size + place as usize % size;
-        copied(&self.ram[start..start + len as usize])
-    }
-
-    /// The superblock with the bytes of a range, if the range lies inside one live page block of the tenant.
-    fn reached(&self, t: u8, place: u32, len: u32) -> Option<usize>
-        requires { 0 < len }
-        ensures { MatchOption result
-            ((first order : ℕ) → taken_of self.now t first ≡ Some order → IsInBlock place len first order → ⊥)
-            (λ superblock. (superblock_of self.now t (place / 4096 / 2 ^ self.now.order) ≡ Some superblock)
-            × ((first : ℕ) × (order : ℕ) × (taken_of self.now t first ≡ Some order) × IsInBlock place len first order)) }
-    {
-        let frame = place / 4096;
-        let superblock = superblock_under(&self.owners, t, frame >> self.order)?;
-        let frames = 1usize << self.order;
-        let end = u64::from(place) + u64::from(len);
-        for order in 0..self.order + 1 {
-            let first = frame >> order << order;
-            let mark = self.marks[superblock * frames + first as usize % frames];
-            if mark == order + 1 && end <= 4096 * (u64::from(first) + (1 << order)) {
-                return Some(superblock);
-            }
         }
-        None
+        let Some(bytes) = self.space.window(t, place, len) else {
+            unreachable!()
+        };
+        Body::Bytes(copied(bytes))
     }
-}
 
-/// So many superblocks without owner.
-fn no_owners(alloc: Global, superblocks: usize) -> Result<Vec<Option<(u8, u16)>>, BootError>
-    ensures owners { IfOk result (λ v. v.items ≡ replicate superblocks None) }
-    ensures memory { IfErr result (λ e. e ≡ BootError.Memory) }
-{
-    match vec![in alloc; None; superblocks] {
-        Ok(owners) => Ok(owners),
-        Err(_) => Err(BootError::Memory),
+    /// Stores bytes from `place` on.
+    fn write(&mut self, t: u8, place: u32, bytes: &ArrayVec<u8, 64>) -> Body
+        requires { t < self.old.tenants }
+        ensures { StepsMachine self.old t (Command.Write place bytes.now) self.new result }
+    {
+        self.space.others_stay();
+        self.space.own_bytes();
+        self.buddy.holdings_are_sound();
+        let len = bytes.len() as u32;
+        if !self.is_in_reach(t, place, len) {
+            return Body::Refused(Refusal::OutOfReach);
+        }
+        store(&mut self.space, t, place, bytes.as_slice());
+        Body::Written(len)
     }
-}
 
-/// So many zeros.
-fn zeros(alloc: Global, count: usize) -> Result<Vec<u8>, BootError>
-    ensures zeros { IfOk result (λ v. v.items ≡ replicate count 0) }
-    ensures memory { IfErr result (λ e. e ≡ BootError.Memory) }
-{
-    match vec![in alloc; 0; count] {
-        Ok(bytes) => Ok(bytes),
-        Err(_) => Err(BootError::Memory),
+    /// Whether a range has a byte and lies inside one live page block of the tenant.
+    fn is_in_reach(&self, t: u8, place: u32, len: u32) -> bool
+        requires { t < self.now.tenants }
+        ensures { (result ≡ true) ↔ IsInReach self.now t place len }
+    {
+        self.buddy.holdings_are_sound();
+        if len == 0 {
+            return false;
+        }
+        let Some((first, order)) = self.buddy.block_of(t, place / FRAME_BYTES) else {
+            return false;
+        };
+        let end = u64::from(place) + u64::from(len);
+        end <= u64::from(FRAME_BYTES) * (u64::from(first) + (1 << order))
     }
 }
 
@@ -337,47 +411,53 @@ fn to_admin(body: Body) -> Reply
     }
 }
 
-/// The least superblock without owner.
-fn first_unowned(owners: &[Option<(u8, u16)>]) -> Option<usize>
-    ensures { result ≡ position is_none owners.now }
+/// Writes bytes over a range of tenant `t` that lies in one slot.
+fn store(space: &mut Space, t: u8, place: u32, bytes: &[u8])
+    requires tenant { t < length space.old.slots }
+    requires few { length bytes.now ≤ 64 }
+    requires in_reach { IsSome (home_of space.old t place (length bytes.now)) }
+    ensures { space.new ≡ with_window space.old t place (length bytes.now) bytes.now }
 {
-    owners.iter().position(|owner| owner.is_none())
+    let len = bytes.len() as u32;
+    space.window_mut(t, place, len).copy_from_slice(bytes);
 }
 
-/// The least slot that tenant `t` does not hold.
-fn next_slot(owners: &[Option<(u8, u16)>], t: u8) -> u16
-    requires { length owners.now ≤ 256 }
-    ensures missing { is_held owners.now t result ≡ false }
-    ensures below { (slot : ℕ) → slot < result → is_held owners.now t slot ≡ true }
+/// Takes back every superblock of tenant `t`, and answers how many that were.
+fn give_up(space: &mut Space, superblocks: u16, t: u8) -> u16
+    requires tenant { t < length space.old.slots }
+    requires all { superblocks ≡ length space.old.owners }
+    ensures { GivesUp space.old space.new t result }
 {
-    let mut slot = 0;
-    while superblock_under(owners, t, u32::from(slot)).is_some() {
-        slot += 1;
+    let mut count = 0;
+    for m in 0..superblocks {
+        let Some((tenant, slot)) = space.owner(m) else {
+            continue;
+        };
+        if tenant != t {
+            continue;
+        }
+        space.facts();
+        space.others_stay();
+        let Ok(_) = space.take_back(t, u32::from(slot)) else {
+            unreachable!()
+        };
+        count += 1;
     }
-    slot
+    space.facts();
+    count
 }
 
-/// The frame of the machine that is the tenant's frame `frame`.
-fn machine_frame(order: u8, owners: &[Option<(u8, u16)>], t: u8, frame: u32) -> Option<usize>
-    requires order { order ≤ 8 }
-    requires owners { length owners.now ≤ 256 }
-    ensures { result ≡ machine_frame order (superblock_under owners.now t (frame / 2 ^ order)) frame }
+/// The owner of each superblock.
+fn owners(space: &Space, superblocks: u16) -> ArrayVec<Option<(u8, u16)>, MOST_SUPERBLOCKS>
+    requires all { superblocks ≡ length space.now.owners }
+    requires few { superblocks ≤ superblock_limit }
+    ensures { result.items ≡ space.now.owners }
 {
-    let frames = 1usize << order;
-    superblock_under(owners, t, frame >> order).map(|superblock| superblock * frames
-        + frame as usize % frames)
-}
-
-/// Marks the frames of a block.
-fn mark_block(marks: &mut [u8], first: usize, order: u8)
-    requires order { order ≤ 8 }
-    requires within { first + 2 ^ order ≤ length marks.old }
-    ensures { (i : ℕ) → slice_index marks.new i ≡ mark_after first order i (slice_index marks.old i) }
-{
-    for i in 0..1usize << order {
-        marks[first + i] = 255;
+    let mut owners = ArrayVec::new();
+    for m in 0..superblocks {
+        owners.push(space.owner(m));
     }
-    marks[first] = order + 1;
+    owners
 }
 
 /// These bytes.
@@ -390,92 +470,4 @@ fn copied(bytes: &[u8]) -> ArrayVec<u8, 64>
         copied.push(*byte);
     }
     copied
-}
-
-#[cfg(test)]
-mod tests {
-    use super::*;
-    use std::test::Fail;
-
-    /// Small machines boot, and a number out of its range is told from want of memory.
-    #[test]
-    fn boots(rt: HostRuntime) -> Result<(), Fail> {
-        for (order, superblocks, tenants, want) in [
-            (3, 1, 1, true),
-            (8, 2, 16, true),
-            (2, 1, 1, false),
-            (9, 1, 1, false),
-            (3, 0, 1, false),
-            (3, 65, 1, false),
-            (3, 1, 0, false),
-            (3, 1, 17, false),
-        ] {
-            let config = Config {
-                order,
-                superblocks,
-                tenants,
-            };
-            match Kernel::boot(rt.alloc(), config) {
-                Ok(_) => assert!(rt; want, "{config:?} booted"),
-                Err(BootError::BadConfig) => assert!(rt; !want, "{config:?} was refused"),
-                Err(BootError::Memory) => return Err("not enough memory".into()),
-            }
-        }
-        Ok(())
-    }
-
-    /// Two superblocks for tenant 1, and then none for tenant 0; what each call lends.
-    #[test]
-    fn steps(rt: HostRuntime) -> Result<(), Fail> {
-        let config = Config {
-            order: 3,
-            superblocks: 2,
-            tenants: 2,
-        };
-        let mut kernel = Kernel::boot(rt.alloc(), config)?;
-        let grant = |tenant| Event::Admin(AdminCommand::Grant { tenant });
-        let granted = |slot| Body::Granted {
-            tenant: 1,
-            slot,
-            superblock: slot,
-        };
-        assert_eq!(rt; kernel.step(&grant(1)).body, granted(0));
-        assert_eq!(rt; kernel.step(&grant(1)).body, granted(1));
-        assert_eq!(rt;
-            kernel.step(&grant(0)).body,
-            Body::Refused(Refusal::PoolEmpty)
-        );
-        assert_eq!(rt;
-            kernel.step(&grant(2)).body,
-            Body::Refused(Refusal::NoTenant)
-        );
-        assert_eq!(rt; kernel.superblock_of(1, 1), Some(1));
-        assert_eq!(rt; kernel.superblock_of(0, 0), None);
-        for (order, want) in [(0, 0), (1, 2), (2, 4), (0, 1), (3, 8)] {
-            let reply = kernel.step(&Event::Tenant(1, Command::Alloc { order }));
-            assert_eq!(rt; reply.addressee, Addressee::Tenant(1));
-            assert_eq!(rt; reply.body, Body::Frame(want));
-        }
-        let reply = kernel.step(&Event::Tenant(
-            1,
-            Command::Read {
-                place: 8191,
-                len: 1,
-            },
-        ));
-        assert_eq!(rt; reply.body, Body::Bytes(copied(&[0])));
-        let reply = kernel.step(&Event::Tenant(
-            1,
-            Command::Read {
-                place: 8191,
-                len: 2,
-            },
-        ));
-        assert_eq!(rt; reply.body, Body::Refused(Refusal::OutOfReach));
-        assert_eq!(rt;
-            (kernel.order(), kernel.superblocks(), kernel.tenants()),
-            (3, 2, 2)
-        );
-        Ok(())
-    }
 }

@@ -33,7 +33,7 @@ pub fn run_trace(alloc: Global, kernel: &mut Kernel, input: &[u8]) -> Result<Vec
         ≡ private_lines cache_limit kernel.old.order superblocks tenants t input.now) }
 {
     laws::own_lines();
-    kernel.parts_are_whole();
+    kernel.parts_agree();
     let mut output = Vec::new(alloc);
     let mut rest = input;
     while !rest.is_empty() {

@@ -1,8 +1,8 @@
 -- What was read is run, and what that writes is appended.
-use Rattle.std.proofs.Common.{◌≡◌, ℕ, ◌≤◌, Bool, true, false, List, Option, Some, None, Result, Ok, Err, OnOk, IfSome, length, is_err, ap, sym, subst, ◌∙◌}
+use Rattle.std.proofs.Common.{◌≡◌, ℕ, ◌≤◌, false, List, Option, Some, None, Result, Ok, Err, OnOk, IfSome, length, is_err, ap, subst, ◌∙◌}
 use Rattle.std.specs.Io.KnownBytes.{Appends, Keeps}
 use Rattle.kernel_core.specs.Limits.{cache_limit}
-use Rattle.kernel_core.specs.World.{World, opening_world}
+use Rattle.kernel_core.specs.World.{opening_world}
 use Rattle.kernel_core.specs.Output.{output_of}
 use Rattle.kernel_core.specs.Parts.{Parts, opening_parts}
 use Rattle.partmem.specs.Run.{most_trace_bytes, replies_to_trace}

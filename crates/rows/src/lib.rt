@@ -9,7 +9,7 @@ pub struct Row {
 }
 
 /// One row for each rule that a trace can show.
-pub static ROWS: [Row; 12] = [
+pub static ROWS: [Row; 23] = [
     // An empty trace writes nothing.
     Row {
         trace: b"",
@@ -55,12 +55,98 @@ pub static ROWS: [Row; 12] = [
         output: b"admin> granted 1 slot 0 superblock 0\nadmin> granted 1 slot 1 superblock 1\n\
             1> frame 0\n1> frame 8\n1> bytes 00\n1> refused 4 OutOfReach\n",
     },
+    // Released blocks join through all orders.
+    Row {
+        trace: b"admin grant 0\n0 alloc 0\n0 alloc 1\n0 alloc 2\n0 alloc 0\n0 alloc 0\n0 alloc 4\n\
+            0 free 0\n0 free 1\n0 free 2\n0 free 4\n0 alloc 3\n",
+        output: b"admin> granted 0 slot 0 superblock 0\n0> frame 0\n0> frame 2\n0> frame 4\n0> frame 1\n\
+            0> refused 1 NoFrames\n0> refused 2 BadOrder\n0> freed 0\n0> freed 0\n0> freed 1\n\
+            0> freed 2\n0> frame 0\n",
+    },
+    // A free block that is too small is passed over.
+    Row {
+        trace: b"admin grant 0\n0 alloc 0\n0 alloc 1\n0 alloc 2\n0 alloc 0\n0 alloc 0\n0 alloc 4\n\
+            0 free 0\n0 free 4\n0 alloc 1\n0 alloc 0\n",
+        output: b"admin> granted 0 slot 0 superblock 0\n0> frame 0\n0> frame 2\n0> frame 4\n0> frame 1\n\
+            0> refused 1 NoFrames\n0> refused 2 BadOrder\n0> freed 0\n0> freed 2\n0> frame 4\n\
+            0> frame 0\n",
+    },
+    // A block joins its buddy only where all of that is free.
+    Row {
+        trace: b"admin grant 0\n0 alloc 0\n0 alloc 0\n0 alloc 0\n0 free 0\n0 free 2\n0 alloc 1\n",
+        output: b"admin> granted 0 slot 0 superblock 0\n0> frame 0\n0> frame 1\n0> frame 2\n0> freed 0\n\
+            0> freed 0\n0> frame 2\n",
+    },
+    // The block of least order is split, not the one at the least frame. Only a block that begins at the frame is freed.
+    Row {
+        trace: b"admin grant 0\n0 alloc 2\n0 alloc 0\n0 free 0\n0 free 1\n0 alloc 0\n0 free 4\n0 free 5\n\
+            0 alloc 3\n",
+        output: b"admin> granted 0 slot 0 superblock 0\n0> frame 0\n0> frame 4\n0> freed 2\n\
+            0> refused 3 NotABlock\n0> frame 5\n0> freed 0\n0> freed 0\n0> frame 0\n",
+    },
+    // The least order goes over all slots; a slot taken back is the least again.
+    Row {
+        trace: b"admin grant 0\nadmin grant 0\nadmin takeback 0 0\n0 alloc 0\nadmin grant 0\n0 alloc 0\n\
+            0 alloc 3\n",
+        output: b"admin> granted 0 slot 0 superblock 0\nadmin> granted 0 slot 1 superblock 1\n\
+            admin> taken superblock 0\n0> frame 8\nadmin> granted 0 slot 0 superblock 0\n\
+            0> frame 9\n0> frame 0\n",
+    },
+    // A superblock that changes hands reads as zero.
+    Row {
+        trace: b"admin grant 1\n1 alloc 0\n1 write 0 aa\n1 free 0\nadmin takeback 1 0\nadmin grant 0\n\
+            0 alloc 0\n0 read 0 1\n",
+        output: b"admin> granted 1 slot 0 superblock 0\n1> frame 0\n1> written 1\n1> freed 0\n\
+            admin> taken superblock 0\nadmin> granted 0 slot 0 superblock 0\n0> frame 0\n\
+            0> bytes 00\n",
+    },
+    // A freed block keeps its bytes for its tenant.
+    Row {
+        trace: b"admin grant 0\n0 alloc 0\n0 write 0 0a0B\n0 read 0 3\n0 free 0\n0 alloc 0\n0 read 0 2\n",
+        output: b"admin> granted 0 slot 0 superblock 0\n0> frame 0\n0> written 2\n0> bytes 0a0b00\n\
+            0> freed 0\n0> frame 0\n0> bytes 0a0b\n",
+    },
+    // An empty pool, its table, and a reset of all that a tenant has.
+    Row {
+        trace: b"admin grant 1\nadmin grant 1\nadmin grant 0\nadmin pool\n1 alloc 3\n1 alloc 3\n\
+            0 alloc 0\nadmin reset 1\nadmin pool\n",
+        output: b"admin> granted 1 slot 0 superblock 0\nadmin> granted 1 slot 1 superblock 1\n\
+            admin> refused 13 PoolEmpty\nadmin> pool free 0 of 2\n\
+            admin> superblock 0 tenant 1 slot 0\nadmin> superblock 1 tenant 1 slot 1\n1> frame 0\n\
+            1> frame 8\n0> refused 1 NoFrames\nadmin> reset 1 superblocks 2\n\
+            admin> pool free 2 of 2\nadmin> superblock 0 free\nadmin> superblock 1 free\n",
+    },
+    // A slot with a taken frame is not taken back; a reset takes it, and its bytes are gone.
+    Row {
+        trace: b"admin grant 0\n0 alloc 3\n0 write 32767 ff\nadmin takeback 0 0\nadmin reset 0\n\
+            0 read 32767 1\nadmin grant 0\n0 alloc 3\n0 read 32767 1\n",
+        output: b"admin> granted 0 slot 0 superblock 0\n0> frame 0\n0> written 1\n\
+            admin> refused 15 SlotBusy\nadmin> reset 0 superblocks 1\n0> refused 4 OutOfReach\n\
+            admin> granted 0 slot 0 superblock 0\n0> frame 0\n0> bytes 00\n",
+    },
+    // A write out of reach stores nothing at all.
+    Row {
+        trace: b"admin grant 0\n0 alloc 0\n0 alloc 0\n0 write 4095 aabb\n0 read 4095 1\n0 write 4095 aa\n",
+        output: b"admin> granted 0 slot 0 superblock 0\n0> frame 0\n0> frame 1\n0> refused 4 OutOfReach\n\
+            0> bytes 00\n0> written 1\n",
+    },
+    // Take-backs are refused in the order no tenant, no slot, busy; resets where there is no tenant.
+    Row {
+        trace: b"admin grant 0\n0 alloc 0\nadmin takeback 2 0\nadmin takeback 0 1\nadmin takeback 0 0\n\
+            admin takeback 1 0\nadmin reset 2\nadmin takeback 0 4294967295\n0 free 0\n\
+            admin takeback 0 0\n",
+        output: b"admin> granted 0 slot 0 superblock 0\n0> frame 0\nadmin> refused 12 NoTenant\n\
+            admin> refused 14 NoSlot\nadmin> refused 15 SlotBusy\nadmin> refused 14 NoSlot\n\
+            admin> refused 12 NoTenant\nadmin> refused 14 NoSlot\n0> freed 0\n\
+            admin> taken superblock 0\n",
+    },
     // Numbers that name no tenant, and faulty lines.
     Row {
         trace: b"9 alloc 0\nadmin grant 9\nfrob\n0 frob\n0\n0 alloc\n0 alloc x\n0 alloc 4294967296\n\
-            00000000000 alloc 0\n",
+            00000000000 alloc 0\n0 write 0 abc\n0 write 0 0g\n",
         output: b"!> refused 12 NoTenant\nadmin> refused 12 NoTenant\n!> fault Unknown\n!> fault Unknown\n\
-            !> fault Words\n!> fault Words\n!> fault Number\n!> fault Number\n!> fault Number\n",
+            !> fault Words\n!> fault Words\n!> fault Number\n!> fault Number\n!> fault Number\n\
+            !> fault Hex\n!> fault Hex\n",
     },
     // A comment and a blank line write nothing.
     Row {
@@ -82,7 +168,7 @@ pub static ROWS: [Row; 12] = [
 #[cfg(test)]
 mod tests {
     use super::*;
-    use kernel_core::{Config, Kernel, run_trace};
+    use kernel_core::{BootError, Config, Kernel, run_trace};
     use std::alloc::{AllocError, Global};
     use std::test::Fail;
 
@@ -103,6 +189,33 @@ mod tests {
         for row in &ROWS {
             let output = written(rt.alloc(), row.trace)?;
             assert!(rt; output.as_slice() == row.output);
+        }
+        Ok(())
+    }
+
+    /// Small machines boot, and a number out of its range is told from want of memory.
+    #[test]
+    fn boots(rt: HostRuntime) -> Result<(), Fail> {
+        for (order, superblocks, tenants, want) in [
+            (3, 1, 1, true),
+            (8, 2, 16, true),
+            (2, 1, 1, false),
+            (9, 1, 1, false),
+            (3, 0, 1, false),
+            (3, 65, 1, false),
+            (3, 1, 0, false),
+            (3, 1, 17, false),
+        ] {
+            let config = Config {
+                order,
+                superblocks,
+                tenants,
+            };
+            match Kernel::boot(rt.alloc(), config) {
+                Ok(_) => assert!(rt; want, "{config:?} booted"),
+                Err(BootError::BadConfig) => assert!(rt; !want, "{config:?} was refused"),
+                Err(BootError::Memory) => return Err("not enough memory".into()),
+            }
         }
         Ok(())
     }
@@ -129,6 +242,39 @@ mod tests {
             let output = written(rt.alloc(), &line)?;
             assert!(rt; output.as_slice() == b"!> fault Long\n".as_slice());
         }
+        Ok(())
+    }
+
+    /// What is written stands in the memory of the machine, stays there after a take-back, and is set to zero by the
+    /// next grant.
+    #[test]
+    fn bytes_change_hands(rt: HostRuntime) -> Result<(), Fail> {
+        let mut kernel = Kernel::boot(rt.alloc(), MACHINE)?;
+        let steps: [(&[u8], u8, u8, bool); 4] = [
+            (
+                b"admin grant 1\n1 alloc 0\n1 alloc 0\n1 write 4095 aabb\n",
+                0,
+                0,
+                false,
+            ),
+            (b"1 write 0 aa\n1 write 4095 aa\n", 0xaa, 0xaa, false),
+            (
+                b"1 free 0\n1 free 1\nadmin takeback 1 0\n",
+                0xaa,
+                0xaa,
+                true,
+            ),
+            (b"admin grant 0\n", 0, 0, false),
+        ];
+        for (trace, first, last, marked) in steps {
+            let _replies = run_trace(rt.alloc(), &mut kernel, trace)?;
+            assert_eq!(rt; kernel.superblocks(), 2);
+            assert_eq!(rt; kernel.machine_bytes(0)[0], first);
+            assert_eq!(rt; kernel.machine_bytes(0)[4095], last);
+            assert_eq!(rt; kernel.is_marked(0), marked);
+        }
+        assert_eq!(rt; kernel.superblock_of(0, 0), Some(0));
+        assert_eq!(rt; kernel.superblock_of(1, 0), None);
         Ok(())
     }
 }

@@ -5,13 +5,13 @@ use Rattle.std.specs.Str.Lines.{strip_carriage_return}
 use Rattle.words_core.specs.declared.event.Event.{Event}
 use Rattle.words_core.specs.declared.event.LineFault.{LineFault}
 use Rattle.words_core.specs.declared.event.LineFault.TheVariants.{Long}
-use Rattle.words_core.specs.Grammar.{grant_of, alloc_of, read_of, admin_command_of, command_of, event_of, judged, judged_within, reading_of, Says}
+use Rattle.words_core.specs.Grammar.{grant_of, take_back_of, reset_of, pool_of, alloc_of, free_of, read_of, write_of, admin_command_of, command_of, event_of, judged, judged_within, reading_of, Says}
 use Rattle.words_core.specs.Words.{words_of}
 use Rattle.words_core.proofs.WordLemmas.{words_of-has, has-words_of}
 
 -- no command has as many words as six
 pub judged-take : (words : List (List ℕ)) → judged (take 6 words) ≡ judged words
-unfolding judged event_of admin_command_of command_of grant_of alloc_of read_of
+unfolding judged event_of admin_command_of command_of grant_of take_back_of reset_of pool_of alloc_of free_of read_of write_of
 judged-take [] = refl
 judged-take (a ∷ []) = refl
 judged-take (a ∷ b ∷ []) = refl

@@ -1,13 +1,14 @@
 -- Lines and what they say, replies and their texts: each example holds by computation.
-use Rattle.std.specs.Prelude.{◌≡◌, [], ◌∷◌, ◌++◌, codes, replicate, Some, None, Ok, Err, refl}
+use Rattle.std.specs.Prelude.{◌≡◌, List, ℕ, [], ◌∷◌, ◌++◌, codes, replicate, Some, None, Ok, Err, refl}
+use Rattle.hex.proofs.OnLiterals.{hex_on_literals}
 use Rattle.words_core.specs.Cutting.{lines_of_trace}
 use Rattle.words_core.specs.Words.{words_of}
-use Rattle.words_core.specs.Grammar.{grant_of, alloc_of, read_of, admin_command_of, command_of, event_of, judged, reading_of}
+use Rattle.words_core.specs.Grammar.{grant_of, take_back_of, pool_of, alloc_of, read_of, write_of, admin_command_of, command_of, event_of, judged, reading_of}
 use Rattle.words_core.specs.Texts.{text_of}
 use Rattle.words_core.specs.declared.event.Event.TheVariants.{Admin, Tenant}
-use Rattle.words_core.specs.declared.event.AdminCommand.TheVariants.{Grant}
-use Rattle.words_core.specs.declared.event.Command.TheVariants.{Alloc, Read}
-use Rattle.words_core.specs.declared.event.LineFault.TheVariants.{Long, Unknown, Words, Number}
+use Rattle.words_core.specs.declared.event.AdminCommand.TheVariants.{Grant, TakeBack, Pool}
+use Rattle.words_core.specs.declared.event.Command.TheVariants.{Alloc, Read, Write}
+use Rattle.words_core.specs.declared.event.LineFault.TheVariants.{Long, Unknown, Words, Number, Hex}
 use Rattle.words_core.specs.declared.reply.Addressee.TheVariants.{Nobody}
 use Rattle.words_core.specs.declared.reply.Body.TheVariants.{Fault}
 
@@ -24,6 +25,26 @@ grant = refl
 read_line : reading_of (codes "\t0  read 4095\t002 \r") ≡ Ok (Some (Tenant 0 (Read 4095 2)))
 unfolding reading_of words_of judged event_of command_of read_of
 read_line = refl
+
+write_line : reading_of (codes "1 write 8 0a0B") ≡ Ok (Some (Tenant 1 (Write 8 (record { items = 10 ∷ 11 ∷ [] }))))
+unfolding reading_of words_of judged event_of command_of write_of hex_on_literals
+write_line = refl
+
+half_a_byte : reading_of (codes "0 write 0 abc") ≡ Err Hex
+unfolding reading_of words_of judged event_of command_of write_of hex_on_literals
+half_a_byte = refl
+
+number_before_bytes : reading_of (codes "0 write x y") ≡ Err Number
+unfolding reading_of words_of judged event_of command_of write_of
+number_before_bytes = refl
+
+take_back : reading_of (codes "admin takeback 0 3") ≡ Ok (Some (Admin (TakeBack 0 3)))
+unfolding reading_of words_of judged event_of admin_command_of take_back_of
+take_back = refl
+
+pool : reading_of (codes "admin pool") ≡ Ok (Some (Admin Pool))
+unfolding reading_of words_of judged event_of admin_command_of pool_of
+pool = refl
 
 widest : reading_of (codes "0 alloc 0" ++ replicate 246 32) ≡ Ok (Some (Tenant 0 (Alloc 0)))
 unfolding reading_of words_of judged event_of command_of alloc_of

@@ -1,5 +1,5 @@
 -- The text of a reply.
-use Rattle.std.specs.Prelude.{ℕ, List, [], ◌∷◌, ◌++◌, codes, decimal, map}
+use Rattle.std.specs.Prelude.{ℕ, ◌+◌, length, count_by, is_none, Option, Some, None, List, [], ◌∷◌, ◌++◌, codes, decimal, map}
 use Rattle.std.specs.List.{concat}
 use Rattle.hex.specs.Hex.{encode_lower}
 use Rattle.words_core.specs.declared.event.LineFault.{LineFault}
@@ -8,7 +8,7 @@ use Rattle.words_core.specs.declared.reply.Reply.{Reply}
 use Rattle.words_core.specs.declared.reply.Addressee.{Addressee}
 use Rattle.words_core.specs.declared.reply.Addressee.TheVariants.{Admin, Nobody, Tenant}
 use Rattle.words_core.specs.declared.reply.Body.{Body}
-use Rattle.words_core.specs.declared.reply.Body.TheVariants.{Granted, Frame, Bytes, Refused, Fault}
+use Rattle.words_core.specs.declared.reply.Body.TheVariants.{Granted, TakenBack, WasReset, Owners, Frame, Freed, Bytes, Written, Refused, Fault}
 use Rattle.words_core.specs.declared.reply.Refusal.{Refusal}
 use Rattle.words_core.specs.declared.reply.Refusal.TheVariants.{NoFrames, BadOrder, NotABlock, OutOfReach, BadLength, BadSize, BadAlign, NoCacheSlot, NoCache, CacheInUse, NotAnObject, NoTenant, PoolEmpty, NoSlot, SlotBusy}
 
@@ -59,12 +59,34 @@ addressee_text Admin = codes "admin> "
 addressee_text Nobody = codes "!> "
 addressee_text (Tenant tenant) = decimal tenant ++ codes "> "
 
+-- who owns this superblock, and under which slot
+abbrev pub owner_text : List ℕ → ℕ → Option (ℕ × ℕ) → List ℕ
+owner_text front superblock None = front ++ codes "superblock " ++ decimal superblock ++ codes " free"
+owner_text front superblock (Some (tenant, slot)) =
+    front ++ codes "superblock " ++ decimal superblock ++ codes " tenant " ++ decimal tenant ++ codes " slot " ++ decimal slot
+
+-- a line for each superblock, the first of them with this number
+abbrev pub owner_texts : List ℕ → ℕ → List (Option (ℕ × ℕ)) → List (List ℕ)
+owner_texts front superblock [] = []
+owner_texts front superblock (owner ∷ owners) = owner_text front superblock owner ∷ owner_texts front (superblock + 1) owners
+
+-- how many of how many superblocks have no owner, and then a line for each
+abbrev pub pool_texts : List ℕ → List (Option (ℕ × ℕ)) → List (List ℕ)
+pool_texts front owners =
+    (front ++ codes "pool free " ++ decimal (count_by is_none owners) ++ codes " of " ++ decimal (length owners)) ∷ owner_texts front 0 owners
+
 -- the lines that say the body, each begun with `front`
 abbrev pub body_texts : List ℕ → Body → List (List ℕ)
 body_texts front (Granted tenant slot superblock) =
     (front ++ codes "granted " ++ decimal tenant ++ codes " slot " ++ decimal slot ++ codes " superblock " ++ decimal superblock) ∷ []
+body_texts front (TakenBack superblock) = (front ++ codes "taken superblock " ++ decimal superblock) ∷ []
+body_texts front (WasReset tenant superblocks) =
+    (front ++ codes "reset " ++ decimal tenant ++ codes " superblocks " ++ decimal superblocks) ∷ []
+body_texts front (Owners owners) = pool_texts front owners.items
 body_texts front (Frame frame) = (front ++ codes "frame " ++ decimal frame) ∷ []
+body_texts front (Freed order) = (front ++ codes "freed " ++ decimal order) ∷ []
 body_texts front (Bytes bytes) = (front ++ codes "bytes " ++ encode_lower bytes.items) ∷ []
+body_texts front (Written count) = (front ++ codes "written " ++ decimal count) ∷ []
 body_texts front (Refused refusal) =
     (front ++ codes "refused " ++ decimal (number_of_refusal refusal) ++ codes " " ++ name_of_refusal refusal) ∷ []
 body_texts front (Fault fault) = (front ++ codes "fault " ++ name_of_fault fault) ∷ []

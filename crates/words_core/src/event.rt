@@ -1,5 +1,7 @@
 ghost use Rattle.std.specs.Prelude.{◌≡◌, ◌≤◌, length};
 
+use arrayvec::ArrayVec;
+
 /// What a line without fault asks for.
 #[derive(Debug, Drop, PartialEq, Eq)]
 pub enum Event {
@@ -14,6 +16,12 @@ pub enum Event {
 pub enum AdminCommand {
     /// `admin grant T`: a superblock for the tenant.
     Grant { tenant: u32 },
+    /// `admin takeback T SLOT`: the superblock under this slot of the tenant is taken back.
+    TakeBack { tenant: u32, slot: u32 },
+    /// `admin reset T`: all that the tenant has is taken back.
+    Reset { tenant: u32 },
+    /// `admin pool`: who owns which superblock.
+    Pool,
 }
 
 /// A command of a tenant. Its arguments are as they were written: none is known to be in range.
@@ -21,8 +29,12 @@ pub enum AdminCommand {
 pub enum Command {
     /// `T alloc K`: a page block of `2^order` frames.
     Alloc { order: u32 },
+    /// `T free FRAME`: the page block that begins at this frame of the tenant is given back.
+    Free { frame: u32 },
     /// `T read PLACE LEN`: `len` bytes, from the tenant's byte number `place` on.
     Read { place: u32, len: u32 },
+    /// `T write PLACE HEX`: 1 to 64 bytes, stored from the tenant's byte number `place` on.
+    Write { place: u32, bytes: ArrayVec<u8, 64> },
 }
 
 /// Why a line says nothing that can be done.

@@ -15,5 +15,5 @@ mod words;
 pub use event::{AdminCommand, Command, Event, LineFault};
 pub use laws::one_case;
 pub use line::read_line;
-pub use reply::{Addressee, Body, Refusal, Reply};
+pub use reply::{Addressee, Body, MOST_SUPERBLOCKS, Refusal, Reply};
 pub use text::{MOST_REPLY_BYTES, rows, write_line};

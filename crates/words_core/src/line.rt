@@ -1,12 +1,13 @@
-ghost use Rattle.std.specs.Prelude.{◌≡◌, ◌<◌, Option, Result, length, map, take};
+ghost use Rattle.std.specs.Prelude.{◌≡◌, ◌<◌, ◌^◌, Option, Result, length, map, take};
 ghost use Rattle.std.specs.Str.Lines.{strip_carriage_return};
 ghost use Rattle.words_core.specs.declared.event.Event.{Event as EventValue};
 ghost use Rattle.words_core.specs.declared.event.LineFault.{LineFault as Fault};
-ghost use Rattle.words_core.specs.Grammar.{argument, grant_of, alloc_of, read_of, admin_command_of, command_of, admin_event_of, tenant_event_of, tenant_of, event_of, judged, reading_of, Says};
+ghost use Rattle.words_core.specs.Grammar.{argument, grant_of, alloc_of, read_of, take_back_of, reset_of, pool_of, free_of, write_of, bytes_argument, admin_command_of, command_of, admin_event_of, tenant_event_of, tenant_of, event_of, judged, reading_of, Says};
 
 use crate::event::{AdminCommand, Command, Event, LineFault};
 use crate::numbers::number;
 use crate::words::split_words;
+use arrayvec::ArrayVec;
 
 /// The longest line, in bytes.
 const MOST_BYTES: usize = 255;
@@ -90,6 +91,9 @@ fn admin_command_of(name: &[u8], arguments: &[&[u8]]) -> Result<AdminCommand, Li
 {
     match name {
         b"grant" => grant_of(arguments),
+        b"takeback" => take_back_of(arguments),
+        b"reset" => reset_of(arguments),
+        b"pool" => pool_of(arguments),
         _ => Err(LineFault::Unknown),
     }
 }
@@ -100,7 +104,9 @@ fn command_of(name: &[u8], arguments: &[&[u8]]) -> Result<Command, LineFault>
 {
     match name {
         b"alloc" => alloc_of(arguments),
+        b"free" => free_of(arguments),
         b"read" => read_of(arguments),
+        b"write" => write_of(arguments),
         _ => Err(LineFault::Unknown),
     }
 }
@@ -109,6 +115,22 @@ fn argument(word: &[u8]) -> Result<u32, LineFault>
     ensures { result ≡ argument word.now }
 {
     number(word).ok_or(LineFault::Number)
+}
+
+/// The bytes that a word gives in hex, if they are at least one and fit.
+fn bytes_argument<const N: usize>(word: &[u8]) -> Result<ArrayVec<u8, N>, LineFault>
+    requires { N < 2 ^ 32 }
+    ensures { result ≡ bytes_argument N word.now }
+{
+    if word.len() < 2 || word.len() > 2 * N {
+        return Err(LineFault::Hex);
+    }
+    let mut bytes = ArrayVec::from_array_in((), [0; N]);
+    bytes.truncate(word.len() / 2);
+    match hex::decode_to_slice(word, bytes.as_mut_slice()) {
+        Ok(()) => Ok(bytes),
+        Err(_) => Err(LineFault::Hex),
+    }
 }
 
 #[tactic(auto, unfolding(crate::specs::Grammar::grant_of))]
@@ -122,6 +144,39 @@ fn grant_of(arguments: &[&[u8]]) -> Result<AdminCommand, LineFault>
     Ok(AdminCommand::Grant { tenant })
 }
 
+#[tactic(auto, unfolding(crate::specs::Grammar::take_back_of))]
+fn take_back_of(arguments: &[&[u8]]) -> Result<AdminCommand, LineFault>
+    ensures { result ≡ take_back_of (map (λ word. word.now) arguments.now) }
+{
+    let [tenant, slot] = arguments else {
+        return Err(LineFault::Words);
+    };
+    let tenant = argument(tenant)?;
+    let slot = argument(slot)?;
+    Ok(AdminCommand::TakeBack { tenant, slot })
+}
+
+#[tactic(auto, unfolding(crate::specs::Grammar::reset_of))]
+fn reset_of(arguments: &[&[u8]]) -> Result<AdminCommand, LineFault>
+    ensures { result ≡ reset_of (map (λ word. word.now) arguments.now) }
+{
+    let [tenant] = arguments else {
+        return Err(LineFault::Words);
+    };
+    let tenant = argument(tenant)?;
+    Ok(AdminCommand::Reset { tenant })
+}
+
+#[tactic(auto, unfolding(crate::specs::Grammar::pool_of))]
+fn pool_of(arguments: &[&[u8]]) -> Result<AdminCommand, LineFault>
+    ensures { result ≡ pool_of (map (λ word. word.now) arguments.now) }
+{
+    let [] = arguments else {
+        return Err(LineFault::Words);
+    };
+    Ok(AdminCommand::Pool)
+}
+
 #[tactic(auto, unfolding(crate::specs::Grammar::alloc_of))]
 fn alloc_of(arguments: &[&[u8]]) -> Result<Command, LineFault>
     ensures { result ≡ alloc_of (map (λ word. word.now) arguments.now) }
@@ -131,6 +186,17 @@ fn alloc_of(arguments: &[&[u8]]) -> Result<Command, LineFault>
     };
     let order = argument(order)?;
     Ok(Command::Alloc { order })
+}
+
+#[tactic(auto, unfolding(crate::specs::Grammar::free_of))]
+fn free_of(arguments: &[&[u8]]) -> Result<Command, LineFault>
+    ensures { result ≡ free_of (map (λ word. word.now) arguments.now) }
+{
+    let [frame] = arguments else {
+        return Err(LineFault::Words);
+    };
+    let frame = argument(frame)?;
+    Ok(Command::Free { frame })
 }
 
 #[tactic(auto, unfolding(crate::specs::Grammar::read_of))]
@@ -143,4 +209,16 @@ fn read_of(arguments: &[&[u8]]) -> Result<Command, LineFault>
     let place = argument(place)?;
     let len = argument(len)?;
     Ok(Command::Read { place, len })
+}
+
+#[tactic(auto, unfolding(crate::specs::Grammar::write_of))]
+fn write_of(arguments: &[&[u8]]) -> Result<Command, LineFault>
+    ensures { result ≡ write_of (map (λ word. word.now) arguments.now) }
+{
+    let [place, bytes] = arguments else {
+        return Err(LineFault::Words);
+    };
+    let place = argument(place)?;
+    let bytes = bytes_argument(bytes)?;
+    Ok(Command::Write { place, bytes })
 }

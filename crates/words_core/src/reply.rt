@@ -3,6 +3,9 @@ ghost use Rattle.std.specs.Prelude.{◌≡◌, ◌≤◌, length};
 use crate::event::LineFault;
 use arrayvec::ArrayVec;
 
+/// The greatest number of superblocks of which a reply can tell the owners.
+pub const MOST_SUPERBLOCKS: usize = 64;
+
 /// The answer to an event or to a faulty line: to whom, and what.
 #[derive(Debug, Drop, PartialEq, Eq)]
 pub struct Reply {
@@ -30,10 +33,24 @@ pub enum Body {
         slot: u16,
         superblock: u16,
     },
+    /// This superblock of the machine was taken back.
+    TakenBack(u16),
+    /// The tenant was emptied, and gave up this many superblocks.
+    WasReset {
+        tenant: u8,
+        superblocks: u16,
+    },
+    /// For each superblock of the machine, by rising number, its owner and the slot that it has
+    /// there, if it has an owner.
+    Owners(ArrayVec<Option<(u8, u16)>, MOST_SUPERBLOCKS>),
     /// The first frame of a new page block.
     Frame(u32),
+    /// The order of the page block given back: it had `2^order` frames.
+    Freed(u8),
     /// The bytes read, 1 to 64 of them.
     Bytes(ArrayVec<u8, 64>),
+    /// How many bytes were written, 1 to 64.
+    Written(u32),
     /// The command was refused, and changed nothing.
     Refused(Refusal),
     /// The line says nothing that can be done.

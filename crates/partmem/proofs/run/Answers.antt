@@ -1,4 +1,4 @@
-use Rattle.std.proofs.Common.{◌≡◌, List, ℕ, ◌∙◌, ap, sym, subst}
+use Rattle.std.proofs.Common.{◌≡◌, List, ℕ, ◌∙◌, ap, sym}
 use Rattle.kernel_core.specs.World.{opening_world}
 use Rattle.partmem.specs.Run.{replies_to_trace}
 use Rattle.partmem.proofs.Writing.{went_well, flushed, new_kernel_writes, all_told}

@@ -1,6 +1,7 @@
-use Rattle.std.proofs.Common.{sym}
+use Rattle.std.proofs.Common.{◌≡◌, ◌∷◌, drop, length, take, [], ◌∙◌, sym, ap, refl}
 use Rattle.std.proofs.lemmas.List.{take_rest}
 use Rattle.std.proofs.Math.Seq.{drop-length}
+use Rattle.words_core.specs.Cutting.{lines_of_trace}
 use Rattle.kernel_core.proofs.Cuts.{cut_found, cut_none}
 use Rattle.kernel_core.proofs.trace.first_line.Goals as goal
 

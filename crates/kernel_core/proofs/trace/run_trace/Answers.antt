@@ -1,4 +1,4 @@
-use Rattle.std.proofs.Common.{[], refl, sym, ◌∙◌}
+use Rattle.std.proofs.Common.{◌≡◌, [], length, refl, sym, ◌∙◌, arith}
 use Rattle.std.proofs.lemmas.Bool.{eqb-true}
 use Rattle.kernel_core.proofs.Traces.{ran_more, stands_more, stands_after, all_written, all_shown, own_written, on_err}
 use Rattle.kernel_core.proofs.trace.run_trace.Goals as goal
@@ -30,5 +30,5 @@ returns-clause-shows c =
 
 pub returns-clause-own : goal.returns-clause-own
 returns-clause-own c superblocks tenants t shown here =
-    own_written c.own_lines.ensures c.args.kernel.now superblocks tenants t c.args.input.now _ c.parts_are_whole.ensures.tenants shown here
+    own_written c.own_lines.ensures c.args.kernel.now superblocks tenants t c.args.input.now _ (omega (arith, c.parts_agree.ensures.tenants)) shown here
     (all_written _ _ _ _ _ c.loop-rest.invariant (eqb-true _ _ (sym c.is_empty.ensures ∙ c.loop-rest-test.false)))

@@ -1,12 +1,13 @@
-use Rattle.std.proofs.Common.{◌<◌, subst, arith}
+use Rattle.std.proofs.Common.{◌≡◌, ◌<◌, sym, subst, arith}
 use Rattle.kernel_core.specs.Parts.{Parts}
-use Rattle.kernel_core.proofs.Worlds.{steps_tenant, steps_unknown}
+use Rattle.kernel_core.proofs.Worlds.{unknown_tenant, steps_asked}
 use Rattle.kernel_core.proofs.kernel.Kernel.ask.Goals as goal
 
 pub returns-then-tenant-from : goal.returns-then-tenant-from
-returns-then-tenant-from c = rw (← c.self.view_is) (steps_unknown _ c.args.tenant c.args.command.now (omega arith))
+returns-then-tenant-from c = rw (← c.self.view_is) (unknown_tenant _ c.args.tenant c.args.command.now (omega arith))
 
 pub returns : goal.returns
 returns c =
-    let known : c.args.tenant < c.args.self.now.tenants = subst (λ (k : Parts). c.args.tenant < k.tenants) c.self.view_is (omega arith) in
-    steps_tenant c.args.self.now c.obey-body.new.self c.args.tenant c.args.command.now c.obey-body.result known c.obey-body.ensures
+    let inside : c.args.tenant < c.self.inside.tenants = omega arith in
+    let known : c.args.tenant < c.args.self.now.tenants = subst (λ (k : Parts). c.args.tenant < k.tenants) c.self.view_is inside in
+    steps_asked _ _ c.args.tenant c.args.command.now _ known c.run-body.ensures

@@ -1,29 +1,33 @@
-use Rattle.std.proofs.Common.{◌∙◌, is_none, position, sym, ap, arith}
-use Rattle.model_core.specs.Marks.{is_held}
-use Rattle.kernel_core.proofs.Granting.{whole_granted, steps_granted, grant_without_tenant, grant_without_superblock, grantable_from}
+use Rattle.std.proofs.Common.{◌≡◌, ◌<◌, arith}
+use Rattle.kernel_core.proofs.Owners.{unowned_at}
+use Rattle.kernel_core.proofs.Granting.{IsGrantable, unused, steps_granted, agree_granted, grant_without_tenant, grant_without_superblock}
 use Rattle.kernel_core.proofs.kernel.Kernel.grant.Goals as goal
 
 pub returns-then-tenant-from : goal.returns-then-tenant-from
-returns-then-tenant-from c =
-    rw (c.to_admin.ensures, ← c.self.view_is) (grant_without_tenant _ c.args.tenant (omega arith))
+returns-then-tenant-from c = rw (c.to_admin.ensures, ← c.self.view_is) (grant_without_tenant _ c.args.tenant (omega arith))
 
 pub returns-in_default : goal.returns-in_default
 returns-in_default c =
-    let none = sym (c.in_default.ensures ∙ ap (λ owners. position is_none owners) c.deref.ensures.value) in
-    rw (c.to_admin-in_default.ensures, ← c.self.view_is) (grant_without_superblock _ c.args.tenant (omega arith) none)
+    rw (c.to_admin-in_default.ensures, c.in_default.ensures.err, ← c.self.view_is)
+    (grant_without_superblock _ c.args.tenant (omega arith) c.in_default.ensures.superblock)
 
-pub invariant_of-self : goal.invariant_of-self
-invariant_of-self c =
-    let free = sym (c.in-Some.ensures ∙ ap (λ owners. position is_none owners) c.deref.ensures.value) in
-    let missing = sym (ap (λ owners. is_held owners c.args.tenant c.next_slot-slot.result) c.deref-2.ensures.value) ∙ c.next_slot-slot.ensures.missing in
-    whole_granted _ c.args.tenant c.next_slot-slot.result c.in-Some.superblock c.self.invariant
-    (grantable_from _ c.args.tenant c.next_slot-slot.result c.in-Some.superblock free missing)
+pub add_slot-requires-clause-unused : goal.add_slot-requires-clause-unused
+add_slot-requires-clause-unused c =
+    unused _ c.in-Ok.superblock c.facts.ensures c.self.invariant (unowned_at c.self.inside.space.owners c.in-Ok.superblock c.in-Ok.ensures.superblock)
 
 pub returns : goal.returns
 returns c =
-    let free = sym (c.in-Some.ensures ∙ ap (λ owners. position is_none owners) c.deref.ensures.value) in
-    let missing = sym (ap (λ owners. is_held owners c.args.tenant c.next_slot-slot.result) c.deref-2.ensures.value) ∙ c.next_slot-slot.ensures.missing in
-    rw (c.to_admin-2.ensures, ← c.self.view_is)
-    (steps_granted _ c.args.tenant c.next_slot-slot.result c.in-Some.superblock c.self.invariant
-    (grantable_from _ c.args.tenant c.next_slot-slot.result c.in-Some.superblock free missing) (omega arith) free
-    (λ v below. sym (ap (λ owners. is_held owners c.args.tenant v) c.deref-2.ensures.value) ∙ c.next_slot-slot.ensures.below v below))
+    rw (c.to_admin-2.ensures, c.add_slot.ensures, c.in-Ok.ensures.ok, ← c.self.view_is)
+    (steps_granted _ c.args.tenant c.in-Ok.slot c.in-Ok.superblock (record {
+      space = c.facts.ensures;
+      sized = c.sizes.ensures;
+      own_slots = c.own_slots.ensures;
+      own_bytes = c.own_bytes.ensures;
+      others = c.others_stay.ensures;
+      agree = c.self.invariant;
+      tenant = omega arith;
+      free = c.in-Ok.ensures.superblock;
+      least = c.in-Ok.ensures.slot;
+      slot_below = c.in-Ok.ensures.below.0;
+      below = c.in-Ok.ensures.below.1;
+    }))

@@ -1,30 +1,32 @@
-use Rattle.std.proofs.Common.{List, ℕ, ◌/◌, ◌^◌, sym, subst, arith}
-use Rattle.words_core.specs.declared.event.Command.TheVariants.{Read}
-use Rattle.words_core.specs.declared.reply.Body.{Body}
-use Rattle.words_core.specs.declared.reply.Body.TheVariants.{Bytes}
-use Rattle.kernel_core.specs.Steps.{StepsMachine}
-use Rattle.kernel_core.proofs.Ownership.{under_at}
-use Rattle.kernel_core.proofs.Reach.{range_fits, read_bad_length, read_out_of_reach, read_bytes}
+use Rattle.std.proofs.Common.{◌≡◌, ◌<◌, ◌≤◌, ◌∙◌, is_some, true, sym, ap, subst, arith}
+use Rattle.buddy_core.specs.Content.{holding_of, IsSoundHolding}
+use Rattle.space_core.specs.Laws.{IsRead}
+use Rattle.kernel_core.specs.Parts.{Parts, IsInReach}
+use Rattle.kernel_core.proofs.Worlds.{false_is}
+use Rattle.kernel_core.proofs.Reach.{read_bad, read_beyond, read_done, window_some}
 use Rattle.kernel_core.proofs.kernel.Kernel.read.Goals as goal
 
 pub returns-then-len-lt1 : goal.returns-then-len-lt1
-returns-then-len-lt1 c = read_bad_length c.args.self.now c.args.t c.args.place c.args.len c.then-len-lt1.either
+returns-then-len-lt1 c = rw (← c.self.view_is) (read_bad _ c.args.t c.args.place c.args.len c.self.invariant (λ low high. omega arith))
 
-pub returns-in_default : goal.returns-in_default
-returns-in_default c = read_out_of_reach c.args.self.now c.args.t c.args.place c.args.len (omega arith) (omega arith) c.in_default.ensures
+pub returns-then-not-is_in_reach : goal.returns-then-not-is_in_reach
+returns-then-not-is_in_reach c =
+    let beyond : IsInReach c.args.self.now c.args.t c.args.place c.args.len → ⊥ =
+    λ reach. false_is c.is_in_reach.result c.if-not-is_in_reach.true (c.is_in_reach.ensures.1 reach) in
+    rw (← c.self.view_is) (read_beyond _ c.args.t c.args.place c.args.len c.self.invariant (omega arith) (omega arith)
+    (subst (λ (k : Parts). IsInReach k c.args.t c.args.place c.args.len → ⊥) (sym c.self.view_is) beyond))
 
-pub bytes_from-requires-clause-superblock : goal.bytes_from-requires-clause-superblock
-bytes_from-requires-clause-superblock c =
-    (under_at c.args.self.now.owners c.args.t (c.args.place / 4096 / 2 ^ c.args.self.now.order) c.in-Some.superblock c.in-Some.ensures.0).0
-
-pub bytes_from-requires-clause-within : goal.bytes_from-requires-clause-within
-bytes_from-requires-clause-within c =
-    let (first, order, taken, inside) = c.in-Some.ensures.1 in
-    range_fits c.args.self.now c.args.t c.args.place c.args.len first order c.parts_are_whole.ensures (omega arith) taken inside
+pub unreachable-requires : goal.unreachable-requires
+unreachable-requires c =
+    let known : c.args.t < c.self.inside.tenants = subst (λ (k : Parts). c.args.t < k.tenants) (sym c.self.view_is) c.requires in
+    let sound : IsSoundHolding c.self.inside.buddy.top (holding_of c.args.t c.self.inside.buddy) = c.holdings_are_sound.ensures c.args.t (omega (arith, c.self.invariant.holdings)) in
+    let reach = subst (λ (k : Parts). IsInReach k c.args.t c.args.place c.args.len) (sym c.self.view_is) (c.is_in_reach.ensures.0 c.if-not-is_in_reach.false) in
+    window_some _ c.args.t c.args.place c.args.len c.self.invariant sound reach (sym c.in_default.ensures.value)
 
 pub returns : goal.returns
 returns c =
-    let (first, order, taken, inside) = c.in-Some.ensures.1 in
-    let body : List ℕ → Body = λ bytes. Bytes (record { items = bytes }) in
-    subst (λ bytes. StepsMachine c.args.self.now c.args.t (Read c.args.place c.args.len) c.args.self.now (body bytes)) (sym c.bytes_from.ensures)
-    (read_bytes c.args.self.now c.args.t c.in-Some.superblock c.args.place c.args.len first order c.parts_are_whole.ensures (omega arith) (omega arith) c.in-Some.ensures.0 taken inside)
+    let reach = subst (λ (k : Parts). IsInReach k c.args.t c.args.place c.args.len) (sym c.self.view_is) (c.is_in_reach.ensures.0 c.if-not-is_in_reach.false) in
+    let window = c.own_bytes.ensures.read c.args.t c.args.place c.args.len c.in-Some.bytes.now (sym c.in-Some.ensures.value) in
+    let is : IsRead c.self.inside.space c.args.t c.args.place c.args.len c.copied.result.items =
+    subst (λ xs. IsRead c.self.inside.space c.args.t c.args.place c.args.len xs) (sym c.copied.ensures) window in
+    rw (← c.self.view_is) (read_done _ c.args.t c.args.place c.args.len c.copied.result.items c.self.invariant (omega arith) (omega arith) reach is)

@@ -1,0 +1,5 @@
+use Rattle.buddy_core.proofs.TakenLaws.{taken-with_block, taken-without_block}
+use Rattle.buddy_core.proofs.taken_follows.Goals as goal
+
+pub returns : goal.returns
+returns c = record { reserve = taken-with_block; release = taken-without_block }

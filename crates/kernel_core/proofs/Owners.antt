@@ -1,0 +1,81 @@
+-- Which superblocks have which owner.
+use Rattle.std.proofs.Common.{◌≡◌, ◌≢◌, ℕ, ◌<◌, ◌≤◌, ◌==◌, ◌&&◌, Bool, true, false, if◌then◌else◌, Option, Some, None, is_none, is_some, List, length, map, position, slice_index_or, slice_set, refl, sym, ap, ◌∙◌, subst, ⊎_elim, arith}
+use Rattle.std.specs.List.{position_or_len}
+use Rattle.std.proofs.lemmas.Bool.{false≢true, cases_eq, eq-eqb, eqb-true, and_parts, and_from, false_from_ne_true}
+use Rattle.std.proofs.lemmas.List.{length-set, get_or-set_same, get_or-set_other, get_or-map, get_or_default, same_lists}
+use Rattle.std.proofs.lemmas.List.Sums.{position_or_len_is}
+use Rattle.std.proofs.lemmas.List.Quantifiers.{position-Some}
+use Rattle.std.proofs.Math.ListN.{length-map}
+use Rattle.space_core.specs.Content as spaces
+use Rattle.space_core.specs.Content.{IsSpace, owner_at}
+use Rattle.kernel_core.specs.World.{is_of, is_owner, given_up}
+use Rattle.kernel_core.proofs.Rising.{is_same, is_other, some_none}
+
+pub was_none : (o : Option (ℕ × ℕ)) → is_none o ≡ true → o ≡ None
+was_none None _ = refl
+was_none (Some o) fails = absurd (false≢true fails)
+
+-- the first superblock without owner has none
+pub unowned_at : (owners : List (Option (ℕ × ℕ))) (m : ℕ) → position is_none owners ≡ Some m → owner_at owners m ≡ None
+unowned_at owners m free = was_none (owner_at owners m) (position-Some is_none owners m None free).1
+
+pub same_some : {A : Type 0} (x y : A) → Some x ≡ Some y → x ≡ y
+same_some x y e = cc
+
+-- an owner is one tenant with one slot
+pub owner_is : (t u : ℕ) (o : Option (ℕ × ℕ)) → is_owner t u o ≡ true → o ≡ Some (t, u)
+owner_is t u None fails = absurd (false≢true fails)
+owner_is t u (Some o) owns =
+    let both = and_parts (o.0 == t) (o.1 == u) owns in
+    let tenant = eqb-true o.0 t both.0 in
+    let slot = eqb-true o.1 u both.1 in
+    ap (λ a. Some (a, o.1)) tenant ∙ ap (λ b. Some (t, b)) slot
+
+pub owner_self : (t u : ℕ) → is_owner t u (Some (t, u)) ≡ true
+owner_self t u = ap (λ b. b && (u == u)) (is_same t) ∙ is_same u
+
+-- superblock m is the one under slot u of tenant t
+pub record IsUnder (s : spaces.Content) (t u m : ℕ) : Type 0 where
+  pub within : m < length s.owners
+  pub owner : owner_at s.owners m ≡ Some (t, u)
+  pub only : (n : ℕ) → n ≢ m → is_owner t u (owner_at s.owners n) ≡ false
+
+pub is_under : (s : spaces.Content) (t u m : ℕ) → IsSpace s → m < length s.owners → spaces.superblock_at s.slots t u ≡ Some m → IsUnder s t u m
+is_under s t u m space within here = record {
+  within = within;
+  owner = (space.agree t u m).0 here;
+  only = λ n other. false_from_ne_true (is_owner t u (owner_at s.owners n)) (λ owns.
+      other (same_some n m (sym ((space.agree t u n).1 (owner_is t u (owner_at s.owners n) owns)) ∙ here)));
+}
+
+-- its number is found by its owner
+pub found_under : (s : spaces.Content) (t u m : ℕ) → IsUnder s t u m → position_or_len (is_owner t u) s.owners ≡ m
+found_under s t u m under =
+    position_or_len_is (is_owner t u) s.owners m None (omega (arith, under.within))
+    (λ n below. under.only n (λ same. absurd (omega arith)))
+    (λ _. ap (is_owner t u) under.owner ∙ owner_self t u)
+
+-- it has no owner any more, and all others stay
+pub given_up_one : (s : spaces.Content) (t u m : ℕ) → IsUnder s t u m → slice_set s.owners m None ≡ map (given_up (is_owner t u)) s.owners
+given_up_one s t u m under =
+    same_lists (slice_set s.owners m None) (map (given_up (is_owner t u)) s.owners)
+    (length-set s.owners m None ∙ sym (length-map s.owners (given_up (is_owner t u))))
+    (λ n d below.
+    let within : n < length s.owners = omega (arith, below, length-set s.owners m None) in
+    at n d within)
+  where
+    at : (n : ℕ) (d : Option (ℕ × ℕ)) → n < length s.owners
+        → slice_index_or (slice_set s.owners m None) n d ≡ slice_index_or (map (given_up (is_owner t u)) s.owners) n d
+    at n d within = ⊎_elim
+        (λ same.
+        ap (λ i. slice_index_or (slice_set s.owners m None) i d) same ∙ get_or-set_same s.owners m None d under.within
+        ∙ sym (get_or-map (given_up (is_owner t u)) s.owners n None d within
+        ∙ ap (λ i. given_up (is_owner t u) (owner_at s.owners i)) same
+        ∙ ap (given_up (is_owner t u)) under.owner
+        ∙ ap (λ b. if b then None else Some (t, u)) (owner_self t u)))
+        (λ other.
+        get_or-set_other s.owners m n None d other
+        ∙ get_or_default s.owners n d None within
+        ∙ sym (get_or-map (given_up (is_owner t u)) s.owners n None d within
+        ∙ ap (λ b. if b then None else owner_at s.owners n) (under.only n other)))
+        (cases_eq n m)

@@ -1,0 +1,15 @@
+-- All superblocks of one tenant taken back.
+use Rattle.std.specs.Prelude.{◌≡◌, ◌≢◌, ℕ, Option, None, List, length, map, count_by}
+use Rattle.space_core.specs.Content.{Content, superblock_at}
+use Rattle.space_core.specs.Windows.{byte_at}
+use Rattle.space_core.specs.Laws.{IsSameFor}
+use Rattle.kernel_core.specs.World.{is_of, given_up}
+
+-- tenant t has given up all its superblocks, this many, and all other tenants keep theirs
+pub record GivesUp (old new : Content) (t told : ℕ) : Type 0 where
+  pub count : told ≡ count_by (is_of t) old.owners
+  pub unit : new.unit ≡ old.unit
+  pub rows : length new.slots ≡ length old.slots
+  pub owners : new.owners ≡ map (given_up (is_of t)) old.owners
+  pub slots : (slot : ℕ) → superblock_at new.slots t slot ≡ None
+  pub others : (u : ℕ) → u ≢ t → IsSameFor u old new
