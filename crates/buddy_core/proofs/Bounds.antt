@@ -13,7 +13,7 @@ use Rattle.buddy_core.specs.Stored.{Sheet, Row, row_of, slot_of, held_by, taken_
 use Rattle.buddy_core.specs.Kept.{IsKept, IsRowKept}
 use Rattle.buddy_core.specs.Roots.{IsRooted}
 use Rattle.buddy_core.proofs.RootBits.{slot_within}
-use Rattle.buddy_core.proofs.Counting.{count_le, bit}
+use Rattle.model_core.proofs.Counting.{count_le, bit}
 
 pow_le : (i j : ℕ) → i ≤ j → 2 ^ i ≤ 2 ^ j
 pow_le i j le = go (cases_lt i j)

@@ -4,8 +4,8 @@ use Rattle.std.proofs.lemmas.List.{get_or-set_same, get_or-set_other}
 use Rattle.std.proofs.lemmas.Bool.{cases_eq}
 use Rattle.model_core.specs.Blocks.{Taken, block, IsSound}
 use Rattle.std.specs.List.{range_with_len}
-use Rattle.model_core.specs.Choice.{is_available, is_free}
-use Rattle.buddy_core.specs.Content.{Holding, with_holding, taken_blocks, count_below}
+use Rattle.model_core.specs.Choice.{is_available, is_free, count_below}
+use Rattle.buddy_core.specs.Content.{Holding, with_holding, taken_blocks}
 use Rattle.buddy_core.specs.Tree.{Shows}
 use Rattle.buddy_core.specs.Stored.{Sheet, Row, blank_sheet, sheet_of, row_of, slot_of, held_by, taken_by, holding_shown, content_shown}
 use Rattle.buddy_core.specs.Kept.{IsKept, IsRowKept, HasSheetSizes, available_in}

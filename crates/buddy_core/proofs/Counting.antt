@@ -1,10 +1,9 @@
 -- How the number of free blocks of one order changes when a block is taken out of the available frames.
 use Rattle.std.proofs.Common.{◌≡◌, ◌⊎◌, inl, inr, refl, sym, ◌∙◌, ap, subst, ℕ, zero, suc, ◌+◌, ◌*◌, ◌/◌, ◌%◌, ◌^◌, ◌<◌, ◌≤◌, Bool, true, false, arith}
-use Rattle.std.specs.Prelude.{if◌then◌else◌}
 use Rattle.std.proofs.lemmas.Bool.{cases_lt, cases_eq, cases_Bool, both_ways, false_from_ne_true}
 use Rattle.std.proofs.lemmas.Nat.{pow_pos, le-div}
 use Rattle.model_core.specs.Blocks.{block, around, buddy, Taken, IsFree}
-use Rattle.model_core.specs.Choice.{is_free, is_available}
+use Rattle.model_core.specs.Choice.{is_free, is_available, count_below}
 use Rattle.model_core.specs.Numbered.{number_at, is_clear, IsOpen}
 use Rattle.model_core.proofs.Halves.{one_open, same_above, clear_at}
 use Rattle.model_core.proofs.TakeOut.{TakesOut, IsOtherHalf, open_after, open_stays, open_half}
@@ -12,16 +11,7 @@ use Rattle.model_core.proofs.Bridge.{free_is_open, open_is_free, same_first, ali
 use Rattle.model_core.proofs.FreeBlocks.{same_bool}
 use Rattle.model_core.proofs.Joining.{buddy_is_half, buddy_aligned, only_buddy}
 use Rattle.model_core.proofs.Choosing.{free_is_tested}
-use Rattle.buddy_core.specs.Content.{count_below}
-
--- what one number adds to a count
-abbrev pub bit : Bool → ℕ
-bit b = if b then 1 else 0
-
-pub count_same : (p r : ℕ → Bool) (n : ℕ) → ((f : ℕ) → f < n → p f ≡ r f) → count_below p n ≡ count_below r n
-count_same p r zero same = refl
-count_same p r (suc n) same =
-    ap (λ a. a + bit (p n)) (count_same p r n (λ f lt. same f (omega arith))) ∙ ap (λ (b : Bool). count_below r n + bit b) (same n (omega arith))
+use Rattle.model_core.proofs.Counting.{bit, count_same}
 
 pub count_one : (p r : ℕ → Bool) (n x : ℕ) → x < n → p x ≡ false → r x ≡ true → ((f : ℕ) → f < n → (f ≡ x → ⊥) → p f ≡ r f) → count_below r n ≡ count_below p n + 1
 count_one p r zero x lt off on same = absurd (omega arith)
@@ -38,14 +28,6 @@ count_one p r (suc n) x lt off on same = go (cases_eq x n) (count_one p r n x)
         let before : count_below r n ≡ count_below p n + 1 = rest (omega arith) off on (λ f f_lt f_x. same f (omega arith) f_x) in
         let last : bit (p n) ≡ bit (r n) = ap bit (same n (omega arith) (λ e. ne (sym e))) in
         omega arith
-
-pub count_le : (p : ℕ → Bool) (n : ℕ) → count_below p n ≤ n
-count_le p zero = omega arith
-count_le p (suc n) = let before = count_le p n in let last = at_most_one (p n) in omega arith
-  where
-    at_most_one : (b : Bool) → bit b ≤ 1
-    at_most_one true = omega arith
-    at_most_one false = omega arith
 
 -- a number that passes counts
 pub count_some : (p : ℕ → Bool) (n x : ℕ) → x < n → p x ≡ true → 0 < count_below p n

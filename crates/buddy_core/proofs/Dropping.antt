@@ -7,13 +7,12 @@ use Rattle.std.proofs.lemmas.Nat.{pow_pos, div-mul-add}
 use Rattle.std.proofs.Math.Nat.{mul-div_cancel}
 use Rattle.std.proofs.lemmas.Bool.{cases_Bool, cases_eq}
 use Rattle.model_core.specs.Blocks.{block, slot_block, Taken, IsTaken, HasTaken, HasFrame, IsSound}
-use Rattle.model_core.specs.Choice.{is_available, is_free}
+use Rattle.model_core.specs.Choice.{is_available, is_free, count_below}
 use Rattle.model_core.specs.Numbered.{is_clear}
 use Rattle.model_core.proofs.Halves.{clear_at, clear_fails}
 use Rattle.model_core.proofs.Bridge.{number_is, number_first, aligned_first, number_of_frame, frame_of_number, available_tells, unavailable_tells}
 use Rattle.model_core.proofs.FreeBlocks.{has_first}
 use Rattle.model_core.proofs.Joining.{take_back_stays_sound}
-use Rattle.buddy_core.specs.Content.{count_below}
 use Rattle.buddy_core.specs.Tree.{Shows}
 use Rattle.buddy_core.specs.Stored.{Sheet, Row, blank_sheet, sheet_of, row_of, slot_of, held_by, order_under, taken_by, holding_shown}
 use Rattle.buddy_core.specs.Kept.{IsKept, IsRowKept, HasSheetSizes, available_in}

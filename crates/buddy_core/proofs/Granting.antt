@@ -7,9 +7,8 @@ use Rattle.std.proofs.lemmas.Nat.{div-mul-add, pow_pos}
 use Rattle.std.proofs.Math.Nat.{mul-div_cancel}
 use Rattle.std.proofs.lemmas.Bool.{cases_lt, cases_eq, both_ways}
 use Rattle.model_core.specs.Blocks.{block, Taken, IsSound}
-use Rattle.model_core.specs.Choice.{is_available, is_free}
+use Rattle.model_core.specs.Choice.{is_available, is_free, count_below}
 use Rattle.model_core.proofs.Joining.{grant_stays_sound}
-use Rattle.buddy_core.specs.Content.{count_below}
 use Rattle.buddy_core.specs.Tree.{Shows}
 use Rattle.buddy_core.specs.Stored.{Sheet, Row, sheet_of, row_of, slot_of, held_by, order_under, taken_by, holding_shown}
 use Rattle.buddy_core.specs.Kept.{IsKept, IsRowKept, available_in}

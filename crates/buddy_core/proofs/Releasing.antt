@@ -6,18 +6,19 @@ use Rattle.std.proofs.lemmas.Nat.{div-mul-add, mod_below, pow_pos, shr_split}
 use Rattle.std.proofs.Math.Nat.{mul-le-mul_right}
 use Rattle.std.proofs.lemmas.Bool.{cases_lt, cases_eq, cases_order}
 use Rattle.model_core.specs.Blocks.{block, Taken}
-use Rattle.model_core.specs.Choice.{is_available, is_free}
+use Rattle.model_core.specs.Choice.{is_available, is_free, count_below}
 use Rattle.model_core.specs.Numbered.{number_at, IsOpen}
 use Rattle.model_core.proofs.TakeOut.{TakesOut}
 use Rattle.model_core.proofs.Joining.{releasing, release_stays_sound}
-use Rattle.buddy_core.specs.Content.{Content, has_order, count_below, holding_of, taken_of}
+use Rattle.buddy_core.specs.Content.{Content, has_order, holding_of, taken_of}
 use Rattle.buddy_core.specs.Tree.{Shows, IsLess}
 use Rattle.buddy_core.specs.Stored.{Sheet, Row, sheet_of, row_of, slot_of, held_by, taken_by, holding_shown}
 use Rattle.buddy_core.specs.Kept.{IsKept, IsRowKept}
 use Rattle.buddy_core.proofs.Shown.{taken_shown, IsShown, slot_read, size_is}
 use Rattle.buddy_core.proofs.RootBits.{slot_within}
 use Rattle.buddy_core.proofs.Bounds.{table_size, count_set, order_here, order_other}
-use Rattle.buddy_core.proofs.Counting.{bit, count_kept, count_split, count_half, half_counts}
+use Rattle.model_core.proofs.Counting.{bit}
+use Rattle.buddy_core.proofs.Counting.{count_kept, count_split, count_half, half_counts}
 use Rattle.buddy_core.proofs.TreeSlots.{less_in_slot, same_elsewhere, open_in_slot, number_in}
 use Rattle.buddy_core.proofs.Steps.{IsStep, changed}
 

@@ -6,12 +6,12 @@ use Rattle.std.proofs.lemmas.Nat.{div-mul-add, shr_split}
 use Rattle.std.proofs.Math.Nat.{mul-le-mul_right}
 use Rattle.std.proofs.lemmas.Bool.{cases_lt, cases_eq, cases_order}
 use Rattle.model_core.specs.Blocks.{Block, block, Taken, IsFree, IsChoice, IsWithout}
-use Rattle.model_core.specs.Choice.{is_available, is_free}
+use Rattle.model_core.specs.Choice.{is_available, is_free, count_below}
 use Rattle.model_core.specs.Numbered.{number_at, IsOpen}
 use Rattle.model_core.proofs.TakeOut.{TakesOut}
 use Rattle.model_core.proofs.FreeBlocks.{reserving, has_first}
 use Rattle.model_core.proofs.Joining.{reserve_stays_sound}
-use Rattle.buddy_core.specs.Content.{has_order, count_below}
+use Rattle.buddy_core.specs.Content.{has_order}
 use Rattle.buddy_core.specs.Tree.{Shows, IsLess, IsLeast}
 use Rattle.buddy_core.specs.Roots.{HasBit, IsPlace, IsWithoutOrder}
 use Rattle.buddy_core.specs.declared.find.Place.{Place}
@@ -20,7 +20,8 @@ use Rattle.buddy_core.specs.Kept.{IsKept, IsRowKept}
 use Rattle.buddy_core.proofs.Shown.{taken_shown}
 use Rattle.buddy_core.proofs.RootBits.{slot_within}
 use Rattle.buddy_core.proofs.Bounds.{held_slot, table_size, count_set, order_here, order_other}
-use Rattle.buddy_core.proofs.Counting.{bit, count_kept, count_split, count_half, whole_counts}
+use Rattle.model_core.proofs.Counting.{bit}
+use Rattle.buddy_core.proofs.Counting.{count_kept, count_split, count_half, whole_counts}
 use Rattle.buddy_core.proofs.TreeSlots.{root_tells, least_free, less_in_slot, same_elsewhere}
 use Rattle.buddy_core.proofs.Steps.{IsStep, changed}
 

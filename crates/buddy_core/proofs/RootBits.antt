@@ -1,13 +1,14 @@
 -- The orders of the first n slots, one slot more.
 use Rattle.std.proofs.Common.{◌≡◌, ◌⊎◌, inl, inr, sym, ◌∙◌, ap, ℕ, Option, Some, None, List, [], length, get_or, ◌+◌, ◌<◌, ◌≤◌, arith}
-use Rattle.std.specs.Prelude.{◌↔◌, bit_or, slice_index}
+use Rattle.std.specs.Prelude.{◌↔◌, bit_or, slice_index, MatchOption}
 use Rattle.std.specs.Int.{bit_at}
 use Rattle.std.proofs.lemmas.List.{get_or_read, get_or_past}
 use Rattle.std.proofs.lemmas.Bool.{cases_lt}
 use Rattle.std.proofs.lemmas.Option.{same_Some, none-some}
 use Rattle.std.proofs.lemmas.Nat.Bits.{bit_at_or, bit_at-lt}
 use Rattle.buddy_core.specs.Stored.{Sheet, sheet_of}
-use Rattle.buddy_core.specs.Roots.{HasOrder, slot_in}
+use Rattle.buddy_core.specs.declared.find.Place.{Place}
+use Rattle.buddy_core.specs.Roots.{HasOrder, slot_in, IsRooted, IsPlace, IsWithoutOrder}
 use Rattle.buddy_core.proofs.TreeOrders.{either_bit}
 
 pub sheet_read : (sheets : List Sheet) (m : ℕ) (s : Sheet) → m < length sheets → s ≡ get_or sheets m s → s ≡ sheet_of m sheets
@@ -60,3 +61,20 @@ slot_within slots u m at = go (cases_lt u (length slots))
     go : (u < length slots) ⊎ (length slots ≤ u) → u < length slots
     go (inl lt) = lt
     go (inr past) = absurd (none-some m (sym (get_or_past slots u None past) ∙ at))
+
+module _ (sheets : List Sheet) (slots' slots : List (Option ℕ)) (same : (u : ℕ) → slot_in slots' u ≡ slot_in slots u) where
+  pub rooted_alike : IsRooted sheets slots → IsRooted sheets slots'
+  rooted_alike rooted u m at = rooted u m (sym (same u) ∙ at)
+
+  pub place_alike : (k : ℕ) (p : Place) → IsPlace sheets slots' k p → IsPlace sheets slots k p
+  place_alike k p place = record {
+    at = sym (same p.slot) ∙ place.at;
+    enough = place.enough;
+    bit = place.bit;
+    least = λ i u m low high at. place.least i u m low high (same u ∙ at);
+    first = λ u m below at. place.first u m below (same u ∙ at);
+  }
+
+  pub found_alike : (k : ℕ) (o : Option Place) → MatchOption o ⊥ (IsPlace sheets slots' k) → MatchOption o (IsWithoutOrder sheets slots k) (IsPlace sheets slots k)
+  found_alike k None none = absurd none
+  found_alike k (Some p) place = place_alike k p place

@@ -8,8 +8,8 @@ use Rattle.std.proofs.lemmas.Option.{none-some, same_Some}
 use Rattle.std.proofs.lemmas.Nat.{div-mul-add, mod-mul-add, shr_split}
 use Rattle.std.proofs.lemmas.Bool.{cases_eq, cond-true, cond-false, eq-eqb, ne_eqb}
 use Rattle.model_core.specs.Blocks.{Taken, block, IsSound}
-use Rattle.model_core.specs.Choice.{is_available, is_free}
-use Rattle.buddy_core.specs.Content.{Holding, has_order, taken_blocks, count_below}
+use Rattle.model_core.specs.Choice.{is_available, is_free, count_below}
+use Rattle.buddy_core.specs.Content.{Holding, has_order, taken_blocks}
 use Rattle.buddy_core.specs.Tree.{Shows}
 use Rattle.buddy_core.specs.Stored.{Sheet, Row, sheet_of, row_of, slot_of, held_by, order_under, taken_by, holding_shown}
 use Rattle.buddy_core.specs.Kept.{IsKept, IsRowKept}

@@ -2,9 +2,9 @@
 use Rattle.std.proofs.Common.{◌≡◌, ◌⊎◌, inl, inr, sym, ◌∙◌, ap, ℕ, ◌<◌, ◌≤◌, Option, Some, None, List, length, get_or, set}
 use Rattle.std.proofs.lemmas.List.{get_or-set_same, get_or-set_other, get_or_past, set_past}
 use Rattle.std.proofs.lemmas.Bool.{cases_eq, cases_lt}
-use Rattle.model_core.specs.Blocks.{Taken, with_taken, without_taken}
+use Rattle.model_core.specs.Blocks.{with_taken, without_taken}
 use Rattle.buddy_core.specs.Content.{Holding, taken_of, with_block, without_block}
-use Rattle.buddy_core.proofs.Steps.{changed, changed_here, changed_other}
+use Rattle.buddy_core.proofs.Steps.{changed_here, changed_other}
 
 module _ (h : Holding) (f : ℕ) where
   pub taken-with_block : (k : ℕ) → f < length h.taken → taken_of (with_block f k h) ≡ with_taken (taken_of h) f k

@@ -1,8 +1,8 @@
 -- What the buddy system holds, tenant by tenant: slots with the superblocks under them, and taken
 -- blocks. Free blocks are not part of it: they follow from the held slots and the taken blocks.
-use Rattle.std.specs.Prelude.{ℕ, zero, suc, ◌≡◌, ◌+◌, ◌*◌, ◌^◌, ◌<◌, ◌≤◌, ◌==◌, Bool, false, if◌then◌else◌, Option, Some, None, is_some, List, [], length, replicate, slice_index_or, slice_set, count_by}
+use Rattle.std.specs.Prelude.{ℕ, ◌≡◌, ◌*◌, ◌^◌, ◌<◌, ◌≤◌, ◌==◌, Bool, false, Option, Some, None, is_some, List, [], length, replicate, slice_index_or, slice_set, count_by}
 use Rattle.model_core.specs.Blocks.{Taken, with_taken, without_taken, block, IsSound}
-use Rattle.model_core.specs.Choice.{is_free}
+use Rattle.model_core.specs.Choice.{is_free, count_below}
 
 -- one tenant: the superblock under each slot, and at each frame the order of the taken block that begins there
 pub record Holding : Type 0 where
@@ -60,11 +60,6 @@ without_slot u h = record h { slots = slice_set h.slots u None }
 -- the taken blocks are aligned, lie in held slots and share no frame
 abbrev pub IsSoundHolding : ℕ → Holding → Type 0
 IsSoundHolding top h = IsSound top (is_held h) (taken_of h)
-
--- how many numbers below n pass
-abbrev pub count_below : (ℕ → Bool) → ℕ → ℕ
-count_below p zero = 0
-count_below p (suc n) = count_below p n + (if p n then 1 else 0)
 
 -- how many free blocks of order k there are
 abbrev pub free_blocks : ℕ → ℕ → ℕ → Holding → ℕ

@@ -1,8 +1,8 @@
 -- What always holds of the stored superblocks and tenants.
 use Rattle.std.specs.Prelude.{◌≡◌, ℕ, ◌+◌, ◌*◌, ◌^◌, ◌<◌, ◌≤◌, Bool, Some, List, length, slice_index}
 use Rattle.model_core.specs.Blocks.{block, IsSound}
-use Rattle.model_core.specs.Choice.{is_available, is_free}
-use Rattle.buddy_core.specs.Content.{count_below, taken_blocks}
+use Rattle.model_core.specs.Choice.{is_available, is_free, count_below}
+use Rattle.buddy_core.specs.Content.{taken_blocks}
 use Rattle.buddy_core.specs.Tree.{Shows}
 use Rattle.buddy_core.specs.Stored.{Sheet, Row, blank_sheet, sheet_of, row_of, slot_of, held_by, taken_by, holding_shown}
 

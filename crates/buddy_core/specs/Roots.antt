@@ -7,6 +7,11 @@ use Rattle.buddy_core.specs.Stored.{Sheet, sheet_of}
 abbrev pub slot_in : List (Option ℕ) → ℕ → Option ℕ
 slot_in slots u = slice_index_or slots u None
 
+-- no slot from `end` on has a superblock
+pub record IsEnd (slots : List (Option ℕ)) (end : ℕ) : Type 0 where
+  pub within : end ≤ length slots
+  pub rest : (u : ℕ) → end ≤ u → slot_in slots u ≡ None
+
 -- superblock m has a free block of order j
 abbrev pub HasBit : List Sheet → ℕ → ℕ → Type 0
 HasBit sheets m j = bit_at (slice_index (sheet_of m sheets).words 0) j ≡ 1

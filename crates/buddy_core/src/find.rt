@@ -5,6 +5,7 @@ ghost use Rattle.std.specs.Int.{bit_at};
 ghost use Rattle.buddy_core.specs.Roots.{HasOrder, IsRooted, IsWithoutOrder, IsPlace};
 
 use crate::superblock::Superblock;
+use crate::tenant::Tenant;
 use crate::tree;
 
 /// A slot of a tenant, the superblock under it, and the order of a free block there.
@@ -15,14 +16,15 @@ pub struct Place {
     pub order: u8,
 }
 
-/// The first slot with a free block of the least order of at least `k` that there is.
-pub fn find(superblocks: &[Superblock], slots: &[Option<u16>], k: u8) -> Option<Place>
+/// The first slot of the tenant with a free block of the least order of at least `k` that there is.
+pub fn find(superblocks: &[Superblock], tenant: &Tenant, k: u8) -> Option<Place>
     requires order { k < 16 }
-    requires few { length slots.now ≤ 256 }
-    requires rooted { IsRooted superblocks.now slots.now }
-    ensures { MatchOption result (IsWithoutOrder superblocks.now slots.now k)
-        (IsPlace superblocks.now slots.now k) }
+    requires few { length tenant.now.slots ≤ 256 }
+    requires rooted { IsRooted superblocks.now tenant.now.slots }
+    ensures { MatchOption result (IsWithoutOrder superblocks.now tenant.now.slots k)
+        (IsPlace superblocks.now tenant.now.slots k) }
 {
+    let slots = tenant.held();
     let order = least_order(orders(superblocks, slots), k)?;
     first_slot(superblocks, slots, k, order)
 }

@@ -158,7 +158,7 @@ impl Buddy {
             × (IsChoice self.old.top (is_held (holding_of t self.old)) (taken_of (holding_of t self.old)) k (block f j)
             × (self.new ≡ with_holding t (with_block f k (holding_of t self.old)) self.old))) }
     {
-        let place = find::find(&self.superblocks, self.tenants[t as usize].slots(), k)?;
+        let place = find::find(&self.superblocks, &self.tenants[t as usize], k)?;
         let order = self.order;
         let superblock = &mut self.superblocks[place.superblock as usize];
         let first = superblock.search(order, place.order);

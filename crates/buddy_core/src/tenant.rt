@@ -2,6 +2,7 @@
 
 ghost use Rattle.std.specs.Prelude.{◌≡◌, ◌⊎◌, ℕ, replicate, count_by, is_some, ◌+◌, ◌-◌, ◌^◌, ◌<◌, ◌≤◌, Some, None, List, length, slice_index, slice_index_or, slice_set, IfOk};
 ghost use Rattle.buddy_core.specs.Stored.{blank_row};
+ghost use Rattle.buddy_core.specs.Roots.{slot_in};
 
 use std::alloc::{AllocError, Global};
 use std::marker::Model;
@@ -10,6 +11,8 @@ use std::marker::Model;
 #[derive(Debug, Drop)]
 pub struct Tenant {
     slots: Vec<Option<u16>>,
+    // Nothing is held from this slot on, so no search looks there.
+    end: usize,
     free: Vec<u32>,
     taken: Vec<u32>,
 }
@@ -20,6 +23,10 @@ impl Model for Tenant {
     ghost Value = { Row };
 
     ghost view = { λ a. record { slots = a.slots.items; free = a.free.items; taken = a.taken.items } };
+
+    ghost use Rattle.buddy_core.specs.Roots.{IsEnd};
+
+    ghost invariant = { λ a. IsEnd a.slots.items a.end };
 }
 
 impl Tenant {
@@ -31,14 +38,20 @@ impl Tenant {
         let slots = vec![in alloc; None; superblocks as usize]?;
         let free = vec![in alloc; 0; order as usize + 1]?;
         let taken = vec![in alloc; 0; order as usize + 1]?;
-        Ok(Tenant { slots, free, taken })
+        Ok(Tenant {
+            slots,
+            end: 0,
+            free,
+            taken,
+        })
     }
 
-    /// The superblock under each slot.
-    pub fn slots(&self) -> &[Option<u16>]
-        ensures { result.now ≡ self.now.slots }
+    /// The superblock under each slot, without slots at the end that hold none.
+    pub fn held(&self) -> &[Option<u16>]
+        ensures same { (u : ℕ) → slot_in result.now u ≡ slot_in self.now.slots u }
+        ensures few { length result.now ≤ length self.now.slots }
     {
-        &self.slots
+        &self.slots[..self.end]
     }
 
     /// The superblock under `slot`; `None` also past the last slot.
@@ -83,6 +96,7 @@ impl Tenant {
         } }
     {
         self.slots[slot as usize] = Some(superblock);
+        self.end = self.end.max(slot as usize + 1);
         self.free[order as usize] += 1;
     }
 
@@ -151,6 +165,7 @@ impl Tenant {
         ensures taken { self.new.taken ≡ replicate (length self.old.taken) 0 }
     {
         self.slots.fill(None);
+        self.end = 0;
         self.free.fill(0);
         self.taken.fill(0);
     }

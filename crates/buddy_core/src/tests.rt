@@ -1,8 +1,10 @@
-//! Ten thousand mixed calls beside a plain search, and the worked example of the tree's words.
+//! Ten thousand mixed calls beside the plain search, and the worked example of the tree's words.
 
-ghost use Rattle.std.specs.Prelude.{◌≡◌, ◌<◌, ◌≤◌, length};
+ghost use Rattle.std.specs.Prelude.{◌≡◌, ℕ, ◌<◌, ◌≤◌, Some, true, length};
+ghost use Rattle.buddy_core.specs.Content.{holding_of, superblock_at};
 
 use super::*;
+use model_core::search;
 use std::process::Abort;
 use std::test::Fail;
 
@@ -13,11 +15,54 @@ impl Buddy {
         self.order
     }
 
+    fn superblock_count(&self) -> usize
+        ensures { result ≡ self.now.superblocks }
+    {
+        self.superblocks.len()
+    }
+
     fn tenant_count(&self) -> usize
         ensures { result ≡ length self.now.tenants }
     {
         self.tenants.len()
     }
+
+    fn superblock_under(&self, t: u8, slot: u32) -> Option<u16>
+        requires { t < length self.now.tenants }
+        ensures { result ≡ superblock_at (holding_of t self.now) slot }
+    {
+        self.tenants[t as usize].superblock(slot)
+    }
+}
+
+/// Whether superblock `m` stands under no slot of tenant `t`.
+fn is_apart(buddy: &Buddy, t: u8, m: u16) -> bool
+    requires { t < length buddy.now.tenants }
+    ensures { result ≡ true → (u : ℕ) → superblock_at (holding_of t buddy.now) u ≡ Some m → ⊥ }
+{
+    buddy.sizes();
+    for slot in 0..buddy.superblock_count() {
+        if buddy.superblock_under(t, slot as u32) == Some(m) {
+            return false;
+        }
+    }
+    true
+}
+
+/// Whether superblock `m` stands under no slot.
+fn is_unused(buddy: &Buddy, m: u16) -> bool
+    ensures { result ≡ true → (t u : ℕ) → superblock_at (holding_of t buddy.now) u ≡ Some m → ⊥ }
+{
+    let tenants = buddy.tenant_count();
+    if tenants > 64 {
+        return false;
+    }
+    for t in 0..tenants {
+        if !is_apart(buddy, t as u8, m) {
+            return false;
+        }
+    }
+    true
 }
 
 /// Numbers that look random: the upper bits of a linear congruential generator.
@@ -37,133 +82,356 @@ impl Numbers {
     }
 }
 
-/// One tenant without lists and trees: which slots it holds, and a mark for each frame: 0 where it is free,
-/// the order plus one where a taken block begins, and 255 inside one.
+/// What the plain search reads: the owner of each superblock, and a mark for each machine frame: 0 where it is
+/// free, the order plus one where a taken block begins, and 255 inside one.
 #[derive(Drop)]
 struct Plain {
-    order: u8,
-    held: [bool; 4],
+    owners: Vec<Option<(u8, u16)>>,
     marks: Vec<u8>,
 }
 
 impl Plain {
-    fn is_clear(&self, first: usize, k: u8) -> bool {
-        let held = self.held.get(first >> (self.order & 15)).copied() == Some(true);
-        let end = first.saturating_add(1 << (k & 15));
-        match self.marks.as_slice().get(first..end) {
-            Some(marks) if held => marks.iter().all(|mark| *mark == 0),
-            _ => false,
+    /// The machine frame of a tenant's frame.
+    fn place(&self, order: u8, t: u8, frame: u32) -> Option<usize>
+        requires { order ≤ 8 }
+    {
+        let superblock = search::superblock_under(&self.owners, t, frame >> order)?;
+        let within = frame as usize % (1 << order);
+        Some((superblock << order).wrapping_add(within))
+    }
+
+    fn mark_at(&self, order: u8, t: u8, frame: u32) -> u8
+        requires { order ≤ 8 }
+    {
+        match self.place(order, t, frame) {
+            Some(place) => self.marks.get(place).copied().unwrap_or(0),
+            None => 0,
         }
     }
 
-    fn is_free(&self, first: usize, k: u8) -> bool {
-        let up = (k & 15) + 1;
-        self.is_clear(first, k) && (k == self.order || !self.is_clear(first >> up << up, up))
+    fn live_order(&self, order: u8, t: u8, frame: u32) -> Option<u8>
+        requires { order ≤ 8 }
+    {
+        match self.mark_at(order, t, frame) {
+            0 | 255 => None,
+            mark => Some(mark - 1),
+        }
     }
 
-    fn first_free(&self, k: u8) -> Option<usize> {
-        for number in 0..self.marks.len() >> (k & 15) {
-            let first = number << (k & 15);
-            if self.is_free(first, k) {
-                return Some(first);
+    fn block_of(&self, order: u8, t: u8, frame: u32) -> Option<(u32, u8)>
+        requires { order ≤ 8 }
+    {
+        for back in 0..=frame % (1 << order) {
+            let first = frame.wrapping_sub(back);
+            match self.mark_at(order, t, first) {
+                0 => return None,
+                255 => {}
+                mark => return Some((first, mark - 1)),
             }
         }
         None
     }
 
-    fn free_count(&self, k: u8) -> u32 {
-        let mut count = 0u32;
-        for number in 0..self.marks.len() >> (k & 15) {
-            if self.is_free(number << (k & 15), k) {
-                count = count.wrapping_add(1);
+    fn slots(&self, t: u8) -> usize {
+        let owners = self.owners.iter().flatten();
+        owners.filter(|owner| owner.0 == t).count()
+    }
+
+    /// The marks of superblock `m`.
+    fn sheet(&self, order: u8, m: usize) -> &[u8]
+        requires { order ≤ 8 }
+    {
+        let first = m << order;
+        self.marks
+            .get(first..first.saturating_add(1 << order))
+            .unwrap_or(&[])
+    }
+
+    fn taken_count(&self, order: u8, t: u8, k: u8) -> usize
+        requires { order ≤ 8 }
+    {
+        let mut count = 0usize;
+        for (m, owner) in self.owners.iter().enumerate() {
+            if let Some((tenant, _)) = owner
+                && *tenant == t
+            {
+                let marks = self.sheet(order, m).iter();
+                let blocks = marks.filter(|mark| u32::from(**mark) == u32::from(k) + 1);
+                count = count.wrapping_add(blocks.count());
             }
         }
         count
     }
 
-    fn mark(&mut self, first: usize, k: u8, begins: u8, inside: u8) {
+    /// Marks the block of order `k` that begins at a machine frame.
+    fn mark(&mut self, place: usize, k: u8, begins: u8, inside: u8) {
         for i in 0..1usize << (k & 15) {
-            let frame = first.wrapping_add(i);
+            let frame = place.wrapping_add(i);
             if frame < self.marks.len() {
                 self.marks[frame] = if i == 0 { begins } else { inside };
             }
         }
     }
 
-    fn reserve(&mut self, k: u8) -> Option<u32> {
-        for j in k..=self.order {
-            if let Some(first) = self.first_free(j) {
-                self.mark(first, k, (k & 15) + 1, 255);
-                return u32::try_from(first).ok();
+    fn reserve(&mut self, order: u8, t: u8, k: u8) -> Option<u32>
+        requires { order ≤ 8 }
+    {
+        let (first, _) = search::find_free(order, &self.owners, &self.marks, t, k)?;
+        let place = self.place(order, t, first)?;
+        self.mark(place, k, k.wrapping_add(1), 255);
+        Some(first)
+    }
+
+    fn release(&mut self, order: u8, t: u8, frame: u32) -> Option<u8>
+        requires { order ≤ 8 }
+    {
+        let k = self.live_order(order, t, frame)?;
+        let place = self.place(order, t, frame)?;
+        self.mark(place, k, 0, 0);
+        Some(k)
+    }
+
+    /// Lets go of superblock `m`.
+    fn clear(&mut self, order: u8, m: usize)
+        requires { order ≤ 8 }
+    {
+        self.mark(m << order, order, 0, 0);
+        if m < self.owners.len() {
+            self.owners[m] = None;
+        }
+    }
+
+    fn reset(&mut self, order: u8, t: u8)
+        requires { order ≤ 8 }
+    {
+        for m in 0..self.owners.len() {
+            if let Some((tenant, _)) = self.owners.get(m).copied().flatten()
+                && tenant == t
+            {
+                self.clear(order, m);
             }
         }
-        None
+    }
+}
+
+/// How often the calls did what.
+#[derive(Debug, Default, Drop)]
+struct Tally {
+    reserved: u32,
+    refused: u32,
+    released: u32,
+    untaken: u32,
+    added: u32,
+    dropped: u32,
+    busy: u32,
+    resets: u32,
+}
+
+impl Tally {
+    fn least(&self) -> u32 {
+        let changed = self.reserved.min(self.released).min(self.added);
+        let refused = self.refused.min(self.untaken).min(self.busy);
+        changed.min(refused).min(self.dropped).min(self.resets)
+    }
+}
+
+/// A buddy system beside the plain search.
+#[derive(Drop)]
+struct Beside {
+    buddy: Buddy,
+    plain: Plain,
+    numbers: Numbers,
+    tally: Tally,
+}
+
+impl Beside {
+    fn new(alloc: Global, order: u8) -> Result<Beside, AllocError>
+        requires { order ≤ 8 }
+    {
+        Ok(Beside {
+            buddy: Buddy::new(alloc, order, 6, 3)?,
+            plain: Plain {
+                owners: vec![in alloc; None; 6]?,
+                marks: vec![in alloc; 0; 6 << order]?,
+            },
+            numbers: Numbers(u64::from(order)),
+            tally: Tally::default(),
+        })
     }
 
-    fn release(&mut self, first: usize) -> Option<u8> {
-        let mark = self.marks.get(first).copied()?;
-        if mark == 0 || mark == 255 {
-            return None;
+    fn has_tenant(&self, t: u8) -> bool
+        ensures { result ≡ true → t < length self.now.buddy.tenants }
+    {
+        usize::from(t) < self.buddy.tenant_count()
+    }
+
+    fn reserve(&mut self, rt: &impl Abort, t: u8) {
+        self.buddy.sizes();
+        let order = self.buddy.order();
+        let most = self.numbers.below(u32::from(order) + 1);
+        let k = self.numbers.below(most + 1) as u8;
+        if self.has_tenant(t) {
+            let answer = self.buddy.reserve(t, k);
+            assert_eq!(rt; answer, self.plain.reserve(order, t, k));
+            match answer {
+                Some(_) => self.tally.reserved = self.tally.reserved.wrapping_add(1),
+                None => self.tally.refused = self.tally.refused.wrapping_add(1),
+            }
         }
-        self.mark(first, mark - 1, 0, 0);
-        Some(mark - 1)
+    }
+
+    /// A frame of the tenant, in a taken block if one of eight draws is.
+    fn some_frame(&mut self, order: u8, t: u8) -> u32
+        requires { order ≤ 8 }
+    {
+        let mut frame = 0;
+        for _draw in 0..8 {
+            frame = self.numbers.below(6 << order);
+            if self.plain.mark_at(order, t, frame) != 0 {
+                break;
+            }
+        }
+        frame
+    }
+
+    /// Mostly of a taken block, else of any frame.
+    fn release(&mut self, rt: &impl Abort, t: u8) {
+        self.buddy.sizes();
+        let order = self.buddy.order();
+        let frame = self.some_frame(order, t);
+        let is_any = self.numbers.below(4) == 0;
+        if self.has_tenant(t) {
+            let block = self.buddy.block_of(t, frame);
+            assert_eq!(rt; block, self.plain.block_of(order, t, frame));
+            assert_eq!(rt;
+                self.buddy.live_order(t, frame),
+                self.plain.live_order(order, t, frame)
+            );
+            let first = block.map_or(frame, |block| if is_any { frame } else { block.0 });
+            let answer = self.buddy.release(t, first);
+            assert_eq!(rt; answer, self.plain.release(order, t, first));
+            match answer {
+                Some(_) => self.tally.released = self.tally.released.wrapping_add(1),
+                None => self.tally.untaken = self.tally.untaken.wrapping_add(1),
+            }
+        }
+    }
+
+    fn add_slot(&mut self, rt: &impl Abort, t: u8) {
+        let slot = self.numbers.below(6) as u16;
+        let m = self.numbers.below(6) as u16;
+        let unused = is_unused(&self.buddy, m);
+        assert_eq!(rt; unused, self.plain.owners.get(m as usize) == Some(&None));
+        let count = self.buddy.superblock_count();
+        if !unused || usize::from(slot) >= count || usize::from(m) >= count || !self.has_tenant(t) {
+            return;
+        }
+        if self.buddy.superblock_under(t, u32::from(slot)).is_none()
+            && usize::from(m) < self.plain.owners.len()
+        {
+            self.buddy.add_slot(t, slot, m);
+            self.plain.owners[m as usize] = Some((t, slot));
+            self.tally.added = self.tally.added.wrapping_add(1);
+        }
+    }
+
+    /// A slot, one that the tenant holds if one of four draws is.
+    fn some_slot(&mut self, t: u8) -> u16 {
+        let mut slot = 0;
+        for _draw in 0..4 {
+            slot = self.numbers.below(6) as u16;
+            if search::superblock_under(&self.plain.owners, t, u32::from(slot)).is_some() {
+                break;
+            }
+        }
+        slot
+    }
+
+    fn drop_slot(&mut self, rt: &impl Abort, t: u8) {
+        let slot = self.some_slot(t);
+        if !self.has_tenant(t) {
+            return;
+        }
+        self.buddy.sizes();
+        let order = self.buddy.order();
+        let under = search::superblock_under(&self.plain.owners, t, u32::from(slot));
+        if let Some(m) = self.buddy.superblock_under(t, u32::from(slot)) {
+            assert_eq!(rt; under, Some(usize::from(m)));
+            let is_busy = self
+                .plain
+                .sheet(order, usize::from(m))
+                .iter()
+                .any(|mark| *mark != 0);
+            assert_eq!(rt; self.buddy.drop_slot(t, slot).is_err(), is_busy);
+            if is_busy {
+                self.tally.busy = self.tally.busy.wrapping_add(1);
+            } else {
+                self.plain.clear(order, usize::from(m));
+                self.tally.dropped = self.tally.dropped.wrapping_add(1);
+            }
+        } else {
+            assert_eq!(rt; under, None);
+        }
+    }
+
+    fn reset(&mut self, t: u8) {
+        if self.has_tenant(t) {
+            self.buddy.sizes();
+            let order = self.buddy.order();
+            self.buddy.reset(t);
+            self.plain.reset(order, t);
+            self.tally.resets = self.tally.resets.wrapping_add(1);
+        }
+    }
+
+    /// One call of both, for one tenant. While it drains, releases are more than reservations.
+    fn call(&mut self, rt: &impl Abort, drains: bool) {
+        let t = self.numbers.below(3) as u8;
+        match self.numbers.below(256) {
+            0..110 if drains => self.release(rt, t),
+            0..100 => self.reserve(rt, t),
+            100..150 => self.release(rt, t),
+            150..205 => self.add_slot(rt, t),
+            205..253 => self.drop_slot(rt, t),
+            _ => self.reset(t),
+        }
+    }
+
+    /// The counts of each tenant, of each order.
+    fn compare_counts(&self, rt: &impl Abort) {
+        self.buddy.sizes();
+        let order = self.buddy.order();
+        for t in 0..3 {
+            if self.has_tenant(t) {
+                assert_eq!(rt; self.buddy.slots(t) as usize, self.plain.slots(t));
+                for k in 0..=order {
+                    let free = search::count_free(
+                        order,
+                        &self.plain.owners,
+                        &self.plain.marks,
+                        t,
+                        k,
+                    );
+                    assert_eq!(rt; self.buddy.free_count(t, k), free);
+                    let taken = self.buddy.taken_count(t, k);
+                    assert_eq!(rt; taken as usize, self.plain.taken_count(order, t, k));
+                }
+            }
+        }
     }
 }
 
-/// One reserve or release of both, whose answers and counts of free blocks must agree.
-fn call_both(rt: &impl Abort, buddy: &mut Buddy, plain: &mut Plain, numbers: &mut Numbers, t: u8) {
-    let order = buddy.order();
-    if usize::from(t) >= buddy.tenant_count() {
-        return;
-    }
-    let k = (numbers.below(16) as u8).min(order);
-    if numbers.below(2) == 0 {
-        assert_eq!(rt; buddy.reserve(t, k), plain.reserve(k));
-    } else {
-        let frame = numbers.below(1 << 10);
-        let first = buddy.block_of(t, frame).map_or(frame, |block| block.0);
-        assert_eq!(rt; buddy.release(t, first), plain.release(first as usize));
-    }
-    if usize::from(t) < buddy.tenant_count() && k <= buddy.order() {
-        assert_eq!(rt; buddy.free_count(t, k), plain.free_count(k));
-    }
-}
-
-/// Two tenants with three slots between them.
-fn granted(alloc: Global, order: u8) -> Result<Buddy, AllocError>
-    requires { order ≤ 8 }
-{
-    let mut buddy = Buddy::new(alloc, order, 4, 2)?;
-    buddy.add_slot(0, 2, 0);
-    buddy.add_slot(1, 1, 3);
-    buddy.add_slot(0, 0, 1);
-    Ok(buddy)
-}
-
-// Each answer, and after each call the number of free blocks of one order.
+// Each answer, and after each call the counts of each tenant, of each order.
 #[test]
 fn answers_as_the_plain_search(rt: HostRuntime) -> Result<(), Fail> {
-    let mut numbers = Numbers(7);
     for order in 3..9u8 {
-        let mut buddy = granted(rt.alloc(), order)?;
-        let frames = 4usize << order;
-        let mut first = Plain {
-            order,
-            held: [true, false, true, false],
-            marks: vec![in rt.alloc(); 0; frames]?,
-        };
-        let mut second = Plain {
-            order,
-            held: [false, true, false, false],
-            marks: vec![in rt.alloc(); 0; frames]?,
-        };
-        for _call in 0..1700 {
-            if numbers.below(3) < 2 {
-                call_both(&rt, &mut buddy, &mut first, &mut numbers, 0);
-            } else {
-                call_both(&rt, &mut buddy, &mut second, &mut numbers, 1);
-            }
+        let mut beside = Beside::new(rt.alloc(), order)?;
+        // The plain search is slow in large superblocks. In all these are 10,350 calls.
+        for number in 0..4200 - 450 * u32::from(order) {
+            beside.call(&rt, number / 150 % 2 == 1);
+            beside.compare_counts(&rt);
         }
+        assert!(rt; beside.tally.least() > 5, "{:?}", beside.tally);
     }
     Ok(())
 }

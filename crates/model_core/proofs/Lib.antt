@@ -5,6 +5,8 @@ pub mod Bridge
 pub mod FreeBlocks
 pub mod Joining
 pub mod Choosing
+pub mod Counting
+pub mod SameFrames
 pub mod Marking
 mod LayoutRows
 mod Told

@@ -1,16 +1,17 @@
 -- The frames of an aligned block lie side by side in one superblock, and so do their marks.
-use Rattle.std.proofs.Common.{◌≡◌, ℕ, ◌+◌, ◌-◌, ◌*◌, ◌/◌, ◌%◌, ◌^◌, ◌<◌, ◌≤◌, Option, Some, None, Bool, true, false, cond, nat_lt, is_some, List, slice_index, slice_index_or, length, refl, sym, ap, ◌∙◌, subst, ⊎_elim, arith}
+use Rattle.std.proofs.Common.{◌≡◌, ℕ, ◌+◌, ◌-◌, ◌*◌, ◌/◌, ◌%◌, ◌^◌, ◌<◌, ◌≤◌, Option, Some, None, Bool, true, false, cond, nat_lt, is_some, List, slice_index_or, length, refl, sym, ap, ◌∙◌, subst, ⊎_elim, eq-eqb, arith}
+use Rattle.std.specs.Prelude.{◌==◌, if◌then◌else◌, ◌↔◌}
 use Rattle.std.specs.Bool.{MatchBool}
 use Rattle.std.specs.List.{position_or_len}
 use Rattle.std.proofs.Math.Nat.{div-div-eq-div-mul, div-lt_iff_lt-mul, mul_assoc, div-mul-le_self, lt-div-mul-add, mul-mod_left}
 use Rattle.std.proofs.lemmas.Nat.{pow_pos, pow-add, div-mul-add, div-add-mod', mod_below, shl_whole, mul-le}
 use Rattle.std.proofs.Math.Pow.{pow_mono}
 use Rattle.std.proofs.lemmas.List.Sums.{position_or_len_is}
-use Rattle.std.proofs.lemmas.Bool.{false≢true, lt-ltb, cases_lt}
+use Rattle.std.proofs.lemmas.Bool.{false≢true, lt-ltb, cases_lt, both_ways, ne_eqb}
 use Rattle.std.proofs.lemmas.Bool.Decides.{nat_tests}
 use Rattle.std.proofs.lemmas.List.Quantifiers.{position-Some}
-use Rattle.model_core.specs.Blocks.{Block, HasFrame, IsAligned, HasTaken, around}
-use Rattle.model_core.specs.Marks.{Owners, is_owner, superblock_under, is_held, mark_in, mark_at, taken_by, AreMarked}
+use Rattle.model_core.specs.Blocks.{Block, HasFrame, IsAligned, IsTaken, HasTaken, around}
+use Rattle.model_core.specs.Marks.{Owners, is_owner, superblock_under, is_held, mark_in, mark_at, marked_frames, taken_by, AreMarked}
 
 -- what the look-up of a slot's superblock tells
 found_at : (owners : Owners) (t u : ℕ) (o : Option ℕ) → superblock_under owners t u ≡ o → is_some o ≡ true → (m : ℕ) × (m < length owners) × (is_owner t u (slice_index_or owners m None) ≡ true)
@@ -91,19 +92,19 @@ place_fits top b aligned =
     omega (arith, place_of_frame top b last aligned (low, high), mod_below last (2 ^ top) (pow_pos top))
 
 -- the frames counted from the block's first place are the block's frames
-pub clear_block : (clear : Bool) (top : ℕ) (marks : List ℕ) (base : ℕ) (b : Block) → IsAligned top b
-    → MatchBool clear ((i : ℕ) → i < 2 ^ b.order → slice_index marks (base + b.first % 2 ^ top + i) ≡ 0)
-    ((i : ℕ) × (i < 2 ^ b.order) × (slice_index marks (base + b.first % 2 ^ top + i) ≡ 0 → ⊥))
-    → MatchBool clear ((x : ℕ) → HasFrame b x → slice_index marks (base + x % 2 ^ top) ≡ 0)
-    ((x : ℕ) × HasFrame b x × (slice_index marks (base + x % 2 ^ top) ≡ 0 → ⊥))
-clear_block true top marks base b aligned unmarked = λ x has.
-    let place : base + b.first % 2 ^ top + (x - b.first) ≡ base + x % 2 ^ top = omega (arith, place_of_frame top b x aligned has) in
-    subst (λ n. slice_index marks n ≡ 0) place (unmarked (x - b.first) (omega (arith, has.0, has.1)))
-clear_block false top marks base b aligned (i, near, marked) =
+pub clear_block : (clear : Bool) (top : ℕ) (mark : ℕ → ℕ) (b : Block) → IsAligned top b
+    → MatchBool clear ((i : ℕ) → i < 2 ^ b.order → mark (b.first % 2 ^ top + i) ≡ 0)
+    ((i : ℕ) × (i < 2 ^ b.order) × (mark (b.first % 2 ^ top + i) ≡ 0 → ⊥))
+    → MatchBool clear ((x : ℕ) → HasFrame b x → mark (x % 2 ^ top) ≡ 0)
+    ((x : ℕ) × HasFrame b x × (mark (x % 2 ^ top) ≡ 0 → ⊥))
+clear_block true top mark b aligned unmarked = λ x has.
+    let place : b.first % 2 ^ top + (x - b.first) ≡ x % 2 ^ top = omega (arith, place_of_frame top b x aligned has) in
+    subst (λ n. mark n ≡ 0) place (unmarked (x - b.first) (omega (arith, has.0, has.1)))
+clear_block false top mark b aligned (i, near, marked) =
     let x = b.first + i in
     let has : HasFrame b x = (omega arith, omega arith) in
-    let place : base + b.first % 2 ^ top + i ≡ base + x % 2 ^ top = omega (arith, place_of_frame top b x aligned has) in
-    (x, has, subst (λ n. slice_index marks n ≡ 0 → ⊥) place marked)
+    let place : b.first % 2 ^ top + i ≡ x % 2 ^ top = omega (arith, place_of_frame top b x aligned has) in
+    (x, has, subst (λ n. mark n ≡ 0 → ⊥) place marked)
 
 -- the marks of a block are those of its superblock
 pub mark_of_frame : (top : ℕ) (owners : Owners) (marks : List ℕ) (t m : ℕ) (b : Block) (x : ℕ) → IsAligned top b → superblock_under owners t (b.first / 2 ^ top) ≡ Some m
@@ -112,19 +113,44 @@ unfolding mark_at
 mark_of_frame top owners marks t m b x aligned under has =
     ap (λ o. mark_in marks (2 ^ top) o (x % 2 ^ top)) (ap (λ u. superblock_under owners t u) (slot_of_frame top b x aligned has) ∙ under)
 
+-- the frame at which a block begins that a mark tells
+told_by_test : (b : Bool) (k : ℕ) → (if b then None else Some 0) ≡ Some k → (b ≡ false) × (k ≡ 0)
+told_by_test true k e = absurd (cc)
+told_by_test false k e = (refl, cc)
+
+-- the marked frames are those with a mark
+pub mark_of_taken : (top : ℕ) (owners : Owners) (marks : List ℕ) (t x : ℕ) → IsTaken (marked_frames top owners marks t) x → mark_at top owners marks t x ≡ 0 → ⊥
+mark_of_taken top owners marks t x (f, k, e, has) none =
+    let told : ((mark_at top owners marks t f == 0) ≡ false) × (k ≡ 0) = told_by_test (mark_at top owners marks t f == 0) k e in
+    let size : 2 ^ k ≡ 1 = ap (λ n. 2 ^ n) told.1 in
+    let same : x ≡ f = omega (arith, has.0, has.1, size) in
+    both_ways _ told.0 (eq-eqb (mark_at top owners marks t f) 0 (ap (λ y. mark_at top owners marks t y) (sym same) ∙ none))
+
+pub taken_of_mark : (top : ℕ) (owners : Owners) (marks : List ℕ) (t x : ℕ) → (mark_at top owners marks t x ≡ 0 → ⊥) → IsTaken (marked_frames top owners marks t) x
+taken_of_mark top owners marks t x some =
+    (x, 0, ap (λ b. if b then None else Some 0) (ne_eqb (mark_at top owners marks t x) 0 some), (omega arith, omega arith))
+
 -- a block without marks has no taken frame
-pub free_if_clear : (top : ℕ) (owners : Owners) (marks : List ℕ) (t m : ℕ) (b : Block) → AreMarked top owners marks t → IsAligned top b
+pub free_if_clear : (top : ℕ) (owners : Owners) (marks : List ℕ) (t m : ℕ) (b : Block) → IsAligned top b
     → superblock_under owners t (b.first / 2 ^ top) ≡ Some m → ((x : ℕ) → HasFrame b x → mark_in marks (2 ^ top) (Some m) (x % 2 ^ top) ≡ 0)
-    → HasTaken (taken_by top owners marks t) b → ⊥
-free_if_clear top owners marks t m b marked aligned under clear (x, has, taken) =
-    marked.free x (mark_of_frame top owners marks t m b x aligned under has ∙ clear x has) taken
+    → HasTaken (marked_frames top owners marks t) b → ⊥
+free_if_clear top owners marks t m b aligned under clear (x, has, taken) =
+    mark_of_taken top owners marks t x taken (mark_of_frame top owners marks t m b x aligned under has ∙ clear x has)
 
 -- and one with a mark has one
-pub taken_if_marked : (top : ℕ) (owners : Owners) (marks : List ℕ) (t m : ℕ) (b : Block) → AreMarked top owners marks t → IsAligned top b
+pub taken_if_marked : (top : ℕ) (owners : Owners) (marks : List ℕ) (t m : ℕ) (b : Block) → IsAligned top b
     → superblock_under owners t (b.first / 2 ^ top) ≡ Some m → (x : ℕ) × HasFrame b x × (mark_in marks (2 ^ top) (Some m) (x % 2 ^ top) ≡ 0 → ⊥)
-    → HasTaken (taken_by top owners marks t) b
-taken_if_marked top owners marks t m b marked aligned under (x, has, some) =
-    (x, has, marked.taken x (λ none. some (sym (mark_of_frame top owners marks t m b x aligned under has) ∙ none)))
+    → HasTaken (marked_frames top owners marks t) b
+taken_if_marked top owners marks t m b aligned under (x, has, some) =
+    (x, has, taken_of_mark top owners marks t x (λ none. some (sym (mark_of_frame top owners marks t m b x aligned under has) ∙ none)))
+
+-- where the marks tell the taken blocks, the taken frames are the marked ones
+pub same_frames : (top : ℕ) (owners : Owners) (marks : List ℕ) (t : ℕ) → AreMarked top owners marks t → (x : ℕ)
+    → IsTaken (marked_frames top owners marks t) x ↔ IsTaken (taken_by top owners marks t) x
+same_frames top owners marks t marked x = (
+  λ taken. marked.taken x (mark_of_taken top owners marks t x taken),
+  λ taken. taken_of_mark top owners marks t x (λ none. marked.free x none taken),
+)
 
 -- the aligned block of order k around a frame
 pub around_aligned : (top x k : ℕ) → k ≤ top → IsAligned top (around x k)

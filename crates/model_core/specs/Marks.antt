@@ -28,6 +28,10 @@ mark_in marks frames (Some m) i = slice_index marks (m * frames + i)
 unfoldable pub mark_at : ℕ → Owners → List ℕ → ℕ → ℕ → ℕ
 mark_at top owners marks t f = mark_in marks (2 ^ top) (superblock_under owners t (f / 2 ^ top)) (f % 2 ^ top)
 
+-- the frames of tenant t that have a mark, each as a taken block of its own
+abbrev pub marked_frames : ℕ → Owners → List ℕ → ℕ → Taken
+marked_frames top owners marks t f = if mark_at top owners marks t f == 0 then None else Some 0
+
 -- the order that a mark tells at the first frame of a block
 abbrev pub order_told : ℕ → Option ℕ
 order_told mark = if mark == 0 then None else (if mark == 255 then None else Some (mark - 1))

@@ -1,10 +1,11 @@
 //! The plain search for a free block: no lists and no tree, only the owners of the superblocks and one
 //! mark for each machine frame. It is slow, and the reference that faster allocators are tested against.
 
-ghost use Rattle.std.specs.Prelude.{◌≡◌, ◌⊎◌, ℕ, ◌+◌, ◌-◌, ◌*◌, ◌/◌, ◌%◌, ◌^◌, ◌<◌, ◌≤◌, Option, MatchOption, Some, length, slice_index, true, is_some, IfSome};
+ghost use Rattle.std.specs.Prelude.{◌≡◌, ◌⊎◌, ℕ, ◌+◌, ◌-◌, ◌*◌, ◌/◌, ◌%◌, ◌^◌, ◌<◌, ◌≤◌, Option, MatchOption, Some, length, true, is_some, IfSome};
 ghost use Rattle.std.specs.Bool.{MatchBool};
 ghost use Rattle.model_core.specs.Blocks.{block, around, HasFrame, IsFree, IsChoice, IsWithout, IsAligned};
-ghost use Rattle.model_core.specs.Marks.{is_owner, superblock_under, is_held, mark_in, taken_by, AreMarked};
+ghost use Rattle.model_core.specs.Choice.{free_blocks};
+ghost use Rattle.model_core.specs.Marks.{is_owner, superblock_under, is_held, mark_in, marked_frames, taken_by, AreMarked};
 
 /// Whether a superblock's owner is tenant `t` with slot `slot`.
 fn is_owner(owner: Option<(u8, u16)>, t: u8, slot: u32) -> bool
@@ -45,15 +46,26 @@ fn slots_end(owners: &[Option<(u8, u16)>], t: u8) -> u32
     end
 }
 
-/// Whether no frame from `first` on, `len` of them, has a mark.
-fn is_clear(marks: &[u8], first: usize, len: usize) -> bool
-    requires { first + len ≤ length marks.now }
+/// The mark of frame `i` of a superblock, and 0 past the end of the marks.
+fn mark_of(order: u8, marks: &[u8], superblock: usize, i: usize) -> u8
+    requires { order ≤ 8 }
+    ensures { result ≡ mark_in marks.now (2 ^ order) (Some superblock) i }
+{
+    // A frame whose number does not fit is past the end too.
+    let frame = superblock.saturating_mul(1 << order).saturating_add(i);
+    marks.get(frame).copied().unwrap_or(0)
+}
+
+/// Whether no frame of a superblock from frame `place` on, `len` of them, has a mark.
+fn is_clear(order: u8, marks: &[u8], superblock: usize, place: usize, len: usize) -> bool
+    requires order { order ≤ 8 }
+    requires within { place + len ≤ 2 ^ order }
     ensures { MatchBool result
-        ((i : ℕ) → i < len → slice_index marks.now (first + i) ≡ 0)
-        ((i : ℕ) × (i < len) × (slice_index marks.now (first + i) ≡ 0 → ⊥)) }
+        ((i : ℕ) → i < len → mark_in marks.now (2 ^ order) (Some superblock) (place + i) ≡ 0)
+        ((i : ℕ) × (i < len) × (mark_in marks.now (2 ^ order) (Some superblock) (place + i) ≡ 0 → ⊥)) }
 {
     for i in 0..len {
-        if marks[first + i] != 0 {
+        if mark_of(order, marks, superblock, place + i) != 0 {
             return false;
         }
     }
@@ -72,14 +84,13 @@ fn start_around(frame: u32, k: u8) -> u32
 /// slot's superblock is `superblock`.
 fn is_block_clear(order: u8, marks: &[u8], superblock: usize, first: u32, k: u8) -> bool
     requires order { order ≤ 8 }
-    requires within { superblock * 2 ^ order + 2 ^ order ≤ length marks.now }
     requires aligned { IsAligned order (block first k) }
     ensures { MatchBool result
         ((x : ℕ) → HasFrame (block first k) x → mark_in marks.now (2 ^ order) (Some superblock) (x % 2 ^ order) ≡ 0)
         ((x : ℕ) × HasFrame (block first k) x × (mark_in marks.now (2 ^ order) (Some superblock) (x % 2 ^ order) ≡ 0 → ⊥)) }
 {
     let frames = 1usize << order;
-    is_clear(marks, superblock * frames + first as usize % frames, 1 << k)
+    is_clear(order, marks, superblock, first as usize % frames, 1 << k)
 }
 
 /// Whether the block of order `k` at the local frame `first` is a free block of tenant `t`: in a held
@@ -93,12 +104,10 @@ fn is_free_block(
     k: u8,
 ) -> bool
     requires order { order ≤ 8 }
-    requires frames { length marks.now ≡ length owners.now * 2 ^ order }
-    requires marked { AreMarked order owners.now marks.now t }
     requires aligned { IsAligned order (block first k) }
     ensures { MatchBool result
-        (IsFree order (is_held owners.now t) (taken_by order owners.now marks.now t) (block first k))
-        (IsFree order (is_held owners.now t) (taken_by order owners.now marks.now t) (block first k) → ⊥) }
+        (IsFree order (is_held owners.now t) (marked_frames order owners.now marks.now t) (block first k))
+        (IsFree order (is_held owners.now t) (marked_frames order owners.now marks.now t) (block first k) → ⊥) }
 {
     let Some(superblock) = superblock_under(owners, t, first >> order) else {
         return false;
@@ -115,13 +124,11 @@ fn is_free_block(
 /// The least local frame at which a free block of order `k` of tenant `t` begins.
 fn first_free(order: u8, owners: &[Option<(u8, u16)>], marks: &[u8], t: u8, k: u8) -> Option<u32>
     requires order { order ≤ 8 }
-    requires frames { length marks.now ≡ length owners.now * 2 ^ order }
-    requires marked { AreMarked order owners.now marks.now t }
     requires of_slot { k ≤ order }
     ensures { MatchOption result
-        ((f : ℕ) → IsFree order (is_held owners.now t) (taken_by order owners.now marks.now t) (block f k) → ⊥)
-        (λ f. IsFree order (is_held owners.now t) (taken_by order owners.now marks.now t) (block f k)
-        × ((g : ℕ) → IsFree order (is_held owners.now t) (taken_by order owners.now marks.now t) (block g k) → f ≤ g)) }
+        ((f : ℕ) → IsFree order (is_held owners.now t) (marked_frames order owners.now marks.now t) (block f k) → ⊥)
+        (λ f. IsFree order (is_held owners.now t) (marked_frames order owners.now marks.now t) (block f k)
+        × ((g : ℕ) → IsFree order (is_held owners.now t) (marked_frames order owners.now marks.now t) (block g k) → f ≤ g)) }
 {
     let blocks = slots_end(owners, t) << (order - k);
     for number in 0..blocks {
@@ -140,7 +147,8 @@ fn first_free(order: u8, owners: &[Option<(u8, u16)>], marks: &[u8], t: u8, k: u
 ///
 /// `order` is that of a superblock, `owners` has the tenant and the slot of each superblock, and `marks`
 /// one byte for each machine frame: 0 where it is free, the order plus one where a taken block begins,
-/// and 255 inside one.
+/// and 255 inside one. The answer depends only on which frames have a mark other than 0; a frame past
+/// the end of the marks has the mark 0.
 pub fn find_free(
     order: u8,
     owners: &[Option<(u8, u16)>],
@@ -148,10 +156,11 @@ pub fn find_free(
     t: u8,
     k: u8,
 ) -> Option<(u32, u8)>
-    requires order { order ≤ 8 }
-    requires frames { length marks.now ≡ length owners.now * 2 ^ order }
-    requires marked { AreMarked order owners.now marks.now t }
-    ensures { MatchOption result
+    requires { order ≤ 8 }
+    ensures marked { MatchOption result
+        (IsWithout order (is_held owners.now t) (marked_frames order owners.now marks.now t) k)
+        (λ b. IsChoice order (is_held owners.now t) (marked_frames order owners.now marks.now t) k (block b.0 b.1)) }
+    ensures told { AreMarked order owners.now marks.now t → MatchOption result
         (IsWithout order (is_held owners.now t) (taken_by order owners.now marks.now t) k)
         (λ b. IsChoice order (is_held owners.now t) (taken_by order owners.now marks.now t) k (block b.0 b.1)) }
 {
@@ -161,4 +170,22 @@ pub fn find_free(
         }
     }
     None
+}
+
+/// How many free blocks of order `k` tenant `t` has, by the owners and marks of [`find_free`].
+pub fn count_free(order: u8, owners: &[Option<(u8, u16)>], marks: &[u8], t: u8, k: u8) -> u32
+    requires order { order ≤ 8 }
+    requires of_slot { k ≤ order }
+    ensures marked { (slots : ℕ) → ((u : ℕ) → is_held owners.now t u ≡ true → u < slots)
+        → result ≡ free_blocks order (is_held owners.now t) (marked_frames order owners.now marks.now t) slots k }
+    ensures told { AreMarked order owners.now marks.now t → (slots : ℕ) → ((u : ℕ) → is_held owners.now t u ≡ true → u < slots)
+        → result ≡ free_blocks order (is_held owners.now t) (taken_by order owners.now marks.now t) slots k }
+{
+    let mut count = 0;
+    for first in 0..slots_end(owners, t) << order {
+        if first % (1 << k) == 0 && is_free_block(order, owners, marks, t, first, k) {
+            count += 1;
+        }
+    }
+    count
 }

@@ -1,8 +1,8 @@
 use Rattle.std.proofs.Common.{sym, ◌∙◌, ap, subst, ◌≡◌, ℕ, Bool, ◌+◌, ◌*◌, ◌^◌, ◌≤◌, length, get_or, arith}
 use Rattle.std.proofs.lemmas.List.{get_or_read}
 use Rattle.model_core.specs.Blocks.{block, Taken}
-use Rattle.model_core.specs.Choice.{is_free}
-use Rattle.buddy_core.specs.Content.{count_below, holding_of, is_held, taken_of}
+use Rattle.model_core.specs.Choice.{is_free, count_below}
+use Rattle.buddy_core.specs.Content.{holding_of, is_held, taken_of}
 use Rattle.buddy_core.specs.Stored.{Row}
 use Rattle.buddy_core.proofs.Shown.{shown_is, by_shown, blank_of}
 use Rattle.buddy_core.proofs.Buddy.free_count.Goals as goal

@@ -20,8 +20,8 @@ pub find-requires-clause-rooted : goal.find-requires-clause-rooted
 find-requires-clause-rooted c =
     let a = c.self.inside in
     let s = shown_is a.order a.superblocks.items a.tenants.items c.args.t c.args.self.now c.self.view_is c.requires.tenant in
-    let slots : c.slots.result.now ≡ (row_of c.args.t a.tenants.items).slots
-    = c.slots.ensures ∙ ap (λ (r : Row). r.slots) (get_or_read a.tenants.items c.args.t c.index.result.now s.tenant c.index.ensures blank_of) in
+    let slots : c.index.result.now.slots ≡ (row_of c.args.t a.tenants.items).slots
+    = ap (λ (r : Row). r.slots) (get_or_read a.tenants.items c.args.t c.index.result.now s.tenant c.index.ensures blank_of) in
     subst (λ (ss : List (Option ℕ)). IsRooted c.deref.result.now ss) (sym slots)
     (subst (λ (xs : List Sheet). IsRooted xs (row_of c.args.t a.tenants.items).slots) (sym c.deref.ensures.value)
     (rooted a.order a.superblocks.items a.tenants.items c.self.invariant c.args.t s.tenant))
@@ -30,11 +30,11 @@ pub returns-in_err-place-clause-refused : goal.returns-in_err-place-clause-refus
 returns-in_err-place-clause-refused c =
     let a = c.self.inside in
     let s = shown_is a.order a.superblocks.items a.tenants.items c.args.t c.args.self.now c.self.view_is c.requires.tenant in
-    let slots : c.slots.result.now ≡ (row_of c.args.t a.tenants.items).slots
-    = c.slots.ensures ∙ ap (λ (r : Row). r.slots) (get_or_read a.tenants.items c.args.t c.index.result.now s.tenant c.index.ensures blank_of) in
-    let none : IsWithoutOrder c.deref.result.now c.slots.result.now c.args.k = c.in_err-place.ensures in
+    let slots : c.index.result.now.slots ≡ (row_of c.args.t a.tenants.items).slots
+    = ap (λ (r : Row). r.slots) (get_or_read a.tenants.items c.args.t c.index.result.now s.tenant c.index.ensures blank_of) in
+    let none : IsWithoutOrder c.deref.result.now c.index.result.now.slots c.args.k = c.in_err-place.ensures in
     let here : IsWithoutOrder a.superblocks.items (row_of c.args.t a.tenants.items).slots c.args.k
-    = subst (λ (ss : List (Option ℕ)). IsWithoutOrder a.superblocks.items ss c.args.k) slots (subst (λ (xs : List Sheet). IsWithoutOrder xs c.slots.result.now c.args.k) c.deref.ensures.value none) in
+    = subst (λ (ss : List (Option ℕ)). IsWithoutOrder a.superblocks.items ss c.args.k) slots (subst (λ (xs : List Sheet). IsWithoutOrder xs c.index.result.now.slots c.args.k) c.deref.ensures.value none) in
     if_none c.from_residual.result _ (
       by_shown (λ top held taken. IsWithout top held taken c.args.k) a.order a.superblocks.items a.tenants.items c.args.t c.args.self.now s
           (none_without a.order a.superblocks.items a.tenants.items c.self.invariant c.args.t s.tenant c.args.k here),
@@ -49,27 +49,27 @@ pub search-first-requires-clause-order : goal.search-first-requires-clause-order
 search-first-requires-clause-order c =
     let a = c.self.inside in
     let s = shown_is a.order a.superblocks.items a.tenants.items c.args.t c.args.self.now c.self.view_is c.requires.tenant in
-    let slots : c.slots.result.now ≡ (row_of c.args.t a.tenants.items).slots
-    = c.slots.ensures ∙ ap (λ (r : Row). r.slots) (get_or_read a.tenants.items c.args.t c.index.result.now s.tenant c.index.ensures blank_of) in
-    let place = place_at c.deref.result.now a.superblocks.items c.slots.result.now (row_of c.args.t a.tenants.items).slots c.args.k c.in_ok-place.place c.deref.ensures.value slots c.in_ok-place.ensures in
+    let slots : c.index.result.now.slots ≡ (row_of c.args.t a.tenants.items).slots
+    = ap (λ (r : Row). r.slots) (get_or_read a.tenants.items c.args.t c.index.result.now s.tenant c.index.ensures blank_of) in
+    let place = place_at c.deref.result.now a.superblocks.items c.index.result.now.slots (row_of c.args.t a.tenants.items).slots c.args.k c.in_ok-place.place c.deref.ensures.value slots c.in_ok-place.ensures in
     order_within a.order a.superblocks.items a.tenants.items c.self.invariant c.args.t s.tenant c.args.k c.in_ok-place.place place
 
 pub reserve_at-requires-clause-from : goal.reserve_at-requires-clause-from
 reserve_at-requires-clause-from c =
     let a = c.self.inside in
     let s = shown_is a.order a.superblocks.items a.tenants.items c.args.t c.args.self.now c.self.view_is c.requires.tenant in
-    let slots : c.slots.result.now ≡ (row_of c.args.t a.tenants.items).slots
-    = c.slots.ensures ∙ ap (λ (r : Row). r.slots) (get_or_read a.tenants.items c.args.t c.index.result.now s.tenant c.index.ensures blank_of) in
-    let place = place_at c.deref.result.now a.superblocks.items c.slots.result.now (row_of c.args.t a.tenants.items).slots c.args.k c.in_ok-place.place c.deref.ensures.value slots c.in_ok-place.ensures in
+    let slots : c.index.result.now.slots ≡ (row_of c.args.t a.tenants.items).slots
+    = ap (λ (r : Row). r.slots) (get_or_read a.tenants.items c.args.t c.index.result.now s.tenant c.index.ensures blank_of) in
+    let place = place_at c.deref.result.now a.superblocks.items c.index.result.now.slots (row_of c.args.t a.tenants.items).slots c.args.k c.in_ok-place.place c.deref.ensures.value slots c.in_ok-place.ensures in
     order_within a.order a.superblocks.items a.tenants.items c.self.invariant c.args.t s.tenant c.args.k c.in_ok-place.place place
 
 pub count_reserved-requires-clause-free : goal.count_reserved-requires-clause-free
 count_reserved-requires-clause-free c =
     let a = c.self.inside in
     let s = shown_is a.order a.superblocks.items a.tenants.items c.args.t c.args.self.now c.self.view_is c.requires.tenant in
-    let slots : c.slots.result.now ≡ (row_of c.args.t a.tenants.items).slots
-    = c.slots.ensures ∙ ap (λ (r : Row). r.slots) (get_or_read a.tenants.items c.args.t c.index.result.now s.tenant c.index.ensures blank_of) in
-    let place = place_at c.deref.result.now a.superblocks.items c.slots.result.now (row_of c.args.t a.tenants.items).slots c.args.k c.in_ok-place.place c.deref.ensures.value slots c.in_ok-place.ensures in
+    let slots : c.index.result.now.slots ≡ (row_of c.args.t a.tenants.items).slots
+    = ap (λ (r : Row). r.slots) (get_or_read a.tenants.items c.args.t c.index.result.now s.tenant c.index.ensures blank_of) in
+    let place = place_at c.deref.result.now a.superblocks.items c.index.result.now.slots (row_of c.args.t a.tenants.items).slots c.args.k c.in_ok-place.place c.deref.ensures.value slots c.in_ok-place.ensures in
     let within = order_within a.order a.superblocks.items a.tenants.items c.self.invariant c.args.t s.tenant c.args.k c.in_ok-place.place place in
     let row = get_or_read a.tenants.items c.args.t c.index_mut.result.now s.tenant c.index_mut.ensures.value blank_of in
     let size : length c.index_mut.result.now.free ≡ a.order + 1 = ap (λ (r : Row). length r.free) row ∙ (c.self.invariant.each c.args.t s.tenant).sizes.free in
@@ -79,9 +79,9 @@ pub count_reserved-requires-clause-taken : goal.count_reserved-requires-clause-t
 count_reserved-requires-clause-taken c =
     let a = c.self.inside in
     let s = shown_is a.order a.superblocks.items a.tenants.items c.args.t c.args.self.now c.self.view_is c.requires.tenant in
-    let slots : c.slots.result.now ≡ (row_of c.args.t a.tenants.items).slots
-    = c.slots.ensures ∙ ap (λ (r : Row). r.slots) (get_or_read a.tenants.items c.args.t c.index.result.now s.tenant c.index.ensures blank_of) in
-    let place = place_at c.deref.result.now a.superblocks.items c.slots.result.now (row_of c.args.t a.tenants.items).slots c.args.k c.in_ok-place.place c.deref.ensures.value slots c.in_ok-place.ensures in
+    let slots : c.index.result.now.slots ≡ (row_of c.args.t a.tenants.items).slots
+    = ap (λ (r : Row). r.slots) (get_or_read a.tenants.items c.args.t c.index.result.now s.tenant c.index.ensures blank_of) in
+    let place = place_at c.deref.result.now a.superblocks.items c.index.result.now.slots (row_of c.args.t a.tenants.items).slots c.args.k c.in_ok-place.place c.deref.ensures.value slots c.in_ok-place.ensures in
     let within = order_within a.order a.superblocks.items a.tenants.items c.self.invariant c.args.t s.tenant c.args.k c.in_ok-place.place place in
     let row = get_or_read a.tenants.items c.args.t c.index_mut.result.now s.tenant c.index_mut.ensures.value blank_of in
     let size : length c.index_mut.result.now.taken ≡ a.order + 1 = ap (λ (r : Row). length r.taken) row ∙ (c.self.invariant.each c.args.t s.tenant).sizes.taken in
@@ -91,10 +91,10 @@ pub count_reserved-requires-clause-some : goal.count_reserved-requires-clause-so
 count_reserved-requires-clause-some c =
     let a = c.self.inside in
     let s = shown_is a.order a.superblocks.items a.tenants.items c.args.t c.args.self.now c.self.view_is c.requires.tenant in
-    let slots : c.slots.result.now ≡ (row_of c.args.t a.tenants.items).slots
-    = c.slots.ensures ∙ ap (λ (r : Row). r.slots) (get_or_read a.tenants.items c.args.t c.index.result.now s.tenant c.index.ensures blank_of) in
+    let slots : c.index.result.now.slots ≡ (row_of c.args.t a.tenants.items).slots
+    = ap (λ (r : Row). r.slots) (get_or_read a.tenants.items c.args.t c.index.result.now s.tenant c.index.ensures blank_of) in
     let p = c.in_ok-place.place in
-    let place = place_at c.deref.result.now a.superblocks.items c.slots.result.now (row_of c.args.t a.tenants.items).slots c.args.k p c.deref.ensures.value slots c.in_ok-place.ensures in
+    let place = place_at c.deref.result.now a.superblocks.items c.index.result.now.slots (row_of c.args.t a.tenants.items).slots c.args.k p c.deref.ensures.value slots c.in_ok-place.ensures in
     let mine = c.self.invariant.each c.args.t s.tenant in
     let m_lt = mine.within p.slot p.superblock place.at in
     let sheet = get_or_read a.superblocks.items p.superblock c.index_mut-superblock.result.now m_lt c.index_mut-superblock.ensures.value bare_of in
@@ -124,10 +124,10 @@ pub invariant_of-self : goal.invariant_of-self
 invariant_of-self c =
     let a = c.self.inside in
     let s = shown_is a.order a.superblocks.items a.tenants.items c.args.t c.args.self.now c.self.view_is c.requires.tenant in
-    let slots : c.slots.result.now ≡ (row_of c.args.t a.tenants.items).slots
-    = c.slots.ensures ∙ ap (λ (r : Row). r.slots) (get_or_read a.tenants.items c.args.t c.index.result.now s.tenant c.index.ensures blank_of) in
+    let slots : c.index.result.now.slots ≡ (row_of c.args.t a.tenants.items).slots
+    = ap (λ (r : Row). r.slots) (get_or_read a.tenants.items c.args.t c.index.result.now s.tenant c.index.ensures blank_of) in
     let p = c.in_ok-place.place in
-    let place = place_at c.deref.result.now a.superblocks.items c.slots.result.now (row_of c.args.t a.tenants.items).slots c.args.k p c.deref.ensures.value slots c.in_ok-place.ensures in
+    let place = place_at c.deref.result.now a.superblocks.items c.index.result.now.slots (row_of c.args.t a.tenants.items).slots c.args.k p c.deref.ensures.value slots c.in_ok-place.ensures in
     let mine = c.self.invariant.each c.args.t s.tenant in
     let m_lt = mine.within p.slot p.superblock place.at in
     let sheet = get_or_read a.superblocks.items p.superblock c.index_mut-superblock.result.now m_lt c.index_mut-superblock.ensures.value bare_of in
@@ -156,10 +156,10 @@ pub returns-clause-done : goal.returns-clause-done
 returns-clause-done c =
     let a = c.self.inside in
     let s = shown_is a.order a.superblocks.items a.tenants.items c.args.t c.args.self.now c.self.view_is c.requires.tenant in
-    let slots : c.slots.result.now ≡ (row_of c.args.t a.tenants.items).slots
-    = c.slots.ensures ∙ ap (λ (r : Row). r.slots) (get_or_read a.tenants.items c.args.t c.index.result.now s.tenant c.index.ensures blank_of) in
+    let slots : c.index.result.now.slots ≡ (row_of c.args.t a.tenants.items).slots
+    = ap (λ (r : Row). r.slots) (get_or_read a.tenants.items c.args.t c.index.result.now s.tenant c.index.ensures blank_of) in
     let p = c.in_ok-place.place in
-    let place = place_at c.deref.result.now a.superblocks.items c.slots.result.now (row_of c.args.t a.tenants.items).slots c.args.k p c.deref.ensures.value slots c.in_ok-place.ensures in
+    let place = place_at c.deref.result.now a.superblocks.items c.index.result.now.slots (row_of c.args.t a.tenants.items).slots c.args.k p c.deref.ensures.value slots c.in_ok-place.ensures in
     let mine = c.self.invariant.each c.args.t s.tenant in
     let m_lt = mine.within p.slot p.superblock place.at in
     let sheet = get_or_read a.superblocks.items p.superblock c.index_mut-superblock.result.now m_lt c.index_mut-superblock.ensures.value bare_of in

@@ -1,8 +1,8 @@
-use Rattle.std.proofs.Common.{◌≡◌, ◌≤◌, ◌*◌, ◌^◌, length, refl, subst, sym, ap, ◌∙◌}
+use Rattle.std.proofs.Common.{◌*◌, ◌^◌, length, refl, subst, ap, ◌∙◌}
 use Rattle.std.proofs.lemmas.List.FromFn.{length-map-range_with_len}
-use Rattle.buddy_core.specs.Content.{Content, Holding, holding_of, IsSized}
+use Rattle.buddy_core.specs.Content.{Content, Holding, IsSized}
 use Rattle.buddy_core.specs.Stored.{row_of, taken_by, content_shown}
-use Rattle.buddy_core.proofs.Shown.{holding_at, shown_within, shown_is}
+use Rattle.buddy_core.proofs.Shown.{shown_is}
 use Rattle.buddy_core.proofs.Buddy.sizes.Goals as goal
 
 pub returns : goal.returns

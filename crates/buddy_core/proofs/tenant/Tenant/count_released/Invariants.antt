@@ -9,3 +9,4 @@ invariant-loop-level l =
     × ((i : ℕ) → (i < l.order) ⊎ (l.level ≤ i) → get_or l.self-inside.free.items i 0 ≡ get_or l.initial.self-inside.free.items i 0)
     × (l.self-inside.slots.items ≡ l.initial.self-inside.slots.items)
     × (l.self-inside.taken.items ≡ l.initial.self-inside.taken.items)
+    × (l.self-inside.end ≡ l.initial.self-inside.end)

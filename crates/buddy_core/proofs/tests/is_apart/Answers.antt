@@ -1,0 +1,16 @@
+use Rattle.std.proofs.Common.{◌≡◌, ◌≤◌, length, None, sym, ◌∙◌, inl, inr, arith}
+use Rattle.std.proofs.lemmas.Bool.{cases_lt}
+use Rattle.std.proofs.lemmas.List.{get_or_past}
+use Rattle.std.proofs.lemmas.Option.{none-some}
+use Rattle.buddy_core.specs.Content.{holding_of}
+use Rattle.buddy_core.proofs.tests.is_apart.Goals as goal
+
+-- a slot past the last has no superblock
+pub returns : goal.returns
+returns c _ u at = elim (cases_lt u c.loop-slot.slot) [
+  | inl below ↦ c.loop-slot.invariant u below at
+  | inr past ↦
+      let size : length (holding_of c.args.t c.args.buddy.now).slots ≡ c.args.buddy.now.superblocks = c.sizes.ensures.slots c.args.t c.requires in
+      let over : length (holding_of c.args.t c.args.buddy.now).slots ≤ u = omega arith in
+      none-some c.args.m (sym (get_or_past (holding_of c.args.t c.args.buddy.now).slots u None over) ∙ at)
+]
