@@ -7,17 +7,6 @@ use Rattle.std.specs.Vec.{with_items_from}
 use Rattle.std.specs.Global.{Vec}
 use Rattle.space_core.specs.Content.{Content, IsSpace, owner_at}
 use Rattle.space_core.specs.Windows.{put_within}
-use Rattle.space_core.proofs.TableLemmas.{lists_of, get_or-lists_of, length-lists_of}
-
--- a superblock that an index gave: its bytes
-pub bank-read : {s : Content} (facts : IsSpace s) (banks : List (Vec ℕ)) → s.banks ≡ lists_of banks → (m : ℕ) (read : Vec ℕ) → m < length s.owners → read ≡ get_or banks m read → get_or s.banks m [] ≡ read.items
-bank-read {s} facts banks same m read lt is =
-    ap (λ bs. get_or bs m []) same ∙ get_or-lists_of banks m read (omega (arith, facts.paired, ap length same, length-lists_of banks)) is
-
--- and how many they are
-pub length-read : {s : Content} (facts : IsSpace s) (banks : List (Vec ℕ)) → s.banks ≡ lists_of banks → (m : ℕ) (read : Vec ℕ) → m < length s.owners → read ≡ get_or banks m read → read.len ≡ s.unit
-length-read {s} facts banks same m read lt is =
-    read.ok.0 ∙ (ap length (sym (bank-read facts banks same m read lt is)) ∙ facts.sized m (omega (arith, facts.paired)))
 
 -- an entry after a write
 pub after-set : {A : Type 0} (P : A → Type 0) (xs : List A) (i : ℕ) (x : A) (k : ℕ) (d : A) → i < length xs → (k ≡ i → P x) → (k ≢ i → P (get_or xs k d)) → P (get_or (set xs i x) k d)
@@ -29,6 +18,9 @@ after-set P xs i x k d within here other =
 
 abbrev pub with_bank : Content → ℕ → List ℕ → Content
 with_bank s m bytes = record s { banks = set s.banks m bytes }
+
+abbrev pub with_banks : Content → List (List ℕ) → Content
+with_banks s banks = record s { banks = banks }
 
 -- the bytes of an owned superblock may be any
 pub with_bank-IsSpace : {s : Content} → IsSpace s → (m : ℕ) → owner_at s.owners m ≢ None → m < length s.owners → (bytes : List ℕ) → length bytes ≡ s.unit → IsSpace (with_bank s m bytes)

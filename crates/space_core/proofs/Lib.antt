@@ -1,6 +1,7 @@
 mod TableLemmas
 mod Mapping
 mod Banks
+mod Stored
 mod Empty
 mod Mapped
 mod Changed

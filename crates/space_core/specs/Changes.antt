@@ -1,6 +1,6 @@
 -- What a grant and a take-back change.
-use Rattle.std.specs.Prelude.{◌≡◌, ℕ, ◌<◌, true, false, List, Option, Some, None, IsSome, length, replicate, slice_set}
-use Rattle.space_core.specs.Content.{Content, bank, row_of, superblock_at}
+use Rattle.std.specs.Prelude.{◌≡◌, ℕ, ◌<◌, true, false, List, Option, Some, None, IsSome, replicate, slice_set}
+use Rattle.space_core.specs.Content.{Content, row_of, superblock_at}
 
 -- u is the least slot number that tenant t does not hold
 pub record IsLeastSlot (slots : List (List (Option ℕ))) (t u : ℕ) : Type 0 where
@@ -10,10 +10,6 @@ pub record IsLeastSlot (slots : List (List (Option ℕ))) (t u : ℕ) : Type 0 w
 -- the entry of tenant t and slot u replaced
 abbrev pub with_slot : List (List (Option ℕ)) → ℕ → ℕ → Option ℕ → List (List (Option ℕ))
 with_slot slots t u x = slice_set slots t (slice_set (row_of slots t) u x)
-
--- every byte of superblock m set to zero
-abbrev pub scrubbed : List (List ℕ) → ℕ → List (List ℕ)
-scrubbed banks m = slice_set banks m (replicate (length (bank banks m)) 0)
 
 -- superblock m becomes slot u of tenant t: it reads as zero and has no mark
 abbrev pub granted : Content → ℕ → ℕ → ℕ → Content

@@ -4,3 +4,4 @@ pub mod Changes
 pub mod Lending
 pub mod Laws
 pub mod Tables
+pub mod Storage

@@ -4,16 +4,20 @@
 //! Scrubbing is lazy: a superblock that is taken back keeps its bytes and gets a mark, and a marked
 //! one is set to zero before it is granted again. So no tenant reads what another one left.
 //!
+//! A superblock takes no memory of the host until it is first granted: room for its bytes is set aside
+//! at boot, and nothing is written there. Until then it reads as zero.
+//!
 //! Only [`Space::new`] allocates.
 #![tactic(auto)]
 
-ghost use Rattle.std.specs.Prelude.{◌≡◌, ◌≢◌, ◌+◌, ◌*◌, ◌/◌, ◌^◌, ◌<◌, ◌≤◌, Some, None, false, length, position, is_none, count_by, replicate, option_map, IsSome, IfSome, IfOk, OnErr, MatchResult, slice_range, slice_set, vec_len, if◌then◌else◌};
+ghost use Rattle.std.specs.Prelude.{◌≡◌, ◌≢◌, ◌+◌, ◌*◌, ◌/◌, ◌^◌, ◌<◌, ◌≤◌, Some, None, false, length, position, is_none, count_by, replicate, option_map, IsSome, IfSome, IfOk, OnErr, MatchResult, slice_range, slice_set, vec_len, vec_capacity, ℕ, [], if◌then◌else◌};
 ghost use Rattle.std.specs.Borrow.{sem};
 ghost use Rattle.space_core.specs.Content.{IsSpace, bank, owner_at, mark_at, row_of, superblock_at, empty_space};
 ghost use Rattle.space_core.specs.Windows.{home_of, window_of, with_window, byte_at, with_byte};
-ghost use Rattle.space_core.specs.Changes.{IsLeastSlot, with_slot, scrubbed, granted, taken_back};
+ghost use Rattle.space_core.specs.Changes.{IsLeastSlot, with_slot, granted, taken_back};
 ghost use Rattle.space_core.specs.Tables.{rows_of, bytes_of};
 ghost use Rattle.space_core.specs.Laws.{IsApart, OthersStay, OwnBytes, OwnSlots};
+ghost use Rattle.space_core.specs.Storage.{HasRoom, scrubbed, readied};
 ghost use Rattle.space_core.specs.Lending.{LendsWindow, LendsPart};
 
 use std::alloc::{AllocError, Global};
@@ -39,19 +43,23 @@ pub struct Space {
     unit: u32,
     owners: Vec<Option<(u8, u16)>>,
     slots: Vec<Vec<Option<u16>>>,
+    // A superblock's vector is empty, with room for its bytes, until it is first granted.
     banks: Vec<Vec<u8>>,
     marks: Vec<bool>,
+    // What a superblock reads as until then.
+    zeros: Vec<u8>,
 }
 
 impl Model for Space {
     ghost use Rattle.space_core.specs.Content.{Content, IsSpace};
     ghost use Rattle.space_core.specs.Tables.{rows_of, bytes_of};
+    ghost use Rattle.space_core.specs.Storage.{shown, IsStored};
 
     ghost Value = { Content };
 
-    ghost view = { λ s. record { unit = s.unit; owners = s.owners.items; slots = rows_of s.slots; banks = bytes_of s.banks; marks = s.marks.items } };
+    ghost view = { λ s. record { unit = s.unit; owners = s.owners.items; slots = rows_of s.slots; banks = shown s.unit (bytes_of s.banks); marks = s.marks.items } };
 
-    ghost invariant = { λ s. IsSpace (record { unit = s.unit; owners = s.owners.items; slots = rows_of s.slots; banks = bytes_of s.banks; marks = s.marks.items }) };
+    ghost invariant = { λ s. IsSpace (record { unit = s.unit; owners = s.owners.items; slots = rows_of s.slots; banks = shown s.unit (bytes_of s.banks); marks = s.marks.items }) × IsStored s.unit s.owners.items s.banks.items s.zeros.items };
 }
 
 impl Space {
@@ -70,17 +78,20 @@ impl Space {
         let slots = make_rows(alloc, usize::from(tenants), usize::from(superblocks))?;
         let banks = make_banks(alloc, usize::from(superblocks), unit as usize)?;
         let marks = vec![in alloc; false; usize::from(superblocks)]?;
+        let zeros = vec![in alloc; 0; unit as usize]?;
         Ok(Space {
             unit,
             owners,
             slots,
             banks,
             marks,
+            zeros,
         })
     }
 
     /// Gives the least superblock without owner to tenant `t`, as the least slot that it does not hold,
-    /// and answers slot and superblock. The slot reads as zero: a marked superblock is scrubbed first.
+    /// and answers slot and superblock. The slot reads as zero: a marked superblock is scrubbed first,
+    /// and one that was never granted gets its bytes.
     pub fn grant(&mut self, t: u8) -> Result<(u16, u16), PoolEmpty>
         requires { t < length self.old.slots }
         ensures superblock { MatchResult result (λ p. position is_none self.old.owners ≡ Some p.1) (λ _. position is_none self.old.owners ≡ None) }
@@ -92,7 +103,12 @@ impl Space {
     {
         let m = self.least_unowned().ok_or(PoolEmpty)?;
         let u = self.least_slot(t);
-        scrub_marked(&mut self.banks, &mut self.marks, usize::from(m));
+        make_ready(
+            &mut self.banks,
+            &mut self.marks,
+            usize::from(m),
+            self.unit as usize,
+        );
         self.owners[usize::from(m)] = Some((t, u));
         set_slot(&mut self.slots, t, usize::from(u), Some(m));
         Ok((u, m))
@@ -126,7 +142,7 @@ impl Space {
             return None;
         }
         let m = self.machine_of(t, place / self.unit)?;
-        Some(part(&self.banks[usize::from(m)], at as usize, len as usize))
+        Some(part(self.bytes(usize::from(m)), at as usize, len as usize))
     }
 
     /// The bytes of tenant `t` from `place` on, to be written. When the borrow ends the range holds
@@ -160,7 +176,7 @@ impl Space {
     {
         let at = place % self.unit;
         let m = self.held(t, place / self.unit);
-        self.banks[m][at as usize]
+        self.bytes(m)[at as usize]
     }
 
     /// Writes one byte at a place of tenant `t`.
@@ -198,7 +214,7 @@ impl Space {
         ensures value { result.now ≡ bank self.now.banks m }
         ensures len { length result.now ≡ self.now.unit }
     {
-        self.banks[usize::from(m)].as_slice()
+        self.bytes(usize::from(m))
     }
 
     /// Whether superblock `m` is scrubbed before it is granted again.
@@ -269,6 +285,20 @@ impl Space {
         self.slots[usize::from(t)].as_slice()
     }
 
+    /// All bytes of superblock `m`.
+    fn bytes(&self, m: usize) -> &[u8]
+        requires { m < length self.now.owners }
+        ensures value { result.now ≡ bank self.now.banks m }
+        ensures len { length result.now ≡ self.now.unit }
+    {
+        let stored = self.banks[m].as_slice();
+        if stored.is_empty() {
+            self.zeros.as_slice()
+        } else {
+            stored
+        }
+    }
+
     fn least_unowned(&self) -> Option<u16>
         ensures value { result ≡ position is_none self.now.owners }
         ensures below { IfSome result (λ m. m < length self.now.owners) }
@@ -317,31 +347,47 @@ fn part(bytes: &[u8], from: usize, len: usize) -> &[u8]
     &bytes[from..from + len]
 }
 
-/// Sets every byte of superblock `m` to zero and clears its mark, where it is marked.
-fn scrub_marked(banks: &mut Vec<Vec<u8>>, marks: &mut Vec<bool>, m: usize)
+/// Makes superblock `m` ready for an owner: where it is marked, or has no bytes yet, it gets `unit` zero
+/// bytes, and its mark is cleared.
+fn make_ready(banks: &mut Vec<Vec<u8>>, marks: &mut Vec<bool>, m: usize, unit: usize)
     requires bank { m < vec_len banks.old }
     requires mark { m < vec_len marks.old }
-    ensures banks { bytes_of banks.new ≡ (if mark_at marks.old.items m then scrubbed (bytes_of banks.old) m else bytes_of banks.old) }
+    requires room { HasRoom unit banks.old.items }
+    ensures banks { bytes_of banks.new ≡ readied (bytes_of banks.old) marks.old.items m unit }
     ensures marks { marks.new.items ≡ slice_set marks.old.items m false }
+    ensures room { HasRoom unit banks.new.items }
 {
-    if marks[m] {
-        scrub(banks, m);
+    if marks[m] || banks[m].is_empty() {
+        scrub(banks, m, unit);
         marks[m] = false;
     }
 }
 
-/// Sets every byte of superblock `m` to zero.
-fn scrub(banks: &mut Vec<Vec<u8>>, m: usize)
-    requires { m < vec_len banks.old }
-    ensures { bytes_of banks.new ≡ scrubbed (bytes_of banks.old) m }
+/// Sets the `unit` bytes of superblock `m` to zero.
+fn scrub(banks: &mut Vec<Vec<u8>>, m: usize, unit: usize)
+    requires bank { m < vec_len banks.old }
+    requires room { HasRoom unit banks.old.items }
+    ensures banks { bytes_of banks.new ≡ scrubbed (bytes_of banks.old) m unit }
+    ensures room { HasRoom unit banks.new.items }
 {
-    banks[m].fill(0);
+    zero_fill(&mut banks[m], unit);
+}
+
+/// Makes the bytes `unit` zeros.
+fn zero_fill(bytes: &mut Vec<u8>, unit: usize)
+    requires { unit ≤ vec_capacity bytes.old }
+    ensures items { bytes.new.items ≡ replicate unit 0 }
+    ensures room { unit ≤ vec_capacity bytes.new }
+{
+    bytes.clear();
+    bytes.resize(unit, 0).unwrap();
 }
 
 fn set_byte_at(banks: &mut Vec<Vec<u8>>, m: usize, i: usize, byte: u8)
     requires bank { m < vec_len banks.old }
     requires byte { i < length (bank (bytes_of banks.old) m) }
-    ensures { bytes_of banks.new ≡ slice_set (bytes_of banks.old) m (slice_set (bank (bytes_of banks.old) m) i byte) }
+    ensures bytes { bytes_of banks.new ≡ slice_set (bytes_of banks.old) m (slice_set (bank (bytes_of banks.old) m) i byte) }
+    ensures room { (unit : ℕ) → HasRoom unit banks.old.items → HasRoom unit banks.new.items }
 {
     banks[m][i] = byte;
 }
@@ -369,13 +415,14 @@ fn make_rows(
     Ok(rows)
 }
 
-/// `count` superblocks of `unit` zero bytes.
+/// For each of `count` superblocks no bytes yet, and room for `unit` of them.
 fn make_banks(alloc: Global, count: usize, unit: usize) -> Result<Vec<Vec<u8>>, AllocError>
-    ensures { IfOk result (λ banks. bytes_of banks ≡ replicate count (replicate unit 0)) }
+    ensures bytes { IfOk result (λ banks. bytes_of banks ≡ replicate count []) }
+    ensures room { IfOk result (λ banks. HasRoom unit banks.items) }
 {
     let mut banks = Vec::with_capacity(alloc, count)?;
     for _ in 0..count {
-        banks.push(vec![in alloc; 0u8; unit]?)?;
+        banks.push(Vec::with_capacity(alloc, unit)?)?;
     }
     Ok(banks)
 }

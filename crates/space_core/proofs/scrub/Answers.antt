@@ -1,10 +1,9 @@
-use Rattle.std.proofs.Common.{List, ℕ, length, replicate, ap, sym, ◌∙◌, arith}
+use Rattle.std.proofs.Common.{ap, ◌∙◌, List, ℕ}
 use Rattle.std.proofs.Math.ListN.{set}
-use Rattle.space_core.proofs.TableLemmas.{lists_of, get_or-lists_of, lists_of-set}
+use Rattle.space_core.proofs.TableLemmas.{lists_of, lists_of-set}
 use Rattle.space_core.proofs.scrub.Goals as goal
 
-pub returns : goal.returns
-returns c =
+pub returns-clause-banks : goal.returns-clause-banks
+returns-clause-banks c =
     let banks = c.args.banks.now.items in
-    let here = get_or-lists_of banks c.args.m c.index_mut.result.now (omega (arith, c.args.banks.now.ok.0, c.requires)) c.index_mut.ensures.value in
-    lists_of-set banks c.args.m _ ∙ ap (λ (bytes : List ℕ). set (lists_of banks) c.args.m bytes) (c.fill.ensures.items (λ y same. same) ∙ ap (λ n. replicate n 0) (c.index_mut.result.now.ok.0 ∙ sym (ap length here)))
+    lists_of-set banks c.args.m c.zero_fill.new.bytes ∙ ap (λ (bytes : List ℕ). set (lists_of banks) c.args.m bytes) c.zero_fill.ensures.items

@@ -1,17 +1,35 @@
-use Rattle.std.proofs.Common.{◌*◌, ◌^◌, ◌≤◌, ◌%◌, rules, arith}
+use Rattle.std.proofs.Common.{◌≡◌, ◌*◌, ◌^◌, ◌≤◌, ◌%◌, ap, refl, ◌∙◌, rules, arith}
 use Rattle.std.proofs.Math.Nat.{pow-le-pow_right}
 use Rattle.std.proofs.lemmas.Nat.{pow_pos}
+use Rattle.space_core.specs.Storage.{shown}
 use Rattle.space_core.proofs.Empty.{empty_space-IsSpace}
+use Rattle.space_core.proofs.Stored.{shown-none, empty-IsStored}
 use Rattle.space_core.proofs.Space.new.Goals as goal
 
 pub invariant_of-result : goal.invariant_of-result
 invariant_of-result c =
     let most : 2 ^ c.args.order ≤ 2 ^ 8 = pow-le-pow_right (omega arith) c.requires.order in
     let positive = pow_pos c.args.order in
+    let unit = 4096 * 2 ^ c.args.order % 4294967296 in
     let owners = rw c.from.ensures at (c.in_ok-owners.ensures.items_if_clones_equal (λ y same. search rules)) in
     let slots = rw (c.from-2.ensures, c.from-3.ensures) at c.in_ok-slots.ensures in
-    let banks = rw c.from-4.ensures at c.in_ok-banks.ensures in
+    let stored = rw c.from-4.ensures at c.in_ok-banks.ensures.bytes in
+    let banks = ap (shown unit) stored ∙ shown-none unit c.args.superblocks in
     let marks = rw c.from-5.ensures at (c.in_ok-marks.ensures.items_if_clones_equal (λ y same. search rules)) in
-    rw (owners, slots, banks, marks)
-    (empty_space-IsSpace (4096 * 2 ^ c.args.order % 4294967296) c.args.superblocks c.args.tenants
-    (omega (arith, most)) (omega (arith, most)) c.requires.superblocks c.requires.tenants)
+    let zeros = c.in_ok-zeros.ensures.items_if_clones_equal (λ y same. search rules) in
+    rw (owners, slots, banks, marks) (
+      empty_space-IsSpace unit c.args.superblocks c.args.tenants (omega (arith, most)) (omega (arith, most)) c.requires.superblocks c.requires.tenants,
+      empty-IsStored unit c.args.superblocks c.in_ok-banks.banks.items c.in_ok-zeros.zeros.items c.in_ok-banks.ensures.room zeros,
+    )
+
+pub returns : goal.returns
+returns c =
+    let most : 2 ^ c.args.order ≤ 2 ^ 8 = pow-le-pow_right (omega arith) c.requires.order in
+    let unit = 4096 * 2 ^ c.args.order % 4294967296 in
+    let owners = rw c.from.ensures at (c.in_ok-owners.ensures.items_if_clones_equal (λ y same. search rules)) in
+    let slots = rw (c.from-2.ensures, c.from-3.ensures) at c.in_ok-slots.ensures in
+    let stored = rw c.from-4.ensures at c.in_ok-banks.ensures.bytes in
+    let banks = ap (shown unit) stored ∙ shown-none unit c.args.superblocks in
+    let marks = rw c.from-5.ensures at (c.in_ok-marks.ensures.items_if_clones_equal (λ y same. search rules)) in
+    let whole : unit ≡ 4096 * 2 ^ c.args.order = omega (arith, most) in
+    rw (owners, slots, banks, marks, whole) refl
