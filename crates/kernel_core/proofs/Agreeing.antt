@@ -1,15 +1,12 @@
 -- The parts agree after each change.
-use Rattle.std.proofs.Common.{◌≡◌, ◌≢◌, ℕ, ◌*◌, ◌^◌, ◌<◌, ◌≤◌, ◌==◌, Bool, true, false, if◌then◌else◌, Option, Some, None, is_none, List, length, position, slice_index_or, slice_set, refl, sym, ap, ◌∙◌, subst, ⊎_elim, arith}
+use Rattle.std.proofs.Common.{◌≡◌, ◌≢◌, ℕ, ◌<◌, None, List, length, slice_index_or, sym, ap, ◌∙◌, ⊎_elim, arith}
 use Rattle.std.proofs.lemmas.Bool.{cases_eq}
 use Rattle.std.proofs.lemmas.List.{length-set}
-use Rattle.std.proofs.lemmas.List.Quantifiers.{position-Some}
 use Rattle.space_core.specs.Content as spaces
-use Rattle.space_core.specs.Changes as changes
-use Rattle.space_core.specs.Laws.{IsSameFor, OthersStay, OwnSlots}
+use Rattle.space_core.specs.Laws.{IsSameFor}
 use Rattle.buddy_core.specs.Content as buddies
 use Rattle.kernel_core.specs.Parts.{Parts, PartsAgree, superblock_of, Keeps}
-use Rattle.kernel_core.proofs.Rising.{some_none}
-use Rattle.kernel_core.proofs.Holdings.{own_holding, other_holding, within, replaced}
+use Rattle.kernel_core.proofs.Holdings.{own_holding, other_holding}
 use Rattle.kernel_core.proofs.Worlds.{same_all}
 
 -- the parts with another holding of tenant t

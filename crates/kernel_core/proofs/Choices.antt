@@ -1,5 +1,5 @@
 -- The block that the buddy system chooses is the one that the private machine is given.
-use Rattle.std.proofs.Common.{◌≡◌, ℕ, Bool, true, Option, Some, None, refl, sym, ap, ◌∙◌, subst}
+use Rattle.std.proofs.Common.{◌≡◌, ℕ, Bool, Option, Some, None, refl, ap, subst}
 use Rattle.std.specs.Prelude.{option_map, MatchOption}
 use Rattle.model_core.specs.Blocks.{Block, block, Taken, IsChoice, IsWithout}
 use Rattle.model_core.specs.Choice.{choose}

@@ -1,6 +1,6 @@
 -- The superblocks of one tenant are taken back, one after the other.
-use Rattle.std.proofs.Common.{◌≡◌, ◌≢◌, ℕ, ◌+◌, ◌<◌, ◌≤◌, ◌==◌, nat_lt, Bool, true, false, if◌then◌else◌, Option, Some, None, List, length, map, take, count_by, slice_index_or, slice_set, refl, sym, ap, ◌∙◌, subst, ⊎_elim, arith}
-use Rattle.std.proofs.lemmas.Bool.{false≢true, cases_eq, cases_lt, eq-eqb, lt-ltb}
+use Rattle.std.proofs.Common.{◌≡◌, ◌≢◌, ℕ, ◌+◌, ◌<◌, ◌≤◌, nat_lt, true, false, if◌then◌else◌, Option, Some, None, length, map, take, count_by, slice_index_or, slice_set, refl, sym, ap, ◌∙◌, ⊎_elim, arith}
+use Rattle.std.proofs.lemmas.Bool.{cases_eq, cases_lt, eq-eqb, lt-ltb}
 use Rattle.std.proofs.lemmas.List.{length-set, get_or-set_same, get_or-set_other, get_or-map, get_or_default, get_or_past, same_lists}
 use Rattle.std.proofs.lemmas.List.Sums.{count_by_more_yes, count_by_more_no}
 use Rattle.std.proofs.Math.ListN.{length-map}
@@ -11,7 +11,6 @@ use Rattle.space_core.specs.Laws.{IsSameFor, OthersStay}
 use Rattle.kernel_core.specs.World.{is_of, given_up}
 use Rattle.kernel_core.specs.GivenUp.{GivesUp}
 use Rattle.kernel_core.proofs.Rising.{is_same, is_other, not_less, some_none}
-use Rattle.kernel_core.proofs.Worlds.{same_all}
 
 pub same_after : (u : ℕ) (a b c : Content) → IsSameFor u a b → IsSameFor u b c → IsSameFor u a c
 same_after u a b c first second = record {
@@ -30,17 +29,6 @@ pub record IsGivingUp (old now : Content) (t m told : ℕ) : Type 0 where
   pub long : length now.owners ≡ length old.owners
   pub owners : (n : ℕ) → owner_at now.owners n ≡ (if nat_lt n m then given_up (is_of t) (owner_at old.owners n) else owner_at old.owners n)
   pub others : (u : ℕ) → u ≢ t → IsSameFor u old now
-
-pub giving_starts : (s : Content) (t : ℕ) → IsGivingUp s s t 0 0
-giving_starts s t = record {
-  small = omega arith;
-  count = refl;
-  unit = refl;
-  rows = refl;
-  long = refl;
-  owners = λ n. sym (ap (λ b. if b then given_up (is_of t) (owner_at s.owners n) else owner_at s.owners n) (not_less n 0 (omega arith)));
-  others = λ u other. same_all u s;
-}
 
 still : (old now : Content) (t m told : ℕ) → IsGivingUp old now t m told → owner_at now.owners m ≡ owner_at old.owners m
 still old now t m told g = g.owners m ∙ ap (λ b. if b then given_up (is_of t) (owner_at old.owners m) else owner_at old.owners m) (not_less m m (omega arith))

@@ -1,15 +1,12 @@
 -- A superblock without owner is given to a tenant.
-use Rattle.std.proofs.Common.{◌≡◌, ◌≢◌, ℕ, ◌+◌, ◌*◌, ◌/◌, ◌^◌, ◌<◌, ◌≤◌, ◌==◌, ◌||◌, Bool, true, false, if◌then◌else◌, Option, Some, None, is_some, is_none, position, List, length, map, slice_get, slice_set, refl, sym, ap, ◌∙◌, subst, ⊎_elim, arith}
-use Rattle.std.specs.Prelude.{IsSome}
-use Rattle.std.specs.List.{list_any}
+use Rattle.std.proofs.Common.{◌≡◌, ◌≢◌, ℕ, ◌/◌, ◌^◌, ◌<◌, ◌≤◌, ◌==◌, ◌||◌, false, if◌then◌else◌, Some, None, is_some, is_none, position, length, slice_get, slice_set, refl, sym, ap, ◌∙◌, subst, ⊎_elim, arith}
 use Rattle.std.proofs.lemmas.Bool.{false≢true, eq-eqb, cases_eq}
 use Rattle.std.proofs.lemmas.List.{length-set, map-id}
 use Rattle.std.proofs.lemmas.List.Quantifiers.{position-Some}
 use Rattle.std.proofs.Math.Nat.{div-div-eq-div-mul}
-use Rattle.model_core.specs.Machine.{Machine, put_rising, holds, slot_of}
+use Rattle.model_core.specs.Machine.{Machine, put_rising, slot_of}
 use Rattle.model_core.specs.Operations.{next_slot, after_grant}
 use Rattle.model_core.specs.WellFormed.{RisesFrom}
-use Rattle.space_core.specs.Content as spaces
 use Rattle.space_core.specs.Content.{IsSpace, owner_at}
 use Rattle.space_core.specs.Changes.{IsLeastSlot, granted}
 use Rattle.space_core.specs.Laws.{IsSameFor, OthersStay, OwnBytes, OwnSlots}
@@ -22,11 +19,11 @@ use Rattle.words_core.specs.declared.reply.Addressee.TheVariants as To
 use Rattle.words_core.specs.declared.reply.Body.TheVariants.{Granted, Refused}
 use Rattle.words_core.specs.declared.reply.Refusal.TheVariants.{NoTenant, PoolEmpty}
 use Rattle.kernel_core.specs.Limits.{cache_limit}
-use Rattle.kernel_core.specs.World.{World, WorldStep, answer, grant_step, world_step}
-use Rattle.kernel_core.specs.Parts.{Parts, PartsAgree, superblock_of, taken_of, byte_at, Keeps}
+use Rattle.kernel_core.specs.World.{World, WorldStep, grant_step, world_step}
+use Rattle.kernel_core.specs.Parts.{Parts, PartsAgree, superblock_of, byte_at}
 use Rattle.kernel_core.specs.Shows.{ShowsMachine, Shows}
 use Rattle.kernel_core.specs.Steps.{Steps}
-use Rattle.kernel_core.proofs.Rising.{has, has-put, rises-put, least_missing_is, is_same, is_other, some_none}
+use Rattle.kernel_core.proofs.Rising.{has, has-put, rises-put, least_missing_is, is_other, some_none}
 use Rattle.kernel_core.proofs.Holdings.{own_holding, replaced}
 use Rattle.kernel_core.proofs.Worlds.{get_past, get_within, shows_changed, steps_answered, false_is}
 use Rattle.kernel_core.proofs.Agreeing.{holding, agree_slots, keeps_others}

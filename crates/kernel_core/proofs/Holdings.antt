@@ -1,8 +1,8 @@
 -- What one tenant holds, after a change of it and of another's.
-use Rattle.std.proofs.Common.{◌≡◌, ◌≢◌, ℕ, ◌*◌, ◌/◌, ◌^◌, ◌<◌, ◌≤◌, ◌==◌, Bool, true, false, if◌then◌else◌, Option, Some, None, is_some, List, [], length, slice_index_or, slice_set, get_or-set_same, get_or-set_other, refl, sym, ap, ◌∙◌, subst, ⊎_elim, inl, inr, arith}
+use Rattle.std.proofs.Common.{◌≡◌, ◌≢◌, ℕ, ◌<◌, ◌≤◌, ◌==◌, if◌then◌else◌, Option, Some, None, List, [], length, slice_index_or, slice_set, get_or-set_same, get_or-set_other, sym, ap, ◌∙◌, ⊎_elim}
 use Rattle.std.proofs.lemmas.Bool.{cases_eq, cases_lt, eq-eqb}
-use Rattle.std.proofs.lemmas.List.{get_or_past, length-set}
-use Rattle.buddy_core.specs.Content.{Holding, Content, holding_of, with_holding, superblock_at, taken_of, with_block, without_block, with_slot, without_slot}
+use Rattle.std.proofs.lemmas.List.{get_or_past}
+use Rattle.buddy_core.specs.Content.{Holding, Content, holding_of, with_holding}
 use Rattle.space_core.specs.Content as spaces
 use Rattle.kernel_core.proofs.Rising.{is_other, some_none}
 

@@ -2,8 +2,6 @@ pub mod MachineLists
 pub mod Runs
 pub mod TextLines
 pub mod TenantLines
-pub mod Cuts
-pub mod Traces
 pub mod Rising
 pub mod OneWorld
 pub mod Choices

@@ -1,9 +1,8 @@
 -- The parts of a kernel show one world at most.
-use Rattle.std.proofs.Common.{◌≡◌, ℕ, zero, suc, ◌+◌, List, [], ◌∷◌, length, Option, Some, None, slice_get, refl, sym, ap, ◌∙◌, arith}
+use Rattle.std.proofs.Common.{◌≡◌, ℕ, suc, List, [], ◌∷◌, length, Some, slice_get, refl, sym, ap, ◌∙◌, arith}
 use Rattle.model_core.specs.Machine.{Machine}
-use Rattle.kernel_core.specs.World.{World}
 use Rattle.kernel_core.specs.Parts.{Parts}
-use Rattle.kernel_core.specs.Shows.{ShowsMachine, Shows, OneWorld}
+use Rattle.kernel_core.specs.Shows.{ShowsMachine, OneWorld}
 use Rattle.kernel_core.proofs.Rising.{same_rising, same_blocks}
 
 -- lists of one length with the same elements are one

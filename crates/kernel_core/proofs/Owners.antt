@@ -1,15 +1,15 @@
 -- Which superblocks have which owner.
-use Rattle.std.proofs.Common.{◌≡◌, ◌≢◌, ℕ, ◌<◌, ◌≤◌, ◌==◌, ◌&&◌, Bool, true, false, if◌then◌else◌, Option, Some, None, is_none, is_some, List, length, map, position, slice_index_or, slice_set, refl, sym, ap, ◌∙◌, subst, ⊎_elim, arith}
+use Rattle.std.proofs.Common.{◌≡◌, ◌≢◌, ℕ, ◌<◌, ◌==◌, ◌&&◌, true, false, if◌then◌else◌, Option, Some, None, is_none, List, length, map, position, slice_index_or, slice_set, refl, sym, ap, ◌∙◌, ⊎_elim, arith}
 use Rattle.std.specs.List.{position_or_len}
-use Rattle.std.proofs.lemmas.Bool.{false≢true, cases_eq, eq-eqb, eqb-true, and_parts, and_from, false_from_ne_true}
+use Rattle.std.proofs.lemmas.Bool.{false≢true, cases_eq, eqb-true, and_parts, false_from_ne_true}
 use Rattle.std.proofs.lemmas.List.{length-set, get_or-set_same, get_or-set_other, get_or-map, get_or_default, same_lists}
 use Rattle.std.proofs.lemmas.List.Sums.{position_or_len_is}
 use Rattle.std.proofs.lemmas.List.Quantifiers.{position-Some}
 use Rattle.std.proofs.Math.ListN.{length-map}
 use Rattle.space_core.specs.Content as spaces
 use Rattle.space_core.specs.Content.{IsSpace, owner_at}
-use Rattle.kernel_core.specs.World.{is_of, is_owner, given_up}
-use Rattle.kernel_core.proofs.Rising.{is_same, is_other, some_none}
+use Rattle.kernel_core.specs.World.{is_owner, given_up}
+use Rattle.kernel_core.proofs.Rising.{is_same}
 
 pub was_none : (o : Option (ℕ × ℕ)) → is_none o ≡ true → o ≡ None
 was_none None _ = refl

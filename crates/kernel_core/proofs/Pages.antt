@@ -1,14 +1,12 @@
 -- Page blocks: a block taken or released by the buddy system is a step of the private machine.
-use Rattle.std.proofs.Common.{◌≡◌, ◌≢◌, ℕ, ◌+◌, ◌*◌, ◌/◌, ◌%◌, ◌^◌, ◌<◌, ◌≤◌, ◌==◌, nat_lt, Bool, true, false, if◌then◌else◌, Option, Some, None, is_some, Result, Ok, Err, List, [], ◌∷◌, ◌++◌, length, map, flat_map, slice_index_or, refl, sym, ap, ◌∙◌, subst, arith}
+use Rattle.std.proofs.Common.{◌≡◌, ◌≢◌, ℕ, ◌+◌, ◌*◌, ◌/◌, ◌^◌, ◌<◌, ◌≤◌, ◌==◌, nat_lt, true, false, if◌then◌else◌, Option, Some, None, is_some, ◌++◌, length, flat_map, refl, sym, ap, ◌∙◌, subst, arith}
 use Rattle.std.proofs.lemmas.List.{append-nil}
 use Rattle.std.proofs.lemmas.Nat.{pow_pos}
 use Rattle.std.proofs.Math.Nat.{lt-div-mul-add, mul-le-mul_right}
-use Rattle.model_core.specs.Blocks.{Taken, Block, block, HasFrame, IsTaken, IsChoice, IsWithout}
-use Rattle.model_core.specs.Machine.{Machine, put_rising, order_in, taken_in, taken_blocks, slab_blocks, choice}
+use Rattle.model_core.specs.Blocks.{block, HasFrame, IsChoice, IsWithout}
+use Rattle.model_core.specs.Machine.{Machine, order_in, taken_blocks, slab_blocks, choice}
 use Rattle.model_core.specs.Operations as ops
 use Rattle.model_core.specs.Operations.{Step, refuse, alloc_at, alloc_step, free_at, free_step}
-use Rattle.model_core.specs.WellFormed.{RisesFrom}
-use Rattle.model_core.specs.declared.refusals.AllocRefusal.{AllocRefusal}
 use Rattle.model_core.proofs.FreeBlocks.{reserved_is_untaken}
 use Rattle.model_core.proofs.Lists.{filter_rises}
 use Rattle.buddy_core.specs.Content as buddies
@@ -24,7 +22,7 @@ use Rattle.kernel_core.specs.PrivateStep.{command_step}
 use Rattle.kernel_core.specs.Parts.{Parts, PartsAgree, taken_of, Keeps}
 use Rattle.kernel_core.specs.Shows.{ShowsMachine}
 use Rattle.kernel_core.specs.Steps.{StepsMachine}
-use Rattle.kernel_core.proofs.Rising.{has, not_less, rises-put, order_in-put, order_in-filter, has-order_in, some_none}
+use Rattle.kernel_core.proofs.Rising.{not_less, rises-put, order_in-put, order_in-filter, has-order_in}
 use Rattle.kernel_core.proofs.Choices.{Meets, chosen, unchosen}
 use Rattle.kernel_core.proofs.Holdings.{own_holding, within, replaced}
 use Rattle.kernel_core.proofs.Worlds.{keeps_all, false_is}

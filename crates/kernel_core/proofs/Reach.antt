@@ -1,22 +1,19 @@
 -- Reach: which ranges lie in a taken block, in the parts and in the private machine; what is read and written there.
-use Rattle.std.proofs.Common.{◌≡◌, ◌≢◌, ℕ, zero, suc, ◌+◌, ◌-◌, ◌*◌, ◌/◌, ◌%◌, ◌^◌, ◌<◌, ◌≤◌, ◌==◌, ◌&&◌, ◌||◌, not, nat_lt, nat_le, Bool, true, false, if◌then◌else◌, Option, Some, None, is_some, List, [], ◌∷◌, length, slice_index, slice_get, refl, sym, ap, ◌∙◌, subst, ⊎_elim, inl, inr, ◌⊎◌, arith}
+use Rattle.std.proofs.Common.{◌≡◌, ℕ, suc, ◌+◌, ◌-◌, ◌*◌, ◌/◌, ◌%◌, ◌^◌, ◌<◌, ◌≤◌, ◌&&◌, ◌||◌, nat_lt, nat_le, Bool, true, false, if◌then◌else◌, Option, Some, None, is_some, List, [], ◌∷◌, length, slice_index, slice_get, refl, sym, ap, ◌∙◌, subst, ⊎_elim, arith}
 use Rattle.std.specs.List.{list_any, filter_map, range_with_len}
 use Rattle.std.specs.Prelude.{IsSome}
 use Rattle.std.proofs.lemmas.Bool.{false≢true, lt-ltb, ltb-true, le-leb, leb-true, and_parts, and_from, or_cases, false_from_ne_true}
 use Rattle.std.proofs.lemmas.Nat.{pow_pos, div-mul-add, mod-mul-add}
 use Rattle.std.proofs.lemmas.Option.{slice_get-get_or}
 use Rattle.std.proofs.Math.Nat.{lt-div-mul-add, div-mul-le_self, pow-le-pow_right, mod-eq_of_lt}
-use Rattle.model_core.specs.Blocks.{Block, block, HasFrame}
-use Rattle.model_core.specs.Numbered.{number_at}
-use Rattle.model_core.specs.Machine.{Machine, Cache}
-use Rattle.model_core.specs.Operations.{Step, read_step, write_step, written}
-use Rattle.model_core.specs.Reach.{is_within, within_block, within_objects, in_reach}
+use Rattle.model_core.specs.Blocks.{block, HasFrame}
+use Rattle.model_core.specs.Machine.{Machine}
+use Rattle.model_core.specs.Operations.{read_step, write_step, written}
+use Rattle.model_core.specs.Reach.{within_block, within_objects, in_reach}
 use Rattle.model_core.proofs.Bridge.{number_of_frame, same_slot}
-use Rattle.space_core.specs.Content as spaces
 use Rattle.space_core.specs.Windows.{home_of, window_of, bytes_under, with_window, is_in_slot}
 use Rattle.space_core.specs.Laws.{IsRead, OwnBytes, OthersStay}
-use Rattle.buddy_core.specs.Content as buddies
-use Rattle.buddy_core.specs.Content.{holding_of, is_held, IsSoundHolding}
+use Rattle.buddy_core.specs.Content.{holding_of, IsSoundHolding}
 use Rattle.words_core.specs.declared.event.Command.TheVariants.{Read, Write}
 use Rattle.words_core.specs.declared.reply.Body.TheVariants.{Bytes, Written, Refused}
 use Rattle.words_core.specs.declared.reply.Refusal.TheVariants.{BadLength, OutOfReach}
@@ -25,7 +22,7 @@ use Rattle.kernel_core.specs.PrivateStep.{command_step}
 use Rattle.kernel_core.specs.Parts.{Parts, PartsAgree, superblock_of, taken_of, byte_at, IsInReach}
 use Rattle.kernel_core.specs.Shows.{ShowsMachine}
 use Rattle.kernel_core.specs.Steps.{StepsMachine}
-use Rattle.kernel_core.proofs.Rising.{some_none, Passing, any_from, any_tells}
+use Rattle.kernel_core.proofs.Rising.{some_none, any_from, any_tells}
 use Rattle.kernel_core.proofs.Pages.{stays, moves}
 use Rattle.kernel_core.proofs.Agreeing.{agree_banks}
 

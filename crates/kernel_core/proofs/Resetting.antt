@@ -1,9 +1,8 @@
 -- All that a tenant has is taken from it; and the parts of a kernel before its first event.
-use Rattle.std.proofs.Common.{◌≡◌, ◌≢◌, ℕ, ◌*◌, ◌%◌, ◌/◌, ◌^◌, ◌<◌, ◌≤◌, ◌==◌, Bool, true, false, Option, Some, None, is_some, List, [], length, map, count_by, replicate, slice_get, slice_index_or, slice_set, refl, sym, ap, ◌∙◌, subst, ⊎_elim, arith}
+use Rattle.std.proofs.Common.{◌≡◌, ℕ, ◌*◌, ◌%◌, ◌/◌, ◌^◌, ◌<◌, ◌≤◌, ◌==◌, Option, Some, None, is_some, List, length, map, count_by, replicate, slice_get, slice_index_or, slice_set, refl, sym, ap, ◌∙◌, subst, ⊎_elim, arith}
 use Rattle.std.proofs.lemmas.Bool.{false≢true, eq-eqb, cases_lt}
 use Rattle.std.proofs.lemmas.List.{get_or-replicate, get_or_past, length-replicate}
 use Rattle.std.proofs.Math.ListN.{length-map}
-use Rattle.std.proofs.lemmas.Option.{slice_get_within}
 use Rattle.model_core.specs.Machine.{Machine, empty_machine}
 use Rattle.space_core.specs.Content as spaces
 use Rattle.space_core.specs.Windows as windows
@@ -14,13 +13,12 @@ use Rattle.words_core.specs.declared.reply.Reply.{Reply}
 use Rattle.words_core.specs.declared.reply.Addressee.TheVariants as To
 use Rattle.words_core.specs.declared.reply.Body.TheVariants.{WasReset, Owners, Refused}
 use Rattle.words_core.specs.declared.reply.Refusal.TheVariants.{NoTenant}
-use Rattle.kernel_core.specs.Limits.{cache_limit, superblock_limit, tenant_limit}
-use Rattle.kernel_core.specs.World.{World, WorldStep, answer, is_of, given_up, reset_step, world_step, opening_world}
-use Rattle.kernel_core.specs.Parts.{Parts, PartsAgree, superblock_of, taken_of, byte_at, opening_parts, Keeps}
+use Rattle.kernel_core.specs.Limits.{cache_limit}
+use Rattle.kernel_core.specs.World.{World, WorldStep, answer, is_of, given_up, reset_step, world_step}
+use Rattle.kernel_core.specs.Parts.{Parts, PartsAgree, superblock_of, taken_of}
 use Rattle.kernel_core.specs.GivenUp.{GivesUp}
 use Rattle.kernel_core.specs.Shows.{ShowsMachine, Shows}
 use Rattle.kernel_core.specs.Steps.{Steps}
-use Rattle.kernel_core.proofs.MachineLists.{slice_get-replicate}
 use Rattle.kernel_core.proofs.Holdings.{own_holding}
 use Rattle.kernel_core.proofs.Worlds.{get_past, get_within, shows_changed, steps_answered, false_is}
 use Rattle.kernel_core.proofs.Agreeing.{holding, agree_slots, keeps_others}

@@ -1,16 +1,15 @@
 -- A superblock is taken back from a tenant.
-use Rattle.std.proofs.Common.{◌≡◌, ◌≢◌, ℕ, ◌+◌, ◌*◌, ◌/◌, ◌^◌, ◌<◌, ◌≤◌, ◌==◌, ◌++◌, not, nat_lt, Bool, true, false, if◌then◌else◌, Option, Some, None, is_some, Result, Ok, Err, List, length, map, filter, flat_map, slice_get, slice_set, refl, sym, ap, ◌∙◌, subst, ⊎_elim, arith}
+use Rattle.std.proofs.Common.{◌≡◌, ◌≢◌, ℕ, ◌+◌, ◌^◌, ◌<◌, ◌≤◌, ◌==◌, ◌++◌, not, nat_lt, Bool, true, false, if◌then◌else◌, Option, Some, None, is_some, Result, Ok, Err, List, length, map, filter, flat_map, slice_get, slice_set, refl, sym, ap, ◌∙◌, subst, ⊎_elim, arith}
 use Rattle.std.specs.List.{list_any, position_or_len}
 use Rattle.std.proofs.lemmas.Bool.{false≢true, eq-eqb, cases_lt, lt-ltb, ltb-true, and_parts, and_from, false_from_ne_true}
 use Rattle.std.proofs.lemmas.List.{length-set, map-id, append-nil}
 use Rattle.std.proofs.lemmas.Nat.{pow_pos}
-use Rattle.model_core.specs.Blocks.{Block, block, slot_block, Taken, HasFrame, HasTaken}
-use Rattle.model_core.specs.Machine.{Machine, holds, order_in, taken_blocks, slab_blocks, slot_of}
-use Rattle.model_core.specs.Operations.{Step, refuse, overlaps, is_busy, after_take_back, take_back_step}
+use Rattle.model_core.specs.Blocks.{Block, block, slot_block, HasFrame, HasTaken}
+use Rattle.model_core.specs.Machine.{Machine, holds, taken_blocks, slab_blocks, slot_of}
+use Rattle.model_core.specs.Operations.{Step, overlaps, is_busy, after_take_back, take_back_step}
 use Rattle.model_core.specs.declared.refusals.TakeBackRefusal.{TakeBackRefusal}
 use Rattle.model_core.specs.WellFormed.{RisesFrom}
 use Rattle.model_core.proofs.Lists.{filter_rises}
-use Rattle.space_core.specs.Content as spaces
 use Rattle.space_core.specs.Content.{IsSpace}
 use Rattle.space_core.specs.Changes as changes
 use Rattle.space_core.specs.Laws.{IsSameFor, OthersStay, OwnBytes, OwnSlots}
@@ -23,15 +22,15 @@ use Rattle.words_core.specs.declared.reply.Addressee.TheVariants as To
 use Rattle.words_core.specs.declared.reply.Body.TheVariants.{TakenBack, Refused}
 use Rattle.words_core.specs.declared.reply.Refusal.TheVariants.{NoTenant, NoSlot, SlotBusy}
 use Rattle.kernel_core.specs.Limits.{cache_limit}
-use Rattle.kernel_core.specs.World.{World, WorldStep, answer, is_owner, given_up, taken_back, slot_step, world_step}
-use Rattle.kernel_core.specs.Parts.{Parts, PartsAgree, superblock_of, taken_of, byte_at, Keeps}
+use Rattle.kernel_core.specs.World.{World, WorldStep, is_owner, given_up, taken_back, slot_step, world_step}
+use Rattle.kernel_core.specs.Parts.{Parts, PartsAgree, superblock_of, taken_of, byte_at}
 use Rattle.kernel_core.specs.Shows.{ShowsMachine, Shows}
 use Rattle.kernel_core.specs.Steps.{Steps}
-use Rattle.kernel_core.proofs.Rising.{has, has-filter, Passing, any_from, any_tells}
+use Rattle.kernel_core.proofs.Rising.{has, has-filter, any_from, any_tells}
 use Rattle.kernel_core.proofs.Holdings.{own_holding, within, replaced}
 use Rattle.kernel_core.proofs.Worlds.{get_past, get_within, shows_changed, steps_answered, false_is}
 use Rattle.kernel_core.proofs.Agreeing.{holding, agree_slots, keeps_others}
-use Rattle.kernel_core.proofs.Owners.{IsUnder, is_under, found_under, given_up_one}
+use Rattle.kernel_core.proofs.Owners.{is_under, found_under, given_up_one}
 use Rattle.kernel_core.proofs.Granting.{slot_by_unit}
 
 -- superblock m stands under slot u of tenant t, and no frame of the slot is taken

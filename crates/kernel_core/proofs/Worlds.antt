@@ -12,7 +12,6 @@ use Rattle.words_core.specs.declared.reply.Addressee.TheVariants as To
 use Rattle.words_core.specs.declared.reply.Body.{Body}
 use Rattle.words_core.specs.declared.event.Event.{Event}
 use Rattle.words_core.specs.declared.reply.Addressee.{Addressee}
-use Rattle.words_core.specs.declared.reply.Reply.{Reply}
 use Rattle.words_core.specs.declared.reply.Refusal.TheVariants.{NoTenant}
 use Rattle.words_core.specs.declared.reply.Body.TheVariants.{Refused}
 use Rattle.kernel_core.specs.Limits.{cache_limit}

@@ -1,7 +1,6 @@
 -- All superblocks of one tenant taken back.
-use Rattle.std.specs.Prelude.{◌≡◌, ◌≢◌, ℕ, Option, None, List, length, map, count_by}
+use Rattle.std.specs.Prelude.{◌≡◌, ◌≢◌, ℕ, None, length, map, count_by}
 use Rattle.space_core.specs.Content.{Content, superblock_at}
-use Rattle.space_core.specs.Windows.{byte_at}
 use Rattle.space_core.specs.Laws.{IsSameFor}
 use Rattle.kernel_core.specs.World.{is_of, given_up}
 

@@ -44,10 +44,6 @@ lines_step limit order (line ∷ lines) w = record {
 unfoldable pub output_of : ℕ → ℕ → List ℕ → World → List ℕ
 output_of limit order trace w = (lines_step limit order (lines_of_trace trace) w).written
 
--- the world after a whole trace
-unfoldable pub world_after_trace : ℕ → ℕ → List ℕ → World → World
-world_after_trace limit order trace w = (lines_step limit order (lines_of_trace trace) w).world
-
 -- the event of a line, if it has one
 abbrev pub event_in : Result (Option Event) LineFault → List Event
 event_in (Ok None) = []

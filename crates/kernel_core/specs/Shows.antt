@@ -1,5 +1,5 @@
 -- Which world the parts of a kernel show.
-use Rattle.std.specs.Prelude.{◌≡◌, ℕ, ◌+◌, ◌≤◌, List, [], ◌∷◌, length, map, Some, is_some, slice_get}
+use Rattle.std.specs.Prelude.{◌≡◌, ℕ, [], length, map, Some, is_some, slice_get}
 use Rattle.model_core.specs.Machine.{Machine, holds, order_in}
 use Rattle.model_core.specs.WellFormed.{RisesFrom}
 use Rattle.kernel_core.specs.World.{World}

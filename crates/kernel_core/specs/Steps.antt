@@ -1,10 +1,12 @@
 -- What one event does to a kernel, and what one command of a tenant does to what that tenant has.
-use Rattle.std.specs.Prelude.{◌≡◌, ◌≢◌, ℕ, ◌==◌, Bool, true, false}
+use Rattle.std.specs.Prelude.{◌≡◌, ◌≢◌, ℕ, ◌==◌, Bool, true, false, Result, Ok, Err}
 use Rattle.words_core.specs.declared.event.Event.{Event}
 use Rattle.words_core.specs.declared.event.Event.TheVariants as On
 use Rattle.words_core.specs.declared.event.AdminCommand.TheVariants as Do
 use Rattle.words_core.specs.declared.event.Command.{Command}
 use Rattle.words_core.specs.declared.reply.Body.{Body}
+use Rattle.words_core.specs.declared.reply.Body.TheVariants.{Refused}
+use Rattle.words_core.specs.declared.reply.Refusal.{Refusal}
 use Rattle.words_core.specs.declared.reply.Reply.{Reply}
 use Rattle.model_core.specs.Machine.{Machine}
 use Rattle.kernel_core.specs.Limits.{cache_limit}
@@ -40,3 +42,8 @@ pub record StepsMachine (old : Parts) (t : ℕ) (command : Command) (new : Parts
   pub answer : (m : Machine) → ShowsMachine old t m → body ≡ (command_step cache_limit old.order command m).answer
   pub refused : is_refused body ≡ true → new ≡ old
   pub others : (u : ℕ) → u ≢ t → Keeps old new u
+
+-- what a reply says of what a command gave, or of why it was refused
+abbrev pub body_of : {A : Type 0} → (A → Body) → Result A Refusal → Body
+body_of said (Ok given) = said given
+body_of said (Err refusal) = Refused refusal

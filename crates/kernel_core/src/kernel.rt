@@ -90,7 +90,8 @@ impl Kernel {
     ghost use Rattle.kernel_core.specs.OwnList.{is_refused};
     ghost use Rattle.kernel_core.specs.Parts.{Parts, PartsAgree, opening_parts, superblock_of, superblock_bytes, IsInReach, Keeps};
     ghost use Rattle.kernel_core.specs.Shows.{Shows, ShowsMachine};
-    ghost use Rattle.kernel_core.specs.Steps.{is_named, Steps, StepsMachine};
+    ghost use Rattle.kernel_core.specs.Steps.{is_named, Steps, StepsMachine, body_of};
+    ghost use Rattle.words_core.specs.declared.reply.Body.TheVariants.{Frame, Freed, Bytes, Written};
     ghost use Rattle.space_core.specs.Content.{mark_at, owner_at};
 
     /// A machine of these sizes: all its memory is zero, and no superblock has an owner.
@@ -136,13 +137,38 @@ impl Kernel {
         // All other tenants keep their slots, the superblocks under them with all their bytes, and their blocks.
         ensures others { (t : ℕ) → is_named t event.now ≡ false → Keeps self.old self.new t }
     {
+        let mut reply = to_admin(Body::Refused(Refusal::NoTenant));
+        self.step_into(event, &mut reply);
+        reply
+    }
+
+    /// [`Kernel::step`], with the reply in the place of an earlier one. A reply has room for the owners of all superblocks,
+    /// so a loop over many events does better not to move it.
+    pub fn step_into(&mut self, event: &Event, reply: &mut Reply)
+        ensures order { self.new.order ≡ self.old.order }
+        ensures shows { (w : World) → Shows self.old w → Shows self.new (world_step cache_limit self.old.order event.now w).world }
+        ensures reply { (w : World) → Shows self.old w → reply.new ≡ (world_step cache_limit self.old.order event.now w).reply }
+        ensures refused { is_refused reply.new.body ≡ true → self.new ≡ self.old }
+        ensures others { (t : ℕ) → is_named t event.now ≡ false → Keeps self.old self.new t }
+    {
         match event {
-            Event::Admin(AdminCommand::Grant { tenant }) => self.grant(*tenant),
-            Event::Admin(AdminCommand::TakeBack { tenant, slot }) => self.take_back(*tenant, *slot),
-            Event::Admin(AdminCommand::Reset { tenant }) => self.reset(*tenant),
-            Event::Admin(AdminCommand::Pool) => self.pool(),
-            Event::Tenant(tenant, command) => self.ask(*tenant, command),
+            Event::Admin(command) => self.administer(command, reply),
+            Event::Tenant(tenant, command) => self.ask(*tenant, command, reply),
         }
+    }
+
+    /// Runs a command of the administrator.
+    #[cold]
+    #[inline(never)]
+    fn administer(&mut self, command: &AdminCommand, reply: &mut Reply)
+        ensures { Steps self.old (Event.Admin command.now) self.new reply.new }
+    {
+        *reply = match command {
+            AdminCommand::Grant { tenant } => self.grant(*tenant),
+            AdminCommand::TakeBack { tenant, slot } => self.take_back(*tenant, *slot),
+            AdminCommand::Reset { tenant } => self.reset(*tenant),
+            AdminCommand::Pool => self.pool(),
+        };
     }
 
     /// The superblock under slot `slot` of tenant `t`: the one that has both as its owner.
@@ -291,97 +317,114 @@ impl Kernel {
     }
 
     /// Runs a tenant's command.
-    fn ask(&mut self, tenant: u32, command: &Command) -> Reply
-        ensures { Steps self.old (Event.Tenant tenant command.now) self.new result }
+    fn ask(&mut self, tenant: u32, command: &Command, reply: &mut Reply)
+        ensures { Steps self.old (Event.Tenant tenant command.now) self.new reply.new }
     {
         if tenant >= u32::from(self.tenants) {
-            return Reply {
-                addressee: Addressee::Nobody,
-                body: Body::Refused(Refusal::NoTenant),
-            };
+            reply.addressee = Addressee::Nobody;
+            reply.body = Body::Refused(Refusal::NoTenant);
+            return;
         }
         let t = tenant as u8;
-        let body = self.run(t, command);
-        Reply {
-            addressee: Addressee::Tenant(t),
-            body,
-        }
+        reply.addressee = Addressee::Tenant(t);
+        self.run(t, command, &mut reply.body);
     }
 
     /// Runs a command of a tenant that there is.
-    fn run(&mut self, t: u8, command: &Command) -> Body
+    fn run(&mut self, t: u8, command: &Command, body: &mut Body)
         requires { t < self.old.tenants }
-        ensures { StepsMachine self.old t command.now self.new result }
+        ensures { StepsMachine self.old t command.now self.new body.new }
     {
         match command {
-            Command::Alloc { order } => self.alloc(t, *order),
-            Command::Free { frame } => self.free(t, *frame),
-            Command::Read { place, len } => self.read(t, *place, *len),
-            Command::Write { place, bytes } => self.write(t, *place, bytes),
+            Command::Alloc { order } => match self.alloc(t, *order) {
+                Ok(frame) => *body = Body::Frame(frame),
+                Err(refusal) => *body = Body::Refused(refusal),
+            },
+            Command::Free { frame } => match self.free(t, *frame) {
+                Ok(order) => *body = Body::Freed(order),
+                Err(refusal) => *body = Body::Refused(refusal),
+            },
+            Command::Read { place, len } => self.read_into(t, *place, *len, body),
+            Command::Write { place, bytes } => match self.write(t, *place, bytes) {
+                Ok(len) => *body = Body::Written(len),
+                Err(refusal) => *body = Body::Refused(refusal),
+            },
         }
     }
 
     /// Takes a page block of `2^order` frames.
-    fn alloc(&mut self, t: u8, order: u32) -> Body
+    fn alloc(&mut self, t: u8, order: u32) -> Result<u32, Refusal>
         requires { t < self.old.tenants }
-        ensures { StepsMachine self.old t (Command.Alloc order) self.new result }
+        ensures { StepsMachine self.old t (Command.Alloc order) self.new (body_of Frame result) }
     {
         self.buddy.sizes();
         self.buddy.holdings_are_sound();
         if order > u32::from(self.order) {
-            return Body::Refused(Refusal::BadOrder);
+            return Err(Refusal::BadOrder);
         }
         let Some(frame) = self.buddy.reserve(t, order as u8) else {
-            return Body::Refused(Refusal::NoFrames);
+            return Err(Refusal::NoFrames);
         };
-        Body::Frame(frame)
+        Ok(frame)
     }
 
     /// Releases the page block that begins at a frame; its bytes stay.
-    fn free(&mut self, t: u8, frame: u32) -> Body
+    fn free(&mut self, t: u8, frame: u32) -> Result<u8, Refusal>
         requires { t < self.old.tenants }
-        ensures { StepsMachine self.old t (Command.Free frame) self.new result }
+        ensures { StepsMachine self.old t (Command.Free frame) self.new (body_of Freed result) }
     {
         self.buddy.sizes();
         let Some(order) = self.buddy.release(t, frame) else {
-            return Body::Refused(Refusal::NotABlock);
+            return Err(Refusal::NotABlock);
         };
-        Body::Freed(order)
+        Ok(order)
+    }
+
+    /// Answers a read; by itself, since its bytes take room that no other answer needs.
+    #[inline(never)]
+    fn read_into(&self, t: u8, place: u32, len: u32, body: &mut Body)
+        requires { t < self.now.tenants }
+        ensures { StepsMachine self.now t (Command.Read place len) self.now body.new }
+    {
+        match self.read(t, place, len) {
+            Ok(bytes) => *body = Body::Bytes(bytes),
+            Err(refusal) => *body = Body::Refused(refusal),
+        }
     }
 
     /// Reads `len` bytes from `place` on.
-    fn read(&self, t: u8, place: u32, len: u32) -> Body
+    fn read(&self, t: u8, place: u32, len: u32) -> Result<ArrayVec<u8, 64>, Refusal>
         requires { t < self.now.tenants }
-        ensures { StepsMachine self.now t (Command.Read place len) self.now result }
+        ensures { StepsMachine self.now t (Command.Read place len) self.now (body_of Bytes result) }
     {
         self.space.own_bytes();
         self.buddy.holdings_are_sound();
         if len < 1 || len > 64 {
-            return Body::Refused(Refusal::BadLength);
+            return Err(Refusal::BadLength);
         }
         if !self.is_in_reach(t, place, len) {
-            return Body::Refused(Refusal::OutOfReach);
+            return Err(Refusal::OutOfReach);
         }
         let Some(bytes) = self.space.window(t, place, len) else {
             unreachable!()
         };
-        Body::Bytes(copied(bytes))
+        Ok(copied(bytes))
     }
 
     /// Stores bytes from `place` on.
-    fn write(&mut self, t: u8, place: u32, bytes: &ArrayVec<u8, 64>) -> Body
+    fn write(&mut self, t: u8, place: u32, bytes: &ArrayVec<u8, 64>) -> Result<u32, Refusal>
         requires { t < self.old.tenants }
-        ensures { StepsMachine self.old t (Command.Write place bytes.now) self.new result }
+        ensures { StepsMachine self.old t (Command.Write place bytes.now) self.new (body_of Written result) }
     {
         self.space.others_stay();
         self.space.own_bytes();
         self.buddy.holdings_are_sound();
         let len = bytes.len() as u32;
         if !self.is_in_reach(t, place, len) {
-            return Body::Refused(Refusal::OutOfReach);
+            return Err(Refusal::OutOfReach);
         }
         store(&mut self.space, t, place, bytes.as_slice());
-        Body::Written(len)
+        Ok(len)
     }
 
     /// Whether a range has a byte and lies inside one live page block of the tenant.

@@ -1,13 +1,54 @@
 -- What a run of the program writes.
-use Rattle.std.specs.Prelude.{ℕ, List}
+use Rattle.std.specs.Prelude.{◌≡◌, ℕ, ◌<◌, Bool, true, false, List, [], ◌++◌, Option, Some, None}
+use Rattle.words_core.specs.Cutting.{lines_of_trace}
+use Rattle.kernel_core.specs.declared.kernel.Config.{Config}
 use Rattle.kernel_core.specs.Limits.{cache_limit}
 use Rattle.kernel_core.specs.World.{opening_world}
-use Rattle.kernel_core.specs.Output.{output_of}
+use Rattle.kernel_core.specs.Output.{lines_for}
+use Rattle.kernel_core.specs.Laws.{private_lines}
+use Rattle.replay_core.specs.Runs.{shown_lines, ended_lines, with_line_feeds}
+use Rattle.partmem.specs.declared.settings.Settings.{Settings}
+use Rattle.partmem.specs.declared.outcome.Outcome.{Outcome}
+use Rattle.partmem.specs.declared.outcome.Outcome.TheVariants.{Done, Help, Unreadable, Unwritable, BadLine, BadOnly, NoMemory}
 
--- a trace longer than this is not read
+-- the most bytes of a trace that are read
 abbrev pub most_trace_bytes : ℕ
-most_trace_bytes = 1048576
+most_trace_bytes = 1073741824
 
--- what a trace writes on a new machine: superblocks of order 3, two of them, two tenants
-unfoldable pub replies_to_trace : List ℕ → List ℕ
-replies_to_trace trace = output_of cache_limit 3 trace (opening_world 2 2)
+-- what these lines show on a new machine of the settings: all replies, or those to one tenant
+abbrev pub replies_to : Settings → List (List ℕ) → List ℕ
+replies_to s lines = shown_lines s.only cache_limit s.config.order lines (opening_world s.config.superblocks s.config.tenants)
+
+-- the lines that a tenant's private machine answers to the tenant's own list of the trace
+abbrev pub private_replies : Config → ℕ → List ℕ → List (List ℕ)
+private_replies config t trace = private_lines cache_limit config.order config.superblocks config.tenants t trace
+
+-- whatever the others do, a tenant is told what its private machine answers; with `only` nothing else is written
+abbrev pub IsPrivate : Option ℕ → Config → List ℕ → List ℕ → Type 0
+IsPrivate None config trace written = (t : ℕ) → t < config.tenants → lines_for t written ≡ private_replies config t trace
+IsPrivate (Some t) config trace written = t < config.tenants → written ≡ with_line_feeds (private_replies config t trace)
+
+-- what was written of the bytes that were given, when the run ended so
+abbrev pub Answers : Settings → Outcome → List ℕ → List ℕ → Type 0
+Answers s Done given written = (written ≡ replies_to s (lines_of_trace given)) × IsPrivate s.only s.config given written
+Answers s Unreadable given written = written ≡ replies_to s (ended_lines given)
+Answers s Unwritable given written = (rest : List ℕ) × (replies_to s (lines_of_trace given) ≡ written ++ rest)
+Answers s NoMemory given written = (given ≡ []) × (written ≡ [])
+Answers s (Help text) given written = ⊥
+Answers s (BadLine text) given written = ⊥
+Answers s BadOnly given written = ⊥
+
+-- which end had failed when the run ended so; a trace is done only at its end
+abbrev pub EndsAs : Outcome → Bool → Bool → Bool → Type 0
+EndsAs Done ended unread unwritten = (ended ≡ true) × (unread ≡ false) × (unwritten ≡ false)
+EndsAs Unreadable ended unread unwritten = unread ≡ true
+EndsAs Unwritable ended unread unwritten = (unread ≡ false) × (unwritten ≡ true)
+EndsAs NoMemory ended unread unwritten = (unread ≡ false) × (unwritten ≡ false)
+EndsAs (Help text) ended unread unwritten = ⊥
+EndsAs (BadLine text) ended unread unwritten = ⊥
+EndsAs BadOnly ended unread unwritten = ⊥
+
+-- how much of the trace was given when the run ended so: a beginning, and all of it where it is done
+abbrev pub IsGiven : Outcome → List ℕ → List ℕ → Type 0
+IsGiven Done trace given = trace ≡ given
+IsGiven outcome trace given = (rest : List ℕ) × (trace ≡ given ++ rest)

@@ -1,104 +1,128 @@
-//! Runs a trace from standard input on a new machine, and writes its replies to standard output.
+//! Runs a trace on a new machine whose memory is shared by tenants, and writes its replies to standard output.
 //!
-//! | Exit status | When |
-//! |---|---|
-//! | 0 | the trace is done; refused commands and faulty lines are answered in it |
-//! | 1 | the trace could not be read, or the replies could not be written |
-//! | 3 | there was not enough memory |
+//! `partmem --order S --superblocks N --tenants T [--only T] [FILE]`
+//!
+//! | Exit status | When | Standard error |
+//! |---|---|---|
+//! | 0 | the trace is done, refused commands and faulty lines answered in it; or `--help` | nothing |
+//! | 1 | FILE cannot be opened, or the trace cannot be read to its end | `partmem: trace could not be read` |
+//! | 1 | the replies cannot be written or flushed | `partmem: replies could not be written` |
+//! | 2 | the command line is faulty, or a number is out of its range | what is wrong with it |
+//! | 2 | `--only` is not below the number of tenants | `partmem: --only names no tenant` |
+//! | 3 | there is not enough memory | `partmem: not enough memory` |
 #![tactic(auto)]
 
-ghost use Rattle.std.specs.Prelude.{◌≡◌, ◌≤◌, ℕ, length, IfOk, IfSome, OnOk};
-ghost use Rattle.std.specs.Io.KnownBytes.{Appends};
-ghost use Rattle.partmem.specs.Run.{most_trace_bytes, replies_to_trace};
+ghost use Rattle.std.specs.Prelude.{◌≡◌, ◌≤◌, true, IfErr, IfOk};
+ghost use Rattle.kernel_core.specs.Booting.{is_bootable};
+ghost use Rattle.partmem.specs.Outcome.{IsOfRun, IsRefusal, status_of};
 
-use kernel_core::{BootError, Config, Kernel, run_trace};
+mod outcome;
+mod run;
+mod settings;
+#[cfg(test)]
+mod tests;
+
+use outcome::Outcome;
+use replay_core::WriterDrain;
+use run::run;
+use settings::{Settings, read_words};
 use std::alloc::Global;
-use std::io;
-use std::io::{ErrorKind, Read, Write};
+use std::env;
+use std::fs::File;
+use std::io::{self, BufReader, BufWriter, ErrorKind, Read};
 use std::process::ExitCode;
+use std::rt::{Env, Files};
 
-/// The machine that traces run on.
-const MACHINE: Config = Config {
-    order: 3,
-    superblocks: 2,
-    tenants: 2,
-};
-
-/// A trace longer than this counts as one that could not be read.
-const MOST_TRACE_BYTES: u64 = 1_048_576;
-
-/// Why a run ended before its replies were written.
-#[derive(Clone, Copy, Debug, PartialEq, Eq)]
-enum Failure {
-    Unread,
-    Unwritten,
-    NoMemory,
-}
-
-impl Failure {
-    fn status(self) -> u8 {
-        match self {
-            Failure::Unread | Failure::Unwritten => 1,
-            Failure::NoMemory => 3,
-        }
-    }
-
-    fn text(self) -> &'static str {
-        match self {
-            Failure::Unread => "trace could not be read",
-            Failure::Unwritten => "replies could not be written",
-            Failure::NoMemory => "not enough memory",
-        }
-    }
-}
+/// The bytes that are read or written at once.
+const BUFFER_BYTES: usize = 65_536;
 
 fn main(rt: HostRuntime) -> ExitCode {
-    match run(rt.alloc(), rt.reader(), &mut io::writer(&rt)) {
-        Ok(()) => ExitCode::SUCCESS,
-        Err(failure) => {
-            let _unheard = eprintln!(rt; "partmem: {}", failure.text());
-            ExitCode::from(failure.status())
+    let outcome = match read_command_line(&rt) {
+        Ok(settings) => run_from(&rt, &settings),
+        Err(outcome) => outcome,
+    };
+    tell(&rt, &outcome);
+    ExitCode::from(outcome.status())
+}
+
+/// What the command line asks for.
+fn read_command_line(rt: &(impl Env + AllocGlobal)) -> Result<Settings, Outcome>
+    ensures config { IfOk result (λ settings. is_bootable settings.config ≡ true) }
+    ensures refused { IfErr result IsRefusal }
+{
+    let alloc = rt.alloc();
+    let all: Vec<String> = match env::args(rt) {
+        Ok(words) => words.collect(alloc).map_err(|_| Outcome::NoMemory)?,
+        Err(error) => return Err(not_words(alloc, error.kind())),
+    };
+    let mut words = Vec::new(alloc);
+    for word in all.iter().skip(1) {
+        if words.push(word.as_str()).is_err() {
+            return Err(Outcome::NoMemory);
         }
     }
+    read_words(alloc, words.as_slice())
 }
 
-/// Runs the trace that the reader has left, and writes what it answers.
-fn run<R: Read + Drop, W: Write>(alloc: Global, reader: R, writer: &mut W) -> Result<(), Failure>
-    ensures { OnOk result (IfSome (R.remaining reader) (λ trace. (length trace ≤ most_trace_bytes)
-        × Appends (W.contents writer.old) (W.contents writer.new) (replies_to_trace trace))) }
+/// What is told where the command line could not be taken over: there was no memory, or it is no UTF-8.
+fn not_words(alloc: Global, kind: ErrorKind) -> Outcome
+    ensures refused { IsRefusal result }
+    ensures fails { 2 ≤ status_of result }
 {
-    let trace = read_trace(alloc, reader)?;
-    let mut kernel = match Kernel::boot(alloc, MACHINE) {
-        Ok(kernel) => kernel,
-        Err(BootError::Memory) => return Err(Failure::NoMemory),
-        Err(BootError::BadConfig) => unreachable!(),
-    };
-    let Ok(replies) = run_trace(alloc, &mut kernel, &trace) else {
-        return Err(Failure::NoMemory);
-    };
-    if writer.write_all(&replies).is_err() {
-        return Err(Failure::Unwritten);
+    if kind == ErrorKind::OutOfMemory {
+        return Outcome::NoMemory;
     }
-    if writer.flush().is_err() {
-        return Err(Failure::Unwritten);
+    match String::from_str(
+        alloc,
+        "error: invalid UTF-8 was detected in one or more arguments\n",
+    ) {
+        Ok(text) => Outcome::BadLine(text),
+        Err(_) => Outcome::NoMemory,
     }
-    Ok(())
 }
 
-/// All that the reader has left, unless that is too long.
-fn read_trace<R: Read + Drop>(alloc: Global, reader: R) -> Result<Vec<u8>, Failure>
-    ensures { IfOk result (λ trace. IfSome (R.remaining reader) (λ bytes. (trace.items ≡ bytes)
-        × (length bytes ≤ most_trace_bytes))) }
+/// Opens the trace and runs it.
+fn run_from(rt: &(impl Files + Input + Print + AllocGlobal), settings: &Settings) -> Outcome
+    requires { is_bootable settings.now.config ≡ true }
+    ensures { IsOfRun result }
 {
-    let mut trace = Vec::new(alloc);
-    if let Err(error) = reader.take(MOST_TRACE_BYTES + 1).read_to_end(&mut trace) {
-        return match error.kind() {
-            ErrorKind::OutOfMemory => Err(Failure::NoMemory),
-            _ => Err(Failure::Unread),
-        };
+    match &settings.file {
+        None => run_buffered(rt, settings, rt.reader()),
+        Some(path) => match File::open(rt, path.as_str()) {
+            Ok(file) => run_buffered(rt, settings, file),
+            Err(error) if error.kind() == ErrorKind::OutOfMemory => Outcome::NoMemory,
+            Err(_) => Outcome::Unreadable,
+        },
     }
-    if trace.len() as u64 > MOST_TRACE_BYTES {
-        return Err(Failure::Unread);
-    }
-    Ok(trace)
+}
+
+/// Runs the trace of this reader into standard output.
+fn run_buffered<R: Read + Drop>(
+    rt: &(impl Print + AllocGlobal),
+    settings: &Settings,
+    reader: R,
+) -> Outcome
+    requires { is_bootable settings.now.config ≡ true }
+    ensures { IsOfRun result }
+{
+    let alloc = rt.alloc();
+    let Ok(reader) = BufReader::with_capacity(alloc, BUFFER_BYTES, reader) else {
+        return Outcome::NoMemory;
+    };
+    let Ok(writer) = BufWriter::with_capacity(alloc, BUFFER_BYTES, io::writer(rt)) else {
+        return Outcome::NoMemory;
+    };
+    run(alloc, settings, reader, &mut WriterDrain::new(writer))
+}
+
+/// Tells the outcome: help on standard output, a refusal on standard error.
+fn tell(rt: &(impl Print + Eprint), outcome: &Outcome) {
+    let _unheard = match outcome {
+        Outcome::Help(text) => print!(rt; "{text}"),
+        Outcome::BadLine(text) => eprint!(rt; "{text}"),
+        other => match other.text() {
+            Some(text) => eprintln!(rt; "{text}"),
+            None => Ok(()),
+        },
+    };
 }

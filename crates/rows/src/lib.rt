@@ -168,7 +168,8 @@ pub static ROWS: [Row; 23] = [
 #[cfg(test)]
 mod tests {
     use super::*;
-    use kernel_core::{BootError, Config, Kernel, run_trace};
+    use kernel_core::{BootError, Config, Kernel};
+    use replay_core::{Drain, Feed, ReaderFeed, Stopped, WriterDrain, replay};
     use std::alloc::{AllocError, Global};
     use std::test::Fail;
 
@@ -178,17 +179,114 @@ mod tests {
         tenants: 2,
     };
 
+    /// Gives a slice in pieces of at most `piece` bytes.
+    #[derive(Drop)]
+    struct PieceFeed<'a> {
+        rest: &'a [u8],
+        piece: usize,
+        ended: bool,
+    }
+
+    impl<'a> Feed for PieceFeed<'a> {
+        ghost use Rattle.std.specs.Prelude.{length, false};
+
+        ghost room_left = { λ s. length s.rest.now };
+
+        ghost has_ended = { λ s. s.ended };
+
+        ghost has_failed = { λ _. false };
+
+        fn pull(&mut self, into: &mut [u8]) -> Result<usize, Stopped> {
+            if self.ended {
+                return Ok(0);
+            }
+            let count = into.len().min(self.piece).min(self.rest.len());
+            into[..count].copy_from_slice(&self.rest[..count]);
+            self.rest = &self.rest[count..];
+            self.ended = count == 0;
+            Ok(count)
+        }
+
+        fn room(&self) -> u64 {
+            self.rest.len() as u64
+        }
+
+        fn ended(&self) -> bool {
+            self.ended
+        }
+
+        fn failed(&self) -> bool {
+            false
+        }
+    }
+
+    /// Takes one byte a push.
+    #[derive(Drop)]
+    struct ByteDrain {
+        taken: Vec<u8>,
+        failed: bool,
+    }
+
+    impl Drain for ByteDrain {
+        ghost has_failed = { λ s. s.failed };
+
+        fn push(&mut self, bytes: &[u8]) -> Result<usize, Stopped> {
+            if self.taken.push(bytes[0]).is_err() {
+                self.failed = true;
+                return Err(Stopped);
+            }
+            Ok(1)
+        }
+
+        fn failed(&self) -> bool {
+            self.failed
+        }
+    }
+
+    /// What the trace writes on this machine.
+    fn run(alloc: Global, kernel: &mut Kernel, trace: &[u8]) -> Result<Vec<u8>, Fail> {
+        let mut output = Vec::new(alloc);
+        let mut feed = ReaderFeed::new(trace);
+        let mut drain = WriterDrain::new(&mut output);
+        replay(kernel, &mut feed, &mut drain, None)?;
+        Ok(output)
+    }
+
     /// What the trace writes on a new machine.
     fn written(alloc: Global, trace: &[u8]) -> Result<Vec<u8>, Fail> {
         let mut kernel = Kernel::boot(alloc, MACHINE)?;
-        Ok(run_trace(alloc, &mut kernel, trace)?)
+        run(alloc, &mut kernel, trace)
+    }
+
+    /// What it writes there when it comes in pieces of at most `piece` bytes.
+    fn written_in_pieces(alloc: Global, trace: &[u8], piece: usize) -> Result<Vec<u8>, Fail> {
+        let mut kernel = Kernel::boot(alloc, MACHINE)?;
+        let mut feed = PieceFeed {
+            rest: trace,
+            piece,
+            ended: false,
+        };
+        let mut drain = ByteDrain {
+            taken: Vec::new(alloc),
+            failed: false,
+        };
+        replay(&mut kernel, &mut feed, &mut drain, None)?;
+        Ok(drain.taken)
     }
 
     #[test]
     fn traces_write_their_rows(rt: HostRuntime) -> Result<(), Fail> {
-        for row in &ROWS {
+        for (number, row) in ROWS.iter().enumerate() {
             let output = written(rt.alloc(), row.trace)?;
-            assert!(rt; output.as_slice() == row.output);
+            assert_eq!(rt; output.as_slice(), row.output, "row {number}");
+            for piece in [1, 2, 3, 7] {
+                let output = written_in_pieces(rt.alloc(), row.trace, piece)?;
+                assert_eq!(rt;
+                    output.as_slice(),
+                    row.output,
+                    "row {number} in pieces of {piece}"
+                );
+            }
         }
         Ok(())
     }
@@ -220,28 +318,33 @@ mod tests {
         Ok(())
     }
 
-    /// A line of so many bytes that asks for a frame, and its end.
-    fn line_of(alloc: Global, bytes: usize, end: &[u8]) -> Result<Vec<u8>, AllocError> {
+    /// A line that asks for a frame, with so many blanks, and its end.
+    fn padded(alloc: Global, blanks: usize, end: &[u8]) -> Result<Vec<u8>, AllocError> {
         let mut line = b"0 alloc 0".as_slice().to_vec(alloc)?;
-        for _ in 9..bytes {
+        for _ in 0..blanks {
             line.push(b' ')?;
         }
         line.extend_from_slice(end)?;
         Ok(line)
     }
 
-    /// A line has at most 255 bytes, not counting how it ends.
+    /// A line has at most 255 bytes, not counting how it ends; a longer one is one fault.
     #[test]
     fn longer_lines_are_faults(rt: HostRuntime) -> Result<(), Fail> {
         let ends: [&[u8]; 4] = [b"\n", b"", b"\r\n", b"\r"];
         for end in &ends {
-            let line = line_of(rt.alloc(), 255, end)?;
-            let output = written(rt.alloc(), &line)?;
-            assert!(rt; output.as_slice() == b"0> refused 1 NoFrames\n".as_slice());
-            let line = line_of(rt.alloc(), 256, end)?;
-            let output = written(rt.alloc(), &line)?;
-            assert!(rt; output.as_slice() == b"!> fault Long\n".as_slice());
+            for (blanks, want) in [
+                (246, b"0> refused 1 NoFrames\n".as_slice()),
+                (247, b"!> fault Long\n".as_slice()),
+            ] {
+                let line = padded(rt.alloc(), blanks, end)?;
+                let output = written(rt.alloc(), &line)?;
+                assert_eq!(rt; output.as_slice(), want, "{blanks} blanks, then {end:?}");
+            }
         }
+        let line = vec![in rt.alloc(); b'a'; 100_000]?;
+        let output = written(rt.alloc(), &line)?;
+        assert_eq!(rt; output.as_slice(), b"!> fault Long\n".as_slice());
         Ok(())
     }
 
@@ -267,7 +370,7 @@ mod tests {
             (b"admin grant 0\n", 0, 0, false),
         ];
         for (trace, first, last, marked) in steps {
-            let _replies = run_trace(rt.alloc(), &mut kernel, trace)?;
+            let _replies = run(rt.alloc(), &mut kernel, trace)?;
             assert_eq!(rt; kernel.superblocks(), 2);
             assert_eq!(rt; kernel.machine_bytes(0)[0], first);
             assert_eq!(rt; kernel.machine_bytes(0)[4095], last);

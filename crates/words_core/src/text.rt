@@ -15,7 +15,8 @@ type Line = ArrayVec<u8, MOST_REPLY_BYTES>;
 /// The number of lines of a reply.
 #[tactic(auto, using(crate::proofs::TextLemmas::table_rows))]
 pub fn rows(reply: &Reply) -> usize
-    ensures { result ≡ length (lines_of reply.now) }
+    ensures count { result ≡ length (lines_of reply.now) }
+    ensures few { result ≤ 65 }
 {
     match &reply.body {
         Body::Owners(owners) => 1 + owners.len(),

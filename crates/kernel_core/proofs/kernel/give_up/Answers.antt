@@ -1,7 +1,7 @@
 use Rattle.std.proofs.Common.{◌≡◌, Some, length, sym, ap, ◌∙◌, subst, arith}
 use Rattle.space_core.specs.Content.{owner_at, superblock_at}
 use Rattle.kernel_core.proofs.Owners.{same_some}
-use Rattle.kernel_core.proofs.GivingUp.{IsGivingUp, giving_passes, giving_takes, giving_ends}
+use Rattle.kernel_core.proofs.GivingUp.{IsGivingUp, giving_takes, giving_ends}
 use Rattle.kernel_core.proofs.kernel.give_up.Goals as goal
 
 pub loop-m-preserved : goal.loop-m-preserved

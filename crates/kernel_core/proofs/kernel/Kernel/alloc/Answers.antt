@@ -1,4 +1,4 @@
-use Rattle.std.proofs.Common.{◌≡◌, ◌<◌, arith, sym, subst}
+use Rattle.std.proofs.Common.{◌<◌, arith, sym, subst}
 use Rattle.std.proofs.lemmas.Bool.{lt-ltb}
 use Rattle.kernel_core.specs.Parts.{Parts}
 use Rattle.kernel_core.proofs.Pages.{alloc_large, alloc_without, alloc_done}

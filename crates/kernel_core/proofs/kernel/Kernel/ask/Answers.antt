@@ -1,4 +1,4 @@
-use Rattle.std.proofs.Common.{◌≡◌, ◌<◌, sym, subst, arith}
+use Rattle.std.proofs.Common.{◌<◌, subst, arith}
 use Rattle.kernel_core.specs.Parts.{Parts}
 use Rattle.kernel_core.proofs.Worlds.{unknown_tenant, steps_asked}
 use Rattle.kernel_core.proofs.kernel.Kernel.ask.Goals as goal
@@ -10,4 +10,4 @@ pub returns : goal.returns
 returns c =
     let inside : c.args.tenant < c.self.inside.tenants = omega arith in
     let known : c.args.tenant < c.args.self.now.tenants = subst (λ (k : Parts). c.args.tenant < k.tenants) c.self.view_is inside in
-    steps_asked _ _ c.args.tenant c.args.command.now _ known c.run-body.ensures
+    steps_asked _ _ c.args.tenant c.args.command.now _ known c.run.ensures

@@ -1,4 +1,4 @@
-use Rattle.std.proofs.Common.{◌≡◌, refl, sym, ◌∙◌}
+use Rattle.std.proofs.Common.{refl, sym, ◌∙◌}
 use Rattle.kernel_core.specs.Parts.{opening_parts}
 use Rattle.kernel_core.proofs.Opening.{bootable, opening_agrees, opening_shows}
 use Rattle.kernel_core.proofs.kernel.Kernel.boot.Goals as goal

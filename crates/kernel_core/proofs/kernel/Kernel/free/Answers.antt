@@ -1,4 +1,4 @@
-use Rattle.std.proofs.Common.{◌≡◌, ◌<◌, sym, subst}
+use Rattle.std.proofs.Common.{◌<◌, sym, subst}
 use Rattle.kernel_core.specs.Parts.{Parts}
 use Rattle.kernel_core.proofs.Pages.{free_refused, free_done}
 use Rattle.kernel_core.proofs.kernel.Kernel.free.Goals as goal

@@ -1,6 +1,6 @@
-use Rattle.std.proofs.Common.{◌≡◌, ◌<◌, arith}
+use Rattle.std.proofs.Common.{arith}
 use Rattle.kernel_core.proofs.Owners.{unowned_at}
-use Rattle.kernel_core.proofs.Granting.{IsGrantable, unused, steps_granted, agree_granted, grant_without_tenant, grant_without_superblock}
+use Rattle.kernel_core.proofs.Granting.{unused, steps_granted, grant_without_tenant, grant_without_superblock}
 use Rattle.kernel_core.proofs.kernel.Kernel.grant.Goals as goal
 
 pub returns-then-tenant-from : goal.returns-then-tenant-from

@@ -1,4 +1,4 @@
-use Rattle.std.proofs.Common.{◌≡◌, ◌<◌, ◌≤◌, ◌∙◌, is_some, true, sym, ap, subst, arith}
+use Rattle.std.proofs.Common.{◌<◌, sym, subst, arith}
 use Rattle.buddy_core.specs.Content.{holding_of, IsSoundHolding}
 use Rattle.space_core.specs.Laws.{IsRead}
 use Rattle.kernel_core.specs.Parts.{Parts, IsInReach}

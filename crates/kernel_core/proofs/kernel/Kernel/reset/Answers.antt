@@ -1,4 +1,4 @@
-use Rattle.std.proofs.Common.{◌≡◌, ◌<◌, arith}
+use Rattle.std.proofs.Common.{arith}
 use Rattle.kernel_core.proofs.Resetting.{agree_reset, steps_reset, reset_without_tenant}
 use Rattle.kernel_core.proofs.kernel.Kernel.reset.Goals as goal
 

@@ -1,4 +1,4 @@
-use Rattle.std.proofs.Common.{◌≡◌, ◌≤◌, ◌∙◌, ℕ, Option, Some, None, sym, arith}
+use Rattle.std.proofs.Common.{◌∙◌, sym, arith}
 use Rattle.kernel_core.proofs.Rising.{some_none}
 use Rattle.kernel_core.proofs.Holdings.{no_row}
 use Rattle.kernel_core.proofs.kernel.Kernel.superblock_of.Goals as goal

@@ -1,4 +1,4 @@
-use Rattle.std.proofs.Common.{◌≡◌, ◌<◌, Some, sym, ◌∙◌, arith}
+use Rattle.std.proofs.Common.{◌≡◌, sym, ◌∙◌, arith}
 use Rattle.kernel_core.specs.Parts.{Parts}
 use Rattle.kernel_core.proofs.Owners.{same_some}
 use Rattle.kernel_core.proofs.TakingBack.{IsIdle, take_without_tenant, take_without_slot, take_busy, steps_taken, agree_taken}

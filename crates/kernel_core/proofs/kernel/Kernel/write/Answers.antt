@@ -1,4 +1,4 @@
-use Rattle.std.proofs.Common.{◌≡◌, ◌<◌, length, true, sym, ap, ◌∙◌, subst, arith}
+use Rattle.std.proofs.Common.{◌≡◌, ◌<◌, length, sym, ap, ◌∙◌, subst, arith}
 use Rattle.buddy_core.specs.Content.{holding_of, IsSoundHolding}
 use Rattle.kernel_core.specs.Parts.{Parts, IsInReach}
 use Rattle.kernel_core.proofs.Worlds.{false_is}

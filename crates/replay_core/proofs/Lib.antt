@@ -1,0 +1,7 @@
+pub mod LineLemmas
+pub mod MoveLemmas
+pub mod OwnLemmas
+pub mod PendingLemmas
+pub mod PushLemmas
+pub mod Reading
+pub mod RunLemmas

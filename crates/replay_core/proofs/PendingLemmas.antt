@@ -1,0 +1,72 @@
+-- The first 256 bytes of a line tell all that is asked of it.
+use Rattle.std.proofs.Common.{◌≡◌, ℕ, ◌+◌, ◌-◌, ◌<◌, ◌≤◌, inl, inr, Bool, true, false, List, ◌++◌, Result, Ok, Err, OnOk, length, take, refl, sym, ap, ◌∙◌, arith}
+use Rattle.std.specs.Prelude.{nat_lt, nat_eq, slice_index, if◌then◌else◌}
+use Rattle.std.specs.Result.{is_ok}
+use Rattle.std.specs.Str.Lines.{strip_carriage_return}
+use Rattle.words_core.specs.declared.event.LineFault.TheVariants.{Long}
+use Rattle.words_core.specs.Grammar.{reading_of}
+use Rattle.std.proofs.lemmas.Bool.Decides.{nat_tests}
+use Rattle.std.proofs.lemmas.Bool.{cases_lt, ltb-true, ltb-false, lt-ltb, le-ltb}
+use Rattle.std.proofs.lemmas.List.{append-nil, take_all, take-append-le, length-take, length-append}
+use Rattle.std.proofs.Math.Seq.{take-append-add}
+
+-- a line of at most 256 bytes is its own beginning
+pub take-short : (line : List ℕ) → length line ≤ 256 → take 256 line ≡ line
+take-short line few = take_all 256 line few
+
+pub take-more : (line bytes : List ℕ) (room : ℕ) → room ≡ 256 - length (take 256 line) → take 256 (line ++ bytes) ≡ take 256 line ++ take room bytes
+take-more line bytes room is = elim (cases_lt 256 (length line)) [
+  | inl over ↦
+      let len : length (take 256 line) ≡ 256 = omega (arith, length-take 256 line) in
+      let none : room ≡ 0 = omega arith in
+      take-append-le 256 line bytes (omega arith) ∙ sym (ap (λ n. take 256 line ++ take n bytes) none ∙ append-nil (take 256 line))
+  | inr within ↦
+      let short = take-short line within in
+      let len = ap length short in
+      let e : 256 ≡ length line + room = omega arith in
+      ap (λ n. take n (line ++ bytes)) e ∙ take-append-add line bytes room ∙ ap (λ xs. xs ++ take room bytes) (sym short)
+]
+
+-- 256 bytes that have room for more bytes hold the longer line
+pub holds_fitting : (line bytes : List ℕ) → length bytes ≤ 256 - length (take 256 line)
+    → (take 256 line ++ bytes ≡ take 256 (line ++ bytes)) × (nat_lt 256 (length line) ≡ nat_lt 256 (length (line ++ bytes)))
+holds_fitting line bytes fits =
+    let room : ℕ = 256 - length (take 256 line) in
+    let len = length-append line bytes in
+    let beginning = length-take 256 line in (
+      sym (take-more line bytes room refl ∙ ap (λ xs. take 256 line ++ xs) (take_all room bytes fits)),
+      elim (cases_lt 256 (length line)) [
+        | inl over ↦ lt-ltb 256 (length line) over ∙ sym (lt-ltb 256 (length (line ++ bytes)) (omega arith))
+        | inr within ↦ le-ltb 256 (length line) within ∙ sym (le-ltb 256 (length (line ++ bytes)) (omega arith))
+      ],
+    )
+
+-- and else their beginning, with the mark
+pub holds_overflowing : (line bytes : List ℕ) → 256 - length (take 256 line) < length bytes
+    → (take 256 line ++ take (256 - length (take 256 line)) bytes ≡ take 256 (line ++ bytes)) × (true ≡ nat_lt 256 (length (line ++ bytes)))
+holds_overflowing line bytes over =
+    let len = length-append line bytes in
+    let beginning = length-take 256 line in
+    (sym (take-more line bytes (256 - length (take 256 line)) refl), sym (lt-ltb 256 (length (line ++ bytes)) (omega arith)))
+
+pub on_ok : {T E P : Type 0} (r : Result T E) → is_ok r ≡ true → OnOk r P → P
+on_ok (Ok x) is h = h
+on_ok (Err e) is h = cc
+
+pub longer_true : (line : List ℕ) → nat_lt 256 (length line) ≡ true → 256 < length line
+longer_true line h = ltb-true 256 (length line) h
+
+pub longer_false : (line : List ℕ) → nat_lt 256 (length line) ≡ false → length line ≤ 256
+longer_false line h = ltb-false 256 (length line) h
+
+stripped : (test : Bool) (line : List ℕ) → 256 < length line → 255 < length (if test then take (length line - 1) line else line)
+stripped true line h = omega (arith, length-take (length line - 1) line)
+stripped false line h = omega arith
+
+reading_of-long : (line : List ℕ) → 255 < length (strip_carriage_return line) → reading_of line ≡ Err Long
+unfolding reading_of
+reading_of-long line long = grind (arith, nat_tests)
+
+-- a line of more than 256 bytes is too long, whatever its end is
+pub overlong : (line : List ℕ) → 256 < length line → reading_of line ≡ Err Long
+overlong line h = reading_of-long line (stripped (nat_eq (slice_index line (length line - 1)) 13) line h)

@@ -1,0 +1,109 @@
+-- Bytes offered one part after the other.
+use Rattle.std.proofs.Common.{◌≡◌, ℕ, zero, suc, ◌+◌, ◌<◌, ◌≤◌, Bool, true, false, List, [], ◌∷◌, ◌++◌, Option, Some, Result, Ok, Err, length, take, drop, refl, sym, ap, ◌∙◌, arith, add-one, append_assoc, length-append, take-append-drop}
+use Rattle.std.proofs.lemmas.List.{append-nil, length-take-le}
+use Rattle.std.specs.List.{concat, slice_get}
+use Rattle.std.specs.Io.KnownBytes.{Appends, Keeps}
+use Rattle.replay_core.specs.declared.feed.Stopped.{Stopped}
+use Rattle.std.specs.Result.{is_err}
+use Rattle.std.specs.Prelude.{nat_eq}
+use Rattle.std.proofs.lemmas.Bool.Decides.{nat_tests}
+use Rattle.replay_core.specs.Pushes.{HasPushed, IsWholeAtOk}
+use Rattle.replay_core.proofs.MoveLemmas.{appends_nothing, appends_more, appends_kept}
+
+-- of the text all was taken and counted but the rest, which is to be offered
+pub record HasPushedBut (old new : Option (List ℕ)) (text rest : List ℕ) (written written' : ℕ) : Type 0 where
+  pub taken : List ℕ
+  pub split : text ≡ taken ++ rest
+  pub appended : Appends old new taken
+  pub counted : written' ≡ written + length taken
+
+pub nothing_pushed : (known : Option (List ℕ)) (text : List ℕ) (written : ℕ) → HasPushedBut known known text text written written
+nothing_pushed known text written = record { taken = []; split = refl; appended = appends_nothing known; counted = omega arith }
+
+-- the next part was taken
+pub pushed_more : (old now new : Option (List ℕ)) (text rest part after : List ℕ) (written written' written'' : ℕ)
+    → HasPushedBut old now text rest written written' → rest ≡ part ++ after → Appends now new part → written'' ≡ written' + length part
+    → HasPushedBut old new text after written written''
+pushed_more old now new text rest part after written written' written'' had cut appended counted = record {
+  taken = had.taken ++ part;
+  split = had.split ∙ ap (λ xs. had.taken ++ xs) cut ∙ sym (append_assoc had.taken part after);
+  appended = appends_more old now new had.taken part had.appended appended;
+  counted = omega (arith, counted, had.counted, length-append had.taken part);
+}
+
+pub pushed_count : (old now new : Option (List ℕ)) (text rest : List ℕ) (count written written' written'' : ℕ)
+    → HasPushedBut old now text rest written written' → count ≤ length rest → Appends now new (take count rest) → written'' ≡ written' + count
+    → HasPushedBut old new text (drop count rest) written written''
+pushed_count old now new text rest count written written' written'' had within appended counted =
+    pushed_more old now new text rest (take count rest) (drop count rest) written written' written'' had
+    (sym (take-append-drop count rest)) appended (omega (arith, counted, length-take-le count rest within))
+
+pub pushed_part : (old now new : Option (List ℕ)) (text rest line after : List ℕ) (written written' written'' : ℕ)
+    → HasPushedBut old now text rest written written' → rest ≡ line ++ after → HasPushed now new line written' written'' (Ok tt)
+    → HasPushedBut old new text after written written''
+pushed_part old now new text rest line after written written' written'' had cut more =
+    let whole : line ≡ more.taken = more.split ∙ ap (λ xs. more.taken ++ xs) more.whole ∙ append-nil more.taken in
+    pushed_more old now new text rest more.taken after written written' written'' had (cut ∙ ap (λ xs. xs ++ after) whole) more.appended more.counted
+
+-- nothing is left
+pub pushed_all : (old new : Option (List ℕ)) (text rest : List ℕ) (written written' : ℕ)
+    → HasPushedBut old new text rest written written' → rest ≡ [] → HasPushed old new text written written' (Ok tt)
+pushed_all old new text rest written written' had none = record {
+  taken = had.taken;
+  rest = rest;
+  split = had.split;
+  appended = had.appended;
+  counted = had.counted;
+  whole = none;
+}
+
+-- a test for emptiness failed
+pub some_left : (bytes : List ℕ) (test : Bool) → test ≡ nat_eq (length bytes) 0 → test ≡ false → 0 < length bytes
+some_left bytes test is full = grind (arith, nat_tests)
+
+part_at_err : (result : Result (Unit {0}) Stopped) (rest : List ℕ) → is_err result ≡ true → 0 < length rest → IsWholeAtOk result rest
+part_at_err (Ok x) rest failed some = cc
+part_at_err (Err e) rest failed some = some
+
+-- the drain failed at the rest
+pub pushed_to : (old now new : Option (List ℕ)) (text rest : List ℕ) (written written' : ℕ) (result : Result (Unit {0}) Stopped) → is_err result ≡ true
+    → HasPushedBut old now text rest written written' → Keeps now new → 0 < length rest → HasPushed old new text written written' result
+pushed_to old now new text rest written written' result failed had kept some = record {
+  taken = had.taken;
+  rest = rest;
+  split = had.split;
+  appended = appends_kept old now new had.taken had.appended kept;
+  counted = had.counted;
+  whole = part_at_err result rest failed some;
+}
+
+-- the drain failed within the next part
+pub pushed_into : (old now new : Option (List ℕ)) (text rest line after : List ℕ) (written written' written'' : ℕ) (stopped : Stopped)
+    (result : Result (Unit {0}) Stopped) → is_err result ≡ true
+    → HasPushedBut old now text rest written written' → rest ≡ line ++ after → HasPushed now new line written' written'' (Err stopped)
+    → HasPushed old new text written written'' result
+pushed_into old now new text rest line after written written' written'' stopped result failed had cut more = record {
+  taken = had.taken ++ more.taken;
+  rest = more.rest ++ after;
+  split = had.split
+      ∙ ap (λ xs. had.taken ++ xs) (cut ∙ ap (λ xs. xs ++ after) more.split ∙ append_assoc more.taken more.rest after)
+      ∙ sym (append_assoc had.taken more.taken (more.rest ++ after));
+  appended = appends_more old now new had.taken more.taken had.appended more.appended;
+  counted = omega (arith, more.counted, had.counted, length-append had.taken more.taken);
+  whole = part_at_err result (more.rest ++ after) failed (omega (arith, more.whole, length-append more.rest after));
+}
+
+-- no more is counted than the text has
+pub pushed_few : (old new : Option (List ℕ)) (text : List ℕ) (written written' : ℕ) (result : Result (Unit {0}) Stopped)
+    → HasPushed old new text written written' result → written' ≤ written + length text
+pushed_few old new text written written' result pushed =
+    omega (arith, pushed.counted, ap length pushed.split, length-append pushed.taken pushed.rest)
+
+row_here : (rows : List (List ℕ)) (i : ℕ) (line : List ℕ) → slice_get rows i ≡ Some line → concat (drop i rows) ≡ line ++ concat (drop (suc i) rows)
+row_here [] i line h = cc
+row_here (row ∷ rows) zero line h = let same : row ≡ line = cc in ap (λ xs. xs ++ concat rows) same
+row_here (row ∷ rows) (suc i) line h = row_here rows i line h
+
+-- the rows from here on begin with this one
+pub row_next : (rows : List (List ℕ)) (i : ℕ) (line : List ℕ) → slice_get rows i ≡ Some line → concat (drop i rows) ≡ line ++ concat (drop (i + 1) rows)
+row_next rows i line h = rw add-one (row_here rows i line h)

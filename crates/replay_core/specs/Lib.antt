@@ -1,0 +1,5 @@
+pub mod Moves
+pub mod Pending
+pub mod Pushes
+pub mod Runs
+pub mod Standing

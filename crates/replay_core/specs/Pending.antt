@@ -1,0 +1,8 @@
+-- The beginning of a line whose end has not come.
+use Rattle.std.specs.Prelude.{◌≡◌, ℕ, nat_lt, List, length, take}
+use Rattle.replay_core.specs.declared.pending.Pending.{Pending}
+
+-- 256 bytes of the line are enough to tell that it is too long
+pub record Holds (line : List ℕ) (pending : Pending) : Type 0 where
+  pub front : pending.held.items ≡ take 256 line
+  pub longer : pending.longer ≡ nat_lt 256 (length line)

@@ -1,0 +1,17 @@
+-- What becomes of bytes that are offered to a drain.
+use Rattle.std.specs.Prelude.{◌≡◌, ℕ, ◌+◌, ◌<◌, List, [], ◌++◌, length, Option, Result, MatchResult}
+use Rattle.std.specs.Io.KnownBytes.{Appends}
+use Rattle.replay_core.specs.declared.feed.Stopped.{Stopped}
+
+-- all of it was taken, or a beginning of it that is not the whole
+abbrev pub IsWholeAtOk : Result (Unit {0}) Stopped → List ℕ → Type 0
+IsWholeAtOk result rest = MatchResult result (λ _. rest ≡ []) (λ _. 0 < length rest)
+
+-- of the text these bytes were taken, and counted
+pub record HasPushed (old new : Option (List ℕ)) (text : List ℕ) (written written' : ℕ) (result : Result (Unit {0}) Stopped) : Type 0 where
+  pub taken : List ℕ
+  pub rest : List ℕ
+  pub split : text ≡ taken ++ rest
+  pub appended : Appends old new taken
+  pub counted : written' ≡ written + length taken
+  pub whole : IsWholeAtOk result rest

@@ -1,0 +1,24 @@
+ghost use Rattle.std.specs.Prelude.{◌≡◌, ℕ, ◌<◌, ◌≤◌, Bool, false, List, Option, None, length, IfOk, is_err};
+ghost use Rattle.std.specs.Io.KnownBytes.{WriteAppends};
+
+use crate::feed::Stopped;
+
+/// Where replies go, a piece at a time.
+pub trait Drain {
+    // The bytes that it has taken, where they are known.
+    ghost contents: { Self → Option (List ℕ) } = { λ _. None };
+
+    ghost has_failed: { Self → Bool };
+
+    /// Offers bytes, and answers how many of the first were taken, at least one.
+    fn push(&mut self, bytes: &[u8]) -> Result<usize, Stopped>
+        requires some { 0 < length bytes.now }
+        requires fine { has_failed self.old ≡ false }
+        ensures count { IfOk result (λ n. (0 < n) × (n ≤ length bytes.now)) }
+        ensures bytes { WriteAppends (contents self.old) (contents self.new) result bytes.now }
+        ensures failed { has_failed self.new ≡ is_err result };
+
+    /// A push has failed.
+    fn failed(&self) -> bool
+        ensures { result ≡ has_failed self.now };
+}

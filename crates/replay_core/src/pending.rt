@@ -1,0 +1,81 @@
+ghost use Rattle.std.specs.Prelude.{◌≡◌, ℕ, ◌++◌, List, [], length, ◌==◌};
+ghost use Rattle.words_core.specs.Grammar.{reading_of};
+ghost use Rattle.replay_core.specs.Pending.{Holds};
+
+use arrayvec::ArrayVec;
+use words_core::{Event, LineFault, read_line};
+
+/// The beginning of a line whose end has not come: its first 256 bytes, and whether it has more.
+#[derive(Drop)]
+pub struct Pending {
+    pub held: ArrayVec<u8, 256>,
+    pub longer: bool,
+}
+
+impl Pending {
+    /// Nothing of a line.
+    pub fn new() -> Self
+        ensures { Holds [] result }
+    {
+        Pending {
+            held: ArrayVec::new(),
+            longer: false,
+        }
+    }
+
+    /// No byte has come.
+    pub fn is_empty(&self) -> bool
+        ensures { (line : List ℕ) → Holds line self.now → result ≡ (length line == 0) }
+    {
+        self.held.is_empty()
+    }
+
+    /// The line goes on with these bytes.
+    pub fn add(&mut self, bytes: &[u8])
+        ensures { (line : List ℕ) → Holds line self.old → Holds (line ++ bytes.now) self.new }
+    {
+        let room = self.held.capacity() - self.held.len();
+        if bytes.len() <= room {
+            let taken = self.held.try_extend_from_slice(bytes);
+            prove!(taken.is_ok());
+        } else {
+            let taken = self.held.try_extend_from_slice(&bytes[..room]);
+            prove!(taken.is_ok());
+            self.longer = true;
+        }
+    }
+
+    /// The line that has come, which is too long where it has more than is held.
+    pub fn reading(&self) -> Result<Option<Event>, LineFault>
+        ensures { (line : List ℕ) → Holds line self.now → result ≡ reading_of line }
+    {
+        if self.longer {
+            Err(LineFault::Long)
+        } else {
+            read_line(self.held.as_slice())
+        }
+    }
+
+    /// The line ends with these bytes: its reading. The next line begins.
+    pub fn end_with(&mut self, bytes: &[u8]) -> Result<Option<Event>, LineFault>
+        ensures reading { (line : List ℕ) → Holds line self.old → result ≡ reading_of (line ++ bytes.now) }
+        ensures cleared { (line : List ℕ) → Holds line self.old → Holds [] self.new }
+    {
+        if self.is_empty() {
+            // It lies whole in these bytes: nothing is copied.
+            return read_line(bytes);
+        }
+        self.add(bytes);
+        let reading = self.reading();
+        self.clear();
+        reading
+    }
+
+    /// The next line begins.
+    fn clear(&mut self)
+        ensures { Holds [] self.new }
+    {
+        self.held.clear();
+        self.longer = false;
+    }
+}

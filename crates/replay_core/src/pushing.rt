@@ -1,0 +1,98 @@
+//! Replies into a drain.
+
+ghost use Rattle.std.specs.Prelude.{◌≡◌, ◌+◌, ◌<◌, ◌≤◌, false, is_err, length};
+ghost use Rattle.words_core.specs.Texts.{text_of};
+ghost use Rattle.replay_core.specs.Pushes.{HasPushed};
+ghost use Rattle.replay_core.specs.Runs.{is_shown, shown_text};
+
+use crate::drain::Drain;
+use crate::feed::Stopped;
+use arrayvec::ArrayVec;
+use words_core::{Addressee, Body, LineFault, Reply, rows, write_line};
+
+/// Room for a reply and for one line of it, used again for each line of the trace: a reply has room for the owners of all
+/// superblocks, and is better not moved.
+#[derive(Drop)]
+pub struct Scratch {
+    pub reply: Reply,
+    pub line: ArrayVec<u8, 256>,
+}
+
+impl Scratch {
+    pub fn new() -> Self {
+        Scratch {
+            reply: Reply {
+                addressee: Addressee::Nobody,
+                body: Body::Fault(LineFault::Unknown),
+            },
+            line: ArrayVec::new(),
+        }
+    }
+}
+
+/// The reply is to be shown: all are, or those of one tenant.
+fn is_shown(only: Option<u8>, addressee: Addressee) -> bool
+    ensures { result ≡ is_shown only addressee }
+{
+    match (only, addressee) {
+        (None, _) => true,
+        (Some(tenant), Addressee::Tenant(named)) => named == tenant,
+        (Some(_), _) => false,
+    }
+}
+
+/// Pushes the reply that stands there, if it is to be shown.
+pub fn show<D: Drain>(
+    scratch: &mut Scratch,
+    only: Option<u8>,
+    drain: &mut D,
+    written: &mut u128,
+) -> Result<(), Stopped>
+    requires fine { D.has_failed drain.old ≡ false }
+    requires room { written.old + 16640 < 340282366920938463463374607431768211456 }
+    ensures pushed { HasPushed (D.contents drain.old) (D.contents drain.new) (shown_text only scratch.old.reply) written.old written.new result }
+    ensures few { written.new ≤ written.old + 16640 }
+    ensures failed { D.has_failed drain.new ≡ is_err result }
+{
+    if is_shown(only, scratch.reply.addressee) {
+        push_reply(&scratch.reply, &mut scratch.line, drain, written)
+    } else {
+        Ok(())
+    }
+}
+
+/// Pushes the lines of a reply, each written over `line`.
+fn push_reply<D: Drain>(
+    reply: &Reply,
+    line: &mut ArrayVec<u8, 256>,
+    drain: &mut D,
+    written: &mut u128,
+) -> Result<(), Stopped>
+    requires fine { D.has_failed drain.old ≡ false }
+    requires room { written.old + 16640 < 340282366920938463463374607431768211456 }
+    ensures pushed { HasPushed (D.contents drain.old) (D.contents drain.new) (text_of reply.now) written.old written.new result }
+    ensures few { written.new ≤ written.old + 16640 }
+    ensures failed { D.has_failed drain.new ≡ is_err result }
+{
+    for row in 0..rows(reply) {
+        write_line(reply, row, line);
+        push_all(line.as_slice(), drain, written)?;
+    }
+    Ok(())
+}
+
+/// Pushes all of the bytes, the rest again after a push that took less, and counts those that were taken.
+fn push_all<D: Drain>(bytes: &[u8], drain: &mut D, written: &mut u128) -> Result<(), Stopped>
+    requires fine { D.has_failed drain.old ≡ false }
+    requires room { written.old + length bytes.now < 340282366920938463463374607431768211456 }
+    ensures pushed { HasPushed (D.contents drain.old) (D.contents drain.new) bytes.now written.old written.new result }
+    ensures failed { D.has_failed drain.new ≡ is_err result }
+{
+    let mut rest = bytes;
+    while !rest.is_empty() {
+        let count = drain.push(rest)?;
+        *written += count as u128;
+        rest = &rest[count..];
+    }
+    Ok(())
+}

@@ -1,0 +1,184 @@
+//! The replay of a trace.
+
+ghost use Rattle.std.specs.Prelude.{◌≡◌, ℕ, ◌+◌, ◌<◌, ◌≤◌, ◌==◌, false, List, [], Option, length, position, is_err, IfSome, OnOk, MatchResult};
+ghost use Rattle.std.specs.Io.KnownBytes.{Consumes, Appends};
+ghost use Rattle.kernel_core.specs.Parts.{Parts};
+ghost use Rattle.replay_core.specs.Runs.{Replays, HasOwnLines, IsDone, NamesFailed};
+ghost use Rattle.replay_core.specs.Standing.{IsBounded, HasAnswered, Stands, HasStopped};
+
+use crate::drain::Drain;
+use crate::feed::{Feed, Stopped};
+use crate::pending::Pending;
+use crate::pushing::{Scratch, show};
+use kernel_core::{Kernel, laws};
+use thiserror::Error;
+use words_core::{Addressee, Body, Event, LineFault};
+
+/// How many bytes are asked for in one pull.
+const PIECE_BYTES: usize = 4096;
+
+/// What a replay has done so far.
+#[derive(Clone, Copy, Debug, Default, PartialEq, Eq)]
+pub struct Tally {
+    /// Lines run, blank ones and comments too.
+    pub lines: u64,
+    /// Among them those that were events.
+    pub events: u64,
+    /// Among them those that were faulty.
+    pub faults: u64,
+    /// Bytes pushed.
+    pub written: u128,
+}
+
+/// Which end failed, and what had been done.
+#[derive(Clone, Copy, Debug, PartialEq, Eq, Drop, Error)]
+pub enum ReplayError {
+    /// The feed: all lines that ended in LF have been run and answered in full, and the unfinished one has not been run.
+    #[error("the trace could not be read")]
+    Feed(Tally),
+    /// The drain: a beginning of the replies was pushed, and the kernel stands after the line whose reply was cut.
+    #[error("the replies could not be written")]
+    Drain(Tally),
+}
+
+/// Runs the trace that the feed gives on the kernel, and pushes the replies into the drain: with `only` those to that
+/// tenant alone, else all.
+///
+/// Lines are cut at LF wherever the pieces end, and a last line needs none. Each is answered as soon as it has come.
+/// Allocates nothing.
+pub fn replay<F: Feed, D: Drain>(
+    kernel: &mut Kernel,
+    feed: &mut F,
+    drain: &mut D,
+    only: Option<u8>,
+) -> Result<Tally, ReplayError>
+    requires feed_fine { F.has_failed feed.old ≡ false }
+    requires drain_fine { D.has_failed drain.old ≡ false }
+    // What was given and taken during the call, and how they hang together, whichever world the kernel showed. Where the feed
+    // does not tell its bytes, how many it gave is known.
+    ensures ran { (given : List ℕ) × (taken : List ℕ)
+        × Consumes (F.remaining feed.old) (F.remaining feed.new) given
+        × Appends (D.contents drain.old) (D.contents drain.new) taken
+        × Replays only kernel.old kernel.new given taken result
+        × OnOk result (HasOwnLines only kernel.old given taken)
+        × (F.room_left feed.new + length given ≡ F.room_left feed.old) }
+    ensures ended { IsDone result (F.has_ended feed.new) }
+    ensures failed { NamesFailed result (F.has_failed feed.new) (D.has_failed drain.new) }
+{
+    laws::own_lines();
+    laws::own_run();
+    // The texts of tenants' numbers, and the counts: each line has a byte at least.
+    let _tenants = kernel.tenants();
+    let _room = feed.room();
+    let mut tally = Tally::default();
+    let mut pending = Pending::new();
+    let mut scratch = Scratch::new();
+    let mut piece = [0; PIECE_BYTES];
+    'pulls: loop {
+        let Ok(count) = feed.pull(&mut piece) else {
+            return Err(ReplayError::Feed(tally));
+        };
+        if count == 0 {
+            break;
+        }
+        let ran = run_piece(
+            &piece[..count],
+            &mut pending,
+            kernel,
+            drain,
+            only,
+            &mut tally,
+            &mut scratch,
+        );
+        if ran.is_err() {
+            return Err(ReplayError::Drain(tally));
+        }
+    }
+    if !pending.is_empty() {
+        let answered = answer(
+            pending.reading(),
+            kernel,
+            drain,
+            only,
+            &mut tally,
+            &mut scratch,
+        );
+        if answered.is_err() {
+            return Err(ReplayError::Drain(tally));
+        }
+    }
+    Ok(tally)
+}
+
+/// Runs the lines that end in a piece of the trace; what follows the last of them becomes pending.
+fn run_piece<D: Drain>(
+    piece: &[u8],
+    pending: &mut Pending,
+    kernel: &mut Kernel,
+    drain: &mut D,
+    only: Option<u8>,
+    tally: &mut Tally,
+    scratch: &mut Scratch,
+) -> Result<(), Stopped>
+    requires fine { D.has_failed drain.old ≡ false }
+    requires bounded { IsBounded tally.old }
+    requires lines { tally.old.lines + length piece.now < 18446744073709551616 }
+    ensures ran { (before : Parts) (given : List ℕ) (start : Option (List ℕ))
+        → Stands only before kernel.old given piece.now start (D.contents drain.old) pending.old tally.old
+        → MatchResult result
+        (λ _. Stands only before kernel.new given [] start (D.contents drain.new) pending.new tally.new)
+        (λ _. HasStopped only before kernel.new given start (D.contents drain.new) tally.new) }
+    ensures bounded { IsBounded tally.new }
+    ensures failed { D.has_failed drain.new ≡ is_err result }
+{
+    let mut rest = piece;
+    'lines: while let Some(end) = line_end(rest) {
+        let reading = pending.end_with(&rest[..end]);
+        answer(reading, kernel, drain, only, tally, scratch)?;
+        rest = &rest[end + 1..];
+    }
+    pending.add(rest);
+    Ok(())
+}
+
+/// Where the first LF stands.
+fn line_end(bytes: &[u8]) -> Option<usize>
+    ensures at { result ≡ position (λ b. b == 10) bytes.now }
+    ensures within { IfSome result (λ end. end < length bytes.now) }
+{
+    bytes.iter().position(|byte| *byte == b'\n')
+}
+
+/// Runs a line that was read so, counts it, and pushes what it shows.
+fn answer<D: Drain>(
+    reading: Result<Option<Event>, LineFault>,
+    kernel: &mut Kernel,
+    drain: &mut D,
+    only: Option<u8>,
+    tally: &mut Tally,
+    scratch: &mut Scratch,
+) -> Result<(), Stopped>
+    requires fine { D.has_failed drain.old ≡ false }
+    requires bounded { IsBounded tally.old }
+    requires more { tally.old.lines < 18446744073709551615 }
+    ensures answered { HasAnswered only reading kernel.old kernel.new (D.contents drain.old) (D.contents drain.new)
+        tally.old tally.new result }
+    ensures bounded { IsBounded tally.new }
+    ensures failed { D.has_failed drain.new ≡ is_err result }
+{
+    tally.lines += 1;
+    match reading {
+        Ok(None) => Ok(()),
+        Ok(Some(event)) => {
+            tally.events += 1;
+            kernel.step_into(&event, &mut scratch.reply);
+            show(scratch, only, drain, &mut tally.written)
+        }
+        Err(fault) => {
+            tally.faults += 1;
+            scratch.reply.addressee = Addressee::Nobody;
+            scratch.reply.body = Body::Fault(fault);
+            show(scratch, only, drain, &mut tally.written)
+        }
+    }
+}
