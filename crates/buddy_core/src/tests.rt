@@ -454,9 +454,9 @@ fn worked_example(rt: HostRuntime) -> Result<(), Fail> {
     if 0 < buddy.tenant_count() && 1 <= buddy.order() {
         assert_eq!(rt; buddy.reserve(0, 1), Some(4));
     }
-    if 0 < buddy.superblocks.len() {
+    if 0 < buddy.superblock_count() {
         assert_eq!(rt;
-            buddy.superblocks[0].words(),
+            buddy.table(0),
             [3, 1, 2, 1, 0, 0, 2, 1, 0, 0, 0, 0, 0, 0, 0].as_slice()
         );
     }
