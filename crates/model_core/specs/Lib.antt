@@ -11,3 +11,4 @@ pub mod Operations
 pub mod Runs
 pub mod WellFormed
 pub mod Laws
+pub mod Owners

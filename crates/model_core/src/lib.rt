@@ -4,5 +4,7 @@
 
 pub mod block_laws;
 pub mod laws;
+pub mod limits;
+pub mod owner;
 pub mod refusals;
 pub mod search;
