@@ -4,8 +4,9 @@ use Rattle.std.specs.Prelude.{◌≢◌, count_by, if◌then◌else◌, not, sli
 use Rattle.std.specs.List.{Contains}
 use Rattle.std.proofs.lemmas.Bool.{eq-eqb, eqb-true, eqb-false, ltb-true, ltb-false}
 use Rattle.std.proofs.lemmas.List.Sums.{sum_by-cons}
+use Rattle.model_core.specs.WellFormed.{RisesFrom}
 use Rattle.klist_core.specs.Places.{place_at, is_in}
-use Rattle.klist_core.specs.Lists.{put_by_key, with_node, list_from, list_of, without_node, RisesFrom}
+use Rattle.klist_core.specs.Lists.{put_by_key, with_node, list_from, list_of, without_node}
 
 -- x is one of the elements
 abbrev pub IsAmong : {X : Type 0} → X → List X → Type 0

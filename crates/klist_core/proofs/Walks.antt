@@ -22,10 +22,6 @@ way_left rank place None = 0
 way_left rank place (Some j) = 2 ^ 32 + 1 - rank (key_in (place j))
 
 module _ (rank : ℕ → ℕ) (place : ℕ → Option (ℕ × ℕ)) (h bound : ℕ) where
-  pub way_begun : (o : Option ℕ) → IsNearest rank place h 0 o → IsOnWay rank place h bound o
-  way_begun None v = record { is = λ i k e. let u = v.is i k e in absurd (omega arith) }
-  way_begun (Some j) v = let l : IsLeast rank place h 0 j v.is.0 = v.is.1 in record { is = (v.is.0, record { here = l.here; least = λ i k e le. l.least i k e (omega arith) }) }
-
   pub way_placed : (j : ℕ) → IsOnWay rank place h bound (Some j) → IsSome (place j)
   way_placed j v = let p : IsNotPast rank place h bound j v.is.0 = v.is.1 in ap is_some p.here
 

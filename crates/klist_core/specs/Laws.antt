@@ -1,8 +1,9 @@
 -- What holds of the lists, and what an insertion and a removal do to them.
 use Rattle.std.specs.Prelude.{◌≡◌, ◌≢◌, ℕ, ◌<◌, List, Option, Some, None, length, count_by, ◌↔◌}
 use Rattle.std.specs.List.{Contains}
+use Rattle.model_core.specs.WellFormed.{RisesFrom}
 use Rattle.klist_core.specs.Places.{Placed, IsTable, place_at, is_in, inserted, removed}
-use Rattle.klist_core.specs.Lists.{list_of, keys_of, put_by_key, without_node, RisesFrom}
+use Rattle.klist_core.specs.Lists.{list_of, keys_of, put_by_key, without_node}
 
 -- each list rises by key
 abbrev pub ListsRise : Type 0

@@ -1,5 +1,5 @@
 -- What the links of a table say. A list has two directions, up and down the keys; what holds in one holds in the other.
-use Rattle.std.specs.Prelude.{◌≡◌, ℕ, ◌+◌, ◌-◌, ◌^◌, ◌<◌, ◌≤◌, Option, Some, None, List, length, map, slice_index_or, count_by, MatchOption}
+use Rattle.std.specs.Prelude.{◌≡◌, ◌≢◌, ℕ, ◌+◌, ◌-◌, ◌^◌, ◌<◌, ◌≤◌, Option, Some, None, List, length, map, slice_index_or, count_by, MatchOption}
 use Rattle.klist_core.specs.Places.{Placed, IsTable, place_at, is_in}
 use Rattle.klist_core.specs.declared.Head.{Head}
 use Rattle.klist_core.specs.declared.Node.{Node}
@@ -28,6 +28,10 @@ pub record IsNearest (rank : ℕ → ℕ) (place : ℕ → Option (ℕ × ℕ)) 
 -- o is the node after node i in this direction
 abbrev pub IsAfter : (ℕ → ℕ) → (ℕ → Option (ℕ × ℕ)) → ℕ → Option ℕ → Type 0
 IsAfter rank place i o = (h k : ℕ) → place i ≡ Some (h, k) → IsNearest rank place h (rank k + 1) o
+
+-- o is a node of list h, and none only where the list is empty
+pub record IsStart (place : ℕ → Option (ℕ × ℕ)) (h : ℕ) (o : Option ℕ) : Type 0 where
+  pub is : MatchOption o ((i k : ℕ) → place i ≢ Some (h, k)) (λ j. (k : ℕ) × (place j ≡ Some (h, k)))
 
 -- in this direction `ends` are the nodes where lists begin and `links` the nodes after nodes
 pub record IsChain (rank : ℕ → ℕ) (place : ℕ → Option (ℕ × ℕ)) (heads : ℕ) (ends links : ℕ → Option ℕ) : Type 0 where

@@ -1,5 +1,5 @@
 -- The lists themselves: what stands in a list, as pairs of key and node that rise by key.
-use Rattle.std.specs.Prelude.{ℕ, ◌+◌, ◌==◌, ◌≤◌, List, [], ◌∷◌, Option, Some, None, map, filter, not, nat_lt, if◌then◌else◌, ⊤}
+use Rattle.std.specs.Prelude.{ℕ, ◌+◌, ◌==◌, List, [], ◌∷◌, Option, Some, None, map, filter, not, nat_lt, if◌then◌else◌}
 
 -- the pair put before the first one with a greater key
 abbrev pub put_by_key : ℕ × ℕ → List (ℕ × ℕ) → List (ℕ × ℕ)
@@ -27,8 +27,3 @@ keys_of places h = map (λ p. p.0) (list_of places h)
 -- the pairs without that of node i
 abbrev pub without_node : ℕ → List (ℕ × ℕ) → List (ℕ × ℕ)
 without_node i qs = filter (λ p. not (p.1 == i)) qs
-
--- the numbers rise, from n on
-abbrev pub RisesFrom : ℕ → List ℕ → Type 0
-RisesFrom n [] = ⊤
-RisesFrom n (x ∷ xs) = (n ≤ x) × RisesFrom (x + 1) xs

@@ -30,6 +30,10 @@ inserted s h i k = record s { places = slice_set s.places i (Some (h, k)) }
 abbrev pub removed : Placed → ℕ → Placed
 removed s i = record s { places = slice_set s.places i None }
 
+-- node j takes the place of node i, which then stands in no list
+abbrev pub replaced : Placed → ℕ → ℕ → Placed
+replaced s i j = record s { places = slice_set (slice_set s.places i None) j (place_at s.places i) }
+
 -- no node stands in list h
 abbrev pub IsEmpty : List (Option (ℕ × ℕ)) → ℕ → Type 0
 IsEmpty places h = (i k : ℕ) → place_at places i ≢ Some (h, k)
@@ -38,3 +42,13 @@ IsEmpty places h = (i k : ℕ) → place_at places i ≢ Some (h, k)
 pub record IsFirst (places : List (Option (ℕ × ℕ))) (h k i : ℕ) : Type 0 where
   pub here : place_at places i ≡ Some (h, k)
   pub least : (j k' : ℕ) → place_at places j ≡ Some (h, k') → k ≤ k'
+
+-- list h has no key above b
+abbrev pub NoneAbove : List (Option (ℕ × ℕ)) → ℕ → ℕ → Type 0
+NoneAbove places h b = (i k : ℕ) → place_at places i ≡ Some (h, k) → k ≤ b
+
+-- node i stands in list h under the key k, the least above b that the list has
+pub record IsNext (places : List (Option (ℕ × ℕ))) (h b k i : ℕ) : Type 0 where
+  pub here : place_at places i ≡ Some (h, k)
+  pub above : b < k
+  pub least : (j k' : ℕ) → place_at places j ≡ Some (h, k') → b < k' → k ≤ k'

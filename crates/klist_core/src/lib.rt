@@ -7,11 +7,11 @@
 //! Only [`Lists::new`] allocates.
 #![tactic(auto)]
 
-ghost use Rattle.std.specs.Prelude.{◌≡◌, ◌≢◌, ℕ, ◌+◌, ◌<◌, Some, None, length, IsSome, IfSome, IfOk, MatchOption, slice_get, replicate, count_by};
+ghost use Rattle.std.specs.Prelude.{◌≡◌, ◌≢◌, ℕ, ◌+◌, ◌<◌, ◌≤◌, Some, None, length, IsSome, IfSome, IfOk, MatchOption, slice_get, replicate, count_by};
 ghost use Rattle.std.specs.Option.{ForSome};
-ghost use Rattle.klist_core.specs.Places.{IsTable, IsEmpty, IsFirst, place_at, is_in, inserted, removed};
+ghost use Rattle.klist_core.specs.Places.{IsTable, IsEmpty, IsFirst, NoneAbove, IsNext, place_at, is_in, inserted, removed, replaced};
 ghost use Rattle.klist_core.specs.Lists.{list_of};
-ghost use Rattle.klist_core.specs.Links.{up, down, IsNearest, IsAfter};
+ghost use Rattle.klist_core.specs.Links.{up, down, IsNearest, IsAfter, IsStart};
 ghost use Rattle.klist_core.specs.Writes.{heads_linked_after, heads_linked_before, nodes_linked_after, nodes_linked_before};
 
 use std::alloc::{AllocError, Global};
@@ -113,6 +113,17 @@ impl Lists {
         Some((self.key_of(node), node))
     }
 
+    /// Key and node that follow the node in its list; None where it is the last.
+    pub fn after(&self, node: u32) -> Option<(u32, u32)>
+        requires node { node < length self.now.places }
+        requires placed { IsSome (place_at self.now.places node) }
+        ensures { IfSome (place_at self.now.places node) (λ p.
+            MatchOption result (NoneAbove self.now.places p.0 p.1) (λ q. IsNext self.now.places p.0 p.1 q.0 q.1)) }
+    {
+        let next = self.next_of(node)?;
+        Some((self.key_of(next), next))
+    }
+
     /// Puts a node that stands in no list into the list, under a key that the list does not have.
     ///
     /// A key below the first of the list or above the last takes constant time. Any other is looked for
@@ -124,15 +135,45 @@ impl Lists {
         requires fresh { (i : ℕ) → place_at self.old.places i ≢ Some (head, key) }
         ensures { self.new ≡ inserted self.old head node key }
     {
-        let (previous, next) = self.neighbours(head, key);
-        self.nodes[node as usize] = Node {
-            place: Some((head, key)),
-            previous,
-            next,
+        let start = self.nearer_end(head, key);
+        let (previous, next) = self.neighbours(head, key, start);
+        self.put_between(head, node, key, previous, next);
+    }
+
+    /// As [`Lists::insert`], with the place of the key looked for from the node `near`, where that stands in
+    /// the list: in constant time where it is to be a neighbour. A hint that is wrong costs steps alone.
+    pub fn insert_near(&mut self, head: u32, node: u32, key: u32, near: u32)
+        requires head { head < self.old.heads }
+        requires node { node < length self.old.places }
+        requires free { place_at self.old.places node ≡ None }
+        requires fresh { (i : ℕ) → place_at self.old.places i ≢ Some (head, key) }
+        requires near { near < length self.old.places }
+        ensures { self.new ≡ inserted self.old head node key }
+    {
+        let start = match self.place_of(near) {
+            Some((list, _)) if list == head => Some(near),
+            _ => self.nearer_end(head, key),
         };
-        link_after(&mut self.heads, &mut self.nodes, head, previous, Some(node));
-        link_before(&mut self.heads, &mut self.nodes, head, next, Some(node));
-        self.heads[head as usize].len += 1;
+        let (previous, next) = self.neighbours(head, key, start);
+        self.put_between(head, node, key, previous, next);
+    }
+
+    /// Lets the node `by`, which stands in no list, take the place of `node` in its list, under the same key.
+    /// It takes constant time.
+    pub fn replace(&mut self, node: u32, by: u32)
+        requires node { node < length self.old.places }
+        requires placed { IsSome (place_at self.old.places node) }
+        requires by { by < length self.old.places }
+        requires free { place_at self.old.places by ≡ None }
+        ensures { self.new ≡ replaced self.old node by }
+    {
+        self.facts();
+        let Some((head, key)) = self.place_of(node) else {
+            unreachable!()
+        };
+        let (previous, next) = (self.previous_of(node), self.next_of(node));
+        self.remove(node);
+        self.put_between(head, by, key, previous, next);
     }
 
     /// Takes a node out of the list in which it stands, in constant time.
@@ -159,41 +200,74 @@ impl Lists {
         self.heads[head as usize].len -= 1;
     }
 
-    /// The nodes between which a key comes that the list does not have.
-    fn neighbours(&self, head: u32, key: u32) -> (Option<u32>, Option<u32>)
+    /// Puts a node into the list between two that are neighbours there; None stands for an end.
+    fn put_between(
+        &mut self,
+        head: u32,
+        node: u32,
+        key: u32,
+        previous: Option<u32>,
+        next: Option<u32>,
+    )
+        requires head { head < self.old.heads }
+        requires node { node < length self.old.places }
+        requires free { place_at self.old.places node ≡ None }
+        requires fresh { (i : ℕ) → place_at self.old.places i ≢ Some (head, key) }
+        requires previous { IsNearest down (place_at self.old.places) head (down key + 1) previous }
+        requires next { IsNearest up (place_at self.old.places) head (up key + 1) next }
+        ensures { self.new ≡ inserted self.old head node key }
+    {
+        self.nodes[node as usize] = Node {
+            place: Some((head, key)),
+            previous,
+            next,
+        };
+        link_after(&mut self.heads, &mut self.nodes, head, previous, Some(node));
+        link_before(&mut self.heads, &mut self.nodes, head, next, Some(node));
+        self.heads[head as usize].len += 1;
+    }
+
+    /// The nodes between which a key comes that the list does not have, looked for from a node of the list.
+    fn neighbours(&self, head: u32, key: u32, start: Option<u32>) -> (Option<u32>, Option<u32>)
         requires head { head < self.now.heads }
         requires fresh { (i : ℕ) → place_at self.now.places i ≢ Some (head, key) }
+        requires start { IsStart (place_at self.now.places) head start }
         ensures previous { IsNearest down (place_at self.now.places) head (down key + 1) result.0 }
         ensures next { IsNearest up (place_at self.now.places) head (up key + 1) result.1 }
     {
         self.facts();
-        if self.is_nearer_first(head, key) {
-            let next = self.first_above(head, key);
-            (self.before(head, next), next)
+        let Some(from) = start else {
+            return (None, None);
+        };
+        if self.key_of(from) < key {
+            let next = self.first_above(head, key, from);
+            (self.previous_or_last(head, next), next)
         } else {
-            let previous = self.last_below(head, key);
-            (previous, self.after(head, previous))
+            let previous = self.last_below(head, key, from);
+            (previous, self.next_or_first(head, previous))
         }
     }
 
-    /// The key is nearer to the first key of the list than to the last.
-    fn is_nearer_first(&self, head: u32, key: u32) -> bool
+    /// The end of the list whose key is nearer to `key`; None where the list is empty.
+    fn nearer_end(&self, head: u32, key: u32) -> Option<u32>
         requires { head < self.now.heads }
+        ensures { IsStart (place_at self.now.places) head result }
     {
-        match (self.first_of(head), self.last_of(head)) {
-            (Some(first), Some(last)) => {
-                key.abs_diff(self.key_of(first)) < key.abs_diff(self.key_of(last))
-            }
-            _ => true,
+        let first = self.first_of(head)?;
+        let last = self.last_of(head)?;
+        if key.abs_diff(self.key_of(first)) < key.abs_diff(self.key_of(last)) {
+            Some(first)
+        } else {
+            Some(last)
         }
     }
 
-    /// The first node of the list with a key above `key`, looked for from the first node on.
-    fn first_above(&self, head: u32, key: u32) -> Option<u32>
-        requires { head < self.now.heads }
+    /// The first node of the list with a key above `key`, looked for behind a node whose key is not above it.
+    fn first_above(&self, head: u32, key: u32, from: u32) -> Option<u32>
+        requires { (k : ℕ) × (place_at self.now.places from ≡ Some (head, k)) × (k ≤ key) }
         ensures { IsNearest up (place_at self.now.places) head (up key + 1) result }
     {
-        let mut next = self.first_of(head);
+        let mut next = self.next_of(from);
         while let Some(node) = next {
             if key < self.key_of(node) {
                 return next;
@@ -203,12 +277,12 @@ impl Lists {
         next
     }
 
-    /// The last node of the list with a key below `key`, looked for from the last node back.
-    fn last_below(&self, head: u32, key: u32) -> Option<u32>
-        requires { head < self.now.heads }
+    /// The last node of the list with a key below `key`, looked for before a node whose key is not below it.
+    fn last_below(&self, head: u32, key: u32, from: u32) -> Option<u32>
+        requires { (k : ℕ) × (place_at self.now.places from ≡ Some (head, k)) × (key ≤ k) }
         ensures { IsNearest down (place_at self.now.places) head (down key + 1) result }
     {
-        let mut previous = self.last_of(head);
+        let mut previous = self.previous_of(from);
         while let Some(node) = previous {
             if self.key_of(node) < key {
                 return previous;
@@ -219,7 +293,7 @@ impl Lists {
     }
 
     /// The node after `previous`, or the first of the list where there is none.
-    fn after(&self, head: u32, previous: Option<u32>) -> Option<u32>
+    fn next_or_first(&self, head: u32, previous: Option<u32>) -> Option<u32>
         requires head { head < self.now.heads }
         requires placed { ForSome previous (λ i. IsSome (place_at self.now.places i)) }
         ensures { MatchOption previous (IsNearest up (place_at self.now.places) head 0 result) (λ i. IsAfter up (place_at self.now.places) i result) }
@@ -231,7 +305,7 @@ impl Lists {
     }
 
     /// The node before `next`, or the last of the list where there is none.
-    fn before(&self, head: u32, next: Option<u32>) -> Option<u32>
+    fn previous_or_last(&self, head: u32, next: Option<u32>) -> Option<u32>
         requires head { head < self.now.heads }
         requires placed { ForSome next (λ i. IsSome (place_at self.now.places i)) }
         ensures { MatchOption next (IsNearest down (place_at self.now.places) head 0 result) (λ i. IsAfter down (place_at self.now.places) i result) }

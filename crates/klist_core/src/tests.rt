@@ -1,6 +1,6 @@
 //! Ten thousand mixed calls beside plain sorted vectors, every answer compared.
 
-ghost use Rattle.std.specs.Prelude.{◌≡◌, ◌≢◌, ℕ, ◌<◌, Some, false, length, vec_len};
+ghost use Rattle.std.specs.Prelude.{◌≡◌, ◌≢◌, ℕ, ◌<◌, Some, None, false, length, vec_len};
 ghost use Rattle.klist_core.specs.Places.{place_at};
 
 use super::Lists;
@@ -51,24 +51,73 @@ impl Beside {
         })
     }
 
-    /// Takes the node out where it stands in a list; else puts it into `head` where the key is new there.
-    fn step(&mut self, rt: &impl Abort, head: u32, node: u32, key: u32) -> Result<(), AllocError>
+    /// Lets `other` take the place of the node where that stands in a list, or takes the node out; else puts
+    /// it into `head` where the key is new there.
+    fn step(
+        &mut self,
+        rt: &impl Abort,
+        head: u32,
+        node: u32,
+        key: u32,
+        other: u32,
+    ) -> Result<(), AllocError>
         requires head { head < 5 }
         requires node { node < 64 }
+        requires other { other < 64 }
     {
-        if self.lists.place_of(node).is_some() {
-            self.remove(rt, node);
-            return Ok(());
+        match (self.lists.place_of(node), self.lists.place_of(other)) {
+            (Some(_), None) => self.replace(rt, node, other),
+            (Some(_), Some(_)) => self.remove(rt, node),
+            (None, _) => self.insert(rt, head, node, key, other)?,
         }
+        Ok(())
+    }
+
+    /// Every odd key is put in with a hint, right or wrong.
+    fn insert(
+        &mut self,
+        rt: &impl Abort,
+        head: u32,
+        node: u32,
+        key: u32,
+        near: u32,
+    ) -> Result<(), AllocError>
+        requires head { head < 5 }
+        requires node { node < 64 }
+        requires free { place_at self.old.lists.places node ≡ None }
+        requires near { near < 64 }
+    {
         let known = self.plain[head as usize].iter().any(|p| p.0 == key);
         assert_eq!(rt; has_key(&self.lists, head, key), known);
         if !has_key(&self.lists, head, key) {
-            self.lists.insert(head, node, key);
+            if key % 2 == 0 {
+                self.lists.insert(head, node, key);
+            } else {
+                self.lists.insert_near(head, node, key, near);
+            }
             let list = &mut self.plain[head as usize];
             let at = list.iter().position(|p| p.0 > key).unwrap_or(list.len());
             list.insert(at, (key, node))?;
         }
         Ok(())
+    }
+
+    fn replace(&mut self, rt: &impl Abort, node: u32, by: u32)
+        requires node { node < 64 }
+        requires by { by < 64 }
+        requires free { place_at self.old.lists.places by ≡ None }
+    {
+        let Some((head, key)) = self.lists.place_of(node) else {
+            return;
+        };
+        self.lists.replace(node, by);
+        assert!(rt; head < HEADS);
+        let list = &mut self.plain[head as usize];
+        let at = list.iter().position(|p| *p == (key, node));
+        assert!(rt; at.is_some());
+        if let Some(at) = at {
+            list[at] = (key, by);
+        }
     }
 
     fn remove(&mut self, rt: &impl Abort, node: u32)
@@ -87,15 +136,18 @@ impl Beside {
         }
     }
 
-    /// Lengths, first pairs and places are those of the vectors.
+    /// Lengths, places, first pairs and those that follow are those of the vectors.
     fn compare(&self, rt: &impl Abort) {
         for (head, list) in self.plain.iter().enumerate() {
             let head = head as u32;
             assert_eq!(rt; self.lists.len(head) as usize, list.len());
             assert_eq!(rt; self.lists.first(head), list.first().copied());
-            for (key, node) in list {
+            for (i, (key, node)) in list.iter().enumerate() {
                 assert!(rt; *node < NODES);
-                assert_eq!(rt; self.lists.place_of(*node), Some((head, *key)));
+                let place = self.lists.place_of(*node);
+                assert_eq!(rt; place, Some((head, *key)));
+                assert!(rt; place.is_some());
+                assert_eq!(rt; self.lists.after(*node), list.get(i + 1).copied());
             }
         }
     }
@@ -128,6 +180,7 @@ fn behaves_as_sorted_vectors(rt: HostRuntime) -> Result<(), Fail> {
             random % HEADS,
             (random >> 4) % NODES,
             (random >> 10) % KEYS,
+            (random >> 18) % NODES,
         )?;
         beside.compare(&rt);
     }

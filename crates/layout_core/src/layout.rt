@@ -126,6 +126,14 @@ impl Layout {
         let _ = &self.size;
     }
 
+    /// A law that every layout lends its holder: its size and its alignment are accepted ones. The call does nothing.
+    pub fn accepted(&self)
+        ensures size { is_size self.now.size ≡ true }
+        ensures align { is_alignment self.now.align ≡ true }
+    {
+        let _ = &self.size;
+    }
+
     /// Where object `i` begins, in bytes from the first of a slab with this colour offset.
     pub fn offset(&self, colour: u32, i: u32) -> u32
         requires colour { IsColour self.now colour }

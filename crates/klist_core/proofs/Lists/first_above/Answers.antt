@@ -1,11 +1,13 @@
 use Rattle.std.proofs.Common.{◌+◌, arith}
 use Rattle.klist_core.specs.Places.{place_at}
 use Rattle.klist_core.specs.Links.{up}
-use Rattle.klist_core.proofs.Walks.{way_begun, way_placed, way_key, way_gone_on, way_ended, way_exhausted, way_shortened}
+use Rattle.klist_core.proofs.Walks.{way_placed, way_key, way_gone_on, way_ended, way_exhausted, way_shortened}
 use Rattle.klist_core.proofs.Lists.first_above.Goals as goal
 
 pub loop-next-init : goal.loop-next-init
-loop-next-init c = way_begun up (place_at c.args.self.now.places) c.args.head (up c.args.key + 1) _ c.first_of-next.ensures
+loop-next-init c =
+    let w = c.requires in
+    way_gone_on up (place_at c.args.self.now.places) c.args.head (up c.args.key + 1) c.args.from w.0 _ (omega (arith, w.2)) (c.next_of-next.ensures c.args.head w.0 w.1)
 
 pub key_of-requires : goal.key_of-requires
 key_of-requires c = way_placed up (place_at c.args.self.now.places) c.args.head (up c.args.key + 1) c.in-Some.node (rw c.in-Some.is at c.loop-next.invariant)
@@ -17,8 +19,8 @@ returns-then-key-key_of c =
     let k = way_key up place c.args.head (up c.args.key + 1) c.in-Some.node c.key_of.result v c.key_of.ensures in
     way_ended up place c.args.head (up c.args.key + 1) c.in-Some.node v (omega (arith, k, c.if-key-key_of.true))
 
-pub next_of-next-requires : goal.next_of-next-requires
-next_of-next-requires c = way_placed up (place_at c.args.self.now.places) c.args.head (up c.args.key + 1) c.in-Some.node (rw c.in-Some.is at c.loop-next.invariant)
+pub next_of-next-requires-in-Some : goal.next_of-next-requires-in-Some
+next_of-next-requires-in-Some c = way_placed up (place_at c.args.self.now.places) c.args.head (up c.args.key + 1) c.in-Some.node (rw c.in-Some.is at c.loop-next.invariant)
 
 pub loop-next-smaller : goal.loop-next-smaller
 loop-next-smaller c =
@@ -26,7 +28,7 @@ loop-next-smaller c =
     let v = rw c.in-Some.is at c.loop-next.invariant in
     let k = way_key up place c.args.head (up c.args.key + 1) c.in-Some.node c.key_of.result v c.key_of.ensures in
     let p = v.is.1 in
-    rw c.in-Some.is (way_shortened up place c.args.head (up c.args.key + 1) c.in-Some.node _ v (omega (arith, k, c.key_of.type_inv)) (c.next_of-next.ensures c.args.head v.is.0 p.here))
+    rw c.in-Some.is (way_shortened up place c.args.head (up c.args.key + 1) c.in-Some.node _ v (omega (arith, k, c.key_of.type_inv)) (c.next_of-next-in-Some.ensures c.args.head v.is.0 p.here))
 
 pub loop-next-preserved : goal.loop-next-preserved
 loop-next-preserved c =
@@ -34,7 +36,7 @@ loop-next-preserved c =
     let v = rw c.in-Some.is at c.loop-next.invariant in
     let k = way_key up place c.args.head (up c.args.key + 1) c.in-Some.node c.key_of.result v c.key_of.ensures in
     let p = v.is.1 in
-    way_gone_on up place c.args.head (up c.args.key + 1) c.in-Some.node v.is.0 _ (omega (arith, k, c.if-key-key_of.false, c.key_of.type_inv, c.ranges.key)) (c.next_of-next.ensures c.args.head v.is.0 p.here)
+    way_gone_on up place c.args.head (up c.args.key + 1) c.in-Some.node v.is.0 _ (omega (arith, k, c.if-key-key_of.false, c.key_of.type_inv, c.ranges.key)) (c.next_of-next-in-Some.ensures c.args.head v.is.0 p.here)
 
 pub returns : goal.returns
 returns c = rw c.in_default.is (way_exhausted up (place_at c.args.self.now.places) c.args.head (up c.args.key + 1) (rw c.in_default.is at c.loop-next.invariant))

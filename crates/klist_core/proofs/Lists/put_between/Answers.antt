@@ -4,28 +4,28 @@ use Rattle.klist_core.specs.declared.Node.{Node}
 use Rattle.klist_core.proofs.Rewired.{IsRewired, rewired_by_calls}
 use Rattle.klist_core.proofs.Linked.{linked_inserted, shown_rewired}
 use Rattle.klist_core.proofs.Calls.{IsInsertion, insertion_known}
-use Rattle.klist_core.proofs.Lists.insert.Goals as goal
-use Rattle.klist_core.proofs.Lists.insert.Goals.{After-index_mut-2}
+use Rattle.klist_core.proofs.Lists.put_between.Goals as goal
+use Rattle.klist_core.proofs.Lists.put_between.Goals.{After-index_mut-2}
 
 -- the node under its key between its neighbours
 abbrev own_node : ℕ → ℕ → Option ℕ → Option ℕ → Node
 own_node head key previous next = record { place = Some (head, key); previous = previous; next = next }
 
-known : (c : After-index_mut-2) → IsInsertion c.self.inside.heads.items c.self.inside.nodes.items c.args.head c.args.node c.args.key c.neighbours-previous.result.0 c.neighbours-previous.result.1
+known : (c : After-index_mut-2) → IsInsertion c.self.inside.heads.items c.self.inside.nodes.items c.args.head c.args.node c.args.key c.args.previous c.args.next
 known c =
-    insertion_known c.self.inside.heads.items c.self.inside.nodes.items c.args.head c.args.node c.args.key c.neighbours-previous.result.0 c.neighbours-previous.result.1 c.self.invariant
+    insertion_known c.self.inside.heads.items c.self.inside.nodes.items c.args.head c.args.node c.args.key c.args.previous c.args.next c.self.invariant
     (rw (← c.self.view_is) at c.requires.head) (rw (← c.self.view_is) at c.requires.node) c.ranges.key.fits (rw (← c.self.view_is) at c.requires.free) (rw (← c.self.view_is) at c.requires.fresh)
-    (rw (← c.self.view_is) at c.neighbours-previous.ensures.previous) (rw (← c.self.view_is) at c.neighbours-previous.ensures.next)
+    (rw (← c.self.view_is) at c.requires.previous) (rw (← c.self.view_is) at c.requires.next)
 
 -- what the writes leave, for the length m that the last one writes
 written : (c : After-index_mut-2) (m : ℕ)
     → IsRewired c.self.inside.heads.items (slice_set c.link_before.new.heads.items c.args.head (record c.index_mut-2.result.now { len = m })) c.self.inside.nodes.items c.link_before.new.nodes.items
-    c.args.head c.args.node (own_node c.args.head c.args.key c.neighbours-previous.result.0 c.neighbours-previous.result.1) c.neighbours-previous.result.0 c.neighbours-previous.result.1 (Some c.args.node) (Some c.args.node) m
+    c.args.head c.args.node (own_node c.args.head c.args.key c.args.previous c.args.next) c.args.previous c.args.next (Some c.args.node) (Some c.args.node) m
     × (c.index_mut-2.result.now.len ≡ (head_at c.self.inside.heads.items c.args.head).len)
 written c m =
     let k = known c in
     rewired_by_calls c.self.inside.heads.items c.link_after.new.heads.items c.link_before.new.heads.items c.self.inside.nodes.items c.link_after.new.nodes.items c.link_before.new.nodes.items
-    c.args.head c.args.node _ c.neighbours-previous.result.0 c.neighbours-previous.result.1 (Some c.args.node) (Some c.args.node) c.index_mut-2.result.now m
+    c.args.head c.args.node _ c.args.previous c.args.next (Some c.args.node) (Some c.args.node) c.index_mut-2.result.now m
     k.in_heads k.in_nodes k.left k.right c.link_after.ensures.heads c.link_after.ensures.nodes c.link_before.ensures.heads c.link_before.ensures.nodes c.index_mut-2.ensures.value
 
 pub overflow_add-index_mut : goal.overflow_add-index_mut
@@ -35,7 +35,7 @@ pub invariant_of-self : goal.invariant_of-self
 invariant_of-self c =
     let k = known (goal.at.invariant_of-self c).After-index_mut-2 in
     let w = written (goal.at.invariant_of-self c).After-index_mut-2 (c.index_mut-2.result.now.len + 1) in
-    linked_inserted c.self.inside.heads.items _ c.self.inside.nodes.items c.link_before.new.nodes.items c.args.head c.args.node c.args.key c.neighbours-previous.result.0 c.neighbours-previous.result.1
+    linked_inserted c.self.inside.heads.items _ c.self.inside.nodes.items c.link_before.new.nodes.items c.args.head c.args.node c.args.key c.args.previous c.args.next
     (c.index_mut-2.result.now.len + 1) k.linked w.0 (omega (arith, w.1)) k.in_heads k.in_nodes k.fits k.free k.fresh k.before k.after
 
 pub returns : goal.returns
@@ -43,4 +43,4 @@ returns c =
     let w = written (goal.at.returns c).After-index_mut-2 (c.index_mut-2.result.now.len + 1) in
     rw (← c.self.view_is)
     (shown_rewired c.self.inside.heads.items _ c.self.inside.nodes.items c.link_before.new.nodes.items c.args.head c.args.node _
-    c.neighbours-previous.result.0 c.neighbours-previous.result.1 (Some c.args.node) (Some c.args.node) _ w.0)
+    c.args.previous c.args.next (Some c.args.node) (Some c.args.node) _ w.0)
