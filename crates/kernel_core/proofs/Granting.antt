@@ -23,7 +23,8 @@ use Rattle.kernel_core.specs.World.{World, WorldStep, grant_step, world_step}
 use Rattle.kernel_core.specs.Parts.{Parts, PartsAgree, superblock_of, byte_at}
 use Rattle.kernel_core.specs.Shows.{ShowsMachine, Shows}
 use Rattle.kernel_core.specs.Steps.{Steps}
-use Rattle.kernel_core.proofs.Rising.{has, has-put, rises-put, least_missing_is, is_other, some_none}
+use Rattle.model_core.proofs.Rising.{has}
+use Rattle.kernel_core.proofs.Rising.{has-put, rises-put, least_missing_is, is_other, some_none}
 use Rattle.kernel_core.proofs.Holdings.{own_holding, replaced}
 use Rattle.kernel_core.proofs.Worlds.{get_past, get_within, shows_changed, steps_answered, false_is}
 use Rattle.kernel_core.proofs.Agreeing.{holding, agree_slots, keeps_others}

@@ -3,7 +3,8 @@ use Rattle.std.proofs.Common.{◌≡◌, ℕ, suc, List, [], ◌∷◌, length, 
 use Rattle.model_core.specs.Machine.{Machine}
 use Rattle.kernel_core.specs.Parts.{Parts}
 use Rattle.kernel_core.specs.Shows.{ShowsMachine, OneWorld}
-use Rattle.kernel_core.proofs.Rising.{same_rising, same_blocks}
+use Rattle.model_core.proofs.Rising.{same_rising}
+use Rattle.kernel_core.proofs.Rising.{same_blocks}
 
 -- lists of one length with the same elements are one
 same_by_get : {A : Type 0} (xs ys : List A) → length xs ≡ length ys → ((i : ℕ) (x y : A) → slice_get xs i ≡ Some x → slice_get ys i ≡ Some y → x ≡ y) → xs ≡ ys

@@ -1,5 +1,5 @@
 -- Page blocks: a block taken or released by the buddy system is a step of the private machine.
-use Rattle.std.proofs.Common.{◌≡◌, ◌≢◌, ℕ, ◌+◌, ◌*◌, ◌/◌, ◌^◌, ◌<◌, ◌≤◌, ◌==◌, nat_lt, true, false, if◌then◌else◌, Option, Some, None, is_some, ◌++◌, length, flat_map, refl, sym, ap, ◌∙◌, subst, arith}
+use Rattle.std.proofs.Common.{◌≡◌, ◌≢◌, ℕ, ◌+◌, ◌*◌, ◌/◌, ◌^◌, ◌<◌, ◌≤◌, ◌==◌, nat_lt, true, false, if◌then◌else◌, Option, Some, None, is_some, [], ◌++◌, length, flat_map, refl, sym, ap, ◌∙◌, subst, arith}
 use Rattle.std.proofs.lemmas.List.{append-nil}
 use Rattle.std.proofs.lemmas.Nat.{pow_pos}
 use Rattle.std.proofs.Math.Nat.{lt-div-mul-add, mul-le-mul_right}
@@ -7,6 +7,7 @@ use Rattle.model_core.specs.Blocks.{block, HasFrame, IsChoice, IsWithout}
 use Rattle.model_core.specs.Machine.{Machine, order_in, taken_blocks, slab_blocks, choice}
 use Rattle.model_core.specs.Operations as ops
 use Rattle.model_core.specs.Operations.{Step, refuse, alloc_at, alloc_step, free_at, free_step}
+use Rattle.model_core.proofs.ByNeed.{by_need_found, by_need_alone}
 use Rattle.model_core.proofs.FreeBlocks.{reserved_is_untaken}
 use Rattle.model_core.proofs.Lists.{filter_rises}
 use Rattle.buddy_core.specs.Content as buddies
@@ -22,7 +23,8 @@ use Rattle.kernel_core.specs.PrivateStep.{command_step}
 use Rattle.kernel_core.specs.Parts.{Parts, PartsAgree, taken_of, Keeps}
 use Rattle.kernel_core.specs.Shows.{ShowsMachine}
 use Rattle.kernel_core.specs.Steps.{StepsMachine}
-use Rattle.kernel_core.proofs.Rising.{not_less, rises-put, order_in-put, order_in-filter, has-order_in}
+use Rattle.model_core.proofs.Rising.{order_in-put}
+use Rattle.kernel_core.proofs.Rising.{not_less, rises-put, order_in-filter, has-order_in}
 use Rattle.kernel_core.proofs.Choices.{Meets, chosen, unchosen}
 use Rattle.kernel_core.proofs.Holdings.{own_holding, within, replaced}
 use Rattle.kernel_core.proofs.Worlds.{keeps_all, false_is}
@@ -111,12 +113,12 @@ alloc_shows k t f j o m agree sized known is shown =
 alloc_is : (order o f : ℕ) (m : Machine) → o ≤ order → choice order m o ≡ Some f
     → command_step cache_limit order (Alloc o) m ≡ record { answer = Frame f; machine = ops.with_block (block f o) m }
 unfolding command_step alloc_step
-alloc_is order o f m small is = rw (not_less order o small) (rw is refl)
+alloc_is order o f m small is = rw (not_less order o small) (rw (by_need_found order o f m is) (rw is refl))
 
-none_is : (order o : ℕ) (m : Machine) → o ≤ order → choice order m o ≡ None
+none_is : (order o : ℕ) (m : Machine) → m.caches ≡ [] → o ≤ order → choice order m o ≡ None
     → command_step cache_limit order (Alloc o) m ≡ record { answer = Refused NoFrames; machine = m }
 unfolding command_step alloc_step
-none_is order o m small is = rw (not_less order o small) (rw is refl)
+none_is order o m alone small is = rw (not_less order o small) (rw (by_need_alone order o m alone) (rw is refl))
 
 large_is : (order o : ℕ) (m : Machine) → nat_lt order o ≡ true
     → command_step cache_limit order (Alloc o) m ≡ record { answer = Refused BadOrder; machine = m }
@@ -131,7 +133,7 @@ alloc_large k t o agree large = stays k t (Alloc o) (Refused BadOrder) agree (λ
 pub alloc_without : (k : Parts) (t o : ℕ) → PartsAgree k → o ≤ k.order
     → IsWithout k.buddy.top (is_held (holding_of t k.buddy)) (taken_of k t) o → StepsMachine k t (Alloc o) k (Refused NoFrames)
 alloc_without k t o agree small without = stays k t (Alloc o) (Refused NoFrames) agree
-    (λ m shown. none_is k.order o m small
+    (λ m shown. none_is k.order o m shown.caches small
     (subst (λ n. choice n m o ≡ None) agree.top (unchosen k.buddy.top o (is_held (holding_of t k.buddy)) (taken_of k t) m (meets k t m agree shown) without)))
 
 -- a block is taken

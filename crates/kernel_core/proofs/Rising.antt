@@ -6,6 +6,7 @@ use Rattle.std.proofs.lemmas.Bool.Decides.{nat_tests}
 use Rattle.model_core.specs.Blocks.{Block, block}
 use Rattle.model_core.specs.Machine.{put_rising, least_missing, order_in}
 use Rattle.model_core.specs.WellFormed.{RisesFrom}
+use Rattle.model_core.proofs.Rising.{has, none_below, same_rising}
 
 pub is_same : (n : ℕ) → (n == n) ≡ true
 is_same n = eq-eqb n n refl
@@ -15,17 +16,6 @@ is_other a b other = grind (arith)
 
 pub not_less : (a b : ℕ) → b ≤ a → nat_lt a b ≡ false
 not_less a b le = grind (arith, nat_tests)
-
--- u is one of the numbers
-abbrev pub has : ℕ → List ℕ → Bool
-has u xs = list_any (λ v. v == u) xs
-
--- a list that rises from n has no lower number
-pub none_below : (n u : ℕ) (xs : List ℕ) → RisesFrom n xs → u < n → has u xs ≡ false
-none_below n u [] rises below = refl
-none_below n u (x ∷ xs) (low, rises) below =
-    let first : (x == u) ≡ false = is_other x u (λ same. absurd (omega arith)) in
-    ap (λ b. b || has u xs) first ∙ none_below (x + 1) u xs rises (omega arith)
 
 -- what a list has with one more number
 pub has-put : {X : Type 0} (key : X → ℕ) (x : X) (xs : List X) (u : ℕ) → has u (map key (put_rising key x xs)) ≡ ((key x == u) || has u (map key xs))
@@ -79,72 +69,8 @@ least_missing_is n s (x ∷ xs) (first, rises) low missing below =
     ∙ ⊎_elim (λ less. absurd (false≢true (sym absent ∙ below n (omega arith) less))) (λ le. omega arith) (cases_lt n s))
     (cases_eq x n)
 
--- the rest of two rising lists with one head
-same_after : (x y : ℕ) (xs ys : List ℕ) (u : ℕ) → x ≡ y → RisesFrom (x + 1) xs → RisesFrom (x + 1) ys → has u (x ∷ xs) ≡ has u (y ∷ ys) → has u xs ≡ has u ys
-same_after x y xs ys u heads rises rises' same =
-    ⊎_elim
-    (λ here. let past : u < x + 1 = omega arith in none_below (x + 1) u xs rises past ∙ sym (none_below (x + 1) u ys rises' past))
-    (λ other.
-    sym (ap (λ b. b || has u xs) (is_other x u other)) ∙ same ∙ ap (λ b. b || has u ys) (is_other y u (λ e. other (heads ∙ e))))
-    (cases_eq x u)
-
--- rising lists with other heads have other numbers
-heads_differ : (x y : ℕ) (xs ys : List ℕ) → RisesFrom (x + 1) xs → RisesFrom (y + 1) ys → x ≢ y → ((u : ℕ) → has u (x ∷ xs) ≡ has u (y ∷ ys)) → ⊥
-heads_differ x y xs ys rises rises' differ same =
-    ⊎_elim
-    (λ less.
-    let absent : has x (y ∷ ys) ≡ false = ap (λ b. b || has x ys) (is_other y x (λ e. differ (sym e))) ∙ none_below (y + 1) x ys rises' (omega arith) in
-    false≢true (sym absent ∙ sym (same x) ∙ ap (λ b. b || has x xs) (is_same x)))
-    (λ le.
-    let less : y < x = omega arith in
-    let absent : has y (x ∷ xs) ≡ false = ap (λ b. b || has y xs) (is_other x y differ) ∙ none_below (x + 1) y xs rises (omega arith) in
-    false≢true (sym absent ∙ same y ∙ ap (λ b. b || has y ys) (is_same y)))
-    (cases_lt x y)
-
-eq_comm : (a b : ℕ) → (a == b) ≡ (b == a)
-eq_comm a b = ⊎_elim (λ same. eq-eqb a b same ∙ sym (eq-eqb b a (sym same))) (λ other. is_other a b other ∙ sym (is_other b a (λ e. other (sym e)))) (cases_eq a b)
-
 pub some_none : {A : Type 0} {x : A} → Some x ≡ None → ⊥
 some_none {A} {x} e = cc
-
--- where a block goes in before or after another one
-put_cases : (less : Bool) (b y : Block) (ys : List Block) (f : ℕ) → y.first ≢ b.first
-    → order_in (put_rising (λ x. x.first) b ys) f ≡ (if f == b.first then Some b.order else order_in ys f)
-    → order_in (if less then b ∷ y ∷ ys else y ∷ put_rising (λ x. x.first) b ys) f ≡ (if f == b.first then Some b.order else order_in (y ∷ ys) f)
-put_cases true b y ys f other after = ap (λ t. if t then Some b.order else order_in (y ∷ ys) f) (eq_comm b.first f)
-put_cases false b y ys f other after =
-    ⊎_elim
-    (λ here.
-    let not_new : (f == b.first) ≡ false = is_other f b.first (λ e. other (here ∙ e)) in
-    ap (λ t. if t then Some y.order else order_in (put_rising (λ x. x.first) b ys) f) (eq-eqb y.first f here)
-    ∙ sym (ap (λ t. if t then Some b.order else order_in (y ∷ ys) f) not_new ∙ ap (λ t. if t then Some y.order else order_in ys f) (eq-eqb y.first f here)))
-    (λ elsewhere.
-    let skip = is_other y.first f elsewhere in
-    ap (λ t. if t then Some y.order else order_in (put_rising (λ x. x.first) b ys) f) skip ∙ after
-    ∙ ap (λ o. if f == b.first then Some b.order else o) (sym (ap (λ t. if t then Some y.order else order_in ys f) skip)))
-    (cases_eq y.first f)
-
--- two rising lists with the same numbers are one
-pub same_rising : (n : ℕ) (xs ys : List ℕ) → RisesFrom n xs → RisesFrom n ys → ((u : ℕ) → has u xs ≡ has u ys) → xs ≡ ys
-same_rising n [] [] _ _ _ = refl
-same_rising n [] (y ∷ ys) _ _ same = absurd (false≢true (same y ∙ ap (λ b. b || has y ys) (is_same y)))
-same_rising n (x ∷ xs) [] _ _ same = absurd (false≢true (sym (same x) ∙ ap (λ b. b || has x xs) (is_same x)))
-same_rising n (x ∷ xs) (y ∷ ys) (low, rises) (low', rises') same =
-    ⊎_elim
-    (λ heads.
-    let rises_y : RisesFrom (x + 1) ys = subst (λ k. RisesFrom (k + 1) ys) (sym heads) rises' in
-    let tails : (u : ℕ) → has u xs ≡ has u ys = λ u. same_after x y xs ys u heads rises rises_y (same u) in
-    ap (λ z. z ∷ xs) heads ∙ ap (λ zs. y ∷ zs) (same_rising (x + 1) xs ys rises rises_y tails))
-    (λ differ. absurd (heads_differ x y xs ys rises rises' differ same))
-    (cases_eq x y)
-
--- order_in and a block put in at its place
-pub order_in-put : (b : Block) (bs : List Block) (f : ℕ) → order_in bs b.first ≡ None → order_in (put_rising (λ x. x.first) b bs) f ≡ (if f == b.first then Some b.order else order_in bs f)
-order_in-put b [] f new = ap (λ t. if t then Some b.order else None) (eq_comm b.first f)
-order_in-put b (y ∷ ys) f new =
-    let other : y.first ≢ b.first = λ same. absurd (some_none (sym (ap (λ t. if t then Some y.order else order_in ys b.first) (eq-eqb y.first b.first same)) ∙ new)) in
-    let new_after : order_in ys b.first ≡ None = sym (ap (λ t. if t then Some y.order else order_in ys b.first) (is_other y.first b.first other)) ∙ new in
-    put_cases (nat_lt b.first y.first) b y ys f other (order_in-put b ys f new_after)
 
 -- a rising list of blocks has a block at a frame exactly where it tells an order there
 pub has-order_in : (bs : List Block) (f : ℕ) → has f (map (λ b. b.first) bs) ≡ is_some (order_in bs f)

@@ -26,7 +26,8 @@ use Rattle.kernel_core.specs.World.{World, WorldStep, is_owner, given_up, taken_
 use Rattle.kernel_core.specs.Parts.{Parts, PartsAgree, superblock_of, taken_of, byte_at}
 use Rattle.kernel_core.specs.Shows.{ShowsMachine, Shows}
 use Rattle.kernel_core.specs.Steps.{Steps}
-use Rattle.kernel_core.proofs.Rising.{has, has-filter, any_from, any_tells}
+use Rattle.model_core.proofs.Rising.{has}
+use Rattle.kernel_core.proofs.Rising.{has-filter, any_from, any_tells}
 use Rattle.kernel_core.proofs.Holdings.{own_holding, within, replaced}
 use Rattle.kernel_core.proofs.Worlds.{get_past, get_within, shows_changed, steps_answered, false_is}
 use Rattle.kernel_core.proofs.Agreeing.{holding, agree_slots, keeps_others}

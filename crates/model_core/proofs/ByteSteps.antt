@@ -6,7 +6,8 @@ use Rattle.std.proofs.lemmas.Bool.{and_parts, leb-true, ltb-true}
 use Rattle.model_core.specs.Machine.{Cache, Machine, taken_blocks}
 use Rattle.model_core.specs.Slabs.{LiveObject, live_objects, cache_of}
 use Rattle.model_core.specs.Reach.{in_reach}
-use Rattle.model_core.specs.Operations.{Step, written, write_step, give_object, give_of, give_step}
+use Rattle.model_core.specs.Operations.{Step, written, write_step}
+use Rattle.model_core.specs.CacheOperations.{give_object, give_of, give_step}
 use Rattle.model_core.specs.WellFormed.{IsWellFormed}
 use Rattle.model_core.proofs.Lists.{IsIn, find_in}
 use Rattle.model_core.proofs.CacheSteps.{live_kept}

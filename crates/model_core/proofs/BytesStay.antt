@@ -10,19 +10,21 @@ use Rattle.model_core.specs.declared.refusals.TakeBackRefusal.{TakeBackRefusal}
 use Rattle.model_core.specs.Blocks.{Block, block}
 use Rattle.model_core.specs.Layouts.{is_size, is_alignment}
 use Rattle.model_core.specs.Machine.{Slab, Cache, Machine, empty_machine, holds, slot_of, layout, in_block, slab_blocks, choice, order_in}
-use Rattle.model_core.specs.Slabs.{LiveObject, live_objects, is_partial, is_empty, cache_of, grown, slab_to_use, reaped, destroyed}
+use Rattle.model_core.specs.Slabs.{LiveObject, live_objects, is_partial, is_empty, cache_of, grown, slab_to_use, without_empty, reaped, by_need, destroyed}
 use Rattle.model_core.specs.Reach.{in_reach}
-use Rattle.model_core.specs.Operations.{refuse, alloc_at, alloc_step, free_at, free_step, write_step, created, next_number, create_step, cache_step, take_new, take_from, take_of, take_step, give_object, give_of, give_step, frames_of, destroy_of, destroy_step, reap_step, next_slot, after_grant, is_busy, after_take_back, take_back_step}
+use Rattle.model_core.specs.Operations.{refuse, alloc_at, alloc_step, free_at, free_step, write_step, next_slot, after_grant, is_busy, after_take_back, take_back_step}
+use Rattle.model_core.specs.CacheOperations.{created, next_number, create_step, cache_step, take_new, take_from, take_of, take_step, give_object, give_of, give_step, frames_of, destroy_of, destroy_step, reap_step}
 use Rattle.model_core.specs.Runs.{Operation, Alloc, Free, Write, Create, Take, Give, Destroy, Reap, Grant, TakeBack, Reset, after}
 use Rattle.model_core.specs.WellFormed.{IsApart, IsWellFormed}
 use Rattle.model_core.specs.Laws.{writes, WritesAlone, ReleasedBytesStay}
 use Rattle.model_core.proofs.Lists.{IsIn, in_filter, each_in, find_in, Found, found, any_map, any_split, none_any}
+use Rattle.model_core.proofs.ByNeed.{by_need_keeps}
 use Rattle.model_core.proofs.Apart.{in_block-true, apart_place}
 use Rattle.model_core.proofs.Chosen.{chosen_apart}
 use Rattle.model_core.proofs.Laid.{Laid, laid, all_laid, laid_block, in_laid, Placed, IsCutLaid, taken_laid, laid_out}
 use Rattle.model_core.proofs.Kept.{frame_slot, place_held}
 use Rattle.model_core.proofs.Split.{laid_of, slab_blocks_laid, is_empty_laid, gone_laid}
-use Rattle.model_core.proofs.PageSteps.{either, done, not_busy}
+use Rattle.model_core.proofs.PageSteps.{either, done, by_need_kept, not_busy}
 use Rattle.model_core.proofs.CacheSteps.{in_left, in_right, in_map, in_all_laid}
 use Rattle.model_core.proofs.Objects.{byte_is_of, IsPageByte, IsLiveByte, reached, live_byte, page_apart}
 use Rattle.model_core.proofs.Constructed.{grown_byte, not_gone, next_unheld}
@@ -96,13 +98,23 @@ live_not_empty m place h = ap not (some_live h.slab.live h.index h.index_in h.li
 abbrev Same : ℕ → Machine → Machine → Type 0
 Same place m n = n.bytes place ≡ m.bytes place
 
-same_alloc : (order k place : ℕ) (m : Machine) → Same place m (alloc_step order k m).machine
+same_reaped : (order place : ℕ) (m : Machine) → IsWellFormed order m → Reached m place → Same place m (reaped m)
+unfolding reaped
+same_reaped order place m w r = ap (λ b. if b then Some 0 else m.bytes place) (ap (λ bs. list_any (in_block place) bs) (gone_laid m.caches)
+    ∙ reached_kept order is_empty_laid m place w r (live_not_empty m place))
+
+same_by_need : (order k place : ℕ) (m : Machine) → IsWellFormed order m → Reached m place → Same place m (by_need order k m)
+same_by_need order k place m w r = by_need_keeps (Same place m) order k m refl (same_reaped order place m w r)
+
+same_alloc : (order k place : ℕ) (m : Machine) → IsWellFormed order m → Reached m place → Same place m (alloc_step order k m).machine
 unfolding alloc_step
-same_alloc order k place m = either (Same place m) (ltb order k) (refuse AllocRefusal.BadOrder m) (alloc_at k m (choice order m k)) refl (go (choice order m k))
+same_alloc order k place m w r =
+    let n : Machine = by_need order k m in
+    either (Same place m) (ltb order k) (refuse AllocRefusal.BadOrder m) (alloc_at k n (choice order n k)) refl (go n (same_by_need order k place m w r) (choice order n k))
   where
-    go : (o : Option ℕ) → Same place m (alloc_at k m o).machine
-    go None = refl
-    go (Some first) = refl
+    go : (n : Machine) → Same place m n → (o : Option ℕ) → Same place m (alloc_at k n o).machine
+    go n h None = h
+    go n h (Some first) = h
 
 same_write : (begin place : ℕ) (new : List ℕ) (m : Machine) → (leb begin place && ltb place (begin + length new)) ≡ false → Same place m (write_step begin new m).machine
 unfolding write_step
@@ -116,17 +128,37 @@ same_create limit size align place pattern m =
     (either (Same place m) (not (is_alignment align)) (refuse CacheRefusal.BadAlign m) _ refl
     (either (Same place m) (leb limit (next_number m)) (record { answer = None; machine = m }) (record { answer = Some (next_number m); machine = created (next_number m) size align pattern m }) refl refl))
 
+-- what is in reach is in reach of the reaped machine
+reached_reaped : (m : Machine) (place : ℕ) → Reached m place → Reached (reaped m) place
+unfolding reaped
+reached_reaped m place (inl h) = inl (record { page = h.page; page_in = h.page_in; in_page = h.in_page })
+reached_reaped m place (inr h) = inr (record {
+  cache = without_empty h.cache;
+  slab = h.slab;
+  index = h.index;
+  byte = h.byte;
+  cache_in = in_map without_empty h.cache m.caches h.cache_in;
+  slab_in = in_filter (λ s. not (is_empty s)) h.slab h.cache.slabs h.slab_in (ap not (live_not_empty m place h));
+  index_in = h.index_in;
+  live = h.live;
+  byte_in = h.byte_in;
+  at = h.at;
+})
+
 same_take : (order number place : ℕ) (m : Machine) → IsWellFormed order m → Reached m place → Same place m (take_step order number m).machine
 unfolding take_step
 same_take order number place m w r = go (cache_of m number)
   where
-    new : (c : Cache) (o : Option ℕ) → choice order m (layout c).order ≡ o → Same place m (take_new c m o).machine
-    new c None e = refl
-    new c (Some first) e = reached_grown order first c m place w e r
+    new : (c : Cache) (n : Machine) → IsWellFormed order n → Reached n place → Same place m n → (o : Option ℕ) → choice order n (layout c).order ≡ o → Same place m (take_new c n o).machine
+    new c n w r h None e = h
+    new c n w r h (Some first) e = reached_grown order first c n place w e r ∙ h
 
     slab : (c : Cache) (o : Option Slab) → Same place m (take_from order c m o).machine
     slab c (Some s) = refl
-    slab c None = new c (choice order m (layout c).order) refl
+    slab c None =
+        let k : ℕ = (layout c).order in
+        let n : Machine = by_need order k m in
+        new c n (by_need_kept order k m w) (by_need_keeps (λ n. Reached n place) order k m r (reached_reaped m place r)) (same_by_need order k place m w r) (choice order n k) refl
 
     go : (o : Option Cache) → Same place m (take_of order m o).machine
     go None = refl
@@ -167,9 +199,8 @@ same_destroy order number place m w r = go (cache_of m number) refl
     go (Some c) e = test c (find_in (λ x. eqb x.number number) c m.caches e).0 (list_any (λ s. not (is_empty s)) c.slabs) refl
 
 same_reap : (order place : ℕ) (m : Machine) → IsWellFormed order m → Reached m place → Same place m (reap_step m).machine
-unfolding reap_step reaped
-same_reap order place m w r = ap (λ b. if b then Some 0 else m.bytes place) (ap (λ bs. list_any (in_block place) bs) (gone_laid m.caches)
-    ∙ reached_kept order is_empty_laid m place w r (live_not_empty m place))
+unfolding reap_step
+same_reap order place m w r = same_reaped order place m w r
 
 same_grant : (order place : ℕ) (m : Machine) → IsWellFormed order m → Reached m place → Same place m (after_grant order m)
 unfolding after_grant
@@ -205,7 +236,7 @@ writes_alone limit order operation m place w e = go operation
     r = reached m place 1 place e (omega arith) (omega arith)
 
     go : (operation : Operation) → in_reach (after limit order operation m) place 1 ≡ true → writes operation place ≡ false → Same place m (after limit order operation m)
-    go (Alloc k) f not_written = same_alloc order k place m
+    go (Alloc k) f not_written = same_alloc order k place m w r
     go (Free first) f not_written = ap (λ bytes. bytes place) (released_bytes_stay first m)
     go (Write begin new) f not_written = same_write begin place new m not_written
     go (Create size align pattern) f not_written = same_create limit size align place pattern m

@@ -1,22 +1,24 @@
 -- Objects taken and given back, and growth: the machine stays well formed.
-use Rattle.std.proofs.Common.{◌≡◌, ◌≢◌, ℕ, ◌+◌, ◌-◌, ◌*◌, Bool, true, false, eqb, List, [], ◌∷◌, ◌++◌, map, length, Option, Some, None, refl, sym, ap, ◌∙◌, subst, inl, inr, arith}
-use Rattle.std.specs.Prelude.{if◌then◌else◌, is_some, find, slice_set}
+use Rattle.std.proofs.Common.{◌≡◌, ◌≢◌, ℕ, ◌+◌, ◌-◌, ◌*◌, Bool, true, false, not, cond, eqb, List, [], ◌∷◌, ◌++◌, map, length, Option, Some, None, refl, sym, ap, ◌∙◌, subst, inl, inr, arith}
+use Rattle.std.specs.Prelude.{if◌then◌else◌, is_some, filter, find, slice_set}
 use Rattle.std.specs.List.{AllByRecursion as Each}
 use Rattle.std.proofs.Math.ListN.{length-set, length-replicate}
 use Rattle.std.proofs.Math.Nat.{mod-lt}
 use Rattle.model_core.specs.Blocks.{Block, block}
 use Rattle.model_core.specs.Layouts.{in_object}
 use Rattle.model_core.specs.Machine.{Slab, Cache, Machine, layout, choice}
-use Rattle.model_core.specs.Slabs.{is_partial, is_empty, cache_of, with_cache, with_slab, with_live, new_slab, fresh_byte, grown_cache, grown, slab_to_use, next_object}
-use Rattle.model_core.specs.Operations.{take_new, take_from, take_of, take_step}
+use Rattle.model_core.specs.Slabs.{is_partial, is_empty, cache_of, with_cache, with_slab, with_live, new_slab, fresh_byte, grown_cache, grown, slab_to_use, next_object, without_empty, reaped, by_need}
+use Rattle.model_core.specs.CacheOperations.{take_new, take_from, take_of, take_step}
 use Rattle.model_core.specs.WellFormed.{RisesFrom, IsApart, IsCut, IsCache, IsWellFormed}
 use Rattle.model_core.proofs.Layouts.{layouts_fit}
 use Rattle.model_core.proofs.Lists.{IsIn, each_left, each_right, each_put, each_less, each_middle, each_weaker, each_in, each_unmap, each_from, find_in, Found, found, found_replaced, PutIn, put_in, put_rises, map_append}
+use Rattle.model_core.proofs.ByNeed.{by_need_keeps}
 use Rattle.model_core.proofs.Apart.{apart_first}
 use Rattle.model_core.proofs.Chosen.{chosen_apart, chosen_placed}
 use Rattle.model_core.proofs.Laid.{Laid, laid, laid_in, all_laid, laid_block, IsLaidOut, taken_laid, laid_out, well_formed}
 use Rattle.model_core.proofs.Kept.{with_flags, flags_set, slab_put}
 use Rattle.model_core.proofs.Split.{in_middle, laid_parts}
+use Rattle.model_core.proofs.PageSteps.{by_need_kept}
 
 -- Membership
 
@@ -82,6 +84,7 @@ live_kept order c s i b m w in_c in_s =
     let is_d : IsCache d = record {
       sized = is_c.sized;
       aligned = is_c.aligned;
+      patterned = is_c.patterned;
       counted = is_c.counted;
       slabs_rise = subst (RisesFrom 0) (ap (λ xs. map (λ x. x.first) xs) fs.is ∙ (sym (same_keys (λ x. x.first) fs.before fs.later s t refl) ∙ ap (λ xs. map (λ x. x.first) xs) (sym slabs))) is_c.slabs_rise;
       slabs_cut = subst (Each (IsCut d)) (sym slabs) (each_put (IsCut d) fs.before fs.later t (each_less (IsCut d) fs.before fs.later s cut) (record { count = length-set {A = Bool} s.live i b ∙ cut_s.count; colour = cut_s.colour }));
@@ -143,6 +146,7 @@ grown_kept order first c m w in_c e =
     let is_g : IsCache g = record {
       sized = is_c.sized;
       aligned = is_c.aligned;
+      patterned = is_c.patterned;
       counted = mod-lt (c.made + 1) (layouts_fit c.size c.align is_c.sized is_c.aligned).colours;
       slabs_rise = put_rises (λ x. x.first) 0 s c.slabs is_c.slabs_rise (omega arith) (each_from (λ x. x.first ≢ first) c.slabs (λ x i same.
           apart_first b (laid_block (laid c x)) (each_in (λ l. IsApart b (laid_block l)) (laid c x) (all_laid m.caches) (each_unmap (IsApart b) laid_block (all_laid m.caches) apart_slabs) (in_all_laid c x m.caches in_c i)) (sym same)));
@@ -168,16 +172,44 @@ used_in c s e = go (find is_partial c.slabs) refl e
     go None f e = (find_in is_empty s c.slabs e).0
     go (Some t) f e = (find_in is_partial s c.slabs (f ∙ e)).0
 
+-- a cache that grows has no empty slab, so it stands among those of the reaped machine as it was
+kept_all : {X : Type 0} (p : X → Bool) (xs : List X) → find p xs ≡ None → filter (λ x. not (p x)) xs ≡ xs
+kept_all p [] e = refl
+kept_all {X} p (x ∷ xs) e = go (p x) e (kept_all p xs)
+  where
+    go : (b : Bool) → cond b (Some x) (find p xs) ≡ None → (find p xs ≡ None → filter (λ x. not (p x)) xs ≡ xs)
+        → cond (not b) (x ∷ filter (λ x. not (p x)) xs) (filter (λ x. not (p x)) xs) ≡ x ∷ xs
+    go true e ih = absurd (cc)
+    go false e ih = ap (λ ys. x ∷ ys) (ih e)
+
+none_empty : (c : Cache) → slab_to_use (find is_partial c.slabs) (find is_empty c.slabs) ≡ None → find is_empty c.slabs ≡ None
+unfolding slab_to_use
+none_empty c e = go (find is_partial c.slabs) e
+  where
+    go : (o : Option Slab) → slab_to_use o (find is_empty c.slabs) ≡ None → find is_empty c.slabs ≡ None
+    go None e = e
+    go (Some s) e = absurd (cc)
+
+stands_reaped : (c : Cache) (m : Machine) → IsIn c m.caches → slab_to_use (find is_partial c.slabs) (find is_empty c.slabs) ≡ None → IsIn c (reaped m).caches
+unfolding reaped
+stands_reaped c m i e =
+    subst (λ x. IsIn x (map without_empty m.caches)) (ap (λ (ss : List Slab). record c { slabs = ss }) (kept_all is_empty c.slabs (none_empty c e))) (in_map without_empty c m.caches i)
+
+pub stands_by_need : (order k : ℕ) (c : Cache) (m : Machine) → IsIn c m.caches → slab_to_use (find is_partial c.slabs) (find is_empty c.slabs) ≡ None → IsIn c (by_need order k m).caches
+stands_by_need order k c m i e = by_need_keeps (λ n. IsIn c n.caches) order k m i (stands_reaped c m i e)
+
 take_from_kept : (order : ℕ) (c : Cache) (m : Machine) → IsWellFormed order m → IsIn c m.caches → (o : Option Slab) → slab_to_use (find is_partial c.slabs) (find is_empty c.slabs) ≡ o
     → IsWellFormed order (take_from order c m o).machine
 take_from_kept order c m w in_c (Some s) e = live_kept order c s (next_object s) true m w in_c (used_in c s e)
-take_from_kept order c m w in_c None e = go (choice order m (layout c).order) refl
+take_from_kept order c m w in_c None e =
+    let n : Machine = by_need order (layout c).order m in
+    go n (by_need_kept order (layout c).order m w) (stands_by_need order (layout c).order c m in_c e) (choice order n (layout c).order) refl
   where
-    go : (o : Option ℕ) → choice order m (layout c).order ≡ o → IsWellFormed order (take_new c m o).machine
-    go None e = w
-    go (Some first) e =
-        let h : IsGrown first c m = grown_is order first c m w in_c in
-        live_kept order (grown_cache first c) (new_slab c first) (next_object (new_slab c first)) true (grown first c m) (grown_kept order first c m w in_c e) h.cache_in h.slab_in
+    go : (n : Machine) → IsWellFormed order n → IsIn c n.caches → (o : Option ℕ) → choice order n (layout c).order ≡ o → IsWellFormed order (take_new c n o).machine
+    go n w in_c None e = w
+    go n w in_c (Some first) e =
+        let h : IsGrown first c n = grown_is order first c n w in_c in
+        live_kept order (grown_cache first c) (new_slab c first) (next_object (new_slab c first)) true (grown first c n) (grown_kept order first c n w in_c e) h.cache_in h.slab_in
 
 pub take_kept : (order number : ℕ) (m : Machine) → IsWellFormed order m → IsWellFormed order (take_step order number m).machine
 unfolding take_step

@@ -10,28 +10,35 @@ use Rattle.model_core.specs.declared.refusals.DestroyRefusal.{DestroyRefusal}
 use Rattle.model_core.specs.declared.refusals.TakeBackRefusal.{TakeBackRefusal}
 use Rattle.model_core.specs.Layouts.{is_size, is_alignment}
 use Rattle.model_core.specs.Machine.{Slab, Cache, Machine, empty_machine, holds, layout, choice, order_in}
-use Rattle.model_core.specs.Slabs.{LiveObject, live_objects, is_partial, is_empty, cache_of, new_slab, grown_cache, grown, slab_to_use, next_object}
+use Rattle.model_core.specs.Slabs.{LiveObject, live_objects, is_partial, is_empty, cache_of, new_slab, grown_cache, grown, slab_to_use, next_object, by_need}
 use Rattle.model_core.specs.Reach.{in_reach}
-use Rattle.model_core.specs.Operations.{Step, refuse, alloc_at, alloc_step, free_at, free_step, written, write_step, created, next_number, create_step, cache_step, take_new, take_from, take_of, take_step, give_object, give_of, give_step, destroy_of, destroy_step, reap_step, is_busy, after_take_back, take_back_step}
-use Rattle.model_core.specs.Runs.{Operation, Alloc, Free, Write, Create, Take, Give, Destroy, Reap, Grant, TakeBack, Reset, after, run}
+use Rattle.model_core.specs.Operations.{Step, refuse, alloc_at, alloc_step, free_at, free_step, written, write_step, is_busy, after_take_back, take_back_step}
+use Rattle.model_core.specs.CacheOperations.{created, next_number, create_step, cache_step, take_new, take_from, take_of, take_step, give_object, give_of, give_step, destroy_of, destroy_step, reap_step}
+use Rattle.model_core.specs.Runs.{Operation, Alloc, Free, Write, Create, Take, Give, Destroy, Reap, Grant, TakeBack, Reset, IsPossible, ArePossible, after, run}
 use Rattle.model_core.specs.WellFormed.{IsWellFormed}
 use Rattle.model_core.specs.Laws.{taken_place, NeverTaken, place_of, ConstructedFirst}
-use Rattle.model_core.proofs.Lists.{IsIn, find_in, each_in}
+use Rattle.model_core.proofs.Lists.{IsIn, find_in, each_in, each_left, each_right}
+use Rattle.model_core.proofs.ByNeed.{by_need_keeps}
 use Rattle.model_core.proofs.Laid.{laid, all_laid}
-use Rattle.model_core.proofs.PageSteps.{either, done, created_laid}
-use Rattle.model_core.proofs.CacheSteps.{IsGrown, grown_is, grown_kept, used_in}
+use Rattle.model_core.proofs.PageSteps.{either, done, created_laid, by_need_kept}
+use Rattle.model_core.proofs.CacheSteps.{IsGrown, grown_is, grown_kept, used_in, stands_by_need}
 use Rattle.model_core.proofs.Objects.{live_is}
 use Rattle.model_core.proofs.ObjectsApart.{IsLaidObject, laid_object}
 use Rattle.model_core.proofs.Constructed.{IsFresh, AllFresh, fresh_outside, fresh_written, fresh_flagged, fresh_grown, fresh_destroyed, fresh_reaped, fresh_granted, fresh_taken_back}
 use Rattle.model_core.proofs.WellFormedRuns.{keeps_well_formed, runs_well_formed}
 
-fresh_alloc : (order place k : ℕ) (m : Machine) → AllFresh place m → AllFresh place (alloc_step order k m).machine
+fresh_by_need : (order place k : ℕ) (m : Machine) → IsWellFormed order m → AllFresh place m → AllFresh place (by_need order k m)
+fresh_by_need order place k m w h = by_need_keeps (AllFresh place) order k m h (fresh_reaped order place m w h)
+
+fresh_alloc : (order place k : ℕ) (m : Machine) → IsWellFormed order m → AllFresh place m → AllFresh place (alloc_step order k m).machine
 unfolding alloc_step
-fresh_alloc order place k m h = either (AllFresh place) (ltb order k) (refuse AllocRefusal.BadOrder m) (alloc_at k m (choice order m k)) h (go (choice order m k))
+fresh_alloc order place k m w h =
+    let n : Machine = by_need order k m in
+    either (AllFresh place) (ltb order k) (refuse AllocRefusal.BadOrder m) (alloc_at k n (choice order n k)) h (go n (fresh_by_need order place k m w h) (choice order n k))
   where
-    go : (o : Option ℕ) → AllFresh place (alloc_at k m o).machine
-    go None = h
-    go (Some first) = h
+    go : (n : Machine) → AllFresh place n → (o : Option ℕ) → AllFresh place (alloc_at k n o).machine
+    go n h None = h
+    go n h (Some first) = h
 
 fresh_free : (place first : ℕ) (m : Machine) → AllFresh place m → AllFresh place (free_step first m).machine
 unfolding free_step
@@ -61,14 +68,17 @@ fresh_created limit place size align pattern m h =
 fresh_take_from : (order place : ℕ) (c : Cache) (m : Machine) → IsWellFormed order m → IsIn c m.caches → (o : Option Slab) → slab_to_use (find is_partial c.slabs) (find is_empty c.slabs) ≡ o
     → result_ok (take_from order c m o).answer ≢ Some place → AllFresh place m → AllFresh place (take_from order c m o).machine
 fresh_take_from order place c m w in_c (Some s) e ne h = fresh_flagged order place c s (next_object s) true m w in_c (used_in c s e) (λ _ same. ne (ap Some same)) h
-fresh_take_from order place c m w in_c None e ne h = go (choice order m (layout c).order) refl ne
+fresh_take_from order place c m w in_c None e ne h =
+    let n : Machine = by_need order (layout c).order m in
+    go n (by_need_kept order (layout c).order m w) (stands_by_need order (layout c).order c m in_c e) (fresh_by_need order place (layout c).order m w h) (choice order n (layout c).order) refl ne
   where
-    go : (o : Option ℕ) → choice order m (layout c).order ≡ o → result_ok (take_new c m o).answer ≢ Some place → AllFresh place (take_new c m o).machine
-    go None e ne = h
-    go (Some first) e ne =
-        let g : IsGrown first c m = grown_is order first c m w in_c in
-        fresh_flagged order place (grown_cache first c) (new_slab c first) (next_object (new_slab c first)) true (grown first c m) (grown_kept order first c m w in_c e) g.cache_in g.slab_in
-        (λ _ same. ne (ap Some same)) (fresh_grown order place first c m w in_c e h)
+    go : (n : Machine) → IsWellFormed order n → IsIn c n.caches → AllFresh place n → (o : Option ℕ) → choice order n (layout c).order ≡ o
+        → result_ok (take_new c n o).answer ≢ Some place → AllFresh place (take_new c n o).machine
+    go n w in_c h None e ne = h
+    go n w in_c h (Some first) e ne =
+        let g : IsGrown first c n = grown_is order first c n w in_c in
+        fresh_flagged order place (grown_cache first c) (new_slab c first) (next_object (new_slab c first)) true (grown first c n) (grown_kept order first c n w in_c e) g.cache_in g.slab_in
+        (λ _ same. ne (ap Some same)) (fresh_grown order place first c n w in_c e h)
 
 fresh_take : (order place number : ℕ) (m : Machine) → IsWellFormed order m → result_ok (take_step order number m).answer ≢ Some place → AllFresh place m → AllFresh place (take_step order number m).machine
 unfolding take_step
@@ -117,7 +127,7 @@ unfolding empty_machine
 fresh_reset place = tt
 
 fresh_after : (limit order place : ℕ) (operation : Operation) (m : Machine) → IsWellFormed order m → taken_place order operation m ≢ Some place → AllFresh place m → AllFresh place (after limit order operation m)
-fresh_after limit order place (Alloc k) m w ne h = fresh_alloc order place k m h
+fresh_after limit order place (Alloc k) m w ne h = fresh_alloc order place k m w h
 fresh_after limit order place (Free first) m w ne h = fresh_free place first m h
 fresh_after limit order place (Write begin new) m w ne h = fresh_write order place begin new m w h
 fresh_after limit order place (Create size align pattern) m w ne h = fresh_created limit place size align pattern m h
@@ -129,21 +139,21 @@ fresh_after limit order place Grant m w ne h = fresh_granted order place m w h
 fresh_after limit order place (TakeBack slot) m w ne h = fresh_take_back order place slot m w h
 fresh_after limit order place Reset m w ne h = fresh_reset place
 
-fresh_run : (limit order place : ℕ) (operations : List Operation) (m : Machine) → IsWellFormed order m → NeverTaken limit order place operations m → AllFresh place m → AllFresh place (run limit order operations m)
-fresh_run limit order place [] m w never h = h
-fresh_run limit order place (operation ∷ operations) m w (ne, never) h =
-    fresh_run limit order place operations (after limit order operation m) (keeps_well_formed limit order operation m w) never (fresh_after limit order place operation m w ne h)
+fresh_run : (limit order place : ℕ) (operations : List Operation) (m : Machine) → ArePossible operations → IsWellFormed order m → NeverTaken limit order place operations m → AllFresh place m → AllFresh place (run limit order operations m)
+fresh_run limit order place [] m can w never h = h
+fresh_run limit order place (operation ∷ operations) m (first, rest) w (ne, never) h =
+    fresh_run limit order place operations (after limit order operation m) rest (keeps_well_formed limit order operation m first w) never (fresh_after limit order place operation m w ne h)
 
 pub run_append : (limit order : ℕ) (before since : List Operation) (m : Machine) → run limit order (before ++ since) m ≡ run limit order since (run limit order before m)
 run_append limit order [] since m = refl
 run_append limit order (operation ∷ before) since m = run_append limit order before since (after limit order operation m)
 
 pub constructed_first : ConstructedFirst
-constructed_first limit order before since object j outside never is_object in_size =
+constructed_first limit order before since object j can outside never is_object in_size =
     let earlier : Machine = run limit order before empty_machine in
     let now : Machine = run limit order (before ++ since) empty_machine in
-    let w : IsWellFormed order earlier = runs_well_formed limit order before in
+    let w : IsWellFormed order earlier = runs_well_formed limit order before (each_left IsPossible before since can) in
     let fresh : AllFresh (place_of object) now = subst (AllFresh (place_of object)) (sym (run_append limit order before since empty_machine))
-    (fresh_run limit order (place_of object) since earlier w never (fresh_outside order (place_of object) earlier w outside)) in
-    let o : IsLaidObject order now object = laid_object order now object (runs_well_formed limit order (before ++ since)) is_object in
+    (fresh_run limit order (place_of object) since earlier (each_right IsPossible before since can) w never (fresh_outside order (place_of object) earlier w outside)) in
+    let o : IsLaidObject order now object = laid_object order now object (runs_well_formed limit order (before ++ since) can) is_object in
     (each_in (IsFresh now.bytes (place_of object)) (laid object.cache object.slab) (all_laid now.caches) fresh o.laid_in object.index o.index_in refl).1 j in_size

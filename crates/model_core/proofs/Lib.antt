@@ -12,8 +12,11 @@ mod LayoutRows
 mod Told
 mod PageRows
 mod CacheRows
+mod ReapingRows
 pub mod Layouts
 pub mod Lists
+pub mod Rising
+pub mod ByNeed
 pub mod Apart
 pub mod Chosen
 pub mod TakenSteps
@@ -26,6 +29,7 @@ pub mod Objects
 pub mod ByteSteps
 pub mod WellFormedRuns
 pub mod ObjectsApart
+pub mod SlabBlocks
 pub mod Constructed
 pub mod ConstructedRuns
 pub mod BytesStay

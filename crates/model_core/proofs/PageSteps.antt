@@ -11,12 +11,14 @@ use Rattle.model_core.specs.declared.refusals.CacheRefusal.{CacheRefusal}
 use Rattle.model_core.specs.declared.refusals.DestroyRefusal.{DestroyRefusal}
 use Rattle.model_core.specs.declared.refusals.TakeBackRefusal.{TakeBackRefusal}
 use Rattle.model_core.specs.Blocks.{Block, block, slot_block}
-use Rattle.model_core.specs.Layouts.{layout_of, is_size, is_alignment}
+use Rattle.model_core.specs.Layouts.{layout_of, is_size, is_alignment, is_pattern}
 use Rattle.model_core.specs.Machine.{Cache, Machine, empty_machine, put_rising, least_missing, holds, taken_blocks, choice, order_in}
-use Rattle.model_core.specs.Slabs.{zeroed, is_empty, without_empty, reaped, destroyed, cache_of}
-use Rattle.model_core.specs.Operations.{Step, refuse, with_block, without_block, alloc_at, alloc_step, free_at, free_step, created, next_number, create_step, cache_answer, cache_step, destroy_of, destroy_step, reap_step, next_slot, after_grant, overlaps, is_busy, after_take_back, take_back_step}
+use Rattle.model_core.specs.Slabs.{zeroed, is_empty, without_empty, reaped, by_need, destroyed, cache_of}
+use Rattle.model_core.specs.Operations.{Step, refuse, with_block, without_block, alloc_at, alloc_step, free_at, free_step, next_slot, after_grant, overlaps, is_busy, after_take_back, take_back_step}
+use Rattle.model_core.specs.CacheOperations.{created, next_number, create_step, cache_answer, cache_step, destroy_of, destroy_step, reap_step}
 use Rattle.model_core.specs.WellFormed.{RisesFrom, IsApart, IsCut, IsCache, IsWellFormed}
 use Rattle.model_core.proofs.Lists.{IsIn, each_left, each_right, each_put, each_weaker, each_filter, each_map, each_unmap, any_none, none_any, find_in, Found, found, PutIn, put_in, put_rises, filter_rises, least_is_missing}
+use Rattle.model_core.proofs.ByNeed.{by_need_keeps}
 use Rattle.model_core.proofs.Apart.{apart_first}
 use Rattle.model_core.proofs.Chosen.{chosen_apart, chosen_placed}
 use Rattle.model_core.proofs.Laid.{all_laid, laid_block, IsLaidOut, taken_laid, laid_out, well_formed}
@@ -40,6 +42,37 @@ empty_kept order = well_formed order empty_machine tt tt tt tt (record {
   mapped = λ place. refl;
 })
 
+-- Empty slabs given back
+
+without_empty_is : (c : Cache) → IsCache c → IsCache (without_empty c)
+without_empty_is c h = record {
+  sized = h.sized;
+  aligned = h.aligned;
+  patterned = h.patterned;
+  counted = h.counted;
+  slabs_rise = filter_rises (λ s. s.first) (λ s. not (is_empty s)) 0 c.slabs h.slabs_rise;
+  slabs_cut = each_weaker (IsCut c) (IsCut (without_empty c)) (λ s k. record { count = k.count; colour = k.colour }) (filter (λ s. not (is_empty s)) c.slabs) (each_filter (IsCut c) (λ s. not (is_empty s)) c.slabs h.slabs_cut);
+}
+
+numbers_same : (cs : List Cache) → map (λ c. c.number) cs ≡ map (λ c. c.number) (map without_empty cs)
+numbers_same [] = refl
+numbers_same (c ∷ cs) = ap (λ ns. c.number ∷ ns) (numbers_same cs)
+
+pub reaped_kept : (order : ℕ) (m : Machine) → IsWellFormed order m → IsWellFormed order (reaped m)
+unfolding reaped
+reaped_kept order m w = well_formed order (reaped m) w.slots_rise w.blocks_rise (subst (RisesFrom 0) (numbers_same m.caches) w.caches_rise)
+    (each_map IsCache without_empty m.caches (each_weaker IsCache (λ c. IsCache (without_empty c)) without_empty_is m.caches w.caches))
+    (subst (λ ls. IsLaidOut order m.slots m.blocks ls (reaped m).bytes) (kept_laid m.caches)
+    (subst (λ bs. IsLaidOut order m.slots m.blocks (filter (λ l. not (is_empty_laid l)) (all_laid m.caches)) (zeroed bs m.bytes)) (sym (gone_laid m.caches))
+    (given_back order m.slots m.blocks is_empty_laid (all_laid m.caches) m.bytes (laid_out order m w))))
+
+pub reap_kept : (order : ℕ) (m : Machine) → IsWellFormed order m → IsWellFormed order (reap_step m).machine
+unfolding reap_step
+reap_kept order m w = reaped_kept order m w
+
+pub by_need_kept : (order k : ℕ) (m : Machine) → IsWellFormed order m → IsWellFormed order (by_need order k m)
+by_need_kept order k m w = by_need_keeps (IsWellFormed order) order k m w (reaped_kept order m w)
+
 -- Page blocks
 
 block_kept : (order first k : ℕ) (m : Machine) → IsWellFormed order m → choice order m k ≡ Some first → IsWellFormed order (with_block (block first k) m)
@@ -62,7 +95,10 @@ alloc_at_kept order k m w (Some first) e = block_kept order first k m w e
 
 pub alloc_kept : (order k : ℕ) (m : Machine) → IsWellFormed order m → IsWellFormed order (alloc_step order k m).machine
 unfolding alloc_step
-alloc_kept order k m w = either (IsWellFormed order) (ltb order k) (refuse AllocRefusal.BadOrder m) (alloc_at k m (choice order m k)) w (alloc_at_kept order k m w (choice order m k) refl)
+alloc_kept order k m w =
+    let n : Machine = by_need order k m in
+    either (IsWellFormed order) (ltb order k) (refuse AllocRefusal.BadOrder m) (alloc_at k n (choice order n k)) w
+    (alloc_at_kept order k n (by_need_kept order k m w) (choice order n k) refl)
 
 pub free_kept : (order first : ℕ) (m : Machine) → IsWellFormed order m → IsWellFormed order (free_step first m).machine
 unfolding free_step
@@ -128,7 +164,7 @@ take_back_kept order slot m w = either (IsWellFormed order) (not (holds m slot))
     go true e = w
     go false e = slot_gone_kept order slot m w e
 
--- Caches made, destroyed, reaped
+-- Caches made and destroyed
 
 pub created_laid : (number size align : ℕ) (pattern : List ℕ) (m : Machine) → all_laid (created number size align pattern m).caches ≡ all_laid m.caches
 created_laid number size align pattern m =
@@ -136,24 +172,24 @@ created_laid number size align pattern m =
     let p : PutIn (λ x. x.number) c m.caches = put_in (λ x. x.number) c m.caches in
     ap all_laid p.is ∙ (laid_without p.before p.later c refl ∙ ap all_laid (sym p.was))
 
-new_kept : (order number size align : ℕ) (pattern : List ℕ) (m : Machine) → IsWellFormed order m → is_size size ≡ true → is_alignment align ≡ true
+new_kept : (order number size align : ℕ) (pattern : List ℕ) (m : Machine) → IsWellFormed order m → is_size size ≡ true → is_alignment align ≡ true → is_pattern pattern ≡ true
     → Each (λ x. x ≢ number) (map (λ c. c.number) m.caches) → IsWellFormed order (created number size align pattern m)
 unfolding layout_of
-new_kept order number size align pattern m w sized aligned missing =
+new_kept order number size align pattern m w sized aligned patterned missing =
     let c : Cache = record { number = number; size = size; align = align; pattern = pattern; made = 0; slabs = [] } in
     let p : PutIn (λ x. x.number) c m.caches = put_in (λ x. x.number) c m.caches in
-    let is : IsCache c = record { sized = sized; aligned = aligned; counted = omega arith; slabs_rise = tt; slabs_cut = tt } in
+    let is : IsCache c = record { sized = sized; aligned = aligned; patterned = patterned; counted = omega arith; slabs_rise = tt; slabs_cut = tt } in
     well_formed order (created number size align pattern m) w.slots_rise w.blocks_rise
     (put_rises (λ x. x.number) 0 c m.caches w.caches_rise (omega arith) (each_unmap (λ x. x ≢ number) (λ x. x.number) m.caches missing))
     (subst (Each IsCache) (sym p.is) (each_put IsCache p.before p.later c (subst (Each IsCache) p.was w.caches) is))
     (subst (λ ls. IsLaidOut order m.slots m.blocks ls m.bytes) (ap all_laid p.was ∙ (sym (laid_without p.before p.later c refl) ∙ ap all_laid (sym p.is))) (laid_out order m w))
 
-pub cache_kept : (limit order size align : ℕ) (pattern : List ℕ) (m : Machine) → IsWellFormed order m → IsWellFormed order (cache_step limit size align pattern m).machine
+pub cache_kept : (limit order size align : ℕ) (pattern : List ℕ) (m : Machine) → is_pattern pattern ≡ true → IsWellFormed order m → IsWellFormed order (cache_step limit size align pattern m).machine
 unfolding cache_step create_step next_number
-cache_kept limit order size align pattern m w = go (is_size size) refl (is_alignment align) refl
+cache_kept limit order size align pattern m patterned w = go (is_size size) refl (is_alignment align) refl
   where
     made : is_size size ≡ true → is_alignment align ≡ true → IsWellFormed order (created (next_number m) size align pattern m)
-    made sized aligned = new_kept order (next_number m) size align pattern m w sized aligned (least_is_missing 0 (map (λ c. c.number) m.caches) w.caches_rise)
+    made sized aligned = new_kept order (next_number m) size align pattern m w sized aligned patterned (least_is_missing 0 (map (λ c. c.number) m.caches) w.caches_rise)
 
     go : (a : Bool) → is_size size ≡ a → (b : Bool) → is_alignment align ≡ b
         → IsWellFormed order (if not a then refuse CacheRefusal.BadSize m else if not b then refuse CacheRefusal.BadAlign m
@@ -180,24 +216,3 @@ destroy_kept order number m w = go (cache_of m number) refl
     go : (o : Option Cache) → cache_of m number ≡ o → IsWellFormed order (destroy_of m o).machine
     go None e = w
     go (Some c) e = either (IsWellFormed order) (list_any (λ s. not (is_empty s)) c.slabs) (refuse DestroyRefusal.CacheInUse m) _ w (gone_kept order c m w (find_in (λ x. eqb x.number number) c m.caches e).0)
-
-without_empty_is : (c : Cache) → IsCache c → IsCache (without_empty c)
-without_empty_is c h = record {
-  sized = h.sized;
-  aligned = h.aligned;
-  counted = h.counted;
-  slabs_rise = filter_rises (λ s. s.first) (λ s. not (is_empty s)) 0 c.slabs h.slabs_rise;
-  slabs_cut = each_weaker (IsCut c) (IsCut (without_empty c)) (λ s k. record { count = k.count; colour = k.colour }) (filter (λ s. not (is_empty s)) c.slabs) (each_filter (IsCut c) (λ s. not (is_empty s)) c.slabs h.slabs_cut);
-}
-
-numbers_same : (cs : List Cache) → map (λ c. c.number) cs ≡ map (λ c. c.number) (map without_empty cs)
-numbers_same [] = refl
-numbers_same (c ∷ cs) = ap (λ ns. c.number ∷ ns) (numbers_same cs)
-
-pub reap_kept : (order : ℕ) (m : Machine) → IsWellFormed order m → IsWellFormed order (reap_step m).machine
-unfolding reap_step reaped
-reap_kept order m w = well_formed order (reaped m) w.slots_rise w.blocks_rise (subst (RisesFrom 0) (numbers_same m.caches) w.caches_rise)
-    (each_map IsCache without_empty m.caches (each_weaker IsCache (λ c. IsCache (without_empty c)) without_empty_is m.caches w.caches))
-    (subst (λ ls. IsLaidOut order m.slots m.blocks ls (reaped m).bytes) (kept_laid m.caches)
-    (subst (λ bs. IsLaidOut order m.slots m.blocks (filter (λ l. not (is_empty_laid l)) (all_laid m.caches)) (zeroed bs m.bytes)) (sym (gone_laid m.caches))
-    (given_back order m.slots m.blocks is_empty_laid (all_laid m.caches) m.bytes (laid_out order m w))))

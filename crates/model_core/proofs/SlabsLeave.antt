@@ -2,26 +2,29 @@
 use Rattle.std.proofs.Common.{◌≡◌, ℕ, Bool, true, false, not, ◌||◌, eqb, ltb, leb, List, ◌∷◌, ◌++◌, map, length, Option, Some, None, Ok, refl, sym, ap, ◌∙◌}
 use Rattle.std.specs.Prelude.{if◌then◌else◌, filter, find, slice_set}
 use Rattle.std.specs.List.{list_any}
-use Rattle.std.proofs.lemmas.Bool.{false≢true, or_right}
+use Rattle.std.proofs.lemmas.Bool.{false≢true, or_parts}
 use Rattle.model_core.specs.declared.refusals.AllocRefusal.{AllocRefusal}
 use Rattle.model_core.specs.declared.refusals.CacheRefusal.{CacheRefusal}
 use Rattle.model_core.specs.declared.refusals.DestroyRefusal.{DestroyRefusal}
 use Rattle.model_core.specs.declared.refusals.TakeBackRefusal.{TakeBackRefusal}
 use Rattle.model_core.specs.Layouts.{is_size, is_alignment}
 use Rattle.model_core.specs.Machine.{Slab, Cache, Machine, empty_machine, holds, slot_of, layout, in_block, choice, order_in}
-use Rattle.model_core.specs.Slabs.{LiveObject, live_objects, is_partial, is_empty, cache_of, with_cache, with_slab, with_live, new_slab, grown_cache, grown, slab_to_use, next_object, zeroed, reaped, destroyed}
+use Rattle.model_core.specs.Slabs.{LiveObject, live_objects, is_partial, is_empty, cache_of, with_cache, with_slab, with_live, new_slab, grown_cache, grown, slab_to_use, next_object, zeroed, reaped, by_need, destroyed}
 use Rattle.model_core.specs.Reach.{in_reach}
-use Rattle.model_core.specs.Operations.{refuse, alloc_at, alloc_step, free_at, free_step, written, write_step, created, next_number, create_step, cache_step, take_new, take_from, take_of, take_step, give_object, give_of, give_step, destroy_of, destroy_step, reap_step, after_grant, is_busy, after_take_back, take_back_step}
+use Rattle.model_core.specs.Operations.{refuse, alloc_at, alloc_step, free_at, free_step, written, write_step, after_grant, is_busy, after_take_back, take_back_step}
+use Rattle.model_core.specs.CacheOperations.{created, next_number, create_step, cache_step, take_new, take_from, take_of, take_step, give_object, give_of, give_step, destroy_of, destroy_step, reap_step}
 use Rattle.model_core.specs.Runs.{Alloc, Free, Write, Create, Take, Give, Destroy, Reap, Grant, TakeBack, Reset, after}
 use Rattle.model_core.specs.WellFormed.{in_slab, IsWellFormed}
 use Rattle.model_core.specs.Laws.{SlabsLeaveZeroes}
 use Rattle.model_core.proofs.Lists.{IsIn, find_in, Found, found, any_append, any_map, any_split}
+use Rattle.model_core.proofs.ByNeed.{by_need_keeps}
 use Rattle.model_core.proofs.Laid.{Laid, laid, all_laid, laid_block, in_laid, in_slab_laid}
 use Rattle.model_core.proofs.Kept.{any_put, with_flags}
 use Rattle.model_core.proofs.Split.{filter_laid, laid_of, slab_blocks_laid, is_empty_laid, kept_laid, gone_laid}
-use Rattle.model_core.proofs.PageSteps.{either, done, created_laid}
-use Rattle.model_core.proofs.CacheSteps.{IsFlagged, flagged, IsGrown, grown_is, grown_kept, used_in}
+use Rattle.model_core.proofs.PageSteps.{either, done, created_laid, by_need_kept}
+use Rattle.model_core.proofs.CacheSteps.{IsFlagged, flagged, IsGrown, grown_is, grown_kept, used_in, stands_by_need}
 use Rattle.model_core.proofs.Objects.{live_is}
+use Rattle.model_core.proofs.Constructed.{grown_byte}
 
 -- the place is still in a slab
 abbrev Still : ℕ → Machine → Type 0
@@ -44,13 +47,18 @@ flagged_same order place c s i b m w in_c in_s =
     ∙ (sym (any_append (in_laid place) f.xs (laid c s ∷ f.ys))
     ∙ (ap (λ ls. list_any (in_laid place) ls) (sym f.was) ∙ sym (in_slab_laid m place)))))
 
-still_grown : (order place first : ℕ) (c : Cache) (m : Machine) → IsWellFormed order m → IsIn c m.caches → Still place m → Still place (grown first c m)
-still_grown order place first c m w in_c h =
+left_flagged : (order place : ℕ) (c : Cache) (s : Slab) (i : ℕ) (b : Bool) (m : Machine) → IsWellFormed order m → IsIn c m.caches → IsIn s c.slabs
+    → Left place m → Left place (with_cache (with_slab (with_live i b s) c) m)
+left_flagged order place c s i b m w in_c in_s h e = h (sym (flagged_same order place c s i b m w in_c in_s) ∙ e)
+
+-- a place outside slabs is not in the new one
+left_grown : (order place first : ℕ) (c : Cache) (m : Machine) → IsWellFormed order m → IsIn c m.caches → Left place m → Left place (grown first c m)
+left_grown order place first c m w in_c h e =
     let g : IsGrown first c m = grown_is order first c m w in_c in
-    in_slab_laid (grown first c m) place
-    ∙ (ap (λ ls. list_any (in_laid place) ls) g.is
-    ∙ (any_put (in_laid place) g.xs g.ys (laid c (new_slab c first))
-    ∙ or_right (in_laid place (laid c (new_slab c first))) (list_any (in_laid place) (g.xs ++ g.ys)) (ap (λ ls. list_any (in_laid place) ls) (sym g.was) ∙ (sym (in_slab_laid m place) ∙ h))))
+    let new : Laid = laid c (new_slab c first) in
+    let parts : (in_laid place new ≡ false) × (list_any (in_laid place) (g.xs ++ g.ys) ≡ false) = or_parts (in_laid place new) (list_any (in_laid place) (g.xs ++ g.ys))
+    (sym (any_put (in_laid place) g.xs g.ys new) ∙ (ap (λ ls. list_any (in_laid place) ls) (sym g.is) ∙ (sym (in_slab_laid (grown first c m) place) ∙ e))) in
+    grown_byte first c m place false parts.0 ∙ h (in_slab_laid m place ∙ (ap (λ ls. list_any (in_laid place) ls) g.was ∙ parts.1))
 
 -- slabs given back
 left_kept : (place : ℕ) (q : Laid → Bool) (ls : List Laid) (bytes : ℕ → Option ℕ) → list_any (in_laid place) ls ≡ true → list_any (in_laid place) (filter (λ l. not (q l)) ls) ≡ false
@@ -78,13 +86,18 @@ left_reaped place m h e =
 
 -- Operations
 
-still_alloc : (order k place : ℕ) (m : Machine) → Still place m → Still place (alloc_step order k m).machine
+left_by_need : (order k place : ℕ) (m : Machine) → Still place m → Left place (by_need order k m)
+left_by_need order k place m h = by_need_keeps (Left place) order k m (still_left place m h) (left_reaped place m h)
+
+left_alloc : (order k place : ℕ) (m : Machine) → Still place m → Left place (alloc_step order k m).machine
 unfolding alloc_step
-still_alloc order k place m h = either (Still place) (ltb order k) (refuse AllocRefusal.BadOrder m) (alloc_at k m (choice order m k)) h (go (choice order m k))
+left_alloc order k place m h =
+    let n : Machine = by_need order k m in
+    either (Left place) (ltb order k) (refuse AllocRefusal.BadOrder m) (alloc_at k n (choice order n k)) (still_left place m h) (go n (left_by_need order k place m h) (choice order n k))
   where
-    go : (o : Option ℕ) → Still place (alloc_at k m o).machine
-    go None = h
-    go (Some first) = h
+    go : (n : Machine) → Left place n → (o : Option ℕ) → Left place (alloc_at k n o).machine
+    go n h None = h
+    go n h (Some first) = h
 
 still_free : (first place : ℕ) (m : Machine) → Still place m → Still place (free_step first m).machine
 unfolding free_step
@@ -106,23 +119,26 @@ still_create limit size align place pattern m h =
     (either (Still place) (leb limit (next_number m)) (record { answer = None; machine = m }) (record { answer = Some (next_number m); machine = created (next_number m) size align pattern m }) h
     (in_slab_laid (created (next_number m) size align pattern m) place ∙ (ap (λ ls. list_any (in_laid place) ls) (created_laid (next_number m) size align pattern m) ∙ (sym (in_slab_laid m place) ∙ h)))))
 
-still_take : (order number place : ℕ) (m : Machine) → IsWellFormed order m → Still place m → Still place (take_step order number m).machine
+left_take : (order number place : ℕ) (m : Machine) → IsWellFormed order m → Still place m → Left place (take_step order number m).machine
 unfolding take_step
-still_take order number place m w h = go (cache_of m number) refl
+left_take order number place m w h = go (cache_of m number) refl
   where
-    new : (c : Cache) → IsIn c m.caches → (o : Option ℕ) → choice order m (layout c).order ≡ o → Still place (take_new c m o).machine
-    new c in_c None e = h
-    new c in_c (Some first) e =
-        let g : IsGrown first c m = grown_is order first c m w in_c in
-        flagged_same order place (grown_cache first c) (new_slab c first) (next_object (new_slab c first)) true (grown first c m) (grown_kept order first c m w in_c e) g.cache_in g.slab_in
-        ∙ still_grown order place first c m w in_c h
+    new : (c : Cache) (n : Machine) → IsWellFormed order n → IsIn c n.caches → Left place n → (o : Option ℕ) → choice order n (layout c).order ≡ o → Left place (take_new c n o).machine
+    new c n w in_c h None e = h
+    new c n w in_c h (Some first) e =
+        let g : IsGrown first c n = grown_is order first c n w in_c in
+        left_flagged order place (grown_cache first c) (new_slab c first) (next_object (new_slab c first)) true (grown first c n) (grown_kept order first c n w in_c e) g.cache_in g.slab_in
+        (left_grown order place first c n w in_c h)
 
-    slab : (c : Cache) → IsIn c m.caches → (o : Option Slab) → slab_to_use (find is_partial c.slabs) (find is_empty c.slabs) ≡ o → Still place (take_from order c m o).machine
-    slab c in_c (Some s) e = flagged_same order place c s (next_object s) true m w in_c (used_in c s e) ∙ h
-    slab c in_c None e = new c in_c (choice order m (layout c).order) refl
+    slab : (c : Cache) → IsIn c m.caches → (o : Option Slab) → slab_to_use (find is_partial c.slabs) (find is_empty c.slabs) ≡ o → Left place (take_from order c m o).machine
+    slab c in_c (Some s) e = left_flagged order place c s (next_object s) true m w in_c (used_in c s e) (still_left place m h)
+    slab c in_c None e =
+        let k : ℕ = (layout c).order in
+        let n : Machine = by_need order k m in
+        new c n (by_need_kept order k m w) (stands_by_need order k c m in_c e) (left_by_need order k place m h) (choice order n k) refl
 
-    go : (o : Option Cache) → cache_of m number ≡ o → Still place (take_of order m o).machine
-    go None e = h
+    go : (o : Option Cache) → cache_of m number ≡ o → Left place (take_of order m o).machine
+    go None e = still_left place m h
     go (Some c) e = slab c (find_in (λ x. eqb x.number number) c m.caches e).0 (slab_to_use (find is_partial c.slabs) (find is_empty c.slabs)) refl
 
 still_give : (order number begin place : ℕ) (m : Machine) → IsWellFormed order m → Still place m → Still place (give_step number begin m).machine
@@ -163,11 +179,11 @@ unfolding empty_machine
 nothing_held slot = refl
 
 pub slabs_leave_zeroes : SlabsLeaveZeroes
-slabs_leave_zeroes limit order (Alloc k) m place w h e held = still_left place (after limit order (Alloc k) m) (still_alloc order k place m h) e
+slabs_leave_zeroes limit order (Alloc k) m place w h e held = left_alloc order k place m h e
 slabs_leave_zeroes limit order (Free first) m place w h e held = still_left place (after limit order (Free first) m) (still_free first place m h) e
 slabs_leave_zeroes limit order (Write begin new) m place w h e held = still_left place (after limit order (Write begin new) m) (still_write begin place new m h) e
 slabs_leave_zeroes limit order (Create size align pattern) m place w h e held = still_left place (after limit order (Create size align pattern) m) (still_create limit size align place pattern m h) e
-slabs_leave_zeroes limit order (Take number) m place w h e held = still_left place (after limit order (Take number) m) (still_take order number place m w h) e
+slabs_leave_zeroes limit order (Take number) m place w h e held = left_take order number place m w h e
 slabs_leave_zeroes limit order (Give number begin) m place w h e held = still_left place (after limit order (Give number begin) m) (still_give order number begin place m w h) e
 slabs_leave_zeroes limit order (Destroy number) m place w h e held = left_destroy order number place m w h e
 slabs_leave_zeroes limit order Reap m place w h e held = left_reap place m h e

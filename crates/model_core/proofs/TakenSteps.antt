@@ -7,13 +7,16 @@ use Rattle.std.proofs.lemmas.Bool.{cases_eq, eqb-true, eqb-false, eq-eqb, ne_eqb
 use Rattle.model_core.specs.declared.refusals.AllocRefusal.{AllocRefusal}
 use Rattle.model_core.specs.Blocks.{Block, block, with_taken, without_taken}
 use Rattle.model_core.specs.Machine.{Machine, taken_blocks, order_in, taken_in, choice}
+use Rattle.model_core.specs.Slabs.{by_need}
 use Rattle.model_core.specs.Operations.{refuse, with_block, without_block, alloc_at, alloc_step, free_at, free_step}
-use Rattle.model_core.specs.WellFormed.{IsApart, AreApart, IsPlaced}
+use Rattle.model_core.specs.WellFormed.{IsApart, AreApart, IsPlaced, IsWellFormed}
 use Rattle.model_core.specs.Laws.{TakenSound, AllocTakes, FreeReleases}
 use Rattle.model_core.proofs.Lists.{IsIn, each_in, each_left, each_weaker, PutIn, put_in}
+use Rattle.model_core.proofs.Rising.{order_in-middle, none_found}
 use Rattle.model_core.proofs.Apart.{apart_first, one_holder}
 use Rattle.model_core.proofs.Chosen.{chosen_apart}
 use Rattle.model_core.proofs.Laid.{all_laid, laid_block, taken_laid, laid_out}
+use Rattle.model_core.proofs.PageSteps.{by_need_kept}
 
 same_block : (b : Block) (f k : ℕ) → b.first ≡ f → b.order ≡ k → b ≡ block f k
 same_block b f k p q = λ i. block (p i) (q i)
@@ -36,22 +39,7 @@ taken_sound order m w = record {
 
 -- One more
 
-order_in_put : (xs ys : List Block) (b : Block) → Each (λ x. x.first ≢ b.first) xs → (f : ℕ) → order_in (xs ++ b ∷ ys) f ≡ with_taken (order_in (xs ++ ys)) b.first b.order f
-order_in_put [] ys b e f = turned b.first f (Some b.order) (order_in ys f)
-  where
-    turned : (a c : ℕ) (p q : Option ℕ) → (if eqb a c then p else q) ≡ (if eqb c a then p else q)
-    turned a c p q = elim (cases_eq a c) [
-      | inl same ↦ ap (λ t. if t then p else q) (eq-eqb a c same) ∙ sym (ap (λ t. if t then p else q) (eq-eqb c a (sym same)))
-      | inr other ↦ ap (λ t. if t then p else q) (ne_eqb a c other) ∙ sym (ap (λ t. if t then p else q) (ne_eqb c a (λ same. other (sym same))))
-    ]
-order_in_put (x ∷ xs) ys b (ne, e) f = go (eqb x.first f) refl (order_in_put xs ys b e f)
-  where
-    go : (t : Bool) → eqb x.first f ≡ t → order_in (xs ++ b ∷ ys) f ≡ with_taken (order_in (xs ++ ys)) b.first b.order f
-        → (if t then Some x.order else order_in (xs ++ b ∷ ys) f) ≡ (if eqb f b.first then Some b.order else (if t then Some x.order else order_in (xs ++ ys) f))
-    go true is ih = sym (ap (λ t. if t then Some b.order else Some x.order) (ne_eqb f b.first (λ same. ne (eqb-true x.first f is ∙ same))))
-    go false is ih = ih
-
-apart_firsts : (b : Block) (bs : List Block) → Each (IsApart b) bs → Each (λ x. x.first ≢ b.first) bs
+pub apart_firsts : (b : Block) (bs : List Block) → Each (IsApart b) bs → Each (λ x. x.first ≢ b.first) bs
 apart_firsts b bs h = each_weaker (IsApart b) (λ x. x.first ≢ b.first) (λ x a same. apart_first b x a (sym same)) bs h
 
 with_block_takes : (b : Block) (m : Machine) → Each (IsApart b) m.blocks → (f : ℕ) → taken_in (with_block b m) f ≡ with_taken (taken_in m) b.first b.order f
@@ -60,34 +48,30 @@ with_block_takes b m h f =
     let p : PutIn (λ x. x.first) b m.blocks = put_in (λ x. x.first) b m.blocks in
     let first : Each (λ x. x.first ≢ b.first) p.before = each_left (λ x. x.first ≢ b.first) p.before p.later (subst (Each (λ x. x.first ≢ b.first)) p.was (apart_firsts b m.blocks h)) in
     ap (λ bs. order_in bs f) (taken_laid (with_block b m) ∙ (ap (λ bs. bs ++ slabs) p.is ∙ append_assoc p.before (b ∷ p.later) slabs))
-    ∙ (order_in_put p.before (p.later ++ slabs) b first f
+    ∙ (order_in-middle p.before (p.later ++ slabs) b first f
     ∙ ap (λ bs. with_taken (order_in bs) b.first b.order f) (sym (append_assoc p.before p.later slabs) ∙ (ap (λ bs. bs ++ slabs) (sym p.was) ∙ sym (taken_laid m))))
 
 pub alloc_takes : AllocTakes
 unfolding alloc_step
-alloc_takes order k first m w e = go (ltb order k) (choice order m k) refl e
+alloc_takes order k first m w e = go (ltb order k) (by_need order k m) (by_need_kept order k m w) (choice order (by_need order k m) k) refl e
   where
-    go : (t : Bool) (o : Option ℕ) → choice order m k ≡ o → (if t then refuse AllocRefusal.BadOrder m else alloc_at k m o).answer ≡ Ok first
-        → (f : ℕ) → taken_in (if t then refuse AllocRefusal.BadOrder m else alloc_at k m o).machine f ≡ with_taken (taken_in m) first k f
-    go true o c e f = absurd (cc)
-    go false None c e f = absurd (cc)
-    go false (Some g) c e f =
+    go : (t : Bool) (n : Machine) → IsWellFormed order n → (o : Option ℕ) → choice order n k ≡ o → (if t then refuse AllocRefusal.BadOrder m else alloc_at k n o).answer ≡ Ok first
+        → (f : ℕ) → taken_in (if t then refuse AllocRefusal.BadOrder m else alloc_at k n o).machine f ≡ with_taken (taken_in n) first k f
+    go true n w o c e f = absurd (cc)
+    go false n w None c e f = absurd (cc)
+    go false n w (Some g) c e f =
         let same : g ≡ first = cc in
-        let slabs : List Block = map laid_block (all_laid m.caches) in
-        with_block_takes (block g k) m (each_left (IsApart (block g k)) m.blocks slabs (subst (Each (IsApart (block g k))) (taken_laid m) (chosen_apart order k g m w.apart c))) f
-        ∙ ap (λ n. with_taken (taken_in m) n k f) same
+        let slabs : List Block = map laid_block (all_laid n.caches) in
+        with_block_takes (block g k) n (each_left (IsApart (block g k)) n.blocks slabs (subst (Each (IsApart (block g k))) (taken_laid n) (chosen_apart order k g n w.apart c))) f
+        ∙ ap (λ n'. with_taken (taken_in n) n' k f) same
 
 -- One fewer
 
 order_in_filter : (first : ℕ) (xs ys : List Block) → Each (λ y. y.first ≢ first) ys → (f : ℕ) → order_in (filter (λ x. not (eqb x.first first)) xs ++ ys) f ≡ without_taken (order_in (xs ++ ys)) first f
 order_in_filter first [] ys h f = go (cases_eq f first)
   where
-    missing : (ys : List Block) → Each (λ y. y.first ≢ f) ys → order_in ys f ≡ None
-    missing [] h = refl
-    missing (y ∷ ys) (ne, h) = ap (λ t. if t then Some y.order else order_in ys f) (ne_eqb y.first f ne) ∙ missing ys h
-
     go : (f ≡ first) ⊎ (f ≡ first → ⊥) → order_in ys f ≡ (if eqb f first then None else order_in ys f)
-    go (inl same) = missing ys (subst (λ n. Each (λ y. y.first ≢ n) ys) (sym same) h) ∙ sym (ap (λ t. if t then None else order_in ys f) (eq-eqb f first same))
+    go (inl same) = none_found f ys (subst (λ n. Each (λ y. y.first ≢ n) ys) (sym same) h) ∙ sym (ap (λ t. if t then None else order_in ys f) (eq-eqb f first same))
     go (inr other) = sym (ap (λ t. if t then None else order_in ys f) (ne_eqb f first other))
 order_in_filter first (x ∷ xs) ys h f = go (eqb x.first first) refl (eqb x.first f) refl (order_in_filter first xs ys h f)
   where

@@ -1,12 +1,16 @@
 -- The laws of the machine. Each is the contract of a function of the module `laws`.
-use Rattle.std.specs.Prelude.{◌≡◌, ℕ, ◌+◌, ◌*◌, ◌/◌, ◌^◌, ◌<◌, ◌≤◌, Bool, true, false, List, [], ◌∷◌, ◌++◌, length, Option, Some, None, Ok, ◌≢◌, Contains, AllPairs, nat_le, nat_lt, ◌&&◌, ⊤}
+use Rattle.std.specs.Prelude.{◌≡◌, ℕ, ◌+◌, ◌*◌, ◌/◌, ◌^◌, ◌<◌, ◌≤◌, Bool, true, false, List, [], ◌∷◌, ◌++◌, length, Option, Some, None, Ok, OnErr, is_some, if◌then◌else◌, find, flat_map, ◌≢◌, Contains, AllPairs, nat_le, nat_lt, ◌&&◌, ⊤}
+use Rattle.model_core.specs.declared.refusals.AllocRefusal.{AllocRefusal}
+use Rattle.model_core.specs.declared.refusals.TakeRefusal.{TakeRefusal}
 use Rattle.model_core.specs.Blocks.{block, HasFrame, IsAligned, Taken, with_taken, without_taken, IsTaken, IsChoice, IsWithout, IsSound}
 use Rattle.model_core.specs.Layouts.{is_small, object_place, pattern_byte}
-use Rattle.model_core.specs.Machine.{Slab, Cache, Machine, empty_machine, holds, slot_of, layout, taken_blocks, taken_in, choice}
+use Rattle.model_core.specs.Machine.{Slab, Cache, Machine, empty_machine, holds, slot_of, layout, taken_blocks, order_in, taken_in, choice}
+use Rattle.model_core.specs.Slabs.{is_partial, is_empty, cache_of, new_slab, grown_cache, grown, slab_to_use, empty_blocks, reaped, by_need}
 use Rattle.model_core.specs.Reach.{in_reach}
-use Rattle.model_core.specs.Operations.{alloc_step, free_step, take_step}
+use Rattle.model_core.specs.Operations.{Step, refuse, with_block, alloc_step, free_step}
+use Rattle.model_core.specs.CacheOperations.{hand_out, take_step}
 use Rattle.std.specs.Result.{result_ok}
-use Rattle.model_core.specs.Runs.{Operation, Alloc, Free, Write, Create, Take, Give, Destroy, Reap, Grant, TakeBack, Reset, after, run}
+use Rattle.model_core.specs.Runs.{Operation, Alloc, Free, Write, Create, Take, Give, Destroy, Reap, Grant, TakeBack, Reset, IsPossible, ArePossible, after, run}
 use Rattle.model_core.specs.WellFormed.{IsApart, in_slab, IsWellFormed}
 
 -- the block that a request gets is aligned, and all its frames lie in held slots and are not taken
@@ -19,13 +23,39 @@ abbrev pub ChoicesMeet : Type 0
 ChoicesMeet = (order k : ℕ) (held : ℕ → Bool) (taken : Taken) (m : Machine) → ((u : ℕ) → holds m u ≡ held u) → ((f : ℕ) → taken_in m f ≡ taken f)
     → ((first j : ℕ) → IsChoice order held taken k (block first j) → choice order m k ≡ Some first) × (IsWithout order held taken k → choice order m k ≡ None)
 
--- each operation keeps a machine well formed ..
-abbrev pub KeepsWellFormed : Type 0
-KeepsWellFormed = (limit order : ℕ) (operation : Operation) (m : Machine) → IsWellFormed order m → IsWellFormed order (after limit order operation m)
+-- What a request for a block of order k does: `served first n` is the step where it gets the block at frame `first` of
+-- the machine n.
+pub record IsByNeed {A : Type 0} (order k : ℕ) (m : Machine) (served : ℕ → Machine → Step A) (refused step : Step A) : Type 0 where
+  -- where a block is found nothing is given back
+  pub found : (first : ℕ) → choice order m k ≡ Some first → step ≡ served first m
+  -- where one is found only after all empty slabs are given back, exactly that comes first
+  pub reaps : (first : ℕ) → choice order m k ≡ None → choice order (reaped m) k ≡ Some first → step ≡ served first (reaped m)
+  -- where none is found then either, the request is refused
+  pub stays : choice order m k ≡ None → choice order (reaped m) k ≡ None → step ≡ refused
 
--- .. so every machine that a list of operations leaves is
+-- a page block is taken by need ..
+abbrev pub AllocReaps : Type 0
+AllocReaps = (order k : ℕ) (m : Machine) → k ≤ order → IsByNeed order k m
+    (λ first n. record { answer = Ok first; machine = with_block (block first k) n }) (refuse AllocRefusal.NoFrames m) (alloc_step order k m)
+
+-- .. and so is the block of a new slab, where a cache has neither a partial slab nor an empty one
+abbrev pub TakeReaps : Type 0
+TakeReaps = (order number : ℕ) (m : Machine) (c : Cache) → cache_of m number ≡ Some c → slab_to_use (find is_partial c.slabs) (find is_empty c.slabs) ≡ None
+    → IsByNeed order (layout c).order m
+    (λ first n. hand_out (grown_cache first c) (new_slab c first) (grown first c n)) (refuse TakeRefusal.NoFrames m) (take_step order number m)
+
+-- what is refused leaves the machine as it was, slabs included
+abbrev pub RefusalsStay : Type 0
+RefusalsStay = (order n : ℕ) (m : Machine)
+    → OnErr (alloc_step order n m).answer ((alloc_step order n m).machine ≡ m) × OnErr (take_step order n m).answer ((take_step order n m).machine ≡ m)
+
+-- each operation that can be asked for keeps a machine well formed ..
+abbrev pub KeepsWellFormed : Type 0
+KeepsWellFormed = (limit order : ℕ) (operation : Operation) (m : Machine) → IsPossible operation → IsWellFormed order m → IsWellFormed order (after limit order operation m)
+
+-- .. so every machine that a list of them leaves is
 abbrev pub RunsWellFormed : Type 0
-RunsWellFormed = (limit order : ℕ) (operations : List Operation) → IsWellFormed order (run limit order operations empty_machine)
+RunsWellFormed = (limit order : ℕ) (operations : List Operation) → ArePossible operations → IsWellFormed order (run limit order operations empty_machine)
 
 -- no two taken blocks share a frame
 abbrev pub TakenApart : Type 0
@@ -35,15 +65,25 @@ TakenApart = (order : ℕ) (m : Machine) → IsWellFormed order m → AllPairs I
 abbrev pub TakenSound : Type 0
 TakenSound = (order : ℕ) (m : Machine) → IsWellFormed order m → IsSound order (holds m) (taken_in m)
 
--- a page block that is taken is one more taken block ..
+-- a page block that is taken is one more taken block, after what is given back by need ..
 abbrev pub AllocTakes : Type 0
 AllocTakes = (order k first : ℕ) (m : Machine) → IsWellFormed order m → (alloc_step order k m).answer ≡ Ok first
-    → (f : ℕ) → taken_in (alloc_step order k m).machine f ≡ with_taken (taken_in m) first k f
+    → (f : ℕ) → taken_in (alloc_step order k m).machine f ≡ with_taken (taken_in (by_need order k m)) first k f
 
--- .. and one that is released is one fewer
+-- .. one that is released is one fewer ..
 abbrev pub FreeReleases : Type 0
 FreeReleases = (order first k : ℕ) (m : Machine) → IsWellFormed order m → (free_step first m).answer ≡ Some k
     → (f : ℕ) → taken_in (free_step first m).machine f ≡ without_taken (taken_in m) first f
+
+-- .. the block of a slab that is made is one more ..
+abbrev pub GrowthTakes : Type 0
+GrowthTakes = (order first : ℕ) (c : Cache) (m : Machine) → IsWellFormed order m → Contains m.caches c → choice order m (layout c).order ≡ Some first
+    → (f : ℕ) → taken_in (grown first c m) f ≡ with_taken (taken_in m) first (layout c).order f
+
+-- .. and those of the empty slabs that are given back are fewer
+abbrev pub ReapReleases : Type 0
+ReapReleases = (order : ℕ) (m : Machine) → IsWellFormed order m
+    → (f : ℕ) → taken_in (reaped m) f ≡ (if is_some (order_in (flat_map empty_blocks m.caches) f) then None else taken_in m f)
 
 -- an object, live or not
 pub record Object : Type 0 where
@@ -98,7 +138,7 @@ NeverTaken limit order place (operation ∷ operations) m =
 -- Since a time at which the place was in no slab (so since before its slab was made) no take has answered it: an
 -- object that begins there reads as its cache's pattern. So it does when it is first handed out.
 abbrev pub ConstructedFirst : Type 0
-ConstructedFirst = (limit order : ℕ) (before since : List Operation) (object : Object) (j : ℕ)
+ConstructedFirst = (limit order : ℕ) (before since : List Operation) (object : Object) (j : ℕ) → ArePossible (before ++ since)
     → in_slab (run limit order before empty_machine) (place_of object) ≡ false
     → NeverTaken limit order (place_of object) since (run limit order before empty_machine)
     → IsObject (run limit order (before ++ since) empty_machine) object → j < object.cache.size

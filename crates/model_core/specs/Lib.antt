@@ -8,6 +8,7 @@ pub mod Machine
 pub mod Slabs
 pub mod Reach
 pub mod Operations
+pub mod CacheOperations
 pub mod Runs
 pub mod WellFormed
 pub mod Laws

@@ -1,7 +1,10 @@
 -- Lists of operations, and what they leave of a machine.
-use Rattle.std.specs.Prelude.{ℕ, List, [], ◌∷◌}
+use Rattle.std.specs.Prelude.{◌≡◌, ℕ, true, List, [], ◌∷◌, ⊤}
+use Rattle.std.specs.List.{AllByRecursion}
+use Rattle.model_core.specs.Layouts.{is_pattern}
 use Rattle.model_core.specs.Machine.{Machine, empty_machine}
-use Rattle.model_core.specs.Operations.{alloc_step, free_step, write_step, cache_step, take_step, give_step, destroy_step, reap_step, after_grant, take_back_step}
+use Rattle.model_core.specs.Operations.{alloc_step, free_step, write_step, after_grant, take_back_step}
+use Rattle.model_core.specs.CacheOperations.{cache_step, take_step, give_step, destroy_step, reap_step}
 
 -- all that can change a machine
 pub data Operation : Type 0 where
@@ -27,6 +30,15 @@ pub data Operation : Type 0 where
   TakeBack : ℕ → Operation
   -- everything taken away
   Reset : Operation
+
+-- the operation can be asked for: a cache is made with a pattern
+abbrev pub IsPossible : Operation → Type 0
+IsPossible (Create size align pattern) = is_pattern pattern ≡ true
+IsPossible operation = ⊤
+
+-- each of the operations can
+abbrev pub ArePossible : List Operation → Type 0
+ArePossible operations = AllByRecursion IsPossible operations
 
 -- the machine after an operation; `limit` is on the number of caches, slots have 2 ^ order frames
 abbrev pub after : ℕ → ℕ → Operation → Machine → Machine

@@ -1,9 +1,9 @@
 -- Slabs and caches (Bonwick's object-caching allocator): kinds of slab, live objects, growth, handing out, giving back.
-use Rattle.std.specs.Prelude.{ℕ, ◌+◌, ◌-◌, ◌*◌, ◌%◌, Bool, false, not, List, [], ◌∷◌, map, filter, find, flat_map, replicate, Option, Some, None, slice_set, if◌then◌else◌, ◌&&◌, ◌==◌}
+use Rattle.std.specs.Prelude.{ℕ, ◌+◌, ◌-◌, ◌*◌, ◌%◌, Bool, false, not, List, [], ◌∷◌, map, filter, find, flat_map, replicate, Option, Some, None, is_some, is_none, slice_set, if◌then◌else◌, ◌&&◌, ◌||◌, ◌==◌}
 use Rattle.std.specs.List.{list_any, list_all, position_or_len}
 use Rattle.model_core.specs.Blocks.{Block}
 use Rattle.model_core.specs.Layouts.{colour_offset, object_place, in_object, pattern_byte}
-use Rattle.model_core.specs.Machine.{Slab, Cache, Machine, layout, slab_block, slab_blocks, in_block, put_rising}
+use Rattle.model_core.specs.Machine.{Slab, Cache, Machine, layout, slab_block, slab_blocks, in_block, put_rising, choice}
 
 -- all objects live
 abbrev pub is_full : Slab → Bool
@@ -103,6 +103,15 @@ empty_blocks c = map (slab_block c) (filter is_empty c.slabs)
 -- all empty slabs of all caches given back
 unfoldable pub reaped : Machine → Machine
 reaped m = record m { caches = map without_empty m.caches; bytes = zeroed (flat_map empty_blocks m.caches) m.bytes }
+
+-- the machine out of which a request for a block of order k is served: all empty slabs are given back where a block is
+-- found only then, else none is
+unfoldable pub by_need : ℕ → ℕ → Machine → Machine
+by_need order k m = if is_some (choice order m k) || is_none (choice order (reaped m) k) then m else reaped m
+
+-- the first frame of the block that the request gets
+abbrev pub choice_by_need : ℕ → ℕ → Machine → Option ℕ
+choice_by_need order k m = choice order (by_need order k m) k
 
 -- the cache and its slabs given back
 unfoldable pub destroyed : Cache → Machine → Machine

@@ -2,7 +2,7 @@
 use Rattle.std.specs.Prelude.{◌≡◌, ℕ, ◌+◌, ◌-◌, ◌*◌, ◌/◌, ◌^◌, ◌<◌, ◌≤◌, Bool, true, not, List, [], ◌∷◌, map, flat_map, length, is_some, ⊤, ◌&&◌, ◌||◌}
 use Rattle.std.specs.List.{list_any, AllByRecursion}
 use Rattle.model_core.specs.Blocks.{Block, HasFrame, IsAligned}
-use Rattle.model_core.specs.Layouts.{is_size, is_alignment, colour_offset, in_object}
+use Rattle.model_core.specs.Layouts.{is_size, is_alignment, is_pattern, colour_offset, in_object}
 use Rattle.model_core.specs.Machine.{Slab, Cache, Machine, holds, slot_of, in_block, layout, slab_block, slab_blocks, taken_blocks}
 
 -- the numbers rise, from n on
@@ -28,10 +28,11 @@ pub record IsCut (c : Cache) (s : Slab) : Type 0 where
   pub count : length s.live ≡ (layout c).count
   pub colour : (made : ℕ) × (s.colour ≡ colour_offset c.align made (layout c))
 
--- the cache's numbers are within their limits, its slabs rise and are cut by its layout
+-- the cache's numbers and its pattern are within their limits, its slabs rise and are cut by its layout
 pub record IsCache (c : Cache) : Type 0 where
   pub sized : is_size c.size ≡ true
   pub aligned : is_alignment c.align ≡ true
+  pub patterned : is_pattern c.pattern ≡ true
   pub counted : c.made < (layout c).colours
   pub slabs_rise : RisesFrom 0 (map (λ s. s.first) c.slabs)
   pub slabs_cut : AllByRecursion (IsCut c) c.slabs

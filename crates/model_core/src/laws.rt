@@ -1,7 +1,7 @@
 //! The laws of the machine, each the contract of a function that does nothing: call it where a proof needs the law.
 
 ghost use Rattle.model_core.specs.Layouts.{LayoutsFit};
-ghost use Rattle.model_core.specs.Laws.{ChoiceIsUntaken, ChoicesMeet, KeepsWellFormed, RunsWellFormed, TakenApart, TakenSound, AllocTakes, FreeReleases, ObjectsApart, RecordsFree, ConstructedFirst, WritesAlone, SlabsLeaveZeroes, ReleasedBytesStay};
+ghost use Rattle.model_core.specs.Laws.{ChoiceIsUntaken, ChoicesMeet, AllocReaps, TakeReaps, RefusalsStay, KeepsWellFormed, RunsWellFormed, TakenApart, TakenSound, AllocTakes, FreeReleases, GrowthTakes, ReapReleases, ObjectsApart, RecordsFree, ConstructedFirst, WritesAlone, SlabsLeaveZeroes, ReleasedBytesStay};
 
 /// For each size and alignment the layout fits at each of its colour offsets.
 pub fn layouts_fit()
@@ -18,18 +18,29 @@ pub fn choices_meet()
     ensures { ChoicesMeet }
 {}
 
-/// Every machine that a list of operations leaves is well formed.
+/// A page block is taken, and a slab is made, by need: where a block is found no slab is given back; where one is found
+/// only after all empty slabs of all caches are given back, exactly that comes first; where none is found then either,
+/// the step is refused and the machine stays as it was.
+pub fn reaps_by_need()
+    ensures alloc { AllocReaps }
+    ensures take { TakeReaps }
+    ensures refused { RefusalsStay }
+{}
+
+/// Every machine that a list of operations leaves is well formed, if each of them can be asked for.
 pub fn stays_well_formed()
     ensures step { KeepsWellFormed }
     ensures run { RunsWellFormed }
 {}
 
-/// The taken blocks of a well formed machine are sound, and a page block taken or released is one more or one fewer: so
-/// the laws of blocks say what becomes of the free blocks.
+/// The taken blocks of a well formed machine are sound; a page block taken or released, and a slab made or given back, is
+/// one more or one fewer: so the laws of blocks say what becomes of the free blocks.
 pub fn taken_is_sound()
     ensures sound { TakenSound }
     ensures alloc { AllocTakes }
     ensures free { FreeReleases }
+    ensures growth { GrowthTakes }
+    ensures reap { ReapReleases }
 {}
 
 /// Taken blocks share no frame, objects of slabs share no byte, and those of small slabs stay below the last 32 bytes of

@@ -5,14 +5,15 @@
 pub enum AllocRefusal {
     /// The order is above that of a superblock.
     BadOrder,
-    /// There is no free block of the order asked for, or of a greater one.
+    /// There is no free block of the order asked for, or of a greater one, and none would be if all empty slabs were
+    /// given back.
     NoFrames,
 }
 
 /// Of a read, in this order.
 #[derive(Clone, Copy, Debug, PartialEq, Eq)]
 pub enum ReadRefusal {
-    /// No byte is asked for, or more than 64.
+    /// No byte is asked for, or more than [`MOST_BYTES`](crate::limits::MOST_BYTES).
     BadLength,
     /// The range lies neither inside one live page block nor inside one live object.
     OutOfReach,
@@ -34,7 +35,7 @@ pub enum CacheRefusal {
 pub enum TakeRefusal {
     /// There is no cache of this number.
     NoCache,
-    /// A new slab is needed, and no block is found for it.
+    /// A new slab is needed, and no block is found for it, nor would be if all empty slabs were given back.
     NoFrames,
 }
 

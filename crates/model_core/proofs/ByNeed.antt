@@ -1,0 +1,102 @@
+-- Reaping by need: what serves a request is the machine itself, or what is left when all its empty slabs are given back.
+use Rattle.std.proofs.Common.{◌≡◌, ℕ, ◌≤◌, Bool, true, false, ltb, [], Option, Some, None, refl, sym, ap, ◌∙◌, arith}
+use Rattle.std.specs.Prelude.{if◌then◌else◌, OnErr, find, flat_map, map}
+use Rattle.std.proofs.lemmas.Bool.Decides.{nat_tests}
+use Rattle.model_core.specs.declared.refusals.AllocRefusal.{AllocRefusal}
+use Rattle.model_core.specs.Machine.{Slab, Cache, Machine, layout, choice}
+use Rattle.model_core.specs.Slabs.{cache_of, is_partial, is_empty, slab_to_use, zeroed, without_empty, empty_blocks, reaped, by_need, choice_by_need}
+use Rattle.model_core.specs.Operations.{refuse, alloc_at, alloc_step}
+use Rattle.model_core.specs.CacheOperations.{take_new, take_from, take_of, take_step}
+use Rattle.model_core.specs.Laws.{AllocReaps, TakeReaps, RefusalsStay}
+
+-- what the machine has, reaped or not, it has by need
+pub by_need_keeps : (P : Machine → Type 0) (order k : ℕ) (m : Machine) → P m → P (reaped m) → P (by_need order k m)
+unfolding by_need
+by_need_keeps P order k m p q = go _
+  where
+    go : (b : Bool) → P (if b then m else reaped m)
+    go true = p
+    go false = q
+
+pub by_need_found : (order k first : ℕ) (m : Machine) → choice order m k ≡ Some first → by_need order k m ≡ m
+unfolding by_need
+by_need_found order k first m is = simp is
+
+pub by_need_reaps : (order k first : ℕ) (m : Machine) → choice order m k ≡ None → choice order (reaped m) k ≡ Some first → by_need order k m ≡ reaped m
+unfolding by_need
+by_need_reaps order k first m none is = simp (none, is)
+
+pub by_need_stays : (order k : ℕ) (m : Machine) → choice order m k ≡ None → choice order (reaped m) k ≡ None → by_need order k m ≡ m
+unfolding by_need
+by_need_stays order k m none still = simp (none, still)
+
+-- a request that gets nothing leaves the machine
+pub by_need_none : (order k : ℕ) (m : Machine) → choice_by_need order k m ≡ None → by_need order k m ≡ m
+by_need_none order k m none = go (choice order m k) refl (choice order (reaped m) k) refl
+  where
+    go : (o : Option ℕ) → choice order m k ≡ o → (p : Option ℕ) → choice order (reaped m) k ≡ p → by_need order k m ≡ m
+    go (Some first) is p _ = by_need_found order k first m is
+    go None is None still = by_need_stays order k m is still
+    go None is (Some first) found = let reaps : by_need order k m ≡ reaped m = by_need_reaps order k first m is found in
+        let both : None ≡ Some first = sym none ∙ (ap (λ n. choice order n k) reaps ∙ found) in absurd (cc)
+
+-- a machine without caches has nothing to give back
+pub reaped_alone : (m : Machine) → m.caches ≡ [] → reaped m ≡ m
+unfolding reaped
+reaped_alone m none =
+    ap (λ cs. record m { caches = map without_empty cs; bytes = zeroed (flat_map empty_blocks cs) m.bytes }) none
+    ∙ ap (λ cs. record m { caches = cs }) (sym none)
+
+pub by_need_alone : (order k : ℕ) (m : Machine) → m.caches ≡ [] → by_need order k m ≡ m
+by_need_alone order k m none = by_need_keeps (λ n. n ≡ m) order k m refl (reaped_alone m none)
+
+-- The steps
+
+not_above : (order k : ℕ) → k ≤ order → ltb order k ≡ false
+not_above order k le = grind (arith, nat_tests)
+
+pub alloc_reaps : AllocReaps
+unfolding alloc_step
+alloc_reaps order k m le = record {
+  found = λ first is. rw (not_above order k le) (rw (by_need_found order k first m is) (rw is refl));
+  reaps = λ first none is. rw (not_above order k le) (rw (by_need_reaps order k first m none is) (rw is refl));
+  stays = λ none still. rw (not_above order k le) (rw (by_need_stays order k m none still) (rw none refl));
+}
+
+pub take_reaps : TakeReaps
+unfolding take_step
+take_reaps order number m c is unused = record {
+  found = λ first found. rw is (rw unused (rw (by_need_found order _ first m found) (rw found refl)));
+  reaps = λ first none found. rw is (rw unused (rw (by_need_reaps order _ first m none found) (rw found refl)));
+  stays = λ none still. rw is (rw unused (rw (by_need_stays order _ m none still) (rw none refl)));
+}
+
+alloc_stays : (order k : ℕ) (m : Machine) → OnErr (alloc_step order k m).answer ((alloc_step order k m).machine ≡ m)
+unfolding alloc_step
+alloc_stays order k m = go (ltb order k) (choice_by_need order k m) refl
+  where
+    go : (t : Bool) (o : Option ℕ) → choice_by_need order k m ≡ o
+        → let step = if t then refuse AllocRefusal.BadOrder m else alloc_at k (by_need order k m) o in OnErr step.answer (step.machine ≡ m)
+    go true o e = refl
+    go false None e = by_need_none order k m e
+    go false (Some first) e = tt
+
+take_stays : (order number : ℕ) (m : Machine) → OnErr (take_step order number m).answer ((take_step order number m).machine ≡ m)
+unfolding take_step
+take_stays order number m = go (cache_of m number)
+  where
+    new : (c : Cache) (o : Option ℕ) → choice_by_need order (layout c).order m ≡ o
+        → let step = take_new c (by_need order (layout c).order m) o in OnErr step.answer (step.machine ≡ m)
+    new c None e = by_need_none order (layout c).order m e
+    new c (Some first) e = tt
+
+    slab : (c : Cache) (o : Option Slab) → OnErr (take_from order c m o).answer ((take_from order c m o).machine ≡ m)
+    slab c (Some s) = tt
+    slab c None = new c (choice_by_need order (layout c).order m) refl
+
+    go : (o : Option Cache) → OnErr (take_of order m o).answer ((take_of order m o).machine ≡ m)
+    go None = refl
+    go (Some c) = slab c (slab_to_use (find is_partial c.slabs) (find is_empty c.slabs))
+
+pub refusals_stay : RefusalsStay
+refusals_stay order n m = (alloc_stays order n m, take_stays order n m)
