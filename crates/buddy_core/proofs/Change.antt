@@ -1,34 +1,49 @@
 -- One tenant's row and one superblock change: what always holds still does.
-use Rattle.std.proofs.Common.{◌≡◌, ◌⊎◌, inl, inr, refl, sym, ◌∙◌, ap, subst, ℕ, ◌+◌, ◌*◌, ◌^◌, ◌<◌, ◌≤◌, Some, List, length, set, map, length-set}
+use Rattle.std.proofs.Common.{◌≡◌, ◌⊎◌, inl, inr, refl, sym, ◌∙◌, ap, ap₂, subst, Bool, Option, ℕ, ◌+◌, ◌*◌, ◌^◌, ◌<◌, ◌≤◌, Some, List, length, set, map, length-set}
 use Rattle.std.proofs.lemmas.List.{get_or-set_same, get_or-set_other}
 use Rattle.std.proofs.lemmas.Bool.{cases_eq}
 use Rattle.model_core.specs.Blocks.{Taken, block, IsSound}
 use Rattle.std.specs.List.{range_with_len}
+use Rattle.model_core.specs.declared.limits.TheConstants.{MOST_SUPERBLOCKS, MOST_TENANTS}
 use Rattle.model_core.specs.Choice.{is_available, is_free, count_below}
 use Rattle.buddy_core.specs.Content.{Holding, with_holding, taken_blocks}
 use Rattle.buddy_core.specs.Tree.{Shows}
 use Rattle.buddy_core.specs.Stored.{Sheet, Row, blank_sheet, sheet_of, row_of, slot_of, held_by, taken_by, holding_shown, content_shown}
 use Rattle.buddy_core.specs.Kept.{IsKept, IsRowKept, HasSheetSizes, available_in}
-use Rattle.buddy_core.proofs.Shown.{blank_of, bare_of, taken_stays, content_replaced}
+use Rattle.buddy_core.proofs.Shown.{StandsAsBefore, taken_as_before, blank_of, bare_of, taken_stays, content_replaced}
 
--- a row stays kept whose superblocks stay
-pub row_stays : (top : ℕ) (sheets sheets' : List Sheet) (row : Row) → length sheets' ≡ length sheets → taken_by top sheets' row ≡ taken_by top sheets row
-    → ((u m : ℕ) → slot_of row u ≡ Some m → sheet_of m sheets' ≡ sheet_of m sheets) → IsRowKept top sheets row → IsRowKept top sheets' row
-row_stays top sheets sheets' row size same stays kept = record {
-  sizes = record { slots = kept.sizes.slots ∙ sym size; free = kept.sizes.free; taken = kept.sizes.taken };
-  within = λ u m at. subst (λ n. m < n) (sym size) (kept.within u m at);
-  sound = subst (λ (T : Taken). IsSound top (held_by row) T) (sym same) kept.sound;
-  shows = λ u m at. subst (λ (x : Sheet). Shows top (available_in top sheets' row u) x.words) (sym (stays u m at))
-      (subst (λ (T : Taken). Shows top (λ x. is_available top (held_by row) T (u * 2 ^ top + x)) (sheet_of m sheets).words) (sym same) (kept.shows u m at));
-  free = λ k le. kept.free k le ∙ ap (λ T. number T (length sheets) k) (sym same) ∙ ap (λ n. number (taken_by top sheets' row) n k) (sym size);
-  taken = λ k le. kept.taken k le ∙ ap (λ T. taken_blocks k (held_from T)) (sym same);
+-- a row stays kept whose slots stand over the superblocks they stood over
+pub row_kept_as_before : (top : ℕ) (sheets sheets' : List Sheet) (row : Row) (slots : List (Option ℕ)) → length sheets' ≡ length sheets → length slots ≡ length row.slots
+    → StandsAsBefore sheets sheets' row (record row { slots = slots }) → ((u m : ℕ) → slot_of (record row { slots = slots }) u ≡ Some m → m < length sheets)
+    → IsRowKept top sheets row → IsRowKept top sheets' (record row { slots = slots })
+row_kept_as_before top sheets sheets' row slots size count stands within kept = record {
+  sizes = record { slots = count ∙ kept.sizes.slots ∙ sym size; free = kept.sizes.free; taken = kept.sizes.taken };
+  within = λ u m at. subst (λ n. m < n) (sym size) (within u m at);
+  sound = both (λ h T. IsSound top h T) kept.sound;
+  shows = λ u m at.
+      let was = stands.same u m at in
+      subst (λ (x : Sheet). Shows top (available_in top sheets' after u) x.words) (sym was.2)
+      (both (λ h T. Shows top (λ x. is_available top h T (u * 2 ^ top + x)) (sheet_of was.0 sheets).words) (kept.shows u was.0 was.1));
+  free = λ k le. kept.free k le ∙ ap₂ (λ h T. number h T (length sheets) k) (sym stands.held) (sym taken) ∙ ap (λ n. number (held_by after) (taken_by top sheets' after) n k) (sym size);
+  taken = λ k le. kept.taken k le ∙ ap₂ (λ T n. taken_blocks k (record { slots = slots; taken = map T (range_with_len 0 (n * 2 ^ top)) })) (sym taken) (sym count);
 }
   where
-    number : Taken → ℕ → ℕ → ℕ
-    number T n k = count_below (λ f. is_free top (held_by row) T (block f k)) (n * 2 ^ top)
+    after : Row
+    after = record row { slots = slots }
 
-    held_from : Taken → Holding
-    held_from T = record { slots = row.slots; taken = map T (range_with_len 0 (length row.slots * 2 ^ top)) }
+    taken : taken_by top sheets' after ≡ taken_by top sheets row
+    taken = taken_as_before top sheets sheets' row after stands
+
+    both : (P : (ℕ → Bool) → Taken → Type 0) → P (held_by row) (taken_by top sheets row) → P (held_by after) (taken_by top sheets' after)
+    both P p = subst (λ T. P (held_by after) T) (sym taken) (subst (λ h. P h (taken_by top sheets row)) (sym stands.held) p)
+
+    number : (ℕ → Bool) → Taken → ℕ → ℕ → ℕ
+    number h T n k = count_below (λ f. is_free top h T (block f k)) (n * 2 ^ top)
+
+-- so does a row whose superblocks stay
+pub row_stays : (top : ℕ) (sheets sheets' : List Sheet) (row : Row) → length sheets' ≡ length sheets
+    → ((u m : ℕ) → slot_of row u ≡ Some m → sheet_of m sheets' ≡ sheet_of m sheets) → IsRowKept top sheets row → IsRowKept top sheets' row
+row_stays top sheets sheets' row size stays kept = row_kept_as_before top sheets sheets' row row.slots size refl (record { held = refl; same = λ u m at. (m, at, stays u m at) }) kept.within kept
 
 -- tenant t's row becomes `row`, and superblock m, which no other tenant has, becomes s
 pub record IsChange (top : ℕ) (sheets : List Sheet) (rows : List Row) (t m : ℕ) (s : Sheet) (row : Row) : Type 0 where
@@ -64,7 +79,7 @@ module _ (top : ℕ) (sheets : List Sheet) (rows : List Row) (t m : ℕ) (s : Sh
   each_kept v lt (inr ne) =
       let within : v < length rows = subst (λ n. v < n) (length-set rows t row) lt in
       subst (IsRowKept top (set sheets m s)) (sym (row_other v ne))
-      (row_stays top sheets (set sheets m s) (row_of v rows) (length-set sheets m s) (others_stay v ne within)
+      (row_stays top sheets (set sheets m s) (row_of v rows) (length-set sheets m s)
       (λ u i at. sheet_other i (λ e. change.others v u ne (at ∙ ap Some e))) (old.each v within))
 
   -- a slot of another tenant over a superblock of the changed row
@@ -98,7 +113,8 @@ module _ (top : ℕ) (sheets : List Sheet) (rows : List Row) (t m : ℕ) (s : Sh
   pub kept_changed : IsKept top (set sheets m s) (set rows t row)
   kept_changed = record {
     small = old.small;
-    few = subst (λ n. n ≤ 256) (sym (length-set sheets m s)) old.few;
+    few = subst (λ n. n ≤ MOST_SUPERBLOCKS) (sym (length-set sheets m s)) old.few;
+    tenants = subst (λ n. n ≤ MOST_TENANTS) (sym (length-set rows t row)) old.tenants;
     sizes = λ i lt. sizes_kept i (subst (λ n. i < n) (length-set sheets m s) lt) (cases_eq i m);
     each = λ v lt. each_kept v lt (cases_eq v t);
     apart = λ v u z w i a b. apart_kept v u z w i a b (cases_eq v t) (cases_eq z t);

@@ -9,6 +9,7 @@ use Rattle.std.proofs.lemmas.Option.{none-some}
 use Rattle.std.proofs.lemmas.Nat.{pow_pos}
 use Rattle.std.proofs.lemmas.Bool.{cases_lt, false≢true, false_from_ne_true}
 use Rattle.model_core.specs.Blocks.{block}
+use Rattle.model_core.specs.declared.limits.TheConstants.{MOST_ORDER, MOST_SUPERBLOCKS, MOST_TENANTS}
 use Rattle.model_core.specs.Choice.{is_free}
 use Rattle.model_core.proofs.Choosing.{free_is_tested}
 use Rattle.buddy_core.specs.Content.{Holding, Content, nothing_held, opening, has_order, taken_blocks}
@@ -90,10 +91,11 @@ module _ (top superblocks tenants : ℕ) where
   sheet_is : (m : ℕ) → m < length (replicate superblocks (blank_sheet top)) → sheet_of m (replicate superblocks (blank_sheet top)) ≡ blank_sheet top
   sheet_is m lt = get_or-replicate superblocks m (blank_sheet top) bare_of (subst (λ n. m < n) size lt)
 
-  pub opening_kept : top ≤ 8 → superblocks ≤ 256 → IsKept top (replicate superblocks (blank_sheet top)) (replicate tenants (blank_row top superblocks))
-  opening_kept small few = record {
+  pub opening_kept : top ≤ MOST_ORDER → superblocks ≤ MOST_SUPERBLOCKS → tenants ≤ MOST_TENANTS → IsKept top (replicate superblocks (blank_sheet top)) (replicate tenants (blank_row top superblocks))
+  opening_kept small few shared = record {
     small = small;
-    few = subst (λ n. n ≤ 256) (sym size) few;
+    few = subst (λ n. n ≤ MOST_SUPERBLOCKS) (sym size) few;
+    tenants = subst (λ n. n ≤ MOST_TENANTS) (sym (length-replicate tenants (blank_row top superblocks))) shared;
     sizes = λ m lt. subst (HasSheetSizes top) (sym (sheet_is m lt)) (blank_sizes top);
     each = λ t lt. subst (IsRowKept top (replicate superblocks (blank_sheet top)))
         (ap (blank_row top) size ∙ sym (get_or-replicate tenants t (blank_row top superblocks) blank_of (subst (λ n. t < n) (length-replicate tenants (blank_row top superblocks)) lt)))

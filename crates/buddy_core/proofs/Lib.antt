@@ -17,6 +17,7 @@ pub mod Releasing
 pub mod SlotSteps
 pub mod Granting
 pub mod Dropping
+pub mod Moving
 pub mod Empty
 pub mod Resetting
-pub mod TakenLaws
+pub mod Holdings

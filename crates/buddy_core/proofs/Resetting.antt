@@ -1,12 +1,13 @@
 -- One tenant loses all that it holds.
-use Rattle.std.proofs.Common.{◌≡◌, ◌⊎◌, inl, inr, refl, sym, ◌∙◌, ap, subst, ℕ, zero, suc, ◌+◌, ◌/◌, ◌%◌, ◌^◌, ◌<◌, ◌≤◌, Option, Some, None, List, length, get_or, set, arith, length-set}
+use Rattle.std.proofs.Common.{◌≡◌, ◌⊎◌, inl, inr, refl, sym, ◌∙◌, ap, subst, ℕ, zero, suc, ◌+◌, ◌<◌, ◌≤◌, Option, Some, None, List, length, set, arith, length-set}
 use Rattle.std.proofs.lemmas.List.{get_or-set_same, get_or-set_other}
 use Rattle.std.proofs.lemmas.Option.{none-some, same_Some}
 use Rattle.std.proofs.lemmas.Bool.{cases_lt, cases_eq}
+use Rattle.model_core.specs.declared.limits.TheConstants.{MOST_SUPERBLOCKS, MOST_TENANTS}
 use Rattle.buddy_core.specs.Content.{with_holding, nothing_held}
-use Rattle.buddy_core.specs.Stored.{Sheet, Row, blank_sheet, blank_row, sheet_of, row_of, slot_of, order_under, taken_by, content_shown}
+use Rattle.buddy_core.specs.Stored.{Sheet, Row, blank_sheet, blank_row, sheet_of, row_of, slot_of, taken_by, content_shown}
 use Rattle.buddy_core.specs.Kept.{IsKept, IsRowKept, HasSheetSizes}
-use Rattle.buddy_core.proofs.Shown.{blank_of, bare_of, content_replaced}
+use Rattle.buddy_core.proofs.Shown.{taken_as_before, blank_of, bare_of, content_replaced}
 use Rattle.buddy_core.proofs.Change.{row_stays}
 use Rattle.buddy_core.proofs.RootBits.{slot_within}
 use Rattle.buddy_core.proofs.Granting.{none_there}
@@ -89,14 +90,7 @@ module _ (top : ℕ) (sheets : List Sheet) (rows : List Row) (kept : IsKept top 
   other_sheet v u i ne at = c.stays i (λ w lt there. ne (kept.apart v u t w i at there).0)
 
   other_taken : (v : ℕ) → (v ≡ t → ⊥) → taken_by top after (row_of v rows) ≡ taken_by top sheets (row_of v rows)
-  other_taken v ne = λ i f. go f (slot_of (row_of v rows) (f / 2 ^ top)) refl i
-    where
-      go : (f : ℕ) (o : Option ℕ) → slot_of (row_of v rows) (f / 2 ^ top) ≡ o → taken_by top after (row_of v rows) f ≡ taken_by top sheets (row_of v rows) f
-      go f None e = ap (λ o. order_under after o (f % 2 ^ top)) e ∙ sym (ap (λ o. order_under sheets o (f % 2 ^ top)) e)
-      go f (Some i) e =
-          ap (λ o. order_under after o (f % 2 ^ top)) e
-          ∙ ap (λ (z : Sheet). get_or z.orders (f % 2 ^ top) None) (other_sheet v (f / 2 ^ top) i ne e)
-          ∙ sym (ap (λ o. order_under sheets o (f % 2 ^ top)) e)
+  other_taken v ne = taken_as_before top sheets after (row_of v rows) (row_of v rows) (record { held = refl; same = λ u i at. (i, at, other_sheet v u i ne at) })
 
   abbrev pub reset_row : Row
   reset_row = blank_row top (length sheets)
@@ -118,7 +112,7 @@ module _ (top : ℕ) (sheets : List Sheet) (rows : List Row) (kept : IsKept top 
   each_kept : (v : ℕ) → v < length (set rows t (blank_row top (length sheets))) → (v ≡ t) ⊎ (v ≡ t → ⊥) → IsRowKept top after (row_of v (set rows t (blank_row top (length sheets))))
   each_kept v lt (inl e) = subst (IsRowKept top after) (ap (blank_row top) c.size ∙ sym (row_here v e)) (blank_kept top after)
   each_kept v lt (inr ne) = subst (IsRowKept top after) (sym (row_other v ne))
-      (row_stays top sheets after (row_of v rows) c.size (other_taken v ne) (λ u i at. other_sheet v u i ne at) (kept.each v (subst (λ l. v < l) (length-set rows t (blank_row top (length sheets))) lt)))
+      (row_stays top sheets after (row_of v rows) c.size (λ u i at. other_sheet v u i ne at) (kept.each v (subst (λ l. v < l) (length-set rows t (blank_row top (length sheets))) lt)))
 
   sheet_now : (i : ℕ) → ((w : ℕ) × (w < n) × (slot_of (row_of t rows) w ≡ Some i)) ⊎ ((w : ℕ) → w < n → slot_of (row_of t rows) w ≡ Some i → ⊥)
       → (sheet_of i after ≡ blank_sheet top) ⊎ (sheet_of i after ≡ sheet_of i sheets)
@@ -141,7 +135,8 @@ module _ (top : ℕ) (sheets : List Sheet) (rows : List Row) (kept : IsKept top 
   pub reset_kept : IsKept top after (set rows t (blank_row top (length sheets)))
   reset_kept = record {
     small = kept.small;
-    few = subst (λ l. l ≤ 256) (sym c.size) kept.few;
+    few = subst (λ l. l ≤ MOST_SUPERBLOCKS) (sym c.size) kept.few;
+    tenants = subst (λ l. l ≤ MOST_TENANTS) (sym (length-set rows t (blank_row top (length sheets)))) kept.tenants;
     sizes = λ i lt. sizes_now i lt (sheet_now i (under (row_of t rows) i n));
     each = λ v lt. each_kept v lt (cases_eq v t);
     apart = λ v u z w i a b. kept.apart v u z w i (was v u i a (cases_eq v t)) (was z w i b (cases_eq z t));

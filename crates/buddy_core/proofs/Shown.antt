@@ -4,18 +4,34 @@ use Rattle.std.specs.Prelude.{is_some}
 use Rattle.std.proofs.lemmas.List.{get_or-set_same, get_or-set_other, get_or-map, get_or_past, same_lists, length-map, get_or_read}
 use Rattle.std.proofs.lemmas.List.FromFn.{length-map-range_with_len, get_or-map-range_with_len}
 use Rattle.std.proofs.lemmas.Nat.{pow_pos, le-div, one_shl}
-use Rattle.std.proofs.lemmas.Bool.{cases_lt, cases_eq}
+use Rattle.std.proofs.lemmas.Bool.{cases_lt, cases_eq, false≢true}
 use Rattle.std.proofs.lemmas.Option.{none-some}
 use Rattle.std.specs.List.{range_with_len}
 use Rattle.model_core.specs.Blocks.{Taken}
 use Rattle.buddy_core.specs.Content.{Holding, Content, holding_of, with_holding, superblock_at, is_held, taken_of, no_tenant}
-use Rattle.buddy_core.specs.Stored.{Sheet, Row, row_of, slot_of, held_by, order_under, taken_by, holding_shown, content_shown}
+use Rattle.buddy_core.specs.Stored.{Sheet, Row, sheet_of, row_of, slot_of, held_by, order_under, taken_by, holding_shown, content_shown}
 
 abbrev pub blank_of : Row
 blank_of = record { slots = []; free = []; taken = [] }
 
 abbrev pub bare_of : Sheet
 bare_of = record { words = []; orders = [] }
+
+-- the slots of `row'` stand over the superblocks that those of `row` stood over, which may be stored elsewhere now
+pub record StandsAsBefore (sheets sheets' : List Sheet) (row row' : Row) : Type 0 where
+  pub held : held_by row' ≡ held_by row
+  pub same : (u m : ℕ) → slot_of row' u ≡ Some m → (i : ℕ) × (slot_of row u ≡ Some i) × (sheet_of m sheets' ≡ sheet_of i sheets)
+
+-- the taken blocks are the same then
+pub taken_as_before : (top : ℕ) (sheets sheets' : List Sheet) (row row' : Row) → StandsAsBefore sheets sheets' row row' → taken_by top sheets' row' ≡ taken_by top sheets row
+taken_as_before top sheets sheets' row row' stands = λ i f. go (f / 2 ^ top) (f % 2 ^ top) (slot_of row' (f / 2 ^ top)) (slot_of row (f / 2 ^ top)) refl refl i
+  where
+    go : (u x : ℕ) (o p : Option ℕ) → slot_of row' u ≡ o → slot_of row u ≡ p → order_under sheets' (slot_of row' u) x ≡ order_under sheets (slot_of row u) x
+    go u x None None a b = ap (λ o. order_under sheets' o x) a ∙ sym (ap (λ o. order_under sheets o x) b)
+    go u x None (Some i) a b = absurd (false≢true (sym (ap is_some a) ∙ ap (λ h. h u) stands.held ∙ ap is_some b))
+    go u x (Some m) _ a b =
+        let s = stands.same u m a in
+        ap (λ o. order_under sheets' o x) a ∙ ap (λ (z : Sheet). get_or z.orders x None) s.2 ∙ sym (ap (λ o. order_under sheets o x) s.1)
 
 module _ (top : ℕ) (sheets : List Sheet) where
   pub taken_shown : (row : Row) (f : ℕ) → taken_of (holding_shown top sheets row) f ≡ taken_by top sheets row f
@@ -32,14 +48,8 @@ module _ (top : ℕ) (sheets : List Sheet) where
 
   -- a superblock that stands under no slot of a tenant may change
   pub taken_stays : (m : ℕ) (s : Sheet) (row : Row) → ((w : ℕ) → slot_of row w ≡ Some m → ⊥) → taken_by top (set sheets m s) row ≡ taken_by top sheets row
-  taken_stays m s row other = λ i f. go f (slot_of row (f / 2 ^ top)) refl i
-    where
-      go : (f : ℕ) (o : Option ℕ) → slot_of row (f / 2 ^ top) ≡ o → taken_by top (set sheets m s) row f ≡ taken_by top sheets row f
-      go f None e = ap (λ o. order_under (set sheets m s) o (f % 2 ^ top)) e ∙ sym (ap (λ o. order_under sheets o (f % 2 ^ top)) e)
-      go f (Some i) e =
-          ap (λ o. order_under (set sheets m s) o (f % 2 ^ top)) e
-          ∙ ap (λ (x : Sheet). get_or x.orders (f % 2 ^ top) None) (get_or-set_other sheets m i s _ (λ same. other (f / 2 ^ top) (e ∙ ap Some same)))
-          ∙ sym (ap (λ o. order_under sheets o (f % 2 ^ top)) e)
+  taken_stays m s row other = taken_as_before top sheets (set sheets m s) row row
+      (record { held = refl; same = λ u i at. (i, at, get_or-set_other sheets m i s _ (λ e. other u (at ∙ ap Some e))) })
 
 module _ (top : ℕ) (sheets : List Sheet) (rows : List Row) where
   pub holding_at : (t : ℕ) → t < length rows → holding_of t (content_shown top sheets rows) ≡ holding_shown top sheets (row_of t rows)

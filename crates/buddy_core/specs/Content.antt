@@ -3,6 +3,7 @@
 use Rattle.std.specs.Prelude.{ℕ, ◌≡◌, ◌*◌, ◌^◌, ◌<◌, ◌≤◌, ◌==◌, Bool, false, Option, Some, None, is_some, List, [], length, replicate, slice_index_or, slice_set, count_by}
 use Rattle.model_core.specs.Blocks.{Taken, with_taken, without_taken, block, IsSound}
 use Rattle.model_core.specs.Choice.{is_free, count_below}
+use Rattle.model_core.specs.declared.limits.TheConstants.{MOST_ORDER, MOST_SUPERBLOCKS, MOST_TENANTS}
 
 -- one tenant: the superblock under each slot, and at each frame the order of the taken block that begins there
 pub record Holding : Type 0 where
@@ -76,12 +77,20 @@ taken_blocks k h = count_by (has_order k) h.taken
 abbrev pub held_slots : Holding → ℕ
 held_slots h = count_by is_some h.slots
 
--- how long the lists are
+-- the limits of a machine, and how long the lists are
 pub record IsSized (c : Content) : Type 0 where
-  pub small : c.top ≤ 8
-  pub few : c.superblocks ≤ 256
+  pub small : c.top ≤ MOST_ORDER
+  pub few : c.superblocks ≤ MOST_SUPERBLOCKS
+  pub tenants : length c.tenants ≤ MOST_TENANTS
   pub slots : (t : ℕ) → t < length c.tenants → length (holding_of t c).slots ≡ c.superblocks
   pub taken : (t : ℕ) → t < length c.tenants → length (holding_of t c).taken ≡ c.superblocks * 2 ^ c.top
+
+-- what holds of every buddy system
+pub record BuddyLaws (c : Content) : Type 0 where
+  pub sizes : IsSized c
+  pub sound : (t : ℕ) → t < length c.tenants → IsSoundHolding c.top (holding_of t c)
+  -- no superblock stands under two slots
+  pub apart : (t u v w m : ℕ) → superblock_at (holding_of t c) u ≡ Some m → superblock_at (holding_of v c) w ≡ Some m → (t ≡ v) × (u ≡ w)
 
 -- a block more in a tenant's table is a block more among its taken blocks
 abbrev pub WithBlockTakes : Type 0

@@ -2,6 +2,7 @@
 use Rattle.std.specs.Prelude.{◌≡◌, ℕ, ◌+◌, ◌*◌, ◌^◌, ◌<◌, ◌≤◌, Bool, Some, List, length, slice_index}
 use Rattle.model_core.specs.Blocks.{block, IsSound}
 use Rattle.model_core.specs.Choice.{is_available, is_free, count_below}
+use Rattle.model_core.specs.declared.limits.TheConstants.{MOST_ORDER, MOST_SUPERBLOCKS, MOST_TENANTS}
 use Rattle.buddy_core.specs.Content.{taken_blocks}
 use Rattle.buddy_core.specs.Tree.{Shows}
 use Rattle.buddy_core.specs.Stored.{Sheet, Row, blank_sheet, sheet_of, row_of, slot_of, held_by, taken_by, holding_shown}
@@ -33,8 +34,9 @@ pub record IsRowKept (top : ℕ) (sheets : List Sheet) (row : Row) : Type 0 wher
   pub taken : (k : ℕ) → k ≤ top → slice_index row.taken k ≡ taken_blocks k (holding_shown top sheets row)
 
 pub record IsKept (top : ℕ) (sheets : List Sheet) (rows : List Row) : Type 0 where
-  pub small : top ≤ 8
-  pub few : length sheets ≤ 256
+  pub small : top ≤ MOST_ORDER
+  pub few : length sheets ≤ MOST_SUPERBLOCKS
+  pub tenants : length rows ≤ MOST_TENANTS
   pub sizes : (m : ℕ) → m < length sheets → HasSheetSizes top (sheet_of m sheets)
   pub each : (t : ℕ) → t < length rows → IsRowKept top sheets (row_of t rows)
   -- no superblock stands under two slots

@@ -2,6 +2,7 @@
 
 ghost use Rattle.std.specs.Prelude.{◌≡◌, ◌↔◌, ℕ, ◌<◌, ◌≤◌, List, length, MatchOption};
 ghost use Rattle.std.specs.Int.{bit_at};
+ghost use Rattle.model_core.specs.declared.limits.TheConstants.{MOST_SUPERBLOCKS};
 ghost use Rattle.buddy_core.specs.Roots.{HasOrder, IsRooted, IsWithoutOrder, IsPlace};
 
 use crate::superblock::Superblock;
@@ -19,7 +20,7 @@ pub struct Place {
 /// The first slot of the tenant with a free block of the least order of at least `k` that there is.
 pub fn find(superblocks: &[Superblock], tenant: &Tenant, k: u8) -> Option<Place>
     requires order { k < 16 }
-    requires few { length tenant.now.slots ≤ 256 }
+    requires few { length tenant.now.slots ≤ MOST_SUPERBLOCKS }
     requires rooted { IsRooted superblocks.now tenant.now.slots }
     ensures { MatchOption result (IsWithoutOrder superblocks.now tenant.now.slots k)
         (IsPlace superblocks.now tenant.now.slots k) }
@@ -61,7 +62,7 @@ fn least_order(orders: u16, k: u8) -> Option<u8>
 fn first_slot(superblocks: &[Superblock], slots: &[Option<u16>], k: u8, order: u8) -> Option<Place>
     requires order { order < 16 }
     requires enough { k ≤ order }
-    requires few { length slots.now ≤ 256 }
+    requires few { length slots.now ≤ MOST_SUPERBLOCKS }
     requires rooted { IsRooted superblocks.now slots.now }
     requires some { HasOrder superblocks.now slots.now (length slots.now) order }
     requires least { (i : ℕ) → k ≤ i → i < order → HasOrder superblocks.now slots.now (length slots.now) i → ⊥ }

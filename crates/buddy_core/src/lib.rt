@@ -11,8 +11,9 @@
 #![tactic(auto)]
 
 ghost use Rattle.std.specs.Prelude.{◌≡◌, ℕ, ◌+◌, ◌*◌, ◌/◌, ◌^◌, ◌<◌, ◌≤◌, Some, None, List, length, slice_index, MatchOption, IfOk, OnOk, OnErr, IfNone, IfSome, OnSome, IsSome};
+ghost use Rattle.model_core.specs.declared.limits.TheConstants.{MOST_ORDER, MOST_SUPERBLOCKS, MOST_TENANTS};
 ghost use Rattle.model_core.specs.Blocks.{Block, block, HasFrame, IsTaken, HasTaken, slot_block, IsChoice, IsWithout};
-ghost use Rattle.buddy_core.specs.Content.{Content, opening, nothing_held, holding_of, with_holding, superblock_at, is_held, taken_of, with_block, without_block, with_slot, without_slot, IsSized, IsSoundHolding, free_blocks, taken_blocks, held_slots, WithBlockTakes, WithoutBlockFrees};
+ghost use Rattle.buddy_core.specs.Content.{Content, opening, nothing_held, holding_of, with_holding, superblock_at, is_held, taken_of, with_block, without_block, with_slot, without_slot, BuddyLaws, free_blocks, taken_blocks, held_slots, WithBlockTakes, WithoutBlockFrees};
 ghost use Rattle.buddy_core.specs.Table.{IsTable};
 
 mod find;
@@ -53,9 +54,9 @@ impl Model for Buddy {
 impl Buddy {
     /// A machine of `superblocks` superblocks of `2^order` frames each, and of tenants that hold nothing.
     pub fn new(alloc: Global, order: u8, superblocks: u16, tenants: u8) -> Result<Buddy, AllocError>
-        requires order { order ≤ 8 }
-        requires superblocks { superblocks ≤ 256 }
-        requires tenants { tenants ≤ 64 }
+        requires order { order ≤ MOST_ORDER }
+        requires superblocks { superblocks ≤ MOST_SUPERBLOCKS }
+        requires tenants { tenants ≤ MOST_TENANTS }
         ensures { IfOk result (λ b. b ≡ opening order superblocks tenants) }
     {
         let mut rows = Vec::new(alloc);
@@ -73,26 +74,33 @@ impl Buddy {
         })
     }
 
-    /// A law: each tenant's taken blocks are aligned, lie in held slots and share no frame.
-    pub fn holdings_are_sound(&self)
-        ensures { (t : ℕ) → t < length self.now.tenants → IsSoundHolding self.now.top (holding_of t self.now) }
+    /// A law: the sizes are within the limits, each tenant's taken blocks are aligned, lie in held
+    /// slots and share no frame, and no superblock stands under two slots. It costs nothing.
+    pub fn laws(&self)
+        ensures { BuddyLaws self.now }
     {
         let _ = &self.order;
     }
 
-    /// A law: how many slots and frames each tenant may have.
-    pub fn sizes(&self)
-        ensures { IsSized self.now }
+    /// The order of a superblock.
+    pub fn order(&self) -> u8
+        ensures { result ≡ self.now.top }
     {
-        let _ = &self.order;
+        self.order
     }
 
-    /// A law: no superblock stands under two slots.
-    pub fn slots_are_apart(&self)
-        ensures { (t u v w m : ℕ) → superblock_at (holding_of t self.now) u ≡ Some m
-            → superblock_at (holding_of v self.now) w ≡ Some m → (t ≡ v) × (u ≡ w) }
+    /// How many superblocks the machine has.
+    pub fn superblocks(&self) -> u16
+        ensures { result ≡ self.now.superblocks }
     {
-        let _ = &self.order;
+        self.superblocks.len() as u16
+    }
+
+    /// How many tenants share the machine.
+    pub fn tenants(&self) -> u8
+        ensures { result ≡ length self.now.tenants }
+    {
+        self.tenants.len() as u8
     }
 
     /// Puts superblock `m` under a slot that tenant `t` does not hold. All its frames are free.
@@ -119,15 +127,30 @@ impl Buddy {
             × (self.new ≡ self.old)) }
     {
         let order = self.order;
-        let Some(m) = self.tenants[t as usize].superblock(u32::from(slot)) else {
-            return Err(SlotBusy);
-        };
+        let m = self.tenants[t as usize]
+            .superblock(u32::from(slot))
+            .unwrap();
         if self.superblocks[m as usize].root() != 1 << order {
             return Err(SlotBusy);
         }
         self.superblocks[m as usize].clear();
         self.tenants[t as usize].drop_slot(slot, order);
         Ok(())
+    }
+
+    /// Puts superblock `m`, which stands under no slot, in the place of the one under a slot that
+    /// tenant `t` holds. The slot's taken blocks stay, and the old superblock stands under no slot.
+    pub fn move_slot(&mut self, t: u8, slot: u16, m: u16)
+        requires tenant { t < length self.old.tenants }
+        requires held { IsSome (superblock_at (holding_of t self.old) slot) }
+        requires superblock { m < self.old.superblocks }
+        requires unused { (other u : ℕ) → superblock_at (holding_of other self.old) u ≡ Some m → ⊥ }
+        ensures { self.new ≡ with_holding t (with_slot slot m (holding_of t self.old)) self.old }
+    {
+        let tenant = &mut self.tenants[t as usize];
+        let old = tenant.superblock(u32::from(slot)).unwrap();
+        tenant.move_slot(slot, m);
+        self.superblocks.swap(old as usize, m as usize);
     }
 
     /// Lets go of all slots and all taken blocks of tenant `t`.
@@ -177,7 +200,7 @@ impl Buddy {
     {
         let k = self.live_order(t, frame)?;
         let order = self.order;
-        let m = self.tenants[t as usize].superblock(frame >> order)?;
+        let m = self.tenants[t as usize].superblock(frame >> order).unwrap();
         let first = frame % (1 << order);
         let superblock = &mut self.superblocks[m as usize];
         superblock.release_at(order, first, k);

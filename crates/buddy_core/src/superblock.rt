@@ -3,6 +3,7 @@
 ghost use Rattle.std.specs.Prelude.{◌≡◌, ℕ, ◌+◌, ◌-◌, ◌*◌, ◌^◌, ◌<◌, ◌≤◌, Some, None, List, replicate, length, slice_index, slice_index_or, slice_set, IfOk};
 ghost use Rattle.std.specs.Prelude.{Bool, true};
 ghost use Rattle.std.specs.Int.{bit_at};
+ghost use Rattle.model_core.specs.declared.limits.TheConstants.{MOST_ORDER};
 ghost use Rattle.model_core.specs.Numbered.{number_at, IsOpen};
 ghost use Rattle.buddy_core.specs.Stored.{blank_sheet};
 ghost use Rattle.buddy_core.specs.Tree.{Shows, IsLess, IsLeast};
@@ -29,7 +30,7 @@ impl Model for Superblock {
 impl Superblock {
     /// A superblock of `order` under no slot.
     pub fn new(alloc: Global, order: u8) -> Result<Superblock, AllocError>
-        requires { order ≤ 8 }
+        requires { order ≤ MOST_ORDER }
         ensures { IfOk result (λ s. s ≡ blank_sheet order) }
     {
         let words = vec![in alloc; 0; (2 << order) - 1]?;
@@ -62,7 +63,7 @@ impl Superblock {
 
     /// The first frame of the free block of `order` with the least first frame.
     pub fn search(&self, top: u8, order: u8) -> u32
-        requires small { top ≤ 8 }
+        requires small { top ≤ MOST_ORDER }
         requires order { order ≤ top }
         requires size { length self.now.words + 1 ≡ 2 ^ (top + 1) }
         ensures within { result < 2 ^ top }
@@ -75,7 +76,7 @@ impl Superblock {
 
     /// Takes the block of `order` that begins at `first` out of the free block of order `from` around it.
     pub fn reserve_at(&mut self, top: u8, first: u32, from: u8, order: u8)
-        requires small { top ≤ 8 }
+        requires small { top ≤ MOST_ORDER }
         requires order { order ≤ from }
         requires from { from ≤ top }
         requires first { first < 2 ^ top }
@@ -92,7 +93,7 @@ impl Superblock {
 
     /// Makes the taken block of `order` that begins at `first` free, joined with its buddies.
     pub fn release_at(&mut self, top: u8, first: u32, order: u8)
-        requires small { top ≤ 8 }
+        requires small { top ≤ MOST_ORDER }
         requires order { order ≤ top }
         requires first { first < 2 ^ top }
         requires words { length self.old.words + 1 ≡ 2 ^ (top + 1) }
@@ -108,7 +109,7 @@ impl Superblock {
 
     /// The order of the free block that has frame `first`, of at least `order`.
     pub fn free_around(&self, top: u8, first: u32, order: u8) -> u8
-        requires small { top ≤ 8 }
+        requires small { top ≤ MOST_ORDER }
         requires order { order ≤ top }
         requires first { first < 2 ^ top }
         requires words { length self.now.words + 1 ≡ 2 ^ (top + 1) }
@@ -125,7 +126,7 @@ impl Superblock {
 
     /// Makes the whole superblock one free block.
     pub fn fill(&mut self, top: u8)
-        requires small { top ≤ 8 }
+        requires small { top ≤ MOST_ORDER }
         requires size { length self.old.words + 1 ≡ 2 ^ (top + 1) }
         ensures words { Shows top (λ _. true) self.new.words }
         ensures orders { self.new.orders ≡ self.old.orders }

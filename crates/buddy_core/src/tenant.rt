@@ -1,6 +1,7 @@
 //! What is stored of one tenant.
 
-ghost use Rattle.std.specs.Prelude.{◌≡◌, ◌⊎◌, ℕ, replicate, count_by, is_some, ◌+◌, ◌-◌, ◌^◌, ◌<◌, ◌≤◌, Some, None, List, length, slice_index, slice_index_or, slice_set, IfOk};
+ghost use Rattle.std.specs.Prelude.{◌≡◌, ◌⊎◌, ℕ, replicate, count_by, is_some, ◌+◌, ◌-◌, ◌^◌, ◌<◌, ◌≤◌, Some, None, List, length, slice_index, slice_index_or, slice_set, IfOk, IsSome};
+ghost use Rattle.model_core.specs.declared.limits.TheConstants.{MOST_ORDER};
 ghost use Rattle.buddy_core.specs.Stored.{blank_row};
 ghost use Rattle.buddy_core.specs.Roots.{slot_in};
 
@@ -32,7 +33,7 @@ impl Model for Tenant {
 impl Tenant {
     /// A tenant that holds nothing.
     pub fn new(alloc: Global, order: u8, superblocks: u16) -> Result<Tenant, AllocError>
-        requires { order ≤ 8 }
+        requires { order ≤ MOST_ORDER }
         ensures { IfOk result (λ t. t ≡ blank_row order superblocks) }
     {
         let slots = vec![in alloc; None; superblocks as usize]?;
@@ -98,6 +99,14 @@ impl Tenant {
         self.slots[slot as usize] = Some(superblock);
         self.end = self.end.max(slot as usize + 1);
         self.free[order as usize] += 1;
+    }
+
+    /// Puts another superblock under a slot that has one, with the same free and taken blocks.
+    pub fn move_slot(&mut self, slot: u16, superblock: u16)
+        requires { IsSome (slot_in self.old.slots slot) }
+        ensures { self.new ≡ record self.old { slots = slice_set self.old.slots slot (Some superblock) } }
+    {
+        self.slots[slot as usize] = Some(superblock);
     }
 
     /// Takes a superblock, of which all frames are free, from its slot.

@@ -1,6 +1,7 @@
 //! Ten thousand mixed calls beside the plain search, and the worked example of the tree's words.
 
 ghost use Rattle.std.specs.Prelude.{◌≡◌, ℕ, ◌<◌, ◌≤◌, Some, true, length};
+ghost use Rattle.model_core.specs.declared.limits.TheConstants.{MOST_ORDER};
 ghost use Rattle.buddy_core.specs.Content.{holding_of, superblock_at};
 
 use super::*;
@@ -9,24 +10,6 @@ use std::process::Abort;
 use std::test::Fail;
 
 impl Buddy {
-    fn order(&self) -> u8
-        ensures { result ≡ self.now.top }
-    {
-        self.order
-    }
-
-    fn superblock_count(&self) -> usize
-        ensures { result ≡ self.now.superblocks }
-    {
-        self.superblocks.len()
-    }
-
-    fn tenant_count(&self) -> usize
-        ensures { result ≡ length self.now.tenants }
-    {
-        self.tenants.len()
-    }
-
     fn superblock_under(&self, t: u8, slot: u32) -> Option<u16>
         requires { t < length self.now.tenants }
         ensures { result ≡ superblock_at (holding_of t self.now) slot }
@@ -40,9 +23,9 @@ fn is_apart(buddy: &Buddy, t: u8, m: u16) -> bool
     requires { t < length buddy.now.tenants }
     ensures { result ≡ true → (u : ℕ) → superblock_at (holding_of t buddy.now) u ≡ Some m → ⊥ }
 {
-    buddy.sizes();
-    for slot in 0..buddy.superblock_count() {
-        if buddy.superblock_under(t, slot as u32) == Some(m) {
+    buddy.laws();
+    for slot in 0..buddy.superblocks() {
+        if buddy.superblock_under(t, u32::from(slot)) == Some(m) {
             return false;
         }
     }
@@ -53,12 +36,8 @@ fn is_apart(buddy: &Buddy, t: u8, m: u16) -> bool
 fn is_unused(buddy: &Buddy, m: u16) -> bool
     ensures { result ≡ true → (t u : ℕ) → superblock_at (holding_of t buddy.now) u ≡ Some m → ⊥ }
 {
-    let tenants = buddy.tenant_count();
-    if tenants > 64 {
-        return false;
-    }
-    for t in 0..tenants {
-        if !is_apart(buddy, t as u8, m) {
+    for t in 0..buddy.tenants() {
+        if !is_apart(buddy, t, m) {
             return false;
         }
     }
@@ -93,7 +72,7 @@ struct Plain {
 impl Plain {
     /// The machine frame of a tenant's frame.
     fn place(&self, order: u8, t: u8, frame: u32) -> Option<usize>
-        requires { order ≤ 8 }
+        requires { order ≤ MOST_ORDER }
     {
         let superblock = search::superblock_under(&self.owners, t, frame >> order)?;
         let within = frame as usize % (1 << order);
@@ -101,7 +80,7 @@ impl Plain {
     }
 
     fn mark_at(&self, order: u8, t: u8, frame: u32) -> u8
-        requires { order ≤ 8 }
+        requires { order ≤ MOST_ORDER }
     {
         match self.place(order, t, frame) {
             Some(place) => self.marks.get(place).copied().unwrap_or(0),
@@ -110,7 +89,7 @@ impl Plain {
     }
 
     fn live_order(&self, order: u8, t: u8, frame: u32) -> Option<u8>
-        requires { order ≤ 8 }
+        requires { order ≤ MOST_ORDER }
     {
         match self.mark_at(order, t, frame) {
             0 | 255 => None,
@@ -119,7 +98,7 @@ impl Plain {
     }
 
     fn block_of(&self, order: u8, t: u8, frame: u32) -> Option<(u32, u8)>
-        requires { order ≤ 8 }
+        requires { order ≤ MOST_ORDER }
     {
         for back in 0..=frame % (1 << order) {
             let first = frame.wrapping_sub(back);
@@ -139,7 +118,7 @@ impl Plain {
 
     /// The marks of superblock `m`.
     fn sheet(&self, order: u8, m: usize) -> &[u8]
-        requires { order ≤ 8 }
+        requires { order ≤ MOST_ORDER }
     {
         let first = m << order;
         self.marks
@@ -148,7 +127,7 @@ impl Plain {
     }
 
     fn taken_count(&self, order: u8, t: u8, k: u8) -> usize
-        requires { order ≤ 8 }
+        requires { order ≤ MOST_ORDER }
     {
         let mut count = 0usize;
         for (m, owner) in self.owners.iter().enumerate() {
@@ -174,7 +153,7 @@ impl Plain {
     }
 
     fn reserve(&mut self, order: u8, t: u8, k: u8) -> Option<u32>
-        requires { order ≤ 8 }
+        requires { order ≤ MOST_ORDER }
     {
         let (first, _) = search::find_free(order, &self.owners, &self.marks, t, k)?;
         let place = self.place(order, t, first)?;
@@ -183,7 +162,7 @@ impl Plain {
     }
 
     fn release(&mut self, order: u8, t: u8, frame: u32) -> Option<u8>
-        requires { order ≤ 8 }
+        requires { order ≤ MOST_ORDER }
     {
         let k = self.live_order(order, t, frame)?;
         let place = self.place(order, t, frame)?;
@@ -193,7 +172,7 @@ impl Plain {
 
     /// Lets go of superblock `m`.
     fn clear(&mut self, order: u8, m: usize)
-        requires { order ≤ 8 }
+        requires { order ≤ MOST_ORDER }
     {
         self.mark(m << order, order, 0, 0);
         if m < self.owners.len() {
@@ -201,8 +180,24 @@ impl Plain {
         }
     }
 
+    /// Puts superblock `m`, which has no owner, in the place of superblock `old`.
+    fn move_to(&mut self, order: u8, old: usize, m: usize)
+        requires { order ≤ MOST_ORDER }
+    {
+        for i in 0..1usize << order {
+            let from = (old << order).wrapping_add(i);
+            let to = (m << order).wrapping_add(i);
+            if from < self.marks.len() && to < self.marks.len() {
+                self.marks.swap(from, to);
+            }
+        }
+        if old < self.owners.len() && m < self.owners.len() {
+            self.owners.swap(old, m);
+        }
+    }
+
     fn reset(&mut self, order: u8, t: u8)
-        requires { order ≤ 8 }
+        requires { order ≤ MOST_ORDER }
     {
         for m in 0..self.owners.len() {
             if let Some((tenant, _)) = self.owners.get(m).copied().flatten()
@@ -223,6 +218,7 @@ struct Tally {
     untaken: u32,
     added: u32,
     dropped: u32,
+    moved: u32,
     busy: u32,
     resets: u32,
 }
@@ -231,7 +227,8 @@ impl Tally {
     fn least(&self) -> u32 {
         let changed = self.reserved.min(self.released).min(self.added);
         let refused = self.refused.min(self.untaken).min(self.busy);
-        changed.min(refused).min(self.dropped).min(self.resets)
+        let slots = self.dropped.min(self.moved).min(self.resets);
+        changed.min(refused).min(slots)
     }
 }
 
@@ -246,7 +243,7 @@ struct Beside {
 
 impl Beside {
     fn new(alloc: Global, order: u8) -> Result<Beside, AllocError>
-        requires { order ≤ 8 }
+        requires { order ≤ MOST_ORDER }
     {
         Ok(Beside {
             buddy: Buddy::new(alloc, order, 6, 3)?,
@@ -262,11 +259,11 @@ impl Beside {
     fn has_tenant(&self, t: u8) -> bool
         ensures { result ≡ true → t < length self.now.buddy.tenants }
     {
-        usize::from(t) < self.buddy.tenant_count()
+        t < self.buddy.tenants()
     }
 
     fn reserve(&mut self, rt: &impl Abort, t: u8) {
-        self.buddy.sizes();
+        self.buddy.laws();
         let order = self.buddy.order();
         let most = self.numbers.below(u32::from(order) + 1);
         let k = self.numbers.below(most + 1) as u8;
@@ -282,7 +279,7 @@ impl Beside {
 
     /// A frame of the tenant, in a taken block if one of eight draws is.
     fn some_frame(&mut self, order: u8, t: u8) -> u32
-        requires { order ≤ 8 }
+        requires { order ≤ MOST_ORDER }
     {
         let mut frame = 0;
         for _draw in 0..8 {
@@ -296,7 +293,7 @@ impl Beside {
 
     /// Mostly of a taken block, else of any frame.
     fn release(&mut self, rt: &impl Abort, t: u8) {
-        self.buddy.sizes();
+        self.buddy.laws();
         let order = self.buddy.order();
         let frame = self.some_frame(order, t);
         let is_any = self.numbers.below(4) == 0;
@@ -322,8 +319,8 @@ impl Beside {
         let m = self.numbers.below(6) as u16;
         let unused = is_unused(&self.buddy, m);
         assert_eq!(rt; unused, self.plain.owners.get(m as usize) == Some(&None));
-        let count = self.buddy.superblock_count();
-        if !unused || usize::from(slot) >= count || usize::from(m) >= count || !self.has_tenant(t) {
+        let count = self.buddy.superblocks();
+        if !unused || slot >= count || m >= count || !self.has_tenant(t) {
             return;
         }
         if self.buddy.superblock_under(t, u32::from(slot)).is_none()
@@ -352,7 +349,7 @@ impl Beside {
         if !self.has_tenant(t) {
             return;
         }
-        self.buddy.sizes();
+        self.buddy.laws();
         let order = self.buddy.order();
         let under = search::superblock_under(&self.plain.owners, t, u32::from(slot));
         if let Some(m) = self.buddy.superblock_under(t, u32::from(slot)) {
@@ -374,9 +371,29 @@ impl Beside {
         }
     }
 
+    /// The old superblock has an empty table then.
+    fn move_slot(&mut self, rt: &impl Abort, t: u8) {
+        let slot = self.some_slot(t);
+        let m = self.numbers.below(6) as u16;
+        let count = self.buddy.superblocks();
+        if !self.has_tenant(t) || m >= count || !is_unused(&self.buddy, m) {
+            return;
+        }
+        self.buddy.laws();
+        let order = self.buddy.order();
+        if let Some(old) = self.buddy.superblock_under(t, u32::from(slot)) {
+            self.buddy.move_slot(t, slot, m);
+            if old < count {
+                assert_eq!(rt; self.buddy.table(old).iter().copied().max(), Some(0));
+            }
+            self.plain.move_to(order, usize::from(old), usize::from(m));
+            self.tally.moved = self.tally.moved.wrapping_add(1);
+        }
+    }
+
     fn reset(&mut self, t: u8) {
         if self.has_tenant(t) {
-            self.buddy.sizes();
+            self.buddy.laws();
             let order = self.buddy.order();
             self.buddy.reset(t);
             self.plain.reset(order, t);
@@ -392,14 +409,15 @@ impl Beside {
             0..100 => self.reserve(rt, t),
             100..150 => self.release(rt, t),
             150..205 => self.add_slot(rt, t),
-            205..253 => self.drop_slot(rt, t),
+            205..237 => self.drop_slot(rt, t),
+            237..253 => self.move_slot(rt, t),
             _ => self.reset(t),
         }
     }
 
     /// The counts of each tenant, of each order.
     fn compare_counts(&self, rt: &impl Abort) {
-        self.buddy.sizes();
+        self.buddy.laws();
         let order = self.buddy.order();
         for t in 0..3 {
             if self.has_tenant(t) {
@@ -442,19 +460,19 @@ fn worked_example(rt: HostRuntime) -> Result<(), Fail> {
     let mut buddy = Buddy::new(rt.alloc(), 3, 2, 2)?;
     buddy.add_slot(0, 0, 0);
     for (k, frame) in [(0u8, 0u32), (1, 2), (2, 4), (0, 1)] {
-        if 0 < buddy.tenant_count() && k <= buddy.order() {
+        if 0 < buddy.tenants() && k <= buddy.order() {
             assert_eq!(rt; buddy.reserve(0, k), Some(frame));
         }
     }
     for frame in [0, 4] {
-        if 0 < buddy.tenant_count() {
+        if 0 < buddy.tenants() {
             assert!(rt; buddy.release(0, frame).is_some());
         }
     }
-    if 0 < buddy.tenant_count() && 1 <= buddy.order() {
+    if 0 < buddy.tenants() && 1 <= buddy.order() {
         assert_eq!(rt; buddy.reserve(0, 1), Some(4));
     }
-    if 0 < buddy.superblock_count() {
+    if 0 < buddy.superblocks() {
         assert_eq!(rt;
             buddy.table(0),
             [3, 1, 2, 1, 0, 0, 2, 1, 0, 0, 0, 0, 0, 0, 0].as_slice()

@@ -6,6 +6,7 @@
 
 ghost use Rattle.std.specs.Prelude.{◌≡◌, ℕ, ◌+◌, ◌-◌, ◌*◌, ◌/◌, ◌^◌, ◌<◌, ◌≤◌, ◌==◌, Bool, true, false, cond, ◌&&◌, ◌↔◌, IsTrue, length, slice_index, slice_set, bit_or};
 ghost use Rattle.std.specs.Int.{bit_at};
+ghost use Rattle.model_core.specs.declared.limits.TheConstants.{MOST_ORDER};
 ghost use Rattle.model_core.specs.Numbered.{number_at, IsOpen};
 ghost use Rattle.buddy_core.specs.Tree.{Shows, IsLess, IsLeast, joined};
 
@@ -26,9 +27,9 @@ pub fn clear(words: &mut [u16])
     }
 }
 
-/// Writes the words of a superblock of which every frame is available, where `top` is its order, at most 8.
+/// Writes the words of a superblock of which every frame is available, where `top` is its order.
 pub fn fill(words: &mut [u16], top: u8)
-    requires small { top ≤ 8 }
+    requires small { top ≤ MOST_ORDER }
     requires size { length words.old + 1 ≡ 2 ^ (top + 1) }
     ensures { Shows top (λ _. true) words.new }
 {
@@ -39,7 +40,7 @@ pub fn fill(words: &mut [u16], top: u8)
 /// The first frame of the free block of `order` with the least first frame. A free block of that order must be there,
 /// which bit `order` of the first word tells.
 pub fn search(words: &[u16], top: u8, order: u8) -> u32
-    requires small { top ≤ 8 }
+    requires small { top ≤ MOST_ORDER }
     requires order { order ≤ top }
     requires size { length words.now + 1 ≡ 2 ^ (top + 1) }
     ensures within { result < 2 ^ top }
@@ -58,7 +59,7 @@ pub fn search(words: &[u16], top: u8, order: u8) -> u32
 
 /// The node of the block of `order` around frame `first`.
 pub fn node_of(top: u8, first: u32, order: u8) -> usize
-    requires small { top ≤ 8 }
+    requires small { top ≤ MOST_ORDER }
     requires order { order ≤ top }
     requires first { first < 2 ^ top }
     ensures value { result ≡ 2 ^ (top - order) + number_at order first }
@@ -96,7 +97,7 @@ fn join(words: &mut [u16], node: usize, order: u8)
 
 /// Takes the block of `order` around frame `first` out of the free block of order `from` around it, which it splits.
 pub fn reserve_at(words: &mut [u16], top: u8, first: u32, from: u8, order: u8)
-    requires small { top ≤ 8 }
+    requires small { top ≤ MOST_ORDER }
     requires order { order ≤ from }
     requires from { from ≤ top }
     requires first { first < 2 ^ top }
@@ -118,7 +119,7 @@ pub fn reserve_at(words: &mut [u16], top: u8, first: u32, from: u8, order: u8)
 /// Makes the block of `order` around frame `first` available, and joins it at once with its buddy while that is one
 /// free block.
 pub fn release_at(words: &mut [u16], top: u8, first: u32, order: u8)
-    requires small { top ≤ 8 }
+    requires small { top ≤ MOST_ORDER }
     requires order { order ≤ top }
     requires first { first < 2 ^ top }
     requires size { length words.old + 1 ≡ 2 ^ (top + 1) }

@@ -1,16 +1,20 @@
 -- The superblocks of one tenant are taken back, one after the other.
+use Rattle.model_core.specs.declared.owner.Owner.{Owner}
 use Rattle.std.proofs.Common.{◌≡◌, ◌≢◌, ℕ, ◌+◌, ◌<◌, ◌≤◌, nat_lt, true, false, if◌then◌else◌, Option, Some, None, length, map, take, count_by, slice_index_or, slice_set, refl, sym, ap, ◌∙◌, ⊎_elim, arith}
 use Rattle.std.proofs.lemmas.Bool.{cases_eq, cases_lt, eq-eqb, lt-ltb}
 use Rattle.std.proofs.lemmas.List.{length-set, get_or-set_same, get_or-set_other, get_or-map, get_or_default, get_or_past, same_lists}
 use Rattle.std.proofs.lemmas.List.Sums.{count_by_more_yes, count_by_more_no}
 use Rattle.std.proofs.Math.ListN.{length-map}
 use Rattle.std.proofs.Math.Seq.{take-length}
-use Rattle.space_core.specs.Content.{Content, IsSpace, superblock_at, owner_at}
+use Rattle.space_core.specs.Content.{Content, IsSpace, superblock_at, owner_at, mark_at}
 use Rattle.space_core.specs.Changes.{taken_back}
 use Rattle.space_core.specs.Laws.{IsSameFor, OthersStay}
-use Rattle.kernel_core.specs.World.{is_of, given_up}
+use Rattle.model_core.specs.Owners.{owned_by, is_of}
+use Rattle.kernel_core.specs.World.{given_up}
+use Rattle.kernel_core.specs.Parts.{mark_after, MarksFollow}
 use Rattle.kernel_core.specs.GivenUp.{GivesUp}
 use Rattle.kernel_core.proofs.Rising.{is_same, is_other, not_less, some_none}
+use Rattle.kernel_core.proofs.Unowned.{marks_replaced}
 
 pub same_after : (u : ℕ) (a b c : Content) → IsSameFor u a b → IsSameFor u b c → IsSameFor u a c
 same_after u a b c first second = record {
@@ -27,6 +31,8 @@ pub record IsGivingUp (old now : Content) (t m told : ℕ) : Type 0 where
   pub unit : now.unit ≡ old.unit
   pub rows : length now.slots ≡ length old.slots
   pub long : length now.owners ≡ length old.owners
+  pub banks : now.banks ≡ old.banks
+  pub marks : MarksFollow old now
   pub owners : (n : ℕ) → owner_at now.owners n ≡ (if nat_lt n m then given_up (is_of t) (owner_at old.owners n) else owner_at old.owners n)
   pub others : (u : ℕ) → u ≢ t → IsSameFor u old now
 
@@ -50,6 +56,8 @@ giving_passes old now t m told g below unlike =
       unit = g.unit;
       rows = g.rows;
       long = g.long;
+      banks = g.banks;
+      marks = g.marks;
       owners = λ n. ⊎_elim
           (λ same.
           let here : nat_lt n (m + 1) ≡ true = lt-ltb n (m + 1) (omega arith) in
@@ -63,16 +71,20 @@ giving_passes old now t m told g below unlike =
     }
 
 -- the next one is the tenant's, and taken back
-pub giving_takes : (old now : Content) (t slot m told : ℕ) → IsGivingUp old now t m told → OthersStay now → m < length old.owners → owner_at now.owners m ≡ Some (t, slot)
+pub giving_takes : (old now : Content) (t slot m told : ℕ) → IsGivingUp old now t m told → IsSpace now → OthersStay now → m < length old.owners → owner_at now.owners m ≡ Some (owned_by t slot)
     → IsGivingUp old (taken_back now t slot m) t (m + 1) (told + 1)
-giving_takes old now t slot m told g stay below own =
-    let was : is_of t (owner_at old.owners m) ≡ true = ap (is_of t) (sym (still old now t m told g) ∙ own) ∙ is_same t in
+giving_takes old now t slot m told g space stay below own =
+    let own_before : owner_at old.owners m ≡ Some (owned_by t slot) = sym (still old now t m told g) ∙ own in
+    let was : is_of t (owner_at old.owners m) ≡ true = ap (is_of t) own_before ∙ is_same t in
     record {
       small = omega (arith, g.small);
       count = ap (λ n. n + 1) g.count ∙ sym (count_by_more_yes (is_of t) old.owners m None below was);
       unit = g.unit;
       rows = length-set now.slots t _ ∙ g.rows;
       long = length-set now.owners m None ∙ g.long;
+      banks = g.banks;
+      marks = marks_replaced old now m None true g.marks (omega (arith, g.long)) (omega (arith, g.long, space.flagged))
+          (ap (λ o. mark_after o None (mark_at old.marks m)) own_before);
       owners = λ n. ⊎_elim
           (λ same.
           let here : nat_lt n (m + 1) ≡ true = lt-ltb n (m + 1) (omega arith) in
@@ -88,17 +100,17 @@ giving_takes old now t slot m told g stay below own =
     }
 
 -- no owner is the tenant after the giving up
-never_own : (t slot : ℕ) (o : Option (ℕ × ℕ)) → given_up (is_of t) o ≡ Some (t, slot) → ⊥
+never_own : (t slot : ℕ) (o : Option Owner) → given_up (is_of t) o ≡ Some (owned_by t slot) → ⊥
 never_own t slot None is = some_none (sym is)
 never_own t slot (Some o) is = ⊎_elim
-    (λ same. some_none (sym (sym (ap (λ b. if b then None else Some o) (eq-eqb o.0 t same)) ∙ is)))
+    (λ same. some_none (sym (sym (ap (λ b. if b then None else Some o) (eq-eqb o.tenant t same)) ∙ is)))
     (λ other.
-    let told : Some o ≡ Some (t, slot) = sym (ap (λ b. if b then None else Some o) (is_other o.0 t other)) ∙ is in
-    other (tenant_of o (t, slot) told))
-    (cases_eq o.0 t)
+    let told : Some o ≡ Some (owned_by t slot) = sym (ap (λ b. if b then None else Some o) (is_other o.tenant t other)) ∙ is in
+    other (tenant_of o (owned_by t slot) told))
+    (cases_eq o.tenant t)
   where
-    tenant_of : (a b : ℕ × ℕ) → Some a ≡ Some b → a.0 ≡ b.0
-    tenant_of a b e = let same : a ≡ b = cc in ap (λ (p : ℕ × ℕ). p.0) same
+    tenant_of : (a b : Owner) → Some a ≡ Some b → a.tenant ≡ b.tenant
+    tenant_of a b e = let same : a ≡ b = cc in ap (λ (p : Owner). p.tenant) same
 
 past_all : (old now : Content) (t m told : ℕ) → IsGivingUp old now t m told → length old.owners ≤ m → (n : ℕ) → n < length old.owners
     → owner_at now.owners n ≡ given_up (is_of t) (owner_at old.owners n)
@@ -116,11 +128,13 @@ giving_ends old now t told space g = record {
       get_or_default now.owners n d None below
       ∙ past_all old now t (length old.owners) told g (omega arith) n within
       ∙ sym (get_or-map (given_up (is_of t)) old.owners n None d within));
+  banks = g.banks;
+  marks = g.marks;
   slots = λ slot. none_at slot (superblock_at now.slots t slot) refl;
   others = g.others;
 }
   where
-    owned_below : (n : ℕ) (p : ℕ × ℕ) → owner_at now.owners n ≡ Some p → n < length old.owners
+    owned_below : (n : ℕ) (p : Owner) → owner_at now.owners n ≡ Some p → n < length old.owners
     owned_below n p own = ⊎_elim (λ below. below)
         (λ past. absurd (some_none (sym own ∙ get_or_past now.owners n None (omega (arith, g.long)))))
         (cases_lt n (length old.owners))
@@ -128,6 +142,6 @@ giving_ends old now t told space g = record {
     none_at : (slot : ℕ) (o : Option ℕ) → superblock_at now.slots t slot ≡ o → o ≡ None
     none_at slot None here = refl
     none_at slot (Some n) here =
-        let own : owner_at now.owners n ≡ Some (t, slot) = (space.agree t slot n).0 here in
+        let own : owner_at now.owners n ≡ Some (owned_by t slot) = (space.agree t slot n).0 here in
         absurd (never_own t slot (owner_at old.owners n)
-        (sym (past_all old now t (length old.owners) told g (omega arith) n (owned_below n (t, slot) own)) ∙ own))
+        (sym (past_all old now t (length old.owners) told g (omega arith) n (owned_below n (owned_by t slot) own)) ∙ own))

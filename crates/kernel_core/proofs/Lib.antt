@@ -6,6 +6,7 @@ pub mod Rising
 pub mod OneWorld
 pub mod Choices
 pub mod Holdings
+pub mod Unowned
 pub mod Worlds
 pub mod Agreeing
 pub mod Pages
@@ -18,3 +19,5 @@ pub mod Resetting
 pub mod GivingUp
 pub mod Opening
 pub mod Operations
+pub mod Showing
+pub mod Reached

@@ -7,7 +7,8 @@ use Rattle.model_core.specs.Machine.{empty_machine}
 use Rattle.space_core.specs.Content as spaces
 use Rattle.buddy_core.specs.Content as buddies
 use Rattle.kernel_core.specs.declared.kernel.Config.{Config}
-use Rattle.kernel_core.specs.Limits.{superblock_limit, tenant_limit}
+use Rattle.model_core.specs.declared.limits.TheConstants.{LEAST_ORDER, MOST_ORDER}
+use Rattle.model_core.specs.declared.limits.TheConstants.{MOST_SUPERBLOCKS, MOST_TENANTS}
 use Rattle.kernel_core.specs.World.{opening_world}
 use Rattle.kernel_core.specs.Parts.{PartsAgree, opening_parts}
 use Rattle.kernel_core.specs.Shows.{ShowsMachine, Shows}
@@ -19,13 +20,13 @@ abbrev nothing : Option ℕ
 nothing = None
 
 -- the sizes are within the limits
-pub bootable : (c : Config) → is_bootable c ≡ true → (c.order ≤ 8) × (c.superblocks ≤ superblock_limit) × (c.tenants ≤ tenant_limit)
+pub bootable : (c : Config) → is_bootable c ≡ true → (c.order ≤ MOST_ORDER) × (c.superblocks ≤ MOST_SUPERBLOCKS) × (c.tenants ≤ MOST_TENANTS)
 bootable c is =
-    let first = and_parts (is_between 3 8 c.order) (is_between 1 superblock_limit c.superblocks && is_between 1 tenant_limit c.tenants) is in
-    let second = and_parts (is_between 1 superblock_limit c.superblocks) (is_between 1 tenant_limit c.tenants) first.1 in (
-      leb-true c.order 8 (and_parts (nat_le 3 c.order) (nat_le c.order 8) first.0).1,
-      leb-true c.superblocks superblock_limit (and_parts (nat_le 1 c.superblocks) (nat_le c.superblocks superblock_limit) second.0).1,
-      leb-true c.tenants tenant_limit (and_parts (nat_le 1 c.tenants) (nat_le c.tenants tenant_limit) second.1).1,
+    let first = and_parts (is_between LEAST_ORDER MOST_ORDER c.order) (is_between 1 MOST_SUPERBLOCKS c.superblocks && is_between 1 MOST_TENANTS c.tenants) is in
+    let second = and_parts (is_between 1 MOST_SUPERBLOCKS c.superblocks) (is_between 1 MOST_TENANTS c.tenants) first.1 in (
+      leb-true c.order MOST_ORDER (and_parts (nat_le LEAST_ORDER c.order) (nat_le c.order MOST_ORDER) first.0).1,
+      leb-true c.superblocks MOST_SUPERBLOCKS (and_parts (nat_le 1 c.superblocks) (nat_le c.superblocks MOST_SUPERBLOCKS) second.0).1,
+      leb-true c.tenants MOST_TENANTS (and_parts (nat_le 1 c.tenants) (nat_le c.tenants MOST_TENANTS) second.1).1,
     )
 
 no_slots : (n superblocks t slot : ℕ) → spaces.superblock_at (replicate n (replicate superblocks None)) t slot ≡ None
@@ -50,9 +51,11 @@ opening_holding order superblocks tenants t = ⊎_elim
     ))
     (cases_lt t tenants)
 
-pub opening_agrees : (order superblocks tenants : ℕ) → order ≤ 8 → superblocks ≤ superblock_limit → tenants ≤ tenant_limit → PartsAgree (opening_parts order superblocks tenants)
+pub opening_agrees : (order superblocks tenants : ℕ) → order ≤ MOST_ORDER → superblocks ≤ MOST_SUPERBLOCKS → tenants ≤ MOST_TENANTS
+    → spaces.IsSpace (spaces.empty_space (4096 * 2 ^ order) superblocks tenants) → PartsAgree (opening_parts order superblocks tenants)
 unfolding opening_parts
-opening_agrees order superblocks tenants small few many = record {
+opening_agrees order superblocks tenants small few many space = record {
+  space = space;
   order = small;
   few = few;
   tenants = many;
@@ -68,11 +71,11 @@ opening_agrees order superblocks tenants small few many = record {
 some_same : {A : Type 0} (x y : A) → Some x ≡ Some y → x ≡ y
 some_same x y e = cc
 
-pub opening_shows : (order superblocks tenants : ℕ) → order ≤ 8 → superblocks ≤ superblock_limit → tenants ≤ tenant_limit
-    → Shows (opening_parts order superblocks tenants) (opening_world superblocks tenants)
+pub opening_shows : (order superblocks tenants : ℕ) → order ≤ MOST_ORDER → superblocks ≤ MOST_SUPERBLOCKS → tenants ≤ MOST_TENANTS
+    → spaces.IsSpace (spaces.empty_space (4096 * 2 ^ order) superblocks tenants) → Shows (opening_parts order superblocks tenants) (opening_world superblocks tenants)
 unfolding opening_parts opening_world
-opening_shows order superblocks tenants small few many = record {
-  agree = opening_agrees order superblocks tenants small few many;
+opening_shows order superblocks tenants small few many space = record {
+  agree = opening_agrees order superblocks tenants small few many space;
   owners = refl;
   tenants = length-replicate tenants empty_machine;
   machines = λ t m here.

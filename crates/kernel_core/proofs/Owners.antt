@@ -1,4 +1,5 @@
 -- Which superblocks have which owner.
+use Rattle.model_core.specs.declared.owner.Owner.{Owner}
 use Rattle.std.proofs.Common.{◌≡◌, ◌≢◌, ℕ, ◌<◌, ◌==◌, ◌&&◌, true, false, if◌then◌else◌, Option, Some, None, is_none, List, length, map, position, slice_index_or, slice_set, refl, sym, ap, ◌∙◌, ⊎_elim, arith}
 use Rattle.std.specs.List.{position_or_len}
 use Rattle.std.proofs.lemmas.Bool.{false≢true, cases_eq, eqb-true, and_parts, false_from_ne_true}
@@ -8,36 +9,37 @@ use Rattle.std.proofs.lemmas.List.Quantifiers.{position-Some}
 use Rattle.std.proofs.Math.ListN.{length-map}
 use Rattle.space_core.specs.Content as spaces
 use Rattle.space_core.specs.Content.{IsSpace, owner_at}
-use Rattle.kernel_core.specs.World.{is_owner, given_up}
+use Rattle.model_core.specs.Owners.{owned_by, is_owner}
+use Rattle.kernel_core.specs.World.{given_up}
 use Rattle.kernel_core.proofs.Rising.{is_same}
 
-pub was_none : (o : Option (ℕ × ℕ)) → is_none o ≡ true → o ≡ None
+pub was_none : (o : Option Owner) → is_none o ≡ true → o ≡ None
 was_none None _ = refl
 was_none (Some o) fails = absurd (false≢true fails)
 
 -- the first superblock without owner has none
-pub unowned_at : (owners : List (Option (ℕ × ℕ))) (m : ℕ) → position is_none owners ≡ Some m → owner_at owners m ≡ None
+pub unowned_at : (owners : List (Option Owner)) (m : ℕ) → position is_none owners ≡ Some m → owner_at owners m ≡ None
 unowned_at owners m free = was_none (owner_at owners m) (position-Some is_none owners m None free).1
 
 pub same_some : {A : Type 0} (x y : A) → Some x ≡ Some y → x ≡ y
 same_some x y e = cc
 
 -- an owner is one tenant with one slot
-pub owner_is : (t u : ℕ) (o : Option (ℕ × ℕ)) → is_owner t u o ≡ true → o ≡ Some (t, u)
+pub owner_is : (t u : ℕ) (o : Option Owner) → is_owner t u o ≡ true → o ≡ Some (owned_by t u)
 owner_is t u None fails = absurd (false≢true fails)
 owner_is t u (Some o) owns =
-    let both = and_parts (o.0 == t) (o.1 == u) owns in
-    let tenant = eqb-true o.0 t both.0 in
-    let slot = eqb-true o.1 u both.1 in
-    ap (λ a. Some (a, o.1)) tenant ∙ ap (λ b. Some (t, b)) slot
+    let both = and_parts (o.tenant == t) (o.slot == u) owns in
+    let tenant = eqb-true o.tenant t both.0 in
+    let slot = eqb-true o.slot u both.1 in
+    ap (λ a. Some (owned_by a o.slot)) tenant ∙ ap (λ b. Some (owned_by t b)) slot
 
-pub owner_self : (t u : ℕ) → is_owner t u (Some (t, u)) ≡ true
+pub owner_self : (t u : ℕ) → is_owner t u (Some (owned_by t u)) ≡ true
 owner_self t u = ap (λ b. b && (u == u)) (is_same t) ∙ is_same u
 
 -- superblock m is the one under slot u of tenant t
 pub record IsUnder (s : spaces.Content) (t u m : ℕ) : Type 0 where
   pub within : m < length s.owners
-  pub owner : owner_at s.owners m ≡ Some (t, u)
+  pub owner : owner_at s.owners m ≡ Some (owned_by t u)
   pub only : (n : ℕ) → n ≢ m → is_owner t u (owner_at s.owners n) ≡ false
 
 pub is_under : (s : spaces.Content) (t u m : ℕ) → IsSpace s → m < length s.owners → spaces.superblock_at s.slots t u ≡ Some m → IsUnder s t u m
@@ -64,7 +66,7 @@ given_up_one s t u m under =
     let within : n < length s.owners = omega (arith, below, length-set s.owners m None) in
     at n d within)
   where
-    at : (n : ℕ) (d : Option (ℕ × ℕ)) → n < length s.owners
+    at : (n : ℕ) (d : Option Owner) → n < length s.owners
         → slice_index_or (slice_set s.owners m None) n d ≡ slice_index_or (map (given_up (is_owner t u)) s.owners) n d
     at n d within = ⊎_elim
         (λ same.
@@ -72,7 +74,7 @@ given_up_one s t u m under =
         ∙ sym (get_or-map (given_up (is_owner t u)) s.owners n None d within
         ∙ ap (λ i. given_up (is_owner t u) (owner_at s.owners i)) same
         ∙ ap (given_up (is_owner t u)) under.owner
-        ∙ ap (λ b. if b then None else Some (t, u)) (owner_self t u)))
+        ∙ ap (λ b. if b then None else Some (owned_by t u)) (owner_self t u)))
         (λ other.
         get_or-set_other s.owners m n None d other
         ∙ get_or_default s.owners n d None within

@@ -20,14 +20,14 @@ use Rattle.words_core.specs.declared.reply.Refusal.TheVariants.{BadOrder, NoFram
 use Rattle.kernel_core.specs.Limits.{cache_limit}
 use Rattle.kernel_core.specs.OwnList.{is_refused}
 use Rattle.kernel_core.specs.PrivateStep.{command_step}
-use Rattle.kernel_core.specs.Parts.{Parts, PartsAgree, taken_of, Keeps}
+use Rattle.kernel_core.specs.Parts.{Parts, PartsAgree, SameSizes, SpareStays, taken_of, Keeps}
 use Rattle.kernel_core.specs.Shows.{ShowsMachine}
 use Rattle.kernel_core.specs.Steps.{StepsMachine}
 use Rattle.model_core.proofs.Rising.{order_in-put}
 use Rattle.kernel_core.proofs.Rising.{not_less, rises-put, order_in-filter, has-order_in}
 use Rattle.kernel_core.proofs.Choices.{Meets, chosen, unchosen}
 use Rattle.kernel_core.proofs.Holdings.{own_holding, within, replaced}
-use Rattle.kernel_core.proofs.Worlds.{keeps_all, false_is}
+use Rattle.kernel_core.proofs.Worlds.{keeps_all, same_sizes, false_is}
 use Rattle.kernel_core.proofs.Agreeing.{holding, agree_held, keeps_held}
 
 -- the parts stay, whichever machine they show
@@ -35,9 +35,10 @@ pub stays : (k : Parts) (t : ℕ) (command : Command) (body : Body) → PartsAgr
     → ((m : Machine) → ShowsMachine k t m → command_step cache_limit k.order command m ≡ record { answer = body; machine = m })
     → StepsMachine k t command k body
 stays k t command body agree same = record {
-  order = refl;
-  tenants = refl;
+  sizes = same_sizes k _ _;
   owners = refl;
+  marks = refl;
+  spare = λ _ _. refl;
   agree = agree;
   shows = λ m shown. subst (λ (s : Step Body). ShowsMachine k t s.machine) (sym (same m shown)) shown;
   answer = λ m shown. sym (ap (λ (s : Step Body). s.answer) (same m shown));
@@ -47,15 +48,16 @@ stays k t command body agree same = record {
 
 -- the parts change, whichever machine they show
 pub moves : (k k' : Parts) (t : ℕ) (command : Command) (body : Body) (after : Machine → Machine)
-    → k'.order ≡ k.order → k'.tenants ≡ k.tenants → k'.space.owners ≡ k.space.owners → PartsAgree k' → is_refused body ≡ false
+    → SameSizes k k' → k'.space.owners ≡ k.space.owners → k'.space.marks ≡ k.space.marks → SpareStays k.space k'.space → PartsAgree k' → is_refused body ≡ false
     → ((m : Machine) → ShowsMachine k t m → command_step cache_limit k.order command m ≡ record { answer = body; machine = after m })
     → ((m : Machine) → ShowsMachine k t m → ShowsMachine k' t (after m))
     → ((u : ℕ) → u ≢ t → Keeps k k' u)
     → StepsMachine k t command k' body
-moves k k' t command body after order tenants owners agree told same shows others = record {
-  order = order;
-  tenants = tenants;
+moves k k' t command body after sizes owners marks spare agree told same shows others = record {
+  sizes = sizes;
   owners = owners;
+  marks = marks;
+  spare = spare;
   agree = agree;
   shows = λ m shown. subst (λ (s : Step Body). ShowsMachine k' t s.machine) (sym (same m shown)) (shows m shown);
   answer = λ m shown. sym (ap (λ (s : Step Body). s.answer) (same m shown));
@@ -142,7 +144,7 @@ pub alloc_done : (k : Parts) (t f j o : ℕ) → PartsAgree k → IsSized k.budd
     → StepsMachine k t (Alloc o) (holding t (buddies.with_block f o (holding_of t k.buddy)) k) (Frame f)
 alloc_done k t f j o agree sized known small is =
     moves k (holding t (buddies.with_block f o (holding_of t k.buddy)) k) t (Alloc o) (Frame f) (ops.with_block (block f o))
-    refl refl refl (agree_held k t (buddies.with_block f o (holding_of t k.buddy)) agree known refl) refl
+    (same_sizes k _ _) refl refl (λ _ _. refl) (agree_held k t (buddies.with_block f o (holding_of t k.buddy)) agree known refl) refl
     (λ m shown. alloc_is k.order o f m small
     (subst (λ n. choice n m o ≡ Some f) agree.top (chosen k.buddy.top o f j (is_held (holding_of t k.buddy)) (taken_of k t) m (meets k t m agree shown) is)))
     (λ m shown. alloc_shows k t f j o m agree sized known is shown)
@@ -181,7 +183,7 @@ pub free_done : (k : Parts) (t f o : ℕ) → PartsAgree k → t < k.tenants →
     → StepsMachine k t (Free f) (holding t (buddies.without_block f (holding_of t k.buddy)) k) (Freed o)
 free_done k t f o agree known here =
     moves k (holding t (buddies.without_block f (holding_of t k.buddy)) k) t (Free f) (Freed o) (ops.without_block f)
-    refl refl refl (agree_held k t (buddies.without_block f (holding_of t k.buddy)) agree known refl) refl
+    (same_sizes k _ _) refl refl (λ _ _. refl) (agree_held k t (buddies.without_block f (holding_of t k.buddy)) agree known refl) refl
     (λ m shown. freed_is k.order f o m (shown.blocks f ∙ here))
     (λ m shown. free_shows k t f o m agree known here shown)
     (keeps_held k t (buddies.without_block f (holding_of t k.buddy)))

@@ -11,6 +11,7 @@ use Rattle.model_core.specs.Machine.{Machine}
 use Rattle.model_core.specs.Operations.{read_step, write_step, written}
 use Rattle.model_core.specs.Reach.{within_block, within_objects, in_reach}
 use Rattle.model_core.proofs.Bridge.{number_of_frame, same_slot}
+use Rattle.space_core.specs.Content.{IsSpace}
 use Rattle.space_core.specs.Windows.{home_of, window_of, bytes_under, with_window, is_in_slot}
 use Rattle.space_core.specs.Laws.{IsRead, OwnBytes, OthersStay}
 use Rattle.buddy_core.specs.Content.{holding_of, IsSoundHolding}
@@ -19,11 +20,13 @@ use Rattle.words_core.specs.declared.reply.Body.TheVariants.{Bytes, Written, Ref
 use Rattle.words_core.specs.declared.reply.Refusal.TheVariants.{BadLength, OutOfReach}
 use Rattle.kernel_core.specs.Limits.{cache_limit}
 use Rattle.kernel_core.specs.PrivateStep.{command_step}
-use Rattle.kernel_core.specs.Parts.{Parts, PartsAgree, superblock_of, taken_of, byte_at, IsInReach}
+use Rattle.kernel_core.specs.Parts.{Parts, PartsAgree, superblock_at, taken_of, byte_at, IsInReach}
 use Rattle.kernel_core.specs.Shows.{ShowsMachine}
 use Rattle.kernel_core.specs.Steps.{StepsMachine}
 use Rattle.kernel_core.proofs.Rising.{some_none, any_from, any_tells}
 use Rattle.kernel_core.proofs.Pages.{stays, moves}
+use Rattle.kernel_core.proofs.Unowned.{spare_written}
+use Rattle.kernel_core.proofs.Worlds.{same_sizes}
 use Rattle.kernel_core.proofs.Agreeing.{agree_banks}
 
 -- a range within n bytes from u * n on
@@ -61,8 +64,8 @@ home_some k t place len agree sound reach =
     let slot : place / k.space.unit ≡ u = subst (λ n. place / n ≡ u) (sym unit) one.0 in
     let is_in : is_in_slot k.space.unit place len ≡ true =
     and_from (nat_lt 0 len) (nat_le (place % k.space.unit + len) k.space.unit) (lt-ltb 0 len reach.some) (le-leb (place % k.space.unit + len) k.space.unit fits) in
-    ap (λ b. is_some (if b then superblock_of k t (place / k.space.unit) else None)) is_in
-    ∙ ap (λ n. is_some (superblock_of k t n)) slot
+    ap (λ b. is_some (if b then superblock_at k t (place / k.space.unit) else None)) is_in
+    ∙ ap (λ n. is_some (superblock_at k t n)) slot
     ∙ sym (ap is_some (agree.slots t u))
     ∙ placed.1
 
@@ -207,11 +210,11 @@ write_beyond k t place xs agree beyond = stays k t (Write place (record { items 
     (λ m shown. not_written k.order place xs m (out_of_reach k t place (length xs) m shown beyond))
 
 pub write_done : (k : Parts) (t place : ℕ) (xs : List ℕ) → PartsAgree k → IsSoundHolding k.buddy.top (holding_of t k.buddy) → OwnBytes k.space → OthersStay k.space
-    → IsInReach k t place (length xs) → StepsMachine k t (Write place (record { items = xs })) (stored t place xs k) (Written (length xs))
+    → IsSpace (with_window k.space t place (length xs) xs) → IsInReach k t place (length xs) → StepsMachine k t (Write place (record { items = xs })) (stored t place xs k) (Written (length xs))
 unfolding after_write
-write_done k t place xs agree sound own others reach =
+write_done k t place xs agree sound own others space reach =
     moves k (stored t place xs k) t (Write place (record { items = xs })) (Written (length xs)) (after_write place xs)
-    refl refl refl (agree_banks k _ agree) refl
+    (same_sizes k _ _) refl refl (spare_written k.space t place (length xs) xs agree.space) (agree_banks k _ agree space) refl
     (λ m shown. written_is k.order place xs m (reach_told k t place (length xs) m shown reach))
     (λ m shown. write_shows k t place xs m own (home_some k t place (length xs) agree sound reach) shown)
     (λ u other. record { space = others.window t place (length xs) xs u other; buddy = refl })

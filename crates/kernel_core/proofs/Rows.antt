@@ -6,13 +6,13 @@ use Rattle.model_core.specs.Machine.{empty_machine, choice, taken_blocks}
 use Rattle.model_core.specs.Slabs.{by_need, reaped}
 use Rattle.model_core.specs.Operations.{alloc_step, free_step, read_step, write_step, next_slot, after_grant, after_take_back, take_back_step, is_busy}
 use Rattle.model_core.specs.Reach.{in_reach}
-use Rattle.words_core.specs.Grammar.{reading_of, judged, event_of, admin_command_of, command_of, grant_of, take_back_of, reset_of, pool_of, alloc_of, free_of, read_of, write_of}
+use Rattle.words_core.specs.Grammar.{reading_of, judged, event_of}
 use Rattle.words_core.specs.Cutting.{lines_of_trace}
 use Rattle.words_core.specs.Words.{words_of}
 use Rattle.kernel_core.specs.Limits.{cache_limit}
 use Rattle.kernel_core.specs.PrivateStep.{Entry, command_step}
 use Rattle.kernel_core.specs.World.{opening_world, history, world_step, grant_step, tenant_step, slot_step, reset_step, answer}
-use Rattle.kernel_core.specs.Output.{output_of, line_step, reading_step, events_of, lines_for}
+use Rattle.kernel_core.specs.Output.{output_of, events_of, lines_for}
 use Rattle.kernel_core.specs.OwnList.{own_list}
 
 pub record Row : Type 0 where
@@ -91,7 +91,7 @@ abbrev pub expected : Row → List ℕ
 expected r = r.output
 
 rows_are_written : map written rows ≡ map expected rows
-unfolding take_back_of reset_of pool_of free_of write_of decode_pairs after_take_back free_step write_step take_back_step is_busy slot_step reset_step output_of opening_world line_step reading_step world_step grant_step tenant_step answer command_step alloc_step read_step next_slot after_grant in_reach choice by_need reaped taken_blocks empty_machine reading_of judged event_of admin_command_of command_of grant_of alloc_of read_of words_of digits encode_with
+unfolding decode_pairs after_take_back free_step write_step take_back_step is_busy slot_step reset_step output_of opening_world world_step grant_step tenant_step answer command_step alloc_step read_step next_slot after_grant in_reach choice by_need reaped taken_blocks empty_machine reading_of judged event_of words_of digits encode_with
 rows_are_written = refl
 
 -- two traces in which tenant 0 does and is granted the same, and the others do much or nothing
@@ -109,13 +109,13 @@ abbrev pub lines_of_0 : List ℕ → List (List ℕ)
 lines_of_0 trace = lines_for 0 (output_of cache_limit 3 trace (opening_world 2 2))
 
 same_own_list : own_list_of alone ≡ own_list_of among_others
-unfolding take_back_of reset_of pool_of free_of write_of decode_pairs after_take_back free_step write_step take_back_step is_busy slot_step reset_step output_of opening_world line_step reading_step world_step grant_step tenant_step answer command_step alloc_step read_step next_slot after_grant in_reach choice by_need reaped taken_blocks empty_machine reading_of judged event_of admin_command_of command_of grant_of alloc_of read_of words_of digits encode_with
+unfolding decode_pairs after_take_back free_step write_step take_back_step is_busy slot_step reset_step output_of opening_world world_step grant_step tenant_step answer command_step alloc_step read_step next_slot after_grant in_reach choice by_need reaped taken_blocks empty_machine reading_of judged event_of words_of digits encode_with
 same_own_list = refl
 
 lines_alone : lines_of_0 alone ≡ codes "0> frame 0" ∷ codes "0> bytes 00" ∷ codes "0> refused 1 NoFrames" ∷ []
-unfolding take_back_of reset_of pool_of free_of write_of decode_pairs after_take_back free_step write_step take_back_step is_busy slot_step reset_step output_of opening_world line_step reading_step world_step grant_step tenant_step answer command_step alloc_step read_step next_slot after_grant in_reach choice by_need reaped taken_blocks empty_machine reading_of judged event_of admin_command_of command_of grant_of alloc_of read_of words_of digits encode_with
+unfolding decode_pairs after_take_back free_step write_step take_back_step is_busy slot_step reset_step output_of opening_world world_step grant_step tenant_step answer command_step alloc_step read_step next_slot after_grant in_reach choice by_need reaped taken_blocks empty_machine reading_of judged event_of words_of digits encode_with
 lines_alone = refl
 
 lines_among_others : lines_of_0 among_others ≡ codes "0> frame 0" ∷ codes "0> bytes 00" ∷ codes "0> refused 1 NoFrames" ∷ []
-unfolding take_back_of reset_of pool_of free_of write_of decode_pairs after_take_back free_step write_step take_back_step is_busy slot_step reset_step output_of opening_world line_step reading_step world_step grant_step tenant_step answer command_step alloc_step read_step next_slot after_grant in_reach choice by_need reaped taken_blocks empty_machine reading_of judged event_of admin_command_of command_of grant_of alloc_of read_of words_of digits encode_with
+unfolding decode_pairs after_take_back free_step write_step take_back_step is_busy slot_step reset_step output_of opening_world world_step grant_step tenant_step answer command_step alloc_step read_step next_slot after_grant in_reach choice by_need reaped taken_blocks empty_machine reading_of judged event_of words_of digits encode_with
 lines_among_others = refl

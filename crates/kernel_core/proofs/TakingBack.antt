@@ -1,4 +1,5 @@
 -- A superblock is taken back from a tenant.
+use Rattle.model_core.specs.declared.owner.Owner.{Owner}
 use Rattle.std.proofs.Common.{◌≡◌, ◌≢◌, ℕ, ◌+◌, ◌^◌, ◌<◌, ◌≤◌, ◌==◌, ◌++◌, not, nat_lt, Bool, true, false, if◌then◌else◌, Option, Some, None, is_some, Result, Ok, Err, List, length, map, filter, flat_map, slice_get, slice_set, refl, sym, ap, ◌∙◌, subst, ⊎_elim, arith}
 use Rattle.std.specs.List.{list_any, position_or_len}
 use Rattle.std.proofs.lemmas.Bool.{false≢true, eq-eqb, cases_lt, lt-ltb, ltb-true, and_parts, and_from, false_from_ne_true}
@@ -10,7 +11,7 @@ use Rattle.model_core.specs.Operations.{Step, overlaps, is_busy, after_take_back
 use Rattle.model_core.specs.declared.refusals.TakeBackRefusal.{TakeBackRefusal}
 use Rattle.model_core.specs.WellFormed.{RisesFrom}
 use Rattle.model_core.proofs.Lists.{filter_rises}
-use Rattle.space_core.specs.Content.{IsSpace}
+use Rattle.space_core.specs.Content.{IsSpace, mark_at}
 use Rattle.space_core.specs.Changes as changes
 use Rattle.space_core.specs.Laws.{IsSameFor, OthersStay, OwnBytes, OwnSlots}
 use Rattle.buddy_core.specs.Content as buddies
@@ -22,27 +23,29 @@ use Rattle.words_core.specs.declared.reply.Addressee.TheVariants as To
 use Rattle.words_core.specs.declared.reply.Body.TheVariants.{TakenBack, Refused}
 use Rattle.words_core.specs.declared.reply.Refusal.TheVariants.{NoTenant, NoSlot, SlotBusy}
 use Rattle.kernel_core.specs.Limits.{cache_limit}
-use Rattle.kernel_core.specs.World.{World, WorldStep, is_owner, given_up, taken_back, slot_step, world_step}
-use Rattle.kernel_core.specs.Parts.{Parts, PartsAgree, superblock_of, taken_of, byte_at}
+use Rattle.model_core.specs.Owners.{is_owner}
+use Rattle.kernel_core.specs.World.{World, WorldStep, given_up, taken_back, slot_step, world_step}
+use Rattle.kernel_core.specs.Parts.{Parts, PartsAgree, mark_after, superblock_at, taken_of, byte_at}
 use Rattle.kernel_core.specs.Shows.{ShowsMachine, Shows}
 use Rattle.kernel_core.specs.Steps.{Steps}
 use Rattle.model_core.proofs.Rising.{has}
 use Rattle.kernel_core.proofs.Rising.{has-filter, any_from, any_tells}
 use Rattle.kernel_core.proofs.Holdings.{own_holding, within, replaced}
-use Rattle.kernel_core.proofs.Worlds.{get_past, get_within, shows_changed, steps_answered, false_is}
+use Rattle.kernel_core.proofs.Unowned.{marks_kept, marks_replaced}
+use Rattle.kernel_core.proofs.Worlds.{get_past, get_within, same_sizes, shows_changed, steps_answered, false_is}
 use Rattle.kernel_core.proofs.Agreeing.{holding, agree_slots, keeps_others}
 use Rattle.kernel_core.proofs.Owners.{is_under, found_under, given_up_one}
 use Rattle.kernel_core.proofs.Granting.{slot_by_unit}
 
 -- superblock m stands under slot u of tenant t, and no frame of the slot is taken
 pub record IsIdle (k : Parts) (t u m : ℕ) : Type 0 where
-  pub space : IsSpace k.space
   pub own_slots : OwnSlots k.space
   pub own_bytes : OwnBytes k.space
   pub others : OthersStay k.space
   pub agree : PartsAgree k
+  pub space_after : IsSpace (changes.taken_back k.space t u m)
   pub tenant : t < k.tenants
-  pub here : superblock_of k t u ≡ Some m
+  pub here : superblock_at k t u ≡ Some m
   pub below : m < length k.space.owners
   pub idle : HasTaken (taken_of k t) (slot_block k.buddy.top u) → ⊥
 
@@ -50,7 +53,7 @@ pub record IsIdle (k : Parts) (t u m : ℕ) : Type 0 where
 abbrev pub after : ℕ → ℕ → ℕ → Parts → Parts
 after t u m k = record (holding t (buddies.without_slot u (holding_of t k.buddy)) k) { space = changes.taken_back k.space t u m }
 
-slots_taken : (k : Parts) (t u m : ℕ) → IsIdle k t u m → (slot : ℕ) → superblock_of (after t u m k) t slot ≡ (if slot == u then None else superblock_of k t slot)
+slots_taken : (k : Parts) (t u m : ℕ) → IsIdle k t u m → (slot : ℕ) → superblock_at (after t u m k) t slot ≡ (if slot == u then None else superblock_at k t slot)
 slots_taken k t u m g slot = g.own_slots.take_back t u m g.here slot
 
 others_taken : (k : Parts) (t u m : ℕ) → IsIdle k t u m → (v : ℕ) → v ≢ t → IsSameFor v k.space (changes.taken_back k.space t u m)
@@ -59,7 +62,7 @@ others_taken k t u m g v other = g.others.take_back t u m v other
 pub agree_taken : (k : Parts) (t u m : ℕ) → IsIdle k t u m → PartsAgree (after t u m k)
 agree_taken k t u m g =
     let h = holding_of t k.buddy in
-    agree_slots k t (buddies.without_slot u h) (changes.taken_back k.space t u m) g.agree g.tenant refl
+    agree_slots k t (buddies.without_slot u h) (changes.taken_back k.space t u m) g.agree g.space_after g.tenant refl
     (length-set k.space.owners m None)
     (length-set k.space.slots t _)
     (others_taken k t u m g)
@@ -74,7 +77,7 @@ machine_taken k t u m x g shown = record {
   slots_rise = subst (λ xs. RisesFrom 0 xs) (map-id (filter (λ v. not (v == u)) x.slots))
       (filter_rises (λ v. v) (λ v. not (v == u)) 0 x.slots (subst (λ xs. RisesFrom 0 xs) (sym (map-id x.slots)) shown.slots_rise));
   slots = λ slot. has-filter u x.slots slot ∙ ap (λ b. if slot == u then false else b) (shown.slots slot)
-      ∙ sym (ap is_some (slots_taken k t u m g slot) ∙ some_if (slot == u) (superblock_of k t slot));
+      ∙ sym (ap is_some (slots_taken k t u m g slot) ∙ some_if (slot == u) (superblock_at k t slot));
   blocks_rise = shown.blocks_rise;
   blocks = λ frame. shown.blocks frame
       ∙ sym (ap (λ h. buddies.taken_of h frame) (own_holding t (buddies.without_slot u (holding_of t k.buddy)) k.buddy (omega (arith, g.agree.holdings, g.tenant))));
@@ -149,7 +152,7 @@ take_without_tenant k t u unknown =
     steps_answered k (On.Admin (Do.TakeBack t u)) To.Admin (Refused NoTenant)
     (λ w shown. ap (λ o. slot_step k.order t u w o) (get_past w.machines t (omega (arith, shown.tenants))))
 
-pub take_without_slot : (k : Parts) (t u : ℕ) → t < k.tenants → superblock_of k t u ≡ None
+pub take_without_slot : (k : Parts) (t u : ℕ) → t < k.tenants → superblock_at k t u ≡ None
     → Steps k (On.Admin (Do.TakeBack t u)) k (record { addressee = To.Admin; body = Refused NoSlot })
 take_without_slot k t u known none =
     steps_answered k (On.Admin (Do.TakeBack t u)) To.Admin (Refused NoSlot)
@@ -158,7 +161,7 @@ take_without_slot k t u known none =
     slot_is k w t u x _ here (no_slot_is k.order u x ((shown.machines t x here).slots u ∙ ap is_some none)))
 
 -- where a frame of the slot is taken
-pub take_busy : (k : Parts) (t u m : ℕ) → PartsAgree k → t < k.tenants → superblock_of k t u ≡ Some m → HasTaken (taken_of k t) (slot_block k.buddy.top u)
+pub take_busy : (k : Parts) (t u m : ℕ) → PartsAgree k → t < k.tenants → superblock_at k t u ≡ Some m → HasTaken (taken_of k t) (slot_block k.buddy.top u)
     → Steps k (On.Admin (Do.TakeBack t u)) k (record { addressee = To.Admin; body = Refused SlotBusy })
 take_busy k t u m agree known held busy =
     steps_answered k (On.Admin (Do.TakeBack t u)) To.Admin (Refused SlotBusy)
@@ -175,7 +178,7 @@ taken_is : (k : Parts) (w : World) (t u m : ℕ) (x : Machine) → IsIdle k t u 
     → world_step cache_limit k.order (On.Admin (Do.TakeBack t u)) w
     ≡ record { reply = taken_reply m; world = record { owners = slice_set k.space.owners m None; machines = slice_set w.machines t (after_take_back k.order u x) } }
 taken_is k w t u m x g shown here =
-    let under = is_under k.space t u m g.space g.below g.here in
+    let under = is_under k.space t u m g.agree.space g.below g.here in
     let not_busy : is_busy k.order x u ≡ false = false_from_ne_true (is_busy k.order x u) (λ busy.
     g.idle (subst (λ n. HasTaken (taken_of k t) (slot_block n u)) (sym g.agree.top) (busy_found k t u x (shown.machines t x here) busy))) in
     slot_is k w t u x _ here (done_is k.order u x ((shown.machines t x here).slots u ∙ ap is_some g.here) not_busy)
@@ -183,12 +186,12 @@ taken_is k w t u m x g shown here =
     ∙ ap (λ n. taken_world k.space.owners n) (found_under k.space t u m under)
     ∙ ap (λ os. record { reply = taken_reply m; world = record { owners = os; machines = slice_set w.machines t (after_take_back k.order u x) } }) (sym (given_up_one k.space t u m under))
   where
-    taken_world : List (Option (ℕ × ℕ)) → ℕ → WorldStep
+    taken_world : List (Option Owner) → ℕ → WorldStep
     taken_world os n = record { reply = taken_reply n; world = record { owners = map (given_up (is_owner t u)) os; machines = slice_set w.machines t (after_take_back k.order u x) } }
 
 pub steps_taken : (k : Parts) (t u m : ℕ) → IsIdle k t u m → Steps k (On.Admin (Do.TakeBack t u)) (after t u m k) (taken_reply m)
 steps_taken k t u m g = record {
-  order = refl;
+  sizes = same_sizes k _ _;
   shows = λ w shown.
       let (x, here) = get_within w.machines t (omega (arith, shown.tenants, g.tenant)) in
       subst (λ (s : WorldStep). Shows (after t u m k) s.world) (sym (taken_is k w t u m x g shown here))
@@ -201,4 +204,7 @@ steps_taken k t u m g = record {
   refused = λ refused. absurd (false≢true refused);
   others = λ v named. keeps_others k t (buddies.without_slot u (holding_of t k.buddy)) (changes.taken_back k.space t u m) (others_taken k t u m g) v
       (λ same. false_is (t == v) named (eq-eqb t v (sym same)));
+  marks = marks_replaced k.space k.space m None true (marks_kept k.space k.space refl refl) g.below (omega (arith, g.below, g.agree.space.flagged))
+      (ap (λ o. mark_after o None (mark_at k.space.marks m)) ((g.agree.space.agree t u m).0 g.here));
+  spare = λ _ _. refl;
 }

@@ -1,4 +1,6 @@
 -- The lines of a tenant in the output of a trace are the texts of the replies addressed to it.
+use Rattle.model_core.specs.Owners.{owned_by}
+use Rattle.model_core.specs.declared.owner.Owner.{Owner}
 use Rattle.std.proofs.Common.{◌≡◌, ℕ, ◌+◌, count_by, ◌<◌, ◌≤◌, ◌^◌, ◌≢◌, ◌==◌, nat_eq, Bool, true, false, List, [], ◌∷◌, ◌++◌, Option, Some, None, Result, Ok, Err, is_none, position, length, slice_get, map, filter, codes, decimal, refl, ap, sym, subst, ◌∙◌, inl, inr, arith, append_assoc}
 use Rattle.std.specs.List.{starts_with}
 use Rattle.std.proofs.lemmas.List.{append-nil, length-set, length-replicate}
@@ -24,9 +26,9 @@ use Rattle.words_core.specs.declared.reply.Reply.{Reply}
 use Rattle.words_core.specs.Cutting.{lines_of_trace}
 use Rattle.words_core.specs.Grammar.{reading_of}
 use Rattle.words_core.specs.Texts.{addressee_text, body_texts, owner_text, owner_texts, number_of_refusal, name_of_refusal, name_of_fault, text_of}
-use Rattle.kernel_core.specs.World.{World, WorldStep, answer, grant_step, tenant_step, taken_back, slot_step, reset_step, world_step, history, opening_world}
+use Rattle.kernel_core.specs.World.{World, WorldStep, answer, grant_step, tenant_step, taken_back, slot_step, reset_step, world_step, world_after, history, opening_world}
 use Rattle.kernel_core.specs.OwnList.{if_for, replies_to}
-use Rattle.kernel_core.specs.Output.{reading_step, line_step, lines_step, output_of, event_in, events_of, lines_for, texts_for}
+use Rattle.kernel_core.specs.Output.{shown_reading, shown_lines, output_of, event_in, events_of, lines_for, texts_for}
 use Rattle.kernel_core.specs.Laws.{OwnLines, SameLines, private_lines, opening_history}
 use Rattle.kernel_core.specs.PrivateRun.{private_run}
 use Rattle.kernel_core.proofs.TextLines.{AreTexts, body_text, addressee_is_text, cut_rows, decimal_digits, starts_same, starts_apart, starts_number}
@@ -44,15 +46,15 @@ behind_4 front a b c d = simp append_assoc
 behind_6 : (front a b c d e f : List ℕ) → (((((front ++ a) ++ b) ++ c) ++ d) ++ e) ++ f ≡ front ++ (((((([] ++ a) ++ b) ++ c) ++ d) ++ e) ++ f)
 behind_6 front a b c d e f = simp append_assoc
 
-owner_fronted : (front : List ℕ) (superblock : ℕ) (owner : Option (ℕ × ℕ)) → owner_text front superblock owner ≡ front ++ owner_text [] superblock owner
+owner_fronted : (front : List ℕ) (superblock : ℕ) (owner : Option Owner) → owner_text front superblock owner ≡ front ++ owner_text [] superblock owner
 owner_fronted front superblock None = behind_3 front (codes "superblock ") (decimal superblock) (codes " free")
-owner_fronted front superblock (Some (tenant, slot)) =
-    behind_6 front (codes "superblock ") (decimal superblock) (codes " tenant ") (decimal tenant) (codes " slot ") (decimal slot)
+owner_fronted front superblock (Some owner) =
+    behind_6 front (codes "superblock ") (decimal superblock) (codes " tenant ") (decimal owner.tenant) (codes " slot ") (decimal owner.slot)
 
 both_rows : {row row' : List ℕ} {rows rows' : List (List ℕ)} → row ≡ row' → rows ≡ rows' → row ∷ rows ≡ row' ∷ rows'
 both_rows same same_rows = cc
 
-owners_fronted : (front : List ℕ) (superblock : ℕ) (owners : List (Option (ℕ × ℕ)))
+owners_fronted : (front : List ℕ) (superblock : ℕ) (owners : List (Option Owner))
     → owner_texts front superblock owners ≡ map (λ row. front ++ row) (owner_texts [] superblock owners)
 owners_fronted front superblock [] = refl
 owners_fronted front superblock (owner ∷ owners) =
@@ -200,14 +202,13 @@ step_stays limit order (On.Admin Do.Pool) w = record { tenants = refl; addressee
 -- lines tell tenant t, from each world of at most 2 ^ 64 tenants, the replies of their events that are addressed to it
 abbrev pub Tell : ℕ → ℕ → ℕ → List (List ℕ) → Type 0
 Tell limit order t lines = (w : World) → length w.machines ≤ 2 ^ 64
-    → lines_for t (lines_step limit order lines w).written ≡ texts_for t (replies_to t (history limit order w (events_of lines)))
+    → lines_for t (shown_lines None limit order lines w) ≡ texts_for t (replies_to t (history limit order w (events_of lines)))
 
 -- so do they behind one more line
 reading_tells : (limit order t : ℕ) (reading : Result (Option Event) LineFault) (lines : List (List ℕ)) (w : World) → t < 2 ^ 64
     → length w.machines ≤ 2 ^ 64 → Tell limit order t lines
-    → lines_for t ((reading_step limit order reading w).written ++ (lines_step limit order lines (reading_step limit order reading w).world).written)
+    → lines_for t (shown_reading None limit order reading w ++ shown_lines None limit order lines (world_after limit order w (event_in reading)))
     ≡ texts_for t (replies_to t (history limit order w (event_in reading ++ events_of lines)))
-unfolding reading_step
 reading_tells limit order t (Ok None) lines w small many more = more w many
 reading_tells limit order t (Ok (Some event)) lines w small many more =
     let stays = step_stays limit order event w in
@@ -218,8 +219,7 @@ reading_tells limit order t (Ok (Some event)) lines w small many more =
 reading_tells limit order t (Err fault) lines w small many more =
     reply_lines t (record { addressee = Nobody; body = Fault fault }) _ small tt ∙ more w many
 
-lines_tell : (limit order t : ℕ) (lines : List (List ℕ)) → t < 2 ^ 64 → Tell limit order t lines
-unfolding line_step
+pub lines_tell : (limit order t : ℕ) (lines : List (List ℕ)) → t < 2 ^ 64 → Tell limit order t lines
 lines_tell limit order t [] small w many = refl
 lines_tell limit order t (line ∷ lines) small w many =
     reading_tells limit order t (reading_of line) lines w small many (lines_tell limit order t lines small)

@@ -1,4 +1,6 @@
 -- The lines of a reply: none holds an LF, so cutting gives them back; and each tells by its beginning to whom it is addressed.
+use Rattle.model_core.specs.Owners.{owned_by}
+use Rattle.model_core.specs.declared.owner.Owner.{Owner}
 use Rattle.std.proofs.Common.{◌≡◌, ℕ, zero, suc, ◌+◌, Option, Some, None, is_none, count_by, length, slice_index, ◌<◌, ◌≤◌, ◌≢◌, ◌==◌, ◌/◌, ◌%◌, ◌&&◌, not, nat_eq, nat_le, Bool, true, false, if◌then◌else◌, List, [], ◌∷◌, ◌++◌, map, codes, decimal, refl, ap, sym, subst, ◌∙◌, arith, append_assoc}
 use Rattle.std.specs.List.{list_all, concat, starts_with, onto_first}
 use Rattle.std.specs.Fmt.{digits, digits_onto, digit_glyph}
@@ -141,13 +143,13 @@ with_piece {front} text more h = record { all = list_all-append is_text front mo
 with_number : {front : List ℕ} → IsText front → (n : ℕ) → IsText (front ++ decimal n)
 with_number text n = with_piece text (decimal n) (decimal_text n)
 
-owner_is_text : (front : List ℕ) (superblock : ℕ) (owner : Option (ℕ × ℕ)) → IsText front → IsText (owner_text front superblock owner)
+owner_is_text : (front : List ℕ) (superblock : ℕ) (owner : Option Owner) → IsText front → IsText (owner_text front superblock owner)
 owner_is_text front superblock None h = with_piece (with_number (with_piece h (codes "superblock ") refl) superblock) (codes " free") refl
-owner_is_text front superblock (Some (tenant, slot)) h =
-    let of_tenant = with_number (with_piece (with_number (with_piece h (codes "superblock ") refl) superblock) (codes " tenant ") refl) tenant in
-    with_number (with_piece of_tenant (codes " slot ") refl) slot
+owner_is_text front superblock (Some owner) h =
+    let of_tenant = with_number (with_piece (with_number (with_piece h (codes "superblock ") refl) superblock) (codes " tenant ") refl) owner.tenant in
+    with_number (with_piece of_tenant (codes " slot ") refl) owner.slot
 
-owners_are_texts : (front : List ℕ) (superblock : ℕ) (owners : List (Option (ℕ × ℕ))) → IsText front → AreTexts (owner_texts front superblock owners)
+owners_are_texts : (front : List ℕ) (superblock : ℕ) (owners : List (Option Owner)) → IsText front → AreTexts (owner_texts front superblock owners)
 owners_are_texts front superblock [] h = tt
 owners_are_texts front superblock (owner ∷ owners) h = (owner_is_text front superblock owner h, owners_are_texts front (superblock + 1) owners h)
 

@@ -1,4 +1,5 @@
 -- From what one event does to the parts to what it does to the world that they show.
+use Rattle.model_core.specs.declared.owner.Owner.{Owner}
 use Rattle.std.proofs.Common.{◌≡◌, ◌≢◌, ℕ, zero, suc, ◌<◌, ◌≤◌, ◌==◌, Bool, true, false, Option, Some, None, is_some, List, [], ◌∷◌, length, slice_get, slice_set, refl, sym, ap, ◌∙◌, subst, ⊎_elim, arith}
 use Rattle.std.proofs.lemmas.Bool.{cases_eq, eq-eqb}
 use Rattle.std.proofs.lemmas.List.{length-set}
@@ -12,15 +13,17 @@ use Rattle.words_core.specs.declared.reply.Addressee.TheVariants as To
 use Rattle.words_core.specs.declared.reply.Body.{Body}
 use Rattle.words_core.specs.declared.event.Event.{Event}
 use Rattle.words_core.specs.declared.reply.Addressee.{Addressee}
+use Rattle.words_core.specs.declared.reply.Reply.{Reply}
 use Rattle.words_core.specs.declared.reply.Refusal.TheVariants.{NoTenant}
 use Rattle.words_core.specs.declared.reply.Body.TheVariants.{Refused}
 use Rattle.kernel_core.specs.Limits.{cache_limit}
 use Rattle.kernel_core.specs.PrivateStep.{command_step}
 use Rattle.kernel_core.specs.World.{World, WorldStep, answer, tenant_step, world_step}
-use Rattle.kernel_core.specs.Parts.{Parts, PartsAgree, Keeps}
+use Rattle.kernel_core.specs.Parts.{Parts, PartsAgree, SameSizes, parts_of, Keeps}
 use Rattle.kernel_core.specs.Shows.{ShowsMachine, Shows}
 use Rattle.kernel_core.specs.Steps.{Steps, StepsMachine}
 use Rattle.kernel_core.proofs.MachineLists.{slice_get-set_same, slice_get-set_other}
+use Rattle.kernel_core.proofs.Unowned.{marks_kept}
 
 pub get_past : {A : Type 0} (xs : List A) (i : ℕ) → length xs ≤ i → slice_get xs i ≡ None
 get_past [] i past = refl
@@ -39,9 +42,27 @@ some_same x y e = cc
 pub same_all : (t : ℕ) (s : spaces.Content) → IsSameFor t s s
 same_all t s = record { slots = λ u. refl; banks = λ u m here. refl; bytes = λ place. refl; windows = λ place len. refl }
 
+-- parts that agree are what their memory and their buddy systems tell
+pub same_parts : (k : Parts) → PartsAgree k → parts_of k.space k.buddy ≡ k
+same_parts k agree = λ i. record { order = agree.top i; superblocks = agree.sheets i; tenants = agree.holdings i; space = k.space; buddy = k.buddy }
+
+pub agree_viewed : (k : Parts) → PartsAgree k → PartsAgree (parts_of k.space k.buddy)
+agree_viewed k agree = subst PartsAgree (sym (same_parts k agree)) agree
+
+pub steps_viewed : (k k' : Parts) (event : Event) (reply : Reply) → PartsAgree k' → Steps k event k' reply → Steps k event (parts_of k'.space k'.buddy) reply
+steps_viewed k k' event reply agree steps = subst (λ (x : Parts). Steps k event x reply) (sym (same_parts k' agree)) steps
+
+pub machine_viewed : (k k' : Parts) (t : ℕ) (command : Command) (body : Body) → StepsMachine k t command k' body
+    → StepsMachine k t command (parts_of k'.space k'.buddy) body
+machine_viewed k k' t command body steps = subst (λ (x : Parts). StepsMachine k t command x body) (sym (same_parts k' steps.agree)) steps
+
 -- parts that stay keep all
 pub keeps_all : (k : Parts) (t : ℕ) → Keeps k k t
 keeps_all k t = record { space = same_all t k.space; buddy = refl }
+
+-- another memory and other buddy systems, of the same sizes
+pub same_sizes : (k : Parts) (s : spaces.Content) (b : buddies.Content) → SameSizes k (record k { space = s; buddy = b })
+same_sizes k s b = record { order = refl; superblocks = refl; tenants = refl }
 
 -- parts that keep what a tenant has show the same machine for it
 pub keeps_shows : (k k' : Parts) (t : ℕ) (m : Machine) → Keeps k k' t → ShowsMachine k t m → ShowsMachine k' t m
@@ -55,7 +76,7 @@ keeps_shows k k' t m keeps shown = record {
 }
 
 -- one tenant's machine changes, and the owners
-pub shows_changed : (k k' : Parts) (w : World) (t : ℕ) (m m' : Machine) (owners : List (Option (ℕ × ℕ))) → Shows k w → PartsAgree k' → k'.tenants ≡ k.tenants → owners ≡ k'.space.owners
+pub shows_changed : (k k' : Parts) (w : World) (t : ℕ) (m m' : Machine) (owners : List (Option Owner)) → Shows k w → PartsAgree k' → k'.tenants ≡ k.tenants → owners ≡ k'.space.owners
     → slice_get w.machines t ≡ Some m → ShowsMachine k' t m' → ((u : ℕ) → u ≢ t → Keeps k k' u) → Shows k' (record { owners = owners; machines = slice_set w.machines t m' })
 shows_changed k k' w t m m' owners shown agree same_tenants same_owners here shown' keeps = record {
   agree = agree;
@@ -77,11 +98,13 @@ pub steps_answered : (k : Parts) (event : Event) (to : Addressee) (body : Body)
     → Steps k event k (record { addressee = to; body = body })
 unfolding answer
 steps_answered k event to body same = record {
-  order = refl;
+  sizes = same_sizes k _ _;
   shows = λ w shown. subst (λ (s : WorldStep). Shows k s.world) (sym (same w shown)) shown;
   answer = λ w shown. sym (ap (λ (s : WorldStep). s.reply) (same w shown));
   refused = λ _. refl;
   others = λ t _. keeps_all k t;
+  marks = marks_kept k.space k.space refl refl;
+  spare = λ _ _. refl;
 }
 
 pub false_is : (b : Bool) → b ≡ false → b ≡ true → ⊥
@@ -100,11 +123,11 @@ pub steps_asked : (k k' : Parts) (t : ℕ) (command : Command) (body : Body) →
     → Steps k (On.Tenant t command) k' (record { addressee = To.Tenant t; body = body })
 unfolding world_step tenant_step
 steps_asked k k' t command body known steps = record {
-  order = steps.order;
+  sizes = steps.sizes;
   shows = λ w shown.
       let (m, here) = get_within w.machines t (omega (arith, shown.tenants)) in
       subst (λ o. Shows k' (tenant_step cache_limit k.order t command w o).world) (sym here)
-      (shows_changed k k' w t m (command_step cache_limit k.order command m).machine w.owners shown steps.agree steps.tenants
+      (shows_changed k k' w t m (command_step cache_limit k.order command m).machine w.owners shown steps.agree steps.sizes.tenants
       (shown.owners ∙ sym steps.owners) here (steps.shows m (shown.machines t m here)) steps.others);
   answer = λ w shown.
       let (m, here) = get_within w.machines t (omega (arith, shown.tenants)) in
@@ -112,4 +135,6 @@ steps_asked k k' t command body known steps = record {
       (ap (λ b. record { addressee = To.Tenant t; body = b }) (steps.answer m (shown.machines t m here)));
   refused = steps.refused;
   others = λ u named. steps.others u (λ same. false_is (t == u) named (eq-eqb t u (sym same)));
+  marks = marks_kept k.space k'.space steps.owners steps.marks;
+  spare = steps.spare;
 }

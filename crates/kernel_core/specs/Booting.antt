@@ -1,6 +1,7 @@
 -- Which sizes a machine may have.
 use Rattle.std.specs.Prelude.{ℕ, nat_le, ◌&&◌, Bool}
-use Rattle.kernel_core.specs.Limits.{superblock_limit, tenant_limit}
+use Rattle.model_core.specs.declared.limits.TheConstants.{LEAST_ORDER, MOST_ORDER}
+use Rattle.model_core.specs.declared.limits.TheConstants.{MOST_SUPERBLOCKS, MOST_TENANTS}
 use Rattle.kernel_core.specs.declared.kernel.Config.{Config}
 
 abbrev pub is_between : ℕ → ℕ → ℕ → Bool
@@ -8,4 +9,5 @@ is_between low high n = nat_le low n && nat_le n high
 
 -- every number is in its range
 abbrev pub is_bootable : Config → Bool
-is_bootable c = is_between 3 8 c.order && (is_between 1 superblock_limit c.superblocks && is_between 1 tenant_limit c.tenants)
+is_bootable c =
+    is_between LEAST_ORDER MOST_ORDER c.order && (is_between 1 MOST_SUPERBLOCKS c.superblocks && is_between 1 MOST_TENANTS c.tenants)

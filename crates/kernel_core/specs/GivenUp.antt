@@ -2,13 +2,18 @@
 use Rattle.std.specs.Prelude.{◌≡◌, ◌≢◌, ℕ, None, length, map, count_by}
 use Rattle.space_core.specs.Content.{Content, superblock_at}
 use Rattle.space_core.specs.Laws.{IsSameFor}
-use Rattle.kernel_core.specs.World.{is_of, given_up}
+use Rattle.model_core.specs.Owners.{is_of}
+use Rattle.kernel_core.specs.World.{given_up}
+use Rattle.kernel_core.specs.Parts.{MarksFollow}
 
--- tenant t has given up all its superblocks, this many, and all other tenants keep theirs
+-- Tenant t has given up all its superblocks, this many: they are marked, and no byte changes. All other tenants keep
+-- theirs.
 pub record GivesUp (old new : Content) (t told : ℕ) : Type 0 where
   pub count : told ≡ count_by (is_of t) old.owners
   pub unit : new.unit ≡ old.unit
   pub rows : length new.slots ≡ length old.slots
   pub owners : new.owners ≡ map (given_up (is_of t)) old.owners
+  pub banks : new.banks ≡ old.banks
+  pub marks : MarksFollow old new
   pub slots : (slot : ℕ) → superblock_at new.slots t slot ≡ None
   pub others : (u : ℕ) → u ≢ t → IsSameFor u old new

@@ -1,17 +1,14 @@
 -- The laws of whole runs, over the definitions alone.
-use Rattle.std.specs.Prelude.{◌≡◌, ℕ, ◌<◌, ◌≤◌, ◌^◌, List, [], ◌∷◌, Option, Some, slice_get}
-use Rattle.std.specs.List.{flat_map}
+use Rattle.std.specs.Prelude.{◌≡◌, ℕ, ◌^◌, ◌<◌, ◌≤◌, List, ◌++◌, length, Option, Some, None, Contains, slice_get}
 use Rattle.model_core.specs.Machine.{Machine, empty_machine}
-use Rattle.model_core.specs.Runs.{Operation, run}
-use Rattle.words_core.specs.declared.event.Command.TheVariants as Ask
 use Rattle.words_core.specs.declared.event.Event.{Event}
 use Rattle.words_core.specs.declared.reply.Body.{Body}
 use Rattle.kernel_core.specs.PrivateStep.{Entry}
 use Rattle.kernel_core.specs.PrivateRun.{private_run}
-use Rattle.kernel_core.specs.World.{Exchange, opening_world, history, world_after}
+use Rattle.kernel_core.specs.World.{World, Exchange, opening_world, history, world_after}
 use Rattle.kernel_core.specs.OwnList.{own_list, replies_to}
 use Rattle.words_core.specs.Cutting.{lines_of_trace}
-use Rattle.kernel_core.specs.Output.{output_of, events_of, lines_for, texts_for}
+use Rattle.kernel_core.specs.Output.{shown_lines, output_of, events_of, lines_for, texts_for, line_feed, with_line_feeds, ended_lines}
 
 -- what was told, and the machine that is left, are the private run of these entries
 pub record IsPrivateRun (limit order : ℕ) (entries : List Entry) (before : Machine) (told : List Body) (after : Option Machine) : Type 0 where
@@ -55,7 +52,7 @@ private_lines limit order superblocks tenants t trace =
     texts_for t (private_run limit order own empty_machine).replies
 
 -- In the output of any trace the lines of a tenant are those of its private machine.
--- (`decimal` writes numbers of up to 64 digits; tenants are far fewer.)
+-- (Below 2 ^ 64 different numbers have different decimals, so no tenant's line passes for another's.)
 abbrev pub OwnLines : Type 0
 OwnLines = (limit order superblocks tenants t : ℕ) (trace : List ℕ) → tenants ≤ 2 ^ 64 → t < tenants →
     lines_for t (output_of limit order trace (opening_world superblocks tenants)) ≡ private_lines limit order superblocks tenants t trace
@@ -67,17 +64,31 @@ SameLines = (limit order superblocks tenants superblocks' tenants' t : ℕ) (tra
     lines_for t (output_of limit order trace (opening_world superblocks tenants))
     ≡ lines_for t (output_of limit order trace' (opening_world superblocks' tenants'))
 
--- what an entry is to the model: an operation, or nothing where it only reads
-abbrev pub operations_in : Entry → List Operation
-operations_in (Entry.Ask (Ask.Alloc k)) = Operation.Alloc k ∷ []
-operations_in (Entry.Ask (Ask.Free first)) = Operation.Free first ∷ []
-operations_in (Entry.Ask (Ask.Read place len)) = []
-operations_in (Entry.Ask (Ask.Write place bytes)) = Operation.Write place bytes.items ∷ []
-operations_in Entry.Grant = Operation.Grant ∷ []
-operations_in (Entry.TakeBack slot) = Operation.TakeBack slot ∷ []
-operations_in Entry.Reset = Operation.Reset ∷ []
+-- where no tenant is named, all that the lines of a trace write is shown
+abbrev pub AllShown : Type 0
+AllShown = (limit order : ℕ) (trace : List ℕ) (w : World) →
+    shown_lines None limit order (lines_of_trace trace) w ≡ output_of limit order trace w
 
--- the machine that a private run leaves is one that a run of operations leaves
-abbrev pub EntriesAreOperations : Type 0
-EntriesAreOperations = (limit order : ℕ) (entries : List Entry) (m : Machine) →
-    (private_run limit order entries m).machine ≡ run limit order (flat_map operations_in entries) m
+-- With `only` t that is, byte for byte, the lines of t in the output, whatever the world in which the trace begins.
+abbrev pub OwnShown : Type 0
+OwnShown = (limit order t : ℕ) (trace : List ℕ) (w : World) → length w.machines ≤ 2 ^ 64 → t < length w.machines →
+    shown_lines (Some t) limit order (lines_of_trace trace) w ≡ with_line_feeds (lines_for t (output_of limit order trace w))
+
+-- So cutting it at its LFs gives these lines.
+abbrev pub OwnLinesShown : Type 0
+OwnLinesShown = (limit order t : ℕ) (trace : List ℕ) (w : World) → length w.machines ≤ 2 ^ 64 → t < length w.machines →
+    lines_of_trace (shown_lines (Some t) limit order (lines_of_trace trace) w) ≡ lines_for t (output_of limit order trace w)
+
+-- the lines that end in LF are all of a trace but a tail without LF
+abbrev pub EndedAllButTail : Type 0
+EndedAllButTail = (given : List ℕ) →
+    (tail : List ℕ) × (given ≡ with_line_feeds (ended_lines given) ++ tail) × (Contains tail line_feed → ⊥)
+
+-- The lines that have ended are the first lines of the whole trace, however it goes on ..
+abbrev pub EndedLinesStay : Type 0
+EndedLinesStay = (given more : List ℕ) → (rest : List (List ℕ)) × (lines_of_trace (given ++ more) ≡ ended_lines given ++ rest)
+
+-- .. and what they show is a beginning of what it shows.
+abbrev pub ShownStays : Type 0
+ShownStays = (only : Option ℕ) (limit order : ℕ) (given more : List ℕ) (w : World) →
+    (rest : List ℕ) × (shown_lines only limit order (lines_of_trace (given ++ more)) w ≡ shown_lines only limit order (ended_lines given) w ++ rest)

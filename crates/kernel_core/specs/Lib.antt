@@ -5,6 +5,7 @@ pub mod World
 pub mod OwnList
 pub mod Output
 pub mod Laws
+pub mod Reached
 pub mod Parts
 pub mod Shows
 pub mod Steps

@@ -1,59 +1,59 @@
 -- From the bytes of a trace to the bytes of its replies.
-use Rattle.std.specs.Prelude.{ℕ, nat_eq, List, [], ◌∷◌, ◌++◌, Option, Some, None, Result, Ok, Err, filter, codes}
-use Rattle.std.specs.List.{flat_map, starts_with}
+use Rattle.std.specs.Prelude.{ℕ, nat_eq, ◌==◌, Bool, true, false, List, [], ◌∷◌, ◌++◌, Option, Some, None, Result, Ok, Err, if◌then◌else◌, map, filter, codes}
+use Rattle.std.specs.List.{concat, flat_map, starts_with}
 use Rattle.std.specs.Fmt.{decimal}
 use Rattle.words_core.specs.declared.event.Event.{Event}
 use Rattle.words_core.specs.declared.event.LineFault.{LineFault}
-use Rattle.words_core.specs.declared.reply.Addressee.TheVariants.{Nobody, Tenant}
+use Rattle.words_core.specs.declared.reply.Addressee.{Addressee}
+use Rattle.words_core.specs.declared.reply.Addressee.TheVariants as To
 use Rattle.words_core.specs.declared.reply.Body.{Body}
 use Rattle.words_core.specs.declared.reply.Body.TheVariants.{Fault}
+use Rattle.words_core.specs.declared.reply.Reply.{Reply}
 use Rattle.words_core.specs.Cutting.{lines_of_trace}
 use Rattle.words_core.specs.Grammar.{reading_of}
 use Rattle.words_core.specs.Texts.{addressee_text, body_texts, text_of}
-use Rattle.kernel_core.specs.World.{World, world_step}
+use Rattle.kernel_core.specs.World.{World, world_step, world_after}
 
--- what one line writes, and the world after it
-pub record LineStep : Type 0 where
-  pub written : List ℕ
-  pub world : World
-
--- an event is a step of the world, a blank line or a comment is nothing, a faulty line is answered to nobody
-unfoldable pub reading_step : ℕ → ℕ → Result (Option Event) LineFault → World → LineStep
-reading_step limit order (Ok None) w = record { written = []; world = w }
-reading_step limit order (Ok (Some event)) w = record {
-  written = text_of (world_step limit order event w).reply;
-  world = (world_step limit order event w).world;
-}
-reading_step limit order (Err fault) w = record {
-  written = text_of (record { addressee = Nobody; body = Fault fault });
-  world = w;
-}
-
-unfoldable pub line_step : ℕ → ℕ → List ℕ → World → LineStep
-line_step limit order line w = reading_step limit order (reading_of line) w
-
--- the lines in turn
-abbrev pub lines_step : ℕ → ℕ → List (List ℕ) → World → LineStep
-lines_step limit order [] w = record { written = []; world = w }
-lines_step limit order (line ∷ lines) w = record {
-  written = (line_step limit order line w).written ++ (lines_step limit order lines (line_step limit order line w).world).written;
-  world = (lines_step limit order lines (line_step limit order line w).world).world;
-}
-
--- what a whole trace writes, from a world
-unfoldable pub output_of : ℕ → ℕ → List ℕ → World → List ℕ
-output_of limit order trace w = (lines_step limit order (lines_of_trace trace) w).written
-
--- the event of a line, if it has one
+-- the event that a line reads as, if it does
 abbrev pub event_in : Result (Option Event) LineFault → List Event
 event_in (Ok None) = []
 event_in (Ok (Some event)) = event ∷ []
 event_in (Err fault) = []
 
--- the events of a trace
+-- the events of these lines
 abbrev pub events_of : List (List ℕ) → List Event
 events_of [] = []
 events_of (line ∷ lines) = event_in (reading_of line) ++ events_of lines
+
+-- The reply is shown: all are, or those to one tenant.
+abbrev pub is_shown : Option ℕ → Addressee → Bool
+is_shown None addressee = true
+is_shown (Some t) To.Admin = false
+is_shown (Some t) To.Nobody = false
+is_shown (Some t) (To.Tenant named) = named == t
+
+abbrev pub shown_text : Option ℕ → Reply → List ℕ
+shown_text only reply = if is_shown only reply.addressee then text_of reply else []
+
+-- What a line shows that reads like this: the reply to its event, or its fault, which is told to nobody. A blank line
+-- or a comment shows nothing.
+abbrev pub shown_reading : Option ℕ → ℕ → ℕ → Result (Option Event) LineFault → World → List ℕ
+shown_reading only limit order (Ok None) w = []
+shown_reading only limit order (Ok (Some event)) w = shown_text only (world_step limit order event w).reply
+shown_reading only limit order (Err fault) w = shown_text only (record { addressee = To.Nobody; body = Fault fault })
+
+abbrev pub shown_line : Option ℕ → ℕ → ℕ → List ℕ → World → List ℕ
+shown_line only limit order line w = shown_reading only limit order (reading_of line) w
+
+-- what the lines show, each in the world that the events before it left
+abbrev pub shown_lines : Option ℕ → ℕ → ℕ → List (List ℕ) → World → List ℕ
+shown_lines only limit order [] w = []
+shown_lines only limit order (line ∷ lines) w =
+    shown_line only limit order line w ++ shown_lines only limit order lines (world_after limit order w (event_in (reading_of line)))
+
+-- all that a trace writes, from a world
+unfoldable pub output_of : ℕ → ℕ → List ℕ → World → List ℕ
+output_of limit order trace w = shown_lines None limit order (lines_of_trace trace) w
 
 -- the lines of tenant t in an output: those that begin with its number and `> `
 abbrev pub lines_for : ℕ → List ℕ → List (List ℕ)
@@ -61,4 +61,22 @@ lines_for t output = filter (λ line. starts_with nat_eq line (decimal t ++ code
 
 -- the lines, without their LF, that tell tenant t these replies
 abbrev pub texts_for : ℕ → List Body → List (List ℕ)
-texts_for t bodies = flat_map (body_texts (addressee_text (Tenant t))) bodies
+texts_for t bodies = flat_map (body_texts (addressee_text (To.Tenant t))) bodies
+
+-- the byte LF
+abbrev pub line_feed : ℕ
+line_feed = 10
+
+-- lines, each with its LF
+abbrev pub with_line_feeds : List (List ℕ) → List ℕ
+with_line_feeds lines = concat (map (λ line. line ++ line_feed ∷ []) lines)
+
+-- the bytes up to the next LF, put in front of lines that all end in LF: without such a line they are no line
+abbrev pub onto_ended : ℕ → List (List ℕ) → List (List ℕ)
+onto_ended b [] = []
+onto_ended b (line ∷ lines) = (b ∷ line) ∷ lines
+
+-- the lines of a trace that end in LF
+abbrev pub ended_lines : List ℕ → List (List ℕ)
+ended_lines [] = []
+ended_lines (b ∷ bytes) = if b == line_feed then [] ∷ ended_lines bytes else onto_ended b (ended_lines bytes)

@@ -3,12 +3,12 @@ use Rattle.std.specs.Prelude.{◌≡◌, ℕ, [], length, map, Some, is_some, sl
 use Rattle.model_core.specs.Machine.{Machine, holds, order_in}
 use Rattle.model_core.specs.WellFormed.{RisesFrom}
 use Rattle.kernel_core.specs.World.{World}
-use Rattle.kernel_core.specs.Parts.{Parts, PartsAgree, superblock_of, taken_of, byte_at}
+use Rattle.kernel_core.specs.Parts.{Parts, PartsAgree, superblock_at, taken_of, byte_at}
 
 -- the parts show that the tenant's private machine is this one
 pub record ShowsMachine (k : Parts) (t : ℕ) (m : Machine) : Type 0 where
   pub slots_rise : RisesFrom 0 m.slots
-  pub slots : (slot : ℕ) → holds m slot ≡ is_some (superblock_of k t slot)
+  pub slots : (slot : ℕ) → holds m slot ≡ is_some (superblock_at k t slot)
   pub blocks_rise : RisesFrom 0 (map (λ b. b.first) m.blocks)
   pub blocks : (frame : ℕ) → order_in m.blocks frame ≡ taken_of k t frame
   pub caches : m.caches ≡ []

@@ -13,7 +13,7 @@ use Rattle.kernel_core.specs.Limits.{cache_limit}
 use Rattle.kernel_core.specs.PrivateStep.{command_step}
 use Rattle.kernel_core.specs.World.{World, world_step}
 use Rattle.kernel_core.specs.OwnList.{is_refused}
-use Rattle.kernel_core.specs.Parts.{Parts, PartsAgree, Keeps}
+use Rattle.kernel_core.specs.Parts.{Parts, PartsAgree, SameSizes, MarksFollow, SpareStays, Keeps}
 use Rattle.kernel_core.specs.Shows.{Shows, ShowsMachine}
 
 -- the event names tenant t
@@ -26,17 +26,20 @@ is_named t (On.Admin Do.Pool) = false
 
 -- the event is a step of whichever world the parts show
 pub record Steps (old : Parts) (event : Event) (new : Parts) (reply : Reply) : Type 0 where
-  pub order : new.order ≡ old.order
+  pub sizes : SameSizes old new
   pub shows : (w : World) → Shows old w → Shows new (world_step cache_limit old.order event w).world
   pub answer : (w : World) → Shows old w → reply ≡ (world_step cache_limit old.order event w).reply
   pub refused : is_refused reply.body ≡ true → new ≡ old
   pub others : (t : ℕ) → is_named t event ≡ false → Keeps old new t
+  pub marks : MarksFollow old.space new.space
+  pub spare : SpareStays old.space new.space
 
 -- the command is a step of whichever machine the parts show for the tenant
 pub record StepsMachine (old : Parts) (t : ℕ) (command : Command) (new : Parts) (body : Body) : Type 0 where
-  pub order : new.order ≡ old.order
-  pub tenants : new.tenants ≡ old.tenants
+  pub sizes : SameSizes old new
   pub owners : new.space.owners ≡ old.space.owners
+  pub marks : new.space.marks ≡ old.space.marks
+  pub spare : SpareStays old.space new.space
   pub agree : PartsAgree new
   pub shows : (m : Machine) → ShowsMachine old t m → ShowsMachine new t (command_step cache_limit old.order command m).machine
   pub answer : (m : Machine) → ShowsMachine old t m → body ≡ (command_step cache_limit old.order command m).answer

@@ -2,6 +2,8 @@
 use Rattle.std.specs.Prelude.{ℕ, ◌==◌, ◌&&◌, Bool, false, List, [], ◌∷◌, Option, Some, None, Result, Ok, Err, if◌then◌else◌, is_none, map, count_by, position, slice_get, slice_set, replicate}
 use Rattle.std.specs.List.{position_or_len}
 use Rattle.model_core.specs.Machine.{Machine, empty_machine}
+use Rattle.model_core.specs.declared.owner.Owner.{Owner}
+use Rattle.model_core.specs.Owners.{owned_by, is_of, is_owner}
 use Rattle.model_core.specs.Operations.{next_slot, after_grant, take_back_step}
 use Rattle.model_core.specs.declared.refusals.TakeBackRefusal.{TakeBackRefusal}
 use Rattle.words_core.specs.declared.event.Event.{Event}
@@ -19,7 +21,7 @@ use Rattle.kernel_core.specs.PrivateStep.{command_step}
 
 -- by superblock the tenant and the slot that own it, by tenant its machine
 pub record World : Type 0 where
-  pub owners : List (Option (ℕ × ℕ))
+  pub owners : List (Option Owner)
   pub machines : List Machine
 
 -- no superblock has an owner, and no machine has anything
@@ -44,23 +46,13 @@ grant_step order t w (Some m) None = answer To.Admin (Refused PoolEmpty) w
 grant_step order t w (Some m) (Some superblock) = record {
   reply = record { addressee = To.Admin; body = Granted t (next_slot m) superblock };
   world = record {
-    owners = slice_set w.owners superblock (Some (t, next_slot m));
+    owners = slice_set w.owners superblock (Some (owned_by t (next_slot m)));
     machines = slice_set w.machines t (after_grant order m);
   };
 }
 
--- the superblock is the tenant's
-abbrev pub is_of : ℕ → Option (ℕ × ℕ) → Bool
-is_of t None = false
-is_of t (Some owner) = owner.0 == t
-
--- the superblock is the tenant's, under this slot
-abbrev pub is_owner : ℕ → ℕ → Option (ℕ × ℕ) → Bool
-is_owner t slot None = false
-is_owner t slot (Some owner) = owner.0 == t && owner.1 == slot
-
 -- no owner, where the owner passes the test
-abbrev pub given_up : (Option (ℕ × ℕ) → Bool) → Option (ℕ × ℕ) → Option (ℕ × ℕ)
+abbrev pub given_up : (Option Owner → Bool) → Option Owner → Option Owner
 given_up test owner = if test owner then None else owner
 
 -- the superblock under the slot has no owner any more, unless the tenant's machine refused; `after` is what became of it

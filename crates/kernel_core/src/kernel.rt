@@ -5,24 +5,27 @@ ghost use Rattle.kernel_core.specs.Limits.{cache_limit};
 ghost use Rattle.kernel_core.specs.World.{World, opening_world, world_step};
 ghost use Rattle.kernel_core.specs.GivenUp.{GivesUp};
 ghost use Rattle.space_core.specs.Windows.{home_of, with_window};
-ghost use Rattle.kernel_core.specs.Limits.{superblock_limit};
 
 use arrayvec::ArrayVec;
 use buddy_core::Buddy;
+use model_core::limits::{LEAST_ORDER, MOST_ORDER, MOST_SUPERBLOCKS, MOST_TENANTS};
+use model_core::owner::Owner;
 use space_core::{FRAME_BYTES, Space};
 use std::alloc::Global;
 use std::marker::Model;
 use thiserror::Error;
-use words_core::{Addressee, AdminCommand, Body, Command, Event, MOST_SUPERBLOCKS, Refusal, Reply};
+use words_core::{
+    Addressee, AdminCommand, Answer, Body, Command, Event, OWNERS, Refusal, Reply, Said,
+};
 
 /// The sizes of a machine.
 #[derive(Clone, Copy, Debug, PartialEq, Eq)]
 pub struct Config {
     /// A superblock has `2^order` frames: 3 to 8.
     pub order: u32,
-    /// How many superblocks the machine has: 1 to 64.
+    /// How many superblocks the machine has: 1 to 256.
     pub superblocks: u32,
-    /// How many tenants share it: 1 to 16.
+    /// How many tenants share it: 1 to 64.
     pub tenants: u32,
 }
 
@@ -42,45 +45,30 @@ pub enum BootError {
 /// The memory's mapping and the buddy systems have the same superblock under each slot of each tenant.
 #[derive(Drop)]
 pub struct Kernel {
-    order: u8,
-    superblocks: u16,
-    tenants: u8,
     space: Space,
     buddy: Buddy,
 }
 
 impl Model for Kernel {
-    ghost use Rattle.kernel_core.specs.Parts.{Parts, PartsAgree};
+    ghost use Rattle.kernel_core.specs.Parts.{Parts, PartsAgree, parts_of};
 
     ghost Value = { Parts };
 
-    ghost view = { λ k. record {
-      order = k.order;
-      superblocks = k.superblocks;
-      tenants = k.tenants;
-      space = k.space;
-      buddy = k.buddy;
-    } };
+    ghost view = { λ k. parts_of k.space k.buddy };
 
-    ghost invariant = { λ k. PartsAgree (record {
-      order = k.order;
-      superblocks = k.superblocks;
-      tenants = k.tenants;
-      space = k.space;
-      buddy = k.buddy;
-    }) };
+    ghost invariant = { λ k. PartsAgree (parts_of k.space k.buddy) };
 }
 
 impl Config {
     ghost use Rattle.kernel_core.specs.Booting.{is_bootable};
 
     /// Whether every number is in its range.
-    fn is_bootable(&self) -> bool
+    pub fn is_bootable(&self) -> bool
         ensures { result ≡ is_bootable self.now }
     {
-        (3..=8).contains(&self.order)
-            && (1..=64).contains(&self.superblocks)
-            && (1..=16).contains(&self.tenants)
+        (u32::from(LEAST_ORDER)..=u32::from(MOST_ORDER)).contains(&self.order)
+            && (1..=u32::from(MOST_SUPERBLOCKS)).contains(&self.superblocks)
+            && (1..=u32::from(MOST_TENANTS)).contains(&self.tenants)
     }
 }
 
@@ -88,11 +76,12 @@ impl Kernel {
     ghost use Rattle.std.specs.Prelude.{MatchOption, Option, Some};
     ghost use Rattle.kernel_core.specs.Booting.{is_bootable};
     ghost use Rattle.kernel_core.specs.OwnList.{is_refused};
-    ghost use Rattle.kernel_core.specs.Parts.{Parts, PartsAgree, opening_parts, superblock_of, superblock_bytes, IsInReach, Keeps};
+    ghost use Rattle.kernel_core.specs.Parts.{Parts, PartsAgree, SameSizes, MarksFollow, SpareStays, opening_parts, superblock_at, superblock_bytes, IsInReach, Keeps};
     ghost use Rattle.kernel_core.specs.Shows.{Shows, ShowsMachine};
     ghost use Rattle.kernel_core.specs.Steps.{is_named, Steps, StepsMachine, body_of};
     ghost use Rattle.words_core.specs.declared.reply.Body.TheVariants.{Frame, Freed, Bytes, Written};
     ghost use Rattle.space_core.specs.Content.{mark_at, owner_at};
+    ghost use Rattle.model_core.specs.Owners.{owned_by};
 
     /// A machine of these sizes: all its memory is zero, and no superblock has an owner.
     ///
@@ -112,21 +101,16 @@ impl Kernel {
         let Ok(space) = Space::new(alloc, order, superblocks, tenants) else {
             return Err(BootError::Memory);
         };
+        space.laws();
         let Ok(buddy) = Buddy::new(alloc, order, superblocks, tenants) else {
             return Err(BootError::Memory);
         };
-        Ok(Kernel {
-            order,
-            superblocks,
-            tenants,
-            space,
-            buddy,
-        })
+        Ok(Kernel { space, buddy })
     }
 
     /// Runs one event, and answers it. A refused event changes nothing.
     pub fn step(&mut self, event: &Event) -> Reply
-        ensures order { self.new.order ≡ self.old.order }
+        ensures sizes { SameSizes self.old self.new }
 
         // The event is a step of the world, whichever world the kernel shows.
         ensures shows { (w : World) → Shows self.old w → Shows self.new (world_step cache_limit self.old.order event.now w).world }
@@ -136,6 +120,10 @@ impl Kernel {
 
         // All other tenants keep their slots, the superblocks under them with all their bytes, and their blocks.
         ensures others { (t : ℕ) → is_named t event.now ≡ false → Keeps self.old self.new t }
+
+        // A superblock is marked where it lost its owner, and unmarked where it got one; without owner it keeps its bytes.
+        ensures marks { MarksFollow self.old.space self.new.space }
+        ensures spare { SpareStays self.old.space self.new.space }
     {
         let mut reply = to_admin(Body::Refused(Refusal::NoTenant));
         self.step_into(event, &mut reply);
@@ -145,11 +133,13 @@ impl Kernel {
     /// [`Kernel::step`], with the reply in the place of an earlier one. A reply has room for the owners of all superblocks,
     /// so a loop over many events does better not to move it.
     pub fn step_into(&mut self, event: &Event, reply: &mut Reply)
-        ensures order { self.new.order ≡ self.old.order }
+        ensures sizes { SameSizes self.old self.new }
         ensures shows { (w : World) → Shows self.old w → Shows self.new (world_step cache_limit self.old.order event.now w).world }
         ensures reply { (w : World) → Shows self.old w → reply.new ≡ (world_step cache_limit self.old.order event.now w).reply }
         ensures refused { is_refused reply.new.body ≡ true → self.new ≡ self.old }
         ensures others { (t : ℕ) → is_named t event.now ≡ false → Keeps self.old self.new t }
+        ensures marks { MarksFollow self.old.space self.new.space }
+        ensures spare { SpareStays self.old.space self.new.space }
     {
         match event {
             Event::Admin(command) => self.administer(command, reply),
@@ -173,11 +163,10 @@ impl Kernel {
 
     /// The superblock under slot `slot` of tenant `t`: the one that has both as its owner.
     pub fn superblock_of(&self, t: u8, slot: u32) -> Option<u16>
-        ensures value { result ≡ superblock_of self.now t slot }
-        ensures owner { (m : ℕ) → (result ≡ Some m) ↔ (owner_at self.now.space.owners m ≡ Some (t, slot)) }
+        ensures value { result ≡ superblock_at self.now t slot }
+        ensures owner { (m : ℕ) → (result ≡ Some m) ↔ (owner_at self.now.space.owners m ≡ Some (owned_by t slot)) }
     {
-        self.space.facts();
-        if t >= self.tenants {
+        if t >= self.buddy.tenants() {
             return None;
         }
         self.space.machine_of(t, slot)
@@ -204,21 +193,21 @@ impl Kernel {
     pub fn order(&self) -> u32
         ensures { result ≡ self.now.order }
     {
-        u32::from(self.order)
+        u32::from(self.buddy.order())
     }
 
     /// How many superblocks the machine has.
     pub fn superblocks(&self) -> u32
         ensures { result ≡ self.now.superblocks }
     {
-        u32::from(self.superblocks)
+        u32::from(self.buddy.superblocks())
     }
 
     /// How many tenants share the machine, numbered from 0.
     pub fn tenants(&self) -> u32
         ensures { result ≡ self.now.tenants }
     {
-        u32::from(self.tenants)
+        u32::from(self.buddy.tenants())
     }
 
     /// The memory, with its pool and its mapping.
@@ -239,25 +228,23 @@ impl Kernel {
     pub fn parts_agree(&self)
         ensures { PartsAgree self.now }
     {
-        let _ = &self.order;
+        let _ = &self.space;
     }
 
     /// Gives the tenant the least superblock without owner, under the least slot that it does not hold.
     fn grant(&mut self, tenant: u32) -> Reply
         ensures { Steps self.old (Event.Admin (AdminCommand.Grant tenant)) self.new result }
     {
-        self.space.facts();
-        self.space.others_stay();
-        self.space.own_bytes();
-        self.space.own_slots();
-        self.buddy.sizes();
-        if tenant >= u32::from(self.tenants) {
+        self.space.laws();
+        self.buddy.laws();
+        if tenant >= u32::from(self.buddy.tenants()) {
             return to_admin(Body::Refused(Refusal::NoTenant));
         }
         let t = tenant as u8;
         let Ok((slot, superblock)) = self.space.grant(t) else {
             return to_admin(Body::Refused(Refusal::PoolEmpty));
         };
+        self.space.laws();
         self.buddy.add_slot(t, slot, superblock);
         to_admin(Body::Granted {
             tenant: t,
@@ -270,13 +257,9 @@ impl Kernel {
     fn take_back(&mut self, tenant: u32, slot: u32) -> Reply
         ensures { Steps self.old (Event.Admin (AdminCommand.TakeBack tenant slot)) self.new result }
     {
-        self.space.facts();
-        self.space.others_stay();
-        self.space.own_bytes();
-        self.space.own_slots();
-        self.buddy.sizes();
-        self.buddy.holdings_are_sound();
-        if tenant >= u32::from(self.tenants) {
+        self.space.laws();
+        self.buddy.laws();
+        if tenant >= u32::from(self.buddy.tenants()) {
             return to_admin(Body::Refused(Refusal::NoTenant));
         }
         let t = tenant as u8;
@@ -289,6 +272,7 @@ impl Kernel {
         let Ok(_) = self.space.take_back(t, slot) else {
             unreachable!()
         };
+        self.space.laws();
         to_admin(Body::TakenBack(superblock))
     }
 
@@ -296,13 +280,14 @@ impl Kernel {
     fn reset(&mut self, tenant: u32) -> Reply
         ensures { Steps self.old (Event.Admin (AdminCommand.Reset tenant)) self.new result }
     {
-        self.buddy.sizes();
-        if tenant >= u32::from(self.tenants) {
+        self.buddy.laws();
+        if tenant >= u32::from(self.buddy.tenants()) {
             return to_admin(Body::Refused(Refusal::NoTenant));
         }
         let t = tenant as u8;
         self.buddy.reset(t);
-        let superblocks = give_up(&mut self.space, self.superblocks, t);
+        let superblocks = give_up(&mut self.space, self.buddy.superblocks(), t);
+        self.space.laws();
         to_admin(Body::WasReset {
             tenant: t,
             superblocks,
@@ -313,14 +298,14 @@ impl Kernel {
     fn pool(&self) -> Reply
         ensures { Steps self.now (Event.Admin AdminCommand.Pool) self.now result }
     {
-        to_admin(Body::Owners(owners(&self.space, self.superblocks)))
+        to_admin(Body::Owners(owners(&self.space)))
     }
 
     /// Runs a tenant's command.
     fn ask(&mut self, tenant: u32, command: &Command, reply: &mut Reply)
         ensures { Steps self.old (Event.Tenant tenant command.now) self.new reply.new }
     {
-        if tenant >= u32::from(self.tenants) {
+        if tenant >= u32::from(self.buddy.tenants()) {
             reply.addressee = Addressee::Nobody;
             reply.body = Body::Refused(Refusal::NoTenant);
             return;
@@ -357,9 +342,8 @@ impl Kernel {
         requires { t < self.old.tenants }
         ensures { StepsMachine self.old t (Command.Alloc order) self.new (body_of Frame result) }
     {
-        self.buddy.sizes();
-        self.buddy.holdings_are_sound();
-        if order > u32::from(self.order) {
+        self.buddy.laws();
+        if order > u32::from(self.buddy.order()) {
             return Err(Refusal::BadOrder);
         }
         let Some(frame) = self.buddy.reserve(t, order as u8) else {
@@ -373,7 +357,7 @@ impl Kernel {
         requires { t < self.old.tenants }
         ensures { StepsMachine self.old t (Command.Free frame) self.new (body_of Freed result) }
     {
-        self.buddy.sizes();
+        self.buddy.laws();
         let Some(order) = self.buddy.release(t, frame) else {
             return Err(Refusal::NotABlock);
         };
@@ -397,8 +381,8 @@ impl Kernel {
         requires { t < self.now.tenants }
         ensures { StepsMachine self.now t (Command.Read place len) self.now (body_of Bytes result) }
     {
-        self.space.own_bytes();
-        self.buddy.holdings_are_sound();
+        self.space.laws();
+        self.buddy.laws();
         if len < 1 || len > 64 {
             return Err(Refusal::BadLength);
         }
@@ -416,14 +400,14 @@ impl Kernel {
         requires { t < self.old.tenants }
         ensures { StepsMachine self.old t (Command.Write place bytes.now) self.new (body_of Written result) }
     {
-        self.space.others_stay();
-        self.space.own_bytes();
-        self.buddy.holdings_are_sound();
+        self.space.laws();
+        self.buddy.laws();
         let len = bytes.len() as u32;
         if !self.is_in_reach(t, place, len) {
             return Err(Refusal::OutOfReach);
         }
         store(&mut self.space, t, place, bytes.as_slice());
+        self.space.laws();
         Ok(len)
     }
 
@@ -432,7 +416,7 @@ impl Kernel {
         requires { t < self.now.tenants }
         ensures { (result ≡ true) ↔ IsInReach self.now t place len }
     {
-        self.buddy.holdings_are_sound();
+        self.buddy.laws();
         if len == 0 {
             return false;
         }
@@ -473,32 +457,30 @@ fn give_up(space: &mut Space, superblocks: u16, t: u8) -> u16
 {
     let mut count = 0;
     for m in 0..superblocks {
-        let Some((tenant, slot)) = space.owner(m) else {
+        let Some(owner) = space.owner_of(m) else {
             continue;
         };
-        if tenant != t {
+        if owner.tenant != t {
             continue;
         }
-        space.facts();
-        space.others_stay();
-        let Ok(_) = space.take_back(t, u32::from(slot)) else {
+        space.laws();
+        let Ok(_) = space.take_back(t, u32::from(owner.slot)) else {
             unreachable!()
         };
         count += 1;
     }
-    space.facts();
+    space.laws();
     count
 }
 
 /// The owner of each superblock.
-fn owners(space: &Space, superblocks: u16) -> ArrayVec<Option<(u8, u16)>, MOST_SUPERBLOCKS>
-    requires all { superblocks ≡ length space.now.owners }
-    requires few { superblocks ≤ superblock_limit }
+fn owners(space: &Space) -> ArrayVec<Option<Owner>, OWNERS>
     ensures { result.items ≡ space.now.owners }
 {
+    space.laws();
     let mut owners = ArrayVec::new();
-    for m in 0..superblocks {
-        owners.push(space.owner(m));
+    for owner in space.owners() {
+        owners.push(*owner);
     }
     owners
 }

@@ -1,26 +1,26 @@
 -- From the answer of a replay on a new machine to the outcome of a run.
-use Rattle.std.proofs.Common.{◌≡◌, ℕ, ◌≤◌, Bool, true, false, List, [], ◌∷◌, ◌++◌, Option, Some, None, Result, Ok, Err, OnOk, IfSome, length, take, is_ok, refl, ap, sym, subst, ◌∙◌, append_assoc}
-use Rattle.std.specs.Prelude.{if◌then◌else◌}
-use Rattle.std.specs.Option.{option_map}
-use Rattle.std.specs.Io.KnownBytes.{Appends, Consumes, Keeps}
-use Rattle.std.proofs.lemmas.List.{append-nil, take_all}
+use Rattle.std.proofs.Common.{◌≡◌, ℕ, Bool, true, inl, inr, List, [], ◌∷◌, ◌++◌, Option, Some, None, Result, Ok, Err, OnOk, IfSome, refl, ap, sym, subst, ◌∙◌, append_assoc}
+use Rattle.std.specs.Io.KnownBytes.{Appends, Consumes, Keeps, IsAtEnd}
+use Rattle.std.proofs.lemmas.List.{append-nil}
 use Rattle.words_core.specs.Cutting.{lines_of_trace}
 use Rattle.kernel_core.specs.declared.kernel.Config.{Config}
 use Rattle.kernel_core.specs.Limits.{cache_limit}
-use Rattle.kernel_core.specs.Output.{line_step, lines_step, lines_for}
-use Rattle.kernel_core.specs.Laws.{private_lines}
+use Rattle.kernel_core.specs.Output.{shown_lines, ended_lines, lines_for, with_line_feeds}
+use Rattle.kernel_core.specs.Laws.{private_lines, ShownStays}
 use Rattle.kernel_core.specs.Parts.{Parts, opening_parts}
 use Rattle.kernel_core.specs.Shows.{Shows}
 use Rattle.kernel_core.specs.World.{World, opening_world}
+use Rattle.kernel_core.proofs.Showing.{shown_first}
 use Rattle.replay_core.specs.declared.replaying.Tally.{Tally}
 use Rattle.replay_core.specs.declared.replaying.ReplayError.{ReplayError}
 use Rattle.replay_core.specs.declared.replaying.ReplayError.TheVariants as Failed
-use Rattle.replay_core.specs.Runs.{shown_line, shown_lines, ended_lines, with_line_feeds, IsCutShort, Replays, HasOwnLines, NamesFailed}
+use Rattle.replay_core.specs.Runs.{HasCome, IsCutShort, Replays, IsDone, HasOwnLines}
+use Rattle.replay_core.proofs.RunLemmas.{shown_more}
 use Rattle.partmem.specs.declared.settings.Settings.{Settings}
 use Rattle.partmem.specs.declared.outcome.Outcome.{Outcome}
-use Rattle.partmem.specs.declared.outcome.Outcome.TheVariants.{Done, Help, Unreadable, Unwritable, BadLine, BadOnly, NoMemory}
+use Rattle.partmem.specs.declared.outcome.Outcome.TheVariants.{Unwritable}
 use Rattle.partmem.specs.Outcome.{outcome_of}
-use Rattle.partmem.specs.Run.{replies_to, IsPrivate, Answers, EndsAs, IsGiven}
+use Rattle.partmem.specs.Run.{replies_to, IsPrivate, IsBeginning, Answers, IsGiven, IsOfTrace}
 
 -- the kernel shows the opening world of the settings
 pub record IsNew (s : Settings) (k : Parts) : Type 0 where
@@ -32,34 +32,7 @@ pub booted : (s : Settings) (k : Parts) → k ≡ opening_parts s.config.order s
 unfolding opening_parts
 booted s k is shows = record { order = ap (λ parts. parts.order) is; shows = shows }
 
--- what lines show, and then further ones
-shown_both : (only : Option ℕ) (limit order : ℕ) (xs ys : List (List ℕ)) (w : World)
-    → shown_lines only limit order (xs ++ ys) w
-    ≡ shown_lines only limit order xs w ++ shown_lines only limit order ys (lines_step limit order xs w).world
-shown_both only limit order [] ys w = refl
-shown_both only limit order (line ∷ xs) ys w =
-    ap (λ more. shown_line only limit order line w ++ more) (shown_both only limit order xs ys (line_step limit order line w).world)
-    ∙ sym (append_assoc (shown_line only limit order line w) _ _)
-
--- where the drain failed, what was taken is a beginning of what all lines show
-cut_short : (only : Option ℕ) (before after : Parts) (w : World) (lines done : List (List ℕ)) (line : List ℕ) (rest : List (List ℕ)) (taken : List ℕ) (tally : Tally)
-    → Shows before w → lines ≡ (done ++ line ∷ []) ++ rest → IsCutShort only before after done line taken tally
-    → (more : List ℕ) × (shown_lines only cache_limit before.order lines w ≡ taken ++ more)
-cut_short only before after w lines done line rest taken tally shows split cut =
-    let shown = cut.shown w shows in
-    let last = done ++ line ∷ [] in
-    let first = shown_lines only cache_limit before.order done w in
-    let later = shown_lines only cache_limit before.order rest (lines_step cache_limit before.order last w).world in
-    let all = ap (λ xs. shown_lines only cache_limit before.order xs w) split ∙ shown_both only cache_limit before.order last rest w in
-    let whole : shown_lines only cache_limit before.order last w ≡ first ++ (shown.0 ++ shown.1) =
-    shown_both only cache_limit before.order done (line ∷ []) w
-    ∙ ap (λ text. first ++ text) (append-nil _ ∙ shown.3) in
-    (shown.1 ++ later, all ∙ ap (λ text. text ++ later) whole ∙ regrouped first shown.0 shown.1 later ∙ ap (λ text. text ++ (shown.1 ++ later)) (sym shown.4))
-  where
-    regrouped : (a b c d : List ℕ) → (a ++ (b ++ c)) ++ d ≡ (a ++ b) ++ (c ++ d)
-    regrouped a b c d = simp append_assoc
-
--- the same of the settings' order
+-- in the kernel's words and in the settings'
 at_order : (s : Settings) (k : Parts) (lines : List (List ℕ)) → IsNew s k
     → shown_lines s.only cache_limit k.order lines (opening_world s.config.superblocks s.config.tenants) ≡ replies_to s lines
 at_order s k lines new =
@@ -74,36 +47,95 @@ private_at config (Some t) k given taken order shows own = λ tenant.
     subst (λ o. taken ≡ with_line_feeds (private_lines cache_limit o config.superblocks config.tenants t given)) order
     (own config.superblocks config.tenants shows tenant)
 
--- a drain that failed left a beginning
-cut_answers : (s : Settings) (k k' : Parts) (given taken : List ℕ) (tally : Tally) → IsNew s k
-    → Replays s.only k k' given taken (Err (Failed.Drain tally)) → Answers s Unwritable given taken
-cut_answers s k k' given taken tally new (done, line, rest, split, cut) =
-    let short = cut_short s.only k k' _ _ done line rest taken tally new.shows split cut in
-    (short.0, sym (at_order s k (lines_of_trace given) new) ∙ short.1)
+-- what was taken of lines that were cut short is a beginning of what they show, and further ones after them
+cut_first : (only : Option ℕ) (before after : Parts) (w : World) (lines done : List (List ℕ)) (line : List ℕ) (rest : List (List ℕ)) (taken : List ℕ) (tally : Tally)
+    → Shows before w → lines ≡ (done ++ line ∷ []) ++ rest → IsCutShort only before after done line taken tally
+    → IsBeginning taken (shown_lines only cache_limit before.order lines w)
+cut_first only before after w lines done line rest taken tally shows split cut =
+    let part = cut.shown w shows in
+    let last = done ++ line ∷ [] in
+    let earlier = shown_lines only cache_limit before.order done w in
+    let later = shown_first only cache_limit before.order last rest w in
+    let whole : shown_lines only cache_limit before.order last w ≡ earlier ++ (part.0 ++ part.1) =
+    shown_more only cache_limit before.order done line w ∙ ap (λ text. earlier ++ text) part.3 in (
+      part.1 ++ later.0,
+      ap (λ xs. shown_lines only cache_limit before.order xs w) split ∙ later.1 ∙ ap (λ text. text ++ later.0) whole
+          ∙ regrouped earlier part.0 part.1 later.0 ∙ ap (λ text. text ++ (part.1 ++ later.0)) (sym part.4),
+    )
+  where
+    regrouped : (a b c d : List ℕ) → (a ++ (b ++ c)) ++ d ≡ (a ++ b) ++ (c ++ d)
+    regrouped a b c d = simp append_assoc
+
+-- a beginning of what the ended lines show is one of what any trace shows that goes on from them
+goes_on : ShownStays → (s : Settings) (k : Parts) (given more taken : List ℕ) → IsNew s k
+    → IsBeginning taken (shown_lines s.only cache_limit k.order (ended_lines given) (opening_world s.config.superblocks s.config.tenants))
+    → IsBeginning taken (replies_to s (lines_of_trace (given ++ more)))
+goes_on stays s k given more taken new (rest, shown) =
+    let later = stays s.only cache_limit k.order given more (opening_world s.config.superblocks s.config.tenants) in (
+      rest ++ later.0,
+      sym (at_order s k (lines_of_trace (given ++ more)) new) ∙ later.1 ∙ ap (λ text. text ++ later.0) shown ∙ append_assoc taken rest later.0,
+    )
+
+-- nothing more comes
+all_came : (s : Settings) (given more taken : List ℕ) → more ≡ [] → IsBeginning taken (replies_to s (lines_of_trace given))
+    → IsBeginning taken (replies_to s (lines_of_trace (given ++ more)))
+all_came s given more taken none begins =
+    subst (λ trace. IsBeginning taken (replies_to s (lines_of_trace trace))) (sym (ap (λ bytes. given ++ bytes) none ∙ append-nil given)) begins
+
+cut_begins : ShownStays → (s : Settings) (k k' : Parts) (ended : Bool) (given more taken : List ℕ) (done : List (List ℕ)) (line : List ℕ) (tally : Tally) → IsNew s k
+    → HasCome ended given (done ++ line ∷ []) → IsCutShort s.only k k' done line taken tally → (ended ≡ true → more ≡ [])
+    → IsBeginning taken (replies_to s (lines_of_trace (given ++ more)))
+cut_begins stays s k k' ended given more taken done line tally new (inl (rest, split)) cut over =
+    goes_on stays s k given more taken new (cut_first s.only k k' _ (ended_lines given) done line rest taken tally new.shows split cut)
+cut_begins stays s k k' ended given more taken done line tally new (inr (is_over, all)) cut over =
+    all_came s given more taken (over is_over) (
+    subst (IsBeginning taken) (at_order s k (lines_of_trace given) new)
+    (cut_first s.only k k' _ (lines_of_trace given) done line [] taken tally new.shows (all ∙ sym (append-nil _)) cut)
+    )
+
+-- Whatever the replay answered, a trace goes on from what was given, unless the feed has ended.
+pub begins : ShownStays → (s : Settings) (k k' : Parts) (ended : Bool) (given more taken : List ℕ) (replayed : Result Tally ReplayError) → IsNew s k
+    → Replays ended s.only k k' given taken replayed → IsDone replayed ended → (ended ≡ true → more ≡ [])
+    → IsBeginning taken (replies_to s (lines_of_trace (given ++ more)))
+begins stays s k k' ended given more taken (Ok tally) new ran done over =
+    all_came s given more taken (over done)
+    ([], sym (at_order s k (lines_of_trace given) new) ∙ sym (ran.shown _ new.shows) ∙ sym (append-nil taken))
+begins stays s k k' ended given more taken (Err (Failed.Feed tally)) new ran done over =
+    goes_on stays s k given more taken new ([], sym (ran.shown _ new.shows) ∙ sym (append-nil taken))
+begins stays s k k' ended given more taken (Err (Failed.Drain tally)) new ran done over =
+    cut_begins stays s k k' ended given more taken ran.0 ran.1 tally new ran.2 ran.3 over
+
+-- where it could not be written, that is what was given
+pub unwritten : ShownStays → (s : Settings) (k k' : Parts) (ended : Bool) (given taken : List ℕ) (replayed : Result Tally ReplayError) → IsNew s k
+    → Replays ended s.only k k' given taken replayed → IsDone replayed ended → Answers s Unwritable given taken
+unwritten stays s k k' ended given taken replayed new ran done =
+    subst (λ trace. IsBeginning taken (replies_to s (lines_of_trace trace))) (append-nil given)
+    (begins stays s k k' ended given [] taken replayed new ran done (λ _. refl))
 
 -- the outcome of the replay
-pub answers : (s : Settings) (k k' : Parts) (given taken : List ℕ) (replayed : Result Tally ReplayError) → IsNew s k
-    → Replays s.only k k' given taken replayed → OnOk replayed (HasOwnLines s.only k given taken) → Answers s (outcome_of replayed) given taken
-answers s k k' given taken (Ok tally) new ran own = (
+pub answers : ShownStays → (s : Settings) (k k' : Parts) (ended : Bool) (given taken : List ℕ) (replayed : Result Tally ReplayError) → IsNew s k
+    → Replays ended s.only k k' given taken replayed → IsDone replayed ended → OnOk replayed (HasOwnLines s.only k given taken)
+    → Answers s (outcome_of replayed) given taken
+answers stays s k k' ended given taken (Ok tally) new ran done own = (
   ran.shown _ new.shows ∙ at_order s k (lines_of_trace given) new,
   private_at s.config s.only k given taken new.order new.shows own,
 )
-answers s k k' given taken (Err (Failed.Feed tally)) new ran own = ran.shown _ new.shows ∙ at_order s k (ended_lines given) new
-answers s k k' given taken (Err (Failed.Drain tally)) new ran own = cut_answers s k k' given taken tally new ran
+answers stays s k k' ended given taken (Err (Failed.Feed tally)) new ran done own = ran.shown _ new.shows ∙ at_order s k (ended_lines given) new
+answers stays s k k' ended given taken (Err (Failed.Drain tally)) new ran done own = unwritten stays s k k' ended given taken (Err (Failed.Drain tally)) new ran done
 
--- the drain failed
-pub cut_off : (s : Settings) (k k' : Parts) (given taken : List ℕ) (replayed : Result Tally ReplayError) (unread unwritten : Bool) → IsNew s k
-    → Replays s.only k k' given taken replayed → NamesFailed replayed unread unwritten → unwritten ≡ true → Answers s Unwritable given taken
-cut_off s k k' given taken (Ok tally) unread unwritten new ran named failed = let fine : unwritten ≡ false = named.1 in cc
-cut_off s k k' given taken (Err (Failed.Feed tally)) unread unwritten new ran named failed = let fine : unwritten ≡ false = named.1 in cc
-cut_off s k k' given taken (Err (Failed.Drain tally)) unread unwritten new ran named failed = cut_answers s k k' given taken tally new ran
+-- a trace is done only at its end
+pub given_so_far : (replayed : Result Tally ReplayError) (ended : Bool) (given more : List ℕ) → IsDone replayed ended → (ended ≡ true → more ≡ [])
+    → IsGiven (outcome_of replayed) (given ++ more) given
+given_so_far (Ok tally) ended given more done over = ap (λ bytes. given ++ bytes) (over done) ∙ append-nil given
+given_so_far (Err (Failed.Feed tally)) ended given more done over = (more, refl)
+given_so_far (Err (Failed.Drain tally)) ended given more done over = (more, refl)
 
--- the flush failed after all was taken
-pub not_flushed : (s : Settings) (k k' : Parts) (given taken : List ℕ) (replayed : Result Tally ReplayError) → IsNew s k
-    → Replays s.only k k' given taken replayed → is_ok replayed ≡ true → Answers s Unwritable given taken
-not_flushed s k k' given taken (Ok tally) new ran fine =
-    ([], sym (at_order s k (lines_of_trace given) new) ∙ sym (ran.shown _ new.shows) ∙ sym (append-nil taken))
-not_flushed s k k' given taken (Err error) new ran fine = cc
+-- a fact of all that goes on from what was given is one of the trace
+pub of_trace : (P : List ℕ → Type 0) (known left : Option (List ℕ)) (ended : Bool) (given : List ℕ) → Consumes known left given → (ended ≡ true → IsAtEnd left)
+    → ((more : List ℕ) → (ended ≡ true → more ≡ []) → P (given ++ more)) → IfSome known P
+of_trace P None left ended given consumed over fact = tt
+of_trace P (Some trace) None ended given consumed over fact = absurd consumed
+of_trace P (Some trace) (Some more) ended given consumed over fact = subst P (sym consumed) (fact more over)
 
 -- flushing keeps what was appended
 pub flushed : (before after last : Option (List ℕ)) (bytes : List ℕ) → Appends before after bytes → Keeps after last → Appends before last bytes
@@ -112,33 +144,12 @@ flushed (Some xs) None last bytes appended kept = elim appended [ ]
 flushed (Some xs) (Some ys) None bytes appended kept = elim kept [ ]
 flushed (Some xs) (Some ys) (Some zs) bytes appended kept = kept ∙ appended
 
--- a refused boot leaves all as it was
-pub untouched : (known : Option (List ℕ)) → Consumes known known []
-untouched None = tt
-untouched (Some xs) = refl
-
--- of a trace of at most `most` bytes a beginning is given, and all of it where the feed has ended
-pub given_of : (known first left : Option (List ℕ)) (most : ℕ) (given : List ℕ) (outcome : Outcome) (ended unread unwritten : Bool)
-    → first ≡ option_map (take most) known → Consumes first (if ended then Some [] else left) given → EndsAs outcome ended unread unwritten
-    → IfSome known (λ trace. length trace ≤ most → IsGiven outcome trace given)
-given_of None first left most given outcome ended unread unwritten is consumed ends = tt
-given_of (Some trace) first left most given outcome ended unread unwritten is consumed ends = λ few.
-    let whole : first ≡ Some trace = is ∙ ap Some (take_all most trace few) in
-    of_whole (if ended then Some [] else left) refl (subst (λ known. Consumes known (if ended then Some [] else left) given) whole consumed)
-  where
-    beginning : (outcome : Outcome) (rest : List ℕ) → trace ≡ given ++ rest → EndsAs outcome ended unread unwritten
-        → (if ended then Some [] else left) ≡ Some rest → IsGiven outcome trace given
-    beginning Done rest split ends is_left =
-        let none : (if ended then Some [] else left) ≡ Some [] = rw ends.0 refl in
-        let nothing : rest ≡ [] = cc in
-        split ∙ ap (λ more. given ++ more) nothing ∙ append-nil given
-    beginning (Help text) rest split ends is_left = (rest, split)
-    beginning Unreadable rest split ends is_left = (rest, split)
-    beginning Unwritable rest split ends is_left = (rest, split)
-    beginning (BadLine text) rest split ends is_left = (rest, split)
-    beginning BadOnly rest split ends is_left = (rest, split)
-    beginning NoMemory rest split ends is_left = (rest, split)
-
-    of_whole : (left' : Option (List ℕ)) → (if ended then Some [] else left) ≡ left' → Consumes (Some trace) left' given → IsGiven outcome trace given
-    of_whole None is_left consumed = elim consumed [ ]
-    of_whole (Some rest) is_left consumed = beginning outcome rest consumed ends is_left
+-- what the run was of the trace, whatever its outcome
+pub traced : ShownStays → (s : Settings) (k k' : Parts) (ended : Bool) (given taken : List ℕ) (replayed : Result Tally ReplayError) (outcome : Outcome) (known left : Option (List ℕ))
+    → IsNew s k → Replays ended s.only k k' given taken replayed → IsDone replayed ended
+    → ((more : List ℕ) → (ended ≡ true → more ≡ []) → IsGiven outcome (given ++ more) given)
+    → Consumes known left given → (ended ≡ true → IsAtEnd left)
+    → IfSome known (λ trace. IsOfTrace s outcome trace given taken)
+traced stays s k k' ended given taken replayed outcome known left new ran done part consumed over =
+    of_trace (λ trace. IsOfTrace s outcome trace given taken) known left ended given consumed over
+    (λ more none. record { part = part more none; begins = begins stays s k k' ended given more taken replayed new ran done none })

@@ -4,16 +4,11 @@ use Rattle.words_core.specs.Cutting.{lines_of_trace}
 use Rattle.kernel_core.specs.declared.kernel.Config.{Config}
 use Rattle.kernel_core.specs.Limits.{cache_limit}
 use Rattle.kernel_core.specs.World.{opening_world}
-use Rattle.kernel_core.specs.Output.{lines_for}
+use Rattle.kernel_core.specs.Output.{shown_lines, ended_lines, lines_for, with_line_feeds}
 use Rattle.kernel_core.specs.Laws.{private_lines}
-use Rattle.replay_core.specs.Runs.{shown_lines, ended_lines, with_line_feeds}
 use Rattle.partmem.specs.declared.settings.Settings.{Settings}
 use Rattle.partmem.specs.declared.outcome.Outcome.{Outcome}
 use Rattle.partmem.specs.declared.outcome.Outcome.TheVariants.{Done, Help, Unreadable, Unwritable, BadLine, BadOnly, NoMemory}
-
--- the most bytes of a trace that are read
-abbrev pub most_trace_bytes : ℕ
-most_trace_bytes = 1073741824
 
 -- what these lines show on a new machine of the settings: all replies, or those to one tenant
 abbrev pub replies_to : Settings → List (List ℕ) → List ℕ
@@ -28,11 +23,14 @@ abbrev pub IsPrivate : Option ℕ → Config → List ℕ → List ℕ → Type 
 IsPrivate None config trace written = (t : ℕ) → t < config.tenants → lines_for t written ≡ private_replies config t trace
 IsPrivate (Some t) config trace written = t < config.tenants → written ≡ with_line_feeds (private_replies config t trace)
 
+abbrev pub IsBeginning : List ℕ → List ℕ → Type 0
+IsBeginning part whole = (rest : List ℕ) × (whole ≡ part ++ rest)
+
 -- what was written of the bytes that were given, when the run ended so
 abbrev pub Answers : Settings → Outcome → List ℕ → List ℕ → Type 0
 Answers s Done given written = (written ≡ replies_to s (lines_of_trace given)) × IsPrivate s.only s.config given written
 Answers s Unreadable given written = written ≡ replies_to s (ended_lines given)
-Answers s Unwritable given written = (rest : List ℕ) × (replies_to s (lines_of_trace given) ≡ written ++ rest)
+Answers s Unwritable given written = IsBeginning written (replies_to s (lines_of_trace given))
 Answers s NoMemory given written = (given ≡ []) × (written ≡ [])
 Answers s (Help text) given written = ⊥
 Answers s (BadLine text) given written = ⊥
@@ -51,4 +49,9 @@ EndsAs BadOnly ended unread unwritten = ⊥
 -- how much of the trace was given when the run ended so: a beginning, and all of it where it is done
 abbrev pub IsGiven : Outcome → List ℕ → List ℕ → Type 0
 IsGiven Done trace given = trace ≡ given
-IsGiven outcome trace given = (rest : List ℕ) × (trace ≡ given ++ rest)
+IsGiven outcome trace given = IsBeginning given trace
+
+-- However the run ended, what was written is a beginning of what the whole trace shows.
+pub record IsOfTrace (s : Settings) (outcome : Outcome) (trace given written : List ℕ) : Type 0 where
+  pub part : IsGiven outcome trace given
+  pub begins : IsBeginning written (replies_to s (lines_of_trace trace))

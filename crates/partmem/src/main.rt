@@ -12,7 +12,7 @@
 //! | 3 | there is not enough memory | `partmem: not enough memory` |
 #![tactic(auto)]
 
-ghost use Rattle.std.specs.Prelude.{◌≡◌, ◌≤◌, true, IfErr, IfOk};
+ghost use Rattle.std.specs.Prelude.{◌≡◌, ◌≤◌, true, IfErr, IfOk, OnErr};
 ghost use Rattle.kernel_core.specs.Booting.{is_bootable};
 ghost use Rattle.partmem.specs.Outcome.{IsOfRun, IsRefusal, status_of};
 
@@ -23,17 +23,17 @@ mod settings;
 mod tests;
 
 use outcome::Outcome;
-use replay_core::WriterDrain;
+use replay_core::{ReaderFeed, WriterDrain};
 use run::run;
-use settings::{Settings, read_words};
+use settings::{Settings, bad_line, read_words};
 use std::alloc::Global;
 use std::env;
 use std::fs::File;
-use std::io::{self, BufReader, BufWriter, ErrorKind, Read};
+use std::io::{self, BufWriter, ErrorKind, Read};
 use std::process::ExitCode;
 use std::rt::{Env, Files};
 
-/// The bytes that are read or written at once.
+/// The bytes that are written at once, where the trace has not to be waited for.
 const BUFFER_BYTES: usize = 65_536;
 
 fn main(rt: HostRuntime) -> ExitCode {
@@ -72,47 +72,46 @@ fn not_words(alloc: Global, kind: ErrorKind) -> Outcome
     if kind == ErrorKind::OutOfMemory {
         return Outcome::NoMemory;
     }
-    match String::from_str(
+    bad_line(
         alloc,
         "error: invalid UTF-8 was detected in one or more arguments\n",
-    ) {
-        Ok(text) => Outcome::BadLine(text),
-        Err(_) => Outcome::NoMemory,
-    }
+    )
 }
 
-/// Opens the trace and runs it.
+/// Runs the trace, from FILE or from standard input, into standard output.
 fn run_from(rt: &(impl Files + Input + Print + AllocGlobal), settings: &Settings) -> Outcome
     requires { is_bootable settings.now.config ≡ true }
     ensures { IsOfRun result }
 {
     match &settings.file {
-        None => run_buffered(rt, settings, rt.reader()),
-        Some(path) => match File::open(rt, path.as_str()) {
-            Ok(file) => run_buffered(rt, settings, file),
-            Err(error) if error.kind() == ErrorKind::OutOfMemory => Outcome::NoMemory,
-            Err(_) => Outcome::Unreadable,
-        },
+        None => run_opened(rt, settings, Ok(rt.reader())),
+        Some(path) => run_opened(rt, settings, File::open(rt, path.as_str())),
     }
 }
 
-/// Runs the trace of this reader into standard output.
-fn run_buffered<R: Read + Drop>(
+/// Runs the trace of a reader into standard output; one that could not be opened, for whatever cause, is unreadable.
+fn run_opened<R: Read + Drop>(
     rt: &(impl Print + AllocGlobal),
     settings: &Settings,
-    reader: R,
+    opened: io::Result<R>,
 ) -> Outcome
     requires { is_bootable settings.now.config ≡ true }
-    ensures { IsOfRun result }
+    ensures of_run { IsOfRun result }
+    ensures unopened { OnErr opened (result ≡ Outcome.Unreadable) }
 {
-    let alloc = rt.alloc();
-    let Ok(reader) = BufReader::with_capacity(alloc, BUFFER_BYTES, reader) else {
-        return Outcome::NoMemory;
+    let Ok(reader) = opened else {
+        return Outcome::Unreadable;
     };
+    let alloc = rt.alloc();
     let Ok(writer) = BufWriter::with_capacity(alloc, BUFFER_BYTES, io::writer(rt)) else {
         return Outcome::NoMemory;
     };
-    run(alloc, settings, reader, &mut WriterDrain::new(writer))
+    run(
+        alloc,
+        settings,
+        &mut ReaderFeed::new(reader),
+        &mut WriterDrain::new(writer),
+    )
 }
 
 /// Tells the outcome: help on standard output, a refusal on standard error.

@@ -1,14 +1,15 @@
 //! The command line.
 
-ghost use Rattle.std.specs.Prelude.{◌≡◌, ◌≢◌, ◌<◌, true, IfErr, IfOk, IfSome, codes};
+ghost use Rattle.std.specs.Prelude.{◌≡◌, ◌≢◌, ◌<◌, ◌≤◌, true, IfErr, IfOk, IfSome, codes};
 ghost use Rattle.clap.specs.Words.{found_of, kind_of, one_text};
 ghost use Rattle.kernel_core.specs.Booting.{is_bootable};
-ghost use Rattle.partmem.specs.Outcome.{IsRefusal, IsToldAs};
+ghost use Rattle.partmem.specs.Outcome.{IsRefusal, IsToldAs, status_of};
 
 use crate::outcome::Outcome;
 use clap::error::ErrorKind;
 use clap::{Arg, ArgAction, ArgMatches, Command, Error, value_parser};
 use kernel_core::Config;
+use model_core::limits::{LEAST_ORDER, MOST_ORDER, MOST_SUPERBLOCKS, MOST_TENANTS};
 use std::alloc::{AllocError, Global};
 
 /// What a command line asks for.
@@ -51,9 +52,11 @@ fn command<'a>(alloc: Global) -> Result<Command<'a>, AllocError> {
     Command::new(alloc, "partmem")
         .about("Runs a trace on a machine that tenants share, and writes its replies")
         .no_binary_name(true)
-        .arg(order.value_parser(value_parser!(u32).range(3..=8)))?
-        .arg(superblocks.value_parser(value_parser!(u32).range(1..=64)))?
-        .arg(tenants.value_parser(value_parser!(u32).range(1..=16)))?
+        .arg(order.value_parser(value_parser!(u32).range(
+            i64::from(LEAST_ORDER)..=i64::from(MOST_ORDER),
+        )))?
+        .arg(superblocks.value_parser(value_parser!(u32).range(1..=i64::from(MOST_SUPERBLOCKS))))?
+        .arg(tenants.value_parser(value_parser!(u32).range(1..=i64::from(MOST_TENANTS))))?
         .arg(only.value_parser(value_parser!(u32)).required(false))?
         .arg(file)
 }
@@ -83,8 +86,11 @@ fn settings_of(alloc: Global, matches: &ArgMatches<'_>) -> Result<Settings, Outc
         superblocks: number_of(matches, "superblocks"),
         tenants: number_of(matches, "tenants"),
     };
-    if !is_in_limits(config) {
-        return Err(Outcome::BadLine(String::new(alloc)));
+    if !config.is_bootable() {
+        return Err(bad_line(
+            alloc,
+            "error: a size of the machine is missing or out of its range\n",
+        ));
     }
     let only = match matches.get_one::<u32>("only") {
         None => None,
@@ -108,13 +114,16 @@ fn number_of(matches: &ArgMatches<'_>, name: &str) -> u32
     matches.get_one::<u32>(name).unwrap_or(0)
 }
 
-/// A machine of these sizes can be booted.
-fn is_in_limits(config: Config) -> bool
-    ensures { result ≡ is_bootable config }
+/// A faulty command line, with what is wrong with it.
+pub fn bad_line(alloc: Global, text: &str) -> Outcome
+    ensures refused { IsRefusal result }
+    ensures fails { 2 ≤ status_of result }
+    ensures other { result ≢ Outcome.BadOnly }
 {
-    (3..=8).contains(&config.order)
-        && (1..=64).contains(&config.superblocks)
-        && (1..=16).contains(&config.tenants)
+    match String::from_str(alloc, text) {
+        Ok(text) => Outcome::BadLine(text),
+        Err(_) => Outcome::NoMemory,
+    }
 }
 
 /// What the parser's refusal is told as.

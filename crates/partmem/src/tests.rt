@@ -6,11 +6,16 @@ ghost use Rattle.kernel_core.specs.Booting.{is_bootable};
 use crate::outcome::{Outcome, outcome_of};
 use crate::run::run;
 use crate::settings::{Settings, read_words};
+use crate::{run_from, run_opened, tell};
 use kernel_core::Config;
-use replay_core::{ReplayError, Tally, WriterDrain};
+use replay_core::{ReaderFeed, ReplayError, Tally, WriterDrain};
 use std::alloc::{AllocError, Global};
+use std::cell::RefCell;
+use std::fmt::Display;
 use std::io::{self, ErrorKind, Read, Write};
 use std::test::Fail;
+
+const REPLIES: &[u8] = b"admin> granted 0 slot 0 superblock 0\n0> frame 0\n0> bytes 00000000\n";
 
 const NO_TENANT: Option<&str> = Some("partmem: --only names no tenant");
 
@@ -30,9 +35,9 @@ fn refuses_words(rt: HostRuntime) -> Result<(), Fail> {
     for (line, status, text) in [
         ("--order 2 --superblocks 2 --tenants 2", 2, None),
         ("--order 9 --superblocks 2 --tenants 2", 2, None),
-        ("--order 3 --superblocks 65 --tenants 2", 2, None),
+        ("--order 3 --superblocks 257 --tenants 2", 2, None),
         ("--order 3 --superblocks 0 --tenants 2", 2, None),
-        ("--order 3 --superblocks 2 --tenants 17", 2, None),
+        ("--order 3 --superblocks 2 --tenants 65", 2, None),
         ("--order 3 --superblocks 2", 2, None),
         ("--order 3 --superblocks 2 --tenants 2 --only x", 2, None),
         (
@@ -45,7 +50,7 @@ fn refuses_words(rt: HostRuntime) -> Result<(), Fail> {
             2,
             NO_TENANT,
         ),
-        ("--order 3 --superblocks 2 --tenants 17 --only 300", 2, None),
+        ("--order 3 --superblocks 2 --tenants 65 --only 300", 2, None),
         ("--help", 0, None),
     ] {
         match read(rt.alloc(), line)? {
@@ -65,11 +70,11 @@ fn reads_words(rt: HostRuntime) -> Result<(), Fail> {
     for (line, order, superblocks, tenants, only, file) in [
         ("--order 3 --superblocks 2 --tenants 2", 3, 2, 2, None, None),
         (
-            "--tenants 16 --order 8 --superblocks 64 --only 15",
+            "--tenants 64 --order 8 --superblocks 256 --only 63",
             8,
+            256,
             64,
-            16,
-            Some(15),
+            Some(63),
             None,
         ),
         (
@@ -106,20 +111,13 @@ fn reads_words(rt: HostRuntime) -> Result<(), Fail> {
 #[test]
 fn tells_replays(rt: HostRuntime) {
     let tally = Tally::default();
-    for (replayed, status, text) in [
-        (Ok(tally), 0, None),
-        (Err(ReplayError::Feed(tally)), 1, UNREADABLE),
-        (Err(ReplayError::Drain(tally)), 1, UNWRITABLE),
+    for (replayed, text) in [
+        (Ok(tally), None),
+        (Err(ReplayError::Feed(tally)), UNREADABLE),
+        (Err(ReplayError::Drain(tally)), UNWRITABLE),
     ] {
-        let outcome = outcome_of(&replayed);
-        assert_eq!(rt; outcome.status(), status, "at {replayed:?}");
-        assert_eq!(rt; outcome.text(), text, "at {replayed:?}");
+        assert_eq!(rt; outcome_of(&replayed).text(), text, "at {replayed:?}");
     }
-    assert_eq!(rt; Outcome::NoMemory.status(), 3);
-    assert_eq!(rt;
-        Outcome::NoMemory.text(),
-        Some("partmem: not enough memory")
-    );
 }
 
 /// Gives a byte a read, and fails after so many good reads.
@@ -127,6 +125,14 @@ fn tells_replays(rt: HostRuntime) {
 struct ByteReader<'a> {
     rest: &'a [u8],
     good_reads: u32,
+}
+
+/// Such a reader of a short trace.
+fn reads(good_reads: u32) -> ByteReader<'static> {
+    ByteReader {
+        rest: b"admin grant 0\n0 alloc 0\n0 read 0 4\n",
+        good_reads,
+    }
 }
 
 impl Read for ByteReader<'_> {
@@ -142,13 +148,13 @@ impl Read for ByteReader<'_> {
     }
 }
 
-/// Keeps what it takes, fails where it has no room for it, and counts flushes, which may fail.
+/// Keeps what it takes, fails where it has no room for it, and fails after so many good flushes.
 #[derive(Drop)]
 struct Keeper {
     text: Vec<u8>,
     room: usize,
+    good_flushes: u8,
     flushes: u8,
-    flush_fails: bool,
 }
 
 impl Write for Keeper {
@@ -162,10 +168,10 @@ impl Write for Keeper {
     }
 
     fn flush(&mut self) -> io::Result<()> {
-        self.flushes = self.flushes.saturating_add(1);
-        if self.flush_fails {
+        if self.flushes == self.good_flushes {
             return Err(ErrorKind::Other.into());
         }
+        self.flushes = self.flushes.saturating_add(1);
         Ok(())
     }
 }
@@ -185,46 +191,162 @@ fn small() -> Settings
     }
 }
 
-/// Reads, writes and flushes that fail, at once and in mid-stream: the first failure is told, and what was answered
-/// before is written and flushed.
+/// Reads, writes and flushes that fail, at once and in mid-stream: what was answered before is written and flushed.
 #[test]
 fn ends_fail(rt: HostRuntime) -> Result<(), Fail> {
-    let replies = b"admin> granted 0 slot 0 superblock 0\n0> frame 0\n0> bytes 00000000\n";
-    for (good_reads, room, flush_fails, text, written, flushes) in [
-        (1000, 100, false, None, 66, 1),
-        (0, 100, false, UNREADABLE, 0, 1),
-        (19, 100, false, UNREADABLE, 37, 1),
-        (24, 100, false, UNREADABLE, 48, 1),
-        (19, 100, true, UNREADABLE, 37, 1),
-        (1000, 0, false, UNWRITABLE, 0, 0),
-        (1000, 40, false, UNWRITABLE, 37, 0),
-        (1000, 100, true, UNWRITABLE, 66, 1),
+    for (good_reads, room, good_flushes, text, written, flushes) in [
+        (1000, 100, 9, None, 66, 4),
+        (0, 100, 9, UNREADABLE, 0, 1),
+        (19, 100, 9, UNREADABLE, 37, 2),
+        (24, 100, 9, UNREADABLE, 48, 3),
+        (24, 100, 1, UNREADABLE, 48, 1),
+        (1000, 0, 9, UNWRITABLE, 0, 0),
+        (1000, 40, 9, UNWRITABLE, 37, 1),
+        (1000, 100, 0, UNWRITABLE, 37, 0),
+        (1000, 100, 2, UNWRITABLE, 66, 2),
+        (1000, 100, 3, UNWRITABLE, 66, 3),
     ] {
-        let reader = ByteReader {
-            rest: b"admin grant 0\n0 alloc 0\n0 read 0 4\n",
-            good_reads,
-        };
         let mut keeper = Keeper {
             text: Vec::new(rt.alloc()),
             room,
+            good_flushes,
             flushes: 0,
-            flush_fails,
         };
         let outcome = run(
             rt.alloc(),
             &small(),
-            reader,
+            &mut ReaderFeed::new(reads(good_reads)),
             &mut WriterDrain::new(&mut keeper),
         );
-        assert_eq!(rt; outcome.text(), text, "{good_reads} reads, room for {room}");
-        assert!(rt;
-            keeper.text.as_slice() == &replies[..written],
-            "{good_reads} reads, room for {room}"
+        let at = (good_reads, room, good_flushes);
+        assert_eq!(rt; outcome.text(), text, "at {at:?}");
+        assert!(rt; keeper.text.as_slice() == &REPLIES[..written], "at {at:?}");
+        assert_eq!(rt; keeper.flushes, flushes, "at {at:?}");
+    }
+    Ok(())
+}
+
+/// Standard output and standard error that keep what they are told.
+#[derive(Drop)]
+struct Streams {
+    alloc: Global,
+    output: RefCell<Vec<u8>>,
+    errors: RefCell<Vec<u8>>,
+}
+
+/// Adds a text to what is kept.
+fn keep<D: Display + Drop>(kept: &RefCell<Vec<u8>>, value: D, end: &str) -> io::Result<()> {
+    match kept.try_borrow_mut() {
+        Ok(mut text) => write!(text, "{value}{end}"),
+        Err(_) => Err(ErrorKind::Other.into()),
+    }
+}
+
+impl Print for Streams {
+    fn print<D: Display + Drop>(&self, value: D) -> io::Result<()> {
+        keep(&self.output, value, "")
+    }
+
+    fn println<D: Display + Drop>(&self, value: D) -> io::Result<()> {
+        keep(&self.output, value, "\n")
+    }
+
+    fn write_all(&self, bytes: &[u8]) -> io::Result<()> {
+        match self.output.try_borrow_mut() {
+            Ok(mut text) => Ok(text.extend_from_slice(bytes)?),
+            Err(_) => Err(ErrorKind::Other.into()),
+        }
+    }
+}
+
+impl Eprint for Streams {
+    fn eprint<D: Display + Drop>(&self, value: D) -> io::Result<()> {
+        keep(&self.errors, value, "")
+    }
+
+    fn eprintln<D: Display + Drop>(&self, value: D) -> io::Result<()> {
+        keep(&self.errors, value, "\n")
+    }
+}
+
+impl Alloc for Streams {
+    type A = Global;
+
+    fn alloc(&self) -> Global {
+        self.alloc
+    }
+}
+
+fn no_text(alloc: Global) -> Streams {
+    Streams {
+        alloc,
+        output: RefCell::new(Vec::new(alloc)),
+        errors: RefCell::new(Vec::new(alloc)),
+    }
+}
+
+/// The trace goes from where it was opened to standard output; what could not be opened, for whatever cause, could not be
+/// read.
+#[test]
+fn opens(rt: HostRuntime) -> Result<(), Fail> {
+    let told = no_text(rt.alloc());
+    let outcome = run_opened(&told, &small(), Ok(reads(1000)));
+    assert_eq!(rt; outcome.status(), 0);
+    assert_eq!(rt; told.output.into_inner().as_slice(), REPLIES);
+    for cause in [
+        ErrorKind::NotFound,
+        ErrorKind::PermissionDenied,
+        ErrorKind::OutOfMemory,
+    ] {
+        let told = no_text(rt.alloc());
+        let opened: io::Result<ByteReader<'static>> = Err(cause.into());
+        let outcome = run_opened(&told, &small(), opened);
+        assert_eq!(rt; outcome.text(), UNREADABLE, "at {cause:?}");
+    }
+    let missing = Settings {
+        file: Some(String::from_str(rt.alloc(), "no such file")?),
+        ..small()
+    };
+    assert_eq!(rt; run_from(&rt, &missing).text(), UNREADABLE);
+    Ok(())
+}
+
+/// Help goes to standard output, what is wrong to standard error, and of a trace that is done nothing is told.
+#[test]
+fn tells_outcomes(rt: HostRuntime) -> Result<(), Fail> {
+    let text = String::from_str(rt.alloc(), "wrong\n")?;
+    let help = String::from_str(rt.alloc(), "help\n")?;
+    for (outcome, status, output, errors) in [
+        (Outcome::Done, 0, "", ""),
+        (Outcome::Help(help), 0, "help\n", ""),
+        (
+            Outcome::Unreadable,
+            1,
+            "",
+            "partmem: trace could not be read\n",
+        ),
+        (
+            Outcome::Unwritable,
+            1,
+            "",
+            "partmem: replies could not be written\n",
+        ),
+        (Outcome::BadLine(text), 2, "", "wrong\n"),
+        (Outcome::BadOnly, 2, "", "partmem: --only names no tenant\n"),
+        (Outcome::NoMemory, 3, "", "partmem: not enough memory\n"),
+    ] {
+        let told = no_text(rt.alloc());
+        tell(&told, &outcome);
+        assert_eq!(rt; outcome.status(), status, "at {outcome:?}");
+        assert_eq!(rt;
+            told.output.into_inner().as_slice(),
+            output.as_bytes(),
+            "at {outcome:?}"
         );
         assert_eq!(rt;
-            keeper.flushes,
-            flushes,
-            "{good_reads} reads, room for {room}"
+            told.errors.into_inner().as_slice(),
+            errors.as_bytes(),
+            "at {outcome:?}"
         );
     }
     Ok(())

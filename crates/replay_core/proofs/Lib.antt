@@ -3,5 +3,4 @@ pub mod MoveLemmas
 pub mod OwnLemmas
 pub mod PendingLemmas
 pub mod PushLemmas
-pub mod Reading
 pub mod RunLemmas

@@ -6,11 +6,11 @@ use Rattle.std.proofs.lemmas.List.Quantifiers.{position-Some}
 use Rattle.std.proofs.lemmas.Iterator.Adapters.{position_from-zero}
 use Rattle.std.proofs.lemmas.List.{append-nil}
 use Rattle.words_core.specs.Cutting.{lines_of_trace}
-use Rattle.replay_core.specs.Runs.{onto_ended, ended_lines, with_line_feeds}
+use Rattle.kernel_core.specs.Output.{line_feed, onto_ended, ended_lines, with_line_feeds}
 use Rattle.replay_core.specs.Standing.{IsOneLine, AreLines}
 
 abbrev pub is_line_feed : ℕ → Bool
-is_line_feed b = b == 10
+is_line_feed b = b == line_feed
 
 pub one_line_append : (xs ys : List ℕ) → IsOneLine xs → IsOneLine ys → IsOneLine (xs ++ ys)
 one_line_append [] ys h k = k

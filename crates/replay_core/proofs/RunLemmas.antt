@@ -1,9 +1,9 @@
 -- One more line is run.
-use Rattle.std.proofs.Common.{◌≡◌, ℕ, ◌+◌, ◌<◌, ◌≤◌, true, false, List, [], ◌∷◌, ◌++◌, Result, Ok, Err, Option, Some, None, length, refl, ap, sym, subst, ◌∙◌, arith, append_assoc, length-append}
+use Rattle.std.proofs.Common.{◌≡◌, ℕ, ◌+◌, ◌<◌, ◌≤◌, Bool, true, false, inr, List, [], ◌∷◌, ◌++◌, Result, Ok, Err, Option, Some, None, length, refl, ap, sym, subst, ◌∙◌, arith, append_assoc, length-append}
 use Rattle.std.proofs.lemmas.List.{append-nil, nil_from_length}
-use Rattle.std.specs.Io.KnownBytes.{Appends}
+use Rattle.std.specs.Io.KnownBytes.{Appends, Keeps}
 use Rattle.std.specs.Result.{is_err}
-use Rattle.std.specs.Prelude.{MatchResult}
+use Rattle.std.specs.Prelude.{MatchResult, nat_eq}
 use Rattle.words_core.specs.declared.event.Event.{Event}
 use Rattle.words_core.specs.declared.event.LineFault.{LineFault}
 use Rattle.words_core.specs.declared.reply.Reply.{Reply}
@@ -12,37 +12,46 @@ use Rattle.words_core.specs.declared.reply.Body.TheVariants.{Fault}
 use Rattle.words_core.specs.Cutting.{lines_of_trace}
 use Rattle.words_core.specs.Grammar.{reading_of}
 use Rattle.kernel_core.specs.Limits.{cache_limit}
-use Rattle.kernel_core.specs.World.{World, world_step}
-use Rattle.kernel_core.specs.Output.{reading_step, line_step, lines_step, event_in, events_of}
-use Rattle.kernel_core.specs.Parts.{Parts}
+use Rattle.kernel_core.specs.World.{World, world_step, world_after}
+use Rattle.kernel_core.specs.Output.{event_in, events_of, shown_text, shown_line, shown_lines, with_line_feeds, ended_lines}
+use Rattle.kernel_core.specs.Parts.{Parts, SameSizes}
 use Rattle.kernel_core.specs.Shows.{Shows}
 use Rattle.replay_core.specs.declared.feed.Stopped.{Stopped}
 use Rattle.replay_core.specs.declared.pending.Pending.{Pending}
 use Rattle.replay_core.specs.declared.replaying.Tally.{Tally}
+use Rattle.replay_core.specs.declared.replaying.ReplayError.TheVariants as Of
 use Rattle.replay_core.specs.Pending.{Holds}
-use Rattle.replay_core.specs.Runs.{shown_text, shown_line, shown_lines, fault_in, faults_of, with_line_feeds, ended_lines, Counts, StandsAfter, HasRun, IsCutShort}
+use Rattle.replay_core.specs.Runs.{fault_in, faults_of, Counts, StandsAfter, HasRun, IsCutShort, Replays}
 use Rattle.replay_core.specs.Pushes.{HasPushed}
 use Rattle.replay_core.specs.Standing.{IsOneLine, IsBounded, HasAnswered, Stands, HasStopped}
-use Rattle.replay_core.proofs.MoveLemmas.{appends_nothing, appends_more}
+use Rattle.replay_core.proofs.MoveLemmas.{appends_nothing, appends_more, appends_kept}
 use Rattle.replay_core.proofs.LineLemmas.{one_line_append, lines_append, with_line_feeds_append, with_line_feeds_long, lines_cut, lines_ended, one_line_cut, one_line_unended}
 
-world_more : (limit order : ℕ) (xs : List (List ℕ)) (line : List ℕ) (w : World)
-    → (lines_step limit order (xs ++ line ∷ []) w).world ≡ (line_step limit order line (lines_step limit order xs w).world).world
-world_more limit order [] line w = refl
-world_more limit order (x ∷ xs) line w = world_more limit order xs line (line_step limit order x w).world
+world_both : (limit order : ℕ) (xs ys : List Event) (w : World)
+    → world_after limit order w (xs ++ ys) ≡ world_after limit order (world_after limit order w xs) ys
+world_both limit order [] ys w = refl
+world_both limit order (event ∷ xs) ys w = world_both limit order xs ys (world_step limit order event w).world
 
-shown_more : (only : Option ℕ) (limit order : ℕ) (xs : List (List ℕ)) (line : List ℕ) (w : World)
+events_more : (xs : List (List ℕ)) (line : List ℕ) → events_of (xs ++ line ∷ []) ≡ events_of xs ++ event_in (reading_of line)
+events_more [] line = append-nil _
+events_more (x ∷ xs) line =
+    ap (λ more. event_in (reading_of x) ++ more) (events_more xs line) ∙ sym (append_assoc (event_in (reading_of x)) (events_of xs) _)
+
+world_more : (limit order : ℕ) (xs : List (List ℕ)) (line : List ℕ) (w : World)
+    → world_after limit order w (events_of (xs ++ line ∷ [])) ≡ world_after limit order (world_after limit order w (events_of xs)) (event_in (reading_of line))
+world_more limit order xs line w =
+    ap (world_after limit order w) (events_more xs line) ∙ world_both limit order (events_of xs) (event_in (reading_of line)) w
+
+pub shown_more : (only : Option ℕ) (limit order : ℕ) (xs : List (List ℕ)) (line : List ℕ) (w : World)
     → shown_lines only limit order (xs ++ line ∷ []) w
-    ≡ shown_lines only limit order xs w ++ shown_line only limit order line (lines_step limit order xs w).world
+    ≡ shown_lines only limit order xs w ++ shown_line only limit order line (world_after limit order w (events_of xs))
 shown_more only limit order [] line w = append-nil _
 shown_more only limit order (x ∷ xs) line w =
-    ap (λ more. shown_line only limit order x w ++ more) (shown_more only limit order xs line (line_step limit order x w).world)
+    let next : World = world_after limit order w (event_in (reading_of x)) in
+    ap (λ more. shown_line only limit order x w ++ more)
+    (shown_more only limit order xs line next
+    ∙ ap (λ v. shown_lines only limit order xs next ++ shown_line only limit order line v) (sym (world_both limit order (event_in (reading_of x)) (events_of xs) w)))
     ∙ sym (append_assoc (shown_line only limit order x w) _ _)
-
-events_more : (xs : List (List ℕ)) (line : List ℕ) → length (events_of (xs ++ line ∷ [])) ≡ length (events_of xs) + length (event_in (reading_of line))
-events_more [] line = length-append (event_in (reading_of line)) [] ∙ omega arith
-events_more (x ∷ xs) line =
-    omega (arith, events_more xs line, length-append (event_in (reading_of x)) (events_of (xs ++ line ∷ [])), length-append (event_in (reading_of x)) (events_of xs))
 
 faults_more : (xs : List (List ℕ)) (line : List ℕ) → faults_of (xs ++ line ∷ []) ≡ faults_of xs + fault_in (reading_of line)
 faults_more [] line = omega arith
@@ -54,30 +63,36 @@ counts_more : (tally tally' : Tally) (xs : List (List ℕ)) (line taken more : L
     → Counts tally' (xs ++ line ∷ []) (taken ++ more)
 counts_more tally tally' xs line taken more counts lines events faults written = record {
   lines = omega (arith, lines, counts.lines, length-append xs (line ∷ []));
-  events = omega (arith, events, counts.events, events_more xs line);
+  events = omega (arith, events, counts.events, ap length (events_more xs line), length-append (events_of xs) (event_in (reading_of line)));
   faults = omega (arith, faults, counts.faults, faults_more xs line);
   written = omega (arith, written, counts.written, length-append taken more);
 }
 
-stands_more : (before now next : Parts) (xs : List (List ℕ)) (line : List ℕ) → StandsAfter before now xs → next.order ≡ now.order
-    → ((w : World) → Shows now w → Shows next (reading_step cache_limit now.order (reading_of line) w).world)
+same_sizes : (k : Parts) → SameSizes k k
+same_sizes k = record { order = refl; superblocks = refl; tenants = refl }
+
+stands_more : (before now next : Parts) (xs : List (List ℕ)) (line : List ℕ) → StandsAfter before now xs → SameSizes now next
+    → ((w : World) → Shows now w → Shows next (world_after cache_limit now.order w (event_in (reading_of line))))
     → StandsAfter before next (xs ++ line ∷ [])
-unfolding line_step
 stands_more before now next xs line stands same shows = record {
-  order = same ∙ stands.order;
+  sizes = record {
+    order = same.order ∙ stands.sizes.order;
+    superblocks = same.superblocks ∙ stands.sizes.superblocks;
+    tenants = same.tenants ∙ stands.sizes.tenants;
+  };
   shows = λ w before_shows.
       subst (λ v. Shows next v) (sym (world_more cache_limit before.order xs line w))
-      (subst (λ order. Shows next (reading_step cache_limit order (reading_of line) (lines_step cache_limit before.order xs w).world).world) stands.order
+      (subst (λ order. Shows next (world_after cache_limit order (world_after cache_limit before.order w (events_of xs)) (event_in (reading_of line)))) stands.sizes.order
       (shows _ (stands.shows w before_shows)));
 }
 
 -- what the line shows in the world that the lines before it left
 shown_here : (only : Option ℕ) (before now : Parts) (xs : List (List ℕ)) (line text : List ℕ) → StandsAfter before now xs
     → ((w : World) → Shows now w → shown_line only cache_limit now.order line w ≡ text)
-    → (w : World) → Shows before w → shown_line only cache_limit before.order line (lines_step cache_limit before.order xs w).world ≡ text
+    → (w : World) → Shows before w → shown_line only cache_limit before.order line (world_after cache_limit before.order w (events_of xs)) ≡ text
 shown_here only before now xs line text stands shown w before_shows =
-    ap (λ order. shown_line only cache_limit order line (lines_step cache_limit before.order xs w).world) (sym stands.order)
-    ∙ shown (lines_step cache_limit before.order xs w).world (stands.shows w before_shows)
+    ap (λ order. shown_line only cache_limit order line (world_after cache_limit before.order w (events_of xs))) (sym stands.sizes.order)
+    ∙ shown (world_after cache_limit before.order w (events_of xs)) (stands.shows w before_shows)
 
 -- the line is answered in full
 run_more : (only : Option ℕ) (before now next : Parts) (xs : List (List ℕ)) (line taken : List ℕ) (old new : Option (List ℕ)) (tally tally' : Tally)
@@ -85,11 +100,11 @@ run_more : (only : Option ℕ) (before now next : Parts) (xs : List (List ℕ)) 
     → (answered : HasAnswered only (reading_of line) now next old new tally tally' (Ok tt))
     → HasRun only before next (xs ++ line ∷ []) (taken ++ answered.taken) tally'
 run_more only before now next xs line taken old new tally tally' ran answered = record {
-  stands = stands_more before now next xs line ran.stands answered.order answered.shows;
+  stands = stands_more before now next xs line ran.stands answered.sizes answered.shows;
   shown = λ w before_shows.
       ap (λ more. taken ++ more) (sym (shown_here only before now xs line answered.taken ran.stands
       (λ v shows. answered.shown v shows ∙ ap (λ more. answered.taken ++ more) answered.whole ∙ append-nil answered.taken) w before_shows))
-      ∙ ap (λ sofar. sofar ++ shown_line only cache_limit before.order line (lines_step cache_limit before.order xs w).world) (ran.shown w before_shows)
+      ∙ ap (λ sofar. sofar ++ shown_line only cache_limit before.order line (world_after cache_limit before.order w (events_of xs))) (ran.shown w before_shows)
       ∙ sym (shown_more only cache_limit before.order xs line w);
   counted = counts_more tally tally' xs line taken answered.taken ran.counted answered.lines answered.events answered.faults answered.written;
 }
@@ -100,7 +115,7 @@ cut_short : (only : Option ℕ) (before now next : Parts) (xs : List (List ℕ))
     → (answered : HasAnswered only (reading_of line) now next old new tally tally' (Err stopped))
     → IsCutShort only before next xs line (taken ++ answered.taken) tally'
 cut_short only before now next xs line taken old new tally tally' stopped ran answered = record {
-  stands = stands_more before now next xs line ran.stands answered.order answered.shows;
+  stands = stands_more before now next xs line ran.stands answered.sizes answered.shows;
   shown = λ w before_shows. (
     answered.taken,
     answered.rest,
@@ -124,7 +139,7 @@ stands_first only k known pending tally holds lines events faults written = reco
   unended = tt;
   holds = holds;
   ran = record {
-    stands = record { order = refl; shows = λ w shows. shows };
+    stands = record { sizes = same_sizes k; shows = λ w shows. shows };
     shown = λ w shows. refl;
     counted = record { lines = lines; events = events; faults = faults; written = written };
   };
@@ -133,6 +148,21 @@ stands_first only k known pending tally holds lines events faults written = reco
 
 pub bounded_first : (tally : Tally) → tally.lines ≡ 0 → tally.events ≡ 0 → tally.faults ≡ 0 → tally.written ≡ 0 → IsBounded tally
 bounded_first tally lines events faults written = record { events = omega arith; faults = omega arith; written = omega arith }
+
+-- the drain has sent what it had taken
+pub stands_sent : (only : Option ℕ) (before now : Parts) (given rest : List ℕ) (start old new : Option (List ℕ)) (pending : Pending) (tally : Tally)
+    → Stands only before now given rest start old pending tally → Keeps old new → Stands only before now given rest start new pending tally
+stands_sent only before now given rest start old new pending tally stands kept = record {
+  done = stands.done;
+  tail = stands.tail;
+  taken = stands.taken;
+  split = stands.split;
+  ended = stands.ended;
+  unended = stands.unended;
+  holds = stands.holds;
+  ran = stands.ran;
+  appended = appends_kept start old new stands.taken stands.appended kept;
+}
 
 -- a pull gave more
 pub stands_given : (only : Option ℕ) (before now : Parts) (given more : List ℕ) (start contents : Option (List ℕ)) (pending : Pending) (tally : Tally)
@@ -202,10 +232,10 @@ stopped_within only before now next given rest part after start old new pending 
     let answered = subst (λ r. HasAnswered only r now next old new tally tally' (Err stopped)) is said in record {
       done = stands.done;
       line = stands.tail ++ part;
-      rest = lines_of_trace after;
+      rest = ended_lines after;
       taken = stands.taken ++ answered.taken;
-      split = ap lines_of_trace (split_more stands.done stands.tail given rest part after stands.split cut)
-          ∙ lines_cut (stands.done ++ (stands.tail ++ part) ∷ []) after
+      split = ap ended_lines (split_more stands.done stands.tail given rest part after stands.split cut)
+          ∙ lines_ended (stands.done ++ (stands.tail ++ part) ∷ []) after
           (lines_append stands.done (stands.tail ++ part) stands.ended (one_line_append stands.tail part stands.unended one));
       cut = cut_short only before now next stands.done (stands.tail ++ part) stands.taken old new tally tally' stopped stands.ran answered;
       appended = appends_more start old new stands.taken answered.taken stands.appended answered.appended;
@@ -267,29 +297,33 @@ last_is_done only before now next given start old new pending tally tally' stand
     )
 
 -- the drain failed within its answer
-pub stopped_at_last : (only : Option ℕ) (before now next : Parts) (given : List ℕ) (start old new : Option (List ℕ)) (pending : Pending) (tally tally' : Tally) (stopped : Stopped)
+pub stopped_at_last : (ended : Bool) (only : Option ℕ) (before now next : Parts) (given : List ℕ) (start old new : Option (List ℕ)) (pending : Pending) (tally tally' : Tally) (stopped : Stopped)
     → (stands : Stands only before now given [] start old pending tally) (reading : Result (Option Event) LineFault) → 0 < length stands.tail → reading ≡ reading_of stands.tail
-    → HasAnswered only reading now next old new tally tally' (Err stopped)
-    → HasStopped only before next given start new tally'
-stopped_at_last only before now next given start old new pending tally tally' stopped stands reading some is said =
-    let answered = subst (λ r. HasAnswered only r now next old new tally tally' (Err stopped)) is said in record {
-      done = stands.done;
-      line = stands.tail;
-      rest = [];
-      taken = stands.taken ++ answered.taken;
-      split = last_cut only before now given start old pending tally stands some ∙ sym (append-nil _);
-      cut = cut_short only before now next stands.done stands.tail stands.taken old new tally tally' stopped stands.ran answered;
-      appended = appends_more start old new stands.taken answered.taken stands.appended answered.appended;
-    }
+    → HasAnswered only reading now next old new tally tally' (Err stopped) → ended ≡ true
+    → (taken : List ℕ) × Appends start new taken × Replays ended only before next given taken (Err (Of.Drain tally'))
+stopped_at_last ended only before now next given start old new pending tally tally' stopped stands reading some is said over =
+    let answered = subst (λ r. HasAnswered only r now next old new tally tally' (Err stopped)) is said in (
+      stands.taken ++ answered.taken,
+      appends_more start old new stands.taken answered.taken stands.appended answered.appended,
+      (
+        stands.done,
+        stands.tail,
+        inr (over, last_cut only before now given start old pending tally stands some),
+        cut_short only before now next stands.done stands.tail stands.taken old new tally tally' stopped stands.ran answered,
+      ),
+    )
+
+-- the answer 0 is the end
+pub ended_at : (ended : Bool) (count : ℕ) → ended ≡ nat_eq count 0 → count ≡ 0 → ended ≡ true
+ended_at ended count is none = is ∙ ap (λ n. nat_eq n 0) none
 
 -- a blank line or a comment shows nothing
 pub answered_nothing : (only : Option ℕ) (k : Parts) (known : Option (List ℕ)) (tally : Tally)
     → HasAnswered only (Ok None) k k known known tally (record tally { lines = tally.lines + 1 }) (Ok tt)
-unfolding reading_step
 answered_nothing only k known tally = record {
   taken = [];
   rest = [];
-  order = refl;
+  sizes = same_sizes k;
   shows = λ w shows. shows;
   shown = λ w shows. refl;
   appended = appends_nothing known;
@@ -302,15 +336,14 @@ answered_nothing only k known tally = record {
 
 -- an event shows its reply
 pub answered_event : (only : Option ℕ) (event : Event) (now next : Parts) (old new : Option (List ℕ)) (tally : Tally) (written : ℕ) (reply : Reply) (result : Result (Unit {0}) Stopped)
-    → next.order ≡ now.order → ((w : World) → Shows now w → Shows next (world_step cache_limit now.order event w).world)
+    → SameSizes now next → ((w : World) → Shows now w → Shows next (world_step cache_limit now.order event w).world)
     → ((w : World) → Shows now w → reply ≡ (world_step cache_limit now.order event w).reply)
     → HasPushed old new (shown_text only reply) tally.written written result
     → HasAnswered only (Ok (Some event)) now next old new tally (record tally { lines = tally.lines + 1; events = tally.events + 1; written = written }) result
-unfolding reading_step
-answered_event only event now next old new tally written reply result order shows said pushed = record {
+answered_event only event now next old new tally written reply result sizes shows said pushed = record {
   taken = pushed.taken;
   rest = pushed.rest;
-  order = order;
+  sizes = sizes;
   shows = shows;
   shown = λ w before_shows. ap (shown_text only) (sym (said w before_shows)) ∙ pushed.split;
   appended = pushed.appended;
@@ -325,11 +358,10 @@ answered_event only event now next old new tally written reply result order show
 pub answered_fault : (only : Option ℕ) (fault : LineFault) (k : Parts) (old new : Option (List ℕ)) (tally : Tally) (written : ℕ) (result : Result (Unit {0}) Stopped)
     → HasPushed old new (shown_text only (record { addressee = Nobody; body = Fault fault })) tally.written written result
     → HasAnswered only (Err fault) k k old new tally (record tally { lines = tally.lines + 1; faults = tally.faults + 1; written = written }) result
-unfolding reading_step
 answered_fault only fault k old new tally written result pushed = record {
   taken = pushed.taken;
   rest = pushed.rest;
-  order = refl;
+  sizes = same_sizes k;
   shows = λ w shows. shows;
   shown = λ w shows. pushed.split;
   appended = pushed.appended;

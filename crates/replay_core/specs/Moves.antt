@@ -1,6 +1,13 @@
--- How many bytes a pull gave.
-use Rattle.std.specs.Prelude.{ℕ, Result, Ok, Err}
+-- What a pull gives, and what is left.
+use Rattle.std.specs.Prelude.{ℕ, List, [], ◌∷◌, Option, Some, None, Result, Ok, Err}
+use Rattle.std.specs.Io.KnownBytes.{prepend_known}
 
+-- how many bytes it gave
 abbrev pub moved : {E : Type 0} → Result ℕ E → ℕ
 moved (Ok n) = n
 moved (Err e) = 0
+
+-- the bytes that a reader still has, behind one that was read and not given
+abbrev pub put_back : Option ℕ → Option (List ℕ) → Option (List ℕ)
+put_back None known = known
+put_back (Some b) known = prepend_known (b ∷ []) known

@@ -1,7 +1,13 @@
 -- What becomes of bytes that are offered to a drain.
-use Rattle.std.specs.Prelude.{◌≡◌, ℕ, ◌+◌, ◌<◌, List, [], ◌++◌, length, Option, Result, MatchResult}
+use Rattle.std.specs.Prelude.{◌≡◌, ℕ, ◌+◌, ◌*◌, ◌<◌, List, [], ◌++◌, length, Option, Result, MatchResult}
 use Rattle.std.specs.Io.KnownBytes.{Appends}
+use Rattle.words_core.specs.declared.text.TheConstants.{MOST_ROWS}
+use Rattle.words_core.specs.declared.put.TheConstants.{MOST_REPLY_BYTES}
 use Rattle.replay_core.specs.declared.feed.Stopped.{Stopped}
+
+-- no reply has more bytes: the owners of all superblocks, with a line in front of them, of at most 256 bytes each
+abbrev pub most_reply_bytes : ℕ
+most_reply_bytes = MOST_ROWS * MOST_REPLY_BYTES
 
 -- all of it was taken, or a beginning of it that is not the whole
 abbrev pub IsWholeAtOk : Result (Unit {0}) Stopped → List ℕ → Type 0

@@ -3,41 +3,40 @@ use Rattle.std.specs.Prelude.{◌≡◌, ℕ, ◌+◌, ◌*◌, ◌≤◌, ◌==
 use Rattle.std.specs.Io.KnownBytes.{Appends}
 use Rattle.words_core.specs.declared.event.Event.{Event}
 use Rattle.words_core.specs.declared.event.LineFault.{LineFault}
-use Rattle.words_core.specs.Cutting.{lines_of_trace}
-use Rattle.kernel_core.specs.Parts.{Parts}
+use Rattle.kernel_core.specs.Parts.{Parts, SameSizes}
 use Rattle.kernel_core.specs.Shows.{Shows}
 use Rattle.kernel_core.specs.Limits.{cache_limit}
-use Rattle.kernel_core.specs.World.{World}
-use Rattle.kernel_core.specs.Output.{event_in, reading_step}
+use Rattle.kernel_core.specs.World.{World, world_after}
+use Rattle.kernel_core.specs.Output.{event_in, shown_reading, ended_lines, line_feed, with_line_feeds}
 use Rattle.replay_core.specs.declared.feed.Stopped.{Stopped}
 use Rattle.replay_core.specs.declared.pending.Pending.{Pending}
 use Rattle.replay_core.specs.declared.replaying.Tally.{Tally}
 use Rattle.replay_core.specs.Pending.{Holds}
-use Rattle.replay_core.specs.Pushes.{IsWholeAtOk}
-use Rattle.replay_core.specs.Runs.{shown_reading, fault_in, with_line_feeds, HasRun, IsCutShort}
+use Rattle.replay_core.specs.Pushes.{most_reply_bytes, IsWholeAtOk}
+use Rattle.replay_core.specs.Runs.{fault_in, HasRun, IsCutShort}
 
 -- no LF is among the bytes
 abbrev pub IsOneLine : List ℕ → Type 0
 IsOneLine [] = Unit {0}
-IsOneLine (b ∷ bytes) = ((b == 10) ≡ false) × IsOneLine bytes
+IsOneLine (b ∷ bytes) = ((b == line_feed) ≡ false) × IsOneLine bytes
 
 abbrev pub AreLines : List (List ℕ) → Type 0
 AreLines [] = Unit {0}
 AreLines (line ∷ lines) = IsOneLine line × AreLines lines
 
--- no line counts twice, and none has more than 65 replies of 256 bytes
+-- no line counts twice, and each has one reply at most
 pub record IsBounded (tally : Tally) : Type 0 where
   pub events : tally.events ≤ tally.lines
   pub faults : tally.faults ≤ tally.lines
-  pub written : tally.written ≤ 16640 * tally.lines
+  pub written : tally.written ≤ most_reply_bytes * tally.lines
 
 -- a line with this reading has been run; what it shows was taken, or a beginning
 pub record HasAnswered (only : Option ℕ) (reading : Result (Option Event) LineFault) (before after : Parts)
     (old new : Option (List ℕ)) (tally tally' : Tally) (result : Result (Unit {0}) Stopped) : Type 0 where
   pub taken : List ℕ
   pub rest : List ℕ
-  pub order : after.order ≡ before.order
-  pub shows : (w : World) → Shows before w → Shows after (reading_step cache_limit before.order reading w).world
+  pub sizes : SameSizes before after
+  pub shows : (w : World) → Shows before w → Shows after (world_after cache_limit before.order w (event_in reading))
   pub shown : (w : World) → Shows before w → shown_reading only cache_limit before.order reading w ≡ taken ++ rest
   pub appended : Appends old new taken
   pub whole : IsWholeAtOk result rest
@@ -59,12 +58,12 @@ pub record Stands (only : Option ℕ) (before now : Parts) (given rest : List �
   pub ran : HasRun only before now done taken tally
   pub appended : Appends start contents taken
 
--- The drain failed in the reply to a line.
+-- The drain failed in the reply to a line that ended.
 pub record HasStopped (only : Option ℕ) (before now : Parts) (given : List ℕ) (start contents : Option (List ℕ)) (tally : Tally) : Type 0 where
   pub done : List (List ℕ)
   pub line : List ℕ
   pub rest : List (List ℕ)
   pub taken : List ℕ
-  pub split : lines_of_trace given ≡ (done ++ line ∷ []) ++ rest
+  pub split : ended_lines given ≡ (done ++ line ∷ []) ++ rest
   pub cut : IsCutShort only before now done line taken tally
   pub appended : Appends start contents taken

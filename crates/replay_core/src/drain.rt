@@ -1,5 +1,5 @@
 ghost use Rattle.std.specs.Prelude.{◌≡◌, ℕ, ◌<◌, ◌≤◌, Bool, false, List, Option, None, length, IfOk, is_err};
-ghost use Rattle.std.specs.Io.KnownBytes.{WriteAppends};
+ghost use Rattle.std.specs.Io.KnownBytes.{Keeps, WriteAppends};
 
 use crate::feed::Stopped;
 
@@ -17,6 +17,13 @@ pub trait Drain {
         ensures count { IfOk result (λ n. (0 < n) × (n ≤ length bytes.now)) }
         ensures bytes { WriteAppends (contents self.old) (contents self.new) result bytes.now }
         ensures failed { has_failed self.new ≡ is_err result };
+
+    /// Hands on what was pushed and is still held back, before what may be a long wait. Tells no failure: where it
+    /// fails, so does the next push.
+    fn send(&mut self)
+        ensures bytes { Keeps (contents self.old) (contents self.new) }
+        ensures failed { has_failed self.new ≡ has_failed self.old }
+    {}
 
     /// A push has failed.
     fn failed(&self) -> bool

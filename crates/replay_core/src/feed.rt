@@ -1,4 +1,4 @@
-ghost use Rattle.std.specs.Prelude.{◌≡◌, ℕ, ◌+◌, ◌<◌, ◌≤◌, ◌==◌, Bool, true, false, List, Option, None, length, IfOk, OnErr, is_err};
+ghost use Rattle.std.specs.Prelude.{◌≡◌, ℕ, ◌+◌, ◌<◌, ◌≤◌, ◌==◌, Bool, true, false, List, Option, None, Ok, length, IfOk, OnErr, is_err};
 ghost use Rattle.std.specs.Io.KnownBytes.{ReadConsumes};
 ghost use Rattle.replay_core.specs.Moves.{moved};
 
@@ -8,7 +8,7 @@ pub struct Stopped;
 
 /// Where a trace comes from, a piece at a time.
 pub trait Feed {
-    // The bytes that pulls will give from here on, where they are known.
+    // The bytes that it still has, where they are known: it gives them in turn, and all of them before the end.
     ghost remaining: { Self → Option (List ℕ) } = { λ _. None };
 
     // The bytes that it will give at most.
@@ -18,7 +18,7 @@ pub trait Feed {
 
     ghost has_failed: { Self → Bool };
 
-    /// Fills the first bytes of `into` and answers how many, at most `room`; 0 is the end, and stays so.
+    /// Fills the first bytes of `into` and answers how many, at most `room`; 0 is the end, and from then on the answer.
     fn pull(&mut self, into: &mut [u8]) -> Result<usize, Stopped>
         requires space { 0 < length into.old }
         requires fine { has_failed self.old ≡ false }
@@ -26,7 +26,7 @@ pub trait Feed {
         ensures room { room_left self.new + moved result ≡ room_left self.old }
         ensures bytes { ReadConsumes (remaining self.old) (remaining self.new) result into.new }
         ensures ended { IfOk result (λ n. has_ended self.new ≡ (n == 0)) }
-        ensures stays { has_ended self.old ≡ true → moved result ≡ 0 }
+        ensures stays { has_ended self.old ≡ true → result ≡ Ok 0 }
         ensures not_yet { OnErr result (has_ended self.new ≡ has_ended self.old) }
         ensures failed { has_failed self.new ≡ is_err result };
 

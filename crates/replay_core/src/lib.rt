@@ -15,6 +15,3 @@ pub use feed::{Feed, Stopped};
 pub use reader_feed::ReaderFeed;
 pub use replaying::{ReplayError, Tally, replay};
 pub use writer_drain::WriterDrain;
-
-#[cfg(test)]
-mod tests;

@@ -1,9 +1,9 @@
 //! Replies into a drain.
 
-ghost use Rattle.std.specs.Prelude.{◌≡◌, ◌+◌, ◌<◌, ◌≤◌, false, is_err, length};
+ghost use Rattle.std.specs.Prelude.{◌≡◌, ◌+◌, ◌^◌, ◌<◌, ◌≤◌, false, is_err, length};
 ghost use Rattle.words_core.specs.Texts.{text_of};
-ghost use Rattle.replay_core.specs.Pushes.{HasPushed};
-ghost use Rattle.replay_core.specs.Runs.{is_shown, shown_text};
+ghost use Rattle.replay_core.specs.Pushes.{most_reply_bytes, HasPushed};
+ghost use Rattle.kernel_core.specs.Output.{is_shown, shown_text};
 
 use crate::drain::Drain;
 use crate::feed::Stopped;
@@ -49,9 +49,9 @@ pub fn show<D: Drain>(
     written: &mut u128,
 ) -> Result<(), Stopped>
     requires fine { D.has_failed drain.old ≡ false }
-    requires room { written.old + 16640 < 340282366920938463463374607431768211456 }
+    requires room { written.old + most_reply_bytes < 2 ^ 128 }
     ensures pushed { HasPushed (D.contents drain.old) (D.contents drain.new) (shown_text only scratch.old.reply) written.old written.new result }
-    ensures few { written.new ≤ written.old + 16640 }
+    ensures few { written.new ≤ written.old + most_reply_bytes }
     ensures failed { D.has_failed drain.new ≡ is_err result }
 {
     if is_shown(only, scratch.reply.addressee) {
@@ -69,9 +69,9 @@ fn push_reply<D: Drain>(
     written: &mut u128,
 ) -> Result<(), Stopped>
     requires fine { D.has_failed drain.old ≡ false }
-    requires room { written.old + 16640 < 340282366920938463463374607431768211456 }
+    requires room { written.old + most_reply_bytes < 2 ^ 128 }
     ensures pushed { HasPushed (D.contents drain.old) (D.contents drain.new) (text_of reply.now) written.old written.new result }
-    ensures few { written.new ≤ written.old + 16640 }
+    ensures few { written.new ≤ written.old + most_reply_bytes }
     ensures failed { D.has_failed drain.new ≡ is_err result }
 {
     for row in 0..rows(reply) {
@@ -84,7 +84,7 @@ fn push_reply<D: Drain>(
 /// Pushes all of the bytes, the rest again after a push that took less, and counts those that were taken.
 fn push_all<D: Drain>(bytes: &[u8], drain: &mut D, written: &mut u128) -> Result<(), Stopped>
     requires fine { D.has_failed drain.old ≡ false }
-    requires room { written.old + length bytes.now < 340282366920938463463374607431768211456 }
+    requires room { written.old + length bytes.now < 2 ^ 128 }
     ensures pushed { HasPushed (D.contents drain.old) (D.contents drain.new) bytes.now written.old written.new result }
     ensures failed { D.has_failed drain.new ≡ is_err result }
 {

@@ -1,7 +1,8 @@
 //! The replay of a trace.
 
-ghost use Rattle.std.specs.Prelude.{◌≡◌, ℕ, ◌+◌, ◌<◌, ◌≤◌, ◌==◌, false, List, [], Option, length, position, is_err, IfSome, OnOk, MatchResult};
-ghost use Rattle.std.specs.Io.KnownBytes.{Consumes, Appends};
+ghost use Rattle.std.specs.Prelude.{◌≡◌, ℕ, ◌+◌, ◌^◌, ◌<◌, ◌≤◌, ◌==◌, true, false, List, [], Option, length, position, is_err, IfSome, OnOk, MatchResult};
+ghost use Rattle.std.specs.Io.KnownBytes.{Consumes, Appends, IsAtEnd};
+ghost use Rattle.kernel_core.specs.Output.{line_feed};
 ghost use Rattle.kernel_core.specs.Parts.{Parts};
 ghost use Rattle.replay_core.specs.Runs.{Replays, HasOwnLines, IsDone, NamesFailed};
 ghost use Rattle.replay_core.specs.Standing.{IsBounded, HasAnswered, Stands, HasStopped};
@@ -15,7 +16,7 @@ use thiserror::Error;
 use words_core::{Addressee, Body, Event, LineFault};
 
 /// How many bytes are asked for in one pull.
-const PIECE_BYTES: usize = 4096;
+const PIECE_BYTES: usize = 65_536;
 
 /// What a replay has done so far.
 #[derive(Clone, Copy, Debug, Default, PartialEq, Eq)]
@@ -44,8 +45,8 @@ pub enum ReplayError {
 /// Runs the trace that the feed gives on the kernel, and pushes the replies into the drain: with `only` those to that
 /// tenant alone, else all.
 ///
-/// Lines are cut at LF wherever the pieces end, and a last line needs none. Each is answered as soon as it has come.
-/// Allocates nothing.
+/// Lines are cut at LF wherever the pieces end, and a last line needs none. Each is answered as soon as it has come, and
+/// the drain sends what was pushed before the feed is asked for more. Allocates nothing.
 pub fn replay<F: Feed, D: Drain>(
     kernel: &mut Kernel,
     feed: &mut F,
@@ -59,14 +60,16 @@ pub fn replay<F: Feed, D: Drain>(
     ensures ran { (given : List ℕ) × (taken : List ℕ)
         × Consumes (F.remaining feed.old) (F.remaining feed.new) given
         × Appends (D.contents drain.old) (D.contents drain.new) taken
-        × Replays only kernel.old kernel.new given taken result
+        × Replays (F.has_ended feed.new) only kernel.old kernel.new given taken result
         × OnOk result (HasOwnLines only kernel.old given taken)
         × (F.room_left feed.new + length given ≡ F.room_left feed.old) }
     ensures ended { IsDone result (F.has_ended feed.new) }
+    // Then what was given is all that it had.
+    ensures whole { F.has_ended feed.new ≡ true → IsAtEnd (F.remaining feed.new) }
     ensures failed { NamesFailed result (F.has_failed feed.new) (D.has_failed drain.new) }
 {
     laws::own_lines();
-    laws::own_run();
+    laws::own_shown();
     // The texts of tenants' numbers, and the counts: each line has a byte at least.
     let _tenants = kernel.tenants();
     let _room = feed.room();
@@ -75,6 +78,7 @@ pub fn replay<F: Feed, D: Drain>(
     let mut scratch = Scratch::new();
     let mut piece = [0; PIECE_BYTES];
     'pulls: loop {
+        drain.send();
         let Ok(count) = feed.pull(&mut piece) else {
             return Err(ReplayError::Feed(tally));
         };
@@ -122,7 +126,7 @@ fn run_piece<D: Drain>(
 ) -> Result<(), Stopped>
     requires fine { D.has_failed drain.old ≡ false }
     requires bounded { IsBounded tally.old }
-    requires lines { tally.old.lines + length piece.now < 18446744073709551616 }
+    requires lines { tally.old.lines + length piece.now < 2 ^ 64 }
     ensures ran { (before : Parts) (given : List ℕ) (start : Option (List ℕ))
         → Stands only before kernel.old given piece.now start (D.contents drain.old) pending.old tally.old
         → MatchResult result
@@ -143,7 +147,7 @@ fn run_piece<D: Drain>(
 
 /// Where the first LF stands.
 fn line_end(bytes: &[u8]) -> Option<usize>
-    ensures at { result ≡ position (λ b. b == 10) bytes.now }
+    ensures at { result ≡ position (λ b. b == line_feed) bytes.now }
     ensures within { IfSome result (λ end. end < length bytes.now) }
 {
     bytes.iter().position(|byte| *byte == b'\n')
@@ -160,7 +164,7 @@ fn answer<D: Drain>(
 ) -> Result<(), Stopped>
     requires fine { D.has_failed drain.old ≡ false }
     requires bounded { IsBounded tally.old }
-    requires more { tally.old.lines < 18446744073709551615 }
+    requires more { tally.old.lines + 1 < 2 ^ 64 }
     ensures answered { HasAnswered only reading kernel.old kernel.new (D.contents drain.old) (D.contents drain.new)
         tally.old tally.new result }
     ensures bounded { IsBounded tally.new }

@@ -1,18 +1,21 @@
 -- A grant and a take-back keep what is true of every space.
-use Rattle.std.proofs.Common.{◌≡◌, ◌≢◌, ℕ, ◌<◌, Bool, true, false, List, [], Option, Some, None, is_some, length, get_or, replicate, sym, ◌∙◌, ap, inl, inr, refl, arith}
+use Rattle.std.proofs.Common.{◌≡◌, ◌≢◌, ℕ, ◌<◌, Bool, true, false, List, [], Option, Some, None, is_some, length, get_or, replicate, sym, ◌∙◌, ap, subst, inl, inr, refl, arith}
 use Rattle.std.proofs.Math.ListN.{set}
 use Rattle.std.specs.Prelude.{◌||◌, ◌==◌, if◌then◌else◌}
-use Rattle.std.proofs.lemmas.List.{get_or-set_same, get_or-set_other, set-get_or, length-set, length-replicate, get_or_past}
+use Rattle.std.proofs.lemmas.List.{get_or-set_same, get_or-set_other, set-get_or, set-set, length-set, length-replicate, get_or_past}
 use Rattle.std.proofs.lemmas.Bool.{cases_lt, cases_eq}
 use Rattle.std.proofs.lemmas.Bool.Decides.{nat_tests}
-use Rattle.space_core.specs.Content.{Content, IsSpace, owner_at, mark_at, row_of, superblock_at, is_of}
-use Rattle.space_core.specs.Changes.{granted, taken_back}
+use Rattle.model_core.specs.declared.owner.Owner.{Owner}
+use Rattle.model_core.specs.Owners.{owned_by, is_of}
+use Rattle.space_core.specs.Content.{Content, IsSpace, bank, owner_at, mark_at, row_of, superblock_at}
+use Rattle.space_core.specs.Changes.{with_slot, granted, taken_back, moved}
 use Rattle.space_core.specs.Storage.{shown, scrubbed, readied}
 use Rattle.space_core.specs.Laws.{IsApart}
-use Rattle.space_core.proofs.Banks.{after-set}
+use Rattle.space_core.proofs.Banks.{after-set, with_bank, with_bank-IsSpace}
 use Rattle.space_core.proofs.Stored.{shown-set, or_zeros-zeros}
 use Rattle.space_core.proofs.Mapping.{within_from_some, superblock-lt}
-use Rattle.space_core.proofs.Mapped.{length-row_of-with_slot, counted-set, agree-set}
+use Rattle.space_core.proofs.Reading.{not_unowned}
+use Rattle.space_core.proofs.Mapped.{superblock_at-with_slot, length-row_of-with_slot, counted-set, agree-set}
 
 -- only a tenant has a slot with something under it
 pub tenant-lt : (slots : List (List (Option ℕ))) (t u m : ℕ) → superblock_at slots t u ≡ Some m → t < length slots
@@ -22,14 +25,14 @@ tenant-lt slots t u m under =
       | inr past ↦ let none = ap (λ (row : List (Option ℕ)). get_or row u None) (get_or_past slots t [] past) in absurd (cc)
     ]
 
-pub is_of_self : (t u : ℕ) → is_of t (Some (t, u)) ≡ true
+pub is_of_self : (t u : ℕ) → is_of t (Some (owned_by t u)) ≡ true
 is_of_self t u = grind (arith, nat_tests)
 
-is_of_other : (t u k : ℕ) → k ≢ t → is_of k (Some (t, u)) ≡ false
+is_of_other : (t u k : ℕ) → k ≢ t → is_of k (Some (owned_by t u)) ≡ false
 is_of_other t u k differ = grind (arith, nat_tests)
 
-pub same_parts : (k v t u : ℕ) → (let p : Option (ℕ × ℕ) = Some (k, v) in p) ≡ Some (t, u) → (k ≡ t) × (v ≡ u)
-same_parts k v t u e = let q : (let p : ℕ × ℕ = (k, v) in p) ≡ (t, u) = cc in (ap (λ (p : ℕ × ℕ). p.0) q, ap (λ (p : ℕ × ℕ). p.1) q)
+pub same_parts : (k v t u : ℕ) → (let p : Option Owner = Some (owned_by k v) in p) ≡ Some (owned_by t u) → (k ≡ t) × (v ≡ u)
+same_parts k v t u e = let q : owned_by k v ≡ owned_by t u = cc in (ap (λ (o : Owner). o.tenant) q, ap (λ (o : Owner). o.slot) q)
 
 pub taken_back-IsSpace : {s : Content} → IsSpace s → (t u m : ℕ) → superblock_at s.slots t u ≡ Some m → IsSpace (taken_back s t u m)
 taken_back-IsSpace {s} facts t u m under =
@@ -59,7 +62,7 @@ taken_back-IsSpace {s} facts t u m under =
 
 pub granted-IsSpace : {s : Content} → IsSpace s → (t u m : ℕ) → t < length s.slots → u < length s.owners → m < length s.owners → superblock_at s.slots t u ≡ None → owner_at s.owners m ≡ None → IsSpace (granted s t u m)
 granted-IsSpace {s} facts t u m tenant slot within vacant unowned =
-    let o : Option (ℕ × ℕ) = Some (t, u) in
+    let o : Option Owner = Some (owned_by t u) in
     let zeroes : List ℕ = replicate s.unit 0 in
     let row = set (row_of s.slots t) u (Some m) in
     record {
@@ -78,6 +81,36 @@ granted-IsSpace {s} facts t u m tenant slot within vacant unowned =
         | inr differ ↦ get_or-set_other s.banks m n zeroes [] differ ∙ facts.spare n (omega (arith, length-set s.banks m zeroes)) (sym (get_or-set_other s.owners m n o None differ) ∙ ownerless) (sym (get_or-set_other s.marks m n false false differ) ∙ unmarked)
       ];
     }
+
+-- a move is a take-back and a grant, and then the bytes of the old superblock written into the new one
+moved_is : (s : Content) (t u from to : ℕ) → t < length s.slots → with_bank (granted (taken_back s t u from) t u to) to (bank s.banks from) ≡ moved s t u from to
+moved_is s t u from to tenant =
+    let row = row_of s.slots t in
+    let bytes = bank s.banks from in
+    let here : with_slot (with_slot s.slots t u None) t u (Some to) ≡ with_slot s.slots t u (Some to) =
+    set-set s.slots t (set row u None) _ ∙ ap (set s.slots t) (ap (λ (r : List (Option ℕ)). set r u (Some to)) (get_or-set_same s.slots t (set row u None) [] tenant) ∙ set-set row u None (Some to)) in
+    let there : set (set s.banks to (replicate s.unit 0)) to bytes ≡ set s.banks to bytes = set-set s.banks to (replicate s.unit 0) bytes in
+    ap (λ (slots : List (List (Option ℕ))). record (moved s t u from to) { slots = slots; banks = set (set s.banks to (replicate s.unit 0)) to bytes }) here
+    ∙ ap (λ (banks : List (List ℕ)). record (moved s t u from to) { banks = banks }) there
+
+pub moved-IsSpace : {s : Content} → IsSpace s → (t u from to : ℕ) → superblock_at s.slots t u ≡ Some from → to < length s.owners → owner_at s.owners to ≡ None → IsSpace (moved s t u from to)
+moved-IsSpace {s} facts t u from to under within unowned =
+    let left = taken_back s t u from in
+    let tenant = tenant-lt s.slots t u from under in
+    let short = within_from_some (row_of s.slots t) u from under in
+    let apart = not_unowned facts t u from to under unowned in
+    let row = set (row_of s.slots t) u None in
+    let still : to < length left.owners = omega (arith, length-set s.owners from None) in
+    let given = granted-IsSpace {s = left} (taken_back-IsSpace facts t u from under) t u to
+    (omega (arith, length-set s.slots t row))
+    (omega (arith, facts.rows t tenant, length-set s.owners from None))
+    still
+    (superblock_at-with_slot s.slots t u None tenant short)
+    (get_or-set_other s.owners from to None None (λ same. apart (sym same)) ∙ unowned) in
+    let o = Some (owned_by t u) in
+    let owned : owner_at (set left.owners to o) to ≢ None = λ none. let some = get_or-set_same left.owners to o None still in absurd (cc) in
+    subst IsSpace (moved_is s t u from to tenant)
+    (with_bank-IsSpace given to owned (omega (arith, length-set left.owners to o)) (bank s.banks from) (facts.sized from (omega (arith, facts.paired, superblock-lt facts t u from under))))
 
 -- made ready, a superblock without owner reads as zero, and no other one changes
 pub banks-readied : {s : Content} → IsSpace s → (stored : List (List ℕ)) → s.banks ≡ shown s.unit stored → (m : ℕ) → m < length s.owners → owner_at s.owners m ≡ None → shown s.unit (readied stored s.marks m s.unit) ≡ set s.banks m (replicate s.unit 0)

@@ -3,7 +3,11 @@ use Rattle.std.proofs.Common.{◌≡◌, ℕ, ◌<◌, ◌≤◌, ◌^◌, ◌*�
 use Rattle.std.proofs.lemmas.List.{get_or-replicate, length-replicate, get_or_past}
 use Rattle.std.proofs.lemmas.List.Folds.{sum_by-replicate}
 use Rattle.std.proofs.lemmas.Bool.{cases_lt}
-use Rattle.space_core.specs.Content.{IsSpace, empty_space, superblock_at, is_of}
+use Rattle.model_core.specs.declared.owner.Owner.{Owner}
+use Rattle.model_core.specs.Owners.{is_of}
+use Rattle.model_core.specs.declared.limits.TheConstants.{MOST_ORDER, MOST_SUPERBLOCKS, MOST_TENANTS}
+use Rattle.space_core.specs.declared.TheConstants.{FRAME_BYTES}
+use Rattle.space_core.specs.Content.{IsSpace, empty_space, superblock_at}
 
 -- copies of the default read as the default everywhere
 pub get_or-copies : {A : Type 0} (n i : ℕ) (d : A) → get_or (replicate n d) i d ≡ d
@@ -27,10 +31,10 @@ count_by-copies : {A : Type 0} (p : A → Bool) (n : ℕ) (x : A) → p x ≡ fa
 count_by-copies p n x fails =
     sum_by-replicate (λ y. cond (p y) 1 0) n x ∙ (ap (λ b. n * cond b 1 0) fails ∙ omega arith)
 
-pub empty_space-IsSpace : (unit n tenants : ℕ) → 0 < unit → unit ≤ 2 ^ 20 → n ≤ 256 → tenants ≤ 64 → IsSpace (empty_space unit n tenants)
+pub empty_space-IsSpace : (unit n tenants : ℕ) → 0 < unit → unit ≤ FRAME_BYTES * 2 ^ MOST_ORDER → n ≤ MOST_SUPERBLOCKS → tenants ≤ MOST_TENANTS → IsSpace (empty_space unit n tenants)
 empty_space-IsSpace unit n tenants some small few short =
     let none : Option ℕ = None in
-    let nobody : Option (ℕ × ℕ) = None in
+    let nobody : Option Owner = None in
     let row = replicate n none in
     let zeroes : List ℕ = replicate unit 0 in
     record {

@@ -7,4 +7,7 @@ mod Mapped
 mod Changed
 mod Vacancy
 mod Places
+pub mod Reading
 mod Own
+mod Others
+pub mod Ranges

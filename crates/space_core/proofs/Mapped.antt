@@ -1,10 +1,14 @@
 -- A slot and its superblock changed together keep the mapping the same both ways.
-use Rattle.std.proofs.Common.{◌≡◌, ◌≢◌, ◌⊎◌, ◌↔◌, ℕ, ◌+◌, ◌<◌, Bool, false, cond, List, [], Option, Some, None, is_some, length, get_or, count_by, sym, ◌∙◌, ap, subst, inl, inr, arith}
+use Rattle.std.proofs.Common.{◌≡◌, ◌≢◌, ◌⊎◌, ◌↔◌, ℕ, ◌+◌, ◌<◌, Bool, true, false, cond, List, [], Option, Some, None, is_some, length, get_or, count_by, sym, ◌∙◌, ap, subst, inl, inr, arith}
 use Rattle.std.proofs.Math.ListN.{set}
 use Rattle.std.proofs.lemmas.List.{get_or-set_same, get_or-set_other, length-set}
 use Rattle.std.proofs.lemmas.List.Sums.{sum_by-set}
 use Rattle.std.proofs.lemmas.Bool.{cases_eq}
-use Rattle.space_core.specs.Content.{Content, IsSpace, owner_at, row_of, superblock_at, is_of}
+use Rattle.std.proofs.lemmas.Bool.Decides.{nat_tests}
+use Rattle.std.specs.Prelude.{◌==◌, if◌then◌else◌}
+use Rattle.model_core.specs.declared.owner.Owner.{Owner}
+use Rattle.model_core.specs.Owners.{owned_by, is_of}
+use Rattle.space_core.specs.Content.{Content, IsSpace, owner_at, row_of, superblock_at}
 use Rattle.space_core.specs.Changes.{with_slot}
 
 pub row_of-with_slot : (slots : List (List (Option ℕ))) (t u : ℕ) (x : Option ℕ) → t < length slots → row_of (with_slot slots t u x) t ≡ set (row_of slots t) u x
@@ -33,6 +37,20 @@ superblock_at_other-with_slot slots t u x k v lt differ =
       | inr apart ↦ ap (λ (row : List (Option ℕ)). get_or row v None) (row_of_other-with_slot slots t u x k apart)
     ]
 
+pub if_true : {A : Type 0} (b : Bool) (x y : A) → b ≡ true → (if b then x else y) ≡ x
+if_true b x y e = ap (λ test. if test then x else y) e
+
+pub if_false : {A : Type 0} (b : Bool) (x y : A) → b ≡ false → (if b then x else y) ≡ y
+if_false b x y e = ap (λ test. if test then x else y) e
+
+-- a slot that was changed, and the others of its tenant
+pub slot_put : (slots : List (List (Option ℕ))) (t u : ℕ) (x : Option ℕ) → t < length slots → u < length (row_of slots t) → (v : ℕ) → superblock_at (with_slot slots t u x) t v ≡ (if v == u then x else superblock_at slots t v)
+slot_put slots t u x tenant short v =
+    elim (cases_eq v u) [
+      | inl same ↦ ap (superblock_at (with_slot slots t u x) t) same ∙ (superblock_at-with_slot slots t u x tenant short ∙ sym (if_true (v == u) _ _ (grind (arith, nat_tests))))
+      | inr differ ↦ superblock_at_other-with_slot slots t u x t v tenant (λ e. differ e.1) ∙ sym (if_false (v == u) _ _ (grind (arith, nat_tests)))
+    ]
+
 abbrev pub one_if : Bool → ℕ
 one_if b = cond b 1 0
 
@@ -43,15 +61,15 @@ cases_both a b c d =
       | inr differ ↦ inr (λ e. differ e.0)
     ]
 
-same_pair : {a b c d : ℕ} → a ≡ b → c ≡ d → (let p : ℕ × ℕ = (a, c) in p) ≡ (b, d)
-same_pair first second = λ i. (first i, second i)
+same_owner : {a b c d : ℕ} → a ≡ b → c ≡ d → owned_by a c ≡ owned_by b d
+same_owner first second = λ i. owned_by (first i) (second i)
 
 -- a count after one entry changed
 pub count_by-set : {A : Type 0} (p : A → Bool) (xs : List A) (i : ℕ) (x d : A) → i < length xs → count_by p (set xs i x) + cond (p (get_or xs i d)) 1 0 ≡ count_by p xs + cond (p x) 1 0
 count_by-set p xs i x d lt = sum_by-set (λ y. cond (p y) 1 0) xs i x d lt
 
 -- where slot and owner change alike for t and stay no other tenant's, each tenant still has as many slots as superblocks
-pub counted-set : {s : Content} → IsSpace s → (t u m : ℕ) (x : Option ℕ) (o : Option (ℕ × ℕ)) → t < length s.slots → u < length s.owners → m < length s.owners
+pub counted-set : {s : Content} → IsSpace s → (t u m : ℕ) (x : Option ℕ) (o : Option Owner) → t < length s.slots → u < length s.owners → m < length s.owners
     → is_some (superblock_at s.slots t u) ≡ is_of t (owner_at s.owners m) → is_some x ≡ is_of t o
     → ((k : ℕ) → k ≢ t → is_of k (owner_at s.owners m) ≡ false) → ((k : ℕ) → k ≢ t → is_of k o ≡ false)
     → (k : ℕ) → k < length s.slots → count_by is_some (row_of (with_slot s.slots t u x) k) ≡ count_by (is_of k) (set s.owners m o)
@@ -71,10 +89,10 @@ counted-set {s} facts t u m x o tenant slot within was is others other k lt =
     ]
 
 -- slot u of tenant t and the owner of superblock m changed to x and o, where both say the same before and after
-pub agree-set : {s : Content} → IsSpace s → (t u m : ℕ) (x : Option ℕ) (o : Option (ℕ × ℕ)) → t < length s.slots → u < length s.owners → m < length s.owners
-    → ((n : ℕ) → x ≡ Some n → (n ≡ m) × (o ≡ Some (t, u))) → ((k v : ℕ) → o ≡ Some (k, v) → (k ≡ t) × (v ≡ u) × (x ≡ Some m))
+pub agree-set : {s : Content} → IsSpace s → (t u m : ℕ) (x : Option ℕ) (o : Option Owner) → t < length s.slots → u < length s.owners → m < length s.owners
+    → ((n : ℕ) → x ≡ Some n → (n ≡ m) × (o ≡ Some (owned_by t u))) → ((k v : ℕ) → o ≡ Some (owned_by k v) → (k ≡ t) × (v ≡ u) × (x ≡ Some m))
     → ((k v : ℕ) → superblock_at s.slots k v ≡ Some m → (k ≡ t) × (v ≡ u)) → ((n : ℕ) → superblock_at s.slots t u ≡ Some n → n ≡ m)
-    → (k v n : ℕ) → (superblock_at (with_slot s.slots t u x) k v ≡ Some n) ↔ (owner_at (set s.owners m o) n ≡ Some (k, v))
+    → (k v n : ℕ) → (superblock_at (with_slot s.slots t u x) k v ≡ Some n) ↔ (owner_at (set s.owners m o) n ≡ Some (owned_by k v))
 agree-set {s} facts t u m x o tenant slot within to_owner to_slot alone unique k v n =
     let short : u < length (row_of s.slots t) = omega (arith, facts.rows t tenant) in
     let here = superblock_at-with_slot s.slots t u x tenant short in
@@ -84,7 +102,7 @@ agree-set {s} facts t u m x o tenant slot within to_owner to_slot alone unique k
     let elsewhere = superblock_at_other-with_slot s.slots t u x k v tenant in
     let kept = get_or-set_other s.owners m n o None in (
       λ under. elim (cases_both k t v u) [
-        | inl same ↦ let found = to_owner n (sym (at_slot same) ∙ under) in at_owner found.0 ∙ (found.1 ∙ ap Some (same_pair (sym same.0) (sym same.1)))
+        | inl same ↦ let found = to_owner n (sym (at_slot same) ∙ under) in at_owner found.0 ∙ (found.1 ∙ ap Some (same_owner (sym same.0) (sym same.1)))
         | inr differ ↦ let was = sym (elsewhere differ) ∙ under in kept (λ e. differ (alone k v (was ∙ ap Some e))) ∙ (facts.agree k v n).0 was
       ],
       λ owned. elim (cases_eq n m) [

@@ -2,6 +2,7 @@
 use Rattle.std.proofs.Common.{◌≡◌, ℕ, ◌<◌, List, length, get_or, Option, Some, None, IfSome, inl, inr}
 use Rattle.std.proofs.lemmas.List.{get_or_past}
 use Rattle.std.proofs.lemmas.Bool.{cases_lt}
+use Rattle.model_core.specs.Owners.{owned_by}
 use Rattle.space_core.specs.Content.{Content, IsSpace, superblock_at}
 
 -- only a place within a list has an entry
@@ -11,7 +12,7 @@ within_from_some xs i x is =
 
 -- a superblock under a slot is one of the superblocks
 pub superblock-lt : {s : Content} → IsSpace s → (t u m : ℕ) → superblock_at s.slots t u ≡ Some m → m < length s.owners
-superblock-lt {s} facts t u m under = within_from_some s.owners m (t, u) ((facts.agree t u m).0 under)
+superblock-lt {s} facts t u m under = within_from_some s.owners m (owned_by t u) ((facts.agree t u m).0 under)
 
 pub superblock-below : {s : Content} → IsSpace s → (t u : ℕ) (o : Option ℕ) → superblock_at s.slots t u ≡ o → IfSome o (λ m. m < length s.owners)
 superblock-below facts t u None under = tt

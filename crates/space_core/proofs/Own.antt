@@ -1,26 +1,21 @@
 -- What a call does to the bytes that its tenant reads, place by place.
-use Rattle.std.proofs.Common.{◌≡◌, ℕ, ◌+◌, ◌-◌, ◌/◌, ◌%◌, ◌<◌, ◌≤◌, zero, Bool, true, false, List, [], Option, Some, None, IsSome, length, get_or, drop, replicate, slice_range, sym, ◌∙◌, ap, inl, inr, refl, arith}
+use Rattle.std.proofs.Common.{◌≡◌, ℕ, ◌+◌, ◌-◌, ◌/◌, ◌%◌, ◌<◌, ◌≤◌, zero, Bool, true, false, List, [], Option, Some, None, option_map, IsSome, length, get_or, drop, replicate, slice_range, sym, ◌∙◌, ap, inl, inr, refl, arith}
 use Rattle.std.specs.Prelude.{◌&&◌, nat_lt, nat_le, ◌==◌, if◌then◌else◌}
 use Rattle.std.proofs.Math.ListN.{set}
 use Rattle.std.proofs.lemmas.List.{get_or-set_same, get_or-set_other, length-take-le, length-drop}
 use Rattle.std.proofs.lemmas.Bool.{cases_eq, cases_lt}
 use Rattle.std.proofs.lemmas.Bool.Decides.{nat_tests}
 use Rattle.space_core.specs.Content.{Content, IsSpace, bank, owner_at, superblock_at}
-use Rattle.space_core.specs.Windows.{is_in_slot, home_of, bytes_under, window_of, put_within, banks_with, with_window, byte_under, byte_at, banks_with_byte, with_byte}
-use Rattle.space_core.specs.Changes.{granted, taken_back, with_slot}
-use Rattle.space_core.specs.Laws.{IsRead, OwnBytes}
+use Rattle.space_core.specs.Windows.{slot_bytes, is_in_slot, home_of, bytes_under, window_of, put_within, banks_with, with_window, byte_under, byte_at, banks_with_byte, with_byte}
+use Rattle.space_core.specs.Changes.{granted, taken_back, moved, with_slot}
+use Rattle.space_core.specs.Laws.{IsRead, ReadsSame, OwnBytes}
 use Rattle.space_core.proofs.Banks.{with_bank}
 use Rattle.space_core.proofs.Changed.{same_parts, tenant-lt}
 use Rattle.space_core.proofs.Mapping.{superblock-lt, within_from_some}
-use Rattle.space_core.proofs.Mapped.{superblock_at-with_slot, superblock_at_other-with_slot}
+use Rattle.space_core.proofs.Mapped.{if_true, if_false, superblock_at-with_slot, superblock_at_other-with_slot}
 use Rattle.space_core.proofs.Empty.{get_or-copies}
+use Rattle.space_core.proofs.Reading.{reads_same, bank_kept, not_unowned}
 use Rattle.space_core.proofs.Places.{place-add, same_slot, get_or-slice_range, put_within-before, put_within-at, put_within-after}
-
-if_true : {A : Type 0} (b : Bool) (x y : A) → b ≡ true → (if b then x else y) ≡ x
-if_true b x y e = ap (λ test. if test then x else y) e
-
-if_false : {A : Type 0} (b : Bool) (x y : A) → b ≡ false → (if b then x else y) ≡ y
-if_false b x y e = ap (λ test. if test then x else y) e
 
 test_inside : (a p e : ℕ) → a ≤ p → p < e → (nat_le a p && nat_lt p e) ≡ true
 test_inside a p e low high = grind (arith, nat_tests)
@@ -35,7 +30,7 @@ in_slot : (unit place len : ℕ) → is_in_slot unit place len ≡ true → (0 <
 in_slot unit place len e = (grind (arith, nat_tests), grind (arith, nat_tests))
 
 -- what it means that a range has a home
-home_is : (s : Content) (t place len m : ℕ) → home_of s t place len ≡ Some m → (0 < len) × (place % s.unit + len ≤ s.unit) × (superblock_at s.slots t (place / s.unit) ≡ Some m)
+pub home_is : (s : Content) (t place len m : ℕ) → home_of s t place len ≡ Some m → (0 < len) × (place % s.unit + len ≤ s.unit) × (superblock_at s.slots t (place / s.unit) ≡ Some m)
 home_is s t place len m = go (is_in_slot s.unit place len) refl
   where
     go : (b : Bool) → is_in_slot s.unit place len ≡ b → (if b then superblock_at s.slots t (place / s.unit) else None) ≡ Some m → (0 < len) × (place % s.unit + len ≤ s.unit) × (superblock_at s.slots t (place / s.unit) ≡ Some m)
@@ -180,5 +175,23 @@ own_take_back {s} facts t u m under p =
           ∙ sym (if_false (p / s.unit == u) _ _ (grind (arith, nat_tests)))
     ]
 
+-- the slot that moved has the bytes of the superblock that it stood over, and each other one stays
+pub own_move : {s : Content} → IsSpace s → (t u from to : ℕ) → superblock_at s.slots t u ≡ Some from → to < length s.owners → owner_at s.owners to ≡ None → ReadsSame t s (moved s t u from to)
+own_move {s} facts t u from to under within unowned =
+    let tenant = tenant-lt s.slots t u from under in
+    let short = within_from_some (get_or s.slots t []) u from under in
+    let bytes = bank s.banks from in
+    let banks = set s.banks to bytes in
+    reads_same t s (moved s t u from to) refl (λ v. elim (cases_eq v u) [
+      | inl same ↦
+          ap (slot_bytes (moved s t u from to) t) same
+          ∙ (ap (option_map (bank banks)) (superblock_at-with_slot s.slots t u (Some to) tenant short)
+          ∙ (ap (λ (xs : List ℕ). Some xs) (get_or-set_same s.banks to bytes [] (omega (arith, facts.paired)))
+          ∙ sym (ap (slot_bytes s t) same ∙ ap (option_map (bank s.banks)) under)))
+      | inr differ ↦
+          ap (option_map (bank banks)) (superblock_at_other-with_slot s.slots t u (Some to) t v tenant (λ e. differ e.1))
+          ∙ bank_kept s.banks banks (superblock_at s.slots t v) (λ n here. get_or-set_other s.banks to n bytes [] (not_unowned facts t v n to here unowned))
+    ])
+
 pub own_bytes : {s : Content} → IsSpace s → OwnBytes s
-own_bytes facts = record { read = own_read facts; window = own_window facts; byte = own_byte facts; grant = own_grant facts; take_back = own_take_back facts }
+own_bytes facts = record { read = own_read facts; window = own_window facts; byte = own_byte facts; grant = own_grant facts; take_back = own_take_back facts; move = own_move facts }

@@ -6,6 +6,7 @@ use Rattle.std.proofs.lemmas.Bool.Decides.{nat_tests}
 use Rattle.std.specs.Prelude.{◌||◌, ◌==◌, if◌then◌else◌}
 use Rattle.std.proofs.Math.ListN.{set}
 use Rattle.std.specs.Global.{Vec}
+use Rattle.model_core.specs.declared.owner.Owner.{Owner}
 use Rattle.space_core.specs.Content.{Content, IsSpace, owner_at, mark_at}
 use Rattle.space_core.specs.Storage.{or_zeros, shown, HasRoom, IsStored, scrubbed, readied}
 use Rattle.space_core.proofs.TableLemmas.{lists_of, get_or-lists_of, length-lists_of}
@@ -73,7 +74,7 @@ pub length-shown_read : {s : Content} → IsSpace s → (banks : List (Vec ℕ))
 length-shown_read {s} facts banks same m read lt here = ap length (sym here) ∙ facts.sized m (omega (arith, facts.paired))
 
 -- the bytes of one superblock replaced
-pub written-IsStored : {unit : ℕ} {owners : List (Option (ℕ × ℕ))} {banks : List (Vec ℕ)} {zeros : List ℕ} → IsStored unit owners banks zeros → (m : ℕ) (bytes : List ℕ) (written : List (Vec ℕ)) → m < length banks → bytes ≢ [] → HasRoom unit written → lists_of written ≡ set (lists_of banks) m bytes → IsStored unit owners written zeros
+pub written-IsStored : {unit : ℕ} {owners : List (Option Owner)} {banks : List (Vec ℕ)} {zeros : List ℕ} → IsStored unit owners banks zeros → (m : ℕ) (bytes : List ℕ) (written : List (Vec ℕ)) → m < length banks → bytes ≢ [] → HasRoom unit written → lists_of written ≡ set (lists_of banks) m bytes → IsStored unit owners written zeros
 written-IsStored {banks} stored m bytes written within full room same = record {
   room = room;
   owned = λ k has_owner. subst (λ xs. get_or xs k [] ≢ []) (sym same) (after-set (λ (xs : List ℕ). xs ≢ []) (lists_of banks) m bytes k [] (omega (arith, length-lists_of banks)) (λ _. full) (λ _. stored.owned k has_owner));
@@ -96,7 +97,7 @@ readied-other stored marks m unit k differ = go (mark_at marks m || (length (get
     go true = get_or-set_other stored m k (replicate unit 0) [] differ
     go false = refl
 
-pub readied-IsStored : {unit : ℕ} {owners : List (Option (ℕ × ℕ))} {banks : List (Vec ℕ)} {zeros : List ℕ} → IsStored unit owners banks zeros → (marks : List Bool) (m : ℕ) (o : Option (ℕ × ℕ)) (readied_banks : List (Vec ℕ)) → 0 < unit → m < length banks → HasRoom unit readied_banks → lists_of readied_banks ≡ readied (lists_of banks) marks m unit → IsStored unit (set owners m o) readied_banks zeros
+pub readied-IsStored : {unit : ℕ} {owners : List (Option Owner)} {banks : List (Vec ℕ)} {zeros : List ℕ} → IsStored unit owners banks zeros → (marks : List Bool) (m : ℕ) (o : Option Owner) (readied_banks : List (Vec ℕ)) → 0 < unit → m < length banks → HasRoom unit readied_banks → lists_of readied_banks ≡ readied (lists_of banks) marks m unit → IsStored unit (set owners m o) readied_banks zeros
 readied-IsStored {unit} {owners} {banks} stored marks m o readied_banks some within room same = record {
   room = room;
   owned = λ k has_owner. subst (λ xs. get_or xs k [] ≢ []) (sym same) (elim (cases_eq k m) [
@@ -106,7 +107,7 @@ readied-IsStored {unit} {owners} {banks} stored marks m o readied_banks some wit
   blank = stored.blank;
 }
 
-pub taken_back-IsStored : {unit : ℕ} {owners : List (Option (ℕ × ℕ))} {banks : List (Vec ℕ)} {zeros : List ℕ} → IsStored unit owners banks zeros → (m : ℕ) → m < length owners → IsStored unit (set owners m None) banks zeros
+pub taken_back-IsStored : {unit : ℕ} {owners : List (Option Owner)} {banks : List (Vec ℕ)} {zeros : List ℕ} → IsStored unit owners banks zeros → (m : ℕ) → m < length owners → IsStored unit (set owners m None) banks zeros
 taken_back-IsStored {unit} {owners} stored m within = record {
   room = stored.room;
   owned = λ k has_owner. elim (cases_eq k m) [
@@ -115,6 +116,30 @@ taken_back-IsStored {unit} {owners} stored m within = record {
   ];
   blank = stored.blank;
 }
+
+-- the bytes of a superblock that has some copied to another one
+pub shown-copied : (unit : ℕ) (stored : List (List ℕ)) (from to : ℕ) → get_or stored from [] ≢ [] → shown unit (set stored to (get_or stored from [])) ≡ set (shown unit stored) to (get_or (shown unit stored) from [])
+shown-copied unit stored from to full =
+    shown-set unit stored to (get_or stored from [])
+    ∙ ap (λ bytes. set (shown unit stored) to bytes) (or_zeros-full unit (get_or stored from []) full ∙ sym (bank-shown_full unit stored from full))
+
+-- a superblock that has bytes may get an owner
+pub owned-IsStored : {unit : ℕ} {owners : List (Option Owner)} {banks : List (Vec ℕ)} {zeros : List ℕ} → IsStored unit owners banks zeros → (m : ℕ) (o : Option Owner) → get_or (lists_of banks) m [] ≢ [] → IsStored unit (set owners m o) banks zeros
+owned-IsStored {unit} {owners} {banks} stored m o full = record {
+  room = stored.room;
+  owned = λ k has_owner. elim (cases_eq k m) [
+    | inl here ↦ subst (λ n. get_or (lists_of banks) n [] ≢ []) (sym here) full
+    | inr differ ↦ stored.owned k (λ none. has_owner (get_or-set_other owners m k o None differ ∙ none))
+  ];
+  blank = stored.blank;
+}
+
+-- the superblock that a slot moves to gets the bytes of the one that it leaves
+pub moved-IsStored : {unit : ℕ} {owners : List (Option Owner)} {banks : List (Vec ℕ)} {zeros : List ℕ} → IsStored unit owners banks zeros → (from to : ℕ) (o : Option Owner) (copied : List (Vec ℕ)) → from < length owners → to < length banks → get_or (lists_of banks) from [] ≢ [] → HasRoom unit copied → lists_of copied ≡ set (lists_of banks) to (get_or (lists_of banks) from []) → IsStored unit (set (set owners from None) to o) copied zeros
+moved-IsStored {banks} stored from to o copied within there full room same =
+    let bytes = get_or (lists_of banks) from [] in
+    owned-IsStored (written-IsStored (taken_back-IsStored stored from within) to bytes copied there full room same) to o
+    (subst (λ xs. xs ≢ []) (sym (ap (λ xs. get_or xs to []) same ∙ get_or-set_same (lists_of banks) to bytes [] (omega (arith, length-lists_of banks)))) full)
 
 -- before any grant
 pub empty-IsStored : (unit n : ℕ) (banks : List (Vec ℕ)) (zeros : List ℕ) → HasRoom unit banks → zeros ≡ replicate unit 0 → IsStored unit (replicate n None) banks zeros

@@ -7,7 +7,9 @@ use Rattle.std.proofs.lemmas.List.Sums.{sum_by-cons, count_by-le-length}
 use Rattle.std.proofs.lemmas.List.Quantifiers.{position-Some}
 use Rattle.std.proofs.lemmas.Bool.{cases_lt}
 use Rattle.std.proofs.lemmas.Bool.Decides.{nat_tests}
-use Rattle.space_core.specs.Content.{Content, IsSpace, owner_at, row_of, superblock_at, is_of}
+use Rattle.model_core.specs.declared.owner.Owner.{Owner}
+use Rattle.model_core.specs.Owners.{owned_by, is_of}
+use Rattle.space_core.specs.Content.{Content, IsSpace, owner_at, row_of, superblock_at}
 use Rattle.space_core.specs.Changes.{IsLeastSlot}
 use Rattle.space_core.proofs.Mapped.{one_if, count_by-set}
 use Rattle.space_core.proofs.Changed.{is_of_self}
@@ -31,15 +33,15 @@ full_from_none xs none =
     elim (cases_lt (position_or_len is_none xs) (length xs)) [ inl lt ↦ grind (arith, nat_tests) | inr le ↦ le ]
 
 -- a list with a None has an entry that is no tenant's
-count_by-lt-length : (t : ℕ) (owners : List (Option (ℕ × ℕ))) (m : ℕ) → m < length owners → owner_at owners m ≡ None → count_by (is_of t) owners < length owners
+count_by-lt-length : (t : ℕ) (owners : List (Option Owner)) (m : ℕ) → m < length owners → owner_at owners m ≡ None → count_by (is_of t) owners < length owners
 count_by-lt-length t owners m within none =
-    let o : Option (ℕ × ℕ) = Some (t, zero) in
+    let o : Option Owner = Some (owned_by t zero) in
     let one_more = count_by-set (is_of t) owners m o None within in
     let bound = count_by-le-length (is_of t) (set owners m o) in
     omega (arith, one_more, bound, length-set owners m o, ap (λ p. one_if (is_of t p)) none, ap one_if (is_of_self t zero))
 
 -- a superblock without owner, where the search finds one
-pub unowned_from_pool : (owners : List (Option (ℕ × ℕ))) → IsSome (position is_none owners) → (m : ℕ) × (m < length owners) × (owner_at owners m ≡ None)
+pub unowned_from_pool : (owners : List (Option Owner)) → IsSome (position is_none owners) → (m : ℕ) × (m < length owners) × (owner_at owners m ≡ None)
 unowned_from_pool owners pool = go (position is_none owners) refl pool
   where
     go : (o : Option ℕ) → position is_none owners ≡ o → IsSome o → (m : ℕ) × (m < length owners) × (owner_at owners m ≡ None)
@@ -67,5 +69,5 @@ slot-lt {s} facts t u tenant e =
     let found = position-Some is_none (row_of s.slots t) u None e in
     omega (arith, facts.rows t tenant, found.0)
 
-pub unowned-from_position : (owners : List (Option (ℕ × ℕ))) (m : ℕ) → position is_none owners ≡ Some m → owner_at owners m ≡ None
+pub unowned-from_position : (owners : List (Option Owner)) (m : ℕ) → position is_none owners ≡ Some m → owner_at owners m ≡ None
 unowned-from_position owners m e = none_from_test (owner_at owners m) (position-Some is_none owners m None e).1

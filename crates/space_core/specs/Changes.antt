@@ -1,6 +1,7 @@
--- What a grant and a take-back change.
+-- What a grant, a take-back and a move change.
 use Rattle.std.specs.Prelude.{◌≡◌, ℕ, ◌<◌, true, false, List, Option, Some, None, IsSome, replicate, slice_set}
-use Rattle.space_core.specs.Content.{Content, row_of, superblock_at}
+use Rattle.model_core.specs.Owners.{owned_by}
+use Rattle.space_core.specs.Content.{Content, bank, row_of, superblock_at}
 
 -- u is the least slot number that tenant t does not hold
 pub record IsLeastSlot (slots : List (List (Option ℕ))) (t u : ℕ) : Type 0 where
@@ -14,7 +15,7 @@ with_slot slots t u x = slice_set slots t (slice_set (row_of slots t) u x)
 -- superblock m becomes slot u of tenant t: it reads as zero and has no mark
 abbrev pub granted : Content → ℕ → ℕ → ℕ → Content
 granted s t u m = record s {
-  owners = slice_set s.owners m (Some (t, u));
+  owners = slice_set s.owners m (Some (owned_by t u));
   slots = with_slot s.slots t u (Some m);
   banks = slice_set s.banks m (replicate s.unit 0);
   marks = slice_set s.marks m false;
@@ -26,4 +27,14 @@ taken_back s t u m = record s {
   owners = slice_set s.owners m None;
   slots = with_slot s.slots t u None;
   marks = slice_set s.marks m true;
+}
+
+-- slot u of tenant t, which stood over superblock `from`, stands over superblock `to`, with the same bytes and no mark.
+-- Superblock `from` loses its owner: it keeps its bytes and has a mark
+abbrev pub moved : Content → ℕ → ℕ → ℕ → ℕ → Content
+moved s t u from to = record s {
+  owners = slice_set (slice_set s.owners from None) to (Some (owned_by t u));
+  slots = with_slot s.slots t u (Some to);
+  banks = slice_set s.banks to (bank s.banks from);
+  marks = slice_set (slice_set s.marks from true) to false;
 }

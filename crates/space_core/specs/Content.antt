@@ -1,11 +1,15 @@
 -- RAM by superblock, the pool, and the mapping between superblocks and the slots of tenants.
-use Rattle.std.specs.Prelude.{◌≡◌, ℕ, ◌<◌, ◌≤◌, ◌^◌, ◌↔◌, ◌==◌, Bool, false, List, [], Option, Some, None, is_some, length, count_by, replicate, slice_index_or}
+use Rattle.std.specs.Prelude.{◌≡◌, ℕ, ◌*◌, ◌<◌, ◌≤◌, ◌^◌, ◌↔◌, Bool, false, List, [], Option, Some, None, is_some, length, count_by, replicate, slice_index_or}
+use Rattle.model_core.specs.declared.owner.Owner.{Owner}
+use Rattle.model_core.specs.declared.limits.TheConstants.{MOST_ORDER, MOST_SUPERBLOCKS, MOST_TENANTS}
+use Rattle.model_core.specs.Owners.{owned_by, is_of}
+use Rattle.space_core.specs.declared.TheConstants.{FRAME_BYTES}
 
--- unit: bytes of a superblock. owners: by superblock, its tenant and the slot that it is there.
+-- unit: bytes of a superblock. owners: by superblock, the tenant that has it and the slot that it is there.
 -- slots: by tenant and slot, the superblock. banks: by superblock, its bytes. marks: by superblock, whether it still has to be scrubbed
 pub record Content : Type 0 where
   pub unit : ℕ
-  pub owners : List (Option (ℕ × ℕ))
+  pub owners : List (Option Owner)
   pub slots : List (List (Option ℕ))
   pub banks : List (List ℕ)
   pub marks : List Bool
@@ -14,8 +18,8 @@ pub record Content : Type 0 where
 abbrev pub bank : List (List ℕ) → ℕ → List ℕ
 bank banks m = slice_index_or banks m []
 
--- tenant and slot of superblock m
-abbrev pub owner_at : List (Option (ℕ × ℕ)) → ℕ → Option (ℕ × ℕ)
+-- the owner of superblock m
+abbrev pub owner_at : List (Option Owner) → ℕ → Option Owner
 owner_at owners m = slice_index_or owners m None
 
 -- whether superblock m still has to be scrubbed
@@ -30,23 +34,18 @@ row_of slots t = slice_index_or slots t []
 abbrev pub superblock_at : List (List (Option ℕ)) → ℕ → ℕ → Option ℕ
 superblock_at slots t u = slice_index_or (row_of slots t) u None
 
--- the owner is tenant t
-abbrev pub is_of : ℕ → Option (ℕ × ℕ) → Bool
-is_of t None = false
-is_of t (Some p) = p.0 == t
-
 -- what is true of every `Space`
 pub record IsSpace (s : Content) : Type 0 where
   pub some : 0 < s.unit
-  pub small : s.unit ≤ 2 ^ 20
-  pub few : length s.owners ≤ 256
-  pub tenants : length s.slots ≤ 64
+  pub small : s.unit ≤ FRAME_BYTES * 2 ^ MOST_ORDER
+  pub few : length s.owners ≤ MOST_SUPERBLOCKS
+  pub tenants : length s.slots ≤ MOST_TENANTS
   pub paired : length s.banks ≡ length s.owners
   pub flagged : length s.marks ≡ length s.owners
   pub rows : (t : ℕ) → t < length s.slots → length (row_of s.slots t) ≡ length s.owners
   pub sized : (m : ℕ) → m < length s.banks → length (bank s.banks m) ≡ s.unit
   -- owners and slots say the same, so no two superblocks stand under one slot and no superblock under two
-  pub agree : (t u m : ℕ) → (superblock_at s.slots t u ≡ Some m) ↔ (owner_at s.owners m ≡ Some (t, u))
+  pub agree : (t u m : ℕ) → (superblock_at s.slots t u ≡ Some m) ↔ (owner_at s.owners m ≡ Some (owned_by t u))
   -- a tenant holds as many slots as superblocks, so where a superblock is without owner each tenant has a slot for it
   pub counted : (t : ℕ) → t < length s.slots → count_by is_some (row_of s.slots t) ≡ count_by (is_of t) s.owners
   -- what has no owner and no mark reads as zero

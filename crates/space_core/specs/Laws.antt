@@ -1,12 +1,13 @@
 -- What the equations of the calls say of each tenant's slots and bytes.
 use Rattle.std.specs.Prelude.{◌≡◌, ◌≢◌, ℕ, ◌+◌, ◌-◌, ◌/◌, ◌<◌, ◌==◌, ◌&&◌, nat_lt, nat_le, if◌then◌else◌, List, Some, None, IsSome, length, slice_index}
-use Rattle.space_core.specs.Content.{Content, bank, superblock_at, owner_at}
-use Rattle.space_core.specs.Windows.{home_of, window_of, with_window, byte_at, with_byte}
-use Rattle.space_core.specs.Changes.{granted, taken_back}
+use Rattle.model_core.specs.Owners.{owned_by}
+use Rattle.space_core.specs.Content.{Content, IsSpace, bank, superblock_at, owner_at}
+use Rattle.space_core.specs.Windows.{slot_bytes, home_of, window_of, with_window, byte_at, with_byte}
+use Rattle.space_core.specs.Changes.{granted, taken_back, moved}
 
 -- no two superblocks stand under one slot, and no superblock under two
 pub record IsApart (s : Content) : Type 0 where
-  pub superblocks : (t u m n : ℕ) → owner_at s.owners m ≡ Some (t, u) → owner_at s.owners n ≡ Some (t, u) → m ≡ n
+  pub superblocks : (t u m n : ℕ) → owner_at s.owners m ≡ Some (owned_by t u) → owner_at s.owners n ≡ Some (owned_by t u) → m ≡ n
   pub slots : (t u v w m : ℕ) → superblock_at s.slots t u ≡ Some m → superblock_at s.slots v w ≡ Some m → (t ≡ v) × (u ≡ w)
 
 -- tenant t has the same slots in s' as in s, and the same bytes there
@@ -16,12 +17,19 @@ pub record IsSameFor (t : ℕ) (s s' : Content) : Type 0 where
   pub bytes : (place : ℕ) → byte_at s' t place ≡ byte_at s t place
   pub windows : (place len : ℕ) → window_of s' t place len ≡ window_of s t place len
 
+-- tenant t holds the same slots in s' as in s and reads the same there, whichever superblocks stand under them
+pub record ReadsSame (t : ℕ) (s s' : Content) : Type 0 where
+  pub slots : (u : ℕ) → slot_bytes s' t u ≡ slot_bytes s t u
+  pub bytes : (place : ℕ) → byte_at s' t place ≡ byte_at s t place
+  pub windows : (place len : ℕ) → window_of s' t place len ≡ window_of s t place len
+
 -- what is done for tenant t keeps every other tenant's slots and bytes
 pub record OthersStay (s : Content) : Type 0 where
   pub window : (t place len : ℕ) (w : List ℕ) (other : ℕ) → other ≢ t → IsSameFor other s (with_window s t place len w)
   pub byte : (t place b other : ℕ) → other ≢ t → IsSameFor other s (with_byte s t place b)
   pub grant : (t u m other : ℕ) → owner_at s.owners m ≡ None → other ≢ t → IsSameFor other s (granted s t u m)
   pub take_back : (t u m other : ℕ) → other ≢ t → IsSameFor other s (taken_back s t u m)
+  pub move : (t u from to other : ℕ) → owner_at s.owners to ≡ None → other ≢ t → IsSameFor other s (moved s t u from to)
 
 -- bytes are those of tenant t from place on, len of them
 pub record IsRead (s : Content) (t place len : ℕ) (bytes : List ℕ) : Type 0 where
@@ -35,8 +43,18 @@ pub record OwnBytes (s : Content) : Type 0 where
   pub byte : (t place b : ℕ) → IsSome (byte_at s t place) → (p : ℕ) → byte_at (with_byte s t place b) t p ≡ (if p == place then Some b else byte_at s t p)
   pub grant : (t u m : ℕ) → t < length s.slots → u < length s.owners → m < length s.owners → owner_at s.owners m ≡ None → (p : ℕ) → byte_at (granted s t u m) t p ≡ (if p / s.unit == u then Some 0 else byte_at s t p)
   pub take_back : (t u m : ℕ) → superblock_at s.slots t u ≡ Some m → (p : ℕ) → byte_at (taken_back s t u m) t p ≡ (if p / s.unit == u then None else byte_at s t p)
+  pub move : (t u from to : ℕ) → superblock_at s.slots t u ≡ Some from → to < length s.owners → owner_at s.owners to ≡ None → ReadsSame t s (moved s t u from to)
 
 -- which slots the named tenant then holds
 pub record OwnSlots (s : Content) : Type 0 where
   pub grant : (t u m : ℕ) → t < length s.slots → u < length s.owners → (v : ℕ) → superblock_at (granted s t u m).slots t v ≡ (if v == u then Some m else superblock_at s.slots t v)
   pub take_back : (t u m : ℕ) → superblock_at s.slots t u ≡ Some m → (v : ℕ) → superblock_at (taken_back s t u m).slots t v ≡ (if v == u then None else superblock_at s.slots t v)
+  pub move : (t u from to : ℕ) → superblock_at s.slots t u ≡ Some from → (v : ℕ) → superblock_at (moved s t u from to).slots t v ≡ (if v == u then Some to else superblock_at s.slots t v)
+
+-- what is true of every space, and what the calls do to the tenants of one
+pub record SpaceLaws (s : Content) : Type 0 where
+  pub facts : IsSpace s
+  pub apart : IsApart s
+  pub others : OthersStay s
+  pub own_bytes : OwnBytes s
+  pub own_slots : OwnSlots s

@@ -1,8 +1,9 @@
--- How the bytes of RAM are stored: a superblock has none until it is first granted, and reads as zero until then.
+-- How the bytes of RAM are stored: a superblock has none until it first gets an owner, and reads as zero until then.
 use Rattle.std.specs.Prelude.{◌≡◌, ◌≢◌, ℕ, ◌≤◌, Bool, ◌||◌, ◌==◌, if◌then◌else◌, List, [], ◌∷◌, Option, None, length, map, replicate, slice_set}
 use Rattle.std.specs.List.{All}
 use Rattle.std.specs.Global.{Vec}
 use Rattle.std.specs.Vec.{vec_capacity}
+use Rattle.model_core.specs.declared.owner.Owner.{Owner}
 use Rattle.space_core.specs.Content.{bank, owner_at, mark_at}
 
 -- what a superblock of unit bytes reads as
@@ -18,9 +19,9 @@ abbrev pub HasRoom : ℕ → List (Vec ℕ) → Type 0
 HasRoom unit banks = All (λ bank. unit ≤ vec_capacity bank) banks
 
 -- what is true of the vectors of every `Space`
-pub record IsStored (unit : ℕ) (owners : List (Option (ℕ × ℕ))) (banks : List (Vec ℕ)) (zeros : List ℕ) : Type 0 where
+pub record IsStored (unit : ℕ) (owners : List (Option Owner)) (banks : List (Vec ℕ)) (zeros : List ℕ) : Type 0 where
   pub room : HasRoom unit banks
-  -- what was granted has its bytes
+  -- what has an owner has its bytes
   pub owned : (m : ℕ) → owner_at owners m ≢ None → bank (map (λ bank. bank.items) banks) m ≢ []
   pub blank : zeros ≡ replicate unit 0
 

@@ -6,6 +6,6 @@ use Rattle.std.specs.Global.{Vec}
 abbrev pub rows_of : Vec (Vec (Option ℕ)) → List (List (Option ℕ))
 rows_of rows = map (λ row. row.items) rows.items
 
--- the bytes by superblock, none where they were not made yet
+-- the bytes by superblock, none where nothing was written yet
 abbrev pub bytes_of : Vec (Vec ℕ) → List (List ℕ)
 bytes_of banks = map (λ bank. bank.items) banks.items

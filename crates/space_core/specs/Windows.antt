@@ -1,6 +1,10 @@
 -- The bytes of a tenant: place p lies in slot p / unit, at p % unit of the superblock there.
-use Rattle.std.specs.Prelude.{ℕ, ◌+◌, ◌/◌, ◌%◌, Bool, ◌&&◌, nat_lt, nat_le, if◌then◌else◌, List, ◌++◌, Option, Some, None, length, take, drop, slice_index, slice_range, slice_set}
+use Rattle.std.specs.Prelude.{ℕ, ◌+◌, ◌/◌, ◌%◌, Bool, ◌&&◌, nat_lt, nat_le, if◌then◌else◌, List, ◌++◌, Option, Some, None, option_map, length, take, drop, slice_index, slice_range, slice_set}
 use Rattle.space_core.specs.Content.{Content, bank, superblock_at}
+
+-- the bytes under slot u of tenant t, where t holds the slot
+abbrev pub slot_bytes : Content → ℕ → ℕ → Option (List ℕ)
+slot_bytes s t u = option_map (bank s.banks) (superblock_at s.slots t u)
 
 -- a range of len bytes from place on has a byte and lies in one slot
 abbrev pub is_in_slot : ℕ → ℕ → ℕ → Bool

@@ -1,25 +1,28 @@
 //! The RAM of a partitioning kernel. It is cut into superblocks of one size. A superblock is free in
 //! the pool or stands under a slot of one tenant, and a tenant reaches the bytes of its own slots alone.
 //!
-//! Scrubbing is lazy: a superblock that is taken back keeps its bytes and gets a mark, and a marked
-//! one is set to zero before it is granted again. So no tenant reads what another one left.
+//! Scrubbing is lazy: a superblock that is taken back, or that a slot moves away from, keeps its bytes
+//! and gets a mark. A marked one is set to zero before it is granted again, and written over whole
+//! where a slot moves to it. So no tenant reads what another one left.
 //!
-//! A superblock takes no memory of the host until it is first granted: room for its bytes is set aside
-//! at boot, and nothing is written there. Until then it reads as zero.
+//! Room for the bytes of every superblock is reserved at boot. Nothing is written there until the
+//! superblock first gets an owner; until then it reads as zero.
 //!
 //! Only [`Space::new`] allocates.
 #![tactic(auto)]
 
-ghost use Rattle.std.specs.Prelude.{◌≡◌, ◌≢◌, ◌+◌, ◌*◌, ◌/◌, ◌^◌, ◌<◌, ◌≤◌, Some, None, false, length, position, is_none, count_by, replicate, option_map, IsSome, IfSome, IfOk, OnErr, MatchResult, slice_range, slice_set, vec_len, vec_capacity, ℕ, [], if◌then◌else◌};
+ghost use Rattle.std.specs.Prelude.{◌≡◌, ◌≢◌, ◌+◌, ◌*◌, ◌/◌, ◌^◌, ◌<◌, ◌≤◌, ◌↔◌, Some, None, false, length, position, is_none, count_by, replicate, option_map, IsSome, IfSome, IfOk, OnErr, MatchResult, slice_range, slice_set, vec_len, vec_capacity, ℕ, [], if◌then◌else◌};
 ghost use Rattle.std.specs.Borrow.{sem};
-ghost use Rattle.space_core.specs.Content.{IsSpace, bank, owner_at, mark_at, row_of, superblock_at, empty_space};
+ghost use Rattle.model_core.specs.declared.limits.TheConstants.{MOST_ORDER, MOST_SUPERBLOCKS, MOST_TENANTS};
+ghost use Rattle.space_core.specs.Content.{bank, owner_at, mark_at, row_of, superblock_at, empty_space};
 ghost use Rattle.space_core.specs.Windows.{home_of, window_of, with_window, byte_at, with_byte};
-ghost use Rattle.space_core.specs.Changes.{IsLeastSlot, with_slot, granted, taken_back};
+ghost use Rattle.space_core.specs.Changes.{IsLeastSlot, with_slot, granted, taken_back, moved};
 ghost use Rattle.space_core.specs.Tables.{rows_of, bytes_of};
-ghost use Rattle.space_core.specs.Laws.{IsApart, OthersStay, OwnBytes, OwnSlots};
+ghost use Rattle.space_core.specs.Laws.{SpaceLaws};
 ghost use Rattle.space_core.specs.Storage.{HasRoom, scrubbed, readied};
 ghost use Rattle.space_core.specs.Lending.{LendsWindow, LendsPart};
 
+use model_core::owner::Owner;
 use std::alloc::{AllocError, Global};
 use std::marker::Model;
 
@@ -34,6 +37,15 @@ pub struct PoolEmpty;
 #[derive(Clone, Copy, Debug, PartialEq, Eq)]
 pub struct NoSlot;
 
+/// Why a superblock was not moved.
+#[derive(Clone, Copy, Debug, PartialEq, Eq)]
+pub enum MoveRefusal {
+    /// The tenant does not hold the slot.
+    NoSlot,
+    /// Every superblock has an owner.
+    PoolEmpty,
+}
+
 /// The RAM with its pool and the mapping both ways.
 ///
 /// Superblocks and slots are numbered from 0 up to the number of superblocks, tenants from 0. A place
@@ -41,9 +53,9 @@ pub struct NoSlot;
 #[derive(Drop)]
 pub struct Space {
     unit: u32,
-    owners: Vec<Option<(u8, u16)>>,
+    owners: Vec<Option<Owner>>,
     slots: Vec<Vec<Option<u16>>>,
-    // A superblock's vector is empty, with room for its bytes, until it is first granted.
+    // A superblock's vector is empty, with room for its bytes, until it first gets an owner.
     banks: Vec<Vec<u8>>,
     marks: Vec<bool>,
     // What a superblock reads as until then.
@@ -68,10 +80,10 @@ impl Space {
     ///
     /// It asks for all memory that there will ever be, and answers `AllocError` where that is refused.
     pub fn new(alloc: Global, order: u8, superblocks: u16, tenants: u8) -> Result<Space, AllocError>
-        requires order { order ≤ 8 }
-        requires superblocks { superblocks ≤ 256 }
-        requires tenants { tenants ≤ 64 }
-        ensures { IfOk result (λ s. s ≡ empty_space (4096 * 2 ^ order) superblocks tenants) }
+        requires order { order ≤ MOST_ORDER }
+        requires superblocks { superblocks ≤ MOST_SUPERBLOCKS }
+        requires tenants { tenants ≤ MOST_TENANTS }
+        ensures { IfOk result (λ s. s ≡ empty_space (FRAME_BYTES * 2 ^ order) superblocks tenants) }
     {
         let unit = FRAME_BYTES << order;
         let owners = vec![in alloc; None; usize::from(superblocks)]?;
@@ -91,7 +103,7 @@ impl Space {
 
     /// Gives the least superblock without owner to tenant `t`, as the least slot that it does not hold,
     /// and answers slot and superblock. The slot reads as zero: a marked superblock is scrubbed first,
-    /// and one that was never granted gets its bytes.
+    /// and one that had no owner yet gets its bytes.
     pub fn grant(&mut self, t: u8) -> Result<(u16, u16), PoolEmpty>
         requires { t < length self.old.slots }
         ensures superblock { MatchResult result (λ p. position is_none self.old.owners ≡ Some p.1) (λ _. position is_none self.old.owners ≡ None) }
@@ -109,7 +121,7 @@ impl Space {
             usize::from(m),
             self.unit as usize,
         );
-        self.owners[usize::from(m)] = Some((t, u));
+        self.owners[usize::from(m)] = Some(Owner { tenant: t, slot: u });
         set_slot(&mut self.slots, t, usize::from(u), Some(m));
         Ok((u, m))
     }
@@ -128,6 +140,34 @@ impl Space {
         self.owners[usize::from(m)] = None;
         set_slot(&mut self.slots, t, slot as usize, None);
         Ok(m)
+    }
+
+    /// Moves a slot of tenant `t` to the least superblock without owner, and answers the superblock
+    /// that stood under it and the one that does now. All bytes are copied, so the tenant reads what it
+    /// read before. The superblock that it left keeps its bytes and is marked, so that it is scrubbed
+    /// before it is granted again.
+    ///
+    /// `NoSlot` where the tenant does not hold the slot, else `PoolEmpty` where each superblock has an
+    /// owner.
+    pub fn move_slot(&mut self, t: u8, slot: u32) -> Result<(u16, u16), MoveRefusal>
+        requires { t < length self.old.slots }
+        ensures from { IfOk result (λ p. superblock_at self.old.slots t slot ≡ Some p.0) }
+        ensures to { IfOk result (λ p. position is_none self.old.owners ≡ Some p.1) }
+        ensures below { IfOk result (λ p. (p.0 < length self.old.owners) × (p.1 < length self.old.owners)) }
+        ensures ok { IfOk result (λ p. self.new ≡ moved self.old t slot p.0 p.1) }
+        ensures no_slot { (result ≡ Err MoveRefusal.NoSlot) ↔ (superblock_at self.old.slots t slot ≡ None) }
+        ensures pool_empty { (result ≡ Err MoveRefusal.PoolEmpty) ↔ (IsSome (superblock_at self.old.slots t slot) × (position is_none self.old.owners ≡ None)) }
+        ensures err { OnErr result (self.new ≡ self.old) }
+    {
+        let from = self.machine_of(t, slot).ok_or(MoveRefusal::NoSlot)?;
+        let to = self.least_unowned().ok_or(MoveRefusal::PoolEmpty)?;
+        let (source, target) = (usize::from(from), usize::from(to));
+        copy_bank(&mut self.banks, source, target);
+        self.marks[source] = true;
+        self.marks[target] = false;
+        self.owners.swap(source, target);
+        set_slot(&mut self.slots, t, slot as usize, Some(to));
+        Ok((from, to))
     }
 
     /// The bytes of tenant `t` from `place` on, `len` of them. None for a range of no bytes, and for
@@ -190,22 +230,60 @@ impl Space {
         set_byte_at(&mut self.banks, m, at as usize, byte);
     }
 
+    /// How many superblocks there are, `MOST_SUPERBLOCKS` at most.
+    pub fn superblocks(&self) -> u16
+        ensures { result ≡ length self.now.owners }
+    {
+        self.laws();
+        self.owners.len() as u16
+    }
+
+    /// How many tenants there are, `MOST_TENANTS` at most.
+    pub fn tenants(&self) -> u8
+        ensures { result ≡ length self.now.slots }
+    {
+        self.laws();
+        self.slots.len() as u8
+    }
+
+    /// How many bytes a superblock has.
+    pub fn unit(&self) -> u32
+        ensures { result ≡ self.now.unit }
+    {
+        self.unit
+    }
+
     /// The superblock under a slot of tenant `t`, None where it does not hold the slot.
     pub fn machine_of(&self, t: u8, slot: u32) -> Option<u16>
         requires { t < length self.now.slots }
         ensures value { result ≡ superblock_at self.now.slots t slot }
         ensures below { IfSome result (λ m. m < length self.now.owners) }
     {
-        self.facts();
+        self.laws();
         self.row(t).get(slot as usize).copied().flatten()
     }
 
-    /// Tenant and slot of superblock `m`, None where it has no owner.
-    pub fn owner(&self, m: u16) -> Option<(u8, u16)>
+    /// The owner of superblock `m`, None where it has none.
+    pub fn owner_of(&self, m: u16) -> Option<Owner>
         requires { m < length self.now.owners }
         ensures { result ≡ owner_at self.now.owners m }
     {
         self.owners[usize::from(m)]
+    }
+
+    /// The owner of superblock `m` as tenant and slot, None where it has none.
+    pub fn owner(&self, m: u16) -> Option<(u8, u16)>
+        requires { m < length self.now.owners }
+        ensures { result ≡ option_map (λ owner. (owner.tenant, owner.slot)) (owner_at self.now.owners m) }
+    {
+        self.owner_of(m).map(|owner| (owner.tenant, owner.slot))
+    }
+
+    /// The owners by superblock.
+    pub fn owners(&self) -> &[Option<Owner>]
+        ensures { result.now ≡ self.now.owners }
+    {
+        self.owners.as_slice()
     }
 
     /// All bytes of superblock `m`.
@@ -232,37 +310,10 @@ impl Space {
         self.owners.iter().filter(|owner| owner.is_none()).count() as u16
     }
 
-    /// A law: what is true of every `Space`. It costs nothing.
-    pub fn facts(&self)
-        ensures { IsSpace self.now }
-    {
-        let _ = &self.unit;
-    }
-
-    /// A law: no two superblocks stand under one slot, and none under two. It costs nothing.
-    pub fn slots_are_apart(&self)
-        ensures { IsApart self.now }
-    {
-        let _ = &self.unit;
-    }
-
-    /// A law: what any call does for one tenant keeps every other tenant's slots and bytes. It costs nothing.
-    pub fn others_stay(&self)
-        ensures { OthersStay self.now }
-    {
-        let _ = &self.unit;
-    }
-
-    /// A law: what a call does to the bytes that its tenant reads, place by place. It costs nothing.
-    pub fn own_bytes(&self)
-        ensures { OwnBytes self.now }
-    {
-        let _ = &self.unit;
-    }
-
-    /// A law: what a grant and a take-back do to the slots that the tenant holds. It costs nothing.
-    pub fn own_slots(&self)
-        ensures { OwnSlots self.now }
+    /// What is true of every `Space`, and what each call does to the slots and bytes of its tenant and
+    /// of all others. It costs nothing.
+    pub fn laws(&self)
+        ensures { SpaceLaws self.now }
     {
         let _ = &self.unit;
     }
@@ -314,7 +365,7 @@ impl Space {
         ensures slot { IsLeastSlot self.now.slots t result }
         ensures below { result < length self.now.owners }
     {
-        self.facts();
+        self.laws();
         first_none(self.row(t)).unwrap() as u16
     }
 
@@ -381,6 +432,34 @@ fn zero_fill(bytes: &mut Vec<u8>, unit: usize)
 {
     bytes.clear();
     bytes.resize(unit, 0).unwrap();
+}
+
+/// Copies the bytes of superblock `from` to superblock `to`.
+fn copy_bank(banks: &mut Vec<Vec<u8>>, from: usize, to: usize)
+    requires from { from < vec_len banks.old }
+    requires to { to < vec_len banks.old }
+    requires apart { from ≢ to }
+    requires room { HasRoom (length (bank (bytes_of banks.old) from)) banks.old.items }
+    ensures bytes { bytes_of banks.new ≡ slice_set (bytes_of banks.old) to (bank (bytes_of banks.old) from) }
+    ensures room { (unit : ℕ) → HasRoom unit banks.old.items → HasRoom unit banks.new.items }
+{
+    if from < to {
+        let (low, high) = banks.split_at_mut(to);
+        copy_bytes(&mut high[0], &low[from]);
+    } else {
+        let (low, high) = banks.split_at_mut(from);
+        copy_bytes(&mut low[to], &high[0]);
+    }
+}
+
+/// Makes the bytes those of `source`.
+fn copy_bytes(bytes: &mut Vec<u8>, source: &[u8])
+    requires { length source.now ≤ vec_capacity bytes.old }
+    ensures items { bytes.new.items ≡ source.now }
+    ensures room { vec_capacity bytes.old ≤ vec_capacity bytes.new }
+{
+    bytes.clear();
+    bytes.extend_from_slice(source).unwrap();
 }
 
 fn set_byte_at(banks: &mut Vec<Vec<u8>>, m: usize, i: usize, byte: u8)

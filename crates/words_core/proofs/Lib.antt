@@ -1,3 +1,4 @@
+mod CaseLemmas
 mod LineLemmas
 pub mod TextLemmas
 mod WordLemmas

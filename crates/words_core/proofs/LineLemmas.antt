@@ -1,40 +1,47 @@
--- What a line says: six words decide it, and the two definitions agree.
-use Rattle.std.proofs.Common.{◌≡◌, ◌<◌, ◌≤◌, ℕ, List, [], ◌∷◌, take, length, Option, Result, Err, refl, sym, ◌∙◌, ap, arith}
+-- What a line says: six of its words decide it.
+use Rattle.std.proofs.Common.{◌≡◌, ◌<◌, ◌≤◌, ℕ, List, [], ◌∷◌, take, length, slice_index, ◌==◌, if◌then◌else◌, Some, None, Result, Ok, Err, refl, sym, ◌∙◌, ap, arith}
 use Rattle.std.proofs.lemmas.Bool.Decides.{nat_tests}
 use Rattle.std.specs.Str.Lines.{strip_carriage_return}
-use Rattle.words_core.specs.declared.event.Event.{Event}
 use Rattle.words_core.specs.declared.event.LineFault.{LineFault}
 use Rattle.words_core.specs.declared.event.LineFault.TheVariants.{Long}
-use Rattle.words_core.specs.Grammar.{grant_of, take_back_of, reset_of, pool_of, alloc_of, free_of, read_of, write_of, admin_command_of, command_of, event_of, judged, judged_within, reading_of, Says}
+use Rattle.words_core.specs.Commands.{Actor, administrator, tenant, rows_of, event_by}
+use Rattle.words_core.specs.Grammar.{◌>>=◌, asked_of, actor_of, event_of, judged, judged_within, reading_of}
 use Rattle.words_core.specs.Words.{words_of}
-use Rattle.words_core.proofs.WordLemmas.{words_of-has, has-words_of}
+
+asked-take : (actor : Actor) (words : List (List ℕ)) → asked_of (rows_of actor) (take 5 words) ≡ asked_of (rows_of actor) words
+asked-take actor [] = refl
+asked-take administrator (a ∷ []) = refl
+asked-take administrator (a ∷ b ∷ []) = refl
+asked-take administrator (a ∷ b ∷ c ∷ []) = refl
+asked-take administrator (a ∷ b ∷ c ∷ d ∷ []) = refl
+asked-take administrator (a ∷ b ∷ c ∷ d ∷ e ∷ more) = refl
+asked-take (tenant t) (a ∷ []) = refl
+asked-take (tenant t) (a ∷ b ∷ []) = refl
+asked-take (tenant t) (a ∷ b ∷ c ∷ []) = refl
+asked-take (tenant t) (a ∷ b ∷ c ∷ d ∷ []) = refl
+asked-take (tenant t) (a ∷ b ∷ c ∷ d ∷ e ∷ more) = refl
+
+same_after : {A B : Type 0} (r : Result A LineFault) (f g : A → Result B LineFault) → ((a : A) → f a ≡ g a) → (r >>= f) ≡ (r >>= g)
+same_after (Ok a) f g same = same a
+same_after (Err fault) f g same = refl
+
+event_of-take : (first : List ℕ) (rest : List (List ℕ)) → event_of first (take 5 rest) ≡ event_of first rest
+unfolding event_of
+event_of-take first rest = same_after (actor_of first) _ _ (λ actor.
+    ap (λ asked. asked >>= (λ command. Ok (event_by actor command))) (asked-take actor rest))
 
 -- no command has as many words as six
 pub judged-take : (words : List (List ℕ)) → judged (take 6 words) ≡ judged words
-unfolding judged event_of admin_command_of command_of grant_of take_back_of reset_of pool_of alloc_of free_of read_of write_of
+unfolding judged
 judged-take [] = refl
-judged-take (a ∷ []) = refl
-judged-take (a ∷ b ∷ []) = refl
-judged-take (a ∷ b ∷ c ∷ []) = refl
-judged-take (a ∷ b ∷ c ∷ d ∷ []) = refl
-judged-take (a ∷ b ∷ c ∷ d ∷ e ∷ []) = refl
-judged-take (a ∷ b ∷ c ∷ d ∷ e ∷ f ∷ more) = refl
-
-pub says_reading : (line : List ℕ) → Says line (reading_of line)
-unfolding reading_of
-says_reading line = let bytes = strip_carriage_return line in (words_of bytes, has-words_of bytes, refl)
-
-pub only_reading : (line : List ℕ) (reading : Result (Option Event) LineFault) → Says line reading → reading ≡ reading_of line
-unfolding reading_of
-only_reading line reading (words, has, says) =
-    let bytes = strip_carriage_return line in
-    sym says ∙ ap (judged_within (length bytes)) (sym (words_of-has bytes words has))
+judged-take (first ∷ rest) =
+    ap (λ said. if slice_index first 0 == 35 then Ok None else (said >>= (λ event. Ok (Some event)))) (event_of-take first rest)
 
 pub reading_of-long : (line : List ℕ) → 255 < length (strip_carriage_return line) → reading_of line ≡ Err Long
 unfolding reading_of
 reading_of-long line long = grind (arith, nat_tests)
 
-within : (size : ℕ) (words : List (List ℕ)) → size ≤ 255 → judged_within size words ≡ judged words
+pub within : (size : ℕ) (words : List (List ℕ)) → size ≤ 255 → judged_within size words ≡ judged words
 within size words short = grind (arith, nat_tests)
 
 pub reading_of-words : (line : List ℕ) (words : List (List ℕ)) → length (strip_carriage_return line) ≤ 255

@@ -1,6 +1,9 @@
 pub mod Cutting
 pub mod Words
 pub mod Numbers
+pub mod Commands
 pub mod Grammar
+pub mod Cases
 pub mod Texts
+pub mod Answers
 pub mod Examples

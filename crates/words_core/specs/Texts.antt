@@ -2,6 +2,7 @@
 use Rattle.std.specs.Prelude.{ℕ, ◌+◌, length, count_by, is_none, Option, Some, None, List, [], ◌∷◌, ◌++◌, codes, decimal, map}
 use Rattle.std.specs.List.{concat}
 use Rattle.hex.specs.Hex.{encode_lower}
+use Rattle.model_core.specs.declared.owner.Owner.{Owner}
 use Rattle.words_core.specs.declared.event.LineFault.{LineFault}
 use Rattle.words_core.specs.declared.event.LineFault.TheVariants.{Long, Unknown, Words, Number, Hex}
 use Rattle.words_core.specs.declared.reply.Reply.{Reply}
@@ -60,18 +61,18 @@ addressee_text Nobody = codes "!> "
 addressee_text (Tenant tenant) = decimal tenant ++ codes "> "
 
 -- who owns this superblock, and under which slot
-abbrev pub owner_text : List ℕ → ℕ → Option (ℕ × ℕ) → List ℕ
+abbrev pub owner_text : List ℕ → ℕ → Option Owner → List ℕ
 owner_text front superblock None = front ++ codes "superblock " ++ decimal superblock ++ codes " free"
-owner_text front superblock (Some (tenant, slot)) =
-    front ++ codes "superblock " ++ decimal superblock ++ codes " tenant " ++ decimal tenant ++ codes " slot " ++ decimal slot
+owner_text front superblock (Some owner) =
+    front ++ codes "superblock " ++ decimal superblock ++ codes " tenant " ++ decimal owner.tenant ++ codes " slot " ++ decimal owner.slot
 
 -- a line for each superblock, the first of them with this number
-abbrev pub owner_texts : List ℕ → ℕ → List (Option (ℕ × ℕ)) → List (List ℕ)
+abbrev pub owner_texts : List ℕ → ℕ → List (Option Owner) → List (List ℕ)
 owner_texts front superblock [] = []
 owner_texts front superblock (owner ∷ owners) = owner_text front superblock owner ∷ owner_texts front (superblock + 1) owners
 
 -- how many of how many superblocks have no owner, and then a line for each
-abbrev pub pool_texts : List ℕ → List (Option (ℕ × ℕ)) → List (List ℕ)
+abbrev pub pool_texts : List ℕ → List (Option Owner) → List (List ℕ)
 pool_texts front owners =
     (front ++ codes "pool free " ++ decimal (count_by is_none owners) ++ codes " of " ++ decimal (length owners)) ∷ owner_texts front 0 owners
 

@@ -1,6 +1,7 @@
 ghost use Rattle.std.specs.Prelude.{◌≡◌, ◌≤◌, length};
 
 use arrayvec::ArrayVec;
+use model_core::limits::MOST_BYTES;
 
 /// What a line without fault asks for.
 #[derive(Debug, Drop, PartialEq, Eq)]
@@ -28,13 +29,23 @@ pub enum AdminCommand {
 #[derive(Debug, Drop, PartialEq, Eq)]
 pub enum Command {
     /// `T alloc K`: a page block of `2^order` frames.
-    Alloc { order: u32 },
+    Alloc {
+        order: u32,
+    },
     /// `T free FRAME`: the page block that begins at this frame of the tenant is given back.
-    Free { frame: u32 },
+    Free {
+        frame: u32,
+    },
     /// `T read PLACE LEN`: `len` bytes, from the tenant's byte number `place` on.
-    Read { place: u32, len: u32 },
+    Read {
+        place: u32,
+        len: u32,
+    },
     /// `T write PLACE HEX`: 1 to 64 bytes, stored from the tenant's byte number `place` on.
-    Write { place: u32, bytes: ArrayVec<u8, 64> },
+    Write {
+        place: u32,
+        bytes: ArrayVec<u8, MOST_BYTES>,
+    },
 }
 
 /// Why a line says nothing that can be done.

@@ -1,19 +1,24 @@
 //! The words of the memory manager: what a line of a trace says, and the text of a reply.
 //!
 //! [`read_line`] reads one line as an [`Event`], as nothing, or as a [`LineFault`]; [`write_line`]
-//! writes one line of a [`Reply`]. No call of this crate allocates.
+//! writes one line of a [`Reply`], and [`write_answer`] an [`Answer`], the small reply to a tenant's
+//! command. No call of this crate allocates.
 #![tactic(auto)]
 
+mod answer;
 mod event;
 mod laws;
 mod line;
 mod numbers;
+mod put;
 mod reply;
 mod text;
 mod words;
 
+pub use answer::{Answer, Said, write_answer};
 pub use event::{AdminCommand, Command, Event, LineFault};
 pub use laws::one_case;
-pub use line::read_line;
-pub use reply::{Addressee, Body, MOST_SUPERBLOCKS, Refusal, Reply};
-pub use text::{MOST_REPLY_BYTES, rows, write_line};
+pub use line::{MOST_LINE_BYTES, read_line};
+pub use put::MOST_REPLY_BYTES;
+pub use reply::{Addressee, Body, OWNERS, Refusal, Reply};
+pub use text::{MOST_ROWS, rows, write_line};

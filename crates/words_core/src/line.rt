@@ -2,15 +2,17 @@ ghost use Rattle.std.specs.Prelude.{◌≡◌, ◌<◌, ◌^◌, Option, Result,
 ghost use Rattle.std.specs.Str.Lines.{strip_carriage_return};
 ghost use Rattle.words_core.specs.declared.event.Event.{Event as EventValue};
 ghost use Rattle.words_core.specs.declared.event.LineFault.{LineFault as Fault};
-ghost use Rattle.words_core.specs.Grammar.{argument, grant_of, alloc_of, read_of, take_back_of, reset_of, pool_of, free_of, write_of, bytes_argument, admin_command_of, command_of, admin_event_of, tenant_event_of, tenant_of, event_of, judged, reading_of, Says};
+ghost use Rattle.words_core.specs.Cases.{Says};
+ghost use Rattle.words_core.specs.Commands.{argument, bytes_argument, grant_row, take_back_row, reset_row, pool_row, alloc_row, free_row, read_row, write_row, admin_rows, tenant_rows};
+ghost use Rattle.words_core.specs.Grammar.{command_by, command_of, asked_of, tenant_of, event_of, judged, reading_of};
 
 use crate::event::{AdminCommand, Command, Event, LineFault};
 use crate::numbers::number;
 use crate::words::split_words;
 use arrayvec::ArrayVec;
 
-/// The longest line, in bytes.
-const MOST_BYTES: usize = 255;
+/// A line has at most this many bytes, without its line feed and one carriage return before that.
+pub const MOST_LINE_BYTES: usize = 255;
 
 /// What a line of a trace says: an event, nothing (a blank line or a comment), or a fault.
 ///
@@ -23,7 +25,7 @@ pub fn read_line(line: &[u8]) -> Result<Option<Event>, LineFault>
     ensures exact { result ≡ reading_of line.now }
 {
     let line = without_carriage_return(line);
-    if line.len() > MOST_BYTES {
+    if line.len() > MOST_LINE_BYTES {
         return Err(LineFault::Long);
     }
     judged(split_words(line).as_slice())
@@ -53,8 +55,11 @@ fn event_of(first: &[u8], rest: &[&[u8]]) -> Result<Event, LineFault>
     ensures { result ≡ event_of first.now (map (λ word. word.now) rest.now) }
 {
     match first {
-        b"admin" => admin_event_of(rest),
-        _ => tenant_event_of(tenant_of(first)?, rest),
+        b"admin" => Ok(Event::Admin(asked_of_admin(rest)?)),
+        _ => {
+            let tenant = tenant_of(first)?;
+            Ok(Event::Tenant(tenant, asked_of_tenant(rest)?))
+        }
     }
 }
 
@@ -67,27 +72,26 @@ fn tenant_of(word: &[u8]) -> Result<u32, LineFault>
     })
 }
 
-fn admin_event_of(words: &[&[u8]]) -> Result<Event, LineFault>
-    ensures { result ≡ admin_event_of (map (λ word. word.now) words.now) }
+fn asked_of_admin(words: &[&[u8]]) -> Result<AdminCommand, LineFault>
+    ensures { result ≡ asked_of admin_rows (map (λ word. word.now) words.now) }
 {
-    let [name, arguments @ ..] = words else {
-        return Err(LineFault::Words);
-    };
-    Ok(Event::Admin(admin_command_of(name, arguments)?))
+    match words {
+        [] => Err(LineFault::Words),
+        [name, arguments @ ..] => admin_command_of(name, arguments),
+    }
 }
 
-fn tenant_event_of(tenant: u32, words: &[&[u8]]) -> Result<Event, LineFault>
-    ensures { result ≡ tenant_event_of tenant (map (λ word. word.now) words.now) }
+fn asked_of_tenant(words: &[&[u8]]) -> Result<Command, LineFault>
+    ensures { result ≡ asked_of tenant_rows (map (λ word. word.now) words.now) }
 {
-    let [name, arguments @ ..] = words else {
-        return Err(LineFault::Words);
-    };
-    Ok(Event::Tenant(tenant, command_of(name, arguments)?))
+    match words {
+        [] => Err(LineFault::Words),
+        [name, arguments @ ..] => tenant_command_of(name, arguments),
+    }
 }
 
-#[tactic(auto, unfolding(crate::specs::Grammar::admin_command_of))]
 fn admin_command_of(name: &[u8], arguments: &[&[u8]]) -> Result<AdminCommand, LineFault>
-    ensures { result ≡ admin_command_of name.now (map (λ word. word.now) arguments.now) }
+    ensures { result ≡ command_of admin_rows name.now (map (λ word. word.now) arguments.now) }
 {
     match name {
         b"grant" => grant_of(arguments),
@@ -98,9 +102,8 @@ fn admin_command_of(name: &[u8], arguments: &[&[u8]]) -> Result<AdminCommand, Li
     }
 }
 
-#[tactic(auto, unfolding(crate::specs::Grammar::command_of))]
-fn command_of(name: &[u8], arguments: &[&[u8]]) -> Result<Command, LineFault>
-    ensures { result ≡ command_of name.now (map (λ word. word.now) arguments.now) }
+fn tenant_command_of(name: &[u8], arguments: &[&[u8]]) -> Result<Command, LineFault>
+    ensures { result ≡ command_of tenant_rows name.now (map (λ word. word.now) arguments.now) }
 {
     match name {
         b"alloc" => alloc_of(arguments),
@@ -133,9 +136,8 @@ fn bytes_argument<const N: usize>(word: &[u8]) -> Result<ArrayVec<u8, N>, LineFa
     }
 }
 
-#[tactic(auto, unfolding(crate::specs::Grammar::grant_of))]
 fn grant_of(arguments: &[&[u8]]) -> Result<AdminCommand, LineFault>
-    ensures { result ≡ grant_of (map (λ word. word.now) arguments.now) }
+    ensures { result ≡ command_by grant_row (map (λ word. word.now) arguments.now) }
 {
     let [tenant] = arguments else {
         return Err(LineFault::Words);
@@ -144,9 +146,8 @@ fn grant_of(arguments: &[&[u8]]) -> Result<AdminCommand, LineFault>
     Ok(AdminCommand::Grant { tenant })
 }
 
-#[tactic(auto, unfolding(crate::specs::Grammar::take_back_of))]
 fn take_back_of(arguments: &[&[u8]]) -> Result<AdminCommand, LineFault>
-    ensures { result ≡ take_back_of (map (λ word. word.now) arguments.now) }
+    ensures { result ≡ command_by take_back_row (map (λ word. word.now) arguments.now) }
 {
     let [tenant, slot] = arguments else {
         return Err(LineFault::Words);
@@ -156,9 +157,8 @@ fn take_back_of(arguments: &[&[u8]]) -> Result<AdminCommand, LineFault>
     Ok(AdminCommand::TakeBack { tenant, slot })
 }
 
-#[tactic(auto, unfolding(crate::specs::Grammar::reset_of))]
 fn reset_of(arguments: &[&[u8]]) -> Result<AdminCommand, LineFault>
-    ensures { result ≡ reset_of (map (λ word. word.now) arguments.now) }
+    ensures { result ≡ command_by reset_row (map (λ word. word.now) arguments.now) }
 {
     let [tenant] = arguments else {
         return Err(LineFault::Words);
@@ -167,9 +167,8 @@ fn reset_of(arguments: &[&[u8]]) -> Result<AdminCommand, LineFault>
     Ok(AdminCommand::Reset { tenant })
 }
 
-#[tactic(auto, unfolding(crate::specs::Grammar::pool_of))]
 fn pool_of(arguments: &[&[u8]]) -> Result<AdminCommand, LineFault>
-    ensures { result ≡ pool_of (map (λ word. word.now) arguments.now) }
+    ensures { result ≡ command_by pool_row (map (λ word. word.now) arguments.now) }
 {
     let [] = arguments else {
         return Err(LineFault::Words);
@@ -177,9 +176,8 @@ fn pool_of(arguments: &[&[u8]]) -> Result<AdminCommand, LineFault>
     Ok(AdminCommand::Pool)
 }
 
-#[tactic(auto, unfolding(crate::specs::Grammar::alloc_of))]
 fn alloc_of(arguments: &[&[u8]]) -> Result<Command, LineFault>
-    ensures { result ≡ alloc_of (map (λ word. word.now) arguments.now) }
+    ensures { result ≡ command_by alloc_row (map (λ word. word.now) arguments.now) }
 {
     let [order] = arguments else {
         return Err(LineFault::Words);
@@ -188,9 +186,8 @@ fn alloc_of(arguments: &[&[u8]]) -> Result<Command, LineFault>
     Ok(Command::Alloc { order })
 }
 
-#[tactic(auto, unfolding(crate::specs::Grammar::free_of))]
 fn free_of(arguments: &[&[u8]]) -> Result<Command, LineFault>
-    ensures { result ≡ free_of (map (λ word. word.now) arguments.now) }
+    ensures { result ≡ command_by free_row (map (λ word. word.now) arguments.now) }
 {
     let [frame] = arguments else {
         return Err(LineFault::Words);
@@ -199,9 +196,8 @@ fn free_of(arguments: &[&[u8]]) -> Result<Command, LineFault>
     Ok(Command::Free { frame })
 }
 
-#[tactic(auto, unfolding(crate::specs::Grammar::read_of))]
 fn read_of(arguments: &[&[u8]]) -> Result<Command, LineFault>
-    ensures { result ≡ read_of (map (λ word. word.now) arguments.now) }
+    ensures { result ≡ command_by read_row (map (λ word. word.now) arguments.now) }
 {
     let [place, len] = arguments else {
         return Err(LineFault::Words);
@@ -211,9 +207,8 @@ fn read_of(arguments: &[&[u8]]) -> Result<Command, LineFault>
     Ok(Command::Read { place, len })
 }
 
-#[tactic(auto, unfolding(crate::specs::Grammar::write_of))]
 fn write_of(arguments: &[&[u8]]) -> Result<Command, LineFault>
-    ensures { result ≡ write_of (map (λ word. word.now) arguments.now) }
+    ensures { result ≡ command_by write_row (map (λ word. word.now) arguments.now) }
 {
     let [place, bytes] = arguments else {
         return Err(LineFault::Words);

@@ -1,7 +1,8 @@
 ghost use Rattle.std.specs.Prelude.{◌≡◌};
 ghost use Rattle.words_core.specs.Numbers.{number_of};
 
-const MOST_DIGITS: usize = 10;
+/// A number has at most this many decimal digits, leading zeros among them: any below `2^32` fits.
+pub const MOST_DIGITS: usize = 10;
 
 /// The number that a word is: 1 to 10 decimal digits, with a value below `2^32`.
 pub fn number(word: &[u8]) -> Option<u32>

@@ -2,9 +2,11 @@ ghost use Rattle.std.specs.Prelude.{◌≡◌, ◌≤◌, length};
 
 use crate::event::LineFault;
 use arrayvec::ArrayVec;
+use model_core::limits::{MOST_BYTES, MOST_SUPERBLOCKS};
+use model_core::owner::Owner;
 
-/// The greatest number of superblocks of which a reply can tell the owners.
-pub const MOST_SUPERBLOCKS: usize = 64;
+/// Room for the owners of all superblocks of a machine.
+pub const OWNERS: usize = MOST_SUPERBLOCKS as usize;
 
 /// The answer to an event or to a faulty line: to whom, and what.
 #[derive(Debug, Drop, PartialEq, Eq)]
@@ -40,15 +42,14 @@ pub enum Body {
         tenant: u8,
         superblocks: u16,
     },
-    /// For each superblock of the machine, by rising number, its owner and the slot that it has
-    /// there, if it has an owner.
-    Owners(ArrayVec<Option<(u8, u16)>, MOST_SUPERBLOCKS>),
+    /// For each superblock of the machine, by rising number, its owner, if it has one.
+    Owners(ArrayVec<Option<Owner>, OWNERS>),
     /// The first frame of a new page block.
     Frame(u32),
     /// The order of the page block given back: it had `2^order` frames.
     Freed(u8),
     /// The bytes read, 1 to 64 of them.
-    Bytes(ArrayVec<u8, 64>),
+    Bytes(ArrayVec<u8, MOST_BYTES>),
     /// How many bytes were written, 1 to 64.
     Written(u32),
     /// The command was refused, and changed nothing.

@@ -54,7 +54,7 @@ fn next_word(bytes: &[u8]) -> Option<(&[u8], &[u8])>
 
 /// The words of a line in their order, without those past the sixth.
 pub fn split_words(line: &[u8]) -> ArrayVec<&[u8], MOST_WORDS>
-    ensures { map (λ word. word.now) result.items ≡ take 6 (words_of line.now) }
+    ensures { map (λ word. word.now) result.items ≡ take MOST_WORDS (words_of line.now) }
 {
     let mut words = ArrayVec::new();
     let mut rest = line;

@@ -1,4 +1,4 @@
-use Rattle.buddy_core.proofs.TakenLaws.{taken-with_block, taken-without_block}
+use Rattle.buddy_core.proofs.Holdings.{taken-with_block, taken-without_block}
 use Rattle.buddy_core.proofs.taken_follows.Goals as goal
 
 pub returns : goal.returns

@@ -25,26 +25,26 @@ pub root-requires : goal.root-requires
 root-requires c =
     let a = c.self.inside in
     let s = shown_is a.order a.superblocks.items a.tenants.items c.args.t c.args.self.now c.self.view_is c.requires.tenant in
-    let at = slot_read a.tenants.items c.args.t c.index.result.now s.tenant c.index.ensures c.from.result (Some c.in-Some.m) c.in-Some.ensures in
-    let root = rooted a.order a.superblocks.items a.tenants.items c.self.invariant c.args.t s.tenant c.from.result c.in-Some.m at in
-    let sheet = get_or_read a.superblocks.items c.in-Some.m c.index-2.result.now root.0 c.index-2.ensures bare_of in
+    let at = slot_read a.tenants.items c.args.t c.index.result.now s.tenant c.index.ensures c.from.result (Some c.unwrap-m.result) (sym c.unwrap-m.ensures ∙ c.superblock.ensures) in
+    let root = rooted a.order a.superblocks.items a.tenants.items c.self.invariant c.args.t s.tenant c.from.result c.unwrap-m.result at in
+    let sheet = get_or_read a.superblocks.items c.unwrap-m.result c.index-2.result.now root.0 c.index-2.ensures bare_of in
     subst (λ (z : Sheet). 0 < length z.words) (sym sheet) root.1
 
 pub returns-then-root-order-clause-busy : goal.returns-then-root-order-clause-busy
 returns-then-root-order-clause-busy c =
     let a = c.self.inside in
     let s = shown_is a.order a.superblocks.items a.tenants.items c.args.t c.args.self.now c.self.view_is c.requires.tenant in
-    let at = ap (slot_of (row_of c.args.t a.tenants.items)) (sym c.from.ensures) ∙ slot_read a.tenants.items c.args.t c.index.result.now s.tenant c.index.ensures c.from.result (Some c.in-Some.m) c.in-Some.ensures in
+    let at = ap (slot_of (row_of c.args.t a.tenants.items)) (sym c.from.ensures) ∙ slot_read a.tenants.items c.args.t c.index.result.now s.tenant c.index.ensures c.from.result (Some c.unwrap-m.result) (sym c.unwrap-m.ensures ∙ c.superblock.ensures) in
     let mine = c.self.invariant.each c.args.t s.tenant in
-    let m_lt = mine.within c.args.slot c.in-Some.m at in
-    let sheet = get_or_read a.superblocks.items c.in-Some.m c.index-2.result.now m_lt c.index-2.ensures bare_of in
+    let m_lt = mine.within c.args.slot c.unwrap-m.result at in
+    let sheet = get_or_read a.superblocks.items c.unwrap-m.result c.index-2.result.now m_lt c.index-2.ensures bare_of in
     let small = c.self.invariant.small in
     let one = one_shl a.order 16 (omega arith) in
     let root = c.root.ensures ∙ ap (λ (z : Sheet). slice_index z.words 0) sheet in
     let held = held_by (row_of c.args.t a.tenants.items) in
     let taken = taken_by a.order a.superblocks.items (row_of c.args.t a.tenants.items) in (
       by_shown (λ top held taken. HasTaken taken (slot_block top c.args.slot)) a.order a.superblocks.items a.tenants.items c.args.t c.args.self.now s
-          (busy a.order held taken c.args.slot (sheet_of c.in-Some.m a.superblocks.items).words (mine.shows c.args.slot c.in-Some.m at) (ap is_some at)
+          (busy a.order held taken c.args.slot (sheet_of c.unwrap-m.result a.superblocks.items).words (mine.shows c.args.slot c.unwrap-m.result at) (ap is_some at)
           (λ e. c.if-root-order.true (root ∙ e ∙ sym one))),
       refl,
     )
@@ -62,64 +62,64 @@ pub drop_slot-requires-clause-some : goal.drop_slot-requires-clause-some
 drop_slot-requires-clause-some c =
     let a = c.self.inside in
     let s = shown_is a.order a.superblocks.items a.tenants.items c.args.t c.args.self.now c.self.view_is c.requires.tenant in
-    let at = ap (slot_of (row_of c.args.t a.tenants.items)) (sym c.from.ensures) ∙ slot_read a.tenants.items c.args.t c.index.result.now s.tenant c.index.ensures c.from.result (Some c.in-Some.m) c.in-Some.ensures in
+    let at = ap (slot_of (row_of c.args.t a.tenants.items)) (sym c.from.ensures) ∙ slot_read a.tenants.items c.args.t c.index.result.now s.tenant c.index.ensures c.from.result (Some c.unwrap-m.result) (sym c.unwrap-m.ensures ∙ c.superblock.ensures) in
     let mine = c.self.invariant.each c.args.t s.tenant in
-    let m_lt = mine.within c.args.slot c.in-Some.m at in
-    let sheet = get_or_read a.superblocks.items c.in-Some.m c.index-2.result.now m_lt c.index-2.ensures bare_of in
+    let m_lt = mine.within c.args.slot c.unwrap-m.result at in
+    let sheet = get_or_read a.superblocks.items c.unwrap-m.result c.index-2.result.now m_lt c.index-2.ensures bare_of in
     let small = c.self.invariant.small in
     let one = one_shl a.order 16 (omega arith) in
     let root = c.root.ensures ∙ ap (λ (z : Sheet). slice_index z.words 0) sheet in
     let none = quiet a.order (held_by (row_of c.args.t a.tenants.items)) (taken_by a.order a.superblocks.items (row_of c.args.t a.tenants.items)) c.args.slot
-    (sheet_of c.in-Some.m a.superblocks.items).words (mine.shows c.args.slot c.in-Some.m at) (sym root ∙ c.if-root-order.false ∙ one) in
+    (sheet_of c.unwrap-m.result a.superblocks.items).words (mine.shows c.args.slot c.unwrap-m.result at) (sym root ∙ c.if-root-order.false ∙ one) in
     let row = get_or_read a.tenants.items c.args.t c.index_mut-2.result.now s.tenant c.index_mut-2.ensures.value blank_of in
     subst (λ (r : Row). 0 < slice_index r.free a.order) (sym row)
-    (some_free a.order a.superblocks.items a.tenants.items c.self.invariant c.args.t s.tenant c.args.slot c.in-Some.m at none)
+    (some_free a.order a.superblocks.items a.tenants.items c.self.invariant c.args.t s.tenant c.args.slot c.unwrap-m.result at none)
 
 pub invariant_of-self : goal.invariant_of-self
 invariant_of-self c =
     let a = c.self.inside in
     let s = shown_is a.order a.superblocks.items a.tenants.items c.args.t c.args.self.now c.self.view_is c.requires.tenant in
-    let at = ap (slot_of (row_of c.args.t a.tenants.items)) (sym c.from.ensures) ∙ slot_read a.tenants.items c.args.t c.index.result.now s.tenant c.index.ensures c.from.result (Some c.in-Some.m) c.in-Some.ensures in
+    let at = ap (slot_of (row_of c.args.t a.tenants.items)) (sym c.from.ensures) ∙ slot_read a.tenants.items c.args.t c.index.result.now s.tenant c.index.ensures c.from.result (Some c.unwrap-m.result) (sym c.unwrap-m.ensures ∙ c.superblock.ensures) in
     let mine = c.self.invariant.each c.args.t s.tenant in
-    let m_lt = mine.within c.args.slot c.in-Some.m at in
-    let sheet = get_or_read a.superblocks.items c.in-Some.m c.index-2.result.now m_lt c.index-2.ensures bare_of in
-    let old = get_or_read a.superblocks.items c.in-Some.m c.index_mut.result.now m_lt c.index_mut.ensures.value bare_of in
+    let m_lt = mine.within c.args.slot c.unwrap-m.result at in
+    let sheet = get_or_read a.superblocks.items c.unwrap-m.result c.index-2.result.now m_lt c.index-2.ensures bare_of in
+    let old = get_or_read a.superblocks.items c.unwrap-m.result c.index_mut.result.now m_lt c.index_mut.ensures.value bare_of in
     let small = c.self.invariant.small in
     let one = one_shl a.order 16 (omega arith) in
     let root = c.root.ensures ∙ ap (λ (z : Sheet). slice_index z.words 0) sheet in
     let none = quiet a.order (held_by (row_of c.args.t a.tenants.items)) (taken_by a.order a.superblocks.items (row_of c.args.t a.tenants.items)) c.args.slot
-    (sheet_of c.in-Some.m a.superblocks.items).words (mine.shows c.args.slot c.in-Some.m at) (sym root ∙ c.if-root-order.false ∙ one) in
+    (sheet_of c.unwrap-m.result a.superblocks.items).words (mine.shows c.args.slot c.unwrap-m.result at) (sym root ∙ c.if-root-order.false ∙ one) in
     let row = get_or_read a.tenants.items c.args.t c.index_mut-2.result.now s.tenant c.index_mut-2.ensures.value blank_of in
     let written = row_written c.index_mut-2.result.now (row_of c.args.t a.tenants.items) c.args.slot a.order c.drop_slot.new.self row c.drop_slot.ensures in
-    let blank = cleared_sheet a.order c.index_mut.result.now c.clear.new.self (subst (HasSheetSizes a.order) (sym old) (c.self.invariant.sizes c.in-Some.m m_lt)) c.clear.ensures.words c.clear.ensures.orders in
-    subst (λ (r : Row). IsKept a.order (set a.superblocks.items c.in-Some.m c.clear.new.self) (set a.tenants.items c.args.t r)) (sym written)
-    (subst (λ (z : Sheet). IsKept a.order (set a.superblocks.items c.in-Some.m z) (set a.tenants.items c.args.t (dropped a.order a.superblocks.items a.tenants.items c.self.invariant c.args.t s.tenant c.args.slot c.in-Some.m at none))) (sym blank)
-    (kept_changed a.order a.superblocks.items a.tenants.items c.args.t c.in-Some.m (blank_sheet a.order) _ c.self.invariant
-    (drop_change a.order a.superblocks.items a.tenants.items c.self.invariant c.args.t s.tenant c.args.slot c.in-Some.m at none (blank_sizes a.order))))
+    let blank = cleared_sheet a.order c.index_mut.result.now c.clear.new.self (subst (HasSheetSizes a.order) (sym old) (c.self.invariant.sizes c.unwrap-m.result m_lt)) c.clear.ensures.words c.clear.ensures.orders in
+    subst (λ (r : Row). IsKept a.order (set a.superblocks.items c.unwrap-m.result c.clear.new.self) (set a.tenants.items c.args.t r)) (sym written)
+    (subst (λ (z : Sheet). IsKept a.order (set a.superblocks.items c.unwrap-m.result z) (set a.tenants.items c.args.t (dropped a.order a.superblocks.items a.tenants.items c.self.invariant c.args.t s.tenant c.args.slot c.unwrap-m.result at none))) (sym blank)
+    (kept_changed a.order a.superblocks.items a.tenants.items c.args.t c.unwrap-m.result (blank_sheet a.order) _ c.self.invariant
+    (drop_change a.order a.superblocks.items a.tenants.items c.self.invariant c.args.t s.tenant c.args.slot c.unwrap-m.result at none (blank_sizes a.order))))
 
 pub returns-clause-done : goal.returns-clause-done
 returns-clause-done c =
     let a = c.self.inside in
     let s = shown_is a.order a.superblocks.items a.tenants.items c.args.t c.args.self.now c.self.view_is c.requires.tenant in
-    let at = ap (slot_of (row_of c.args.t a.tenants.items)) (sym c.from.ensures) ∙ slot_read a.tenants.items c.args.t c.index.result.now s.tenant c.index.ensures c.from.result (Some c.in-Some.m) c.in-Some.ensures in
+    let at = ap (slot_of (row_of c.args.t a.tenants.items)) (sym c.from.ensures) ∙ slot_read a.tenants.items c.args.t c.index.result.now s.tenant c.index.ensures c.from.result (Some c.unwrap-m.result) (sym c.unwrap-m.ensures ∙ c.superblock.ensures) in
     let mine = c.self.invariant.each c.args.t s.tenant in
-    let m_lt = mine.within c.args.slot c.in-Some.m at in
-    let sheet = get_or_read a.superblocks.items c.in-Some.m c.index-2.result.now m_lt c.index-2.ensures bare_of in
-    let old = get_or_read a.superblocks.items c.in-Some.m c.index_mut.result.now m_lt c.index_mut.ensures.value bare_of in
+    let m_lt = mine.within c.args.slot c.unwrap-m.result at in
+    let sheet = get_or_read a.superblocks.items c.unwrap-m.result c.index-2.result.now m_lt c.index-2.ensures bare_of in
+    let old = get_or_read a.superblocks.items c.unwrap-m.result c.index_mut.result.now m_lt c.index_mut.ensures.value bare_of in
     let small = c.self.invariant.small in
     let one = one_shl a.order 16 (omega arith) in
     let root = c.root.ensures ∙ ap (λ (z : Sheet). slice_index z.words 0) sheet in
     let none = quiet a.order (held_by (row_of c.args.t a.tenants.items)) (taken_by a.order a.superblocks.items (row_of c.args.t a.tenants.items)) c.args.slot
-    (sheet_of c.in-Some.m a.superblocks.items).words (mine.shows c.args.slot c.in-Some.m at) (sym root ∙ c.if-root-order.false ∙ one) in
+    (sheet_of c.unwrap-m.result a.superblocks.items).words (mine.shows c.args.slot c.unwrap-m.result at) (sym root ∙ c.if-root-order.false ∙ one) in
     let row = get_or_read a.tenants.items c.args.t c.index_mut-2.result.now s.tenant c.index_mut-2.ensures.value blank_of in
     let written = row_written c.index_mut-2.result.now (row_of c.args.t a.tenants.items) c.args.slot a.order c.drop_slot.new.self row c.drop_slot.ensures in
-    let blank = cleared_sheet a.order c.index_mut.result.now c.clear.new.self (subst (HasSheetSizes a.order) (sym old) (c.self.invariant.sizes c.in-Some.m m_lt)) c.clear.ensures.words c.clear.ensures.orders in
-    let change = drop_change a.order a.superblocks.items a.tenants.items c.self.invariant c.args.t s.tenant c.args.slot c.in-Some.m at none (blank_sizes a.order) in (
+    let blank = cleared_sheet a.order c.index_mut.result.now c.clear.new.self (subst (HasSheetSizes a.order) (sym old) (c.self.invariant.sizes c.unwrap-m.result m_lt)) c.clear.ensures.words c.clear.ensures.orders in
+    let change = drop_change a.order a.superblocks.items a.tenants.items c.self.invariant c.args.t s.tenant c.args.slot c.unwrap-m.result at none (blank_sizes a.order) in (
       by_shown (λ top held taken. HasTaken taken (slot_block top c.args.slot) → ⊥) a.order a.superblocks.items a.tenants.items c.args.t c.args.self.now s none,
-      ap (λ (r : Row). content_shown a.order (set a.superblocks.items c.in-Some.m c.clear.new.self) (set a.tenants.items c.args.t r)) written
-          ∙ ap (λ (z : Sheet). content_shown a.order (set a.superblocks.items c.in-Some.m z) (set a.tenants.items c.args.t (dropped a.order a.superblocks.items a.tenants.items c.self.invariant c.args.t s.tenant c.args.slot c.in-Some.m at none))) blank
-          ∙ shown_changed a.order a.superblocks.items a.tenants.items c.args.t c.in-Some.m (blank_sheet a.order) _ c.self.invariant change _
-          (drop_holding a.order a.superblocks.items a.tenants.items c.self.invariant c.args.t s.tenant c.args.slot c.in-Some.m at none)
+      ap (λ (r : Row). content_shown a.order (set a.superblocks.items c.unwrap-m.result c.clear.new.self) (set a.tenants.items c.args.t r)) written
+          ∙ ap (λ (z : Sheet). content_shown a.order (set a.superblocks.items c.unwrap-m.result z) (set a.tenants.items c.args.t (dropped a.order a.superblocks.items a.tenants.items c.self.invariant c.args.t s.tenant c.args.slot c.unwrap-m.result at none))) blank
+          ∙ shown_changed a.order a.superblocks.items a.tenants.items c.args.t c.unwrap-m.result (blank_sheet a.order) _ c.self.invariant change _
+          (drop_holding a.order a.superblocks.items a.tenants.items c.self.invariant c.args.t s.tenant c.args.slot c.unwrap-m.result at none)
           ∙ ap (λ y. with_holding c.args.t (without_slot c.args.slot (holding_shown a.order a.superblocks.items (row_of c.args.t a.tenants.items))) y) c.self.view_is
           ∙ ap (λ g. with_holding c.args.t (without_slot c.args.slot g) c.args.self.now) (sym s.holding),
     )

@@ -12,7 +12,7 @@ invariant_of-result c =
     let sheets = c.loop-superblock.invariant ∙ ap (λ n. replicate n (blank_sheet c.args.order)) superblocks in
     subst (λ (xs : List Sheet). IsKept c.args.order xs c.loop-tenant.rows.items) (sym sheets)
     (subst (λ (xs : List Row). IsKept c.args.order (replicate c.args.superblocks (blank_sheet c.args.order)) xs) (sym rows)
-    (opening_kept c.args.order c.args.superblocks c.args.tenants c.requires.order c.requires.superblocks))
+    (opening_kept c.args.order c.args.superblocks c.args.tenants c.requires.order c.requires.superblocks c.requires.tenants))
 
 pub returns : goal.returns
 returns c =

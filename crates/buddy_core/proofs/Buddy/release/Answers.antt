@@ -1,5 +1,6 @@
-use Rattle.std.proofs.Common.{◌≡◌, refl, sym, ◌∙◌, ap, subst, ℕ, ◌+◌, ◌*◌, ◌/◌, ◌%◌, ◌^◌, ◌<◌, None, List, length, arith}
-use Rattle.std.specs.Prelude.{slice_index}
+use Rattle.std.proofs.Common.{◌≡◌, refl, sym, ◌∙◌, ap, subst, ℕ, ◌+◌, ◌*◌, ◌/◌, ◌%◌, ◌^◌, ◌<◌, Option, Some, None, List, length, arith}
+use Rattle.std.specs.Prelude.{slice_index, IsSome}
+use Rattle.std.proofs.lemmas.Option.{none-some}
 use Rattle.std.proofs.lemmas.List.{get_or_read}
 use Rattle.model_core.specs.Blocks.{Taken}
 use Rattle.buddy_core.specs.Content.{holding_of, with_holding, without_block}
@@ -11,23 +12,25 @@ use Rattle.buddy_core.proofs.Steps.{step_change, holding_now}
 use Rattle.buddy_core.proofs.Releasing.{at_frame, Released, joined_order, joined_le, joined_open, rises, order_le, shown_after, some_taken, some_buddies, released_step}
 use Rattle.buddy_core.proofs.Buddy.release.Goals as goal
 
--- a frame of a slot with nothing under it begins no block
-no_slot : (top : ℕ) (sheets : List Sheet) (row : Row) (f : ℕ) → slot_of row (f / 2 ^ top) ≡ None → taken_by top sheets row f ≡ None
-no_slot top sheets row f e = ap (λ o. order_under sheets o (f % 2 ^ top)) e
+-- a slot in which a block begins has a superblock
+has_superblock : (top : ℕ) (sheets : List Sheet) (row : Row) (f k : ℕ) (o : Option ℕ) → slot_of row (f / 2 ^ top) ≡ o → taken_by top sheets row f ≡ Some k → IsSome o
+has_superblock top sheets row f k None under begins = absurd (none-some k (sym (ap (λ o. order_under sheets o (f % 2 ^ top)) under) ∙ begins))
+has_superblock top sheets row f k (Some m) _ _ = refl
 
-pub returns-in_err-m-clause-answer : goal.returns-in_err-m-clause-answer
-returns-in_err-m-clause-answer c =
+pub unwrap-m-requires : goal.unwrap-m-requires
+unwrap-m-requires c =
     let a = c.self.inside in
     let s = shown_is a.order a.superblocks.items a.tenants.items c.args.t c.args.self.now c.self.view_is c.requires in
-    let slot = slot_read a.tenants.items c.args.t c.index.result.now s.tenant c.index.ensures (c.args.frame / 2 ^ a.order) None c.in_err-m.ensures in
-    c.from_residual-in_err-m.ensures ∙ sym (ap (λ (T : Taken). T c.args.frame) s.taken ∙ no_slot a.order a.superblocks.items (row_of c.args.t a.tenants.items) c.args.frame slot)
+    has_superblock a.order a.superblocks.items (row_of c.args.t a.tenants.items) c.args.frame c.in_ok-k.k c.superblock.result
+    (slot_read a.tenants.items c.args.t c.index.result.now s.tenant c.index.ensures (c.args.frame / 2 ^ a.order) c.superblock.result c.superblock.ensures)
+    (sym (ap (λ (T : Taken). T c.args.frame) s.taken) ∙ sym c.in_ok-k.ensures)
 
 pub index_mut-superblock-requires : goal.index_mut-superblock-requires
 index_mut-superblock-requires c =
     let a = c.self.inside in
     let s = shown_is a.order a.superblocks.items a.tenants.items c.args.t c.args.self.now c.self.view_is c.requires in
     let x = c.args.frame % (1 * 2 ^ a.order % 4294967296) in
-    let at = at_frame a.order a.superblocks.items a.tenants.items c.self.invariant.small c.args.t c.args.self.now s c.args.frame c.in_ok-k.k c.in_ok-m.m x c.index.result.now c.index.ensures c.in_ok-m.ensures c.in_ok-k.ensures refl in
+    let at = at_frame a.order a.superblocks.items a.tenants.items c.self.invariant.small c.args.t c.args.self.now s c.args.frame c.in_ok-k.k c.unwrap-m.result x c.index.result.now c.index.ensures (sym c.unwrap-m.ensures ∙ c.superblock.ensures) c.in_ok-k.ensures refl in
     let m_lt = (c.self.invariant.each c.args.t s.tenant).within _ _ at.slot in
     omega (arith, a.superblocks.ok.0)
 
@@ -36,61 +39,61 @@ release_at-requires-clause-order c =
     let a = c.self.inside in
     let s = shown_is a.order a.superblocks.items a.tenants.items c.args.t c.args.self.now c.self.view_is c.requires in
     let x = c.args.frame % (1 * 2 ^ a.order % 4294967296) in
-    let at = at_frame a.order a.superblocks.items a.tenants.items c.self.invariant.small c.args.t c.args.self.now s c.args.frame c.in_ok-k.k c.in_ok-m.m x c.index.result.now c.index.ensures c.in_ok-m.ensures c.in_ok-k.ensures refl in
+    let at = at_frame a.order a.superblocks.items a.tenants.items c.self.invariant.small c.args.t c.args.self.now s c.args.frame c.in_ok-k.k c.unwrap-m.result x c.index.result.now c.index.ensures (sym c.unwrap-m.ensures ∙ c.superblock.ensures) c.in_ok-k.ensures refl in
     let m_lt = (c.self.invariant.each c.args.t s.tenant).within _ _ at.slot in
-    order_le a.order a.superblocks.items a.tenants.items c.self.invariant c.args.t s.tenant (c.args.frame / 2 ^ a.order) c.in_ok-m.m x c.in_ok-k.k at.slot at.inside at.here
+    order_le a.order a.superblocks.items a.tenants.items c.self.invariant c.args.t s.tenant (c.args.frame / 2 ^ a.order) c.unwrap-m.result x c.in_ok-k.k at.slot at.inside at.here
 
 pub release_at-requires-clause-words : goal.release_at-requires-clause-words
 release_at-requires-clause-words c =
     let a = c.self.inside in
     let s = shown_is a.order a.superblocks.items a.tenants.items c.args.t c.args.self.now c.self.view_is c.requires in
     let x = c.args.frame % (1 * 2 ^ a.order % 4294967296) in
-    let at = at_frame a.order a.superblocks.items a.tenants.items c.self.invariant.small c.args.t c.args.self.now s c.args.frame c.in_ok-k.k c.in_ok-m.m x c.index.result.now c.index.ensures c.in_ok-m.ensures c.in_ok-k.ensures refl in
+    let at = at_frame a.order a.superblocks.items a.tenants.items c.self.invariant.small c.args.t c.args.self.now s c.args.frame c.in_ok-k.k c.unwrap-m.result x c.index.result.now c.index.ensures (sym c.unwrap-m.ensures ∙ c.superblock.ensures) c.in_ok-k.ensures refl in
     let m_lt = (c.self.invariant.each c.args.t s.tenant).within _ _ at.slot in
-    let sheet = get_or_read a.superblocks.items c.in_ok-m.m c.index_mut-superblock.result.now m_lt c.index_mut-superblock.ensures.value bare_of in
-    ap (λ (z : Sheet). length z.words + 1) sheet ∙ (c.self.invariant.sizes c.in_ok-m.m m_lt).words
+    let sheet = get_or_read a.superblocks.items c.unwrap-m.result c.index_mut-superblock.result.now m_lt c.index_mut-superblock.ensures.value bare_of in
+    ap (λ (z : Sheet). length z.words + 1) sheet ∙ (c.self.invariant.sizes c.unwrap-m.result m_lt).words
 
 pub release_at-requires-clause-orders : goal.release_at-requires-clause-orders
 release_at-requires-clause-orders c =
     let a = c.self.inside in
     let s = shown_is a.order a.superblocks.items a.tenants.items c.args.t c.args.self.now c.self.view_is c.requires in
     let x = c.args.frame % (1 * 2 ^ a.order % 4294967296) in
-    let at = at_frame a.order a.superblocks.items a.tenants.items c.self.invariant.small c.args.t c.args.self.now s c.args.frame c.in_ok-k.k c.in_ok-m.m x c.index.result.now c.index.ensures c.in_ok-m.ensures c.in_ok-k.ensures refl in
+    let at = at_frame a.order a.superblocks.items a.tenants.items c.self.invariant.small c.args.t c.args.self.now s c.args.frame c.in_ok-k.k c.unwrap-m.result x c.index.result.now c.index.ensures (sym c.unwrap-m.ensures ∙ c.superblock.ensures) c.in_ok-k.ensures refl in
     let m_lt = (c.self.invariant.each c.args.t s.tenant).within _ _ at.slot in
-    let sheet = get_or_read a.superblocks.items c.in_ok-m.m c.index_mut-superblock.result.now m_lt c.index_mut-superblock.ensures.value bare_of in
-    ap (λ (z : Sheet). length z.orders) sheet ∙ (c.self.invariant.sizes c.in_ok-m.m m_lt).orders
+    let sheet = get_or_read a.superblocks.items c.unwrap-m.result c.index_mut-superblock.result.now m_lt c.index_mut-superblock.ensures.value bare_of in
+    ap (λ (z : Sheet). length z.orders) sheet ∙ (c.self.invariant.sizes c.unwrap-m.result m_lt).orders
 
 pub free_around-joined-requires-clause-order : goal.free_around-joined-requires-clause-order
 free_around-joined-requires-clause-order c =
     let a = c.self.inside in
     let s = shown_is a.order a.superblocks.items a.tenants.items c.args.t c.args.self.now c.self.view_is c.requires in
     let x = c.args.frame % (1 * 2 ^ a.order % 4294967296) in
-    let at = at_frame a.order a.superblocks.items a.tenants.items c.self.invariant.small c.args.t c.args.self.now s c.args.frame c.in_ok-k.k c.in_ok-m.m x c.index.result.now c.index.ensures c.in_ok-m.ensures c.in_ok-k.ensures refl in
+    let at = at_frame a.order a.superblocks.items a.tenants.items c.self.invariant.small c.args.t c.args.self.now s c.args.frame c.in_ok-k.k c.unwrap-m.result x c.index.result.now c.index.ensures (sym c.unwrap-m.ensures ∙ c.superblock.ensures) c.in_ok-k.ensures refl in
     let m_lt = (c.self.invariant.each c.args.t s.tenant).within _ _ at.slot in
-    order_le a.order a.superblocks.items a.tenants.items c.self.invariant c.args.t s.tenant (c.args.frame / 2 ^ a.order) c.in_ok-m.m x c.in_ok-k.k at.slot at.inside at.here
+    order_le a.order a.superblocks.items a.tenants.items c.self.invariant c.args.t s.tenant (c.args.frame / 2 ^ a.order) c.unwrap-m.result x c.in_ok-k.k at.slot at.inside at.here
 
 pub free_around-joined-requires-clause-words : goal.free_around-joined-requires-clause-words
 free_around-joined-requires-clause-words c =
     let a = c.self.inside in
     let s = shown_is a.order a.superblocks.items a.tenants.items c.args.t c.args.self.now c.self.view_is c.requires in
     let x = c.args.frame % (1 * 2 ^ a.order % 4294967296) in
-    let at = at_frame a.order a.superblocks.items a.tenants.items c.self.invariant.small c.args.t c.args.self.now s c.args.frame c.in_ok-k.k c.in_ok-m.m x c.index.result.now c.index.ensures c.in_ok-m.ensures c.in_ok-k.ensures refl in
+    let at = at_frame a.order a.superblocks.items a.tenants.items c.self.invariant.small c.args.t c.args.self.now s c.args.frame c.in_ok-k.k c.unwrap-m.result x c.index.result.now c.index.ensures (sym c.unwrap-m.ensures ∙ c.superblock.ensures) c.in_ok-k.ensures refl in
     let m_lt = (c.self.invariant.each c.args.t s.tenant).within _ _ at.slot in
-    let sheet = get_or_read a.superblocks.items c.in_ok-m.m c.index_mut-superblock.result.now m_lt c.index_mut-superblock.ensures.value bare_of in
-    ap (λ n. n + 1) c.release_at.ensures.size ∙ ap (λ (z : Sheet). length z.words + 1) sheet ∙ (c.self.invariant.sizes c.in_ok-m.m m_lt).words
+    let sheet = get_or_read a.superblocks.items c.unwrap-m.result c.index_mut-superblock.result.now m_lt c.index_mut-superblock.ensures.value bare_of in
+    ap (λ n. n + 1) c.release_at.ensures.size ∙ ap (λ (z : Sheet). length z.words + 1) sheet ∙ (c.self.invariant.sizes c.unwrap-m.result m_lt).words
 
 pub count_released-requires-clause-order : goal.count_released-requires-clause-order
 count_released-requires-clause-order c =
     let a = c.self.inside in
     let s = shown_is a.order a.superblocks.items a.tenants.items c.args.t c.args.self.now c.self.view_is c.requires in
     let x = c.args.frame % (1 * 2 ^ a.order % 4294967296) in
-    let at = at_frame a.order a.superblocks.items a.tenants.items c.self.invariant.small c.args.t c.args.self.now s c.args.frame c.in_ok-k.k c.in_ok-m.m x c.index.result.now c.index.ensures c.in_ok-m.ensures c.in_ok-k.ensures refl in
+    let at = at_frame a.order a.superblocks.items a.tenants.items c.self.invariant.small c.args.t c.args.self.now s c.args.frame c.in_ok-k.k c.unwrap-m.result x c.index.result.now c.index.ensures (sym c.unwrap-m.ensures ∙ c.superblock.ensures) c.in_ok-k.ensures refl in
     let m_lt = (c.self.invariant.each c.args.t s.tenant).within _ _ at.slot in
-    let sheet = get_or_read a.superblocks.items c.in_ok-m.m c.index_mut-superblock.result.now m_lt c.index_mut-superblock.ensures.value bare_of in
-    let joined : c.free_around-joined.result ≡ joined_order a.order a.superblocks.items a.tenants.items c.self.invariant c.args.t s.tenant (c.args.frame / 2 ^ a.order) c.in_ok-m.m x c.in_ok-k.k at.slot at.inside at.here
-    = c.free_around-joined.ensures _ _ (shown_after a.order a.superblocks.items a.tenants.items c.self.invariant c.args.t s.tenant (c.args.frame / 2 ^ a.order) c.in_ok-m.m x c.in_ok-k.k at.slot at.inside at.here c.index_mut-superblock.result.now c.release_at.new.self.words sheet c.release_at.ensures.words)
-    (rises a.order a.superblocks.items a.tenants.items c.self.invariant c.args.t s.tenant (c.args.frame / 2 ^ a.order) c.in_ok-m.m x c.in_ok-k.k at.slot at.inside at.here) (joined_open a.order a.superblocks.items a.tenants.items c.self.invariant c.args.t s.tenant (c.args.frame / 2 ^ a.order) c.in_ok-m.m x c.in_ok-k.k at.slot at.inside at.here) in
-    let up = rises a.order a.superblocks.items a.tenants.items c.self.invariant c.args.t s.tenant (c.args.frame / 2 ^ a.order) c.in_ok-m.m x c.in_ok-k.k at.slot at.inside at.here in
+    let sheet = get_or_read a.superblocks.items c.unwrap-m.result c.index_mut-superblock.result.now m_lt c.index_mut-superblock.ensures.value bare_of in
+    let joined : c.free_around-joined.result ≡ joined_order a.order a.superblocks.items a.tenants.items c.self.invariant c.args.t s.tenant (c.args.frame / 2 ^ a.order) c.unwrap-m.result x c.in_ok-k.k at.slot at.inside at.here
+    = c.free_around-joined.ensures _ _ (shown_after a.order a.superblocks.items a.tenants.items c.self.invariant c.args.t s.tenant (c.args.frame / 2 ^ a.order) c.unwrap-m.result x c.in_ok-k.k at.slot at.inside at.here c.index_mut-superblock.result.now c.release_at.new.self.words sheet c.release_at.ensures.words)
+    (rises a.order a.superblocks.items a.tenants.items c.self.invariant c.args.t s.tenant (c.args.frame / 2 ^ a.order) c.unwrap-m.result x c.in_ok-k.k at.slot at.inside at.here) (joined_open a.order a.superblocks.items a.tenants.items c.self.invariant c.args.t s.tenant (c.args.frame / 2 ^ a.order) c.unwrap-m.result x c.in_ok-k.k at.slot at.inside at.here) in
+    let up = rises a.order a.superblocks.items a.tenants.items c.self.invariant c.args.t s.tenant (c.args.frame / 2 ^ a.order) c.unwrap-m.result x c.in_ok-k.k at.slot at.inside at.here in
     omega arith
 
 pub count_released-requires-clause-free : goal.count_released-requires-clause-free
@@ -98,14 +101,14 @@ count_released-requires-clause-free c =
     let a = c.self.inside in
     let s = shown_is a.order a.superblocks.items a.tenants.items c.args.t c.args.self.now c.self.view_is c.requires in
     let x = c.args.frame % (1 * 2 ^ a.order % 4294967296) in
-    let at = at_frame a.order a.superblocks.items a.tenants.items c.self.invariant.small c.args.t c.args.self.now s c.args.frame c.in_ok-k.k c.in_ok-m.m x c.index.result.now c.index.ensures c.in_ok-m.ensures c.in_ok-k.ensures refl in
+    let at = at_frame a.order a.superblocks.items a.tenants.items c.self.invariant.small c.args.t c.args.self.now s c.args.frame c.in_ok-k.k c.unwrap-m.result x c.index.result.now c.index.ensures (sym c.unwrap-m.ensures ∙ c.superblock.ensures) c.in_ok-k.ensures refl in
     let m_lt = (c.self.invariant.each c.args.t s.tenant).within _ _ at.slot in
-    let sheet = get_or_read a.superblocks.items c.in_ok-m.m c.index_mut-superblock.result.now m_lt c.index_mut-superblock.ensures.value bare_of in
-    let joined : c.free_around-joined.result ≡ joined_order a.order a.superblocks.items a.tenants.items c.self.invariant c.args.t s.tenant (c.args.frame / 2 ^ a.order) c.in_ok-m.m x c.in_ok-k.k at.slot at.inside at.here
-    = c.free_around-joined.ensures _ _ (shown_after a.order a.superblocks.items a.tenants.items c.self.invariant c.args.t s.tenant (c.args.frame / 2 ^ a.order) c.in_ok-m.m x c.in_ok-k.k at.slot at.inside at.here c.index_mut-superblock.result.now c.release_at.new.self.words sheet c.release_at.ensures.words)
-    (rises a.order a.superblocks.items a.tenants.items c.self.invariant c.args.t s.tenant (c.args.frame / 2 ^ a.order) c.in_ok-m.m x c.in_ok-k.k at.slot at.inside at.here) (joined_open a.order a.superblocks.items a.tenants.items c.self.invariant c.args.t s.tenant (c.args.frame / 2 ^ a.order) c.in_ok-m.m x c.in_ok-k.k at.slot at.inside at.here) in
+    let sheet = get_or_read a.superblocks.items c.unwrap-m.result c.index_mut-superblock.result.now m_lt c.index_mut-superblock.ensures.value bare_of in
+    let joined : c.free_around-joined.result ≡ joined_order a.order a.superblocks.items a.tenants.items c.self.invariant c.args.t s.tenant (c.args.frame / 2 ^ a.order) c.unwrap-m.result x c.in_ok-k.k at.slot at.inside at.here
+    = c.free_around-joined.ensures _ _ (shown_after a.order a.superblocks.items a.tenants.items c.self.invariant c.args.t s.tenant (c.args.frame / 2 ^ a.order) c.unwrap-m.result x c.in_ok-k.k at.slot at.inside at.here c.index_mut-superblock.result.now c.release_at.new.self.words sheet c.release_at.ensures.words)
+    (rises a.order a.superblocks.items a.tenants.items c.self.invariant c.args.t s.tenant (c.args.frame / 2 ^ a.order) c.unwrap-m.result x c.in_ok-k.k at.slot at.inside at.here) (joined_open a.order a.superblocks.items a.tenants.items c.self.invariant c.args.t s.tenant (c.args.frame / 2 ^ a.order) c.unwrap-m.result x c.in_ok-k.k at.slot at.inside at.here) in
     let row = get_or_read a.tenants.items c.args.t c.index_mut.result.now s.tenant c.index_mut.ensures.value blank_of in
-    let le = joined_le a.order a.superblocks.items a.tenants.items c.self.invariant c.args.t s.tenant (c.args.frame / 2 ^ a.order) c.in_ok-m.m x c.in_ok-k.k at.slot at.inside at.here in
+    let le = joined_le a.order a.superblocks.items a.tenants.items c.self.invariant c.args.t s.tenant (c.args.frame / 2 ^ a.order) c.unwrap-m.result x c.in_ok-k.k at.slot at.inside at.here in
     let size : length c.index_mut.result.now.free ≡ a.order + 1 = ap (λ (r : Row). length r.free) row ∙ (c.self.invariant.each c.args.t s.tenant).sizes.free in
     omega arith
 
@@ -114,14 +117,14 @@ count_released-requires-clause-taken c =
     let a = c.self.inside in
     let s = shown_is a.order a.superblocks.items a.tenants.items c.args.t c.args.self.now c.self.view_is c.requires in
     let x = c.args.frame % (1 * 2 ^ a.order % 4294967296) in
-    let at = at_frame a.order a.superblocks.items a.tenants.items c.self.invariant.small c.args.t c.args.self.now s c.args.frame c.in_ok-k.k c.in_ok-m.m x c.index.result.now c.index.ensures c.in_ok-m.ensures c.in_ok-k.ensures refl in
+    let at = at_frame a.order a.superblocks.items a.tenants.items c.self.invariant.small c.args.t c.args.self.now s c.args.frame c.in_ok-k.k c.unwrap-m.result x c.index.result.now c.index.ensures (sym c.unwrap-m.ensures ∙ c.superblock.ensures) c.in_ok-k.ensures refl in
     let m_lt = (c.self.invariant.each c.args.t s.tenant).within _ _ at.slot in
-    let sheet = get_or_read a.superblocks.items c.in_ok-m.m c.index_mut-superblock.result.now m_lt c.index_mut-superblock.ensures.value bare_of in
-    let joined : c.free_around-joined.result ≡ joined_order a.order a.superblocks.items a.tenants.items c.self.invariant c.args.t s.tenant (c.args.frame / 2 ^ a.order) c.in_ok-m.m x c.in_ok-k.k at.slot at.inside at.here
-    = c.free_around-joined.ensures _ _ (shown_after a.order a.superblocks.items a.tenants.items c.self.invariant c.args.t s.tenant (c.args.frame / 2 ^ a.order) c.in_ok-m.m x c.in_ok-k.k at.slot at.inside at.here c.index_mut-superblock.result.now c.release_at.new.self.words sheet c.release_at.ensures.words)
-    (rises a.order a.superblocks.items a.tenants.items c.self.invariant c.args.t s.tenant (c.args.frame / 2 ^ a.order) c.in_ok-m.m x c.in_ok-k.k at.slot at.inside at.here) (joined_open a.order a.superblocks.items a.tenants.items c.self.invariant c.args.t s.tenant (c.args.frame / 2 ^ a.order) c.in_ok-m.m x c.in_ok-k.k at.slot at.inside at.here) in
+    let sheet = get_or_read a.superblocks.items c.unwrap-m.result c.index_mut-superblock.result.now m_lt c.index_mut-superblock.ensures.value bare_of in
+    let joined : c.free_around-joined.result ≡ joined_order a.order a.superblocks.items a.tenants.items c.self.invariant c.args.t s.tenant (c.args.frame / 2 ^ a.order) c.unwrap-m.result x c.in_ok-k.k at.slot at.inside at.here
+    = c.free_around-joined.ensures _ _ (shown_after a.order a.superblocks.items a.tenants.items c.self.invariant c.args.t s.tenant (c.args.frame / 2 ^ a.order) c.unwrap-m.result x c.in_ok-k.k at.slot at.inside at.here c.index_mut-superblock.result.now c.release_at.new.self.words sheet c.release_at.ensures.words)
+    (rises a.order a.superblocks.items a.tenants.items c.self.invariant c.args.t s.tenant (c.args.frame / 2 ^ a.order) c.unwrap-m.result x c.in_ok-k.k at.slot at.inside at.here) (joined_open a.order a.superblocks.items a.tenants.items c.self.invariant c.args.t s.tenant (c.args.frame / 2 ^ a.order) c.unwrap-m.result x c.in_ok-k.k at.slot at.inside at.here) in
     let row = get_or_read a.tenants.items c.args.t c.index_mut.result.now s.tenant c.index_mut.ensures.value blank_of in
-    let le = joined_le a.order a.superblocks.items a.tenants.items c.self.invariant c.args.t s.tenant (c.args.frame / 2 ^ a.order) c.in_ok-m.m x c.in_ok-k.k at.slot at.inside at.here in
+    let le = joined_le a.order a.superblocks.items a.tenants.items c.self.invariant c.args.t s.tenant (c.args.frame / 2 ^ a.order) c.unwrap-m.result x c.in_ok-k.k at.slot at.inside at.here in
     let size : length c.index_mut.result.now.taken ≡ a.order + 1 = ap (λ (r : Row). length r.taken) row ∙ (c.self.invariant.each c.args.t s.tenant).sizes.taken in
     omega arith
 
@@ -130,24 +133,24 @@ count_released-requires-clause-some c =
     let a = c.self.inside in
     let s = shown_is a.order a.superblocks.items a.tenants.items c.args.t c.args.self.now c.self.view_is c.requires in
     let x = c.args.frame % (1 * 2 ^ a.order % 4294967296) in
-    let at = at_frame a.order a.superblocks.items a.tenants.items c.self.invariant.small c.args.t c.args.self.now s c.args.frame c.in_ok-k.k c.in_ok-m.m x c.index.result.now c.index.ensures c.in_ok-m.ensures c.in_ok-k.ensures refl in
+    let at = at_frame a.order a.superblocks.items a.tenants.items c.self.invariant.small c.args.t c.args.self.now s c.args.frame c.in_ok-k.k c.unwrap-m.result x c.index.result.now c.index.ensures (sym c.unwrap-m.ensures ∙ c.superblock.ensures) c.in_ok-k.ensures refl in
     let m_lt = (c.self.invariant.each c.args.t s.tenant).within _ _ at.slot in
     let row = get_or_read a.tenants.items c.args.t c.index_mut.result.now s.tenant c.index_mut.ensures.value blank_of in
-    subst (λ (r : Row). 0 < slice_index r.taken c.in_ok-k.k) (sym row) (some_taken a.order a.superblocks.items a.tenants.items c.self.invariant c.args.t s.tenant (c.args.frame / 2 ^ a.order) c.in_ok-m.m x c.in_ok-k.k at.slot at.inside at.here)
+    subst (λ (r : Row). 0 < slice_index r.taken c.in_ok-k.k) (sym row) (some_taken a.order a.superblocks.items a.tenants.items c.self.invariant c.args.t s.tenant (c.args.frame / 2 ^ a.order) c.unwrap-m.result x c.in_ok-k.k at.slot at.inside at.here)
 
 pub count_released-requires-clause-buddies : goal.count_released-requires-clause-buddies
 count_released-requires-clause-buddies c i up lt =
     let a = c.self.inside in
     let s = shown_is a.order a.superblocks.items a.tenants.items c.args.t c.args.self.now c.self.view_is c.requires in
     let x = c.args.frame % (1 * 2 ^ a.order % 4294967296) in
-    let at = at_frame a.order a.superblocks.items a.tenants.items c.self.invariant.small c.args.t c.args.self.now s c.args.frame c.in_ok-k.k c.in_ok-m.m x c.index.result.now c.index.ensures c.in_ok-m.ensures c.in_ok-k.ensures refl in
+    let at = at_frame a.order a.superblocks.items a.tenants.items c.self.invariant.small c.args.t c.args.self.now s c.args.frame c.in_ok-k.k c.unwrap-m.result x c.index.result.now c.index.ensures (sym c.unwrap-m.ensures ∙ c.superblock.ensures) c.in_ok-k.ensures refl in
     let m_lt = (c.self.invariant.each c.args.t s.tenant).within _ _ at.slot in
-    let sheet = get_or_read a.superblocks.items c.in_ok-m.m c.index_mut-superblock.result.now m_lt c.index_mut-superblock.ensures.value bare_of in
-    let joined : c.free_around-joined.result ≡ joined_order a.order a.superblocks.items a.tenants.items c.self.invariant c.args.t s.tenant (c.args.frame / 2 ^ a.order) c.in_ok-m.m x c.in_ok-k.k at.slot at.inside at.here
-    = c.free_around-joined.ensures _ _ (shown_after a.order a.superblocks.items a.tenants.items c.self.invariant c.args.t s.tenant (c.args.frame / 2 ^ a.order) c.in_ok-m.m x c.in_ok-k.k at.slot at.inside at.here c.index_mut-superblock.result.now c.release_at.new.self.words sheet c.release_at.ensures.words)
-    (rises a.order a.superblocks.items a.tenants.items c.self.invariant c.args.t s.tenant (c.args.frame / 2 ^ a.order) c.in_ok-m.m x c.in_ok-k.k at.slot at.inside at.here) (joined_open a.order a.superblocks.items a.tenants.items c.self.invariant c.args.t s.tenant (c.args.frame / 2 ^ a.order) c.in_ok-m.m x c.in_ok-k.k at.slot at.inside at.here) in
+    let sheet = get_or_read a.superblocks.items c.unwrap-m.result c.index_mut-superblock.result.now m_lt c.index_mut-superblock.ensures.value bare_of in
+    let joined : c.free_around-joined.result ≡ joined_order a.order a.superblocks.items a.tenants.items c.self.invariant c.args.t s.tenant (c.args.frame / 2 ^ a.order) c.unwrap-m.result x c.in_ok-k.k at.slot at.inside at.here
+    = c.free_around-joined.ensures _ _ (shown_after a.order a.superblocks.items a.tenants.items c.self.invariant c.args.t s.tenant (c.args.frame / 2 ^ a.order) c.unwrap-m.result x c.in_ok-k.k at.slot at.inside at.here c.index_mut-superblock.result.now c.release_at.new.self.words sheet c.release_at.ensures.words)
+    (rises a.order a.superblocks.items a.tenants.items c.self.invariant c.args.t s.tenant (c.args.frame / 2 ^ a.order) c.unwrap-m.result x c.in_ok-k.k at.slot at.inside at.here) (joined_open a.order a.superblocks.items a.tenants.items c.self.invariant c.args.t s.tenant (c.args.frame / 2 ^ a.order) c.unwrap-m.result x c.in_ok-k.k at.slot at.inside at.here) in
     let row = get_or_read a.tenants.items c.args.t c.index_mut.result.now s.tenant c.index_mut.ensures.value blank_of in
-    subst (λ (r : Row). 0 < slice_index r.free i) (sym row) (some_buddies a.order a.superblocks.items a.tenants.items c.self.invariant c.args.t s.tenant (c.args.frame / 2 ^ a.order) c.in_ok-m.m x c.in_ok-k.k at.slot at.inside at.here i up (subst (λ n. i < n) joined lt))
+    subst (λ (r : Row). 0 < slice_index r.free i) (sym row) (some_buddies a.order a.superblocks.items a.tenants.items c.self.invariant c.args.t s.tenant (c.args.frame / 2 ^ a.order) c.unwrap-m.result x c.in_ok-k.k at.slot at.inside at.here i up (subst (λ n. i < n) joined lt))
 
 pub count_released-requires-clause-room : goal.count_released-requires-clause-room
 count_released-requires-clause-room c =
@@ -161,12 +164,12 @@ invariant_of-self c =
     let a = c.self.inside in
     let s = shown_is a.order a.superblocks.items a.tenants.items c.args.t c.args.self.now c.self.view_is c.requires in
     let x = c.args.frame % (1 * 2 ^ a.order % 4294967296) in
-    let at = at_frame a.order a.superblocks.items a.tenants.items c.self.invariant.small c.args.t c.args.self.now s c.args.frame c.in_ok-k.k c.in_ok-m.m x c.index.result.now c.index.ensures c.in_ok-m.ensures c.in_ok-k.ensures refl in
+    let at = at_frame a.order a.superblocks.items a.tenants.items c.self.invariant.small c.args.t c.args.self.now s c.args.frame c.in_ok-k.k c.unwrap-m.result x c.index.result.now c.index.ensures (sym c.unwrap-m.ensures ∙ c.superblock.ensures) c.in_ok-k.ensures refl in
     let m_lt = (c.self.invariant.each c.args.t s.tenant).within _ _ at.slot in
-    let sheet = get_or_read a.superblocks.items c.in_ok-m.m c.index_mut-superblock.result.now m_lt c.index_mut-superblock.ensures.value bare_of in
-    let joined : c.free_around-joined.result ≡ joined_order a.order a.superblocks.items a.tenants.items c.self.invariant c.args.t s.tenant (c.args.frame / 2 ^ a.order) c.in_ok-m.m x c.in_ok-k.k at.slot at.inside at.here
-    = c.free_around-joined.ensures _ _ (shown_after a.order a.superblocks.items a.tenants.items c.self.invariant c.args.t s.tenant (c.args.frame / 2 ^ a.order) c.in_ok-m.m x c.in_ok-k.k at.slot at.inside at.here c.index_mut-superblock.result.now c.release_at.new.self.words sheet c.release_at.ensures.words)
-    (rises a.order a.superblocks.items a.tenants.items c.self.invariant c.args.t s.tenant (c.args.frame / 2 ^ a.order) c.in_ok-m.m x c.in_ok-k.k at.slot at.inside at.here) (joined_open a.order a.superblocks.items a.tenants.items c.self.invariant c.args.t s.tenant (c.args.frame / 2 ^ a.order) c.in_ok-m.m x c.in_ok-k.k at.slot at.inside at.here) in
+    let sheet = get_or_read a.superblocks.items c.unwrap-m.result c.index_mut-superblock.result.now m_lt c.index_mut-superblock.ensures.value bare_of in
+    let joined : c.free_around-joined.result ≡ joined_order a.order a.superblocks.items a.tenants.items c.self.invariant c.args.t s.tenant (c.args.frame / 2 ^ a.order) c.unwrap-m.result x c.in_ok-k.k at.slot at.inside at.here
+    = c.free_around-joined.ensures _ _ (shown_after a.order a.superblocks.items a.tenants.items c.self.invariant c.args.t s.tenant (c.args.frame / 2 ^ a.order) c.unwrap-m.result x c.in_ok-k.k at.slot at.inside at.here c.index_mut-superblock.result.now c.release_at.new.self.words sheet c.release_at.ensures.words)
+    (rises a.order a.superblocks.items a.tenants.items c.self.invariant c.args.t s.tenant (c.args.frame / 2 ^ a.order) c.unwrap-m.result x c.in_ok-k.k at.slot at.inside at.here) (joined_open a.order a.superblocks.items a.tenants.items c.self.invariant c.args.t s.tenant (c.args.frame / 2 ^ a.order) c.unwrap-m.result x c.in_ok-k.k at.slot at.inside at.here) in
     let row = get_or_read a.tenants.items c.args.t c.index_mut.result.now s.tenant c.index_mut.ensures.value blank_of in
     let change : Released a.order c.free_around-joined.result c.in_ok-k.k x c.index_mut-superblock.result.now c.index_mut.result.now c.release_at.new.self c.count_released.new.self = record {
       orders = c.release_at.ensures.orders;
@@ -178,24 +181,24 @@ invariant_of-self c =
       buddies = c.count_released.ensures.buddies;
       others = c.count_released.ensures.others;
     } in
-    let here = subst (λ n. Released a.order n c.in_ok-k.k x (sheet_of c.in_ok-m.m a.superblocks.items) (row_of c.args.t a.tenants.items) c.release_at.new.self c.count_released.new.self) joined
-    (subst (λ (r : Row). Released a.order c.free_around-joined.result c.in_ok-k.k x (sheet_of c.in_ok-m.m a.superblocks.items) r c.release_at.new.self c.count_released.new.self) row
+    let here = subst (λ n. Released a.order n c.in_ok-k.k x (sheet_of c.unwrap-m.result a.superblocks.items) (row_of c.args.t a.tenants.items) c.release_at.new.self c.count_released.new.self) joined
+    (subst (λ (r : Row). Released a.order c.free_around-joined.result c.in_ok-k.k x (sheet_of c.unwrap-m.result a.superblocks.items) r c.release_at.new.self c.count_released.new.self) row
     (subst (λ (z : Sheet). Released a.order c.free_around-joined.result c.in_ok-k.k x z c.index_mut.result.now c.release_at.new.self c.count_released.new.self) sheet change)) in
-    let step = released_step a.order a.superblocks.items a.tenants.items c.self.invariant c.args.t s.tenant (c.args.frame / 2 ^ a.order) c.in_ok-m.m x c.in_ok-k.k at.slot at.inside at.here c.release_at.new.self c.count_released.new.self here in
-    let changed = step_change a.order a.superblocks.items a.tenants.items c.args.t (c.args.frame / 2 ^ a.order) c.in_ok-m.m x c.release_at.new.self c.count_released.new.self None c.self.invariant step in
-    kept_changed a.order a.superblocks.items a.tenants.items c.args.t c.in_ok-m.m c.release_at.new.self c.count_released.new.self c.self.invariant changed
+    let step = released_step a.order a.superblocks.items a.tenants.items c.self.invariant c.args.t s.tenant (c.args.frame / 2 ^ a.order) c.unwrap-m.result x c.in_ok-k.k at.slot at.inside at.here c.release_at.new.self c.count_released.new.self here in
+    let changed = step_change a.order a.superblocks.items a.tenants.items c.args.t (c.args.frame / 2 ^ a.order) c.unwrap-m.result x c.release_at.new.self c.count_released.new.self None c.self.invariant step in
+    kept_changed a.order a.superblocks.items a.tenants.items c.args.t c.unwrap-m.result c.release_at.new.self c.count_released.new.self c.self.invariant changed
 
 pub returns-clause-done : goal.returns-clause-done
 returns-clause-done c =
     let a = c.self.inside in
     let s = shown_is a.order a.superblocks.items a.tenants.items c.args.t c.args.self.now c.self.view_is c.requires in
     let x = c.args.frame % (1 * 2 ^ a.order % 4294967296) in
-    let at = at_frame a.order a.superblocks.items a.tenants.items c.self.invariant.small c.args.t c.args.self.now s c.args.frame c.in_ok-k.k c.in_ok-m.m x c.index.result.now c.index.ensures c.in_ok-m.ensures c.in_ok-k.ensures refl in
+    let at = at_frame a.order a.superblocks.items a.tenants.items c.self.invariant.small c.args.t c.args.self.now s c.args.frame c.in_ok-k.k c.unwrap-m.result x c.index.result.now c.index.ensures (sym c.unwrap-m.ensures ∙ c.superblock.ensures) c.in_ok-k.ensures refl in
     let m_lt = (c.self.invariant.each c.args.t s.tenant).within _ _ at.slot in
-    let sheet = get_or_read a.superblocks.items c.in_ok-m.m c.index_mut-superblock.result.now m_lt c.index_mut-superblock.ensures.value bare_of in
-    let joined : c.free_around-joined.result ≡ joined_order a.order a.superblocks.items a.tenants.items c.self.invariant c.args.t s.tenant (c.args.frame / 2 ^ a.order) c.in_ok-m.m x c.in_ok-k.k at.slot at.inside at.here
-    = c.free_around-joined.ensures _ _ (shown_after a.order a.superblocks.items a.tenants.items c.self.invariant c.args.t s.tenant (c.args.frame / 2 ^ a.order) c.in_ok-m.m x c.in_ok-k.k at.slot at.inside at.here c.index_mut-superblock.result.now c.release_at.new.self.words sheet c.release_at.ensures.words)
-    (rises a.order a.superblocks.items a.tenants.items c.self.invariant c.args.t s.tenant (c.args.frame / 2 ^ a.order) c.in_ok-m.m x c.in_ok-k.k at.slot at.inside at.here) (joined_open a.order a.superblocks.items a.tenants.items c.self.invariant c.args.t s.tenant (c.args.frame / 2 ^ a.order) c.in_ok-m.m x c.in_ok-k.k at.slot at.inside at.here) in
+    let sheet = get_or_read a.superblocks.items c.unwrap-m.result c.index_mut-superblock.result.now m_lt c.index_mut-superblock.ensures.value bare_of in
+    let joined : c.free_around-joined.result ≡ joined_order a.order a.superblocks.items a.tenants.items c.self.invariant c.args.t s.tenant (c.args.frame / 2 ^ a.order) c.unwrap-m.result x c.in_ok-k.k at.slot at.inside at.here
+    = c.free_around-joined.ensures _ _ (shown_after a.order a.superblocks.items a.tenants.items c.self.invariant c.args.t s.tenant (c.args.frame / 2 ^ a.order) c.unwrap-m.result x c.in_ok-k.k at.slot at.inside at.here c.index_mut-superblock.result.now c.release_at.new.self.words sheet c.release_at.ensures.words)
+    (rises a.order a.superblocks.items a.tenants.items c.self.invariant c.args.t s.tenant (c.args.frame / 2 ^ a.order) c.unwrap-m.result x c.in_ok-k.k at.slot at.inside at.here) (joined_open a.order a.superblocks.items a.tenants.items c.self.invariant c.args.t s.tenant (c.args.frame / 2 ^ a.order) c.unwrap-m.result x c.in_ok-k.k at.slot at.inside at.here) in
     let row = get_or_read a.tenants.items c.args.t c.index_mut.result.now s.tenant c.index_mut.ensures.value blank_of in
     let change : Released a.order c.free_around-joined.result c.in_ok-k.k x c.index_mut-superblock.result.now c.index_mut.result.now c.release_at.new.self c.count_released.new.self = record {
       orders = c.release_at.ensures.orders;
@@ -207,15 +210,15 @@ returns-clause-done c =
       buddies = c.count_released.ensures.buddies;
       others = c.count_released.ensures.others;
     } in
-    let here = subst (λ n. Released a.order n c.in_ok-k.k x (sheet_of c.in_ok-m.m a.superblocks.items) (row_of c.args.t a.tenants.items) c.release_at.new.self c.count_released.new.self) joined
-    (subst (λ (r : Row). Released a.order c.free_around-joined.result c.in_ok-k.k x (sheet_of c.in_ok-m.m a.superblocks.items) r c.release_at.new.self c.count_released.new.self) row
+    let here = subst (λ n. Released a.order n c.in_ok-k.k x (sheet_of c.unwrap-m.result a.superblocks.items) (row_of c.args.t a.tenants.items) c.release_at.new.self c.count_released.new.self) joined
+    (subst (λ (r : Row). Released a.order c.free_around-joined.result c.in_ok-k.k x (sheet_of c.unwrap-m.result a.superblocks.items) r c.release_at.new.self c.count_released.new.self) row
     (subst (λ (z : Sheet). Released a.order c.free_around-joined.result c.in_ok-k.k x z c.index_mut.result.now c.release_at.new.self c.count_released.new.self) sheet change)) in
-    let step = released_step a.order a.superblocks.items a.tenants.items c.self.invariant c.args.t s.tenant (c.args.frame / 2 ^ a.order) c.in_ok-m.m x c.in_ok-k.k at.slot at.inside at.here c.release_at.new.self c.count_released.new.self here in
-    let changed = step_change a.order a.superblocks.items a.tenants.items c.args.t (c.args.frame / 2 ^ a.order) c.in_ok-m.m x c.release_at.new.self c.count_released.new.self None c.self.invariant step in
+    let step = released_step a.order a.superblocks.items a.tenants.items c.self.invariant c.args.t s.tenant (c.args.frame / 2 ^ a.order) c.unwrap-m.result x c.in_ok-k.k at.slot at.inside at.here c.release_at.new.self c.count_released.new.self here in
+    let changed = step_change a.order a.superblocks.items a.tenants.items c.args.t (c.args.frame / 2 ^ a.order) c.unwrap-m.result x c.release_at.new.self c.count_released.new.self None c.self.invariant step in
     let f = c.args.frame / 2 ^ a.order * 2 ^ a.order + x in
     let h = without_block f (holding_shown a.order a.superblocks.items (row_of c.args.t a.tenants.items)) in
-    shown_changed a.order a.superblocks.items a.tenants.items c.args.t c.in_ok-m.m c.release_at.new.self c.count_released.new.self c.self.invariant changed h
-    (holding_now a.order a.superblocks.items a.tenants.items c.args.t (c.args.frame / 2 ^ a.order) c.in_ok-m.m x c.release_at.new.self c.count_released.new.self None c.self.invariant step)
+    shown_changed a.order a.superblocks.items a.tenants.items c.args.t c.unwrap-m.result c.release_at.new.self c.count_released.new.self c.self.invariant changed h
+    (holding_now a.order a.superblocks.items a.tenants.items c.args.t (c.args.frame / 2 ^ a.order) c.unwrap-m.result x c.release_at.new.self c.count_released.new.self None c.self.invariant step)
     ∙ ap (λ y. with_holding c.args.t h y) c.self.view_is
     ∙ ap (λ g. with_holding c.args.t (without_block f g) c.args.self.now) (sym s.holding)
     ∙ ap (λ n. with_holding c.args.t (without_block n (holding_of c.args.t c.args.self.now)) c.args.self.now) at.whole

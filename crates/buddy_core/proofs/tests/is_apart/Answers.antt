@@ -10,7 +10,7 @@ pub returns : goal.returns
 returns c _ u at = elim (cases_lt u c.loop-slot.slot) [
   | inl below ↦ c.loop-slot.invariant u below at
   | inr past ↦
-      let size : length (holding_of c.args.t c.args.buddy.now).slots ≡ c.args.buddy.now.superblocks = c.sizes.ensures.slots c.args.t c.requires in
+      let size : length (holding_of c.args.t c.args.buddy.now).slots ≡ c.args.buddy.now.superblocks = c.laws.ensures.sizes.slots c.args.t c.requires in
       let over : length (holding_of c.args.t c.args.buddy.now).slots ≤ u = omega arith in
       none-some c.args.m (sym (get_or_past (holding_of c.args.t c.args.buddy.now).slots u None over) ∙ at)
 ]

@@ -2,5 +2,5 @@ use Rattle.std.proofs.Common.{◌≡◌, take}
 use Rattle.kernel_core.proofs.kernel.owners.Given as goal
 
 -- the owners so far
-abbrev pub invariant-loop-m : goal.invariant-loop-m
-invariant-loop-m l = l.owners.items ≡ take l.m l.space.owners
+abbrev pub invariant-loop-owner : goal.invariant-loop-owner
+invariant-loop-owner l = l.owners.items ≡ take l.owner-index l.space.owners

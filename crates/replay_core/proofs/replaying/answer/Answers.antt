@@ -13,7 +13,7 @@ returns-in-Ok-Some-clause-answered g c =
     let some : c.in-Ok-Some.field-0 ≡ Some c.in-Ok-Some.event = c.in-Ok-Some.field-0-is in
     let said : c.args.reading ≡ Ok (Some c.in-Ok-Some.event) = c.in-Ok-Some.is ∙ ap (λ x. Ok x) some in
     let step = c.step_into.ensures in
-    rw said (answered_event c.args.only c.in-Ok-Some.event _ _ _ _ c.args.tally.now _ c.step_into.new.reply _ step.order step.shows step.reply c.show.ensures.pushed)
+    rw said (answered_event c.args.only c.in-Ok-Some.event _ _ _ _ c.args.tally.now _ c.step_into.new.reply _ step.sizes step.shows step.reply c.show.ensures.pushed)
 
 pub returns-in-Err-clause-answered : goal.returns-in-Err-clause-answered
 returns-in-Err-clause-answered g c =

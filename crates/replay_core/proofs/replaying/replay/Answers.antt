@@ -1,11 +1,11 @@
-use Rattle.std.proofs.Common.{◌≡◌, ◌+◌, ◌<◌, ◌++◌, true, false, [], length, take, sym, ◌∙◌, arith, length-append}
+use Rattle.std.proofs.Common.{◌≡◌, ◌+◌, ◌^◌, ◌<◌, ◌++◌, true, false, inl, [], length, take, sym, ◌∙◌, arith, length-append}
 use Rattle.std.specs.Result.{is_err}
 use Rattle.std.proofs.lemmas.Bool.{eqb-true}
 use Rattle.std.proofs.lemmas.List.{length-take-le}
 use Rattle.replay_core.proofs.MoveLemmas.{consumes_nothing, consumes_more, consumes_kept, consumes_end}
 use Rattle.replay_core.proofs.OwnLemmas.{own_lines_taken}
 use Rattle.replay_core.proofs.PushLemmas.{some_left}
-use Rattle.replay_core.proofs.RunLemmas.{stands_first, bounded_first, stands_given, stands_few, ended_are_done, all_are_done, last_is_done, stopped_at_last, err_of, ok_of, is_ok_of, is_err_of}
+use Rattle.replay_core.proofs.RunLemmas.{stands_first, bounded_first, stands_given, stands_sent, stands_few, ended_are_done, all_are_done, last_is_done, stopped_at_last, ended_at, err_of, ok_of, is_ok_of, is_err_of}
 use Rattle.replay_core.proofs.replaying.replay.Goals as goal
 
 pub pulls-init : goal.pulls-init
@@ -25,7 +25,7 @@ pull-requires-clause-fine g c = c.pulls.invariant.5
 
 pub returns-in_default-clause-ran : goal.returns-in_default-clause-ran
 returns-in_default-clause-ran g c =
-    let stands = c.pulls.invariant.3 in (
+    let stands = stands_sent _ _ _ _ _ _ _ _ _ _ c.pulls.invariant.3 c.send.ensures.bytes in (
       c.pulls.invariant.0,
       stands.taken,
       consumes_kept _ _ _ _ c.pulls.invariant.1 c.in_default.ensures.bytes,
@@ -36,10 +36,10 @@ returns-in_default-clause-ran g c =
     )
 
 pub returns-in_default-clause-failed : goal.returns-in_default-clause-failed
-returns-in_default-clause-failed g c = (c.in_default.ensures.failed, c.pulls.invariant.6)
+returns-in_default-clause-failed g c = (c.in_default.ensures.failed, c.send.ensures.failed ∙ c.pulls.invariant.6)
 
 pub run_piece-ran-requires-clause-fine : goal.run_piece-ran-requires-clause-fine
-run_piece-ran-requires-clause-fine g c = c.pulls.invariant.6
+run_piece-ran-requires-clause-fine g c = c.send.ensures.failed ∙ c.pulls.invariant.6
 
 pub run_piece-ran-requires-clause-bounded : goal.run_piece-ran-requires-clause-bounded
 run_piece-ran-requires-clause-bounded g c = c.pulls.invariant.4
@@ -47,7 +47,7 @@ run_piece-ran-requires-clause-bounded g c = c.pulls.invariant.4
 pub run_piece-ran-requires-clause-lines : goal.run_piece-ran-requires-clause-lines
 run_piece-ran-requires-clause-lines g c =
     let few = stands_few _ _ _ _ _ _ _ _ _ c.pulls.invariant.3 in
-    let fits : c.pulls.tally.lines + length (take c.in-Ok.count c.pull.new.into) < 18446744073709551616 =
+    let fits : c.pulls.tally.lines + length (take c.in-Ok.count c.pull.new.into) < 2 ^ 64 =
     omega (
       arith,
       few,
@@ -64,12 +64,12 @@ returns-then-is_err-clause-ran g c =
     let given = c.pulls.invariant.0 in
     let part = take c.in-Ok.count c.pull.new.into in
     let failed : is_err c.run_piece-ran.result ≡ true = sym c.is_err.ensures.value ∙ c.if-is_err.true in
-    let stopped = err_of _ _ _ failed (c.run_piece-ran.ensures.ran c.args.kernel.now (given ++ part) _ (stands_given _ _ _ given part _ _ _ _ c.pulls.invariant.3)) in (
+    let stopped = err_of _ _ _ failed (c.run_piece-ran.ensures.ran c.args.kernel.now (given ++ part) _ (stands_given _ _ _ given part _ _ _ _ (stands_sent _ _ _ _ _ _ _ _ _ _ c.pulls.invariant.3 c.send.ensures.bytes))) in (
       given ++ part,
       stopped.taken,
       consumes_more _ _ _ _ _ c.pulls.invariant.1 c.in-Ok.ensures.bytes.0,
       stopped.appended,
-      (stopped.done, stopped.line, stopped.rest, stopped.split, stopped.cut),
+      (stopped.done, stopped.line, inl (stopped.rest, stopped.split), stopped.cut),
       tt,
       omega (arith, c.pulls.invariant.2, c.in-Ok.ensures.room, length-take-le c.in-Ok.count c.pull.new.into c.in-Ok.ensures.count, length-append given part),
     )
@@ -82,7 +82,7 @@ pulls-preserved g c =
     let given = c.pulls.invariant.0 in
     let part = take c.in-Ok.count c.pull.new.into in
     let fine : is_err c.run_piece-ran.result ≡ false = sym c.is_err.ensures.value ∙ c.if-is_err.false in
-    let ran = ok_of _ _ _ fine (c.run_piece-ran.ensures.ran c.args.kernel.now (given ++ part) _ (stands_given _ _ _ given part _ _ _ _ c.pulls.invariant.3)) in (
+    let ran = ok_of _ _ _ fine (c.run_piece-ran.ensures.ran c.args.kernel.now (given ++ part) _ (stands_given _ _ _ given part _ _ _ _ (stands_sent _ _ _ _ _ _ _ _ _ _ c.pulls.invariant.3 c.send.ensures.bytes))) in (
       given ++ part,
       consumes_more _ _ _ _ _ c.pulls.invariant.1 c.in-Ok.ensures.bytes.0,
       omega (arith, c.pulls.invariant.2, c.in-Ok.ensures.room, length-take-le c.in-Ok.count c.pull.new.into c.in-Ok.ensures.count, length-append given part),
@@ -93,38 +93,38 @@ pulls-preserved g c =
     )
 
 pub answer-answered-requires-clause-fine : goal.answer-answered-requires-clause-fine
-answer-answered-requires-clause-fine g c = c.pulls.invariant.6
+answer-answered-requires-clause-fine g c = c.send.ensures.failed ∙ c.pulls.invariant.6
 
 pub answer-answered-requires-clause-bounded : goal.answer-answered-requires-clause-bounded
 answer-answered-requires-clause-bounded g c = c.pulls.invariant.4
 
 pub answer-answered-requires-clause-more : goal.answer-answered-requires-clause-more
 answer-answered-requires-clause-more g c =
-    let stands = c.pulls.invariant.3 in
+    let stands = stands_sent _ _ _ _ _ _ _ _ _ _ c.pulls.invariant.3 c.send.ensures.bytes in
     let few = stands_few _ _ _ _ _ _ _ _ _ stands in
     let some = some_left stands.tail _ (c.is_empty.ensures stands.tail stands.holds) c.if-not-is_empty.true in
-    let more : c.pulls.tally.lines < 18446744073709551615 = omega (arith, few, some, c.pulls.invariant.2, c.room-room.ensures, c.room-room.type_inv) in
+    let more : c.pulls.tally.lines + 1 < 2 ^ 64 = omega (arith, few, some, c.pulls.invariant.2, c.room-room.ensures, c.room-room.type_inv) in
     more
 
 pub returns-then-is_err-2-clause-ran : goal.returns-then-is_err-2-clause-ran
 returns-then-is_err-2-clause-ran g c =
-    let stands = c.pulls.invariant.3 in
+    let stands = stands_sent _ _ _ _ _ _ _ _ _ _ c.pulls.invariant.3 c.send.ensures.bytes in
     let some = some_left stands.tail _ (c.is_empty.ensures stands.tail stands.holds) c.if-not-is_empty.true in
     let failed = is_err_of c.answer-answered.result (sym c.is_err-then-not-is_empty.ensures.value ∙ c.if-is_err-2.true) in
-    let stopped = stopped_at_last _ _ _ _ _ _ _ _ _ _ _ failed.0 stands c.reading.result some (c.reading.ensures stands.tail stands.holds)
-    (rw failed.1 at c.answer-answered.ensures.answered) in (
+    let stopped = stopped_at_last _ _ _ _ _ _ _ _ _ _ _ _ failed.0 stands c.reading.result some (c.reading.ensures stands.tail stands.holds)
+    (rw failed.1 at c.answer-answered.ensures.answered) (ended_at _ c.in-Ok.count c.in-Ok.ensures.ended c.if-count-eq0.true) in (
       c.pulls.invariant.0,
-      stopped.taken,
+      stopped.0,
       consumes_end _ _ _ _ _ c.in-Ok.count c.if-count-eq0.true c.pulls.invariant.1 c.in-Ok.ensures.bytes.0,
-      stopped.appended,
-      (stopped.done, stopped.line, stopped.rest, stopped.split, stopped.cut),
+      stopped.1,
+      stopped.2,
       tt,
       omega (arith, c.pulls.invariant.2, c.in-Ok.ensures.room, c.if-count-eq0.true),
     )
 
 pub returns-else-is_err-2-clause-ran : goal.returns-else-is_err-2-clause-ran
 returns-else-is_err-2-clause-ran g c =
-    let stands = c.pulls.invariant.3 in
+    let stands = stands_sent _ _ _ _ _ _ _ _ _ _ c.pulls.invariant.3 c.send.ensures.bytes in
     let some = some_left stands.tail _ (c.is_empty.ensures stands.tail stands.holds) c.if-not-is_empty.true in
     let fine = is_ok_of c.answer-answered.result (sym c.is_err-then-not-is_empty.ensures.value ∙ c.if-is_err-2.false) in
     let done = last_is_done _ _ _ _ _ _ _ _ _ _ _ stands c.reading.result some (c.reading.ensures stands.tail stands.holds)
@@ -134,22 +134,22 @@ returns-else-is_err-2-clause-ran g c =
       consumes_end _ _ _ _ _ c.in-Ok.count c.if-count-eq0.true c.pulls.invariant.1 c.in-Ok.ensures.bytes.0,
       done.1,
       done.2,
-      own_lines_taken c.own_lines.ensures c.own_run.ensures c.args.only _ _ _ _ _ (omega (arith, c.tenants-tenants.ensures, c.tenants-tenants.type_inv)) done.2,
+      own_lines_taken c.own_lines.ensures c.own_shown.ensures.bytes c.args.only c.args.kernel.now _ c.pulls.invariant.0 done.0 _ (omega (arith, c.tenants-tenants.ensures, c.tenants-tenants.type_inv)) done.2,
       omega (arith, c.pulls.invariant.2, c.in-Ok.ensures.room, c.if-count-eq0.true),
     )
 
 pub returns-else-not-is_empty-clause-ran : goal.returns-else-not-is_empty-clause-ran
 returns-else-not-is_empty-clause-ran g c =
-    let stands = c.pulls.invariant.3 in
+    let stands = stands_sent _ _ _ _ _ _ _ _ _ _ c.pulls.invariant.3 c.send.ensures.bytes in
     let none = eqb-true _ _ (sym (c.is_empty.ensures stands.tail stands.holds) ∙ c.if-not-is_empty.false) in (
       c.pulls.invariant.0,
       stands.taken,
       consumes_end _ _ _ _ _ c.in-Ok.count c.if-count-eq0.true c.pulls.invariant.1 c.in-Ok.ensures.bytes.0,
       stands.appended,
       all_are_done _ _ _ _ _ _ _ _ stands none,
-      own_lines_taken c.own_lines.ensures c.own_run.ensures c.args.only _ _ _ _ _ (omega (arith, c.tenants-tenants.ensures, c.tenants-tenants.type_inv)) (all_are_done _ _ _ _ _ _ _ _ stands none),
+      own_lines_taken c.own_lines.ensures c.own_shown.ensures.bytes c.args.only c.args.kernel.now _ c.pulls.invariant.0 stands.taken _ (omega (arith, c.tenants-tenants.ensures, c.tenants-tenants.type_inv)) (all_are_done _ _ _ _ _ _ _ _ stands none),
       omega (arith, c.pulls.invariant.2, c.in-Ok.ensures.room, c.if-count-eq0.true),
     )
 
 pub returns-else-not-is_empty-clause-failed : goal.returns-else-not-is_empty-clause-failed
-returns-else-not-is_empty-clause-failed g c = (c.in-Ok.ensures.failed, c.pulls.invariant.6)
+returns-else-not-is_empty-clause-failed g c = (c.in-Ok.ensures.failed, c.send.ensures.failed ∙ c.pulls.invariant.6)

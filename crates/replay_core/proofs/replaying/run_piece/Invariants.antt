@@ -1,4 +1,4 @@
-use Rattle.std.proofs.Common.{◌≡◌, ℕ, ◌+◌, ◌<◌, false, List, Option, length}
+use Rattle.std.proofs.Common.{◌≡◌, ℕ, ◌+◌, ◌^◌, ◌<◌, false, List, Option, length}
 use Rattle.kernel_core.specs.Parts.{Parts}
 use Rattle.replay_core.specs.Standing.{IsBounded, Stands}
 use Rattle.replay_core.proofs.replaying.run_piece.Given as goal
@@ -8,7 +8,7 @@ invariant-lines g l =
     ((before : Parts) (given : List ℕ) (start : Option (List ℕ))
     → Stands l.only before l.fn.kernel given l.piece start (g.D.Drain.contents l.fn.drain) l.fn.pending l.fn.tally
     → Stands l.only before l.kernel given l.rest start (g.D.Drain.contents l.drain) l.pending l.tally)
-    × IsBounded l.tally × (l.tally.lines + length l.rest < 18446744073709551616) × (g.D.Drain.has_failed l.drain ≡ false)
+    × IsBounded l.tally × (l.tally.lines + length l.rest < 2 ^ 64) × (g.D.Drain.has_failed l.drain ≡ false)
 
 abbrev pub decreases-lines : goal.decreases-lines
 decreases-lines g l = length l.rest

@@ -1,5 +1,6 @@
 use Rattle.std.proofs.Common.{◌<◌, [], replicate, Some, length, ap, refl, sym, ◌∙◌, arith}
 use Rattle.std.proofs.lemmas.List.{get_or-set_same}
+use Rattle.model_core.specs.Owners.{owned_by}
 use Rattle.space_core.specs.Storage.{shown}
 use Rattle.space_core.specs.Tables.{bytes_of}
 use Rattle.space_core.specs.contracts.Space.{the_view}
@@ -25,7 +26,7 @@ invariant_of-self c =
     let there : c.in_ok-m.m < length vectors = omega (arith, facts.paired, length-shown s.unit (lists_of vectors), length-lists_of vectors) in
     rw (c.from-2.ensures, rw c.from-3.ensures at c.set_slot.ensures, banks, rw c.from.ensures at c.make_ready.ensures.marks) (
       granted-IsSpace facts c.args.t c.least_slot-u.result c.in_ok-m.m tenant short within least.vacant unowned,
-      readied-IsStored c.self.invariant.1 s.marks c.in_ok-m.m (Some (c.args.t, c.least_slot-u.result)) c.make_ready.new.banks.items facts.some there c.make_ready.ensures.room stored,
+      readied-IsStored c.self.invariant.1 s.marks c.in_ok-m.m (Some (owned_by c.args.t c.least_slot-u.result)) c.make_ready.new.banks.items facts.some there c.make_ready.ensures.room stored,
     )
 
 pub returns-clause-ok : goal.returns-clause-ok

@@ -4,13 +4,13 @@ use Rattle.space_core.proofs.Space.least_slot.Goals as goal
 
 pub unwrap-requires : goal.unwrap-requires
 unwrap-requires c =
-    subst IsSome (sym (rw c.row.ensures at c.first_none.ensures.value)) (has_vacant_slot c.facts.ensures c.args.t c.requires.tenant c.requires.pool)
+    subst IsSome (sym (rw c.row.ensures at c.first_none.ensures.value)) (has_vacant_slot c.laws.ensures.facts c.args.t c.requires.tenant c.requires.pool)
 
 pub overflow_cast-result : goal.overflow_cast-result
 overflow_cast-result c =
     let found = sym (rw c.row.ensures at c.first_none.ensures.value) ∙ c.unwrap.ensures in
-    let below = slot-lt c.facts.ensures c.args.t c.unwrap.result c.requires.tenant found in
-    omega (arith, below, c.facts.ensures.few)
+    let below = slot-lt c.laws.ensures.facts c.args.t c.unwrap.result c.requires.tenant found in
+    omega (arith, below, c.laws.ensures.facts.few)
 
 pub returns-clause-slot : goal.returns-clause-slot
 returns-clause-slot c =
@@ -18,4 +18,4 @@ returns-clause-slot c =
 
 pub returns-clause-below : goal.returns-clause-below
 returns-clause-below c =
-    slot-lt c.facts.ensures c.args.t c.unwrap.result c.requires.tenant (sym (rw c.row.ensures at c.first_none.ensures.value) ∙ c.unwrap.ensures)
+    slot-lt c.laws.ensures.facts c.args.t c.unwrap.result c.requires.tenant (sym (rw c.row.ensures at c.first_none.ensures.value) ∙ c.unwrap.ensures)

@@ -1,4 +1,4 @@
-use Rattle.std.proofs.Common.{◌<◌, subst, arith}
+use Rattle.std.proofs.Common.{length, ◌<◌, subst, arith}
 use Rattle.kernel_core.specs.Parts.{Parts}
 use Rattle.kernel_core.proofs.Worlds.{unknown_tenant, steps_asked}
 use Rattle.kernel_core.proofs.kernel.Kernel.ask.Goals as goal
@@ -8,6 +8,6 @@ returns-then-tenant-from c = rw (← c.self.view_is) (unknown_tenant _ c.args.te
 
 pub returns : goal.returns
 returns c =
-    let inside : c.args.tenant < c.self.inside.tenants = omega arith in
+    let inside : c.args.tenant < length c.self.inside.buddy.tenants = omega arith in
     let known : c.args.tenant < c.args.self.now.tenants = subst (λ (k : Parts). c.args.tenant < k.tenants) c.self.view_is inside in
     steps_asked _ _ c.args.tenant c.args.command.now _ known c.run.ensures

@@ -1,6 +1,10 @@
 use Rattle.std.proofs.Common.{arith}
 use Rattle.kernel_core.proofs.Owners.{unowned_at}
-use Rattle.kernel_core.proofs.Granting.{unused, steps_granted, grant_without_tenant, grant_without_superblock}
+use Rattle.words_core.specs.declared.event.Event.TheVariants as On
+use Rattle.words_core.specs.declared.event.AdminCommand.TheVariants as Do
+use Rattle.kernel_core.specs.Parts.{Parts, parts_of}
+use Rattle.kernel_core.proofs.Worlds.{agree_viewed, steps_viewed}
+use Rattle.kernel_core.proofs.Granting.{IsGrantable, after, unused, agree_granted, steps_granted, grant_without_tenant, grant_without_superblock}
 use Rattle.kernel_core.proofs.kernel.Kernel.grant.Goals as goal
 
 pub returns-then-tenant-from : goal.returns-then-tenant-from
@@ -13,21 +17,25 @@ returns-in_default c =
 
 pub add_slot-requires-clause-unused : goal.add_slot-requires-clause-unused
 add_slot-requires-clause-unused c =
-    unused _ c.in-Ok.superblock c.facts.ensures c.self.invariant (unowned_at c.self.inside.space.owners c.in-Ok.superblock c.in-Ok.ensures.superblock)
+    unused _ c.in-Ok.superblock c.self.invariant (unowned_at c.self.inside.space.owners c.in-Ok.superblock c.in-Ok.ensures.superblock)
 
 pub returns : goal.returns
 returns c =
-    rw (c.to_admin-2.ensures, c.add_slot.ensures, c.in-Ok.ensures.ok, ← c.self.view_is)
-    (steps_granted _ c.args.tenant c.in-Ok.slot c.in-Ok.superblock (record {
-      space = c.facts.ensures;
-      sized = c.sizes.ensures;
-      own_slots = c.own_slots.ensures;
-      own_bytes = c.own_bytes.ensures;
-      others = c.others_stay.ensures;
+    let inside : Parts = parts_of c.self.inside.space c.self.inside.buddy in
+    let grantable : IsGrantable inside c.args.tenant c.in-Ok.slot c.in-Ok.superblock = record {
+      sized = c.laws-2.ensures.sizes;
+      own_slots = c.laws.ensures.own_slots;
+      own_bytes = c.laws.ensures.own_bytes;
+      others = c.laws.ensures.others;
       agree = c.self.invariant;
+      space_after = rw c.in-Ok.ensures.ok at c.laws-3.ensures.facts;
       tenant = omega arith;
       free = c.in-Ok.ensures.superblock;
       least = c.in-Ok.ensures.slot;
       slot_below = c.in-Ok.ensures.below.0;
       below = c.in-Ok.ensures.below.1;
-    }))
+    } in
+    rw (c.to_admin-2.ensures, c.add_slot.ensures, c.in-Ok.ensures.ok, ← c.self.view_is)
+    (steps_viewed inside (after c.args.tenant c.in-Ok.slot c.in-Ok.superblock inside) (On.Admin (Do.Grant c.args.tenant)) _
+    (agree_granted inside c.args.tenant c.in-Ok.slot c.in-Ok.superblock grantable)
+    (steps_granted inside c.args.tenant c.in-Ok.slot c.in-Ok.superblock grantable))

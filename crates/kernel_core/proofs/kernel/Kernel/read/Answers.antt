@@ -1,7 +1,7 @@
-use Rattle.std.proofs.Common.{◌<◌, sym, subst, arith}
+use Rattle.std.proofs.Common.{length, ◌<◌, sym, subst, arith}
 use Rattle.buddy_core.specs.Content.{holding_of, IsSoundHolding}
 use Rattle.space_core.specs.Laws.{IsRead}
-use Rattle.kernel_core.specs.Parts.{Parts, IsInReach}
+use Rattle.kernel_core.specs.Parts.{Parts, parts_of, IsInReach}
 use Rattle.kernel_core.proofs.Worlds.{false_is}
 use Rattle.kernel_core.proofs.Reach.{read_bad, read_beyond, read_done, window_some}
 use Rattle.kernel_core.proofs.kernel.Kernel.read.Goals as goal
@@ -18,15 +18,15 @@ returns-then-not-is_in_reach c =
 
 pub unreachable-requires : goal.unreachable-requires
 unreachable-requires c =
-    let known : c.args.t < c.self.inside.tenants = subst (λ (k : Parts). c.args.t < k.tenants) (sym c.self.view_is) c.requires in
-    let sound : IsSoundHolding c.self.inside.buddy.top (holding_of c.args.t c.self.inside.buddy) = c.holdings_are_sound.ensures c.args.t (omega (arith, c.self.invariant.holdings)) in
+    let known : c.args.t < length c.self.inside.buddy.tenants = subst (λ (k : Parts). c.args.t < k.tenants) (sym c.self.view_is) c.requires in
+    let sound : IsSoundHolding c.self.inside.buddy.top (holding_of c.args.t c.self.inside.buddy) = c.laws-2.ensures.sound c.args.t (omega (arith, c.self.invariant.holdings)) in
     let reach = subst (λ (k : Parts). IsInReach k c.args.t c.args.place c.args.len) (sym c.self.view_is) (c.is_in_reach.ensures.0 c.if-not-is_in_reach.false) in
     window_some _ c.args.t c.args.place c.args.len c.self.invariant sound reach (sym c.in_default.ensures.value)
 
 pub returns : goal.returns
 returns c =
     let reach = subst (λ (k : Parts). IsInReach k c.args.t c.args.place c.args.len) (sym c.self.view_is) (c.is_in_reach.ensures.0 c.if-not-is_in_reach.false) in
-    let window = c.own_bytes.ensures.read c.args.t c.args.place c.args.len c.in-Some.bytes.now (sym c.in-Some.ensures.value) in
+    let window = c.laws.ensures.own_bytes.read c.args.t c.args.place c.args.len c.in-Some.bytes.now (sym c.in-Some.ensures.value) in
     let is : IsRead c.self.inside.space c.args.t c.args.place c.args.len c.copied.result.items =
     subst (λ xs. IsRead c.self.inside.space c.args.t c.args.place c.args.len xs) (sym c.copied.ensures) window in
     rw (← c.self.view_is) (read_done _ c.args.t c.args.place c.args.len c.copied.result.items c.self.invariant (omega arith) (omega arith) reach is)

@@ -1,7 +1,12 @@
 use Rattle.std.proofs.Common.{◌≡◌, sym, ◌∙◌, arith}
-use Rattle.kernel_core.specs.Parts.{Parts}
+use Rattle.space_core.specs.Content.{IsSpace}
+use Rattle.space_core.specs.Changes.{taken_back}
+use Rattle.words_core.specs.declared.event.Event.TheVariants as On
+use Rattle.words_core.specs.declared.event.AdminCommand.TheVariants as Do
+use Rattle.kernel_core.specs.Parts.{Parts, parts_of}
 use Rattle.kernel_core.proofs.Owners.{same_some}
-use Rattle.kernel_core.proofs.TakingBack.{IsIdle, take_without_tenant, take_without_slot, take_busy, steps_taken, agree_taken}
+use Rattle.kernel_core.proofs.Worlds.{agree_viewed, steps_viewed}
+use Rattle.kernel_core.proofs.TakingBack.{IsIdle, after, take_without_tenant, take_without_slot, take_busy, steps_taken, agree_taken}
 use Rattle.kernel_core.proofs.kernel.Kernel.take_back.Goals as goal
 
 pub returns-then-tenant-from : goal.returns-then-tenant-from
@@ -20,37 +25,44 @@ returns-in_default-drop_slot c =
 
 pub invariant_of-self-2 : goal.invariant_of-self-2
 invariant_of-self-2 c =
-    let inside : Parts = record { order = c.self.inside.order; superblocks = c.self.inside.superblocks; tenants = c.self.inside.tenants; space = c.self.inside.space; buddy = c.self.inside.buddy } in
+    let inside : Parts = parts_of c.self.inside.space c.self.inside.buddy in
     let same : c.in-Ok-take_back.field-0 ≡ c.in-Some.superblock =
     same_some _ _ (sym c.in-Ok-take_back.ensures.superblock ∙ sym c.in-Some.ensures.value) in
+    let space_after : IsSpace (taken_back c.self.inside.space c.args.tenant c.args.slot c.in-Some.superblock) =
+    rw (c.in-Ok-take_back.ensures.ok, same) at c.laws-3.ensures.facts in
     let idle : IsIdle inside c.args.tenant c.args.slot c.in-Some.superblock = record {
-      space = c.facts.ensures;
-      own_slots = c.own_slots.ensures;
-      own_bytes = c.own_bytes.ensures;
-      others = c.others_stay.ensures;
+      own_slots = c.laws.ensures.own_slots;
+      own_bytes = c.laws.ensures.own_bytes;
+      others = c.laws.ensures.others;
       agree = c.self.invariant;
+      space_after = space_after;
       tenant = omega arith;
       here = sym c.in-Some.ensures.value;
       below = c.in-Some.ensures.below;
       idle = c.in-Ok.ensures.done.0;
     } in
-    rw (c.in-Ok.ensures.done.1, c.in-Ok-take_back.ensures.ok, same) (agree_taken inside c.args.tenant c.args.slot c.in-Some.superblock idle)
+    rw (c.in-Ok.ensures.done.1, c.in-Ok-take_back.ensures.ok, same)
+    (agree_viewed (after c.args.tenant c.args.slot c.in-Some.superblock inside) (agree_taken inside c.args.tenant c.args.slot c.in-Some.superblock idle))
 
 pub returns : goal.returns
 returns c =
-    let inside : Parts = record { order = c.self.inside.order; superblocks = c.self.inside.superblocks; tenants = c.self.inside.tenants; space = c.self.inside.space; buddy = c.self.inside.buddy } in
+    let inside : Parts = parts_of c.self.inside.space c.self.inside.buddy in
     let same : c.in-Ok-take_back.field-0 ≡ c.in-Some.superblock =
     same_some _ _ (sym c.in-Ok-take_back.ensures.superblock ∙ sym c.in-Some.ensures.value) in
+    let space_after : IsSpace (taken_back c.self.inside.space c.args.tenant c.args.slot c.in-Some.superblock) =
+    rw (c.in-Ok-take_back.ensures.ok, same) at c.laws-3.ensures.facts in
     let idle : IsIdle inside c.args.tenant c.args.slot c.in-Some.superblock = record {
-      space = c.facts.ensures;
-      own_slots = c.own_slots.ensures;
-      own_bytes = c.own_bytes.ensures;
-      others = c.others_stay.ensures;
+      own_slots = c.laws.ensures.own_slots;
+      own_bytes = c.laws.ensures.own_bytes;
+      others = c.laws.ensures.others;
       agree = c.self.invariant;
+      space_after = space_after;
       tenant = omega arith;
       here = sym c.in-Some.ensures.value;
       below = c.in-Some.ensures.below;
       idle = c.in-Ok.ensures.done.0;
     } in
     rw (c.to_admin-2.ensures, c.in-Ok.ensures.done.1, c.in-Ok-take_back.ensures.ok, same, ← c.self.view_is)
-    (steps_taken inside c.args.tenant c.args.slot c.in-Some.superblock idle)
+    (steps_viewed inside (after c.args.tenant c.args.slot c.in-Some.superblock inside) (On.Admin (Do.TakeBack c.args.tenant c.args.slot)) _
+    (agree_taken inside c.args.tenant c.args.slot c.in-Some.superblock idle)
+    (steps_taken inside c.args.tenant c.args.slot c.in-Some.superblock idle))

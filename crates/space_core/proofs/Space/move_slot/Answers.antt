@@ -1,0 +1,82 @@
+use Rattle.std.proofs.Common.{◌≡◌, ℕ, List, Option, ◌≢◌, ◌<◌, Some, None, length, ap, sym, ◌∙◌, refl, arith}
+use Rattle.std.specs.List.{swap}
+use Rattle.std.proofs.Math.ListN.{set}
+use Rattle.std.proofs.lemmas.List.Edits.{swap_is}
+use Rattle.model_core.specs.declared.owner.Owner.{Owner}
+use Rattle.model_core.specs.Owners.{owned_by}
+use Rattle.space_core.specs.Content.{owner_at}
+use Rattle.space_core.specs.Storage.{shown}
+use Rattle.space_core.specs.contracts.Space.{the_view}
+use Rattle.space_core.proofs.TableLemmas.{lists_of, length-lists_of}
+use Rattle.space_core.proofs.Mapping.{superblock-lt}
+use Rattle.space_core.proofs.Reading.{not_unowned}
+use Rattle.space_core.proofs.Changed.{moved-IsSpace}
+use Rattle.space_core.proofs.Stored.{bank-shown_full, length-shown, shown-copied, moved-IsStored}
+use Rattle.space_core.proofs.Vacancy.{unowned-from_position}
+use Rattle.space_core.proofs.Space.move_slot.Goals as goal
+
+pub copy_bank-requires-clause-apart : goal.copy_bank-requires-clause-apart
+copy_bank-requires-clause-apart c =
+    let s = the_view c.self.inside in
+    let under = rw (← c.self.view_is) at (sym c.machine_of.ensures.value ∙ c.in_ok-from.ensures.ok_part) in
+    let found = rw (← c.self.view_is) at (sym c.least_unowned.ensures.value ∙ c.in_ok-to.ensures.ok_part) in
+    rw (c.from-source.ensures, c.from-target.ensures) (not_unowned c.self.invariant.0 c.args.t c.args.slot c.in_ok-from.from c.in_ok-to.to under (unowned-from_position s.owners c.in_ok-to.to found))
+
+pub copy_bank-requires-clause-room : goal.copy_bank-requires-clause-room
+copy_bank-requires-clause-room c =
+    let s = the_view c.self.inside in
+    let facts = c.self.invariant.0 in
+    let m = c.in_ok-from.from in
+    let under = rw (← c.self.view_is) at (sym c.machine_of.ensures.value ∙ c.in_ok-from.ensures.ok_part) in
+    let owned = (facts.agree c.args.t c.args.slot m).0 under in
+    let has_owner : owner_at s.owners m ≢ None = λ none. cc in
+    let full = c.self.invariant.1.owned m has_owner in
+    let size = ap length (sym (bank-shown_full s.unit (lists_of c.self.inside.banks.items) m full)) ∙ facts.sized m (omega (arith, facts.paired, superblock-lt facts c.args.t c.args.slot m under)) in
+    rw c.from-source.ensures (λ k d lt. omega (arith, size, c.self.invariant.1.room k d lt))
+
+-- the owner of the old superblock passes to the one that had none
+owner_passes : (owners : List (Option Owner)) (from to : ℕ) (o : Owner) → from < length owners → to < length owners → owner_at owners from ≡ Some o → owner_at owners to ≡ None → swap owners from to ≡ set (set owners from None) to (Some o)
+owner_passes owners from to o there here owned unowned = sym (swap_is owners from to None there here) ∙ ap (λ (x : Option Owner). set (set owners from x) to (owner_at owners from)) unowned ∙ ap (set (set owners from None) to) owned
+
+pub invariant_of-self : goal.invariant_of-self
+invariant_of-self c =
+    let s = the_view c.self.inside in
+    let facts = c.self.invariant.0 in
+    let stored = lists_of c.self.inside.banks.items in
+    let from = c.in_ok-from.from in
+    let to = c.in_ok-to.to in
+    let under = rw (← c.self.view_is) at (sym c.machine_of.ensures.value ∙ c.in_ok-from.ensures.ok_part) in
+    let found = rw (← c.self.view_is) at (sym c.least_unowned.ensures.value ∙ c.in_ok-to.ensures.ok_part) in
+    let below = rw (← c.self.view_is) at (rw c.in_ok-to.ensures.ok_part at c.least_unowned.ensures.below) in
+    let unowned = unowned-from_position s.owners to found in
+    let owned = (facts.agree c.args.t c.args.slot from).0 under in
+    let has_owner : owner_at s.owners from ≢ None = λ none. cc in
+    let full = c.self.invariant.1.owned from has_owner in
+    let bytes = rw (c.from-source.ensures, c.from-target.ensures) at c.copy_bank.ensures.bytes in
+    let banks = ap (shown s.unit) bytes ∙ shown-copied s.unit stored from to full in
+    let there : to < length c.self.inside.banks.items = omega (arith, below, facts.paired, length-shown s.unit stored, length-lists_of c.self.inside.banks.items) in
+    let within = superblock-lt facts c.args.t c.args.slot from under in
+    let owners = rw (c.from-source.ensures, c.from-target.ensures) at c.swap.ensures.items ∙ owner_passes s.owners from to (owned_by c.args.t c.args.slot) within below owned unowned in
+    rw (c.from-source.ensures, c.from-target.ensures, c.set_slot.ensures, banks, owners) (
+      moved-IsSpace facts c.args.t c.args.slot from to under below unowned,
+      moved-IsStored c.self.invariant.1 from to (Some (owned_by c.args.t c.args.slot)) c.copy_bank.new.banks.items within there full (c.copy_bank.ensures.room s.unit c.self.invariant.1.room) bytes,
+    )
+
+pub returns-clause-ok : goal.returns-clause-ok
+returns-clause-ok c =
+    let s = the_view c.self.inside in
+    let facts = c.self.invariant.0 in
+    let stored = lists_of c.self.inside.banks.items in
+    let from = c.in_ok-from.from in
+    let to = c.in_ok-to.to in
+    let under = rw (← c.self.view_is) at (sym c.machine_of.ensures.value ∙ c.in_ok-from.ensures.ok_part) in
+    let owned = (facts.agree c.args.t c.args.slot from).0 under in
+    let has_owner : owner_at s.owners from ≢ None = λ none. cc in
+    let full = c.self.invariant.1.owned from has_owner in
+    let bytes = rw (c.from-source.ensures, c.from-target.ensures) at c.copy_bank.ensures.bytes in
+    let banks = ap (shown s.unit) bytes ∙ shown-copied s.unit stored from to full in
+    let within = superblock-lt facts c.args.t c.args.slot from under in
+    let found = rw (← c.self.view_is) at (sym c.least_unowned.ensures.value ∙ c.in_ok-to.ensures.ok_part) in
+    let below = rw (← c.self.view_is) at (rw c.in_ok-to.ensures.ok_part at c.least_unowned.ensures.below) in
+    let owners = rw (c.from-source.ensures, c.from-target.ensures) at c.swap.ensures.items ∙ owner_passes s.owners from to (owned_by c.args.t c.args.slot) within below owned (unowned-from_position s.owners to found) in
+    rw (← c.self.view_is, c.from-source.ensures, c.from-target.ensures, c.set_slot.ensures, banks, owners) refl

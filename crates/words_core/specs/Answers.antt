@@ -1,0 +1,17 @@
+-- The reply that an answer is.
+use Rattle.words_core.specs.declared.answer.Answer.{Answer}
+use Rattle.words_core.specs.declared.answer.Said.{Said}
+use Rattle.words_core.specs.declared.answer.Said.TheVariants as Say
+use Rattle.words_core.specs.declared.reply.Body.{Body}
+use Rattle.words_core.specs.declared.reply.Body.TheVariants.{Frame, Freed, Bytes, Written, Refused}
+use Rattle.words_core.specs.declared.reply.Reply.{Reply}
+
+abbrev pub body_of_said : Said → Body
+body_of_said (Say.Frame frame) = Frame frame
+body_of_said (Say.Freed order) = Freed order
+body_of_said (Say.Bytes bytes) = Bytes bytes
+body_of_said (Say.Written count) = Written count
+body_of_said (Say.Refused refusal) = Refused refusal
+
+abbrev pub reply_of : Answer → Reply
+reply_of answer = record { addressee = answer.addressee; body = body_of_said answer.said }

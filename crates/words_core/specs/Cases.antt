@@ -1,0 +1,83 @@
+-- The eight cases of a line, in the order in which it is judged: the first that applies decides. What a line says in
+-- each is told of any words that the line is made of; a law says that each line is in exactly one case.
+use Rattle.std.specs.Prelude.{◌≡◌, ◌<◌, ◌≤◌, ◌⊎◌, ℕ, List, [], ◌∷◌, length, slice_index, codes, Option, Some, None, Result, Ok, Err}
+use Rattle.std.specs.List.{Contains}
+use Rattle.std.specs.Str.Lines.{strip_carriage_return}
+use Rattle.words_core.specs.Numbers.{number_of}
+use Rattle.words_core.specs.Words.{HasWords}
+use Rattle.words_core.specs.Commands.{Form, Given, Maker, Row, read_as, Actor, administrator, tenant, CommandOf, rows_of, event_by, nobody_fault}
+use Rattle.words_core.specs.declared.line.TheConstants.{MOST_LINE_BYTES}
+use Rattle.words_core.specs.declared.event.Event.{Event}
+use Rattle.words_core.specs.declared.event.LineFault.{LineFault}
+use Rattle.words_core.specs.declared.event.LineFault.TheVariants.{Long, Unknown, Words}
+
+-- the word begins with `#`
+abbrev pub IsComment : List ℕ → Type 0
+IsComment word = slice_index word 0 ≡ 35
+
+-- the first word of a line says who speaks: it is `admin`, or the number of a tenant
+abbrev pub Names : List ℕ → Actor → Type 0
+Names word administrator = word ≡ codes "admin"
+Names word (tenant t) = number_of word ≡ Some t
+
+-- this row of the actor's table of commands has this word
+abbrev pub Asks : (actor : Actor) → List ℕ → Row (CommandOf actor) → Type 0
+Asks actor word row = Contains (rows_of actor) row × (word ≡ row.word)
+
+-- the first of the arguments that isn't in its form has this fault
+abbrev pub FirstFault : List Form → List (List ℕ) → LineFault → Type 0
+FirstFault (form ∷ forms) (word ∷ words) fault =
+    (read_as form word ≡ Err fault) ⊎ ((value : Given form) × (read_as form word ≡ Ok value) × FirstFault forms words fault)
+FirstFault [] words fault = ⊥
+FirstFault (_ ∷ _) [] fault = ⊥
+
+-- each argument is in its form, and together they make this command
+abbrev pub AllMake : {C : Type 0} (forms : List Form) → Maker forms C → List (List ℕ) → C → Type 0
+AllMake [] made [] command = made ≡ command
+AllMake (form ∷ forms) makes (word ∷ words) command =
+    (value : Given form) × (read_as form word ≡ Ok value) × AllMake forms (makes value) words command
+AllMake [] made (_ ∷ _) command = ⊥
+AllMake (_ ∷ _) makes [] command = ⊥
+
+-- The cases of words: a number, the words, and what they say.
+pub data CaseOfWords : ℕ → List (List ℕ) → Result (Option Event) LineFault → Type 0 where
+  -- 2. no word, or the first begins with `#`: nothing
+  blank : CaseOfWords 2 [] (Ok None)
+  comment : {first : List ℕ} {rest : List (List ℕ)} → IsComment first → CaseOfWords 2 (first ∷ rest) (Ok None)
+  -- 3. the first word names nobody: a faulty number if it begins with a digit, else unknown
+  nobody : {first : List ℕ} {rest : List (List ℕ)} → ¬ IsComment first → ((actor : Actor) → ¬ Names first actor)
+      → CaseOfWords 3 (first ∷ rest) (Err (nobody_fault first))
+  -- 4. no second word
+  alone : {first : List ℕ} (actor : Actor) → Names first actor → CaseOfWords 4 (first ∷ []) (Err Words)
+  -- 5. the second word is no command of that actor
+  no_command : {first word : List ℕ} {arguments : List (List ℕ)} (actor : Actor) → Names first actor
+      → ((row : Row (CommandOf actor)) → ¬ Asks actor word row) → CaseOfWords 5 (first ∷ word ∷ arguments) (Err Unknown)
+  -- 6. not as many arguments as the command has
+  wrong_count : {first word : List ℕ} {arguments : List (List ℕ)} (actor : Actor) → Names first actor
+      → (row : Row (CommandOf actor)) → Asks actor word row → ¬ (length arguments ≡ length row.forms)
+      → CaseOfWords 6 (first ∷ word ∷ arguments) (Err Words)
+  -- 7. from left to right, the first argument that isn't in its form
+  faulty : {first word : List ℕ} {arguments : List (List ℕ)} {fault : LineFault} (actor : Actor) → Names first actor
+      → (row : Row (CommandOf actor)) → Asks actor word row → length arguments ≡ length row.forms
+      → FirstFault row.forms arguments fault → CaseOfWords 7 (first ∷ word ∷ arguments) (Err fault)
+  -- 8. otherwise the event
+  event : {first word : List ℕ} {arguments : List (List ℕ)} (actor : Actor) → Names first actor
+      → (row : Row (CommandOf actor)) → Asks actor word row → (command : CommandOf actor)
+      → AllMake row.forms row.makes arguments command
+      → CaseOfWords 8 (first ∷ word ∷ arguments) (Ok (Some (event_by actor command)))
+
+-- The cases of a line: a number, the line without the carriage return at its end, and what it says.
+pub data CaseOfBytes : ℕ → List ℕ → Result (Option Event) LineFault → Type 0 where
+  -- 1. too long, a comment too
+  too_long : {bytes : List ℕ} → MOST_LINE_BYTES < length bytes → CaseOfBytes 1 bytes (Err Long)
+  -- 2 to 8, of words that the line is made of
+  of_words : {number : ℕ} {bytes : List ℕ} {reading : Result (Option Event) LineFault} → length bytes ≤ MOST_LINE_BYTES
+      → (words : List (List ℕ)) → HasWords bytes words → CaseOfWords number words reading → CaseOfBytes number bytes reading
+
+-- the line is in the case of this number, and says this
+abbrev pub Case : ℕ → List ℕ → Result (Option Event) LineFault → Type 0
+Case number line reading = CaseOfBytes number (strip_carriage_return line) reading
+
+-- what the line says
+abbrev pub Says : List ℕ → Result (Option Event) LineFault → Type 0
+Says line reading = (number : ℕ) × Case number line reading

@@ -1,0 +1,117 @@
+-- The commands, by tables: who gives them, their words and the forms of their arguments.
+use Rattle.std.specs.Prelude.{◌*◌, ℕ, ◌&&◌, nat_le, List, [], ◌∷◌, length, slice_index, codes, if◌then◌else◌, Option, Some, None, Result, Ok, Err}
+use Rattle.std.specs.Char.{is_ascii_digit}
+use Rattle.arrayvec.specs.ArrayVec.{ArrayVec}
+use Rattle.hex.specs.Hex.{decode_of}
+use Rattle.hex.specs.declared.error.FromHexError.{FromHexError}
+use Rattle.model_core.specs.declared.limits.TheConstants.{MOST_BYTES}
+use Rattle.words_core.specs.Numbers.{number_of}
+use Rattle.words_core.specs.declared.event.Event.{Event}
+use Rattle.words_core.specs.declared.event.Event.TheVariants.{Admin, Tenant}
+use Rattle.words_core.specs.declared.event.AdminCommand.{AdminCommand}
+use Rattle.words_core.specs.declared.event.AdminCommand.TheVariants.{Grant, TakeBack, Reset, Pool}
+use Rattle.words_core.specs.declared.event.Command.{Command}
+use Rattle.words_core.specs.declared.event.Command.TheVariants.{Alloc, Free, Read, Write}
+use Rattle.words_core.specs.declared.event.LineFault.{LineFault}
+use Rattle.words_core.specs.declared.event.LineFault.TheVariants.{Unknown, Number, Hex}
+
+-- the number that was found, or else this fault
+abbrev pub or_fault : Option ℕ → LineFault → Result ℕ LineFault
+or_fault (Some number) fault = Ok number
+or_fault None fault = Err fault
+
+-- an argument that has to be a number
+abbrev pub argument : List ℕ → Result ℕ LineFault
+argument word = or_fault (number_of word) Number
+
+-- bytes out of hex, which may be faulty
+abbrev pub bytes_or_fault : Result (List ℕ) FromHexError → Result (ArrayVec ℕ) LineFault
+bytes_or_fault (Ok bytes) = Ok (record { items = bytes })
+bytes_or_fault (Err _) = Err Hex
+
+-- an argument that has to be bytes in hex, at least one and not more than so many: two digits of either case for each
+abbrev pub bytes_argument : ℕ → List ℕ → Result (ArrayVec ℕ) LineFault
+bytes_argument most word =
+    if nat_le 2 (length word) && nat_le (length word) (2 * most) then bytes_or_fault (decode_of word) else Err Hex
+
+-- the form of an argument: a number, or bytes in hex, at most so many
+pub data Form : Type 0 where
+  number : Form
+  hex : ℕ → Form
+
+-- what an argument of a form gives
+abbrev pub Given : Form → Type 0
+Given number = ℕ
+Given (hex most) = ArrayVec ℕ
+
+-- an argument read in a form
+abbrev pub read_as : (form : Form) → List ℕ → Result (Given form) LineFault
+read_as number word = argument word
+read_as (hex most) word = bytes_argument most word
+
+-- what makes a command out of arguments of these forms
+abbrev pub Maker : List Form → Type 0 → Type 0
+Maker [] C = C
+Maker (form ∷ forms) C = Given form → Maker forms C
+
+-- a row of a table of commands: the command's word, the forms of its arguments, and the command that they make
+pub record Row (C : Type 0) : Type 0 where
+  pub word : List ℕ
+  pub forms : List Form
+  pub makes : Maker forms C
+
+abbrev pub grant_row : Row AdminCommand
+grant_row = record { word = codes "grant"; forms = number ∷ []; makes = Grant }
+
+abbrev pub take_back_row : Row AdminCommand
+take_back_row = record { word = codes "takeback"; forms = number ∷ number ∷ []; makes = TakeBack }
+
+abbrev pub reset_row : Row AdminCommand
+reset_row = record { word = codes "reset"; forms = number ∷ []; makes = Reset }
+
+abbrev pub pool_row : Row AdminCommand
+pool_row = record { word = codes "pool"; forms = []; makes = Pool }
+
+abbrev pub alloc_row : Row Command
+alloc_row = record { word = codes "alloc"; forms = number ∷ []; makes = Alloc }
+
+abbrev pub free_row : Row Command
+free_row = record { word = codes "free"; forms = number ∷ []; makes = Free }
+
+abbrev pub read_row : Row Command
+read_row = record { word = codes "read"; forms = number ∷ number ∷ []; makes = Read }
+
+abbrev pub write_row : Row Command
+write_row = record { word = codes "write"; forms = number ∷ hex MOST_BYTES ∷ []; makes = Write }
+
+-- the commands of the administrator
+abbrev pub admin_rows : List (Row AdminCommand)
+admin_rows = grant_row ∷ take_back_row ∷ reset_row ∷ pool_row ∷ []
+
+-- the commands of a tenant
+abbrev pub tenant_rows : List (Row Command)
+tenant_rows = alloc_row ∷ free_row ∷ read_row ∷ write_row ∷ []
+
+-- who speaks in a line
+pub data Actor : Type 0 where
+  administrator : Actor
+  tenant : ℕ → Actor
+
+-- the commands of each
+abbrev pub CommandOf : Actor → Type 0
+CommandOf administrator = AdminCommand
+CommandOf (tenant t) = Command
+
+-- the table of them
+abbrev pub rows_of : (actor : Actor) → List (Row (CommandOf actor))
+rows_of administrator = admin_rows
+rows_of (tenant t) = tenant_rows
+
+-- a command, given by this actor
+abbrev pub event_by : (actor : Actor) → CommandOf actor → Event
+event_by administrator command = Admin command
+event_by (tenant t) command = Tenant t command
+
+-- the fault of a first word that names nobody
+abbrev pub nobody_fault : List ℕ → LineFault
+nobody_fault word = if is_ascii_digit (slice_index word 0) then Number else Unknown

@@ -1,0 +1,125 @@
+//! The pieces of a line, each written behind what the line holds.
+
+ghost use Rattle.std.specs.Prelude.{◌≡◌, ◌+◌, ◌-◌, ◌*◌, ◌<◌, ◌≤◌, [], ◌∷◌, ◌++◌, length, decimal};
+ghost use Rattle.arrayvec.specs.ArrayVec.{array_vec_len};
+ghost use Rattle.hex.specs.Hex.{encode_lower};
+ghost use Rattle.words_core.specs.declared.reply.Body.TheVariants.{Frame, Freed, Bytes, Written, Refused};
+ghost use Rattle.words_core.specs.Texts.{addressee_text, body_texts};
+
+use crate::numbers::MOST_DIGITS;
+use crate::reply::{Addressee, Refusal};
+use arrayvec::ArrayVec;
+use itoa::Buffer;
+use model_core::limits::MOST_BYTES;
+
+/// Room for the longest line of a reply, its line feed included.
+pub const MOST_REPLY_BYTES: usize = 256;
+
+/// No line begins with more bytes than these to say whom it is for.
+pub const MOST_ADDRESSEE_BYTES: usize = MOST_DIGITS + 2;
+
+/// No label of a number has more bytes.
+const MOST_LABEL_BYTES: usize = 20;
+
+pub type Line = ArrayVec<u8, MOST_REPLY_BYTES>;
+
+pub fn put(text: &[u8], out: &mut Line)
+    requires { array_vec_len out.old + length text.now ≤ MOST_REPLY_BYTES }
+    ensures { out.new.items ≡ out.old.items ++ text.now }
+{
+    let taken = out.try_extend_from_slice(text);
+    prove!(taken.is_ok());
+}
+
+fn put_number(number: u32, out: &mut Line)
+    requires { array_vec_len out.old + MOST_DIGITS ≤ MOST_REPLY_BYTES }
+    ensures text { out.new.items ≡ out.old.items ++ decimal number }
+    ensures short { array_vec_len out.new ≤ array_vec_len out.old + MOST_DIGITS }
+{
+    put(Buffer::new().format(number).as_bytes(), out);
+}
+
+/// A label, and then a number in decimal.
+pub fn put_labelled(label: &[u8], number: u32, out: &mut Line)
+    requires few { length label.now ≤ MOST_LABEL_BYTES }
+    requires room { array_vec_len out.old + MOST_LABEL_BYTES + MOST_DIGITS ≤ MOST_REPLY_BYTES }
+    ensures text { out.new.items ≡ out.old.items ++ label.now ++ decimal number }
+    ensures short { array_vec_len out.new ≤ array_vec_len out.old + length label.now + MOST_DIGITS }
+{
+    put(label, out);
+    put_number(number, out);
+}
+
+fn put_hex(bytes: &[u8], out: &mut Line)
+    requires few { length bytes.now ≤ MOST_BYTES }
+    requires room { array_vec_len out.old + 2 * MOST_BYTES ≤ MOST_REPLY_BYTES }
+    ensures text { out.new.items ≡ out.old.items ++ encode_lower bytes.now }
+    ensures short { array_vec_len out.new ≡ array_vec_len out.old + 2 * length bytes.now }
+{
+    let mut text = [0; 2 * MOST_BYTES];
+    let text = &mut text[..2 * bytes.len()];
+    let written = hex::encode_to_slice(bytes, text);
+    prove!(written.is_ok());
+    put(text, out);
+}
+
+/// Writes whom a line is for over what `out` held.
+pub fn start_line(addressee: Addressee, out: &mut Line)
+    ensures text { out.new.items ≡ addressee_text addressee }
+    ensures short { array_vec_len out.new ≤ MOST_ADDRESSEE_BYTES }
+{
+    out.clear();
+    match addressee {
+        Addressee::Admin => put(b"admin> ", out),
+        Addressee::Nobody => put(b"!> ", out),
+        Addressee::Tenant(tenant) => {
+            put_number(u32::from(tenant), out);
+            put(b"> ", out);
+        }
+    }
+}
+
+pub fn put_frame(frame: u32, out: &mut Line)
+    requires { array_vec_len out.old ≤ MOST_ADDRESSEE_BYTES }
+    ensures text { body_texts out.old.items (Frame frame) ≡ out.new.items ∷ [] }
+    ensures short { array_vec_len out.new < MOST_REPLY_BYTES }
+{
+    put_labelled(b"frame ", frame, out);
+}
+
+pub fn put_freed(order: u8, out: &mut Line)
+    requires { array_vec_len out.old ≤ MOST_ADDRESSEE_BYTES }
+    ensures text { body_texts out.old.items (Freed order) ≡ out.new.items ∷ [] }
+    ensures short { array_vec_len out.new < MOST_REPLY_BYTES }
+{
+    put_labelled(b"freed ", u32::from(order), out);
+}
+
+// The room for the digits is zeroed at each entry, which the other kinds need not pay for.
+#[inline(never)]
+pub fn put_bytes(bytes: &ArrayVec<u8, MOST_BYTES>, out: &mut Line)
+    requires { array_vec_len out.old ≤ MOST_ADDRESSEE_BYTES }
+    ensures text { body_texts out.old.items (Bytes bytes.now) ≡ out.new.items ∷ [] }
+    ensures short { array_vec_len out.new < MOST_REPLY_BYTES }
+{
+    put(b"bytes ", out);
+    put_hex(bytes.as_slice(), out);
+}
+
+pub fn put_written(count: u32, out: &mut Line)
+    requires { array_vec_len out.old ≤ MOST_ADDRESSEE_BYTES }
+    ensures text { body_texts out.old.items (Written count) ≡ out.new.items ∷ [] }
+    ensures short { array_vec_len out.new < MOST_REPLY_BYTES }
+{
+    put_labelled(b"written ", count, out);
+}
+
+pub fn put_refused(refusal: Refusal, out: &mut Line)
+    requires { array_vec_len out.old ≤ MOST_ADDRESSEE_BYTES }
+    ensures text { body_texts out.old.items (Refused refusal) ≡ out.new.items ∷ [] }
+    ensures short { array_vec_len out.new < MOST_REPLY_BYTES }
+{
+    put_labelled(b"refused ", u32::from(refusal.number()), out);
+    put(b" ", out);
+    put(refusal.name().as_bytes(), out);
+}
