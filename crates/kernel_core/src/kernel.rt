@@ -79,6 +79,7 @@ impl Kernel {
     ghost use Rattle.kernel_core.specs.Parts.{Parts, PartsAgree, SameSizes, MarksFollow, SpareStays, opening_parts, superblock_at, superblock_bytes, IsInReach, Keeps};
     ghost use Rattle.kernel_core.specs.Shows.{Shows, ShowsMachine};
     ghost use Rattle.kernel_core.specs.Steps.{is_named, Steps, StepsMachine, body_of};
+    ghost use Rattle.words_core.specs.Answers.{body_of_said, reply_of};
     ghost use Rattle.words_core.specs.declared.reply.Body.TheVariants.{Frame, Freed, Bytes, Written};
     ghost use Rattle.space_core.specs.Content.{mark_at, owner_at};
     ghost use Rattle.model_core.specs.Owners.{owned_by};
@@ -125,40 +126,42 @@ impl Kernel {
         ensures marks { MarksFollow self.old.space self.new.space }
         ensures spare { SpareStays self.old.space self.new.space }
     {
-        let mut reply = to_admin(Body::Refused(Refusal::NoTenant));
-        self.step_into(event, &mut reply);
-        reply
-    }
-
-    /// [`Kernel::step`], with the reply in the place of an earlier one. A reply has room for the owners of all superblocks,
-    /// so a loop over many events does better not to move it.
-    pub fn step_into(&mut self, event: &Event, reply: &mut Reply)
-        ensures sizes { SameSizes self.old self.new }
-        ensures shows { (w : World) → Shows self.old w → Shows self.new (world_step cache_limit self.old.order event.now w).world }
-        ensures reply { (w : World) → Shows self.old w → reply.new ≡ (world_step cache_limit self.old.order event.now w).reply }
-        ensures refused { is_refused reply.new.body ≡ true → self.new ≡ self.old }
-        ensures others { (t : ℕ) → is_named t event.now ≡ false → Keeps self.old self.new t }
-        ensures marks { MarksFollow self.old.space self.new.space }
-        ensures spare { SpareStays self.old.space self.new.space }
-    {
         match event {
-            Event::Admin(command) => self.administer(command, reply),
-            Event::Tenant(tenant, command) => self.ask(*tenant, command, reply),
+            Event::Admin(command) => self.administer(command),
+            Event::Tenant(tenant, command) => self.ask(*tenant, command).into_reply(),
         }
     }
 
-    /// Runs a command of the administrator.
+    /// Runs a command of the administrator: [`Kernel::step`] of that event.
     #[cold]
     #[inline(never)]
-    fn administer(&mut self, command: &AdminCommand, reply: &mut Reply)
-        ensures { Steps self.old (Event.Admin command.now) self.new reply.new }
+    pub fn administer(&mut self, command: &AdminCommand) -> Reply
+        ensures { Steps self.old (Event.Admin command.now) self.new result }
     {
-        *reply = match command {
+        match command {
             AdminCommand::Grant { tenant } => self.grant(*tenant),
             AdminCommand::TakeBack { tenant, slot } => self.take_back(*tenant, *slot),
             AdminCommand::Reset { tenant } => self.reset(*tenant),
             AdminCommand::Pool => self.pool(),
-        };
+        }
+    }
+
+    /// Runs a command of a tenant, be there such a tenant or not: [`Kernel::step`] of that event, without the room that a reply
+    /// has for the owners of all superblocks.
+    pub fn ask(&mut self, tenant: u32, command: &Command) -> Answer
+        ensures { Steps self.old (Event.Tenant tenant command.now) self.new (reply_of result) }
+    {
+        if tenant >= u32::from(self.buddy.tenants()) {
+            return Answer {
+                addressee: Addressee::Nobody,
+                said: Said::Refused(Refusal::NoTenant),
+            };
+        }
+        let t = tenant as u8;
+        Answer {
+            addressee: Addressee::Tenant(t),
+            said: self.run(t, command),
+        }
     }
 
     /// The superblock under slot `slot` of tenant `t`: the one that has both as its owner.
@@ -301,38 +304,27 @@ impl Kernel {
         to_admin(Body::Owners(owners(&self.space)))
     }
 
-    /// Runs a tenant's command.
-    fn ask(&mut self, tenant: u32, command: &Command, reply: &mut Reply)
-        ensures { Steps self.old (Event.Tenant tenant command.now) self.new reply.new }
-    {
-        if tenant >= u32::from(self.buddy.tenants()) {
-            reply.addressee = Addressee::Nobody;
-            reply.body = Body::Refused(Refusal::NoTenant);
-            return;
-        }
-        let t = tenant as u8;
-        reply.addressee = Addressee::Tenant(t);
-        self.run(t, command, &mut reply.body);
-    }
-
     /// Runs a command of a tenant that there is.
-    fn run(&mut self, t: u8, command: &Command, body: &mut Body)
+    fn run(&mut self, t: u8, command: &Command) -> Said
         requires { t < self.old.tenants }
-        ensures { StepsMachine self.old t command.now self.new body.new }
+        ensures { StepsMachine self.old t command.now self.new (body_of_said result) }
     {
         match command {
             Command::Alloc { order } => match self.alloc(t, *order) {
-                Ok(frame) => *body = Body::Frame(frame),
-                Err(refusal) => *body = Body::Refused(refusal),
+                Ok(frame) => Said::Frame(frame),
+                Err(refusal) => Said::Refused(refusal),
             },
             Command::Free { frame } => match self.free(t, *frame) {
-                Ok(order) => *body = Body::Freed(order),
-                Err(refusal) => *body = Body::Refused(refusal),
+                Ok(order) => Said::Freed(order),
+                Err(refusal) => Said::Refused(refusal),
             },
-            Command::Read { place, len } => self.read_into(t, *place, *len, body),
+            Command::Read { place, len } => match self.read(t, *place, *len) {
+                Ok(bytes) => Said::Bytes(bytes),
+                Err(refusal) => Said::Refused(refusal),
+            },
             Command::Write { place, bytes } => match self.write(t, *place, bytes) {
-                Ok(len) => *body = Body::Written(len),
-                Err(refusal) => *body = Body::Refused(refusal),
+                Ok(len) => Said::Written(len),
+                Err(refusal) => Said::Refused(refusal),
             },
         }
     }
@@ -362,18 +354,6 @@ impl Kernel {
             return Err(Refusal::NotABlock);
         };
         Ok(order)
-    }
-
-    /// Answers a read; by itself, since its bytes take room that no other answer needs.
-    #[inline(never)]
-    fn read_into(&self, t: u8, place: u32, len: u32, body: &mut Body)
-        requires { t < self.now.tenants }
-        ensures { StepsMachine self.now t (Command.Read place len) self.now body.new }
-    {
-        match self.read(t, place, len) {
-            Ok(bytes) => *body = Body::Bytes(bytes),
-            Err(refusal) => *body = Body::Refused(refusal),
-        }
     }
 
     /// Reads `len` bytes from `place` on.

@@ -1,6 +1,7 @@
 //! Replies into a drain.
 
 ghost use Rattle.std.specs.Prelude.{◌≡◌, ◌+◌, ◌^◌, ◌<◌, ◌≤◌, false, is_err, length};
+ghost use Rattle.words_core.specs.Answers.{reply_of};
 ghost use Rattle.words_core.specs.Texts.{text_of};
 ghost use Rattle.replay_core.specs.Pushes.{most_reply_bytes, HasPushed};
 ghost use Rattle.kernel_core.specs.Output.{is_shown, shown_text};
@@ -8,27 +9,7 @@ ghost use Rattle.kernel_core.specs.Output.{is_shown, shown_text};
 use crate::drain::Drain;
 use crate::feed::Stopped;
 use arrayvec::ArrayVec;
-use words_core::{Addressee, Body, LineFault, Reply, rows, write_line};
-
-/// Room for a reply and for one line of it, used again for each line of the trace: a reply has room for the owners of all
-/// superblocks, and is better not moved.
-#[derive(Drop)]
-pub struct Scratch {
-    pub reply: Reply,
-    pub line: ArrayVec<u8, 256>,
-}
-
-impl Scratch {
-    pub fn new() -> Self {
-        Scratch {
-            reply: Reply {
-                addressee: Addressee::Nobody,
-                body: Body::Fault(LineFault::Unknown),
-            },
-            line: ArrayVec::new(),
-        }
-    }
-}
+use words_core::{Addressee, Answer, MOST_REPLY_BYTES, Reply, rows, write_answer, write_line};
 
 /// The reply is to be shown: all are, or those of one tenant.
 fn is_shown(only: Option<u8>, addressee: Addressee) -> bool
@@ -41,21 +22,46 @@ fn is_shown(only: Option<u8>, addressee: Addressee) -> bool
     }
 }
 
-/// Pushes the reply that stands there, if it is to be shown.
-pub fn show<D: Drain>(
-    scratch: &mut Scratch,
+/// Pushes the answer to a tenant's command, written over `line`, if it is to be shown.
+pub fn show_answer<D: Drain>(
+    answer: &Answer,
+    line: &mut ArrayVec<u8, MOST_REPLY_BYTES>,
     only: Option<u8>,
     drain: &mut D,
     written: &mut u128,
 ) -> Result<(), Stopped>
     requires fine { D.has_failed drain.old ≡ false }
     requires room { written.old + most_reply_bytes < 2 ^ 128 }
-    ensures pushed { HasPushed (D.contents drain.old) (D.contents drain.new) (shown_text only scratch.old.reply) written.old written.new result }
+    ensures pushed { HasPushed (D.contents drain.old) (D.contents drain.new) (shown_text only (reply_of answer.now)) written.old written.new result }
     ensures few { written.new ≤ written.old + most_reply_bytes }
     ensures failed { D.has_failed drain.new ≡ is_err result }
 {
-    if is_shown(only, scratch.reply.addressee) {
-        push_reply(&scratch.reply, &mut scratch.line, drain, written)
+    if is_shown(only, answer.addressee) {
+        write_answer(answer, line);
+        push_all(line.as_slice(), drain, written)
+    } else {
+        Ok(())
+    }
+}
+
+/// Pushes a reply, each of its lines written over `line`, if it is to be shown.
+#[cold]
+#[inline(never)]
+pub fn show<D: Drain>(
+    reply: &Reply,
+    line: &mut ArrayVec<u8, MOST_REPLY_BYTES>,
+    only: Option<u8>,
+    drain: &mut D,
+    written: &mut u128,
+) -> Result<(), Stopped>
+    requires fine { D.has_failed drain.old ≡ false }
+    requires room { written.old + most_reply_bytes < 2 ^ 128 }
+    ensures pushed { HasPushed (D.contents drain.old) (D.contents drain.new) (shown_text only reply.now) written.old written.new result }
+    ensures few { written.new ≤ written.old + most_reply_bytes }
+    ensures failed { D.has_failed drain.new ≡ is_err result }
+{
+    if is_shown(only, reply.addressee) {
+        push_reply(reply, line, drain, written)
     } else {
         Ok(())
     }
@@ -64,7 +70,7 @@ pub fn show<D: Drain>(
 /// Pushes the lines of a reply, each written over `line`.
 fn push_reply<D: Drain>(
     reply: &Reply,
-    line: &mut ArrayVec<u8, 256>,
+    line: &mut ArrayVec<u8, MOST_REPLY_BYTES>,
     drain: &mut D,
     written: &mut u128,
 ) -> Result<(), Stopped>

@@ -2,18 +2,21 @@
 
 ghost use Rattle.std.specs.Prelude.{◌≡◌, ℕ, ◌+◌, ◌^◌, ◌<◌, ◌≤◌, ◌==◌, true, false, List, [], Option, length, position, is_err, IfSome, OnOk, MatchResult};
 ghost use Rattle.std.specs.Io.KnownBytes.{Consumes, Appends, IsAtEnd};
-ghost use Rattle.kernel_core.specs.Output.{line_feed};
 ghost use Rattle.kernel_core.specs.Parts.{Parts};
+ghost use Rattle.kernel_core.specs.Output.{line_feed, shown_text};
+ghost use Rattle.kernel_core.specs.Steps.{Steps};
+ghost use Rattle.replay_core.specs.Pushes.{HasPushed, most_reply_bytes};
 ghost use Rattle.replay_core.specs.Runs.{Replays, HasOwnLines, IsDone, NamesFailed};
 ghost use Rattle.replay_core.specs.Standing.{IsBounded, HasAnswered, Stands, HasStopped};
 
 use crate::drain::Drain;
 use crate::feed::{Feed, Stopped};
 use crate::pending::Pending;
-use crate::pushing::{Scratch, show};
+use crate::pushing::{show, show_answer};
+use arrayvec::ArrayVec;
 use kernel_core::{Kernel, laws};
 use thiserror::Error;
-use words_core::{Addressee, Body, Event, LineFault};
+use words_core::{Addressee, AdminCommand, Body, Event, LineFault, MOST_REPLY_BYTES, Reply};
 
 /// How many bytes are asked for in one pull.
 const PIECE_BYTES: usize = 65_536;
@@ -75,7 +78,7 @@ pub fn replay<F: Feed, D: Drain>(
     let _room = feed.room();
     let mut tally = Tally::default();
     let mut pending = Pending::new();
-    let mut scratch = Scratch::new();
+    let mut line = ArrayVec::new();
     let mut piece = [0; PIECE_BYTES];
     'pulls: loop {
         drain.send();
@@ -92,7 +95,7 @@ pub fn replay<F: Feed, D: Drain>(
             drain,
             only,
             &mut tally,
-            &mut scratch,
+            &mut line,
         );
         if ran.is_err() {
             return Err(ReplayError::Drain(tally));
@@ -105,7 +108,7 @@ pub fn replay<F: Feed, D: Drain>(
             drain,
             only,
             &mut tally,
-            &mut scratch,
+            &mut line,
         );
         if answered.is_err() {
             return Err(ReplayError::Drain(tally));
@@ -122,7 +125,7 @@ fn run_piece<D: Drain>(
     drain: &mut D,
     only: Option<u8>,
     tally: &mut Tally,
-    scratch: &mut Scratch,
+    line: &mut ArrayVec<u8, MOST_REPLY_BYTES>,
 ) -> Result<(), Stopped>
     requires fine { D.has_failed drain.old ≡ false }
     requires bounded { IsBounded tally.old }
@@ -138,7 +141,7 @@ fn run_piece<D: Drain>(
     let mut rest = piece;
     'lines: while let Some(end) = line_end(rest) {
         let reading = pending.end_with(&rest[..end]);
-        answer(reading, kernel, drain, only, tally, scratch)?;
+        answer(reading, kernel, drain, only, tally, line)?;
         rest = &rest[end + 1..];
     }
     pending.add(rest);
@@ -160,7 +163,7 @@ fn answer<D: Drain>(
     drain: &mut D,
     only: Option<u8>,
     tally: &mut Tally,
-    scratch: &mut Scratch,
+    line: &mut ArrayVec<u8, MOST_REPLY_BYTES>,
 ) -> Result<(), Stopped>
     requires fine { D.has_failed drain.old ≡ false }
     requires bounded { IsBounded tally.old }
@@ -173,16 +176,64 @@ fn answer<D: Drain>(
     tally.lines += 1;
     match reading {
         Ok(None) => Ok(()),
-        Ok(Some(event)) => {
+        Ok(Some(Event::Tenant(tenant, command))) => {
             tally.events += 1;
-            kernel.step_into(&event, &mut scratch.reply);
-            show(scratch, only, drain, &mut tally.written)
+            let answer = kernel.ask(tenant, &command);
+            show_answer(&answer, line, only, drain, &mut tally.written)
+        }
+        Ok(Some(Event::Admin(command))) => {
+            tally.events += 1;
+            administer(&command, kernel, drain, only, &mut tally.written, line)
         }
         Err(fault) => {
             tally.faults += 1;
-            scratch.reply.addressee = Addressee::Nobody;
-            scratch.reply.body = Body::Fault(fault);
-            show(scratch, only, drain, &mut tally.written)
+            show_fault(fault, drain, only, &mut tally.written, line)
         }
     }
+}
+
+/// Runs a command of the administrator, and pushes what it shows; by itself, since its reply takes room that no other needs.
+#[cold]
+#[inline(never)]
+fn administer<D: Drain>(
+    command: &AdminCommand,
+    kernel: &mut Kernel,
+    drain: &mut D,
+    only: Option<u8>,
+    written: &mut u128,
+    line: &mut ArrayVec<u8, MOST_REPLY_BYTES>,
+) -> Result<(), Stopped>
+    requires fine { D.has_failed drain.old ≡ false }
+    requires room { written.old + most_reply_bytes < 2 ^ 128 }
+    ensures answered { (reply : Reply) × Steps kernel.old (Event.Admin command.now) kernel.new reply
+        × HasPushed (D.contents drain.old) (D.contents drain.new) (shown_text only reply) written.old written.new result }
+    ensures few { written.new ≤ written.old + most_reply_bytes }
+    ensures failed { D.has_failed drain.new ≡ is_err result }
+{
+    let reply = kernel.administer(command);
+    show(&reply, line, only, drain, written)
+}
+
+/// Pushes the answer to a faulty line, which is to nobody.
+#[cold]
+#[inline(never)]
+fn show_fault<D: Drain>(
+    fault: LineFault,
+    drain: &mut D,
+    only: Option<u8>,
+    written: &mut u128,
+    line: &mut ArrayVec<u8, MOST_REPLY_BYTES>,
+) -> Result<(), Stopped>
+    requires fine { D.has_failed drain.old ≡ false }
+    requires room { written.old + most_reply_bytes < 2 ^ 128 }
+    ensures pushed { HasPushed (D.contents drain.old) (D.contents drain.new)
+        (shown_text only (record { addressee = Addressee.Nobody; body = Body.Fault fault })) written.old written.new result }
+    ensures few { written.new ≤ written.old + most_reply_bytes }
+    ensures failed { D.has_failed drain.new ≡ is_err result }
+{
+    let reply = Reply {
+        addressee: Addressee::Nobody,
+        body: Body::Fault(fault),
+    };
+    show(&reply, line, only, drain, written)
 }
