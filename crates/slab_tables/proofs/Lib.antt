@@ -1,0 +1,6 @@
+pub mod Totals
+pub mod Reading
+pub mod Keeping
+pub mod Emptying
+pub mod Clearing
+pub mod Moving

@@ -1,0 +1,14 @@
+use Rattle.std.proofs.Common.{arith}
+use Rattle.std.proofs.lemmas.List.{get_or_read}
+use Rattle.slab_tables.specs.Content.{blank}
+use Rattle.slab_tables.proofs.Reading.{shown}
+use Rattle.slab_tables.proofs.Moving.{slabs_moved}
+use Rattle.slab_tables.proofs.tables.Tables.move_node.Goals as goal
+
+pub invariant_of-self : goal.invariant_of-self
+invariant_of-self c =
+    let a = c.self.inside in
+    let from = rw (← c.self.view_is) at c.requires.from in
+    let read = get_or_read a.kept.items c.args.from c.index.result.now (omega (arith, c.self.invariant.paired, from)) c.index.ensures blank in
+    rw (c.replace.ensures, read)
+    (slabs_moved (shown a) c.args.from c.args.to c.self.invariant.paired from (rw (← c.self.view_is) at c.requires.to) c.requires.apart (rw (← c.self.view_is) at c.requires.free) c.self.invariant)

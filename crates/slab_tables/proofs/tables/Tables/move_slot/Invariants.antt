@@ -1,0 +1,5 @@
+use Rattle.slab_tables.proofs.Moving.{IsMoving}
+use Rattle.slab_tables.proofs.tables.Tables.move_slot.Given as goal
+
+abbrev pub invariant-loop-i : goal.invariant-loop-i
+invariant-loop-i l = IsMoving l.initial.self l.self l.from l.to l.i

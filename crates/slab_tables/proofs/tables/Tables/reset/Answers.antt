@@ -1,0 +1,18 @@
+use Rattle.std.proofs.Common.{◌+◌, arith}
+use Rattle.slab_tables.specs.Content.{index_of_cache}
+use Rattle.slab_tables.proofs.Clearing.{this, those_below, cleared_none, cleared_more, cleared_all, one_more}
+use Rattle.slab_tables.proofs.tables.Tables.reset.Goals as goal
+
+pub loop-number-init : goal.loop-number-init
+loop-number-init c = cleared_none c.args.self.now c.args.t
+
+pub clear-requires-clause-tenant : goal.clear-requires-clause-tenant
+clear-requires-clause-tenant c = omega (arith, c.requires, c.loop-number.invariant.tenants)
+
+pub loop-number-preserved : goal.loop-number-preserved
+loop-number-preserved c =
+    cleared_more c.args.self.now c.loop-number.self c.clear.new.self (those_below c.args.t c.loop-number.number) (this (index_of_cache c.args.t c.loop-number.number)) (those_below c.args.t (c.loop-number.number + 1))
+    c.loop-number.invariant (rw c.into.ensures at c.clear.ensures) (one_more c.args.t c.loop-number.number (omega arith))
+
+pub returns : goal.returns
+returns c = cleared_all c.args.self.now c.loop-number.self c.args.t c.loop-number.number (omega arith) c.loop-number.invariant

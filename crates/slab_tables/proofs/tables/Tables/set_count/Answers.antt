@@ -1,0 +1,43 @@
+use Rattle.std.proofs.Common.{◌≡◌, ℕ, Some, ap, ◌∙◌, arith, rules}
+use Rattle.slab_tables.specs.Content.{numbers, head_of, kind_of}
+use Rattle.slab_tables.proofs.Reading.{shown, cached, cache_within, kind_below}
+use Rattle.slab_tables.proofs.Keeping.{counting, slabs_count}
+use Rattle.slab_tables.proofs.tables.Tables.set_count.Goals as goal
+use Rattle.slab_tables.proofs.tables.Tables.set_count.Goals.{After-head}
+
+-- the list of the slab's kind
+listed_as : (c : After-head) → c.head.result ≡ head_of c.args.t c.args.c (kind_of (numbers c.args.cache.now).count c.args.count)
+listed_as c = c.head.ensures ∙ ap (head_of c.args.t c.args.c) (c.of-kind.ensures ∙ ap (λ n. kind_of n c.args.count) c.count.ensures)
+
+pub relist-requires-clause-alone : goal.relist-requires-clause-alone
+relist-requires-clause-alone c = λ i e.
+    let alone = rw (← c.self.view_is) at c.requires.alone in
+    let n = (numbers c.args.cache.now).count in
+    let at = e ∙ ap (λ (x : ℕ). Some (x, c.args.first)) (listed_as (goal.at.relist-requires-clause-alone c).After-head) in
+    alone i (record { kind = kind_of n c.args.count; few = kind_below n c.args.count; placed = at })
+
+pub overflow_add-index : goal.overflow_add-index
+overflow_add-index c =
+    let k = counting (shown c.self.inside) c.args.t c.args.c c.args.cache.now c.args.first c.args.node c.args.count c.index.result.now c.index_mut-kept.result.now c.self.invariant
+    (rw (← c.self.view_is) at c.requires.tenant) (rw (← c.self.view_is) at c.requires.cache) (rw (← c.self.view_is) at c.requires.slab) c.requires.few
+    (rw c.index_of-i.ensures at c.index.ensures) c.index_mut-kept.ensures.value in
+    let fits = k.fits in
+    search (rules, fits)
+
+pub overflow_sub-index : goal.overflow_sub-index
+overflow_sub-index c =
+    let k = counting (shown c.self.inside) c.args.t c.args.c c.args.cache.now c.args.first c.args.node c.args.count c.index.result.now c.index_mut-kept.result.now c.self.invariant
+    (rw (← c.self.view_is) at c.requires.tenant) (rw (← c.self.view_is) at c.requires.cache) (rw (← c.self.view_is) at c.requires.slab) c.requires.few
+    (rw c.index_of-i.ensures at c.index.ensures) c.index_mut-kept.ensures.value in
+    omega (arith, k.enough, c.from-before.ensures)
+
+pub invariant_of-self : goal.invariant_of-self
+invariant_of-self c =
+    let e = rw (← c.self.view_is) at c.requires.cache in
+    let tenant = rw (← c.self.view_is) at c.requires.tenant in
+    let slab = rw (← c.self.view_is) at c.requires.slab in
+    let k = counting (shown c.self.inside) c.args.t c.args.c c.args.cache.now c.args.first c.args.node c.args.count c.index.result.now c.index_mut-kept.result.now c.self.invariant
+    tenant e slab c.requires.few (rw c.index_of-i.ensures at c.index.ensures) c.index_mut-kept.ensures.value in
+    let below = cache_within (shown c.self.inside) c.args.t c.args.c tenant (cached (shown c.self.inside) c.args.t c.args.c c.args.cache.now e).below in
+    rw (c.relist.ensures, listed_as (goal.at.invariant_of-self c).After-head, c.from-before.ensures, k.kept_is, k.total_is, c.index_of-i.ensures)
+    (slabs_count (shown c.self.inside) c.args.t c.args.c c.args.cache.now c.args.first c.args.node c.args.count c.self.invariant e below slab c.requires.few)

@@ -1,0 +1,114 @@
+-- The tables of all tenants' caches. A slab is named by its node, the machine frame at which it begins.
+use Rattle.std.specs.Prelude.{◌≡◌, ℕ, ◌+◌, ◌*◌, ◌/◌, ◌%◌, ◌^◌, ◌<◌, ◌≤◌, ◌==◌, Bool, true, false, nat_lt, if◌then◌else◌, List, [], ◌∷◌, Option, Some, None, length, replicate, slice_index, slice_index_or}
+use Rattle.model_core.specs.Layouts.{Layout, IsLayout, is_pattern}
+use Rattle.model_core.specs.declared.limits.TheConstants.{MOST_CACHES, MOST_ORDER}
+use Rattle.layout_core.specs.Cut.{numbers_of}
+use Rattle.layout_core.specs.Objects.{IsColour}
+use Rattle.klist_core.specs.Places.{Placed, place_at}
+use Rattle.slab_tables.specs.declared.cache.Cache.{Cache}
+use Rattle.slab_tables.specs.declared.cache.Kept.{Kept}
+use Rattle.slab_tables.specs.declared.kind.Kind.{Kind}
+use Rattle.slab_tables.specs.declared.kind.Kind.TheVariants.{Full, Partial, Empty}
+
+pub record Content : Type 0 where
+  -- a superblock has 2 ^ top frames
+  pub top : ℕ
+  -- by node the list of its slab, and the slab's first frame there; each cache has three lists, one for each kind of slab
+  pub lists : Placed
+  -- by node
+  pub kept : List Kept
+  -- by tenant and number
+  pub caches : List (Option Cache)
+  -- by tenant and number, how many objects of the cache are live
+  pub live : List ℕ
+
+-- no slab
+abbrev pub blank : Kept
+blank = record { colour = 0; live = 0; outside = 0 }
+
+abbrev pub kept_at : List Kept → ℕ → Kept
+kept_at kept node = slice_index_or kept node blank
+
+abbrev pub cache_in : List (Option Cache) → ℕ → Option Cache
+cache_in caches n = slice_index_or caches n None
+
+-- where cache c of tenant t stands among all
+abbrev pub index_of_cache : ℕ → ℕ → ℕ
+index_of_cache t c = MOST_CACHES * t + c
+
+-- cache c of tenant t
+abbrev pub cache_at : Content → ℕ → ℕ → Option Cache
+cache_at s t c = if nat_lt c MOST_CACHES then cache_in s.caches (index_of_cache t c) else None
+
+-- tenant t is one of those whose caches these are
+abbrev pub IsTenant : Content → ℕ → Type 0
+IsTenant s t = index_of_cache t MOST_CACHES ≤ length s.caches
+
+-- the numbers of the cache's layout
+abbrev pub numbers : Cache → Layout
+numbers c = numbers_of c.layout
+
+-- the kind of a slab of so many objects of which so many are live: 0 full, 1 partial, 2 empty
+abbrev pub kind_of : ℕ → ℕ → ℕ
+kind_of count live = if live == count then 0 else (if live == 0 then 2 else 1)
+
+-- the number of a kind
+abbrev pub number_of : Kind → ℕ
+number_of Full = 0
+number_of Partial = 1
+number_of Empty = 2
+
+-- the list of the slabs of a kind of cache c of tenant t
+abbrev pub head_of : ℕ → ℕ → ℕ → ℕ
+head_of t c kind = 3 * index_of_cache t c + kind
+
+-- what is kept of a slab of the cache is in order, and says that it is of this list's kind
+pub record IsListed (kept : Kept) (cache : Cache) (head : ℕ) : Type 0 where
+  pub kind : head % 3 ≡ kind_of (numbers cache).count kept.live
+  pub few : kept.live ≤ (numbers cache).count
+  pub colour : IsColour cache.layout kept.colour
+
+pub record IsCache (c : Cache) : Type 0 where
+  pub layout : IsLayout c.layout.size c.layout.align (numbers c)
+  pub pattern : is_pattern c.pattern ≡ true
+  pub made : c.made < (numbers c).colours
+
+-- the place is in a list of this cache
+abbrev pub is_of_index : ℕ → Option (ℕ × ℕ) → Bool
+is_of_index n None = false
+is_of_index n (Some p) = p.0 / 3 == n
+
+-- how many objects are live in the slabs that stand in the lists of a cache
+abbrev pub live_total : ℕ → List (Option (ℕ × ℕ)) → List Kept → ℕ
+live_total n [] kept = 0
+live_total n (p ∷ places) [] = 0
+live_total n (p ∷ places) (k ∷ kept) = (if is_of_index n p then k.live else 0) + live_total n places kept
+
+-- what holds of all tables
+pub record IsSlabs (s : Content) : Type 0 where
+  pub order : s.top ≤ MOST_ORDER
+  pub paired : length s.kept ≡ length s.lists.places
+  pub small : length s.lists.places ≤ 2 ^ 16
+  pub few : length s.caches ≤ 2 ^ 11
+  pub heads : s.lists.heads ≡ length s.caches * 3
+  pub totals : length s.live ≡ length s.caches
+  pub fits : (n : ℕ) (c : Cache) → cache_in s.caches n ≡ Some c → IsCache c
+  pub standing : (node head key : ℕ) → place_at s.lists.places node ≡ Some (head, key)
+      → (c : Cache) × (cache_in s.caches (head / 3) ≡ Some c) × IsListed (kept_at s.kept node) c head
+  pub counted : (n : ℕ) → n < length s.caches → slice_index s.live n ≡ live_total n s.lists.places s.kept
+
+-- no cache and no slab
+abbrev pub opening : ℕ → ℕ → ℕ → Content
+opening top superblocks tenants = record {
+  top = top;
+  lists = record { heads = MOST_CACHES * tenants * 3; places = replicate (superblocks * 2 ^ top) None };
+  kept = replicate (superblocks * 2 ^ top) blank;
+  caches = replicate (MOST_CACHES * tenants) None;
+  live = replicate (MOST_CACHES * tenants) 0;
+}
+
+-- a slab of cache c of tenant t begins at this frame and node
+pub record IsPlaced (s : Content) (t c first node : ℕ) : Type 0 where
+  pub kind : ℕ
+  pub few : kind < 3
+  pub placed : place_at s.lists.places node ≡ Some (head_of t c kind, first)

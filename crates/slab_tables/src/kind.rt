@@ -1,0 +1,42 @@
+//! The kinds of slabs.
+
+ghost use Rattle.std.specs.Prelude.{◌≡◌};
+
+/// The kinds of slabs, each with a list of its own in every cache.
+#[derive(Clone, Copy, Debug, PartialEq, Eq)]
+pub enum Kind {
+    /// All objects are live.
+    Full,
+    /// Some objects are live, and some are not.
+    Partial,
+    /// No object is live.
+    Empty,
+}
+
+impl Kind {
+    ghost use Rattle.slab_tables.specs.Content.{number_of, kind_of};
+
+    /// The kind of a slab of `count` objects of which `live` are live.
+    pub fn of(count: u32, live: u32) -> Kind
+        ensures { number_of result ≡ kind_of count live }
+    {
+        if live == count {
+            Kind::Full
+        } else if live == 0 {
+            Kind::Empty
+        } else {
+            Kind::Partial
+        }
+    }
+
+    /// The list of the kind among those of a cache: 0 to 2.
+    pub(crate) fn number(self) -> u32
+        ensures { result ≡ number_of self }
+    {
+        match self {
+            Kind::Full => 0,
+            Kind::Partial => 1,
+            Kind::Empty => 2,
+        }
+    }
+}

@@ -1,0 +1,72 @@
+//! Where caches and their lists stand among those of all tenants, and changes of one list.
+
+ghost use Rattle.std.specs.Prelude.{◌≡◌, ◌≢◌, ℕ, ◌+◌, ◌*◌, ◌^◌, ◌<◌, ◌≤◌, Some, None, length};
+ghost use Rattle.model_core.specs.declared.limits.TheConstants.{MOST_ORDER};
+ghost use Rattle.klist_core.specs.Places.{place_at, inserted, replaced};
+ghost use Rattle.slab_tables.specs.Content.{index_of_cache, head_of, number_of};
+ghost use Rattle.slab_tables.specs.Changes.{IsEmptied};
+
+use crate::kind::Kind;
+use klist_core::Lists;
+use model_core::limits::MOST_CACHES;
+
+/// Where cache `c` of tenant `t` stands among those of all tenants.
+pub(crate) fn index_of(t: u8, c: u32) -> usize
+    requires { c < MOST_CACHES }
+    ensures { result ≡ index_of_cache t c }
+{
+    usize::from(MOST_CACHES) * usize::from(t) + c as usize
+}
+
+/// The list of the slabs of a kind of cache `c` of tenant `t`.
+pub(crate) fn head(t: u8, c: u32, kind: Kind) -> u32
+    requires { c < MOST_CACHES }
+    ensures { result ≡ head_of t c (number_of kind) }
+{
+    3 * index_of(t, c) as u32 + kind.number()
+}
+
+/// The node of frame `i` of a superblock of `2^order` frames.
+pub(crate) fn node_at(order: u8, superblock: u16, i: u32) -> u32
+    requires order { order ≤ MOST_ORDER }
+    requires frame { i < 2 ^ order }
+    ensures { result ≡ superblock * 2 ^ order + i }
+{
+    (u32::from(superblock) << order) + i
+}
+
+/// Moves the node, which stands in a list, into the list `head` under the same key. Nothing is done where it stands there.
+pub(crate) fn relist(lists: &mut Lists, head: u32, node: u32, key: u32)
+    requires head { head < lists.old.heads }
+    requires placed { (h : ℕ) × (place_at lists.old.places node ≡ Some (h, key)) }
+    requires alone { (i : ℕ) → place_at lists.old.places i ≡ Some (head, key) → i ≡ node }
+    ensures { lists.new ≡ inserted lists.old head node key }
+{
+    if lists.place_of(node) != Some((head, key)) {
+        lists.remove(node);
+        lists.insert(head, node, key);
+    }
+}
+
+/// Takes all nodes out of the list.
+pub(crate) fn empty_list(lists: &mut Lists, head: u32)
+    requires { head < lists.old.heads }
+    ensures { IsEmptied lists.old lists.new head }
+{
+    while let Some((_, node)) = lists.first(head) {
+        lists.remove(node);
+    }
+}
+
+/// Puts the node `to`, which stands in no list, into the place of the node `from`, if that has one.
+pub(crate) fn replace(lists: &mut Lists, from: u32, to: u32)
+    requires from { from < length lists.old.places }
+    requires to { to < length lists.old.places }
+    requires free { place_at lists.old.places to ≡ None }
+    requires apart { from ≢ to }
+    ensures { lists.new ≡ replaced lists.old from to }
+{
+    if lists.place_of(from).is_some() {
+        lists.replace(from, to);
+    }
+}

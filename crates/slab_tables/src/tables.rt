@@ -1,0 +1,295 @@
+//! The tables.
+
+ghost use Rattle.std.specs.Prelude.{◌≡◌, ◌≢◌, ℕ, ◌<◌, ◌≤◌, ◌==◌, ◌^◌, ◌*◌, ◌+◌, Some, None, length, is_none, slice_index, option_map, IfOk, IfSome, IfNone, IsSome, MatchOption};
+ghost use Rattle.klist_core.specs.Places.{IsEmpty, IsFirst, place_at, inserted};
+ghost use Rattle.klist_core.specs.Lists.{keys_of};
+ghost use Rattle.model_core.specs.declared.limits.TheConstants.{MOST_ORDER, MOST_SUPERBLOCKS, MOST_TENANTS};
+ghost use Rattle.slab_tables.specs.Content.{IsSlabs, IsTenant, IsPlaced, opening, kept_at, cache_at, index_of_cache, head_of, number_of, numbers};
+ghost use Rattle.slab_tables.specs.Changes.{with_slab, with_count, with_outside, without_slab, with_cache, new_cache, IsLeastNumber, IsAllUsed, IsCleared, IsReset, IsMoved, with_node_moved};
+
+use crate::cache::{Cache, Kept};
+use crate::kind::Kind;
+use crate::places::{empty_list, head, index_of, node_at, relist, replace};
+use klist_core::Lists;
+use layout_core::{Layout, Pattern};
+use model_core::limits::MOST_CACHES;
+use std::alloc::{AllocError, Global};
+use std::marker::Model;
+
+/// The tables of all tenants' caches.
+#[derive(Drop)]
+pub struct Tables {
+    order: u8,
+    lists: Lists,
+    kept: Vec<Kept>,
+    caches: Vec<Option<Cache>>,
+    live: Vec<u32>,
+}
+
+impl Model for Tables {
+    ghost use Rattle.slab_tables.specs.Content.{Content, IsSlabs};
+
+    ghost Value = { Content };
+
+    ghost view = { λ s. record { top = s.order; lists = s.lists; kept = s.kept.items; caches = s.caches.items; live = s.live.items } };
+
+    ghost invariant = { λ s. IsSlabs (record { top = s.order; lists = s.lists; kept = s.kept.items; caches = s.caches.items; live = s.live.items }) };
+}
+
+impl Tables {
+    /// No cache and no slab, on `superblocks` superblocks of `2^order` frames, for `tenants` tenants, within the limits of a
+    /// machine.
+    ///
+    /// It asks for all memory that there will ever be, and answers `AllocError` where that is refused.
+    pub fn new(
+        alloc: Global,
+        order: u8,
+        superblocks: u16,
+        tenants: u8,
+    ) -> Result<Tables, AllocError>
+        requires order { order ≤ MOST_ORDER }
+        requires superblocks { superblocks ≤ MOST_SUPERBLOCKS }
+        requires tenants { tenants ≤ MOST_TENANTS }
+        ensures { IfOk result (λ s. s ≡ opening order superblocks tenants) }
+    {
+        let nodes = u32::from(superblocks) << order;
+        let caches = u32::from(MOST_CACHES) * u32::from(tenants);
+        let blank = Kept {
+            colour: 0,
+            live: 0,
+            outside: 0,
+        };
+        Ok(Tables {
+            order,
+            lists: Lists::new(alloc, nodes, caches * 3)?,
+            kept: vec![in alloc; blank; nodes as usize]?,
+            caches: vec![in alloc; None; caches as usize]?,
+            live: vec![in alloc; 0; caches as usize]?,
+        })
+    }
+
+    /// A law: what holds of all tables. It costs nothing.
+    pub fn facts(&self)
+        ensures { IsSlabs self.now }
+    {
+        let _ = &self.order;
+    }
+
+    /// A superblock has `2^order` frames.
+    pub fn order(&self) -> u8
+        ensures { result ≡ self.now.top }
+    {
+        self.order
+    }
+
+    /// The lists of the slabs of all caches, by first frame, with their nodes. List `3 * (32 * t + c)` has the full slabs of
+    /// cache `c` of tenant `t`, and the next two have the partial and the empty ones.
+    pub fn lists(&self) -> &Lists
+        ensures { result.now ≡ self.now.lists }
+    {
+        &self.lists
+    }
+
+    /// Cache `c` of tenant `t`, if it stands; any number may be asked for.
+    pub fn cache(&self, t: u8, c: u32) -> Option<&Cache>
+        requires { IsTenant self.now t }
+        ensures { option_map (λ x. x.now) result ≡ cache_at self.now t c }
+    {
+        if c >= u32::from(MOST_CACHES) {
+            return None;
+        }
+        self.caches[index_of(t, c)].as_ref()
+    }
+
+    /// What is kept of the slab that begins at the node.
+    pub fn kept(&self, node: u32) -> Kept
+        requires { node < length self.now.lists.places }
+        ensures { result ≡ kept_at self.now.kept node }
+    {
+        self.kept[node as usize]
+    }
+
+    /// List and first frame of the slab that begins at the node; None where none does.
+    pub fn place_of(&self, node: u32) -> Option<(u32, u32)>
+        requires { node < length self.now.lists.places }
+        ensures { result ≡ place_at self.now.lists.places node }
+    {
+        self.lists.place_of(node)
+    }
+
+    /// First frame and node of the slab of least frame among those of one kind of cache `c` of tenant `t`.
+    pub fn first(&self, t: u8, c: u32, kind: Kind) -> Option<(u32, u32)>
+        requires tenant { IsTenant self.now t }
+        requires cache { c < MOST_CACHES }
+        ensures { MatchOption result
+            (IsEmpty self.now.lists.places (head_of t c (number_of kind)))
+            (λ p. IsFirst self.now.lists.places (head_of t c (number_of kind)) p.0 p.1) }
+    {
+        self.lists.first(head(t, c, kind))
+    }
+
+    /// How many slabs of one kind cache `c` of tenant `t` has.
+    pub fn count(&self, t: u8, c: u32, kind: Kind) -> u32
+        requires tenant { IsTenant self.now t }
+        requires cache { c < MOST_CACHES }
+        ensures { result ≡ length (keys_of self.now.lists.places (head_of t c (number_of kind))) }
+    {
+        self.lists.len(head(t, c, kind))
+    }
+
+    /// How many objects of cache `c` of tenant `t` are live.
+    pub fn live(&self, t: u8, c: u32) -> u32
+        requires tenant { IsTenant self.now t }
+        requires cache { c < MOST_CACHES }
+        ensures { result ≡ slice_index self.now.live (index_of_cache t c) }
+    {
+        self.live[index_of(t, c)]
+    }
+
+    /// Makes a cache of tenant `t` that has made no slab, and answers its number: the least that no cache of the tenant
+    /// has. None, and nothing changed, where all numbers are used.
+    pub fn create(&mut self, t: u8, layout: Layout, pattern: Pattern) -> Option<u8>
+        requires { IsTenant self.old t }
+        ensures answer { MatchOption result (IsAllUsed self.old t) (IsLeastNumber self.old t) }
+        ensures created { IfSome result (λ c. self.new ≡ with_cache self.old t c (Some (new_cache layout pattern))) }
+        ensures full { IfNone result (self.new ≡ self.old) }
+    {
+        // What every layout and every pattern lends, for the invariant.
+        layout.fits();
+        let _bytes = pattern.as_slice();
+        let c = self.free_number(t)?;
+        self.caches[index_of(t, c.into())] = Some(Cache {
+            layout,
+            pattern,
+            made: 0,
+        });
+        Some(c)
+    }
+
+    /// The least number that no cache of tenant `t` has.
+    fn free_number(&self, t: u8) -> Option<u8>
+        requires { IsTenant self.now t }
+        ensures { MatchOption result (IsAllUsed self.now t) (IsLeastNumber self.now t) }
+    {
+        for c in 0..MOST_CACHES {
+            if self.cache(t, c.into()).is_none() {
+                return Some(c);
+            }
+        }
+        None
+    }
+
+    /// Forgets cache `c` of tenant `t`, which has no slab.
+    pub fn remove_cache(&mut self, t: u8, c: u32)
+        requires tenant { IsTenant self.old t }
+        requires cache { IsSome (cache_at self.old t c) }
+        requires without_slabs { (first node : ℕ) → ¬ IsPlaced self.old t c first node }
+        ensures { self.new ≡ with_cache self.old t c None }
+    {
+        self.caches[index_of(t, c)] = None;
+    }
+
+    /// Lets the next slab of cache `c` of tenant `t`, an empty one, begin at frame `first` and node `node`. The cache has made
+    /// one slab more then, so what was read of it before is out of date.
+    pub fn stand(&mut self, t: u8, c: u32, cache: &Cache, first: u32, node: u32)
+        requires tenant { IsTenant self.old t }
+        requires cache { cache_at self.old t c ≡ Some cache.now }
+        requires node { node < length self.old.lists.places }
+        requires free { place_at self.old.lists.places node ≡ None }
+        requires fresh { (n : ℕ) → place_at self.old.lists.places n ≢ Some (head_of t c 2, first) }
+        ensures { self.new ≡ with_slab self.old t c cache.now first node }
+    {
+        let colours = cache.layout.colours();
+        self.lists.insert(head(t, c, Kind::Empty), node, first);
+        self.kept[node as usize] = cache.next_slab();
+        let made = (cache.made + 1) % colours;
+        self.caches[index_of(t, c)] = Some(Cache { made, ..*cache });
+    }
+
+    /// Counts the live objects of the slab of cache `c` of tenant `t` that begins at frame `first` and node `node`: they are
+    /// `count` now. The slab goes to the list of its kind; where the kind stays, no list is touched.
+    pub fn set_count(&mut self, t: u8, c: u32, cache: &Cache, first: u32, node: u32, count: u32)
+        requires tenant { IsTenant self.old t }
+        requires cache { cache_at self.old t c ≡ Some cache.now }
+        requires slab { IsPlaced self.old t c first node }
+        requires alone { (n : ℕ) → IsPlaced self.old t c first n → n ≡ node }
+        requires few { count ≤ (numbers cache.now).count }
+        ensures { self.new ≡ with_count self.old t c cache.now first node count }
+    {
+        let kind = Kind::of(cache.layout.count(), count);
+        relist(&mut self.lists, head(t, c, kind), node, first);
+        let kept = &mut self.kept[node as usize];
+        let before = u32::from(kept.live);
+        kept.live = count as u16;
+        let i = index_of(t, c);
+        self.live[i] = self.live[i] + count - before;
+    }
+
+    /// Keeps which objects of the slab at the node are live, where they are large.
+    pub fn set_outside(&mut self, node: u32, outside: u16)
+        requires { node < length self.old.lists.places }
+        ensures { self.new ≡ with_outside self.old node outside }
+    {
+        self.kept[node as usize].outside = outside;
+    }
+
+    /// Takes the slab at the node, of which no object is live, out of its list.
+    pub fn forget(&mut self, node: u32)
+        requires placed { IsSome (place_at self.old.lists.places node) }
+        requires empty { (kept_at self.old.kept node).live ≡ 0 }
+        ensures { self.new ≡ without_slab self.old node }
+    {
+        self.lists.remove(node);
+    }
+
+    /// Lets go of all caches and slabs of tenant `t`.
+    pub fn reset(&mut self, t: u8)
+        requires { IsTenant self.old t }
+        ensures { IsReset self.old self.new t }
+    {
+        for number in 0..MOST_CACHES {
+            self.clear(t, number.into());
+        }
+    }
+
+    /// Lets go of cache `c` of tenant `t`, where it stands, and of its slabs.
+    fn clear(&mut self, t: u8, c: u32)
+        requires tenant { IsTenant self.old t }
+        requires cache { c < MOST_CACHES }
+        ensures { IsCleared self.old self.new (λ n. n == index_of_cache t c) }
+    {
+        empty_list(&mut self.lists, head(t, c, Kind::Full));
+        empty_list(&mut self.lists, head(t, c, Kind::Partial));
+        empty_list(&mut self.lists, head(t, c, Kind::Empty));
+        let i = index_of(t, c);
+        self.live[i] = 0;
+        self.caches[i] = None;
+    }
+
+    /// Moves all slabs of superblock `from` to superblock `to`, on which none stands: frame by frame, with all that is kept
+    /// of them. Their tenants' frames stay the same.
+    pub fn move_slot(&mut self, from: u16, to: u16)
+        requires from { (from + 1) * 2 ^ self.old.top ≤ length self.old.lists.places }
+        requires to { (to + 1) * 2 ^ self.old.top ≤ length self.old.lists.places }
+        requires apart { from ≢ to }
+        requires free { (i : ℕ) → i < 2 ^ self.old.top → place_at self.old.lists.places (to * 2 ^ self.old.top + i) ≡ None }
+        ensures { IsMoved self.old self.new from to }
+    {
+        let order = self.order;
+        for i in 0..1u32 << order {
+            self.move_node(node_at(order, from, i), node_at(order, to, i));
+        }
+    }
+
+    /// Moves what stands at the node `from` to the node `to`, at which no slab begins.
+    fn move_node(&mut self, from: u32, to: u32)
+        requires from { from < length self.old.lists.places }
+        requires to { to < length self.old.lists.places }
+        requires apart { from ≢ to }
+        requires free { place_at self.old.lists.places to ≡ None }
+        ensures { self.new ≡ with_node_moved self.old from to }
+    {
+        replace(&mut self.lists, from, to);
+        self.kept[to as usize] = self.kept[from as usize];
+    }
+}
