@@ -5,6 +5,7 @@ ghost use Rattle.model_core.specs.declared.limits.TheConstants.{MOST_ORDER};
 ghost use Rattle.buddy_core.specs.Content.{holding_of, superblock_at};
 
 use super::*;
+use model_core::owner::Owner;
 use model_core::search;
 use std::process::Abort;
 use std::test::Fail;
@@ -65,7 +66,7 @@ impl Numbers {
 /// free, the order plus one where a taken block begins, and 255 inside one.
 #[derive(Drop)]
 struct Plain {
-    owners: Vec<Option<(u8, u16)>>,
+    owners: Vec<Option<Owner>>,
     marks: Vec<u8>,
 }
 
@@ -113,7 +114,7 @@ impl Plain {
 
     fn slots(&self, t: u8) -> usize {
         let owners = self.owners.iter().flatten();
-        owners.filter(|owner| owner.0 == t).count()
+        owners.filter(|owner| owner.tenant == t).count()
     }
 
     /// The marks of superblock `m`.
@@ -131,8 +132,8 @@ impl Plain {
     {
         let mut count = 0usize;
         for (m, owner) in self.owners.iter().enumerate() {
-            if let Some((tenant, _)) = owner
-                && *tenant == t
+            if let Some(owner) = owner
+                && owner.tenant == t
             {
                 let marks = self.sheet(order, m).iter();
                 let blocks = marks.filter(|mark| u32::from(**mark) == u32::from(k) + 1);
@@ -200,8 +201,8 @@ impl Plain {
         requires { order ≤ MOST_ORDER }
     {
         for m in 0..self.owners.len() {
-            if let Some((tenant, _)) = self.owners.get(m).copied().flatten()
-                && tenant == t
+            if let Some(owner) = self.owners.get(m).copied().flatten()
+                && owner.tenant == t
             {
                 self.clear(order, m);
             }
@@ -327,7 +328,7 @@ impl Beside {
             && usize::from(m) < self.plain.owners.len()
         {
             self.buddy.add_slot(t, slot, m);
-            self.plain.owners[m as usize] = Some((t, slot));
+            self.plain.owners[m as usize] = Some(Owner { tenant: t, slot });
             self.tally.added = self.tally.added.wrapping_add(1);
         }
     }

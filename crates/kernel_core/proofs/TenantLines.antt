@@ -1,5 +1,4 @@
 -- The lines of a tenant in the output of a trace are the texts of the replies addressed to it.
-use Rattle.model_core.specs.Owners.{owned_by}
 use Rattle.model_core.specs.declared.owner.Owner.{Owner}
 use Rattle.std.proofs.Common.{◌≡◌, ℕ, ◌+◌, count_by, ◌<◌, ◌≤◌, ◌^◌, ◌≢◌, ◌==◌, nat_eq, Bool, true, false, List, [], ◌∷◌, ◌++◌, Option, Some, None, Result, Ok, Err, is_none, position, length, slice_get, map, filter, codes, decimal, refl, ap, sym, subst, ◌∙◌, inl, inr, arith, append_assoc}
 use Rattle.std.specs.List.{starts_with}

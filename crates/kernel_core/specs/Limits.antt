@@ -1,6 +1,7 @@
 -- The limit on caches that this kernel is built with; the definitions take it as a parameter.
 use Rattle.std.specs.Prelude.{ℕ}
+use Rattle.model_core.specs.declared.limits.TheConstants.{MOST_CACHES}
 
 -- the caches that one tenant may have
 abbrev pub cache_limit : ℕ
-cache_limit = 16
+cache_limit = MOST_CACHES

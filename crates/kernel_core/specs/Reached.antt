@@ -1,8 +1,8 @@
 -- The machines that private runs leave, and what the model's laws say of them.
-use Rattle.std.specs.Prelude.{◌≡◌, ◌⊎◌, ◌↔◌, ℕ, ◌+◌, ◌/◌, ◌^◌, ◌<◌, ◌≤◌, true, List, [], ◌∷◌, Some, Ok}
+use Rattle.std.specs.Prelude.{◌≡◌, ◌↔◌, ℕ, ◌/◌, ◌^◌, true, List, [], ◌∷◌, Some, Ok}
 use Rattle.std.specs.List.{flat_map}
-use Rattle.model_core.specs.Blocks.{Block, block, HasFrame, buddy, around, IsTaken, IsFree, IsChoice, IsSound}
-use Rattle.model_core.specs.BlockLaws.{JoinsTo}
+use Rattle.model_core.specs.Blocks.{Block, block, HasFrame, IsTaken, IsFree, IsChoice, IsSound}
+use Rattle.model_core.specs.BlockLaws.{IsFreeOnceSplit, JoinsTo, IsFreeOnceJoined}
 use Rattle.model_core.specs.Machine.{Machine, empty_machine, holds, taken_in}
 use Rattle.model_core.specs.Slabs.{by_need}
 use Rattle.model_core.specs.Operations.{alloc_step, free_step}
@@ -51,20 +51,17 @@ ReachedFreeOnce = (limit order x : ℕ) (entries : List Entry) → let m = reach
     (b : Block) × IsFreeIn order m b × HasFrame b x × ((c : Block) → IsFreeIn order m c → HasFrame c x → c ≡ b)
 
 -- An `alloc` that answers a frame splits the free block that is chosen, of some order j, of those that there are once empty
--- slabs are given back by need: the free blocks lose it and gain the upper halves of the splits, of the orders from k to j - 1.
+-- slabs are given back by need.
 abbrev pub ReachedSplits : Type 0
 ReachedSplits = (limit order k first : ℕ) (entries : List Entry) → let m = reached_machine limit order entries in
     let n = by_need order k m in
     (alloc_step order k m).answer ≡ Ok first →
     (j : ℕ) × IsChoice order (holds n) (taken_in n) k (block first j) × ((b : Block) →
-    (IsFreeIn order (alloc_step order k m).machine b
-    ↔ ((IsFreeIn order n b × (b ≡ block first j → ⊥)) ⊎ ((i : ℕ) × (k ≤ i) × (i < j) × (b ≡ block (first + 2 ^ i) i)))))
+    (IsFreeIn order (alloc_step order k m).machine b ↔ IsFreeOnceSplit (IsFreeIn order n) first j k b))
 
--- A `free` that answers an order joins the block with its buddies as long as they are free, up to some order j: the free
--- blocks lose these buddies and gain the joined block.
+-- A `free` that answers an order joins the block with its buddies as long as they are free, up to some order j.
 abbrev pub ReachedJoins : Type 0
 ReachedJoins = (limit order first k : ℕ) (entries : List Entry) → let m = reached_machine limit order entries in
     (free_step first m).answer ≡ Some k →
     (j : ℕ) × JoinsTo order (holds m) (taken_in m) first k j × ((b : Block) →
-    (IsFreeIn order (free_step first m).machine b
-    ↔ ((b ≡ around first j) ⊎ (IsFreeIn order m b × ((i : ℕ) → k ≤ i → i < j → b ≡ buddy (around first i) → ⊥)))))
+    (IsFreeIn order (free_step first m).machine b ↔ IsFreeOnceJoined (IsFreeIn order m) first k j b))

@@ -1,5 +1,5 @@
 -- The world of all tenants: who owns each superblock, and a private machine for each tenant.
-use Rattle.std.specs.Prelude.{ℕ, ◌==◌, ◌&&◌, Bool, false, List, [], ◌∷◌, Option, Some, None, Result, Ok, Err, if◌then◌else◌, is_none, map, count_by, position, slice_get, slice_set, replicate}
+use Rattle.std.specs.Prelude.{ℕ, Bool, List, [], ◌∷◌, Option, Some, None, Result, Ok, Err, if◌then◌else◌, is_none, map, count_by, position, slice_get, slice_set, replicate}
 use Rattle.std.specs.List.{position_or_len}
 use Rattle.model_core.specs.Machine.{Machine, empty_machine}
 use Rattle.model_core.specs.declared.owner.Owner.{Owner}

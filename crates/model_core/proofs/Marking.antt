@@ -11,7 +11,8 @@ use Rattle.std.proofs.lemmas.Bool.{false≢true, lt-ltb, cases_lt, both_ways, ne
 use Rattle.std.proofs.lemmas.Bool.Decides.{nat_tests}
 use Rattle.std.proofs.lemmas.List.Quantifiers.{position-Some}
 use Rattle.model_core.specs.Blocks.{Block, HasFrame, IsAligned, IsTaken, HasTaken, around}
-use Rattle.model_core.specs.Marks.{Owners, is_owner, superblock_under, is_held, mark_in, mark_at, marked_frames, taken_by, AreMarked}
+use Rattle.model_core.specs.Marks.{Owners, superblock_under, is_held, mark_in, mark_at, marked_frames, taken_by, AreMarked}
+use Rattle.model_core.specs.Owners.{is_owner}
 
 -- what the look-up of a slot's superblock tells
 found_at : (owners : Owners) (t u : ℕ) (o : Option ℕ) → superblock_under owners t u ≡ o → is_some o ≡ true → (m : ℕ) × (m < length owners) × (is_owner t u (slice_index_or owners m None) ≡ true)

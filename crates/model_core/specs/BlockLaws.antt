@@ -8,12 +8,15 @@ abbrev pub EachFrameInOne : Type 0
 EachFrameInOne = (top : ℕ) (held : ℕ → Bool) (taken : Taken) (x : ℕ) → held (x / 2 ^ top) ≡ true → (IsTaken taken x → ⊥)
     → (b : Block) × IsFree top held taken b × HasFrame b x × ((c : Block) → IsFree top held taken c → HasFrame c x → c ≡ b)
 
--- Where order k is reserved at the first frame of the free block of order j at f, the free blocks
--- lose that block and gain the upper halves of the splits, of the orders from k to j - 1.
+-- What is free once order k is reserved out of the free block of order j at f: the free blocks lose that
+-- block and gain the upper halves of the splits, of the orders from k to j - 1.
+abbrev pub IsFreeOnceSplit : (Block → Type 0) → ℕ → ℕ → ℕ → Block → Type 0
+IsFreeOnceSplit WasFree f j k b = (WasFree b × (b ≡ block f j → ⊥)) ⊎ ((i : ℕ) × (k ≤ i) × (i < j) × (b ≡ block (f + 2 ^ i) i))
+
+-- a reservation at the first frame of a free block splits it
 abbrev pub Splits : Type 0
 Splits = (top : ℕ) (held : ℕ → Bool) (taken : Taken) (f j k : ℕ) → IsFree top held taken (block f j) → k ≤ j → (b : Block)
-    → (IsFree top held (with_taken taken f k) b
-    ↔ ((IsFree top held taken b × (b ≡ block f j → ⊥)) ⊎ ((i : ℕ) × (k ≤ i) × (i < j) × (b ≡ block (f + 2 ^ i) i))))
+    → (IsFree top held (with_taken taken f k) b ↔ IsFreeOnceSplit (IsFree top held taken) f j k b)
 
 -- The block of order k at f, when released, is joined up to order j: at each order from k to j - 1
 -- its buddy is free, and at order j it is a whole slot or its buddy is not free.
@@ -23,13 +26,16 @@ pub record JoinsTo (top : ℕ) (held : ℕ → Bool) (taken : Taken) (f k j : �
   pub joined : (i : ℕ) → k ≤ i → i < j → IsFree top held taken (buddy (around f i))
   pub stops : (j ≡ top) ⊎ (IsFree top held taken (buddy (around f j)) → ⊥)
 
--- Where a block is released, the free blocks lose the buddies that it is joined with and gain the
--- block that the joins give.
+-- What is free once the block of order k at f is released and joined up to order j: the free blocks lose
+-- the buddies that it is joined with and gain the block that the joins give.
+abbrev pub IsFreeOnceJoined : (Block → Type 0) → ℕ → ℕ → ℕ → Block → Type 0
+IsFreeOnceJoined WasFree f k j b = (b ≡ around f j) ⊎ (WasFree b × ((i : ℕ) → k ≤ i → i < j → b ≡ buddy (around f i) → ⊥))
+
+-- a release joins the block
 abbrev pub Joins : Type 0
 Joins = (top : ℕ) (held : ℕ → Bool) (taken : Taken) (f k : ℕ) → IsSound top held taken → taken f ≡ Some k
     → (j : ℕ) × JoinsTo top held taken f k j × ((b : Block)
-    → (IsFree top held (without_taken taken f) b
-    ↔ ((b ≡ around f j) ⊎ (IsFree top held taken b × ((i : ℕ) → k ≤ i → i < j → b ≡ buddy (around f i) → ⊥)))))
+    → (IsFree top held (without_taken taken f) b ↔ IsFreeOnceJoined (IsFree top held taken) f k j b))
 
 -- what is reserved out of a free block is aligned, and all its frames lie in held slots and are not taken
 abbrev pub ReservedIsUntaken : Type 0

@@ -1,16 +1,14 @@
 -- What the owners of the superblocks and one mark for each machine frame say of a tenant: which slots it
 -- holds, and which blocks are taken. A mark is 0 at a free frame, a block's order plus one at its first
 -- frame, and 255 at its other frames.
-use Rattle.std.specs.Prelude.{◌≡◌, ℕ, ◌+◌, ◌-◌, ◌*◌, ◌/◌, ◌%◌, ◌^◌, ◌==◌, ◌&&◌, Bool, false, Option, Some, None, List, position, is_some, slice_index, if◌then◌else◌}
+use Rattle.std.specs.Prelude.{◌≡◌, ℕ, ◌+◌, ◌-◌, ◌*◌, ◌/◌, ◌%◌, ◌^◌, ◌==◌, Bool, Option, Some, None, List, position, is_some, slice_index, if◌then◌else◌}
 use Rattle.model_core.specs.Blocks.{Taken, IsTaken}
+use Rattle.model_core.specs.Owners.{is_owner}
+use Rattle.model_core.specs.declared.owner.Owner.{Owner}
 
--- for each superblock its owner, a tenant, and the slot under which that tenant holds it
+-- for each superblock its owner, if it has one
 abbrev pub Owners : Type 0
-Owners = List (Option (ℕ × ℕ))
-
-abbrev pub is_owner : ℕ → ℕ → Option (ℕ × ℕ) → Bool
-is_owner t u None = false
-is_owner t u (Some o) = (o.0 == t) && (o.1 == u)
+Owners = List (Option Owner)
 
 -- the superblock under slot u of tenant t
 unfoldable pub superblock_under : Owners → ℕ → ℕ → Option ℕ

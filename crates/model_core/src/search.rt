@@ -5,20 +5,20 @@ ghost use Rattle.std.specs.Prelude.{◌≡◌, ◌⊎◌, ℕ, ◌+◌, ◌-◌,
 ghost use Rattle.std.specs.Bool.{MatchBool};
 ghost use Rattle.model_core.specs.Blocks.{block, around, HasFrame, IsFree, IsChoice, IsWithout, IsAligned};
 ghost use Rattle.model_core.specs.Choice.{free_blocks};
-ghost use Rattle.model_core.specs.Marks.{is_owner, superblock_under, is_held, mark_in, marked_frames, taken_by, AreMarked};
+ghost use Rattle.model_core.specs.Marks.{superblock_under, is_held, mark_in, marked_frames, taken_by, AreMarked};
+ghost use Rattle.model_core.specs.Owners.{is_owner};
 
-/// Whether a superblock's owner is tenant `t` with slot `slot`.
-fn is_owner(owner: Option<(u8, u16)>, t: u8, slot: u32) -> bool
+use crate::owner::Owner;
+
+/// Whether a superblock is tenant `t`'s, under slot `slot`.
+fn is_owner(owner: Option<Owner>, t: u8, slot: u32) -> bool
     ensures { result ≡ is_owner t slot owner }
 {
-    match owner {
-        None => false,
-        Some((tenant, held)) => tenant == t && u32::from(held) == slot,
-    }
+    owner.is_some_and(|owner| owner.tenant == t && u32::from(owner.slot) == slot)
 }
 
 /// The superblock under slot `slot` of tenant `t`.
-pub fn superblock_under(owners: &[Option<(u8, u16)>], t: u8, slot: u32) -> Option<usize>
+pub fn superblock_under(owners: &[Option<Owner>], t: u8, slot: u32) -> Option<usize>
     ensures value { result ≡ superblock_under owners.now t slot }
     ensures within { IfSome result (λ m. m < length owners.now) }
 {
@@ -31,16 +31,16 @@ pub fn superblock_under(owners: &[Option<(u8, u16)>], t: u8, slot: u32) -> Optio
 }
 
 /// One more than the greatest slot that tenant `t` holds, and 0 where it holds none.
-fn slots_end(owners: &[Option<(u8, u16)>], t: u8) -> u32
+fn slots_end(owners: &[Option<Owner>], t: u8) -> u32
     ensures small { result ≤ 65536 }
     ensures above { (u : ℕ) → is_held owners.now t u ≡ true → u < result }
 {
     let mut end = 0;
     for owner in owners {
-        if let Some((tenant, slot)) = owner {
-            if *tenant == t {
-                end = end.max(u32::from(*slot) + 1);
-            }
+        if let Some(owner) = owner
+            && owner.tenant == t
+        {
+            end = end.max(u32::from(owner.slot) + 1);
         }
     }
     end
@@ -97,7 +97,7 @@ fn is_block_clear(order: u8, marks: &[u8], superblock: usize, first: u32, k: u8)
 /// slot, without a taken frame, and not half of such a block.
 fn is_free_block(
     order: u8,
-    owners: &[Option<(u8, u16)>],
+    owners: &[Option<Owner>],
     marks: &[u8],
     t: u8,
     first: u32,
@@ -122,7 +122,7 @@ fn is_free_block(
 }
 
 /// The least local frame at which a free block of order `k` of tenant `t` begins.
-fn first_free(order: u8, owners: &[Option<(u8, u16)>], marks: &[u8], t: u8, k: u8) -> Option<u32>
+fn first_free(order: u8, owners: &[Option<Owner>], marks: &[u8], t: u8, k: u8) -> Option<u32>
     requires order { order ≤ 8 }
     requires of_slot { k ≤ order }
     ensures { MatchOption result
@@ -151,7 +151,7 @@ fn first_free(order: u8, owners: &[Option<(u8, u16)>], marks: &[u8], t: u8, k: u
 /// the end of the marks has the mark 0.
 pub fn find_free(
     order: u8,
-    owners: &[Option<(u8, u16)>],
+    owners: &[Option<Owner>],
     marks: &[u8],
     t: u8,
     k: u8,
@@ -173,7 +173,7 @@ pub fn find_free(
 }
 
 /// How many free blocks of order `k` tenant `t` has, by the owners and marks of [`find_free`].
-pub fn count_free(order: u8, owners: &[Option<(u8, u16)>], marks: &[u8], t: u8, k: u8) -> u32
+pub fn count_free(order: u8, owners: &[Option<Owner>], marks: &[u8], t: u8, k: u8) -> u32
     requires order { order ≤ 8 }
     requires of_slot { k ≤ order }
     ensures marked { (slots : ℕ) → ((u : ℕ) → is_held owners.now t u ≡ true → u < slots)

@@ -1,5 +1,5 @@
 use Rattle.std.proofs.Common.{◌≡◌, ℕ, ◌<◌, ◌≤◌, None, true, slice_index_or}
-use Rattle.model_core.specs.Marks.{is_owner}
+use Rattle.model_core.specs.Owners.{is_owner}
 use Rattle.model_core.proofs.search.slots_end.Given as goal
 
 -- the end is above each slot of the tenant so far

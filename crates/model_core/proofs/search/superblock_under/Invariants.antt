@@ -1,5 +1,5 @@
 use Rattle.std.proofs.Common.{◌≡◌, ℕ, ◌<◌, None, false, slice_index_or}
-use Rattle.model_core.specs.Marks.{is_owner}
+use Rattle.model_core.specs.Owners.{is_owner}
 use Rattle.model_core.proofs.search.superblock_under.Given as goal
 
 -- no superblock so far is the one

@@ -1,8 +1,5 @@
-use Rattle.std.proofs.Common.{◌≡◌, ◌∙◌, ap, Some, None, Ok}
-use Rattle.words_core.specs.declared.event.Event.{Event}
-use Rattle.words_core.specs.declared.event.Event.TheVariants as On
-use Rattle.words_core.specs.Answers.{reply_of}
-use Rattle.replay_core.proofs.RunLemmas.{answered_nothing, answered_event, answered_fault}
+use Rattle.std.proofs.Common.{◌≡◌, ◌∙◌, ap, None, Ok}
+use Rattle.replay_core.proofs.RunLemmas.{answered_nothing}
 use Rattle.replay_core.proofs.replaying.answer.Goals as goal
 
 pub returns-in-Ok-None-clause-answered : goal.returns-in-Ok-None-clause-answered

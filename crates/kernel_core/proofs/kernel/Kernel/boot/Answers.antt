@@ -1,5 +1,5 @@
-use Rattle.std.proofs.Common.{◌≡◌, sym, ◌∙◌, subst}
-use Rattle.kernel_core.specs.Parts.{Parts, PartsAgree, opening_parts}
+use Rattle.std.proofs.Common.{sym, ◌∙◌, subst}
+use Rattle.kernel_core.specs.Parts.{Parts, opening_parts}
 use Rattle.kernel_core.specs.World.{opening_world}
 use Rattle.kernel_core.specs.Shows.{Shows}
 use Rattle.kernel_core.proofs.Opening.{bootable, opening_agrees, opening_shows}

@@ -3,7 +3,7 @@ use Rattle.kernel_core.proofs.Owners.{unowned_at}
 use Rattle.words_core.specs.declared.event.Event.TheVariants as On
 use Rattle.words_core.specs.declared.event.AdminCommand.TheVariants as Do
 use Rattle.kernel_core.specs.Parts.{Parts, parts_of}
-use Rattle.kernel_core.proofs.Worlds.{agree_viewed, steps_viewed}
+use Rattle.kernel_core.proofs.Worlds.{steps_viewed}
 use Rattle.kernel_core.proofs.Granting.{IsGrantable, after, unused, agree_granted, steps_granted, grant_without_tenant, grant_without_superblock}
 use Rattle.kernel_core.proofs.kernel.Kernel.grant.Goals as goal
 

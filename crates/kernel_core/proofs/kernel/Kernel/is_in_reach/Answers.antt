@@ -1,7 +1,7 @@
 use Rattle.std.proofs.Common.{length, ◌≤◌, ◌<◌, sym, subst, arith}
 use Rattle.std.proofs.lemmas.Bool.{le-leb, leb-true}
 use Rattle.buddy_core.specs.Content.{holding_of, IsSoundHolding}
-use Rattle.kernel_core.specs.Parts.{Parts, parts_of}
+use Rattle.kernel_core.specs.Parts.{Parts}
 use Rattle.kernel_core.proofs.Reach.{small_order, small_shift, small_power, reach_is, reach_ends}
 use Rattle.kernel_core.proofs.kernel.Kernel.is_in_reach.Goals as goal
 

@@ -1,7 +1,7 @@
 use Rattle.std.proofs.Common.{length, ◌<◌, sym, subst, arith}
 use Rattle.buddy_core.specs.Content.{holding_of, IsSoundHolding}
 use Rattle.space_core.specs.Laws.{IsRead}
-use Rattle.kernel_core.specs.Parts.{Parts, parts_of, IsInReach}
+use Rattle.kernel_core.specs.Parts.{Parts, IsInReach}
 use Rattle.kernel_core.proofs.Worlds.{false_is}
 use Rattle.kernel_core.proofs.Reach.{read_bad, read_beyond, read_done, window_some}
 use Rattle.kernel_core.proofs.kernel.Kernel.read.Goals as goal
