@@ -1,0 +1,231 @@
+-- One object marked: its slab is counted anew, the parts agree, and nothing else has changed.
+use Rattle.std.proofs.Common.{◌≡◌, ◌≢◌, ℕ, ◌+◌, ◌*◌, ◌/◌, ◌%◌, ◌^◌, ◌<◌, ◌≤◌, Bool, true, false, not, List, Some, None, length, get_or, set, refl, sym, ap, ◌∙◌, subst, inl, inr, arith}
+use Rattle.std.specs.Prelude.{◌==◌, ◌&&◌, if◌then◌else◌}
+use Rattle.std.proofs.lemmas.Bool.{cases_eq}
+use Rattle.std.proofs.lemmas.List.{length-set, get_or-set_same, get_or-set_other, set-get_or}
+use Rattle.model_core.specs.declared.limits.TheConstants.{MOST_CACHES}
+use Rattle.model_core.specs.Layouts.{is_small}
+use Rattle.klist_core.specs.Places.{place_at}
+use Rattle.space_core.specs.Content as spaces
+use Rattle.space_core.specs.Laws.{SpaceLaws}
+use Rattle.buddy_core.specs.Content as buddies
+use Rattle.slab_tables.specs.declared.cache.Cache as own
+use Rattle.slab_tables.specs.declared.cache.Kept.{Kept}
+use Rattle.slab_tables.specs.Content.{Content, IsSlabs, IsPlaced, blank, kept_at, cache_in, index_of_cache, head_of, numbers, kind_of}
+use Rattle.slab_tables.specs.Changes.{with_count}
+use Rattle.slab_tables.proofs.Reading.{kind_below, head_parts, same_place}
+use Rattle.slab_laws.specs.Records.{is_set, count_true}
+use Rattle.slab_laws.specs.Shows.{node_of, record_byte, byte_or_zero, is_live, live_of, is_of_cache, IsSlab, IsAgreed, Agree}
+use Rattle.slab_laws.specs.Keeps.{Spares}
+use Rattle.slab_laws.specs.Changes.{found, IsMarked}
+use Rattle.slab_laws.proofs.Lookups.{some_same}
+use Rattle.slab_laws.proofs.Facts.{under_is, superblock_of_node, same_below}
+use Rattle.slab_laws.proofs.Flags.{length_flags, flag_at, count_few}
+use Rattle.slab_core.specs.Objects.{IsTurned}
+use Rattle.slab_core.proofs.MarkBits.{flags_changed, count_cleared, count_set}
+use Rattle.slab_core.proofs.ObjectSlabs.{IsHeld, held, node_within}
+
+-- the count after one object more or less
+abbrev pub IsCountOf : Bool → ℕ → ℕ → Type 0
+IsCountOf live before count = (live ≡ true → count ≡ before + 1) × (live ≡ false → count + 1 ≡ before)
+
+module _ (r : spaces.Content) (b : buddies.Content) (s : Content) (t c f n i : ℕ) (cache : own.Cache) (w : IsSlabs s) (a : Agree r b s) (q : IsSlab r s t c f n cache)
+    (less : i < (numbers cache).count) (v : Bool) (was : is_live r t cache (kept_at s.kept n) f i ≡ not v) where
+  h : IsHeld r b s t c f n cache
+  h = held r b s t c f n cache w a q
+
+  abbrev flags_before : List Bool
+  flags_before = live_of r t cache (kept_at s.kept n) f
+
+  long : length flags_before ≡ (numbers cache).count
+  long = length_flags 0 (numbers cache).count (is_live r t cache (kept_at s.kept n) f)
+
+  zero_more : 0 + i ≡ i
+  zero_more = omega arith
+
+  flag_was : get_or flags_before i false ≡ not v
+  flag_was = flag_at (numbers cache).count i (is_live r t cache (kept_at s.kept n) f) false less ∙ was
+
+  -- the marked flags, counted
+  count_marked : (count : ℕ) → IsCountOf v (kept_at s.kept n).live count → count ≡ count_true (set flags_before i v)
+  count_marked count is = by_case v flag_was is
+    where
+      by_case : (u : Bool) → get_or flags_before i false ≡ not u → IsCountOf u (kept_at s.kept n).live count → count ≡ count_true (set flags_before i u)
+      by_case true flag e = let m = count_set flags_before i (omega (arith, long)) flag in let d = e.0 refl in omega (arith, h.counted)
+      by_case false flag e = let m = count_cleared flags_before i (omega (arith, long)) flag in let d = e.1 refl in omega (arith, h.counted)
+
+  -- an object that is live is counted
+  pub some_live : v ≡ false → 1 ≤ (kept_at s.kept n).live
+  some_live e =
+      let m = count_cleared flags_before i (omega (arith, long)) (flag_was ∙ ap not e) in omega (arith, h.counted)
+
+  pub count_below : (count : ℕ) → IsCountOf v (kept_at s.kept n).live count → count ≤ (numbers cache).count
+  count_below count is = omega (arith, count_marked count is, count_few (set flags_before i v), length-set flags_before i v, long)
+
+  pub is_placed : IsPlaced s t c f n
+  is_placed =
+      let index = h.index in
+      let whole : h.head ≡ head_of t c (h.head % 3) = omega arith in
+      record { kind = h.head % 3; few = omega arith; placed = h.place ∙ ap (λ (x : ℕ). Some (x, f)) whole }
+
+  -- no other node of the cache has the slab's first frame
+  pub alone : (m : ℕ) → IsPlaced s t c f m → m ≡ n
+  alone m p =
+      let few = p.few in
+      let index : head_of t c p.kind / 3 ≡ index_of_cache t c = (head_parts t c p.kind p.few).0 in
+      let below = h.below in
+      let tenant : head_of t c p.kind / 3 / MOST_CACHES ≡ t = omega arith in
+      let x = a.slabs m (head_of t c p.kind) f cache p.placed (ap (cache_in s.caches) index ∙ h.cached) in
+      some_same (sym (ap (λ u. node_of s.top r.slots u f) (sym tenant) ∙ x.under) ∙ q.under)
+
+  module _ (laws : SpaceLaws r) (banks : List (List ℕ)) (ks : List Kept) (count : ℕ) (is_count : IsCountOf v (kept_at s.kept n).live count)
+      (k : IsTurned r (record r { banks = banks }) s (record s { kept = ks }) t (found cache f n i)) where
+    abbrev r' : spaces.Content
+    r' = record r { banks = banks }
+
+    abbrev s' : Content
+    s' = with_count (record s { kept = ks }) t c cache f n count
+
+    abbrev kind : ℕ
+    kind = kind_of (numbers cache).count count
+
+    abbrev head_now : ℕ
+    head_now = head_of t c kind
+
+    index_now : head_now / 3 ≡ index_of_cache t c
+    index_now = (head_parts t c kind (kind_below (numbers cache).count count)).0
+
+    tenant_now : head_now / 3 / MOST_CACHES ≡ t
+    tenant_now = let e = index_now in let below = h.below in omega arith
+
+    place_now : place_at s'.lists.places n ≡ Some (head_now, f)
+    place_now = get_or-set_same s.lists.places n (Some (head_now, f)) None (node_within r s t c f n cache q)
+
+    place_other : (m : ℕ) → m ≢ n → place_at s'.lists.places m ≡ place_at s.lists.places m
+    place_other m other = get_or-set_other s.lists.places n m (Some (head_now, f)) None other
+
+    kept_now : kept_at s'.kept n ≡ record (kept_at ks n) { live = count }
+    kept_now = get_or-set_same ks n (record (kept_at ks n) { live = count }) blank (omega (arith, node_within r s t c f n cache q, w.paired, k.nodes))
+
+    kept_other : (m : ℕ) → m ≢ n → kept_at s'.kept m ≡ kept_at s.kept m
+    kept_other m other = get_or-set_other ks n m (record (kept_at ks n) { live = count }) blank other ∙ k.kept m other
+
+    is_live_now : (j : ℕ) → is_live r' t cache (kept_at s'.kept n) f j ≡ is_live r' t cache (kept_at ks n) f j
+    is_live_now j = ap (λ (x : Kept). is_live r' t cache x f j) kept_now
+
+    not_not : (u : Bool) → not (not u) ≡ u
+    not_not true = refl
+    not_not false = refl
+
+    few : (numbers cache).count ≤ 256
+    few = (h.layout.fits 0).few
+
+    flags_now : live_of r' t cache (kept_at s'.kept n) f ≡ set flags_before i v
+    flags_now =
+        flags_changed 0 (numbers cache).count i (is_live r t cache (kept_at s.kept n) f) (is_live r' t cache (kept_at s'.kept n) f) v less
+        (ap (is_live r' t cache (kept_at s'.kept n) f) zero_more ∙ (is_live_now i ∙ (k.turned ∙ (ap not was ∙ not_not v))))
+        (λ j low high other. is_live_now j ∙ k.stay j (let x = few in omega arith) (λ e. other (omega arith)))
+
+    pub marked : IsMarked r r' s s' t c (found cache f n i) v
+    marked = record {
+      top = refl;
+      slots = λ u. refl;
+      caches = λ d. refl;
+      listed = λ m g. ap (is_of_cache m g) place_now
+          ∙ (ap (λ (x : ℕ). (x == m) && (f == g)) (index_now ∙ sym h.index) ∙ ap (is_of_cache m g) (sym h.place));
+      lists = place_other;
+      kept = kept_other;
+      colour = ap (λ (x : Kept). x.colour) kept_now ∙ k.colour;
+      live = flags_now;
+      bytes = k.bytes;
+      large = k.large;
+    }
+
+    -- the slab that was marked
+    own_slab : IsAgreed r' b s' n head_now f cache
+    own_slab = record {
+      under = ap (λ u. node_of s.top r.slots u f) tenant_now ∙ q.under;
+      taken = ap (λ u. buddies.taken_of (buddies.holding_of u b) f) tenant_now ∙ h.taken;
+      counted = subst (λ u. (kept_at s'.kept n).live ≡ count_true (live_of r' u cache (kept_at s'.kept n) f)) (sym tenant_now)
+          (ap (λ (x : Kept). x.live) kept_now ∙ (count_marked count is_count ∙ ap count_true (sym flags_now)));
+      rest = subst (λ u. (j : ℕ) → (numbers cache).count ≤ j → j < 256 → is_live r' u cache (kept_at s'.kept n) f j ≡ false) (sym tenant_now)
+          (λ j high low. is_live_now j ∙ (k.stay j low (λ e. omega arith) ∙ h.rest j high low));
+    }
+
+    -- the record of another slab, of whichever tenant
+    record_stays : (u node key : ℕ) → node_of s.top r.slots u key ≡ Some node → node ≢ n → (j : ℕ) → j < 32 → record_byte r' u key j ≡ record_byte r u key j
+    record_stays u node key under other j low = elim (cases_eq u t) [
+      | inl same ↦
+          let differ : key ≢ f = λ e. other (some_same (sym under ∙ (ap (λ (x : ℕ). node_of s.top r.slots x key) same ∙ (ap (λ (g : ℕ). node_of s.top r.slots t g) e ∙ q.under)))) in
+          subst (λ (x : ℕ). record_byte r' x key j ≡ record_byte r x key j) (sym same)
+          (ap byte_or_zero (k.bytes (4096 * key + 4064 + j) (λ m less' e. differ (omega arith))))
+      | inr ne ↦ ap byte_or_zero ((k.others u ne).bytes (4096 * key + 4064 + j))
+    ]
+
+    other_slab : (node head key : ℕ) (cache' : own.Cache) → node ≢ n → place_at s.lists.places node ≡ Some (head, key) → cache_in s.caches (head / 3) ≡ Some cache'
+        → IsAgreed r' b s' node head key cache'
+    other_slab node head key cache' other place cached =
+        let x = a.slabs node head key cache' place cached in
+        let most = ((w.fits (head / 3) cache' cached).layout.fits 0).few in
+        let u : ℕ = head / 3 / MOST_CACHES in
+        let stays : (j : ℕ) → j < 256 → is_live r' u cache' (kept_at s.kept node) key j ≡ is_live r u cache' (kept_at s.kept node) key j =
+        λ j low. ap (λ (z : ℕ). if is_small (numbers cache').chunk then is_set z (j % 8) else is_set (kept_at s.kept node).outside j) (record_stays u node key x.under other (j / 8) (omega arith)) in
+        let all : live_of r' u cache' (kept_at s.kept node) key ≡ live_of r u cache' (kept_at s.kept node) key =
+        same_below 0 (numbers cache').count (is_live r' u cache' (kept_at s.kept node) key) (is_live r u cache' (kept_at s.kept node) key) (λ j low high. stays j (omega arith)) in
+        record {
+          under = x.under;
+          taken = x.taken;
+          counted = subst (λ (y : Kept). y.live ≡ count_true (live_of r' u cache' y key)) (sym (kept_other node other)) (x.counted ∙ ap count_true (sym all));
+          rest = subst (λ (y : Kept). (j : ℕ) → (numbers cache').count ≤ j → j < 256 → is_live r' u cache' y key j ≡ false) (sym (kept_other node other))
+              (λ j high low. stays j low ∙ x.rest j high low);
+        }
+
+    slabs_now : (node head key : ℕ) (cache' : own.Cache) → place_at s'.lists.places node ≡ Some (head, key) → cache_in s.caches (head / 3) ≡ Some cache'
+        → IsAgreed r' b s' node head key cache'
+    slabs_now node head key cache' place cached = elim (cases_eq node n) [
+      | inl same ↦
+          let at = same_place place_now (ap (place_at s'.lists.places) (sym same) ∙ place) in
+          let cache_is : cache ≡ cache' = some_same (sym h.cached ∙ (ap (cache_in s.caches) (sym index_now ∙ ap (λ (x : ℕ). x / 3) at.0) ∙ cached)) in
+          subst (λ (m : ℕ). IsAgreed r' b s' m head key cache') (sym same)
+          (subst (λ (x : own.Cache). IsAgreed r' b s' n head key x) cache_is
+          (subst (λ (x : ℕ). IsAgreed r' b s' n x key cache) at.0
+          (subst (λ (x : ℕ). IsAgreed r' b s' n head_now x cache) at.1 own_slab)))
+      | inr ne ↦ other_slab node head key cache' ne (sym (place_other node ne) ∙ place) cached
+    ]
+
+    pub agree : Agree r' b s'
+    agree = record {
+      order = a.order;
+      unit = a.unit;
+      superblocks = a.superblocks;
+      nodes = length-set s.lists.places n (Some (head_now, f)) ∙ a.nodes;
+      rows = a.rows;
+      tenants = a.tenants;
+      slots = a.slots;
+      slabs = slabs_now;
+    }
+
+    -- no node of another tenant is the slab's
+    other_node : (u g m : ℕ) → u ≢ t → node_of s.top r.slots u g ≡ Some m → m ≢ n
+    other_node u g m other under same =
+        let here = under_is s.top f n (spaces.superblock_at r.slots t (f / 2 ^ s.top)) q.under in
+        let there = under_is s.top g m (spaces.superblock_at r.slots u (g / 2 ^ s.top)) under in
+        let one : there.0 ≡ here.0 =
+        sym (superblock_of_node s.top there.0 g) ∙ (ap (λ (x : ℕ). x / 2 ^ s.top) (sym there.2 ∙ (same ∙ here.2)) ∙ superblock_of_node s.top here.0 f) in
+        other (laws.apart.slots u (g / 2 ^ s.top) t (f / 2 ^ s.top) here.0 (there.1 ∙ ap (λ (x : ℕ). Some x) one) here.1).0
+
+    pub spares : Spares t r r' b b s s'
+    spares = record {
+      others = λ u other. record {
+        space = k.others u other;
+        buddy = refl;
+        slabs = record {
+          top = refl;
+          caches = λ d. refl;
+          lists = λ g m under. place_other m (other_node u g m other under);
+          kept = λ g m under. kept_other m (other_node u g m other under);
+        };
+      };
+      space = refl;
+      buddy = ap (λ (ts : List buddies.Holding). record b { tenants = ts }) (sym (set-get_or b.tenants t buddies.no_tenant));
+    }

@@ -1,0 +1,84 @@
+-- The rows of a report, one cache after the other.
+use Rattle.std.proofs.Common.{◌≡◌, ℕ, ◌+◌, ◌<◌, ◌≤◌, cond, ltb, List, [], ◌∷◌, ◌++◌, map, Some, None, refl, sym, ap, ◌∙◌, inl, inr, arith}
+use Rattle.std.specs.Prelude.{filter, Option, option_map}
+use Rattle.std.proofs.lemmas.Bool.{cases_eq, cases_lt, lt-ltb, le-ltb}
+use Rattle.model_core.specs.declared.limits.TheConstants.{MOST_CACHES}
+use Rattle.model_core.specs.WellFormed.{RisesFrom}
+use Rattle.model_core.specs.Machine.{Cache, Machine}
+use Rattle.model_core.proofs.Lists.{IsIn}
+use Rattle.space_core.specs.Content as spaces
+use Rattle.buddy_core.specs.Content as buddies
+use Rattle.slab_tables.specs.Content.{Content}
+use Rattle.slab_laws.specs.Shows.{ShowsMachine}
+use Rattle.slab_laws.proofs.Lookups.{some_none, some_same, at, at_here, at_past, in_found}
+use Rattle.slab_laws.proofs.Facts.{cache_kept}
+use Rattle.slab_laws.proofs.Steady.{in_table}
+use Rattle.slab_core.specs.declared.CacheRow.{CacheRow}
+use Rattle.slab_core.specs.Calls.{row_of}
+
+abbrev pub listed : {X : Type 0} → Option X → List X
+listed None = []
+listed (Some x) = x ∷ []
+
+module _ {X : Type 0} (key : X → ℕ) where
+  -- those with a key below n
+  abbrev pub below : ℕ → List X → List X
+  below n xs = filter (λ x. ltb (key x) n) xs
+
+  pub none_below : (n k : ℕ) (xs : List X) → RisesFrom k (map key xs) → n ≤ k → below n xs ≡ []
+  none_below n k [] rises le = refl
+  none_below n k (x ∷ xs) (low, rises) le =
+      ap (λ b. cond b (x ∷ below n xs) (below n xs)) (le-ltb (key x) n (omega arith)) ∙ none_below n (key x + 1) xs rises (omega arith)
+
+  -- the one with the key n comes next
+  pub below_more : (n k : ℕ) (xs : List X) → RisesFrom k (map key xs) → below (n + 1) xs ≡ below n xs ++ listed (at key n xs)
+  below_more n k [] rises = refl
+  below_more n k (x ∷ xs) (low, rises) = elim (cases_lt (key x) n) [
+    | inl less ↦
+        ap (λ b. cond b (x ∷ below (n + 1) xs) (below (n + 1) xs)) (lt-ltb (key x) (n + 1) (omega arith))
+        ∙ (ap (λ ys. x ∷ ys) (below_more n (key x + 1) xs rises)
+        ∙ (ap (λ o. x ∷ (below n xs ++ listed o)) (sym (at_past key n x xs (λ e. omega arith)))
+        ∙ ap (λ b. cond b (x ∷ below n xs) (below n xs) ++ listed (at key n (x ∷ xs))) (sym (lt-ltb (key x) n less))))
+    | inr more ↦ elim (cases_eq (key x) n) [
+      | inl same ↦
+          ap (λ b. cond b (x ∷ below (n + 1) xs) (below (n + 1) xs)) (lt-ltb (key x) (n + 1) (omega arith))
+          ∙ (ap (λ ys. x ∷ ys) (none_below (n + 1) (key x + 1) xs rises (omega arith))
+          ∙ (ap (λ (o : Option X). listed o) (sym (at_here key n x xs same))
+          ∙ (ap (λ ys. ys ++ listed (at key n (x ∷ xs))) (sym (none_below n (key x + 1) xs rises (omega arith)))
+          ∙ ap (λ b. cond b (x ∷ below n xs) (below n xs) ++ listed (at key n (x ∷ xs))) (sym (le-ltb (key x) n more)))))
+      | inr differ ↦
+          ap (λ b. cond b (x ∷ below (n + 1) xs) (below (n + 1) xs)) (le-ltb (key x) (n + 1) (omega arith))
+          ∙ (below_more n (key x + 1) xs rises
+          ∙ (ap (λ o. below n xs ++ listed o) (sym (at_past key n x xs differ))
+          ∙ ap (λ b. cond b (x ∷ below n xs) (below n xs) ++ listed (at key n (x ∷ xs))) (sym (le-ltb (key x) n more))))
+    ]
+  ]
+
+  pub all_below : (n : ℕ) (xs : List X) → ((x : X) → IsIn x xs → key x < n) → below n xs ≡ xs
+  all_below n [] few = refl
+  all_below n (x ∷ xs) few =
+      ap (λ b. cond b (x ∷ below n xs) (below n xs)) (lt-ltb (key x) n (few x (inl refl))) ∙ ap (λ ys. x ∷ ys) (all_below n xs (λ y i. few y (inr i)))
+
+map_more : (xs ys : List Cache) → map row_of (xs ++ ys) ≡ map row_of xs ++ map row_of ys
+map_more [] ys = refl
+map_more (x ∷ xs) ys = ap (λ zs. row_of x ∷ zs) (map_more xs ys)
+
+no_more : {X : Type 0} (xs : List X) → xs ≡ xs ++ []
+no_more [] = refl
+no_more (x ∷ xs) = ap (λ ys. x ∷ ys) (no_more xs)
+
+-- the next cache's row put at the end, where there is such a cache
+pub pushed : (rows : List CacheRow) (row : CacheRow) (xs : List Cache) (o : Option Cache) → Some row ≡ option_map row_of o → rows ≡ map row_of xs
+    → rows ++ (row ∷ []) ≡ map row_of (xs ++ listed o)
+pushed rows row xs None e same = absurd (some_none e)
+pushed rows row xs (Some x) e same = ap (λ z. z ++ (row ∷ [])) same ∙ (ap (λ z. map row_of xs ++ (z ∷ [])) (some_same e) ∙ sym (map_more xs (x ∷ [])))
+
+pub not_pushed : (rows : List CacheRow) (xs : List Cache) (o : Option Cache) → None ≡ option_map row_of o → rows ≡ map row_of xs → rows ≡ map row_of (xs ++ listed o)
+not_pushed rows xs None e same = same ∙ ap (map row_of) (no_more xs)
+not_pushed rows xs (Some x) e same = absurd (some_none (sym e))
+
+-- all caches have a number below the most
+pub all_caches : (r : spaces.Content) (b : buddies.Content) (s : Content) (t : ℕ) (m : Machine) → ShowsMachine r b s t m → below (λ x. x.number) MOST_CACHES m.caches ≡ m.caches
+all_caches r b s t m h = all_below (λ x. x.number) MOST_CACHES m.caches (λ x i.
+    let is = cache_kept r b s t m h x.number x (in_found (λ z. z.number) 0 x m.caches h.caches_rise i) in
+    (in_table s t x.number is.kept is.cached).number)

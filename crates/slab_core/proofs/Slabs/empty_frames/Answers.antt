@@ -1,0 +1,24 @@
+use Rattle.std.proofs.Common.{◌+◌, sym, ap, ◌∙◌, arith}
+use Rattle.std.specs.Prelude.{flat_map}
+use Rattle.model_core.specs.Slabs.{empty_blocks}
+use Rattle.model_core.specs.CacheOperations.{frames_of}
+use Rattle.slab_core.proofs.ReturnFrames.{below, frames_first, frames_next, below_all, numbers_below}
+use Rattle.slab_core.proofs.Slabs.empty_frames.Goals as goal
+
+pub loop-c-init : goal.loop-c-init
+loop-c-init c = record { few = omega arith; frames = λ r b m a st h. sym (frames_first m.caches) }
+
+pub loop-c-preserved : goal.loop-c-preserved
+loop-c-preserved c = record {
+  few = omega (arith, c.loop-c.invariant.few, c.empty_frames_of-frames.ensures.few);
+  frames = λ r b m a st h.
+      ap (λ n. n + c.empty_frames_of-frames.result) (c.loop-c.invariant.frames r b m a st h)
+      ∙ ap (λ n. frames_of (flat_map empty_blocks (below c.loop-c.c m.caches)) + n) (c.empty_frames_of-frames.ensures.frames r b m a st h)
+      ∙ sym (frames_next c.loop-c.c 0 m.caches h.caches_rise);
+}
+
+pub returns : goal.returns
+returns c = λ r b m a st h.
+    c.loop-c.invariant.frames r b m a st h
+    ∙ ap (λ xs. frames_of (flat_map empty_blocks xs)) (below_all c.loop-c.c m.caches (λ x i.
+    let small = numbers_below r b c.args.self.now c.args.t m h x i in omega (arith, c.loop-c-test.false, c.from-c-end.ensures, small)))

@@ -1,0 +1,31 @@
+use Rattle.std.proofs.Common.{◌≡◌, ◌*◌, ◌%◌, ◌^◌, ◌≤◌, sym, ap, ◌∙◌, subst, arith}
+use Rattle.std.specs.Prelude.{option_map}
+use Rattle.std.proofs.lemmas.List.Sums.{count_by-le-length}
+use Rattle.klist_core.specs.Places.{IsTable, is_in}
+use Rattle.slab_tables.specs.Content.{head_of}
+use Rattle.slab_laws.specs.Shows.{ShowsMachine, Agree}
+use Rattle.slab_laws.specs.Steady.{IsSteady}
+use Rattle.slab_core.proofs.Slabs.empty_frames_of.Goals as goal
+use Rattle.slab_core.proofs.ReturnFrames.{frames_few, frames_counted}
+
+-- no list is longer than there are nodes
+few : (c : goal.After-order) → c.count.result ≤ 65536
+few c =
+    let places = c.self.inside.tables.lists.places in
+    let counted = c.lists_count_places.ensures places (head_of c.args.t c.args.c 2) in
+    omega (arith, c.count.ensures, counted.1, count_by-le-length (is_in (head_of c.args.t c.args.c 2)) places, c.facts.ensures.small)
+
+fits : (c : goal.After-order) → (c.count.result * 2 ^ c.order.result % 4294967296 ≡ c.count.result * 2 ^ c.order.result) × (c.count.result * 2 ^ c.order.result ≤ 524288)
+fits c = frames_few c.count.result c.order.result (few c) (omega (arith, c.order.ensures, c.fits.ensures.order))
+
+pub returns-clause-few : goal.returns-clause-few
+returns-clause-few c = let both = fits c in omega (arith, both.0, both.1)
+
+pub returns-clause-frames : goal.returns-clause-frames
+returns-clause-frames c = λ r b m a st h.
+    (fits c).0 ∙ ap (λ k. c.count.result * 2 ^ k) c.order.ensures
+    ∙ sym (frames_counted c.self.inside.tables c.args.t c.args.c c.count.result c.in-Some.cache.now c.facts.ensures
+    (subst IsTable c.lists.ensures c.facts-2.ensures) c.kinds_hold.ensures
+    (sym c.cache.ensures ∙ ap (option_map (λ x. x.now)) c.in-Some.is) c.count.ensures
+    r b m (subst (λ s. Agree r b s) (sym c.self.view_is) a) (subst (λ s. IsSteady r b s c.args.t) (sym c.self.view_is) st)
+    (subst (λ s. ShowsMachine r b s c.args.t m) (sym c.self.view_is) h))

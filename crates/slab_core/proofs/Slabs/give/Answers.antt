@@ -1,0 +1,70 @@
+use Rattle.std.proofs.Common.{◌≡◌, false, Some, None, refl, sym, ap, ◌∙◌, subst, rules}
+use Rattle.std.specs.Prelude.{option_map, MatchOption}
+use Rattle.model_core.specs.Machine.{Machine}
+use Rattle.model_core.specs.CacheOperations.{give_step}
+use Rattle.model_core.specs.Operations.{refuse}
+use Rattle.model_core.specs.declared.refusals.GiveRefusal.TheVariants.{NoCache}
+use Rattle.slab_tables.specs.Content.{Content, cache_at}
+use Rattle.slab_laws.specs.Shows.{ShowsMachine}
+use Rattle.slab_laws.specs.Changes.{Found, found}
+use Rattle.slab_laws.specs.Objects.{IsObject, IsNoObject}
+use Rattle.slab_laws.specs.Laws.{Gives}
+use Rattle.slab_core.proofs.ObjectGiven.{give_refused}
+use Rattle.slab_core.proofs.Slabs.give.Goals as goal
+use Rattle.slab_core.proofs.Slabs.give.Goals.{After-from_residual, In_ok-cache, After-mark}
+
+no_cache : (c : After-from_residual) → cache_at c.args.self.now c.args.t c.args.c ≡ None
+no_cache c =
+    sym (ap (λ (s : Content). cache_at s c.args.t c.args.c) c.self.view_is)
+    ∙ (sym c.cache.ensures ∙ ap (option_map (λ x. x.now)) c.in_err-cache.ensures.ok_part)
+
+refused : (c : After-from_residual) (m : Machine) → ShowsMachine c.args.space.now c.args.buddy.now c.args.self.now c.args.t m → give_step c.args.c c.args.place m ≡ refuse NoCache m
+refused c m h = give_refused c.args.space.now c.args.buddy.now c.args.self.now c.args.t c.args.c c.args.place m h (no_cache c)
+
+pub returns-in_err-cache-clause-answer : goal.returns-in_err-cache-clause-answer
+returns-in_err-cache-clause-answer c = λ m h. let e = refused c m h in rw e (search rules)
+
+pub returns-in_err-cache-clause-shows : goal.returns-in_err-cache-clause-shows
+returns-in_err-cache-clause-shows c = λ m h. rw (refused c m h) h
+
+-- the cache that stands in the tables
+cached : (c : In_ok-cache) → cache_at c.args.self.now c.args.t c.args.c ≡ Some c.in_ok-cache.field-0.now
+cached c =
+    sym (ap (λ (s : Content). cache_at s c.args.t c.args.c) c.self.view_is)
+    ∙ (sym c.cache.ensures ∙ ap (option_map (λ x. x.now)) c.in_ok-cache.ensures.ok_part)
+
+pub returns-in_err-object-clause-shows : goal.returns-in_err-object-clause-shows
+returns-in_err-object-clause-shows c = λ m h.
+    let none : IsNoObject c.args.space.now c.args.self.now c.args.t c.args.c c.args.place =
+    subst (λ o. MatchOption o (IsNoObject c.args.space.now c.args.self.now c.args.t c.args.c c.args.place)
+    (λ o. IsObject c.args.space.now c.args.self.now c.args.t c.args.c c.args.place (found c.in_ok-cache.field-0.now o.first o.node o.index)))
+    c.in_err-object.ensures.ok_part c.find.ensures in
+    rw (c.not_found_refuses.ensures c.args.space.now c.args.buddy.now c.args.self.now c.args.t c.args.c c.args.place c.in_ok-cache.field-0.now m c.steady.ensures h
+    (cached (goal.at.returns-in_err-object-clause-shows c).In_ok-cache) none) h
+
+object : After-mark → Found
+object c = found c.in_ok-cache.field-0.now c.in_ok-object.object.first c.in_ok-object.object.node c.in_ok-object.object.index
+
+is_object : (c : After-mark) → IsObject c.args.space.now c.args.self.now c.args.t c.args.c c.args.place (object c)
+unfolding object
+is_object c =
+    subst (λ o. MatchOption o (IsNoObject c.args.space.now c.args.self.now c.args.t c.args.c c.args.place)
+    (λ o. IsObject c.args.space.now c.args.self.now c.args.t c.args.c c.args.place (found c.in_ok-cache.field-0.now o.first o.node o.index)))
+    c.in_ok-object.ensures.ok_part c.find.ensures
+
+gives : (c : After-mark) (m : Machine) → ShowsMachine c.args.space.now c.args.buddy.now c.args.self.now c.args.t m
+    → Gives m c.args.c c.args.place c.in_ok-object.object.index c.in_ok-object.object.first
+unfolding object
+gives c m h = c.found_gives.ensures c.args.space.now c.args.buddy.now c.args.self.now c.args.t c.args.c c.args.place (object c) m c.steady.ensures h (is_object c)
+
+pub returns-clause-answer : goal.returns-clause-answer
+returns-clause-answer c = λ m h. rw (gives c m h).step refl
+
+pub returns-clause-shows : goal.returns-clause-shows
+unfolding object
+returns-clause-shows c = λ m h.
+    let g = gives c m h in
+    let o = is_object c in
+    rw g.step
+    (c.marked_shows.ensures c.args.space.now c.mark.new.space c.args.buddy.now c.args.self.now c.mark.new.self c.args.t c.args.c (object c) false m g.cache g.slab
+    c.mark.ensures.marked c.steady.ensures o.slab o.index g.cached g.standing h)

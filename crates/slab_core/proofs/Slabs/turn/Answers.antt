@@ -1,0 +1,42 @@
+use Rattle.std.proofs.Common.{◌≡◌, ℕ, ◌*◌, ◌/◌, ◌%◌, ◌^◌, ◌≤◌, refl, sym, ap, ◌∙◌, subst, arith}
+use Rattle.std.specs.Prelude.{IsSome}
+use Rattle.space_core.specs.Content as spaces
+use Rattle.std.specs.Int.Bits.{bit_xor}
+use Rattle.slab_tables.specs.declared.cache.Kept.{Kept}
+use Rattle.slab_tables.specs.Content.{Content, IsSlabs, kept_at, numbers}
+use Rattle.slab_tables.specs.Changes.{with_outside}
+use Rattle.slab_laws.specs.Changes.{found}
+use Rattle.slab_core.specs.Objects.{IsTurned}
+use Rattle.slab_core.proofs.ObjectSlabs.{node_within}
+use Rattle.slab_core.proofs.ObjectPlaces.{record_held}
+use Rattle.slab_core.proofs.MarkTurned.{turned_inside, turned_outside}
+use Rattle.slab_core.proofs.Slabs.turn.Goals as goal
+
+pub byte-requires-clause-held : goal.byte-requires-clause-held
+byte-requires-clause-held c =
+    let few = (c.fits.ensures.fits 0).few in
+    subst (λ (p : ℕ). IsSome (spaces.superblock_at c.args.space.now.slots c.args.t (p / c.args.space.now.unit))) (sym c.record_place-place.ensures)
+    (record_held c.args.space.now c.args.self.now c.args.t c.requires.slab.0 c.args.object.first c.args.object.node (c.args.object.index / 8) c.args.cache.now c.requires.slab.1 c.requires.unit (omega (arith, few, c.requires.index)))
+
+pub returns-then-in_page : goal.returns-then-in_page
+returns-then-in_page c =
+    let few = (c.fits.ensures.fits 0).few in
+    subst (λ (r : spaces.Content). IsTurned c.args.space.now r c.args.self.now c.args.self.now c.args.t (found c.args.cache.now c.args.object.first c.args.object.node c.args.object.index))
+    (sym c.set_byte.ensures)
+    (turned_inside c.args.space.now c.args.self.now c.args.t (found c.args.cache.now c.args.object.first c.args.object.node c.args.object.index)
+    c.laws.ensures (omega (arith, few, c.requires.index)) (sym c.in_page.ensures ∙ c.if-in_page.true) c.record_place-place.result c.byte.result _
+    c.record_place-place.ensures c.byte.ensures refl)
+
+pub returns-else-in_page : goal.returns-else-in_page
+returns-else-in_page c =
+    let large = sym c.in_page.ensures ∙ c.if-in_page.false in
+    let few : (numbers c.args.cache.now).count ≤ 16 =
+    (c.few_objects.ensures c.args.cache.now.layout.size c.args.cache.now.layout.align c.accepted.ensures.size c.accepted.ensures.align).1 large in
+    let node = node_within c.args.space.now c.args.self.now c.args.t c.requires.slab.0 c.args.object.first c.args.object.node c.args.cache.now c.requires.slab.1 in
+    let paired = (subst IsSlabs c.self.view_is c.facts.ensures).paired in
+    let old : c.kept.result ≡ kept_at c.args.self.now.kept c.args.object.node = c.kept.ensures ∙ ap (λ (s : Content). kept_at s.kept c.args.object.node) c.self.view_is in
+    subst (λ (s : Content). IsTurned c.args.space.now c.args.space.now c.args.self.now s c.args.t (found c.args.cache.now c.args.object.first c.args.object.node c.args.object.index))
+    (sym (c.set_outside.ensures ∙ ap (λ (s : Content). with_outside s c.args.object.node (bit_xor c.kept.result.outside (1 * 2 ^ c.args.object.index % 65536))) c.self.view_is))
+    (turned_outside c.args.space.now c.args.self.now c.args.t (found c.args.cache.now c.args.object.first c.args.object.node c.args.object.index)
+    large (omega (arith, few, c.requires.index)) (omega (arith, node, paired)) _
+    (ap (λ (k : Kept). bit_xor k.outside (1 * 2 ^ c.args.object.index % 65536)) old))

@@ -1,0 +1,69 @@
+-- What the steps of the calls do, for the calls above them.
+use Rattle.std.specs.Prelude.{◌≡◌, ◌≢◌, ℕ, ◌+◌, ◌/◌, ◌<◌, ◌==◌, ◌&&◌, Bool, true, false, Option, Some, None, List, map, filter, length, slice_index}
+use Rattle.model_core.specs.Layouts.{is_small, object_place, pattern_byte}
+use Rattle.model_core.specs.Machine.{Cache, Machine}
+use Rattle.model_core.specs.Slabs.{is_full, is_partial, is_empty, live_objects, empty_blocks}
+use Rattle.model_core.specs.CacheOperations.{frames_of}
+use Rattle.space_core.specs.Content as spaces
+use Rattle.space_core.specs.Laws.{IsSameFor}
+use Rattle.space_core.specs.Windows.{byte_at, with_window}
+use Rattle.slab_tables.specs.declared.cache.Cache as own
+use Rattle.klist_core.specs.Places.{place_at, IsEmpty}
+use Rattle.slab_tables.specs.Content.{Content, kept_at, head_of, numbers}
+use Rattle.slab_laws.specs.Shows.{node_of, is_inside, record_byte}
+use Rattle.slab_core.specs.declared.CacheRow.{CacheRow}
+
+-- a row of a report: the cache's slabs of each kind, and its live objects
+abbrev pub row_of : Cache → CacheRow
+row_of c = record {
+  cache = c.number;
+  full = length (filter is_full c.slabs);
+  partial = length (filter is_partial c.slabs);
+  empty = length (filter is_empty c.slabs);
+  live = length (live_objects c);
+}
+
+-- by rising number
+abbrev pub rows_of : Machine → List CacheRow
+rows_of m = map row_of m.caches
+
+-- the range of tenant t holds the pattern now, over and over, and all else of the memory is as before
+pub record IsFilled (r r' : spaces.Content) (t place len : ℕ) (pattern : List ℕ) : Type 0 where
+  pub bytes : List ℕ
+  pub long : length bytes ≡ len
+  pub constructed : (j : ℕ) → j < len → slice_index bytes j ≡ pattern_byte pattern j
+  pub filled : r' ≡ with_window r t place len bytes
+
+-- The first n objects of the block at frame `first` of tenant t are constructed, as those of a slab of the cache with this
+-- colour offset. The control record is clear, where it stands in the frame, and all else is as before: t's bytes outside the
+-- block, and all that others have.
+pub record IsConstructed (r r' : spaces.Content) (t : ℕ) (cache : own.Cache) (first colour n : ℕ) : Type 0 where
+  pub space : r' ≡ record r { banks = r'.banks }
+  pub others : (u : ℕ) → u ≢ t → IsSameFor u r r'
+  pub clear : is_small (numbers cache).chunk ≡ true → (j : ℕ) → j < 32 → record_byte r' t first j ≡ 0
+  pub objects : (i j : ℕ) → i < n → j < cache.layout.size
+      → byte_at r' t (object_place (numbers cache) first colour i + j) ≡ Some (pattern_byte cache.pattern j)
+  pub bytes : (place : ℕ) → is_inside place first cache ≡ false → byte_at r' t place ≡ byte_at r t place
+
+-- the place is in a list of one of these caches, each named by where it stands among all
+abbrev pub is_of_these : (ℕ → Bool) → Option (ℕ × ℕ) → Bool
+is_of_these these None = false
+is_of_these these (Some p) = these (p.0 / 3)
+
+-- a slab of one of these caches begins at the node, and no object of it is live
+abbrev pub is_idle : (ℕ → Bool) → Content → Option ℕ → Bool
+is_idle these s None = false
+is_idle these s (Some node) = is_of_these these (place_at s.lists.places node) && (kept_at s.kept node).live == 0
+
+-- .. at frame f of tenant t
+abbrev pub idle_at : (ℕ → Bool) → spaces.Content → Content → ℕ → ℕ → Bool
+idle_at these r s t f = is_idle these s (node_of s.top r.slots t f)
+
+-- the frames of the cache's empty slabs
+abbrev pub empty_frames_in : Option Cache → ℕ
+empty_frames_in None = 0
+empty_frames_in (Some c) = frames_of (empty_blocks c)
+
+-- cache c of tenant t has neither a full nor a partial slab: no object of it is live
+abbrev pub IsUnused : Content → ℕ → ℕ → Type 0
+IsUnused s t c = IsEmpty s.lists.places (head_of t c 0) × IsEmpty s.lists.places (head_of t c 1)

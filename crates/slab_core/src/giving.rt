@@ -1,0 +1,48 @@
+//! Giving an object back.
+
+ghost use Rattle.std.specs.Prelude.{◌≡◌, ◌<◌, length, OnErr};
+ghost use Rattle.model_core.specs.Machine.{Machine};
+ghost use Rattle.model_core.specs.CacheOperations.{give_step};
+ghost use Rattle.slab_laws.specs.Shows.{Agree, ShowsMachine};
+ghost use Rattle.slab_laws.specs.Keeps.{Spares};
+
+use crate::Slabs;
+use buddy_core::Buddy;
+use model_core::refusals::GiveRefusal;
+use slab_laws::changes::marked_shows;
+use slab_laws::meets::{found_gives, not_found_refuses};
+use space_core::Space;
+
+impl Slabs {
+    /// Gives the object of cache `c` of tenant `t` back that begins at a place. Its bytes stay as they are.
+    ///
+    /// `NoCache` where the tenant has no such cache, else `NotAnObject` where no live object of the cache begins there.
+    pub fn give(
+        &mut self,
+        space: &mut Space,
+        buddy: &Buddy,
+        t: u8,
+        c: u32,
+        place: u32,
+    ) -> Result<(), GiveRefusal>
+        requires tenant { t < length space.old.slots }
+        requires agree { Agree space.old buddy.now self.old }
+        ensures answer { (m : Machine) → ShowsMachine space.old buddy.now self.old t m → result ≡ (give_step c place m).answer }
+        ensures shows { (m : Machine) → ShowsMachine space.old buddy.now self.old t m
+            → ShowsMachine space.new buddy.now self.new t (give_step c place m).machine }
+        ensures spares { Spares t space.old space.new buddy.now buddy.now self.old self.new }
+        ensures agree { Agree space.new buddy.now self.new }
+        ensures refused { OnErr result ((space.new ≡ space.old) × (self.new ≡ self.old)) }
+    {
+        self.steady(space, buddy, t);
+        found_gives();
+        not_found_refuses();
+        marked_shows();
+        let cache = *self.tables.cache(t, c).ok_or(GiveRefusal::NoCache)?;
+        let object = self
+            .find(space, buddy, t, c, &cache, place)
+            .ok_or(GiveRefusal::NotAnObject)?;
+        self.mark(space, buddy, t, c, &cache, object, false);
+        Ok(())
+    }
+}

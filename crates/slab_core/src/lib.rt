@@ -1,0 +1,73 @@
+//! Slab caches over the buddy systems and the memory of all tenants (Bonwick, "The Slab Allocator", USENIX Summer 1994).
+//!
+//! A slab is a block of frames cut into objects of one size. The control record of a slab of small objects stands in the last
+//! 32 bytes of its frame: a bit for each object, 1 where it is live. That of a slab of large objects is kept outside.
+//!
+//! Every call is proved to be the step of the tenant's private machine, whichever machine the memory, the buddy systems and the
+//! caches show for it, and to spare all other tenants.
+//!
+//! Only [`Slabs::new`] allocates.
+#![tactic(auto)]
+
+ghost use Rattle.std.specs.Prelude.{◌≡◌, ℕ, ◌≤◌, IfOk};
+ghost use Rattle.model_core.specs.declared.limits.TheConstants.{MOST_ORDER, MOST_SUPERBLOCKS, MOST_TENANTS};
+ghost use Rattle.slab_tables.specs.Content.{opening};
+
+mod creating;
+mod giving;
+mod growing;
+mod objects;
+mod reaching;
+mod returning;
+mod rows;
+mod steady;
+mod taking;
+
+use slab_tables::Tables;
+use std::alloc::{AllocError, Global};
+use std::marker::Model;
+
+/// What a report says of a cache.
+#[derive(Clone, Copy, Debug, Default, PartialEq, Eq)]
+pub struct CacheRow {
+    /// The number of the cache.
+    pub cache: u8,
+    /// How many slabs have no object that is not live.
+    pub full: u32,
+    /// How many slabs have both live objects and others.
+    pub partial: u32,
+    /// How many slabs have no live object.
+    pub empty: u32,
+    /// How many objects are live.
+    pub live: u32,
+}
+
+/// The caches and slabs of all tenants.
+#[derive(Drop)]
+pub struct Slabs {
+    tables: Tables,
+}
+
+impl Model for Slabs {
+    ghost use Rattle.slab_tables.specs.Content.{Content};
+
+    ghost Value = { Content };
+
+    ghost view = { λ s. s.tables };
+}
+
+impl Slabs {
+    /// No tenant has a cache.
+    ///
+    /// It asks for all memory that there will ever be, and answers `AllocError` where that is refused.
+    pub fn new(alloc: Global, order: u8, superblocks: u16, tenants: u8) -> Result<Slabs, AllocError>
+        requires order { order ≤ MOST_ORDER }
+        requires superblocks { superblocks ≤ MOST_SUPERBLOCKS }
+        requires tenants { tenants ≤ MOST_TENANTS }
+        ensures { IfOk result (λ s. s ≡ opening order superblocks tenants) }
+    {
+        Ok(Slabs {
+            tables: Tables::new(alloc, order, superblocks, tenants)?,
+        })
+    }
+}

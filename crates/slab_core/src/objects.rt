@@ -1,0 +1,198 @@
+//! Objects of slabs: which one begins at a place, and whether it is live.
+
+ghost use Rattle.std.specs.Prelude.{◌≡◌, ℕ, ◌*◌, ◌+◌, ◌/◌, ◌%◌, ◌^◌, ◌<◌, ◌≤◌, Some, length, IfSome, MatchOption, not};
+ghost use Rattle.model_core.specs.Blocks.{around};
+ghost use Rattle.model_core.specs.declared.limits.TheConstants.{MOST_CACHES};
+ghost use Rattle.slab_tables.specs.Content.{kept_at, cache_at, index_of_cache, numbers};
+ghost use Rattle.slab_laws.specs.Shows.{node_of, has_slab, is_of_cache, is_live, IsSlab, Agree};
+ghost use Rattle.slab_laws.specs.Changes.{found, IsMarked};
+ghost use Rattle.slab_laws.specs.Objects.{IsObject, IsNoObject};
+ghost use Rattle.slab_laws.specs.Keeps.{Spares};
+ghost use Rattle.slab_core.specs.Objects.{IsTurned};
+ghost use Rattle.klist_core.specs.Places.{place_at};
+ghost use Rattle.space_core.specs.declared.TheConstants.{FRAME_BYTES};
+
+use crate::Slabs;
+use buddy_core::Buddy;
+use layout_core::laws::few_objects;
+use model_core::limits::MOST_CACHES;
+use slab_tables::Cache;
+use space_core::{FRAME_BYTES, Space};
+
+/// Where the control record begins in the frame of a slab of small objects.
+pub(crate) const RECORD_OFFSET: u32 = 4064;
+
+/// An object: the first frame and the node of its slab, and which of the slab's objects it is.
+#[derive(Clone, Copy, Debug)]
+pub(crate) struct Object {
+    pub(crate) first: u32,
+    pub(crate) node: u32,
+    pub(crate) index: u32,
+}
+
+/// The place of the byte with the bit of an object, in the control record of the slab at a frame.
+pub(crate) fn record_place(frame: u32, index: u32) -> u32
+    requires frame { frame < 65536 }
+    requires index { index < 256 }
+    ensures { result ≡ 4096 * frame + 4064 + index / 8 }
+{
+    FRAME_BYTES * frame + RECORD_OFFSET + index / 8
+}
+
+/// The first frame of the aligned block of `2^order` frames that has the place.
+pub(crate) fn block_around(place: u32, order: u8) -> u32
+    requires { order ≤ 3 }
+    ensures value { result ≡ (around (place / FRAME_BYTES) order).first }
+    ensures below { FRAME_BYTES * result ≤ place }
+{
+    place / FRAME_BYTES >> order << order
+}
+
+impl Slabs {
+    /// The machine frame at a frame of tenant `t`, if it holds the slot.
+    pub(crate) fn node(&self, space: &Space, t: u8, frame: u32) -> Option<u32>
+        requires tenant { t < length space.now.slots }
+        requires nodes { length self.now.lists.places ≡ length space.now.owners * 2 ^ self.now.top }
+        ensures value { result ≡ node_of self.now.top space.now.slots t frame }
+        ensures below { IfSome result (λ node. node < length self.now.lists.places) }
+    {
+        self.tables.facts();
+        let order = self.tables.order();
+        let m = space.machine_of(t, frame >> order)?;
+        Some((u32::from(m) << order) + frame % (1 << order))
+    }
+
+    /// Whether a slab begins at a frame of tenant `t`.
+    pub fn is_slab(&self, space: &Space, t: u8, frame: u32) -> bool
+        requires tenant { t < length space.now.slots }
+        requires nodes { length self.now.lists.places ≡ length space.now.owners * 2 ^ self.now.top }
+        ensures { result ≡ has_slab self.now (node_of self.now.top space.now.slots t frame) }
+    {
+        match self.node(space, t, frame) {
+            None => false,
+            Some(node) => self.tables.place_of(node).is_some(),
+        }
+    }
+
+    /// Whether the slab at the node is one of cache `c` of tenant `t` and begins at the frame.
+    fn is_of_cache(&self, t: u8, c: u32, frame: u32, node: u32) -> bool
+        requires cache { c < MOST_CACHES }
+        requires node { node < length self.now.lists.places }
+        ensures { result ≡ is_of_cache (index_of_cache t c) frame (place_at self.now.lists.places node) }
+    {
+        let cache = u32::from(MOST_CACHES) * u32::from(t) + c;
+        match self.tables.place_of(node) {
+            None => false,
+            Some((head, first)) => head / 3 == cache && first == frame,
+        }
+    }
+
+    /// Whether an object of a slab is live.
+    pub(crate) fn is_live_object(&self, space: &Space, t: u8, cache: &Cache, object: Object) -> bool
+        requires tenant { t < length space.now.slots }
+        requires unit { space.now.unit ≡ 4096 * 2 ^ self.now.top }
+        requires slab { (c : ℕ) × IsSlab space.now self.now t c object.first object.node cache.now }
+        requires index { object.index < (numbers cache.now).count }
+        ensures { result ≡ is_live space.now t cache.now (kept_at self.now.kept object.node) object.first object.index }
+    {
+        self.tables.facts();
+        space.laws();
+        cache.layout.fits();
+        cache.layout.accepted();
+        few_objects();
+        if cache.layout.in_page() {
+            let byte = space.byte(t, record_place(object.first, object.index));
+            byte >> (object.index % 8) & 1 == 1
+        } else {
+            let outside = self.tables.kept(object.node).outside;
+            outside >> object.index & 1 == 1
+        }
+    }
+
+    /// The live object of cache `c` of tenant `t` that begins at a place, if one does.
+    pub(crate) fn find(
+        &self,
+        space: &Space,
+        buddy: &Buddy,
+        t: u8,
+        c: u32,
+        cache: &Cache,
+        place: u32,
+    ) -> Option<Object>
+        requires tenant { t < length space.now.slots }
+        requires agree { Agree space.now buddy.now self.now }
+        requires cache { cache_at self.now t c ≡ Some cache.now }
+        ensures { MatchOption result (IsNoObject space.now self.now t c place)
+            (λ o. IsObject space.now self.now t c place (found cache.now o.first o.node o.index)) }
+    {
+        self.tables.facts();
+        buddy.laws();
+        cache.layout.fits();
+        let order = cache.layout.order();
+        let first = block_around(place, order);
+        let node = self.node(space, t, first)?;
+        if !self.is_of_cache(t, c, first, node) {
+            return None;
+        }
+        let colour = u32::from(self.tables.kept(node).colour);
+        let index = cache.layout.index_of(colour, place - FRAME_BYTES * first)?;
+        let object = Object { first, node, index };
+        if self.is_live_object(space, t, cache, object) {
+            Some(object)
+        } else {
+            None
+        }
+    }
+
+    /// Turns the bit of an object in the record of its slab.
+    fn turn(&mut self, space: &mut Space, t: u8, cache: &Cache, object: Object)
+        requires tenant { t < length space.old.slots }
+        requires unit { space.old.unit ≡ 4096 * 2 ^ self.old.top }
+        requires slab { (c : ℕ) × IsSlab space.old self.old t c object.first object.node cache.now }
+        requires index { object.index < (numbers cache.now).count }
+        ensures { IsTurned space.old space.new self.old self.new t (found cache.now object.first object.node object.index) }
+    {
+        self.tables.facts();
+        space.laws();
+        cache.layout.fits();
+        cache.layout.accepted();
+        few_objects();
+        if cache.layout.in_page() {
+            let place = record_place(object.first, object.index);
+            let byte = space.byte(t, place) ^ 1 << (object.index % 8);
+            space.set_byte(t, place, byte);
+        } else {
+            let outside = self.tables.kept(object.node).outside ^ 1 << object.index;
+            self.tables.set_outside(object.node, outside);
+        }
+    }
+
+    /// Lets an object be live, which is not, or not be live, which is.
+    pub(crate) fn mark(
+        &mut self,
+        space: &mut Space,
+        buddy: &Buddy,
+        t: u8,
+        c: u32,
+        cache: &Cache,
+        object: Object,
+        live: bool,
+    )
+        requires tenant { t < length space.old.slots }
+        requires agree { Agree space.old buddy.now self.old }
+        requires slab { IsSlab space.old self.old t c object.first object.node cache.now }
+        requires index { object.index < (numbers cache.now).count }
+        requires was { is_live space.old t cache.now (kept_at self.old.kept object.node) object.first object.index ≡ not live }
+        ensures marked { IsMarked space.old space.new self.old self.new t c (found cache.now object.first object.node object.index) live }
+        ensures spares { Spares t space.old space.new buddy.now buddy.now self.old self.new }
+        ensures agree { Agree space.new buddy.now self.new }
+    {
+        self.tables.facts();
+        space.laws();
+        self.turn(space, t, cache, object);
+        let before = u32::from(self.tables.kept(object.node).live);
+        let count = if live { before + 1 } else { before - 1 };
+        self.tables
+            .set_count(t, c, cache, object.first, object.node, count);
+    }
+}

@@ -1,0 +1,72 @@
+//! Which live object has a range of bytes.
+
+ghost use Rattle.std.specs.Prelude.{◌≡◌, ℕ, ◌<◌, ◌&&◌, false, nat_lt, length, MatchOption};
+ghost use Rattle.std.specs.List.{list_any};
+ghost use Rattle.model_core.specs.Machine.{Machine};
+ghost use Rattle.model_core.specs.Reach.{within_objects};
+ghost use Rattle.slab_tables.specs.declared.cache.Cache as own;
+ghost use Rattle.slab_laws.specs.Shows.{node_of, has_slab, IsSlab, Agree, ShowsMachine};
+ghost use Rattle.slab_laws.specs.Changes.{found};
+ghost use Rattle.slab_core.specs.Objects.{HasRange, HasNone};
+
+use crate::Slabs;
+use crate::objects::Object;
+use buddy_core::Buddy;
+use model_core::limits::MOST_CACHES;
+use space_core::{FRAME_BYTES, Space};
+
+impl Slabs {
+    /// Whether the `len` bytes of tenant `t` from a place on, at least one, lie inside one live object.
+    pub fn object_at(&self, space: &Space, buddy: &Buddy, t: u8, place: u32, len: u32) -> bool
+        requires tenant { t < length space.now.slots }
+        requires agree { Agree space.now buddy.now self.now }
+        ensures { (m : Machine) → ShowsMachine space.now buddy.now self.now t m
+            → result ≡ (nat_lt 0 len && list_any (within_objects place len) m.caches) }
+    {
+        self.steady(space, buddy, t);
+        self.object_over(space, buddy, t, place, len).is_some()
+    }
+
+    /// The live object of tenant `t` that has the `len` bytes from a place on, if one does.
+    fn object_over(
+        &self,
+        space: &Space,
+        buddy: &Buddy,
+        t: u8,
+        place: u32,
+        len: u32,
+    ) -> Option<Object>
+        requires tenant { t < length space.now.slots }
+        requires agree { Agree space.now buddy.now self.now }
+        ensures { MatchOption result (HasNone space.now self.now t place len)
+            (λ o. (cache : own.Cache) × HasRange space.now self.now t place len (found cache o.first o.node o.index)) }
+    {
+        self.steady(space, buddy, t);
+        let (first, _) = buddy.block_of(t, place / FRAME_BYTES)?;
+        let (c, node) = self.slab_at(space, buddy, t, first)?;
+        let cache = self.tables.cache(t, c).unwrap();
+        let colour = u32::from(self.tables.kept(node).colour);
+        let index = cache
+            .layout
+            .holder(colour, place - FRAME_BYTES * first, len)?;
+        let object = Object { first, node, index };
+        if self.is_live_object(space, t, cache, object) {
+            Some(object)
+        } else {
+            None
+        }
+    }
+
+    /// The slab that begins at a frame of tenant `t`, if one does: the number of its cache, and its node.
+    fn slab_at(&self, space: &Space, buddy: &Buddy, t: u8, frame: u32) -> Option<(u32, u32)>
+        requires tenant { t < length space.now.slots }
+        requires agree { Agree space.now buddy.now self.now }
+        ensures { MatchOption result (has_slab self.now (node_of self.now.top space.now.slots t frame) ≡ false)
+            (λ p. (cache : own.Cache) × IsSlab space.now self.now t p.0 frame p.1 cache) }
+    {
+        self.steady(space, buddy, t);
+        let node = self.node(space, t, frame)?;
+        let (head, _) = self.tables.place_of(node)?;
+        Some((head / 3 % u32::from(MOST_CACHES), node))
+    }
+}

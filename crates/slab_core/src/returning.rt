@@ -1,0 +1,192 @@
+//! Empty slabs given back to the buddy system, their frames zeroed.
+
+ghost use Rattle.std.specs.Prelude.{◌≡◌, ℕ, ◌<◌, ◌≤◌, ◌^◌, ◌==◌, ◌↔◌, length, flat_map, Some, true, false, OnErr};
+ghost use Rattle.slab_tables.specs.Changes.{without_slab};
+ghost use Rattle.klist_core.specs.Places.{IsEmpty};
+ghost use Rattle.slab_tables.specs.Content.{IsTenant, kept_at, cache_at, index_of_cache, head_of};
+ghost use Rattle.slab_core.specs.Calls.{idle_at, empty_frames_in, IsUnused};
+ghost use Rattle.model_core.specs.Machine.{Machine};
+ghost use Rattle.model_core.specs.Slabs.{cache_of, empty_blocks};
+ghost use Rattle.model_core.specs.CacheOperations.{frames_of, reap_step, destroy_step};
+ghost use Rattle.space_core.specs.Content as spaces;
+ghost use Rattle.buddy_core.specs.Content as buddies;
+ghost use Rattle.slab_laws.specs.Steady.{IsSteady};
+ghost use Rattle.slab_laws.specs.Shows.{IsSlab, ShowsMachine, Agree};
+ghost use Rattle.slab_laws.specs.Keeps.{Spares};
+ghost use Rattle.slab_laws.specs.Changes.{IsReturned};
+
+use crate::Slabs;
+use buddy_core::Buddy;
+use model_core::limits::MOST_CACHES;
+use model_core::refusals::DestroyRefusal;
+use slab_tables::{Cache, Kind};
+use space_core::{FRAME_BYTES, Space};
+
+impl Slabs {
+    /// Gives back the slab of tenant `t` at frame `first` and `node`, of which no object is live.
+    pub(crate) fn give_back(
+        &mut self,
+        space: &mut Space,
+        buddy: &mut Buddy,
+        t: u8,
+        cache: &Cache,
+        first: u32,
+        node: u32,
+    )
+        requires tenant { t < length space.old.slots }
+        requires agree { Agree space.old buddy.old self.old }
+        requires slab { (c : ℕ) × IsSlab space.old self.old t c first node cache.now }
+        requires empty { (kept_at self.old.kept node).live ≡ 0 }
+        ensures tables { self.new ≡ without_slab self.old node }
+        ensures returned { IsReturned space.old space.new buddy.old buddy.new self.old self.new t (λ f. f == first) }
+        ensures spares { Spares t space.old space.new buddy.old buddy.new self.old self.new }
+        ensures agree { Agree space.new buddy.new self.new }
+    {
+        self.steady(space, buddy, t);
+        self.tables.facts();
+        space.laws();
+        let _ = buddy.release(t, first);
+        space.zero(t, FRAME_BYTES * first, FRAME_BYTES << cache.layout.order());
+        self.tables.forget(node);
+    }
+
+    /// Gives back all slabs of cache `c` of tenant `t` of which no object is live.
+    pub(crate) fn give_back_empty(
+        &mut self,
+        space: &mut Space,
+        buddy: &mut Buddy,
+        t: u8,
+        c: u32,
+        cache: &Cache,
+    )
+        requires tenant { t < length space.old.slots }
+        requires agree { Agree space.old buddy.old self.old }
+        requires cache { cache_at self.old t c ≡ Some cache.now }
+        ensures returned { IsReturned space.old space.new buddy.old buddy.new self.old self.new t (idle_at (λ i. i == index_of_cache t c) space.old self.old t) }
+        ensures empty { IsEmpty self.new.lists.places (head_of t c 2) }
+        ensures lists { (head : ℕ) → IsEmpty self.old.lists.places head → IsEmpty self.new.lists.places head }
+        ensures spares { Spares t space.old space.new buddy.old buddy.new self.old self.new }
+        ensures agree { Agree space.new buddy.new self.new }
+    {
+        self.steady(space, buddy, t);
+        while let Some((first, node)) = self.tables.first(t, c, Kind::Empty) {
+            self.tables.facts();
+            self.give_back(space, buddy, t, cache, first, node);
+        }
+        self.tables.facts();
+        self.steady(space, buddy, t);
+    }
+
+    /// Gives back all slabs of tenant `t` of which no object is live.
+    pub(crate) fn give_back_all(&mut self, space: &mut Space, buddy: &mut Buddy, t: u8)
+        requires tenant { t < length space.old.slots }
+        requires agree { Agree space.old buddy.old self.old }
+        ensures returned { IsReturned space.old space.new buddy.old buddy.new self.old self.new t (idle_at (λ i. true) space.old self.old t) }
+        ensures spares { Spares t space.old space.new buddy.old buddy.new self.old self.new }
+        ensures agree { Agree space.new buddy.new self.new }
+    {
+        self.steady(space, buddy, t);
+        for c in 0..u32::from(MOST_CACHES) {
+            self.tables.facts();
+            if let Some(cache) = self.tables.cache(t, c).copied() {
+                self.give_back_empty(space, buddy, t, c, &cache);
+            }
+        }
+        self.tables.facts();
+        self.steady(space, buddy, t);
+    }
+
+    /// Gives back all slabs of tenant `t` of which no object is live, and answers how many frames they had.
+    pub fn reap(&mut self, space: &mut Space, buddy: &mut Buddy, t: u8) -> u32
+        requires tenant { t < length space.old.slots }
+        requires agree { Agree space.old buddy.old self.old }
+        ensures answer { (m : Machine) → ShowsMachine space.old buddy.old self.old t m → result ≡ (reap_step m).answer }
+        ensures shows { (m : Machine) → ShowsMachine space.old buddy.old self.old t m
+            → ShowsMachine space.new buddy.new self.new t (reap_step m).machine }
+        ensures spares { Spares t space.old space.new buddy.old buddy.new self.old self.new }
+        ensures agree { Agree space.new buddy.new self.new }
+    {
+        self.tables.facts();
+        self.steady(space, buddy, t);
+        slab_laws::changes::reaped_shows();
+        let frames = self.empty_frames(t);
+        self.give_back_all(space, buddy, t);
+        frames
+    }
+
+    /// Destroys cache `c` of tenant `t`: its slabs are given back. Answers how many frames they had.
+    ///
+    /// `NoCache` where there is no such cache, else `CacheInUse` where an object of it is live; then nothing is changed.
+    pub fn destroy(
+        &mut self,
+        space: &mut Space,
+        buddy: &mut Buddy,
+        t: u8,
+        c: u32,
+    ) -> Result<u32, DestroyRefusal>
+        requires tenant { t < length space.old.slots }
+        requires agree { Agree space.old buddy.old self.old }
+        ensures answer { (m : Machine) → ShowsMachine space.old buddy.old self.old t m → result ≡ (destroy_step c m).answer }
+        ensures shows { (m : Machine) → ShowsMachine space.old buddy.old self.old t m
+            → ShowsMachine space.new buddy.new self.new t (destroy_step c m).machine }
+        ensures spares { Spares t space.old space.new buddy.old buddy.new self.old self.new }
+        ensures agree { Agree space.new buddy.new self.new }
+        ensures refused { OnErr result ((space.new ≡ space.old) × ((buddy.new ≡ buddy.old) × (self.new ≡ self.old))) }
+    {
+        self.tables.facts();
+        self.steady(space, buddy, t);
+        slab_laws::changes::returned_shows();
+        let Some(cache) = self.tables.cache(t, c).copied() else {
+            return Err(DestroyRefusal::NoCache);
+        };
+        if self.in_use(t, c) {
+            return Err(DestroyRefusal::CacheInUse);
+        }
+        let frames = self.empty_frames_of(t, c);
+        self.give_back_empty(space, buddy, t, c, &cache);
+        self.tables.remove_cache(t, c);
+        Ok(frames)
+    }
+
+    /// Whether some slab of cache `c` of tenant `t` has a live object.
+    fn in_use(&self, t: u8, c: u32) -> bool
+        requires tenant { IsTenant self.now t }
+        requires cache { c < MOST_CACHES }
+        ensures { (result ≡ false) ↔ IsUnused self.now t c }
+    {
+        self.tables.first(t, c, Kind::Full).is_some()
+            || self.tables.first(t, c, Kind::Partial).is_some()
+    }
+
+    /// How many frames the slabs of tenant `t` have of which no object is live.
+    fn empty_frames(&self, t: u8) -> u32
+        requires { IsTenant self.now t }
+        ensures { (r : spaces.Content) (b : buddies.Content) (m : Machine) → Agree r b self.now → IsSteady r b self.now t
+            → ShowsMachine r b self.now t m → result ≡ frames_of (flat_map empty_blocks m.caches) }
+    {
+        let mut frames = 0;
+        for c in 0..u32::from(MOST_CACHES) {
+            frames += self.empty_frames_of(t, c);
+        }
+        frames
+    }
+
+    /// How many frames the slabs of cache `c` of tenant `t` have of which no object is live: none where there is no cache.
+    pub(crate) fn empty_frames_of(&self, t: u8, c: u32) -> u32
+        requires tenant { IsTenant self.now t }
+        requires cache { c < MOST_CACHES }
+        ensures few { result ≤ 2 ^ 19 }
+        ensures frames { (r : spaces.Content) (b : buddies.Content) (m : Machine) → Agree r b self.now → IsSteady r b self.now t
+            → ShowsMachine r b self.now t m → result ≡ empty_frames_in (cache_of m c) }
+    {
+        self.tables.facts();
+        self.tables.lists().facts();
+        klist_core::laws::lists_count_places();
+        slab_laws::meets::kinds_hold();
+        let Some(cache) = self.tables.cache(t, c) else {
+            return 0;
+        };
+        cache.layout.fits();
+        self.tables.count(t, c, Kind::Empty) << cache.layout.order()
+    }
+}

@@ -1,0 +1,55 @@
+//! Reports of caches.
+
+ghost use Rattle.std.specs.Prelude.{◌≡◌, ◌<◌, length, option_map};
+ghost use Rattle.model_core.specs.Machine.{Machine};
+ghost use Rattle.model_core.specs.Slabs.{cache_of};
+ghost use Rattle.model_core.specs.declared.limits.TheConstants.{MOST_CACHES};
+ghost use Rattle.space_core.specs.Content as spaces;
+ghost use Rattle.buddy_core.specs.Content as buddies;
+ghost use Rattle.slab_tables.specs.Content.{IsTenant};
+ghost use Rattle.slab_laws.specs.Shows.{Agree, ShowsMachine};
+ghost use Rattle.slab_laws.specs.Steady.{IsSteady};
+ghost use Rattle.slab_core.specs.Calls.{row_of, rows_of};
+
+use crate::{CacheRow, Slabs};
+use arrayvec::ArrayVec;
+use model_core::limits::MOST_CACHES;
+use slab_laws::meets::kinds_hold;
+use slab_tables::Kind;
+
+impl Slabs {
+    /// What a report says of the caches of tenant `t`, by rising number.
+    pub fn rows(&self, t: u8) -> ArrayVec<CacheRow, 32>
+        requires { IsTenant self.now t }
+        ensures { (r : spaces.Content) (b : buddies.Content) (m : Machine) → Agree r b self.now → IsSteady r b self.now t → ShowsMachine r b self.now t m
+            → result.items ≡ rows_of m }
+    {
+        let mut rows = ArrayVec::new();
+        for c in 0..MOST_CACHES {
+            if let Some(row) = self.row(t, c) {
+                rows.push(row);
+            }
+        }
+        rows
+    }
+
+    /// What a report says of cache `c` of tenant `t`, if it stands.
+    fn row(&self, t: u8, c: u8) -> Option<CacheRow>
+        requires tenant { IsTenant self.now t }
+        requires cache { c < MOST_CACHES }
+        ensures { (r : spaces.Content) (b : buddies.Content) (m : Machine) → Agree r b self.now → IsSteady r b self.now t → ShowsMachine r b self.now t m
+            → result ≡ option_map row_of (cache_of m c) }
+    {
+        self.tables.facts();
+        self.tables.lists().facts();
+        kinds_hold();
+        let _cache = self.tables.cache(t, c.into())?;
+        Some(CacheRow {
+            cache: c,
+            full: self.tables.count(t, c.into(), Kind::Full),
+            partial: self.tables.count(t, c.into(), Kind::Partial),
+            empty: self.tables.count(t, c.into(), Kind::Empty),
+            live: self.tables.live(t, c.into()),
+        })
+    }
+}
