@@ -10,7 +10,7 @@ use Rattle.space_core.specs.Content.{Content, IsSpace, superblock_at, owner_at, 
 use Rattle.space_core.specs.Changes.{taken_back}
 use Rattle.space_core.specs.Laws.{IsSameFor, OthersStay}
 use Rattle.model_core.specs.Owners.{owned_by, is_of}
-use Rattle.kernel_core.specs.World.{given_up}
+use Rattle.world_core.specs.World.{given_up}
 use Rattle.kernel_core.specs.Parts.{mark_after, MarksFollow}
 use Rattle.kernel_core.specs.GivenUp.{GivesUp}
 use Rattle.kernel_core.proofs.Rising.{is_same, is_other, not_less, some_none}

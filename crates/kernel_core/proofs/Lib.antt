@@ -1,7 +1,3 @@
-pub mod MachineLists
-pub mod Runs
-pub mod TextLines
-pub mod TenantLines
 pub mod Rising
 pub mod OneWorld
 pub mod Choices
@@ -11,13 +7,9 @@ pub mod Worlds
 pub mod Agreeing
 pub mod Pages
 pub mod Reach
-pub mod Rows
 pub mod Owners
 pub mod Granting
 pub mod TakingBack
 pub mod Resetting
 pub mod GivingUp
 pub mod Opening
-pub mod Operations
-pub mod Showing
-pub mod Reached

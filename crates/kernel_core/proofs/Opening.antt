@@ -9,11 +9,11 @@ use Rattle.buddy_core.specs.Content as buddies
 use Rattle.kernel_core.specs.declared.kernel.Config.{Config}
 use Rattle.model_core.specs.declared.limits.TheConstants.{LEAST_ORDER, MOST_ORDER}
 use Rattle.model_core.specs.declared.limits.TheConstants.{MOST_SUPERBLOCKS, MOST_TENANTS}
-use Rattle.kernel_core.specs.World.{opening_world}
+use Rattle.world_core.specs.World.{opening_world}
 use Rattle.kernel_core.specs.Parts.{PartsAgree, opening_parts}
 use Rattle.kernel_core.specs.Shows.{ShowsMachine, Shows}
 use Rattle.kernel_core.specs.Booting.{is_between, is_bootable}
-use Rattle.kernel_core.proofs.MachineLists.{slice_get-replicate}
+use Rattle.world_core.proofs.MachineLists.{slice_get-replicate}
 use Rattle.kernel_core.proofs.Resetting.{bare, empty_shown}
 
 abbrev nothing : Option ℕ

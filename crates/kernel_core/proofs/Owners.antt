@@ -10,7 +10,7 @@ use Rattle.std.proofs.Math.ListN.{length-map}
 use Rattle.space_core.specs.Content as spaces
 use Rattle.space_core.specs.Content.{IsSpace, owner_at}
 use Rattle.model_core.specs.Owners.{owned_by, is_owner}
-use Rattle.kernel_core.specs.World.{given_up}
+use Rattle.world_core.specs.World.{given_up}
 use Rattle.kernel_core.proofs.Rising.{is_same}
 
 pub was_none : (o : Option Owner) → is_none o ≡ true → o ≡ None

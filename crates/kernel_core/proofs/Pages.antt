@@ -17,9 +17,9 @@ use Rattle.words_core.specs.declared.event.Command.TheVariants.{Alloc, Free}
 use Rattle.words_core.specs.declared.reply.Body.{Body}
 use Rattle.words_core.specs.declared.reply.Body.TheVariants.{Frame, Freed, Refused}
 use Rattle.words_core.specs.declared.reply.Refusal.TheVariants.{BadOrder, NoFrames, NotABlock}
-use Rattle.kernel_core.specs.Limits.{cache_limit}
-use Rattle.kernel_core.specs.OwnList.{is_refused}
-use Rattle.kernel_core.specs.PrivateStep.{command_step}
+use Rattle.world_core.specs.Limits.{cache_limit}
+use Rattle.world_core.specs.OwnList.{is_refused}
+use Rattle.world_core.specs.PrivateStep.{command_step}
 use Rattle.kernel_core.specs.Parts.{Parts, PartsAgree, SameSizes, SpareStays, taken_of, Keeps}
 use Rattle.kernel_core.specs.Shows.{ShowsMachine}
 use Rattle.kernel_core.specs.Steps.{StepsMachine}

@@ -18,8 +18,8 @@ use Rattle.buddy_core.specs.Content.{holding_of, IsSoundHolding}
 use Rattle.words_core.specs.declared.event.Command.TheVariants.{Read, Write}
 use Rattle.words_core.specs.declared.reply.Body.TheVariants.{Bytes, Written, Refused}
 use Rattle.words_core.specs.declared.reply.Refusal.TheVariants.{BadLength, OutOfReach}
-use Rattle.kernel_core.specs.Limits.{cache_limit}
-use Rattle.kernel_core.specs.PrivateStep.{command_step}
+use Rattle.world_core.specs.Limits.{cache_limit}
+use Rattle.world_core.specs.PrivateStep.{command_step}
 use Rattle.kernel_core.specs.Parts.{Parts, PartsAgree, superblock_at, taken_of, byte_at, IsInReach}
 use Rattle.kernel_core.specs.Shows.{ShowsMachine}
 use Rattle.kernel_core.specs.Steps.{StepsMachine}

@@ -14,9 +14,9 @@ use Rattle.words_core.specs.declared.reply.Reply.{Reply}
 use Rattle.words_core.specs.declared.reply.Addressee.TheVariants as To
 use Rattle.words_core.specs.declared.reply.Body.TheVariants.{WasReset, Owners, Refused}
 use Rattle.words_core.specs.declared.reply.Refusal.TheVariants.{NoTenant}
-use Rattle.kernel_core.specs.Limits.{cache_limit}
+use Rattle.world_core.specs.Limits.{cache_limit}
 use Rattle.model_core.specs.Owners.{is_of}
-use Rattle.kernel_core.specs.World.{World, WorldStep, answer, given_up, reset_step, world_step}
+use Rattle.world_core.specs.World.{World, WorldStep, answer, given_up, reset_step, world_step}
 use Rattle.kernel_core.specs.Parts.{Parts, PartsAgree, superblock_at, taken_of}
 use Rattle.kernel_core.specs.GivenUp.{GivesUp}
 use Rattle.kernel_core.specs.Shows.{ShowsMachine, Shows}

@@ -22,9 +22,9 @@ use Rattle.words_core.specs.declared.reply.Reply.{Reply}
 use Rattle.words_core.specs.declared.reply.Addressee.TheVariants as To
 use Rattle.words_core.specs.declared.reply.Body.TheVariants.{TakenBack, Refused}
 use Rattle.words_core.specs.declared.reply.Refusal.TheVariants.{NoTenant, NoSlot, SlotBusy}
-use Rattle.kernel_core.specs.Limits.{cache_limit}
+use Rattle.world_core.specs.Limits.{cache_limit}
 use Rattle.model_core.specs.Owners.{is_owner}
-use Rattle.kernel_core.specs.World.{World, WorldStep, given_up, taken_back, slot_step, world_step}
+use Rattle.world_core.specs.World.{World, WorldStep, given_up, taken_back, slot_step, world_step}
 use Rattle.kernel_core.specs.Parts.{Parts, PartsAgree, mark_after, superblock_at, taken_of, byte_at}
 use Rattle.kernel_core.specs.Shows.{ShowsMachine, Shows}
 use Rattle.kernel_core.specs.Steps.{Steps}

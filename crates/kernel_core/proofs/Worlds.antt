@@ -16,13 +16,13 @@ use Rattle.words_core.specs.declared.reply.Addressee.{Addressee}
 use Rattle.words_core.specs.declared.reply.Reply.{Reply}
 use Rattle.words_core.specs.declared.reply.Refusal.TheVariants.{NoTenant}
 use Rattle.words_core.specs.declared.reply.Body.TheVariants.{Refused}
-use Rattle.kernel_core.specs.Limits.{cache_limit}
-use Rattle.kernel_core.specs.PrivateStep.{command_step}
-use Rattle.kernel_core.specs.World.{World, WorldStep, answer, tenant_step, world_step}
+use Rattle.world_core.specs.Limits.{cache_limit}
+use Rattle.world_core.specs.PrivateStep.{command_step}
+use Rattle.world_core.specs.World.{World, WorldStep, answer, tenant_step, world_step}
 use Rattle.kernel_core.specs.Parts.{Parts, PartsAgree, SameSizes, parts_of, Keeps}
 use Rattle.kernel_core.specs.Shows.{ShowsMachine, Shows}
 use Rattle.kernel_core.specs.Steps.{Steps, StepsMachine}
-use Rattle.kernel_core.proofs.MachineLists.{slice_get-set_same, slice_get-set_other}
+use Rattle.world_core.proofs.MachineLists.{slice_get-set_same, slice_get-set_other}
 use Rattle.kernel_core.proofs.Unowned.{marks_kept}
 
 pub get_past : {A : Type 0} (xs : List A) (i : ℕ) → length xs ≤ i → slice_get xs i ≡ None

@@ -3,7 +3,7 @@ use Rattle.std.specs.Prelude.{◌≡◌, ◌≢◌, ℕ, None, length, map, coun
 use Rattle.space_core.specs.Content.{Content, superblock_at}
 use Rattle.space_core.specs.Laws.{IsSameFor}
 use Rattle.model_core.specs.Owners.{is_of}
-use Rattle.kernel_core.specs.World.{given_up}
+use Rattle.world_core.specs.World.{given_up}
 use Rattle.kernel_core.specs.Parts.{MarksFollow}
 
 -- Tenant t has given up all its superblocks, this many: they are marked, and no byte changes. All other tenants keep

@@ -1,11 +1,3 @@
-pub mod Limits
-pub mod PrivateStep
-pub mod PrivateRun
-pub mod World
-pub mod OwnList
-pub mod Output
-pub mod Laws
-pub mod Reached
 pub mod Parts
 pub mod Shows
 pub mod Steps

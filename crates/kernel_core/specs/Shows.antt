@@ -2,7 +2,7 @@
 use Rattle.std.specs.Prelude.{◌≡◌, ℕ, [], length, map, Some, is_some, slice_get}
 use Rattle.model_core.specs.Machine.{Machine, holds, order_in}
 use Rattle.model_core.specs.WellFormed.{RisesFrom}
-use Rattle.kernel_core.specs.World.{World}
+use Rattle.world_core.specs.World.{World}
 use Rattle.kernel_core.specs.Parts.{Parts, PartsAgree, superblock_at, taken_of, byte_at}
 
 -- the parts show that the tenant's private machine is this one

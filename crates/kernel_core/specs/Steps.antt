@@ -9,10 +9,10 @@ use Rattle.words_core.specs.declared.reply.Body.TheVariants.{Refused}
 use Rattle.words_core.specs.declared.reply.Refusal.{Refusal}
 use Rattle.words_core.specs.declared.reply.Reply.{Reply}
 use Rattle.model_core.specs.Machine.{Machine}
-use Rattle.kernel_core.specs.Limits.{cache_limit}
-use Rattle.kernel_core.specs.PrivateStep.{command_step}
-use Rattle.kernel_core.specs.World.{World, world_step}
-use Rattle.kernel_core.specs.OwnList.{is_refused}
+use Rattle.world_core.specs.Limits.{cache_limit}
+use Rattle.world_core.specs.PrivateStep.{command_step}
+use Rattle.world_core.specs.World.{World, world_step}
+use Rattle.world_core.specs.OwnList.{is_refused}
 use Rattle.kernel_core.specs.Parts.{Parts, PartsAgree, SameSizes, MarksFollow, SpareStays, Keeps}
 use Rattle.kernel_core.specs.Shows.{Shows, ShowsMachine}
 

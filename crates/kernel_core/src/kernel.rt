@@ -1,8 +1,8 @@
 //! The kernel: the memory of the machine with its pool, and the buddy systems of all tenants over it.
 
 ghost use Rattle.std.specs.Prelude.{◌≡◌, ◌≢◌, ◌↔◌, ℕ, ◌+◌, ◌*◌, ◌^◌, ◌<◌, ◌≤◌, length, IfOk, IsSome, true, false};
-ghost use Rattle.kernel_core.specs.Limits.{cache_limit};
-ghost use Rattle.kernel_core.specs.World.{World, opening_world, world_step};
+ghost use Rattle.world_core.specs.Limits.{cache_limit};
+ghost use Rattle.world_core.specs.World.{World, opening_world, world_step};
 ghost use Rattle.kernel_core.specs.GivenUp.{GivesUp};
 ghost use Rattle.space_core.specs.Windows.{home_of, with_window};
 
@@ -75,7 +75,7 @@ impl Config {
 impl Kernel {
     ghost use Rattle.std.specs.Prelude.{MatchOption, Option, Some};
     ghost use Rattle.kernel_core.specs.Booting.{is_bootable};
-    ghost use Rattle.kernel_core.specs.OwnList.{is_refused};
+    ghost use Rattle.world_core.specs.OwnList.{is_refused};
     ghost use Rattle.kernel_core.specs.Parts.{Parts, PartsAgree, SameSizes, MarksFollow, SpareStays, opening_parts, superblock_at, superblock_bytes, IsInReach, Keeps};
     ghost use Rattle.kernel_core.specs.Shows.{Shows, ShowsMachine};
     ghost use Rattle.kernel_core.specs.Steps.{is_named, Steps, StepsMachine, body_of};

@@ -1,66 +1,15 @@
-//! The laws of whole runs. Each is the contract of a function that does nothing: a caller has the law by the call.
+//! The laws of whole runs, and what a kernel shows. Each is the contract of a function that does nothing: a caller has the law
+//! by the call.
 
-ghost use Rattle.kernel_core.specs.Laws.{OwnRun, OwnLines, SameReplies, SameTexts, SameLines, AllShown, OwnShown, OwnLinesShown, EndedAllButTail, EndedLinesStay, ShownStays};
-ghost use Rattle.kernel_core.specs.Reached.{EntriesAreOperations, ReachedWellFormed, ReachedSound, ReachedFreeOnce, ReachedSplits, ReachedJoins};
 ghost use Rattle.kernel_core.specs.Shows.{OneWorld};
 
 pub use model_core::block_laws::splits_and_joins;
 pub use model_core::laws::{constructed_first, objects_apart, stays_well_formed, taken_is_sound};
 pub use words_core::one_case;
-
-/// In every run of the world, from its opening, a tenant is told exactly what its private machine
-/// answers to its own commands, grants, take-backs and resets, and is left with that machine.
-pub fn own_run()
-    ensures { OwnRun }
-{}
-
-/// In the output of any trace the lines of a tenant are, as text, what its private machine answers
-/// to its own list of that trace.
-pub fn own_lines()
-    ensures { OwnLines }
-{}
-
-/// Two runs, of worlds with any numbers of superblocks and tenants, in which a tenant's own lists
-/// are equal, tell it the same, whatever all others did: the same replies, hence the same texts,
-/// and from bytes to bytes the same lines.
-pub fn non_interference()
-    ensures replies { SameReplies }
-    ensures texts { SameTexts }
-    ensures lines { SameLines }
-{}
-
-/// What is shown of a trace is, where no tenant is named, its output; where one is, the lines of that tenant
-/// in the output and nothing else.
-pub fn own_shown()
-    ensures all { AllShown }
-    ensures bytes { OwnShown }
-    ensures lines { OwnLinesShown }
-{}
-
-/// The lines of a trace that have ended are its first lines, however it goes on; and what they show is a
-/// beginning of what the whole trace shows.
-pub fn shown_stays()
-    ensures ended { EndedAllButTail }
-    ensures lines { EndedLinesStay }
-    ensures shown { ShownStays }
-{}
-
-/// The machine that a private run leaves is one that operations of the model leave, so the laws of
-/// reached machines are laws of every tenant's machine.
-pub fn entries_are_operations()
-    ensures { EntriesAreOperations }
-{}
-
-/// The machine that a private run leaves is well formed, and its taken blocks, those of slabs included, are aligned, in
-/// held slots and apart. So the laws of blocks hold there: each frame that is held and not taken lies in exactly one free
-/// block, `alloc` splits the block that is chosen, and `free` joins buddies.
-pub fn reached_machines()
-    ensures well_formed { ReachedWellFormed }
-    ensures sound { ReachedSound }
-    ensures free_once { ReachedFreeOnce }
-    ensures splits { ReachedSplits }
-    ensures joins { ReachedJoins }
-{}
+pub use world_core::laws::{
+    entries_are_operations, non_interference, own_lines, own_run, own_shown, reached_machines,
+    shown_stays,
+};
 
 /// A kernel shows one world at most: what `step` says of each world that the kernel shows, it says
 /// of the one that `boot` and the steps since have made.

@@ -13,3 +13,4 @@ pub mod Runs
 pub mod WellFormed
 pub mod Laws
 pub mod Owners
+pub mod Reports

@@ -7,4 +7,5 @@ pub mod laws;
 pub mod limits;
 pub mod owner;
 pub mod refusals;
+pub mod report;
 pub mod search;

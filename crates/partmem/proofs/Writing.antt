@@ -4,13 +4,13 @@ use Rattle.std.specs.Io.KnownBytes.{Appends, Consumes, Keeps, IsAtEnd}
 use Rattle.std.proofs.lemmas.List.{append-nil}
 use Rattle.words_core.specs.Cutting.{lines_of_trace}
 use Rattle.kernel_core.specs.declared.kernel.Config.{Config}
-use Rattle.kernel_core.specs.Limits.{cache_limit}
-use Rattle.kernel_core.specs.Output.{shown_lines, ended_lines, lines_for, with_line_feeds}
-use Rattle.kernel_core.specs.Laws.{private_lines, ShownStays}
+use Rattle.world_core.specs.Limits.{cache_limit}
+use Rattle.world_core.specs.Output.{shown_lines, ended_lines, lines_for, with_line_feeds}
+use Rattle.world_core.specs.Laws.{private_lines, ShownStays}
 use Rattle.kernel_core.specs.Parts.{Parts, opening_parts}
 use Rattle.kernel_core.specs.Shows.{Shows}
-use Rattle.kernel_core.specs.World.{World, opening_world}
-use Rattle.kernel_core.proofs.Showing.{shown_first}
+use Rattle.world_core.specs.World.{World, opening_world}
+use Rattle.world_core.proofs.Showing.{shown_first}
 use Rattle.replay_core.specs.declared.replaying.Tally.{Tally}
 use Rattle.replay_core.specs.declared.replaying.ReplayError.{ReplayError}
 use Rattle.replay_core.specs.declared.replaying.ReplayError.TheVariants as Failed

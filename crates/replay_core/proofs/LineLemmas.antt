@@ -6,7 +6,7 @@ use Rattle.std.proofs.lemmas.List.Quantifiers.{position-Some}
 use Rattle.std.proofs.lemmas.Iterator.Adapters.{position_from-zero}
 use Rattle.std.proofs.lemmas.List.{append-nil}
 use Rattle.words_core.specs.Cutting.{lines_of_trace}
-use Rattle.kernel_core.specs.Output.{line_feed, onto_ended, ended_lines, with_line_feeds}
+use Rattle.world_core.specs.Output.{line_feed, onto_ended, ended_lines, with_line_feeds}
 use Rattle.replay_core.specs.Standing.{IsOneLine, AreLines}
 
 abbrev pub is_line_feed : ℕ → Bool

@@ -3,10 +3,10 @@ use Rattle.std.proofs.Common.{◌≡◌, ℕ, ◌<◌, List, Option, Some, None,
 use Rattle.std.proofs.lemmas.List.{length-replicate}
 use Rattle.model_core.specs.Machine.{empty_machine}
 use Rattle.words_core.specs.Cutting.{lines_of_trace}
-use Rattle.kernel_core.specs.Limits.{cache_limit}
-use Rattle.kernel_core.specs.World.{World, opening_world}
-use Rattle.kernel_core.specs.Output.{output_of, lines_for, with_line_feeds}
-use Rattle.kernel_core.specs.Laws.{OwnLines, OwnShown}
+use Rattle.world_core.specs.Limits.{cache_limit}
+use Rattle.world_core.specs.World.{World, opening_world}
+use Rattle.world_core.specs.Output.{output_of, lines_for, with_line_feeds}
+use Rattle.world_core.specs.Laws.{OwnLines, OwnShown}
 use Rattle.kernel_core.specs.Parts.{Parts}
 use Rattle.replay_core.specs.declared.replaying.Tally.{Tally}
 use Rattle.replay_core.specs.Runs.{HasRun, HasOwnLines}

@@ -11,9 +11,9 @@ use Rattle.words_core.specs.declared.reply.Addressee.TheVariants.{Nobody}
 use Rattle.words_core.specs.declared.reply.Body.TheVariants.{Fault}
 use Rattle.words_core.specs.Cutting.{lines_of_trace}
 use Rattle.words_core.specs.Grammar.{reading_of}
-use Rattle.kernel_core.specs.Limits.{cache_limit}
-use Rattle.kernel_core.specs.World.{World, world_step, world_after}
-use Rattle.kernel_core.specs.Output.{event_in, events_of, shown_text, shown_line, shown_lines, with_line_feeds, ended_lines}
+use Rattle.world_core.specs.Limits.{cache_limit}
+use Rattle.world_core.specs.World.{World, world_step, world_after}
+use Rattle.world_core.specs.Output.{event_in, events_of, shown_text, shown_line, shown_lines, with_line_feeds, ended_lines}
 use Rattle.kernel_core.specs.Parts.{Parts, SameSizes}
 use Rattle.kernel_core.specs.Shows.{Shows}
 use Rattle.replay_core.specs.declared.feed.Stopped.{Stopped}

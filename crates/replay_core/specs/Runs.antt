@@ -6,10 +6,10 @@ use Rattle.words_core.specs.Cutting.{lines_of_trace}
 use Rattle.words_core.specs.Grammar.{reading_of}
 use Rattle.kernel_core.specs.Parts.{Parts, SameSizes}
 use Rattle.kernel_core.specs.Shows.{Shows}
-use Rattle.kernel_core.specs.Limits.{cache_limit}
-use Rattle.kernel_core.specs.World.{World, opening_world, world_after}
-use Rattle.kernel_core.specs.Output.{shown_line, shown_lines, ended_lines, events_of, lines_for, with_line_feeds}
-use Rattle.kernel_core.specs.Laws.{private_lines}
+use Rattle.world_core.specs.Limits.{cache_limit}
+use Rattle.world_core.specs.World.{World, opening_world, world_after}
+use Rattle.world_core.specs.Output.{shown_line, shown_lines, ended_lines, events_of, lines_for, with_line_feeds}
+use Rattle.world_core.specs.Laws.{private_lines}
 use Rattle.replay_core.specs.declared.replaying.Tally.{Tally}
 use Rattle.replay_core.specs.declared.replaying.ReplayError.{ReplayError}
 use Rattle.replay_core.specs.declared.replaying.ReplayError.TheVariants as Of

@@ -5,9 +5,9 @@ use Rattle.words_core.specs.declared.event.Event.{Event}
 use Rattle.words_core.specs.declared.event.LineFault.{LineFault}
 use Rattle.kernel_core.specs.Parts.{Parts, SameSizes}
 use Rattle.kernel_core.specs.Shows.{Shows}
-use Rattle.kernel_core.specs.Limits.{cache_limit}
-use Rattle.kernel_core.specs.World.{World, world_after}
-use Rattle.kernel_core.specs.Output.{event_in, shown_reading, ended_lines, line_feed, with_line_feeds}
+use Rattle.world_core.specs.Limits.{cache_limit}
+use Rattle.world_core.specs.World.{World, world_after}
+use Rattle.world_core.specs.Output.{event_in, shown_reading, ended_lines, line_feed, with_line_feeds}
 use Rattle.replay_core.specs.declared.feed.Stopped.{Stopped}
 use Rattle.replay_core.specs.declared.pending.Pending.{Pending}
 use Rattle.replay_core.specs.declared.replaying.Tally.{Tally}

@@ -4,7 +4,7 @@ ghost use Rattle.std.specs.Prelude.{◌≡◌, ◌+◌, ◌^◌, ◌<◌, ◌≤
 ghost use Rattle.words_core.specs.Answers.{reply_of};
 ghost use Rattle.words_core.specs.Texts.{text_of};
 ghost use Rattle.replay_core.specs.Pushes.{most_reply_bytes, HasPushed};
-ghost use Rattle.kernel_core.specs.Output.{is_shown, shown_text};
+ghost use Rattle.world_core.specs.Output.{is_shown, shown_text};
 
 use crate::drain::Drain;
 use crate::feed::Stopped;

@@ -3,7 +3,7 @@
 ghost use Rattle.std.specs.Prelude.{◌≡◌, ℕ, ◌+◌, ◌^◌, ◌<◌, ◌≤◌, ◌==◌, true, false, List, [], Option, length, position, is_err, IfSome, OnOk, MatchResult};
 ghost use Rattle.std.specs.Io.KnownBytes.{Consumes, Appends, IsAtEnd};
 ghost use Rattle.kernel_core.specs.Parts.{Parts};
-ghost use Rattle.kernel_core.specs.Output.{line_feed, shown_text};
+ghost use Rattle.world_core.specs.Output.{line_feed, shown_text};
 ghost use Rattle.kernel_core.specs.Steps.{Steps};
 ghost use Rattle.replay_core.specs.Pushes.{HasPushed, most_reply_bytes};
 ghost use Rattle.replay_core.specs.Runs.{Replays, HasOwnLines, IsDone, NamesFailed};

@@ -13,8 +13,8 @@ use Rattle.slab_laws.specs.Shows.{ShowsMachine}
 use Rattle.slab_laws.proofs.Lookups.{some_none, some_same, at, at_here, at_past, in_found}
 use Rattle.slab_laws.proofs.Facts.{cache_kept}
 use Rattle.slab_laws.proofs.Steady.{in_table}
-use Rattle.slab_core.specs.declared.CacheRow.{CacheRow}
-use Rattle.slab_core.specs.Calls.{row_of}
+use Rattle.model_core.specs.declared.report.CacheRow.{CacheRow}
+use Rattle.model_core.specs.Reports.{row_of}
 
 abbrev pub listed : {X : Type 0} → Option X → List X
 listed None = []

@@ -18,8 +18,8 @@ use Rattle.slab_laws.specs.Steady.{IsSteady}
 use Rattle.slab_laws.specs.Laws.{is_kind, ListsHold}
 use Rattle.slab_laws.proofs.Lookups.{some_same, found_key, in_found}
 use Rattle.slab_laws.proofs.Facts.{shown, slab_shown}
-use Rattle.slab_core.specs.declared.CacheRow.{CacheRow}
-use Rattle.slab_core.specs.Calls.{row_of}
+use Rattle.model_core.specs.declared.report.CacheRow.{CacheRow}
+use Rattle.model_core.specs.Reports.{row_of}
 use Rattle.slab_core.proofs.ObjectSlabs.{held}
 use Rattle.slab_core.proofs.ObjectTotals.{sum_of, sum_live, total_of_lists, sum_of_slabs, sum_by_kind, objects_counted}
 use Rattle.slab_core.proofs.TakeSlab.{slab_in_list}

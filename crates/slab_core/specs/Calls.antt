@@ -11,21 +11,6 @@ use Rattle.slab_tables.specs.declared.cache.Cache as own
 use Rattle.klist_core.specs.Places.{place_at, IsEmpty}
 use Rattle.slab_tables.specs.Content.{Content, kept_at, head_of, numbers}
 use Rattle.slab_laws.specs.Shows.{node_of, is_inside, record_byte}
-use Rattle.slab_core.specs.declared.CacheRow.{CacheRow}
-
--- a row of a report: the cache's slabs of each kind, and its live objects
-abbrev pub row_of : Cache → CacheRow
-row_of c = record {
-  cache = c.number;
-  full = length (filter is_full c.slabs);
-  partial = length (filter is_partial c.slabs);
-  empty = length (filter is_empty c.slabs);
-  live = length (live_objects c);
-}
-
--- by rising number
-abbrev pub rows_of : Machine → List CacheRow
-rows_of m = map row_of m.caches
 
 -- the range of tenant t holds the pattern now, over and over, and all else of the memory is as before
 pub record IsFilled (r r' : spaces.Content) (t place len : ℕ) (pattern : List ℕ) : Type 0 where

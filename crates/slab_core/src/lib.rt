@@ -23,24 +23,10 @@ mod rows;
 mod steady;
 mod taking;
 
+pub use model_core::report::CacheRow;
 use slab_tables::Tables;
 use std::alloc::{AllocError, Global};
 use std::marker::Model;
-
-/// What a report says of a cache.
-#[derive(Clone, Copy, Debug, Default, PartialEq, Eq)]
-pub struct CacheRow {
-    /// The number of the cache.
-    pub cache: u8,
-    /// How many slabs have no object that is not live.
-    pub full: u32,
-    /// How many slabs have both live objects and others.
-    pub partial: u32,
-    /// How many slabs have no live object.
-    pub empty: u32,
-    /// How many objects are live.
-    pub live: u32,
-}
 
 /// The caches and slabs of all tenants.
 #[derive(Drop)]

@@ -9,7 +9,7 @@ ghost use Rattle.buddy_core.specs.Content as buddies;
 ghost use Rattle.slab_tables.specs.Content.{IsTenant};
 ghost use Rattle.slab_laws.specs.Shows.{Agree, ShowsMachine};
 ghost use Rattle.slab_laws.specs.Steady.{IsSteady};
-ghost use Rattle.slab_core.specs.Calls.{row_of, rows_of};
+ghost use Rattle.model_core.specs.Reports.{row_of, rows_of};
 
 use crate::{CacheRow, Slabs};
 use arrayvec::ArrayVec;

@@ -1,7 +1,7 @@
 use Rattle.std.proofs.Common.{◌≡◌, ℕ, map, length, sym, ap, ◌∙◌, arith}
 use Rattle.model_core.specs.Machine.{Cache}
 use Rattle.model_core.specs.Slabs.{cache_of}
-use Rattle.slab_core.specs.Calls.{row_of}
+use Rattle.model_core.specs.Reports.{row_of}
 use Rattle.slab_core.proofs.ObjectReport.{below, none_below, below_more, pushed, not_pushed, all_caches}
 use Rattle.slab_core.proofs.Slabs.rows.Goals as goal
 use Rattle.slab_core.proofs.Slabs.rows.Goals.{in-Some, in_default}

@@ -5,7 +5,7 @@ use Rattle.space_core.specs.Content as spaces
 use Rattle.buddy_core.specs.Content as buddies
 use Rattle.slab_laws.specs.Shows.{Agree, ShowsMachine}
 use Rattle.slab_laws.specs.Steady.{IsSteady}
-use Rattle.slab_core.specs.Calls.{row_of}
+use Rattle.model_core.specs.Reports.{row_of}
 use Rattle.slab_core.proofs.ObjectReport.{below}
 use Rattle.slab_core.proofs.Slabs.rows.Given as goal
 

@@ -1,6 +1,6 @@
 use Rattle.std.proofs.Common.{sym, ◌∙◌, subst}
 use Rattle.kernel_core.specs.Parts.{Parts, opening_parts}
-use Rattle.kernel_core.specs.World.{opening_world}
+use Rattle.world_core.specs.World.{opening_world}
 use Rattle.kernel_core.specs.Shows.{Shows}
 use Rattle.kernel_core.proofs.Opening.{bootable, opening_agrees, opening_shows}
 use Rattle.kernel_core.proofs.Worlds.{same_parts, agree_viewed}

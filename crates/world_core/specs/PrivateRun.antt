@@ -1,7 +1,7 @@
 -- The private machine of one tenant, over a list of entries.
 use Rattle.std.specs.Prelude.{ℕ, List, [], ◌∷◌, ◌++◌}
 use Rattle.model_core.specs.Machine.{Machine}
-use Rattle.kernel_core.specs.PrivateStep.{Entry, Told, private_step}
+use Rattle.world_core.specs.PrivateStep.{Entry, Told, private_step}
 
 -- the replies to the tenant's commands, in order, and the last machine
 abbrev pub private_run : ℕ → ℕ → List Entry → Machine → Told

@@ -17,7 +17,7 @@ use Rattle.words_core.specs.declared.reply.Body.TheVariants.{Granted, TakenBack,
 use Rattle.words_core.specs.declared.reply.Refusal.{Refusal}
 use Rattle.words_core.specs.declared.reply.Refusal.TheVariants.{NoTenant, PoolEmpty}
 use Rattle.words_core.specs.declared.reply.Reply.{Reply}
-use Rattle.kernel_core.specs.PrivateStep.{command_step}
+use Rattle.world_core.specs.PrivateStep.{command_step}
 
 -- by superblock the tenant and the slot that own it, by tenant its machine
 pub record World : Type 0 where

@@ -4,9 +4,9 @@ use Rattle.model_core.specs.Machine.{Machine}
 use Rattle.model_core.specs.Operations.{Step, read_step}
 use Rattle.model_core.specs.Reach.{in_reach}
 use Rattle.words_core.specs.declared.event.Command.TheVariants as Ask
-use Rattle.kernel_core.specs.PrivateStep.{Entry, private_step, command_step}
-use Rattle.kernel_core.specs.PrivateRun.{private_run}
-use Rattle.kernel_core.specs.Reached.{EntriesAreOperations}
+use Rattle.world_core.specs.PrivateStep.{Entry, private_step, command_step}
+use Rattle.world_core.specs.PrivateRun.{private_run}
+use Rattle.world_core.specs.Reached.{EntriesAreOperations}
 
 if_stays : {A : Type 0} (test : Bool) (x y : Step A) (m : Machine) → x.machine ≡ m → y.machine ≡ m → (if test then x else y).machine ≡ m
 if_stays true x y m p q = p

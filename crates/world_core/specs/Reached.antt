@@ -9,8 +9,8 @@ use Rattle.model_core.specs.Operations.{alloc_step, free_step}
 use Rattle.model_core.specs.Runs.{Operation, run}
 use Rattle.model_core.specs.WellFormed.{IsWellFormed}
 use Rattle.words_core.specs.declared.event.Command.TheVariants as Ask
-use Rattle.kernel_core.specs.PrivateStep.{Entry}
-use Rattle.kernel_core.specs.PrivateRun.{private_run}
+use Rattle.world_core.specs.PrivateStep.{Entry}
+use Rattle.world_core.specs.PrivateRun.{private_run}
 
 -- what an entry is to the model: an operation, or nothing where it only reads
 abbrev pub operations_in : Entry → List Operation

@@ -3,12 +3,12 @@ use Rattle.std.specs.Prelude.{◌≡◌, ℕ, ◌^◌, ◌<◌, ◌≤◌, List,
 use Rattle.model_core.specs.Machine.{Machine, empty_machine}
 use Rattle.words_core.specs.declared.event.Event.{Event}
 use Rattle.words_core.specs.declared.reply.Body.{Body}
-use Rattle.kernel_core.specs.PrivateStep.{Entry}
-use Rattle.kernel_core.specs.PrivateRun.{private_run}
-use Rattle.kernel_core.specs.World.{World, Exchange, opening_world, history, world_after}
-use Rattle.kernel_core.specs.OwnList.{own_list, replies_to}
+use Rattle.world_core.specs.PrivateStep.{Entry}
+use Rattle.world_core.specs.PrivateRun.{private_run}
+use Rattle.world_core.specs.World.{World, Exchange, opening_world, history, world_after}
+use Rattle.world_core.specs.OwnList.{own_list, replies_to}
 use Rattle.words_core.specs.Cutting.{lines_of_trace}
-use Rattle.kernel_core.specs.Output.{shown_lines, output_of, events_of, lines_for, texts_for, line_feed, with_line_feeds, ended_lines}
+use Rattle.world_core.specs.Output.{shown_lines, output_of, events_of, lines_for, texts_for, line_feed, with_line_feeds, ended_lines}
 
 -- what was told, and the machine that is left, are the private run of these entries
 pub record IsPrivateRun (limit order : ℕ) (entries : List Entry) (before : Machine) (told : List Body) (after : Option Machine) : Type 0 where

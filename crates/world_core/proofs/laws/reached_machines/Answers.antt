@@ -1,5 +1,5 @@
-use Rattle.kernel_core.proofs.Reached.{reached_well_formed, reached_sound, reached_free_once, reached_splits, reached_joins}
-use Rattle.kernel_core.proofs.laws.reached_machines.Goals as goal
+use Rattle.world_core.proofs.Reached.{reached_well_formed, reached_sound, reached_free_once, reached_splits, reached_joins}
+use Rattle.world_core.proofs.laws.reached_machines.Goals as goal
 
 pub returns : goal.returns
 returns c = record {

@@ -9,11 +9,11 @@ use Rattle.model_core.specs.Reach.{in_reach}
 use Rattle.words_core.specs.Grammar.{reading_of, judged, event_of}
 use Rattle.words_core.specs.Cutting.{lines_of_trace}
 use Rattle.words_core.specs.Words.{words_of}
-use Rattle.kernel_core.specs.Limits.{cache_limit}
-use Rattle.kernel_core.specs.PrivateStep.{Entry, command_step}
-use Rattle.kernel_core.specs.World.{opening_world, history, world_step, grant_step, tenant_step, slot_step, reset_step, answer}
-use Rattle.kernel_core.specs.Output.{output_of, events_of, lines_for}
-use Rattle.kernel_core.specs.OwnList.{own_list}
+use Rattle.world_core.specs.Limits.{cache_limit}
+use Rattle.world_core.specs.PrivateStep.{Entry, command_step}
+use Rattle.world_core.specs.World.{opening_world, history, world_step, grant_step, tenant_step, slot_step, reset_step, answer}
+use Rattle.world_core.specs.Output.{output_of, events_of, lines_for}
+use Rattle.world_core.specs.OwnList.{own_list}
 
 pub record Row : Type 0 where
   pub trace : List ℕ

@@ -8,13 +8,13 @@ use Rattle.words_core.specs.declared.event.Event.{Event}
 use Rattle.words_core.specs.declared.event.Event.TheVariants as On
 use Rattle.words_core.specs.declared.event.AdminCommand.TheVariants as Do
 use Rattle.words_core.specs.declared.event.Command.{Command}
-use Rattle.kernel_core.specs.PrivateStep.{Entry, private_step}
-use Rattle.kernel_core.specs.PrivateRun.{private_run}
-use Rattle.kernel_core.specs.World.{World, WorldStep, answer, grant_step, tenant_step, taken_back, slot_step, reset_step, world_step, history, world_after, opening_world}
-use Rattle.kernel_core.specs.OwnList.{own_entries, own_list, if_for, replies_to}
-use Rattle.kernel_core.specs.Laws.{IsPrivateRun, OwnRun, SameReplies, SameTexts, opening_history}
-use Rattle.kernel_core.specs.Output.{texts_for}
-use Rattle.kernel_core.proofs.MachineLists.{slice_get-set_same, slice_get-set_other, slice_get-replicate}
+use Rattle.world_core.specs.PrivateStep.{Entry, private_step}
+use Rattle.world_core.specs.PrivateRun.{private_run}
+use Rattle.world_core.specs.World.{World, WorldStep, answer, grant_step, tenant_step, taken_back, slot_step, reset_step, world_step, history, world_after, opening_world}
+use Rattle.world_core.specs.OwnList.{own_entries, own_list, if_for, replies_to}
+use Rattle.world_core.specs.Laws.{IsPrivateRun, OwnRun, SameReplies, SameTexts, opening_history}
+use Rattle.world_core.specs.Output.{texts_for}
+use Rattle.world_core.proofs.MachineLists.{slice_get-set_same, slice_get-set_other, slice_get-replicate}
 
 -- what a step of the world did is to tenant t the private run of these entries
 abbrev pub Leaves : ℕ → ℕ → ℕ → List Entry → Machine → WorldStep → Type 0

@@ -12,7 +12,7 @@ use Rattle.words_core.specs.declared.reply.Reply.{Reply}
 use Rattle.words_core.specs.Cutting.{lines_of_trace}
 use Rattle.words_core.specs.Grammar.{reading_of}
 use Rattle.words_core.specs.Texts.{addressee_text, body_texts, text_of}
-use Rattle.kernel_core.specs.World.{World, world_step, world_after}
+use Rattle.world_core.specs.World.{World, world_step, world_after}
 
 -- the event that a line reads as, if it does
 abbrev pub event_in : Result (Option Event) LineFault → List Event

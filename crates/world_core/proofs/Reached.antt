@@ -18,9 +18,9 @@ use Rattle.model_core.proofs.Joining.{joins}
 use Rattle.model_core.proofs.TakenSteps.{taken_sound, alloc_takes, free_releases}
 use Rattle.model_core.proofs.WellFormedRuns.{runs_well_formed}
 use Rattle.words_core.specs.declared.event.Command.TheVariants as Ask
-use Rattle.kernel_core.specs.PrivateStep.{Entry}
-use Rattle.kernel_core.specs.Reached.{operations_in, reached_machine, ReachedWellFormed, ReachedSound, ReachedFreeOnce, ReachedSplits, ReachedJoins}
-use Rattle.kernel_core.proofs.Operations.{entries_are_operations}
+use Rattle.world_core.specs.PrivateStep.{Entry}
+use Rattle.world_core.specs.Reached.{operations_in, reached_machine, ReachedWellFormed, ReachedSound, ReachedFreeOnce, ReachedSplits, ReachedJoins}
+use Rattle.world_core.proofs.Operations.{entries_are_operations}
 
 -- no entry makes a cache with a pattern out of order
 entry_possible : (entry : Entry) → ArePossible (operations_in entry)

@@ -25,13 +25,13 @@ use Rattle.words_core.specs.declared.reply.Reply.{Reply}
 use Rattle.words_core.specs.Cutting.{lines_of_trace}
 use Rattle.words_core.specs.Grammar.{reading_of}
 use Rattle.words_core.specs.Texts.{addressee_text, body_texts, owner_text, owner_texts, number_of_refusal, name_of_refusal, name_of_fault, text_of}
-use Rattle.kernel_core.specs.World.{World, WorldStep, answer, grant_step, tenant_step, taken_back, slot_step, reset_step, world_step, world_after, history, opening_world}
-use Rattle.kernel_core.specs.OwnList.{if_for, replies_to}
-use Rattle.kernel_core.specs.Output.{shown_reading, shown_lines, output_of, event_in, events_of, lines_for, texts_for}
-use Rattle.kernel_core.specs.Laws.{OwnLines, SameLines, private_lines, opening_history}
-use Rattle.kernel_core.specs.PrivateRun.{private_run}
-use Rattle.kernel_core.proofs.TextLines.{AreTexts, body_text, addressee_is_text, cut_rows, decimal_digits, starts_same, starts_apart, starts_number}
-use Rattle.kernel_core.proofs.Runs as runs
+use Rattle.world_core.specs.World.{World, WorldStep, answer, grant_step, tenant_step, taken_back, slot_step, reset_step, world_step, world_after, history, opening_world}
+use Rattle.world_core.specs.OwnList.{if_for, replies_to}
+use Rattle.world_core.specs.Output.{shown_reading, shown_lines, output_of, event_in, events_of, lines_for, texts_for}
+use Rattle.world_core.specs.Laws.{OwnLines, SameLines, private_lines, opening_history}
+use Rattle.world_core.specs.PrivateRun.{private_run}
+use Rattle.world_core.proofs.TextLines.{AreTexts, body_text, addressee_is_text, cut_rows, decimal_digits, starts_same, starts_apart, starts_number}
+use Rattle.world_core.proofs.Runs as runs
 
 behind_2 : (front a b : List ℕ) → (front ++ a) ++ b ≡ front ++ (([] ++ a) ++ b)
 behind_2 front a b = append_assoc front a b

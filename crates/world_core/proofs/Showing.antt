@@ -12,12 +12,12 @@ use Rattle.words_core.specs.declared.reply.Body.{Body}
 use Rattle.words_core.specs.Cutting.{lines_of_trace}
 use Rattle.words_core.specs.Grammar.{reading_of}
 use Rattle.words_core.specs.Texts.{addressee_text, body_texts, text_of}
-use Rattle.kernel_core.specs.World.{World, world_step, world_after, history}
-use Rattle.kernel_core.specs.OwnList.{if_for, replies_to}
-use Rattle.kernel_core.specs.Output.{event_in, events_of, shown_text, shown_reading, shown_line, shown_lines, output_of, lines_for, texts_for, with_line_feeds, onto_ended, ended_lines}
-use Rattle.kernel_core.specs.Laws.{AllShown, OwnShown, OwnLinesShown, EndedAllButTail, EndedLinesStay, ShownStays}
-use Rattle.kernel_core.proofs.TextLines.{AreTexts, body_text, addressee_is_text, cut_rows}
-use Rattle.kernel_core.proofs.TenantLines.{lines_tell}
+use Rattle.world_core.specs.World.{World, world_step, world_after, history}
+use Rattle.world_core.specs.OwnList.{if_for, replies_to}
+use Rattle.world_core.specs.Output.{event_in, events_of, shown_text, shown_reading, shown_line, shown_lines, output_of, lines_for, texts_for, with_line_feeds, onto_ended, ended_lines}
+use Rattle.world_core.specs.Laws.{AllShown, OwnShown, OwnLinesShown, EndedAllButTail, EndedLinesStay, ShownStays}
+use Rattle.world_core.proofs.TextLines.{AreTexts, body_text, addressee_is_text, cut_rows}
+use Rattle.world_core.proofs.TenantLines.{lines_tell}
 
 pub all_shown : AllShown
 unfolding output_of

@@ -7,8 +7,8 @@ use Rattle.words_core.specs.declared.reply.Addressee.{Addressee}
 use Rattle.words_core.specs.declared.reply.Addressee.TheVariants as To
 use Rattle.words_core.specs.declared.reply.Body.{Body}
 use Rattle.words_core.specs.declared.reply.Body.TheVariants.{Granted, TakenBack, WasReset, Owners, Frame, Freed, Bytes, Written, Refused, Fault}
-use Rattle.kernel_core.specs.PrivateStep.{Entry, Ask, Grant, TakeBack, Reset}
-use Rattle.kernel_core.specs.World.{Exchange}
+use Rattle.world_core.specs.PrivateStep.{Entry, Ask, Grant, TakeBack, Reset}
+use Rattle.world_core.specs.World.{Exchange}
 
 abbrev pub is_refused : Body → Bool
 is_refused (Granted tenant slot superblock) = false

@@ -1,5 +1,0 @@
-use Rattle.kernel_core.proofs.Operations.{entries_are_operations}
-use Rattle.kernel_core.proofs.laws.entries_are_operations.Goals as goal
-
-pub returns : goal.returns
-returns c = entries_are_operations

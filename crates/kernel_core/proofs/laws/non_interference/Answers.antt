@@ -1,6 +1,0 @@
-use Rattle.kernel_core.proofs.laws.non_interference.Goals as goal
-use Rattle.kernel_core.proofs.Runs.{same_replies, same_texts}
-use Rattle.kernel_core.proofs.TenantLines.{same_lines}
-
-pub returns : goal.returns
-returns c = record { replies = same_replies; texts = same_texts; lines = same_lines }

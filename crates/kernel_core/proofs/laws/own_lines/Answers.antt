@@ -1,5 +1,0 @@
-use Rattle.kernel_core.proofs.laws.own_lines.Goals as goal
-use Rattle.kernel_core.proofs.TenantLines as lines
-
-pub returns : goal.returns
-returns c = lines.own_lines

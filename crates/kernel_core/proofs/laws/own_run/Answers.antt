@@ -1,5 +1,0 @@
-use Rattle.kernel_core.proofs.laws.own_run.Goals as goal
-use Rattle.kernel_core.proofs.Runs as runs
-
-pub returns : goal.returns
-returns c = runs.own_run

@@ -1,5 +1,0 @@
-use Rattle.kernel_core.proofs.Showing.{ended_all_but_tail, ended_lines_stay, shown_stays}
-use Rattle.kernel_core.proofs.laws.shown_stays.Goals as goal
-
-pub returns : goal.returns
-returns c = record { ended = ended_all_but_tail; lines = ended_lines_stay; shown = shown_stays }
