@@ -6,7 +6,7 @@ use Rattle.model_core.specs.Layouts.{is_small}
 use Rattle.model_core.specs.declared.limits.TheConstants.{MOST_CACHES}
 use Rattle.klist_core.specs.Places.{place_at}
 use Rattle.space_core.specs.Content as spaces
-use Rattle.space_core.specs.Laws.{IsSameFor, IsApart}
+use Rattle.space_core.specs.Laws.{IsSameFor, IsApart, SpareStays}
 use Rattle.buddy_core.specs.Content as buddies
 use Rattle.buddy_core.proofs.Holdings.{other_holding}
 use Rattle.slab_tables.specs.declared.cache.Cache as own
@@ -22,6 +22,7 @@ use Rattle.slab_laws.proofs.Untouched.{node_same}
 pub record IsLocal (r r' : spaces.Content) (b b' : buddies.Content) (s s' : Content) (t first node : ℕ) : Type 0 where
   pub space : r' ≡ record r { banks = r'.banks }
   pub bytes : (u : ℕ) → u ≢ t → IsSameFor u r r'
+  pub spare : SpareStays r r'
   pub buddy : b' ≡ buddies.with_holding t (buddies.holding_of t b') b
   pub top : s'.top ≡ s.top
   pub under : node_of s.top r.slots t first ≡ Some node
@@ -78,7 +79,7 @@ module _ (r r' : spaces.Content) (b b' : buddies.Content) (s s' : Content) (t fi
   }
 
   pub spares_of : Spares t r r' b b' s s'
-  spares_of = record { others = keeps_other; space = k.space; buddy = k.buddy }
+  spares_of = record { others = keeps_other; space = k.space; spare = k.spare; buddy = k.buddy }
 
   module _ (w : IsSlabs s) (a : Agree r b s)
       (nodes : length s'.lists.places ≡ length s.lists.places) (tables : length s'.caches ≡ length s.caches)

@@ -10,7 +10,7 @@ use Rattle.model_core.specs.Layouts.{IsLayout, IsFit, is_small, object_offset, o
 use Rattle.model_core.proofs.Apart.{in_block-from}
 use Rattle.layout_core.specs.Objects.{IsColour}
 use Rattle.space_core.specs.Content as spaces
-use Rattle.space_core.specs.Laws.{IsSameFor, OwnBytes, OthersStay}
+use Rattle.space_core.specs.Laws.{SpaceLaws, IsSameFor, OwnBytes, SpareStays}
 use Rattle.space_core.specs.Windows.{is_in_slot, home_of, byte_at, with_window}
 use Rattle.slab_tables.specs.declared.cache.Cache as own
 use Rattle.slab_tables.specs.Content.{numbers}
@@ -44,6 +44,9 @@ banks_twice r r' r'' e e' = e' ∙ ap (λ (x : spaces.Content). record x { banks
 some_if : {A : Type 0} (b : Bool) (o : Option A) → IsSome (cond b o None) → (b ≡ true) × IsSome o
 some_if true o h = (refl, h)
 some_if false o h = absurd (false≢true h)
+
+pub spare_twice : (r r' r'' : spaces.Content) → SpareStays r r' → r'' ≡ record r' { banks = r''.banks } → SpareStays r' r'' → SpareStays r r''
+spare_twice r r' r'' k e k' m none = k' m none ∙ k m (ap (λ (x : spaces.Content). spaces.owner_at x.owners m) (sym e) ∙ none)
 
 -- a range of one slot that the tenant holds: a range inside it is one, too
 pub inner_held : (r : spaces.Content) (t place len p n : ℕ) → IsSome (home_of r t place len) → 0 < n → place ≤ p → p + n ≤ place + len
@@ -111,10 +114,11 @@ module _ (cache : own.Cache) (f colour : ℕ) (cut : IsLayout cache.layout.size 
       inner_held r t (4096 * f) (4096 * 2 ^ (numbers cache).order) place len home (omega arith) (omega arith) (omega arith) unit
 
   pub one_more : (r0 r r' : spaces.Content) (t i place : ℕ) → place ≡ 4096 * f + object_offset (numbers cache) colour i
-      → OwnBytes r → OthersStay r → IsSome (home_of r t place cache.layout.size) → i < (numbers cache).count
+      → SpaceLaws r → IsSome (home_of r t place cache.layout.size) → i < (numbers cache).count
       → IsFilled r r' t place cache.layout.size cache.pattern
       → IsConstructed r0 r t cache f colour i → IsConstructed r0 r' t cache f colour (i + 1)
-  one_more r0 r r' t i place at mine stay home object filling before =
+  one_more r0 r r' t i place at laws home object filling before =
+      let mine : OwnBytes r = laws.own_bytes in
       let w = filling.bytes in
       let out : (p : ℕ) → (place ≤ p → p < place + cache.layout.size → ⊥) → byte_at r' t p ≡ byte_at r t p =
       λ p h. now p ∙ out_of_range r t place cache.layout.size w mine home filling.long p h in
@@ -126,7 +130,9 @@ module _ (cache : own.Cache) (f colour : ℕ) (cut : IsLayout cache.layout.size 
       record {
         space = banks_twice r0 r r' before.space (banks_of r r' (with_window r t place cache.layout.size w) filling.filled refl);
         others = λ u differ. same_twice u r0 r r' (before.others u differ)
-            (subst (λ x. IsSameFor u r x) (sym filling.filled) (stay.window t place cache.layout.size w u differ));
+            (subst (λ x. IsSameFor u r x) (sym filling.filled) (laws.others.window t place cache.layout.size w u differ));
+        spare = spare_twice r0 r r' before.spare (banks_of r r' (with_window r t place cache.layout.size w) filling.filled refl)
+            (subst (λ x. SpareStays r x) (sym filling.filled) (laws.spare.window t place cache.layout.size w));
         clear = λ small j less.
             let room = (fit.small small).1 in
             ap byte_or_zero (out (4096 * f + 4064 + j) (λ low high. absurd (omega arith))) ∙ before.clear small j less;
@@ -143,7 +149,7 @@ module _ (cache : own.Cache) (f colour : ℕ) (cut : IsLayout cache.layout.size 
       earlier k j less lower =
           let before_this = ends k i lower in
           now (object_place (numbers cache) f colour k + j)
-          ∙ out_of_range r t place cache.layout.size filling.bytes mine home filling.long (object_place (numbers cache) f colour k + j)
+          ∙ out_of_range r t place cache.layout.size filling.bytes laws.own_bytes home filling.long (object_place (numbers cache) f colour k + j)
           (λ low high. absurd (omega arith))
           ∙ before.objects k j lower less
 
@@ -155,7 +161,7 @@ module _ (cache : own.Cache) (f colour : ℕ) (cut : IsLayout cache.layout.size 
           ap (λ n. object_place (numbers cache) f colour n + j) same ∙ ap (λ n. n + j) (sym at) in
           let offset : place + j - place ≡ j = omega arith in
           ap (λ p. byte_at r' t p) here ∙ now (place + j)
-          ∙ in_range r t place cache.layout.size filling.bytes mine home filling.long (place + j) (omega arith) (omega arith)
+          ∙ in_range r t place cache.layout.size filling.bytes laws.own_bytes home filling.long (place + j) (omega arith) (omega arith)
           ∙ ap (λ n. Some (slice_index filling.bytes n)) offset ∙ ap (λ b. Some b) (filling.constructed j less)
 
 module _ (cache : own.Cache) (f colour : ℕ) where
@@ -171,21 +177,24 @@ module _ (cache : own.Cache) (f colour : ℕ) where
   begun r t large = record {
     space = refl;
     others = λ u differ. same_here u r;
+    spare = λ m none. refl;
     clear = λ small j less. absurd (false≢true (sym large ∙ small));
     objects = λ i j lower less. absurd (omega arith);
     bytes = λ place outside. refl;
   }
 
-  pub cleared : (r r' : spaces.Content) (t : ℕ) → OwnBytes r → OthersStay r → is_small (numbers cache).chunk ≡ true
+  pub cleared : (r r' : spaces.Content) (t : ℕ) → SpaceLaws r → is_small (numbers cache).chunk ≡ true
       → IsSome (home_of r t (4096 * f + 4064) 32) → r' ≡ with_window r t (4096 * f + 4064) 32 (replicate 32 0)
       → IsConstructed r r' t cache f colour 0
-  cleared r r' t mine stay small home written =
+  cleared r r' t laws small home written =
+      let mine : OwnBytes r = laws.own_bytes in
       let now : (p : ℕ) → byte_at r' t p ≡ byte_at (with_window r t (4096 * f + 4064) 32 (replicate 32 0)) t p = λ p. ap (λ x. byte_at x t p) written in
       let sized : length (replicate {A = ℕ} 32 0) ≡ 32 = refl in
       let frames : 0 < 2 ^ (numbers cache).order = pow_pos (numbers cache).order in
       record {
         space = banks_of r r' (with_window r t (4096 * f + 4064) 32 (replicate 32 0)) written refl;
-        others = λ u differ. subst (λ x. IsSameFor u r x) (sym written) (stay.window t (4096 * f + 4064) 32 (replicate 32 0) u differ);
+        others = λ u differ. subst (λ x. IsSameFor u r x) (sym written) (laws.others.window t (4096 * f + 4064) 32 (replicate 32 0) u differ);
+        spare = subst (λ x. SpareStays r x) (sym written) (laws.spare.window t (4096 * f + 4064) 32 (replicate 32 0));
         clear = λ _ j less.
             let offset : 4096 * f + 4064 + j - (4096 * f + 4064) ≡ j = omega arith in
             ap byte_or_zero (now (4096 * f + 4064 + j)

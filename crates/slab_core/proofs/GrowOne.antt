@@ -214,6 +214,7 @@ module _ (r : spaces.Content) (b : buddies.Content) (s : Content) (t c : ℕ) (c
     alone = record {
       space = built.space;
       bytes = built.others;
+      spare = built.spare;
       buddy = sym (ap (λ h. buddies.with_holding t h b) holding_now);
       top = refl;
       under = under;

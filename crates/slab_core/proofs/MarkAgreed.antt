@@ -227,5 +227,6 @@ module _ (r : spaces.Content) (b : buddies.Content) (s : Content) (t c f n i : â
         };
       };
       space = refl;
+      spare = k.spare;
       buddy = ap (Î» (ts : List buddies.Holding). record b { tenants = ts }) (sym (set-get_or b.tenants t buddies.no_tenant));
     }

@@ -77,6 +77,7 @@ module _ (r : spaces.Content) (s : Content) (t : ℕ) (o : Found) where
       stay = stay;
       space = refl;
       others = λ u other. laws.others.byte t place word u other;
+      spare = laws.spare.byte t place word;
       bytes = λ p out. elsewhere p (λ e. out (o.index / 8) (omega arith) (e ∙ at));
       large = λ big. absurd (big small);
       tables = refl;
@@ -104,6 +105,7 @@ module _ (r : spaces.Content) (s : Content) (t : ℕ) (o : Found) where
           ∙ sym (live_large r t o.cache (kept_at s.kept o.node) o.first i large);
       space = refl;
       others = λ u other. record { slots = λ v. refl; banks = λ v m e. refl; bytes = λ p. refl; windows = λ p len. refl };
+      spare = λ m none. refl;
       bytes = λ p out. refl;
       large = λ big p. refl;
       tables = refl;

@@ -253,6 +253,7 @@ pub spares_entry : (r : spaces.Content) (b : buddies.Content) (s : Content) (t c
 spares_entry r b s t c small within = record {
   others = cache_others s t c None small within r b;
   space = refl;
+  spare = λ m none. refl;
   buddy = ap (λ x. record b { tenants = x }) (sym (set-get_or b.tenants t buddies.no_tenant));
 }
 

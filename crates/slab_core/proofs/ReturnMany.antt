@@ -26,7 +26,7 @@ use Rattle.slab_laws.proofs.Steady.{IsInTable, in_table, placed_as, slab_from, c
 use Rattle.slab_laws.proofs.Twice.{twice}
 use Rattle.slab_core.specs.Calls.{is_of_these, is_idle, idle_at}
 use Rattle.slab_core.proofs.BuildCreate.{bare_without}
-use Rattle.slab_core.proofs.Building.{same_twice, same_here, banks_twice}
+use Rattle.slab_core.proofs.Building.{same_twice, same_here, banks_twice, spare_twice}
 
 or_cases : (v w : Bool) → (v || w) ≡ true → (v ≡ true) ⊎ (w ≡ true)
 or_cases true w e = inl refl
@@ -93,6 +93,7 @@ spares_none r b s t = record {
     slabs = record { top = refl; caches = λ c. refl; lists = λ f n e. refl; kept = λ f n e. refl };
   };
   space = refl;
+  spare = λ m none. refl;
   buddy = ap (λ x. record b { tenants = x }) (sym (set-get_or b.tenants t buddies.no_tenant));
 }
 
@@ -117,6 +118,7 @@ pub spares_twice : (r r' r'' : spaces.Content) (b b' b'' : buddies.Content) (s s
 spares_twice r r' r'' b b' b'' s s' s'' t k k' = record {
   others = λ u differ. keeps_twice r r' r'' b b' b'' s s' s'' u (k.others u differ) (k'.others u differ);
   space = banks_twice r r' r'' k.space k'.space;
+  spare = spare_twice r r' r'' k.spare k'.space k'.spare;
   buddy = k'.buddy ∙ ap (buddies.with_holding t (buddies.holding_of t b'')) k.buddy
       ∙ ap (λ x. record b { tenants = x }) (set-set b.tenants t (buddies.holding_of t b') (buddies.holding_of t b''));
 }

@@ -120,6 +120,7 @@ module _ (r : spaces.Content) (b : buddies.Content) (s : Content) (t c f n : ℕ
     alone = record {
       space = refl;
       bytes = λ u differ. laws.others.window t (4096 * f) bytes (replicate bytes 0) u differ;
+      spare = laws.spare.window t (4096 * f) bytes (replicate bytes 0);
       buddy = sym (ap (λ h. buddies.with_holding t h b) holding_now);
       top = refl;
       under = q.under;

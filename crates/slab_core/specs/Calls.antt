@@ -1,11 +1,11 @@
 -- What the steps of the calls do, for the calls above them.
-use Rattle.std.specs.Prelude.{◌≡◌, ◌≢◌, ℕ, ◌+◌, ◌/◌, ◌<◌, ◌==◌, ◌&&◌, Bool, true, false, Option, Some, None, List, map, filter, length, slice_index}
+use Rattle.std.specs.Prelude.{◌≡◌, ◌≢◌, ℕ, ◌+◌, ◌/◌, ◌<◌, ◌==◌, ◌&&◌, Bool, true, false, Option, Some, None, List, length, slice_index}
 use Rattle.model_core.specs.Layouts.{is_small, object_place, pattern_byte}
-use Rattle.model_core.specs.Machine.{Cache, Machine}
-use Rattle.model_core.specs.Slabs.{is_full, is_partial, is_empty, live_objects, empty_blocks}
+use Rattle.model_core.specs.Machine.{Cache}
+use Rattle.model_core.specs.Slabs.{empty_blocks}
 use Rattle.model_core.specs.CacheOperations.{frames_of}
 use Rattle.space_core.specs.Content as spaces
-use Rattle.space_core.specs.Laws.{IsSameFor}
+use Rattle.space_core.specs.Laws.{IsSameFor, SpareStays}
 use Rattle.space_core.specs.Windows.{byte_at, with_window}
 use Rattle.slab_tables.specs.declared.cache.Cache as own
 use Rattle.klist_core.specs.Places.{place_at, IsEmpty}
@@ -21,10 +21,11 @@ pub record IsFilled (r r' : spaces.Content) (t place len : ℕ) (pattern : List 
 
 -- The first n objects of the block at frame `first` of tenant t are constructed, as those of a slab of the cache with this
 -- colour offset. The control record is clear, where it stands in the frame, and all else is as before: t's bytes outside the
--- block, and all that others have.
+-- block, all that others have, and what superblocks without owner hold.
 pub record IsConstructed (r r' : spaces.Content) (t : ℕ) (cache : own.Cache) (first colour n : ℕ) : Type 0 where
   pub space : r' ≡ record r { banks = r'.banks }
   pub others : (u : ℕ) → u ≢ t → IsSameFor u r r'
+  pub spare : SpareStays r r'
   pub clear : is_small (numbers cache).chunk ≡ true → (j : ℕ) → j < 32 → record_byte r' t first j ≡ 0
   pub objects : (i j : ℕ) → i < n → j < cache.layout.size
       → byte_at r' t (object_place (numbers cache) first colour i + j) ≡ Some (pattern_byte cache.pattern j)

@@ -2,7 +2,7 @@
 use Rattle.std.specs.Prelude.{◌≡◌, ◌≢◌, ℕ, ◌+◌, ◌*◌, ◌<◌, ◌≤◌, not, true, length}
 use Rattle.model_core.specs.Layouts.{is_small}
 use Rattle.space_core.specs.Content as spaces
-use Rattle.space_core.specs.Laws.{IsSameFor}
+use Rattle.space_core.specs.Laws.{IsSameFor, SpareStays}
 use Rattle.space_core.specs.Windows.{byte_at}
 use Rattle.slab_tables.specs.Content.{Content, kept_at, numbers}
 use Rattle.slab_laws.specs.Shows.{is_live}
@@ -22,6 +22,7 @@ pub record IsTurned (r r' : spaces.Content) (s s' : Content) (t : ℕ) (o : Foun
       → is_live r' t o.cache (kept_at s'.kept o.node) o.first i ≡ is_live r t o.cache (kept_at s.kept o.node) o.first i
   pub space : r' ≡ record r { banks = r'.banks }
   pub others : (u : ℕ) → u ≢ t → IsSameFor u r r'
+  pub spare : SpareStays r r'
   pub bytes : (place : ℕ) → ((k : ℕ) → k < 32 → place ≢ 4096 * o.first + 4064 + k) → byte_at r' t place ≡ byte_at r t place
   pub large : is_small (numbers o.cache).chunk ≢ true → (place : ℕ) → byte_at r' t place ≡ byte_at r t place
   pub tables : s' ≡ record s { kept = s'.kept }

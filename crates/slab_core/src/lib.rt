@@ -11,11 +11,13 @@
 
 ghost use Rattle.std.specs.Prelude.{◌≡◌, ℕ, ◌≤◌, IfOk};
 ghost use Rattle.model_core.specs.declared.limits.TheConstants.{MOST_ORDER, MOST_SUPERBLOCKS, MOST_TENANTS};
-ghost use Rattle.slab_tables.specs.Content.{opening};
+ghost use Rattle.slab_tables.specs.Content.{IsSlabs, opening};
+ghost use Rattle.slab_laws.specs.Laws.{ListsHold};
 
 mod creating;
 mod giving;
 mod growing;
+mod moving;
 mod objects;
 mod reaching;
 mod returning;
@@ -23,7 +25,9 @@ mod rows;
 mod steady;
 mod taking;
 
+use klist_core::Lists;
 pub use model_core::report::CacheRow;
+use slab_laws::meets::kinds_hold;
 use slab_tables::Tables;
 use std::alloc::{AllocError, Global};
 use std::marker::Model;
@@ -55,5 +59,32 @@ impl Slabs {
         Ok(Slabs {
             tables: Tables::new(alloc, order, superblocks, tenants)?,
         })
+    }
+
+    /// A law: what holds of the caches and slabs of all tenants. It costs nothing.
+    pub fn facts(&self)
+        ensures { IsSlabs self.now }
+    {
+        self.tables.facts();
+    }
+
+    /// A superblock has `2^order` frames.
+    pub fn order(&self) -> u8
+        ensures { result ≡ self.now.top }
+    {
+        self.tables.order()
+    }
+
+    /// The lists of the slabs of all caches: each has the slabs of one kind of one cache, by first frame, with their nodes.
+    /// List `3 * (32 * t + c)` has the full slabs of cache `c` of tenant `t`, and the next two have the partial and the empty
+    /// ones.
+    pub fn lists(&self) -> &Lists
+        ensures same { result.now ≡ self.now.lists }
+        ensures hold { ListsHold self.now }
+    {
+        self.tables.facts();
+        self.tables.lists().facts();
+        kinds_hold();
+        self.tables.lists()
     }
 }

@@ -2,7 +2,7 @@
 use Rattle.std.specs.Prelude.{◌≡◌, ◌≢◌, ℕ, Some}
 use Rattle.klist_core.specs.Places.{place_at}
 use Rattle.space_core.specs.Content as spaces
-use Rattle.space_core.specs.Laws.{IsSameFor}
+use Rattle.space_core.specs.Laws.{IsSameFor, SpareStays}
 use Rattle.buddy_core.specs.Content as buddies
 use Rattle.slab_tables.specs.Content.{Content, kept_at, cache_at}
 use Rattle.slab_laws.specs.Shows.{node_of}
@@ -20,8 +20,10 @@ pub record Keeps (r r' : spaces.Content) (b b' : buddies.Content) (s s' : Conten
   pub buddy : buddies.holding_of t b' ≡ buddies.holding_of t b
   pub slabs : IsSameCaches t r s s'
 
--- what is done for tenant t spares all others; of the memory it changes bytes alone, of the buddy systems t's alone
+-- What is done for tenant t spares all others. Of the memory it changes bytes alone, and none of a superblock without owner;
+-- of the buddy systems t's alone.
 pub record Spares (t : ℕ) (r r' : spaces.Content) (b b' : buddies.Content) (s s' : Content) : Type 0 where
   pub others : (u : ℕ) → u ≢ t → Keeps r r' b b' s s' u
   pub space : r' ≡ record r { banks = r'.banks }
+  pub spare : SpareStays r r'
   pub buddy : b' ≡ buddies.with_holding t (buddies.holding_of t b') b

@@ -10,4 +10,5 @@ mod Places
 pub mod Reading
 mod Own
 mod Others
+mod Spare
 pub mod Ranges

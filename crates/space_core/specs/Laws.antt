@@ -31,6 +31,18 @@ pub record OthersStay (s : Content) : Type 0 where
   pub take_back : (t u m other : ℕ) → other ≢ t → IsSameFor other s (taken_back s t u m)
   pub move : (t u from to other : ℕ) → owner_at s.owners to ≡ None → other ≢ t → IsSameFor other s (moved s t u from to)
 
+-- a superblock without owner in s' has the bytes that it has in s
+abbrev pub SpareStays : Content → Content → Type 0
+SpareStays s s' = (m : ℕ) → owner_at s'.owners m ≡ None → bank s'.banks m ≡ bank s.banks m
+
+-- only superblocks that have an owner then are written
+pub record SpareBytes (s : Content) : Type 0 where
+  pub window : (t place len : ℕ) (w : List ℕ) → SpareStays s (with_window s t place len w)
+  pub byte : (t place b : ℕ) → SpareStays s (with_byte s t place b)
+  pub grant : (t u m : ℕ) → m < length s.owners → SpareStays s (granted s t u m)
+  pub take_back : (t u m : ℕ) → SpareStays s (taken_back s t u m)
+  pub move : (t u from to : ℕ) → to < length s.owners → SpareStays s (moved s t u from to)
+
 -- bytes are those of tenant t from place on, len of them
 pub record IsRead (s : Content) (t place len : ℕ) (bytes : List ℕ) : Type 0 where
   pub count : length bytes ≡ len
@@ -58,3 +70,4 @@ pub record SpaceLaws (s : Content) : Type 0 where
   pub others : OthersStay s
   pub own_bytes : OwnBytes s
   pub own_slots : OwnSlots s
+  pub spare : SpareBytes s

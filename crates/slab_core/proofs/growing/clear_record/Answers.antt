@@ -8,7 +8,7 @@ zero-requires-clause-in_reach c =
 
 pub returns-then-in_page : goal.returns-then-in_page
 returns-then-in_page c = λ colour.
-    cleared c.args.cache.now c.args.first colour c.args.space.now c.zero.new.self c.args.t c.laws.ensures.own_bytes c.laws.ensures.others
+    cleared c.args.cache.now c.args.first colour c.args.space.now c.zero.new.self c.args.t c.laws.ensures
     (sym c.in_page.ensures ∙ c.if-in_page.true) (record_held c.args.cache.now c.args.first colour c.args.space.now c.args.t c.laws.ensures.facts.some c.requires.in_reach)
     c.zero.ensures
 

@@ -13,7 +13,7 @@ pub returns : goal.returns
 returns c = λ before built.
     let place : ℕ = 4096 * c.args.first + c.offset.result in
     one_more c.args.cache.now c.args.first c.args.colour c.fits.ensures c.requires.colour before c.args.space.now c.fill.new.space
-    c.args.t c.args.i place (ap (λ n. 4096 * c.args.first + n) c.offset.ensures) c.laws.ensures.own_bytes c.laws.ensures.others
+    c.args.t c.args.i place (ap (λ n. 4096 * c.args.first + n) c.offset.ensures) c.laws.ensures
     (object_held c.args.cache.now c.args.first c.args.colour c.fits.ensures c.requires.colour c.args.space.now c.args.t c.args.i
     place _ c.laws.ensures.facts.some c.requires.in_reach c.requires.object
     (ap (λ n. 4096 * c.args.first + n) c.offset.ensures) refl)
