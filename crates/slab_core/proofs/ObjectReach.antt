@@ -18,13 +18,12 @@ use Rattle.slab_tables.specs.Content.{Content, kept_at, numbers}
 use Rattle.slab_laws.specs.Shows.{node_of, has_slab, is_live, IsSlab, ShowsMachine}
 use Rattle.slab_laws.specs.Steady.{IsSteady}
 use Rattle.slab_laws.specs.Changes.{Found, found}
-use Rattle.slab_laws.specs.Objects.{IsObject}
+use Rattle.slab_laws.specs.Objects.{IsObject, HasRange, HasNone}
 use Rattle.slab_laws.proofs.Lookups.{some_same, in_found}
 use Rattle.slab_laws.proofs.Facts.{is_not, has_it, one_slab, shown, cache_shown, slab_in}
 use Rattle.slab_laws.proofs.Flags.{length_flags, flag_at}
 use Rattle.slab_laws.proofs.Members.{in_flat_map}
 use Rattle.slab_laws.proofs.Objects.{fit_of, object_of, live_object, object_kept}
-use Rattle.slab_core.specs.Objects.{HasRange, HasNone}
 use Rattle.slab_core.proofs.ObjectFinding.{in_frame}
 
 module _ (r : spaces.Content) (b : buddies.Content) (s : Content) (t place len : ℕ) (st : IsSteady r b s t) where

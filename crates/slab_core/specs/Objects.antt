@@ -30,16 +30,3 @@ pub record IsTurned (r r' : spaces.Content) (s s' : Content) (t : ℕ) (o : Foun
   pub kept : (n : ℕ) → n ≢ o.node → kept_at s'.kept n ≡ kept_at s.kept n
   pub colour : (kept_at s'.kept o.node).colour ≡ (kept_at s.kept o.node).colour
   pub live : (kept_at s'.kept o.node).live ≡ (kept_at s.kept o.node).live
-
--- the `len` bytes of tenant t from the place on, one at least, are among those of the live object o
-pub record HasRange (r : spaces.Content) (s : Content) (t place len : ℕ) (o : Found) : Type 0 where
-  pub number : ℕ
-  pub begin : ℕ
-  pub object : IsObject r s t number begin o
-  pub some : 0 < len
-  pub from : begin ≤ place
-  pub to : place + len ≤ begin + o.cache.layout.size
-
--- they are among those of no live object
-abbrev pub HasNone : spaces.Content → Content → ℕ → ℕ → ℕ → Type 0
-HasNone r s t place len = (o : Found) → HasRange r s t place len o → ⊥

@@ -1,13 +1,13 @@
 //! Which live object has a range of bytes.
 
-ghost use Rattle.std.specs.Prelude.{◌≡◌, ℕ, ◌<◌, ◌&&◌, false, nat_lt, length, MatchOption};
+ghost use Rattle.std.specs.Prelude.{◌≡◌, ◌↔◌, true, ℕ, ◌<◌, ◌&&◌, false, nat_lt, length, MatchOption};
 ghost use Rattle.std.specs.List.{list_any};
 ghost use Rattle.model_core.specs.Machine.{Machine};
 ghost use Rattle.model_core.specs.Reach.{within_objects};
 ghost use Rattle.slab_tables.specs.declared.cache.Cache as own;
 ghost use Rattle.slab_laws.specs.Shows.{node_of, has_slab, IsSlab, Agree, ShowsMachine};
-ghost use Rattle.slab_laws.specs.Changes.{found};
-ghost use Rattle.slab_core.specs.Objects.{HasRange, HasNone};
+ghost use Rattle.slab_laws.specs.Changes.{Found, found};
+ghost use Rattle.slab_laws.specs.Objects.{HasRange, HasNone};
 
 use crate::Slabs;
 use crate::objects::Object;
@@ -20,8 +20,7 @@ impl Slabs {
     pub fn object_at(&self, space: &Space, buddy: &Buddy, t: u8, place: u32, len: u32) -> bool
         requires tenant { t < length space.now.slots }
         requires agree { Agree space.now buddy.now self.now }
-        ensures { (m : Machine) → ShowsMachine space.now buddy.now self.now t m
-            → result ≡ (nat_lt 0 len && list_any (within_objects place len) m.caches) }
+        ensures { (result ≡ true) ↔ ((o : Found) × HasRange space.now self.now t place len o) }
     {
         self.steady(space, buddy, t);
         self.object_over(space, buddy, t, place, len).is_some()

@@ -1,5 +1,5 @@
 -- Objects by their places, and the slab that a take uses.
-use Rattle.std.specs.Prelude.{◌≡◌, ℕ, ◌<◌, ◌⊎◌, true}
+use Rattle.std.specs.Prelude.{◌≡◌, ℕ, ◌+◌, ◌<◌, ◌≤◌, ◌⊎◌, true}
 use Rattle.model_core.specs.Layouts.{object_place}
 use Rattle.klist_core.specs.Places.{IsEmpty, IsFirst}
 use Rattle.space_core.specs.Content as spaces
@@ -33,3 +33,16 @@ pub record IsToUse (r : spaces.Content) (s : Content) (t c : ℕ) (cache : own.C
 -- the cache has neither a partial nor an empty slab
 abbrev pub IsAllFull : Content → ℕ → ℕ → Type 0
 IsAllFull s t c = IsEmpty s.lists.places (head_of t c 1) × IsEmpty s.lists.places (head_of t c 2)
+
+-- the `len` bytes of tenant t from the place on, one at least, are among those of the live object o
+pub record HasRange (r : spaces.Content) (s : Content) (t place len : ℕ) (o : Found) : Type 0 where
+  pub number : ℕ
+  pub begin : ℕ
+  pub object : IsObject r s t number begin o
+  pub some : 0 < len
+  pub from : begin ≤ place
+  pub to : place + len ≤ begin + o.cache.layout.size
+
+-- they are among those of no live object
+abbrev pub HasNone : spaces.Content → Content → ℕ → ℕ → ℕ → Type 0
+HasNone r s t place len = (o : Found) → HasRange r s t place len o → ⊥

@@ -1,17 +1,17 @@
-use Rattle.std.proofs.Common.{◌≡◌, Bool, true, false, Option, Some, None, sym, ◌∙◌}
-use Rattle.std.specs.Prelude.{MatchOption, is_some}
-use Rattle.slab_core.proofs.ObjectReach.{in_machine, in_none}
+use Rattle.std.proofs.Common.{◌≡◌, Bool, true, false, Option, Some, None, sym, refl, subst}
+use Rattle.std.specs.Prelude.{MatchOption, is_some, ◌↔◌}
+use Rattle.std.proofs.lemmas.Bool.{false≢true}
+use Rattle.slab_laws.specs.Changes.{Found}
+use Rattle.slab_laws.specs.Objects.{HasRange}
 use Rattle.slab_core.proofs.Slabs.object_at.Goals as goal
 
 -- a test by a look-up
-told : {A : Type 0} (o : Option A) (P : Type 0) (Q : A → Type 0) (v : Bool) → MatchOption o P Q → (P → v ≡ false) → ((x : A) → Q x → v ≡ true) → is_some o ≡ v
-told None P Q v is none some = sym (none is)
-told (Some x) P Q v is none some = sym (some x is)
+told : {A : Type 0} (o : Option A) (R : Found → Type 0) (Q : A → Type 0) (v : Bool) → v ≡ is_some o → MatchOption o ((u : Found) → R u → ⊥) Q
+    → ((x : A) → Q x → (u : Found) × R u) → (v ≡ true) ↔ ((u : Found) × R u)
+told None R Q v e is some = (λ yes. absurd (cc), λ u. absurd (is u.0 u.1))
+told (Some x) R Q v e is some = (λ yes. some x is, λ u. e)
 
 pub returns : goal.returns
-returns c = λ m h.
+returns c =
     let x = c.args in
-    c.is_some.ensures
-    ∙ told c.object_over.result _ _ _ c.object_over.ensures
-    (in_none x.space.now x.buddy.now x.self.now x.t x.place x.len c.steady.ensures m h)
-    (λ o q. in_machine x.space.now x.buddy.now x.self.now x.t x.place x.len c.steady.ensures m h _ q.1)
+    told c.object_over.result (HasRange x.space.now x.self.now x.t x.place x.len) _ _ c.is_some.ensures c.object_over.ensures (λ o q. (_, q.1))
