@@ -1,5 +1,5 @@
 -- A slab made on a block that was free.
-use Rattle.std.proofs.Common.{◌≡◌, ◌≢◌, ℕ, ◌+◌, ◌-◌, ◌*◌, ◌/◌, ◌%◌, ◌^◌, ◌<◌, ◌≤◌, Bool, true, false, zero, suc, cond, ltb, leb, length, Some, None, IsSome, refl, sym, ap, ◌∙◌, subst, ⊎_elim, arith}
+use Rattle.std.proofs.Common.{◌≡◌, ◌≢◌, ◌↔◌, ℕ, ◌+◌, ◌-◌, ◌*◌, ◌/◌, ◌%◌, ◌^◌, ◌<◌, ◌≤◌, Bool, true, false, zero, suc, cond, ltb, leb, length, Some, None, IsSome, refl, sym, ap, ◌∙◌, subst, ⊎_elim, arith}
 use Rattle.std.specs.Prelude.{Option, is_some, ◌&&◌}
 use Rattle.std.proofs.lemmas.Bool.{cases_eq, false≢true, eq-eqb, ne_eqb, and_parts, leb-true, ltb-true}
 use Rattle.std.proofs.lemmas.List.{length-set, get_or-set_same, get_or-set_other}
@@ -8,7 +8,8 @@ use Rattle.std.proofs.Math.Nat.{mul-le-mul_right, lt-div-mul-add}
 use Rattle.model_core.specs.Blocks.{block, HasFrame, IsAligned, IsTaken, IsChoice, IsWithout, with_taken}
 use Rattle.model_core.specs.BlockLaws.{ReservedIsUntaken}
 use Rattle.model_core.specs.Laws.{ChoicesMeet}
-use Rattle.model_core.specs.Machine.{Machine, choice}
+use Rattle.model_core.specs.Machine.{Cache, Machine, choice}
+use Rattle.model_core.specs.Slabs.{cache_of, grown}
 use Rattle.model_core.specs.Layouts.{IsLayout, is_small, in_object, object_place, pattern_byte}
 use Rattle.model_core.specs.declared.limits.TheConstants.{MOST_CACHES}
 use Rattle.model_core.proofs.Apart.{has_first, in_block-true}
@@ -30,9 +31,10 @@ use Rattle.slab_laws.specs.Changes.{IsGrown}
 use Rattle.slab_laws.specs.Laws.{TakenMeets}
 use Rattle.slab_laws.proofs.Lookups.{some_none, some_same}
 use Rattle.slab_laws.proofs.Facts.{under_is, one_stays, record_inside, is_not}
-use Rattle.slab_laws.proofs.Grown.{none_set}
+use Rattle.slab_laws.proofs.Grown.{none_set, grown_shows}
 use Rattle.slab_laws.proofs.Steady.{within, in_table, tenant_is}
 use Rattle.slab_core.specs.Calls.{IsConstructed}
+use Rattle.slab_core.specs.Room.{HasFree}
 use Rattle.slab_core.proofs.BuildParts.{IsLocal, agreed_still, spares_of, agree_of}
 use Rattle.slab_core.proofs.BuildCache.{cache_here, cache_there, in_other}
 use Rattle.slab_core.proofs.ReturnCache.{among_all}
@@ -49,6 +51,15 @@ something : {A : Type 0} (o : Option A) → is_some o ≡ true → (x : A) × (o
 something None e = absurd (false≢true e)
 something (Some x) e = (x, refl)
 
+-- a slab is made exactly where a block is free for it
+pub none_free : (b : buddies.Content) (t k : ℕ) → IsWithout b.top (buddies.is_held (buddies.holding_of t b)) (buddies.taken_of (buddies.holding_of t b)) k
+    → (o : Option (ℕ × ℕ)) → o ≡ None → IsSome o ↔ HasFree b t k
+none_free b t k without o none = (λ e. absurd (false≢true (sym (ap is_some none) ∙ e)), λ h. absurd (without h.found h.free h.enough))
+
+pub some_free : (b : buddies.Content) (t k f j : ℕ) → IsChoice b.top (buddies.is_held (buddies.holding_of t b)) (buddies.taken_of (buddies.holding_of t b)) k (block f j)
+    → (p : ℕ × ℕ) → IsSome (Some p) ↔ HasFree b t k
+some_free b t k f j chosen p = (λ e. record { found = block f j; free = chosen.0; enough = chosen.1 }, λ h. refl)
+
 module _ (r : spaces.Content) (b : buddies.Content) (s : Content) (t k : ℕ) (a : Agree r b s) where
   -- a chosen block lies in a slot that the tenant holds
   pub has_node : ReservedIsUntaken → (f j : ℕ) → IsChoice b.top (buddies.is_held (buddies.holding_of t b)) (buddies.taken_of (buddies.holding_of t b)) k (block f j)
@@ -63,6 +74,10 @@ module _ (r : spaces.Content) (b : buddies.Content) (s : Content) (t k : ℕ) (a
       go : (o : Option ℕ) → is_some o ≡ true → frame_under s.top f o ≡ None → ⊥
       go None held e = false≢true held
       go (Some m) held e = some_none e
+
+  -- no block is larger than a superblock
+  pub none_large : b.top < k → IsWithout b.top (buddies.is_held (buddies.holding_of t b)) (buddies.taken_of (buddies.holding_of t b)) k
+  none_large large z free enough = absurd (let small = free.0.0 in omega arith)
 
   module _ (meet : ChoicesMeet) (taken : TakenMeets) (st : IsSteady r b s t) (m : Machine) (h : ShowsMachine r b s t m) where
     both : ((first j : ℕ) → IsChoice b.top (buddies.is_held (buddies.holding_of t b)) (buddies.taken_of (buddies.holding_of t b)) k (block first j) → choice b.top m k ≡ Some first)
@@ -79,7 +94,7 @@ module _ (r : spaces.Content) (b : buddies.Content) (s : Content) (t k : ℕ) (a
     choice_none without = ap (λ top. choice top m k) (sym a.order) ∙ both.1 without
 
     pub choice_large : b.top < k → choice s.top m k ≡ None
-    choice_large large = choice_none (λ z free enough. absurd (let small = free.0.0 in omega arith))
+    choice_large large = choice_none (none_large large)
 
 module _ (r : spaces.Content) (b : buddies.Content) (s : Content) (t c : ℕ) (cache : own.Cache) (w : IsSlabs s) (a : Agree r b s) (st : IsSteady r b s t)
     (laws : SpaceLaws r) (blaws : buddies.BuddyLaws b) (tenant : t < length r.slots) (cached : cache_at s t c ≡ Some cache)
@@ -328,7 +343,12 @@ module _ (r : spaces.Content) (b : buddies.Content) (s : Content) (t c : ℕ) (c
         let same : head_of t c 2 ≡ head = ap (λ (p : ℕ × ℕ). p.0) (some_same (sym placed_now ∙ placed)) in omega arith)
         mine
 
+    -- the machine's cache has grown
+    shown_grown : (m : Machine) (x : Cache) → ShowsMachine r b s t m → cache_of m c ≡ Some x → ShowsMachine r' reserved s' t (grown f x m)
+    shown_grown m x h ex = grown_shows r r' b reserved s s' t c cache f n m x one_grown st cut (λ g i y e there here. untaken y here (g, i, e, there)) ex h
+
     pub record IsMade (b' : buddies.Content) (s'' : Content) : Type 0 where
+      pub shows : (m : Machine) (x : Cache) → ShowsMachine r b s t m → cache_of m c ≡ Some x → ShowsMachine r' b' s'' t (grown f x m)
       pub grown : IsGrown r r' b b' s s'' t c cache f n
       pub spares : Spares t r r' b b' s s''
       pub agree : Agree r' b' s''
@@ -336,4 +356,4 @@ module _ (r : spaces.Content) (b : buddies.Content) (s : Content) (t c : ℕ) (c
     pub made : (b' : buddies.Content) (s'' : Content) → b' ≡ reserved → s'' ≡ s' → IsMade b' s''
     made b' s'' eb es =
         subst (λ x. IsMade x s'') (sym eb) (subst (λ x. IsMade reserved x) (sym es)
-        (record { grown = one_grown; spares = one_spares; agree = one_agrees }))
+        (record { shows = shown_grown; grown = one_grown; spares = one_spares; agree = one_agrees }))

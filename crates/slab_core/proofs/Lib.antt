@@ -8,6 +8,7 @@ pub mod ReturnMany
 pub mod ReturnFrames
 pub mod ReturnCache
 pub mod GrowOne
+pub mod GrowNeed
 pub mod ObjectPlaces
 pub mod ObjectSlabs
 pub mod ObjectFinding
@@ -19,7 +20,14 @@ pub mod TakeBits
 pub mod TakeNext
 pub mod TakeSlab
 pub mod TakeHand
+pub mod TakeStep
 pub mod ObjectReach
 pub mod ObjectTotals
 pub mod ObjectRows
 pub mod ObjectReport
+pub mod RoomFree
+pub mod RoomFrames
+pub mod RoomCache
+pub mod RoomFits
+pub mod ReserveOne
+pub mod ReserveByNeed

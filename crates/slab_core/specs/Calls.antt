@@ -10,7 +10,8 @@ use Rattle.space_core.specs.Windows.{byte_at, with_window}
 use Rattle.slab_tables.specs.declared.cache.Cache as own
 use Rattle.klist_core.specs.Places.{place_at, IsEmpty}
 use Rattle.slab_tables.specs.Content.{Content, kept_at, head_of, numbers}
-use Rattle.slab_laws.specs.Shows.{node_of, is_inside, record_byte}
+use Rattle.slab_tables.specs.Changes.{made_more}
+use Rattle.slab_laws.specs.Shows.{node_of, is_inside, record_byte, IsSlab}
 
 -- the range of tenant t holds the pattern now, over and over, and all else of the memory is as before
 pub record IsFilled (r r' : spaces.Content) (t place len : ℕ) (pattern : List ℕ) : Type 0 where
@@ -53,3 +54,8 @@ empty_frames_in (Some c) = frames_of (empty_blocks c)
 -- cache c of tenant t has neither a full nor a partial slab: no object of it is live
 abbrev pub IsUnused : Content → ℕ → ℕ → Type 0
 IsUnused s t c = IsEmpty s.lists.places (head_of t c 0) × IsEmpty s.lists.places (head_of t c 1)
+
+-- an empty slab of cache c of tenant t stands at this frame and node, and was the last that the cache, as it was before, made
+pub record IsNew (r : spaces.Content) (s : Content) (t c : ℕ) (before : own.Cache) (first node : ℕ) : Type 0 where
+  pub slab : IsSlab r s t c first node (made_more before)
+  pub empty : (kept_at s.kept node).live ≡ 0

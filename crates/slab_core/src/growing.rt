@@ -1,16 +1,20 @@
 //! How a block becomes a slab: its control record is cleared, and each of its objects constructed.
 
-ghost use Rattle.std.specs.Prelude.{◌≡◌, ℕ, ◌+◌, ◌*◌, ◌^◌, ◌<◌, length, option_map, Some, IsSome, IfSome, IfNone};
+ghost use Rattle.std.specs.Prelude.{◌≡◌, ◌↔◌, ℕ, ◌+◌, ◌*◌, ◌^◌, ◌<◌, length, option_map, Some, IsSome, IfSome, IfNone};
+ghost use Rattle.model_core.specs.Machine as machines;
 ghost use Rattle.model_core.specs.Machine.{Machine, choice};
+ghost use Rattle.model_core.specs.Slabs.{cache_of, grown, by_need, choice_by_need};
 ghost use Rattle.slab_tables.specs.Content.{cache_at};
 ghost use Rattle.slab_laws.specs.Shows.{ShowsMachine, Agree};
 ghost use Rattle.slab_laws.specs.Keeps.{Spares};
 ghost use Rattle.slab_laws.specs.Changes.{IsGrown};
+ghost use Rattle.slab_laws.specs.Objects.{IsAllFull};
 ghost use Rattle.layout_core.specs.Objects.{IsColour};
 ghost use Rattle.space_core.specs.Content as spaces;
 ghost use Rattle.space_core.specs.Windows.{home_of};
 ghost use Rattle.slab_tables.specs.Content.{numbers};
-ghost use Rattle.slab_core.specs.Calls.{IsFilled, IsConstructed};
+ghost use Rattle.slab_core.specs.Calls.{IsFilled, IsConstructed, IsNew};
+ghost use Rattle.slab_core.specs.Room.{HasFree};
 
 use crate::Slabs;
 use crate::objects::RECORD_OFFSET;
@@ -23,6 +27,44 @@ use space_core::{FRAME_BYTES, Space};
 const RECORD_BYTES: u32 = 32;
 
 impl Slabs {
+    /// Makes the next slab of cache `c` of tenant `t`, of which every slab is full, and answers its first frame and its node.
+    ///
+    /// The tenant's empty slabs are given back for it where a block is found only then. None, and nothing changed, where no
+    /// block is found then either.
+    pub(crate) fn grow(
+        &mut self,
+        space: &mut Space,
+        buddy: &mut Buddy,
+        t: u8,
+        c: u32,
+        cache: &Cache,
+    ) -> Option<(u32, u32)>
+        requires tenant { t < length space.old.slots }
+        requires agree { Agree space.old buddy.old self.old }
+        requires cache { cache_at self.old t c ≡ Some cache.now }
+        requires full { IsAllFull self.old t c }
+        ensures chosen { (m : Machine) → ShowsMachine space.old buddy.old self.old t m
+            → choice_by_need self.old.top (numbers cache.now).order m ≡ option_map (λ o. o.0) result }
+        ensures shows { IfSome result (λ o. (m : Machine) (x : machines.Cache) → ShowsMachine space.old buddy.old self.old t m → cache_of m c ≡ Some x
+            → ShowsMachine space.new buddy.new self.new t (grown o.0 x (by_need self.old.top (numbers cache.now).order m))) }
+        ensures slab { IfSome result (λ o. IsNew space.new self.new t c cache.now o.0 o.1) }
+        ensures spares { Spares t space.old space.new buddy.old buddy.new self.old self.new }
+        ensures agree { Agree space.new buddy.new self.new }
+        ensures refused { IfNone result ((space.new ≡ space.old) × ((buddy.new ≡ buddy.old) × (self.new ≡ self.old))) }
+    {
+        self.tables.facts();
+        self.steady(space, buddy, t);
+        if let Some(slab) = self.make_slab(space, buddy, t, c, cache) {
+            return Some(slab);
+        }
+        let order = cache.layout.order();
+        if order > buddy.order() || !self.would_fit(space, buddy, t, order) {
+            return None;
+        }
+        self.give_back_all(space, buddy, t);
+        self.make_slab(space, buddy, t, c, cache)
+    }
+
     /// Makes the next slab of cache `c` of tenant `t` on a free block, and answers its first frame and its node. None, and
     /// nothing changed, where no block is free that is large enough: no slab is given back for it.
     pub(crate) fn make_slab(
@@ -39,6 +81,9 @@ impl Slabs {
         ensures grown { IfSome result (λ o. IsGrown space.old space.new buddy.old buddy.new self.old self.new t c cache.now o.0 o.1) }
         ensures chosen { (m : Machine) → ShowsMachine space.old buddy.old self.old t m
             → choice self.old.top m (numbers cache.now).order ≡ option_map (λ o. o.0) result }
+        ensures shows { IfSome result (λ o. (m : Machine) (x : machines.Cache) → ShowsMachine space.old buddy.old self.old t m → cache_of m c ≡ Some x
+            → ShowsMachine space.new buddy.new self.new t (grown o.0 x m)) }
+        ensures free { IsSome result ↔ HasFree buddy.old t (numbers cache.now).order }
         ensures spares { Spares t space.old space.new buddy.old buddy.new self.old self.new }
         ensures agree { Agree space.new buddy.new self.new }
         ensures refused { IfNone result ((space.new ≡ space.old) × ((buddy.new ≡ buddy.old) × (self.new ≡ self.old))) }

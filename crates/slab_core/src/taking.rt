@@ -1,6 +1,6 @@
 //! Taking an object.
 
-ghost use Rattle.std.specs.Prelude.{◌≡◌, ℕ, ◌+◌, ◌*◌, ◌/◌, ◌%◌, ◌^◌, ◌<◌, ◌≤◌, true, false, not, Some, Ok, length, slice_index, IfSome, MatchOption};
+ghost use Rattle.std.specs.Prelude.{◌≡◌, ℕ, ◌+◌, ◌*◌, ◌/◌, ◌%◌, ◌^◌, ◌<◌, ◌≤◌, true, false, not, Some, Ok, length, slice_index, IfSome, OnErr, MatchOption};
 ghost use Rattle.std.specs.List.{position_or_len};
 ghost use Rattle.slab_tables.specs.Content.{kept_at, cache_at, numbers};
 ghost use Rattle.slab_laws.specs.Records.{is_set};
@@ -9,7 +9,7 @@ ghost use Rattle.slab_laws.specs.Keeps.{Spares};
 ghost use Rattle.model_core.specs.Machine as machines;
 ghost use Rattle.model_core.specs.Machine.{Machine};
 ghost use Rattle.model_core.specs.Slabs.{cache_of, slab_of};
-ghost use Rattle.model_core.specs.CacheOperations.{hand_out};
+ghost use Rattle.model_core.specs.CacheOperations.{hand_out, take_step};
 ghost use Rattle.slab_laws.specs.Objects.{IsToUse, IsAllFull};
 ghost use Rattle.slab_core.specs.Objects.{standing};
 
@@ -17,6 +17,7 @@ use crate::Slabs;
 use crate::objects::{Object, record_place};
 use buddy_core::Buddy;
 use layout_core::laws::few_objects;
+use model_core::refusals::TakeRefusal;
 use slab_laws::changes::marked_shows;
 use slab_tables::{Cache, Kind};
 use space_core::{FRAME_BYTES, Space};
@@ -37,6 +38,43 @@ fn least_clear(bytes: &[u8]) -> u32
 }
 
 impl Slabs {
+    /// Takes an object of cache `c` of tenant `t`, and answers its first place: the least object that is not live of the first
+    /// partial slab, else of the first empty one, else of a new slab. The tenant's empty slabs are given back for a new slab
+    /// where a block is found for it only then.
+    ///
+    /// `NoCache` where the tenant has no such cache, else `NoFrames` where a new slab is needed and no block is found for it;
+    /// then nothing is changed.
+    pub fn take(
+        &mut self,
+        space: &mut Space,
+        buddy: &mut Buddy,
+        t: u8,
+        c: u32,
+    ) -> Result<u32, TakeRefusal>
+        requires tenant { t < length space.old.slots }
+        requires agree { Agree space.old buddy.old self.old }
+        ensures answer { (m : Machine) → ShowsMachine space.old buddy.old self.old t m → result ≡ (take_step self.old.top c m).answer }
+        ensures shows { (m : Machine) → ShowsMachine space.old buddy.old self.old t m
+            → ShowsMachine space.new buddy.new self.new t (take_step self.old.top c m).machine }
+        ensures spares { Spares t space.old space.new buddy.old buddy.new self.old self.new }
+        ensures agree { Agree space.new buddy.new self.new }
+        ensures refused { OnErr result ((space.new ≡ space.old) × ((buddy.new ≡ buddy.old) × (self.new ≡ self.old))) }
+    {
+        self.tables.facts();
+        self.steady(space, buddy, t);
+        let cache = *self.tables.cache(t, c).ok_or(TakeRefusal::NoCache)?;
+        if let Some((first, node)) = self.slab_to_use(space, buddy, t, c, &cache) {
+            return Ok(self.hand_out(space, buddy, t, c, &cache, first, node));
+        }
+        let (first, node) = self
+            .grow(space, buddy, t, c, &cache)
+            .ok_or(TakeRefusal::NoFrames)?;
+        // It has made one slab more.
+        let cache = *self.tables.cache(t, c).unwrap();
+        cache.layout.fits();
+        Ok(self.hand_out(space, buddy, t, c, &cache, first, node))
+    }
+
     /// First frame and node of the slab that a take uses: the first partial one, else the first empty one.
     fn slab_to_use(
         &self,

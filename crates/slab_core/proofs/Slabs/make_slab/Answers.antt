@@ -1,4 +1,4 @@
-use Rattle.std.proofs.Common.{◌≡◌, ℕ, ◌<◌, length, Some, None, sym, ap, ◌∙◌, subst, arith}
+use Rattle.std.proofs.Common.{◌≡◌, ℕ, ◌<◌, length, Some, None, refl, sym, ap, ◌∙◌, subst, arith}
 use Rattle.std.specs.Prelude.{option_map}
 use Rattle.std.proofs.lemmas.List.{length-set}
 use Rattle.model_core.specs.Blocks.{block, IsChoice, IsWithout}
@@ -8,7 +8,7 @@ use Rattle.slab_tables.specs.Content.{IsSlabs, numbers, kept_at, head_of}
 use Rattle.slab_tables.specs.Changes.{fresh_kept, with_slab}
 use Rattle.slab_core.specs.Calls.{IsConstructed}
 use Rattle.slab_core.proofs.Slabs.make_slab.Goals as goal
-use Rattle.slab_core.proofs.GrowOne.{has_node, choice_some, choice_none, choice_large, in_reach, few, vacant, fresh, node_within, kept_now, IsMade, made}
+use Rattle.slab_core.proofs.GrowOne.{has_node, choice_some, choice_none, choice_large, none_large, none_free, some_free, in_reach, few, vacant, fresh, node_within, kept_now, IsMade, made}
 
 pub returns-then-order-clause-chosen : goal.returns-then-order-clause-chosen
 returns-then-order-clause-chosen c = λ m h.
@@ -124,3 +124,24 @@ returns-clause-spares c = (given c).spares
 
 pub returns-clause-agree : goal.returns-clause-agree
 returns-clause-agree c = (given c).agree
+
+pub returns-clause-shows : goal.returns-clause-shows
+returns-clause-shows c = (given c).shows
+
+pub returns-then-order-clause-free : goal.returns-then-order-clause-free
+returns-then-order-clause-free c =
+    none_free c.args.buddy.now c.args.t (numbers c.args.cache.now).order
+    (none_large c.args.space.now c.args.buddy.now c.args.self.now c.args.t (numbers c.args.cache.now).order c.requires.agree
+    (omega (arith, c.if-order.true, c.order.ensures, c.order-order.ensures))) None refl
+
+pub returns-in_err-first-clause-free : goal.returns-in_err-first-clause-free
+returns-in_err-first-clause-free c =
+    none_free c.args.buddy.now c.args.t (numbers c.args.cache.now).order
+    (subst (λ k. IsWithout c.args.buddy.now.top (is_held (holding_of c.args.t c.args.buddy.now)) (taken_of (holding_of c.args.t c.args.buddy.now)) k) c.order-order.ensures c.in_err-first.ensures.refused.0)
+    c.from_residual.result c.from_residual.ensures
+
+pub returns-clause-free : goal.returns-clause-free
+returns-clause-free c =
+    some_free c.args.buddy.now c.args.t (numbers c.args.cache.now).order c.in_ok-first.first c.in_ok-first.ensures.done.0
+    (subst (λ k. IsChoice c.args.buddy.now.top (is_held (holding_of c.args.t c.args.buddy.now)) (taken_of (holding_of c.args.t c.args.buddy.now)) k (block c.in_ok-first.first c.in_ok-first.ensures.done.0)) c.order-order.ensures c.in_ok-first.ensures.done.1.0)
+    (c.in_ok-first.first, c.in-Some.node)

@@ -1,0 +1,128 @@
+-- A slab made by need: where no block is free, once the empty slabs are given back.
+use Rattle.std.proofs.Common.{◌≡◌, ℕ, ◌/◌, ◌^◌, ◌<◌, Bool, true, false, map, length, Option, Some, None, IsSome, refl, sym, ap, ◌∙◌, subst, arith}
+use Rattle.std.specs.Prelude.{option_map, is_some, MatchOption, IfSome, IfNone, if◌then◌else◌, ◌==◌}
+use Rattle.std.proofs.lemmas.Bool.{false≢true, eq-eqb, and_from}
+use Rattle.model_core.specs.Blocks.{Block, block, HasFrame, IsAligned, IsChoice, IsWithout}
+use Rattle.model_core.specs.Choice.{choose}
+use Rattle.model_core.specs.Machine.{Cache, Machine, holds, taken_in, beyond, choice}
+use Rattle.model_core.specs.Slabs.{cache_of, without_empty, reaped, by_need, choice_by_need}
+use Rattle.model_core.specs.Slabs as slabs
+use Rattle.model_core.specs.WellFormed.{RisesFrom}
+use Rattle.model_core.proofs.ByNeed.{by_need_keeps, by_need_found, by_need_reaps, by_need_stays}
+use Rattle.model_core.proofs.CacheSteps.{stands_by_need}
+use Rattle.model_core.proofs.Choosing.{choice_is_found}
+use Rattle.model_core.proofs.Chosen.{held_below}
+use Rattle.model_core.proofs.Lists.{find_in}
+use Rattle.space_core.specs.Content as spaces
+use Rattle.buddy_core.specs.Content as buddies
+use Rattle.slab_tables.specs.declared.cache.Cache as own
+use Rattle.slab_tables.specs.Content.{Content, IsSlabs, index_of_cache, head_of, numbers}
+use Rattle.slab_laws.specs.Shows.{frame_under, node_of, is_of_cache, ShowsMachine, Agree}
+use Rattle.slab_laws.specs.Steady.{IsSteady}
+use Rattle.slab_laws.specs.Changes.{IsReturned, IsGrown}
+use Rattle.slab_laws.specs.Objects.{IsAllFull}
+use Rattle.slab_laws.specs.Room.{HasRoom}
+use Rattle.slab_laws.proofs.Lookups.{some_none, found_key, in_found, keys_mapped}
+use Rattle.slab_laws.proofs.Reaped.{reaped_shows}
+use Rattle.slab_laws.proofs.Room.{IsVacant, some_choice}
+use Rattle.slab_laws.proofs.Steady.{within}
+use Rattle.slab_laws.proofs.Using.{take_makes}
+use Rattle.slab_core.specs.Calls.{idle_at, IsNew}
+use Rattle.slab_core.proofs.ReserveByNeed.{next_choice, no_choice}
+use Rattle.slab_core.proofs.ReturnMany.{one_idle, any_idle, idle_empty}
+
+-- The block that is found by need
+
+-- no block is larger than a slot
+pub choice_above : (top k : ℕ) (m : Machine) → top < k → choice top m k ≡ None
+unfolding choice
+choice_above top k m large = go (choose top (holds m) (taken_in m) (beyond m.slots) k) (choice_is_found top (holds m) (taken_in m) (beyond m.slots) k (held_below m.slots))
+  where
+    go : (o : Option Block) → MatchOption o (IsWithout top (holds m) (taken_in m) k) (IsChoice top (holds m) (taken_in m) k) → option_map (λ b. b.first) o ≡ None
+    go None none = refl
+    go (Some z) is = let small = is.0.0.0 in let enough = is.1 in absurd (omega arith)
+
+pub need_none : (top k : ℕ) (m : Machine) → choice top m k ≡ None → is_some (choice top (reaped m) k) ≡ false → choice_by_need top k m ≡ None
+need_none top k m none still = next_choice top k m (sym none) ∙ no_choice top k m (choice top (reaped m) k) (sym still)
+
+-- A cache of which no slab can be used stands as it was
+
+rises_by_need : (top k : ℕ) (m : Machine) → RisesFrom 0 (map (λ x. x.number) m.caches) → RisesFrom 0 (map (λ x. x.number) (by_need top k m).caches)
+unfolding reaped
+rises_by_need top k m rises =
+    by_need_keeps (λ n. RisesFrom 0 (map (λ x. x.number) n.caches)) top k m rises
+    (subst (RisesFrom 0) (sym (keys_mapped (λ x. x.number) without_empty m.caches (λ x. refl))) rises)
+
+module _ (r : spaces.Content) (b : buddies.Content) (s : Content) (t c k : ℕ) (w : IsSlabs s) (a : Agree r b s) (st : IsSteady r b s t)
+    (full : IsAllFull s t c) (m : Machine) (x : Cache) (h : ShowsMachine r b s t m) (ex : cache_of m c ≡ Some x) where
+  pub stands : cache_of (by_need s.top k m) c ≡ Some x
+  stands =
+      let there = stands_by_need s.top k x m (find_in (λ z. z.number == c) x m.caches ex).0 (take_makes r b s t c m x w a st h ex full) in
+      subst (λ i. cache_of (by_need s.top k m) i ≡ Some x) (found_key (λ z. z.number) c m.caches x ex)
+      (in_found (λ z. z.number) 0 x (by_need s.top k m).caches (rises_by_need s.top k m h.caches_rise) there)
+
+-- The new slab
+
+pub new_slab : (r r' : spaces.Content) (b b' : buddies.Content) (s s' : Content) (t c : ℕ) (cache : own.Cache) (f n : ℕ) → IsGrown r r' b b' s s' t c cache f n
+    → IsNew r' s' t c cache f n
+new_slab r r' b b' s s' t c cache f n g = record {
+  slab = record {
+    cached = g.made;
+    under = ap (λ top. node_of top r'.slots t f) g.top ∙ ap (frame_under s.top f) (g.slots (f / 2 ^ s.top)) ∙ g.under;
+    listed = ap (is_of_cache (index_of_cache t c) f) g.listed
+        ∙ and_from (head_of t c 2 / 3 == index_of_cache t c) (f == f) (eq-eqb (head_of t c 2 / 3) (index_of_cache t c) (omega arith)) (eq-eqb f f refl);
+  };
+  empty = ap (λ x. x.live) g.fresh;
+}
+
+pub some_new : (r r' : spaces.Content) (b b' : buddies.Content) (s s' : Content) (t c : ℕ) (cache : own.Cache) (o : Option (ℕ × ℕ))
+    → IfSome o (λ p. IsGrown r r' b b' s s' t c cache p.0 p.1) → IfSome o (λ p. IsNew r' s' t c cache p.0 p.1)
+some_new r r' b b' s s' t c cache None g = tt
+some_new r r' b b' s s' t c cache (Some p) g = new_slab r r' b b' s s' t c cache p.0 p.1 g
+
+-- what holds of parts that did not change holds of what they were
+pub unmoved : (P : spaces.Content → buddies.Content → Content → Type 0) (r r' : spaces.Content) (b b' : buddies.Content) (s s' : Content)
+    → (r' ≡ r) × ((b' ≡ b) × (s' ≡ s)) → P r' b' s' → P r b s
+unmoved P r r' b b' s s' e h = subst (λ x. P x b s) e.0 (subst (λ x. P r' x s) e.1.0 (subst (λ x. P r' b' x) e.1.1 h))
+
+-- All empty slabs given back
+module _ (r r' : spaces.Content) (b b' : buddies.Content) (s s' : Content) (t : ℕ) (w : IsSlabs s) (a : Agree r b s) (st : IsSteady r b s t)
+    (g : IsReturned r r' b b' s s' t (idle_at (λ i. true) r s t)) where
+  pub reaped_shown : (m : Machine) → ShowsMachine r b s t m → ShowsMachine r' b' s' t (reaped m)
+  reaped_shown m h = reaped_shows r r' b b' s s' t (idle_at (λ i. true) r s t) m g st h (idle_empty r b s t m w a h)
+
+  -- and a slab is made there, after which the machine has grown by need
+  module _ (r'' : spaces.Content) (b'' : buddies.Content) (s'' : Content) (c k : ℕ) (full : IsAllFull s t c) (o : Option (ℕ × ℕ)) where
+    pub grown_by_need : ((m : Machine) → ShowsMachine r b s t m → choice s.top m k ≡ None)
+        → ((m : Machine) → ShowsMachine r' b' s' t m → choice s'.top m k ≡ option_map (λ p. p.0) o)
+        → IfSome o (λ p. (m : Machine) (x : Cache) → ShowsMachine r' b' s' t m → cache_of m c ≡ Some x → ShowsMachine r'' b'' s'' t (slabs.grown p.0 x m))
+        → IfSome o (λ p. (m : Machine) (x : Cache) → ShowsMachine r b s t m → cache_of m c ≡ Some x → ShowsMachine r'' b'' s'' t (slabs.grown p.0 x (by_need s.top k m)))
+    grown_by_need none chosen shows = go o chosen shows
+      where
+        go : (o : Option (ℕ × ℕ)) → ((m : Machine) → ShowsMachine r' b' s' t m → choice s'.top m k ≡ option_map (λ p. p.0) o)
+            → IfSome o (λ p. (m : Machine) (x : Cache) → ShowsMachine r' b' s' t m → cache_of m c ≡ Some x → ShowsMachine r'' b'' s'' t (slabs.grown p.0 x m))
+            → IfSome o (λ p. (m : Machine) (x : Cache) → ShowsMachine r b s t m → cache_of m c ≡ Some x → ShowsMachine r'' b'' s'' t (slabs.grown p.0 x (by_need s.top k m)))
+        go None chosen shows = tt
+        go (Some p) chosen shows = λ m x h ex.
+            let there = reaped_shown m h in
+            let is : choice s.top (reaped m) k ≡ Some p.0 = ap (λ top. choice top (reaped m) k) (sym g.top) ∙ chosen (reaped m) there in
+            shows (by_need s.top k m) x (subst (ShowsMachine r' b' s' t) (sym (by_need_reaps s.top k p.0 m (none m h) is)) there)
+            (stands r b s t c k w a st full m x h ex)
+
+    pub chosen_by_need : ((m : Machine) → ShowsMachine r b s t m → choice s.top m k ≡ None)
+        → ((m : Machine) → ShowsMachine r' b' s' t m → choice s'.top m k ≡ option_map (λ p. p.0) o)
+        → (m : Machine) → ShowsMachine r b s t m → choice_by_need s.top k m ≡ option_map (λ p. p.0) o
+    chosen_by_need none chosen m h =
+        next_choice s.top k m (sym (none m h)) ∙ ap (λ top. choice top (reaped m) k) (sym g.top) ∙ chosen (reaped m) (reaped_shown m h)
+
+-- where a block was free, no slab is given back for it
+pub grown_at_once : (r r' : spaces.Content) (b b' : buddies.Content) (s s' : Content) (t c k f : ℕ)
+    → ((m : Machine) → ShowsMachine r b s t m → choice s.top m k ≡ Some f)
+    → ((m : Machine) (x : Cache) → ShowsMachine r b s t m → cache_of m c ≡ Some x → ShowsMachine r' b' s' t (slabs.grown f x m))
+    → (m : Machine) (x : Cache) → ShowsMachine r b s t m → cache_of m c ≡ Some x → ShowsMachine r' b' s' t (slabs.grown f x (by_need s.top k m))
+grown_at_once r r' b b' s s' t c k f chosen shows m x h ex =
+    subst (λ n. ShowsMachine r' b' s' t (slabs.grown f x n)) (sym (by_need_found s.top k f m (chosen m h))) (shows m x h ex)
+
+pub is_there : (P : Type 0) (o : Option (ℕ × ℕ)) → IsSome o → IfNone o P
+is_there P None some = absurd (false≢true some)
+is_there P (Some p) some = tt

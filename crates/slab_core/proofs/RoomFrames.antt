@@ -1,0 +1,74 @@
+-- Frames that are not taken, or lie in empty slabs.
+use Rattle.std.proofs.Common.{◌≡◌, ℕ, ◌+◌, ◌*◌, ◌/◌, ◌%◌, ◌^◌, ◌<◌, ◌≤◌, true, false, Some, refl, sym, ap, ◌∙◌, subst, arith}
+use Rattle.std.proofs.Math.Nat.{pow-le-pow_right}
+use Rattle.std.proofs.lemmas.Bool.{false≢true}
+use Rattle.model_core.specs.Blocks.{block, HasFrame}
+use Rattle.model_core.specs.declared.limits.TheConstants.{MOST_CACHES}
+use Rattle.space_core.specs.Content as spaces
+use Rattle.buddy_core.specs.Content as buddies
+use Rattle.klist_core.specs.Places.{place_at}
+use Rattle.slab_tables.specs.Content.{Content, IsSlabs, numbers, head_of}
+use Rattle.slab_laws.specs.Shows.{Agree}
+use Rattle.slab_laws.specs.Steady.{IsSteady}
+use Rattle.slab_laws.specs.Room.{IsIdle}
+use Rattle.slab_laws.proofs.Lookups.{some_same}
+use Rattle.slab_laws.proofs.Steady.{placed_as}
+use Rattle.slab_core.specs.Calls.{idle_at}
+use Rattle.slab_core.specs.Room.{IsUnusedFrame, IsUnusedTo}
+use Rattle.slab_core.proofs.ReturnMany.{idle_tells, idle_is}
+
+-- a block of an order that a superblock may have is small
+pub small_size : (k : ℕ) → k ≤ 8 → 2 ^ k ≤ 256
+small_size k small = let two : 0 < 2 = omega arith in pow-le-pow_right two small
+
+-- an empty slab begins at the first frame of the one in which an idle frame lies
+pub idle_begins : (r : spaces.Content) (s : Content) (t x : ℕ) (i : IsIdle r s t x) → idle_at (λ n. true) r s t i.first ≡ true
+idle_begins r s t x i =
+    let p = placed_as r s t i.number i.first i.node i.cache i.slab in
+    idle_is (λ n. true) r s t i.first i.node p.head i.first i.slab.under p.place refl i.empty
+
+module _ (r : spaces.Content) (b : buddies.Content) (s : Content) (t : ℕ) (st : IsSteady r b s t) where
+  -- a superblock has all of a taken block
+  pub order_small : IsSlabs s → (f k : ℕ) → buddies.taken_of (buddies.holding_of t b) f ≡ Some k → k ≤ 8
+  order_small w f k taken = omega (arith, (st.sound.placed f k taken).0.0, w.order)
+
+  -- the frames of an empty slab's block are idle
+  pub idle_in : (f k x : ℕ) → buddies.taken_of (buddies.holding_of t b) f ≡ Some k → HasFrame (block f k) x
+      → idle_at (λ n. true) r s t f ≡ true → IsIdle r s t x
+  idle_in f k x taken has idle =
+      let i = idle_tells (λ n. true) r s t f idle in
+      let there = st.listed f i.node i.head i.key i.under i.place in
+      let order : k ≡ (numbers there.1).order = some_same (sym taken ∙ (st.stands there.0 f i.node there.1 there.2).taken) in
+      record {
+        number = there.0;
+        first = f;
+        node = i.node;
+        cache = there.1;
+        slab = there.2;
+        empty = i.empty;
+        within = subst (λ j. HasFrame (block f j) x) order has;
+      }
+
+  module _ (f k frame : ℕ) (taken : buddies.taken_of (buddies.holding_of t b) f ≡ Some k) (has : HasFrame (block f k) frame) where
+    pub unused_to : idle_at (λ n. true) r s t f ≡ true → IsUnusedTo r b s t frame (f + 2 ^ k)
+    unused_to idle =
+        let low = has.0 in
+        record { some = has.1; unused = λ x from to is. idle_in f k x taken (omega arith, to) idle }
+
+    pub not_unused : idle_at (λ n. true) r s t f ≡ false → IsUnusedFrame r b s t frame → ⊥
+    not_unused busy unused =
+        let i = unused (f, k, taken, has) in
+        let same : i.first ≡ f =
+        st.sound.apart i.first (numbers i.cache).order f k frame (st.stands i.number i.first i.node i.cache i.slab).taken taken i.within has in
+        false≢true (sym busy ∙ ap (idle_at (λ n. true) r s t) (sym same) ∙ idle_begins r s t frame i)
+
+-- what stands in the list of the empty slabs of a tenant's cache is a taken block of the tenant
+pub listed_taken : (r : spaces.Content) (b : buddies.Content) (s : Content) (t c f n : ℕ) → IsSlabs s → Agree r b s → c < MOST_CACHES
+    → place_at s.lists.places n ≡ Some (head_of t c 2, f) → (k : ℕ) × (buddies.taken_of (buddies.holding_of t b) f ≡ Some k)
+listed_taken r b s t c f n w a less placed =
+    let kept = w.standing n (head_of t c 2) f placed in
+    let tenant : head_of t c 2 / 3 / MOST_CACHES ≡ t = omega arith in (
+      (numbers kept.0).order,
+      subst (λ u. buddies.taken_of (buddies.holding_of u b) f ≡ Some (numbers kept.0).order) tenant
+          (a.slabs n (head_of t c 2) f kept.0 placed kept.1).taken,
+    )

@@ -1,0 +1,8 @@
+use Rattle.slab_core.proofs.RoomCache.{IsSearched, left}
+use Rattle.slab_core.proofs.Slabs.has_room_in_cache.Given as goal
+
+abbrev pub invariant-loop-next : goal.invariant-loop-next
+invariant-loop-next l = IsSearched l.space l.buddy l.self l.t l.c l.k l.done l.next
+
+abbrev pub decreases-loop-next : goal.decreases-loop-next
+decreases-loop-next l = left l.next

@@ -1,0 +1,97 @@
+use Rattle.std.proofs.Common.{◌≡◌, true, false, refl, subst, sym, ◌∙◌}
+use Rattle.std.specs.Prelude.{is_some}
+use Rattle.std.proofs.lemmas.Bool.{false≢true}
+use Rattle.model_core.specs.Machine.{Machine, choice}
+use Rattle.model_core.specs.Operations.{alloc_step}
+use Rattle.model_core.specs.Slabs.{reaped}
+use Rattle.slab_tables.specs.Content.{IsSlabs}
+use Rattle.slab_laws.specs.Shows.{ShowsMachine}
+use Rattle.slab_laws.specs.Keeps.{Spares}
+use Rattle.slab_laws.specs.Changes.{IsReturned}
+use Rattle.slab_laws.specs.Room.{HasRoom}
+use Rattle.slab_core.specs.Calls.{idle_at}
+use Rattle.slab_core.proofs.ReturnMany.{spares_twice}
+use Rattle.slab_core.proofs.ReserveByNeed.{found_choice, found_step, free_room, next_choice, no_choice, refused_step, is_there, IsServedThen, served_then}
+use Rattle.slab_core.proofs.Slabs.reserve_by_need.Goals as goal
+
+-- found at once
+pub returns-in-Some-clause-answer : goal.returns-in-Some-clause-answer
+returns-in-Some-clause-answer c = λ m h. found_choice c.args.self.now.top c.args.k m c.in-Some.first (c.in-Some.ensures.answer m h)
+
+pub returns-in-Some-clause-shows : goal.returns-in-Some-clause-shows
+returns-in-Some-clause-shows c = λ m h.
+    subst (ShowsMachine c.args.space.now c.reserve.new.buddy c.args.self.now c.args.t)
+    (sym (found_step c.args.self.now.top c.args.k m c.reaps_by_need.ensures.alloc c.requires.order c.in-Some.first (c.in-Some.ensures.answer m h)))
+    (c.in-Some.ensures.shows m h)
+
+pub returns-in-Some-clause-room : goal.returns-in-Some-clause-room
+returns-in-Some-clause-room c =
+    let found : true ≡ true = refl in (
+      λ e. free_room c.args.space.now c.args.buddy.now c.args.self.now c.args.t c.args.k c.requires.agree (c.in-Some.ensures.free.0 e),
+      λ room. found,
+    )
+
+-- not found after all empty slabs are given back either
+still_none : (c : goal.Then-not-would_fit) (m : Machine) → ShowsMachine c.args.space.now c.args.buddy.now c.args.self.now c.args.t m
+    → false ≡ is_some (choice c.args.self.now.top (reaped m) c.args.k)
+still_none c m h =
+    sym c.if-not-would_fit.true
+    ∙ c.would_fit.ensures.answer m (subst (λ b. ShowsMachine c.args.space.now b c.args.self.now c.args.t m) (sym c.in_default.ensures.refused) h)
+
+pub returns-then-not-would_fit-clause-answer : goal.returns-then-not-would_fit-clause-answer
+returns-then-not-would_fit-clause-answer c = λ m h.
+    sym (next_choice c.args.self.now.top c.args.k m (c.in_default.ensures.answer m h)
+    ∙ no_choice c.args.self.now.top c.args.k m (choice c.args.self.now.top (reaped m) c.args.k) (still_none c m h))
+
+pub returns-then-not-would_fit-clause-shows : goal.returns-then-not-would_fit-clause-shows
+returns-then-not-would_fit-clause-shows c = λ m h.
+    subst (λ b. ShowsMachine c.args.space.now b c.args.self.now c.args.t (alloc_step c.args.self.now.top c.args.k m).machine) (sym c.in_default.ensures.refused)
+    (subst (ShowsMachine c.args.space.now c.args.buddy.now c.args.self.now c.args.t)
+    (sym (refused_step c.args.self.now.top c.args.k m c.reaps_by_need.ensures.alloc c.requires.order (c.in_default.ensures.answer m h) (still_none c m h))) h)
+
+pub returns-then-not-would_fit-clause-room : goal.returns-then-not-would_fit-clause-room
+returns-then-not-would_fit-clause-room c = (
+  λ e. absurd (false≢true e),
+  λ room. sym c.if-not-would_fit.true
+      ∙ c.would_fit.ensures.room.1 (subst (λ b. HasRoom c.args.space.now b c.args.self.now c.args.t c.args.k) (sym c.in_default.ensures.refused) room),
+)
+
+-- found once they are given back
+gone : (c : goal.After-reserve-2) → IsReturned c.args.space.now c.give_back_all.new.space c.args.buddy.now c.give_back_all.new.buddy
+    c.args.self.now c.give_back_all.new.self c.args.t (idle_at (λ i. true) c.args.space.now c.args.self.now c.args.t)
+gone c =
+    subst (λ b. IsReturned c.args.space.now c.give_back_all.new.space b c.give_back_all.new.buddy c.args.self.now c.give_back_all.new.self c.args.t
+    (idle_at (λ i. true) c.args.space.now c.args.self.now c.args.t)) c.in_default.ensures.refused c.give_back_all.ensures.returned
+
+room : (c : goal.After-reserve-2) → HasRoom c.args.space.now c.args.buddy.now c.args.self.now c.args.t c.args.k
+room c =
+    subst (λ b. HasRoom c.args.space.now b c.args.self.now c.args.t c.args.k) c.in_default.ensures.refused
+    (c.would_fit.ensures.room.0 c.if-not-would_fit.false)
+
+served : (c : goal.After-reserve-2) → IsServedThen c.args.space.now c.give_back_all.new.space c.args.buddy.now c.give_back_all.new.buddy
+    c.args.self.now c.give_back_all.new.self c.args.t c.args.k c.steady.ensures (gone c) c.reserve-2.new.buddy c.reserve-2.result
+served c =
+    served_then c.args.space.now c.give_back_all.new.space c.args.buddy.now c.give_back_all.new.buddy c.args.self.now c.give_back_all.new.self
+    c.args.t c.args.k c.steady.ensures (gone c) (subst IsSlabs c.self.view_is c.facts.ensures) c.requires.agree c.give_back_all.ensures.agree
+    c.requires.order c.reaps_by_need.ensures.alloc c.reaped_shows.ensures (room c) c.in_default.ensures.answer c.reserve-2.new.buddy
+    c.reserve-2.result c.reserve-2.ensures.answer c.reserve-2.ensures.shows c.reserve-2.ensures.free
+
+pub returns-clause-answer : goal.returns-clause-answer
+returns-clause-answer c = (served c).answer
+
+pub returns-clause-shows : goal.returns-clause-shows
+returns-clause-shows c = (served c).shows
+
+pub returns-clause-room : goal.returns-clause-room
+returns-clause-room c = (λ e. room c, λ r. (served c).some)
+
+pub returns-clause-refused : goal.returns-clause-refused
+returns-clause-refused c = is_there c.reserve-2.result _ (served c).some
+
+pub returns-clause-spares : goal.returns-clause-spares
+returns-clause-spares c =
+    spares_twice c.args.space.now c.give_back_all.new.space c.give_back_all.new.space c.args.buddy.now c.give_back_all.new.buddy c.reserve-2.new.buddy
+    c.args.self.now c.give_back_all.new.self c.give_back_all.new.self c.args.t
+    (subst (λ b. Spares c.args.t c.args.space.now c.give_back_all.new.space b c.give_back_all.new.buddy c.args.self.now c.give_back_all.new.self)
+    c.in_default.ensures.refused c.give_back_all.ensures.spares)
+    c.reserve-2.ensures.spares

@@ -1,0 +1,76 @@
+//! Page blocks reserved beside slabs, by need out of the frames of empty slabs.
+
+ghost use Rattle.std.specs.Prelude.{◌≡◌, ◌≤◌, ◌<◌, ◌↔◌, length, IsSome, IfSome, IfNone};
+ghost use Rattle.model_core.specs.Blocks.{block};
+ghost use Rattle.model_core.specs.Machine.{Machine, choice};
+ghost use Rattle.model_core.specs.Slabs.{choice_by_need};
+ghost use Rattle.model_core.specs.Operations.{with_block, alloc_step};
+ghost use Rattle.slab_laws.specs.Shows.{ShowsMachine, Agree};
+ghost use Rattle.slab_laws.specs.Keeps.{Spares};
+ghost use Rattle.slab_laws.specs.Room.{HasRoom};
+ghost use Rattle.slab_core.specs.Room.{HasFree};
+
+use crate::Slabs;
+use buddy_core::Buddy;
+use space_core::Space;
+
+impl Slabs {
+    /// Takes a page block of order `k` for tenant `t`, and answers its first frame. Where a block is found only once all empty
+    /// slabs of the tenant are given back, they are given back first.
+    ///
+    /// None, and nothing changed, where none is found then either.
+    pub fn reserve_by_need(
+        &mut self,
+        space: &mut Space,
+        buddy: &mut Buddy,
+        t: u8,
+        k: u8,
+    ) -> Option<u32>
+        requires tenant { t < length space.old.slots }
+        requires order { k ≤ self.old.top }
+        requires agree { Agree space.old buddy.old self.old }
+        ensures answer { (m : Machine) → ShowsMachine space.old buddy.old self.old t m → result ≡ choice_by_need self.old.top k m }
+        ensures shows { (m : Machine) → ShowsMachine space.old buddy.old self.old t m
+            → ShowsMachine space.new buddy.new self.new t (alloc_step self.old.top k m).machine }
+        ensures room { IsSome result ↔ HasRoom space.old buddy.old self.old t k }
+        ensures spares { Spares t space.old space.new buddy.old buddy.new self.old self.new }
+        ensures agree { Agree space.new buddy.new self.new }
+        ensures refused { IfNone result ((space.new ≡ space.old) × ((buddy.new ≡ buddy.old) × (self.new ≡ self.old))) }
+    {
+        self.tables.facts();
+        self.steady(space, buddy, t);
+        slab_laws::changes::reaped_shows();
+        model_core::laws::reaps_by_need();
+        if let Some(first) = self.reserve(space, buddy, t, k) {
+            return Some(first);
+        }
+        if !self.would_fit(space, buddy, t, k) {
+            return None;
+        }
+        self.give_back_all(space, buddy, t);
+        self.reserve(space, buddy, t, k)
+    }
+
+    /// Takes a page block of order `k` for tenant `t` out of a free block, and answers its first frame. None, and nothing
+    /// changed, where no block is free that is large enough: no slab is given back for it.
+    fn reserve(&self, space: &Space, buddy: &mut Buddy, t: u8, k: u8) -> Option<u32>
+        requires tenant { t < length space.now.slots }
+        requires order { k ≤ self.now.top }
+        requires agree { Agree space.now buddy.old self.now }
+        ensures answer { (m : Machine) → ShowsMachine space.now buddy.old self.now t m → result ≡ choice self.now.top m k }
+        ensures shows { IfSome result (λ f. (m : Machine) → ShowsMachine space.now buddy.old self.now t m
+            → ShowsMachine space.now buddy.new self.now t (with_block (block f k) m)) }
+        ensures free { IsSome result ↔ HasFree buddy.old t k }
+        ensures spares { Spares t space.now space.now buddy.old buddy.new self.now self.now }
+        ensures agree { Agree space.now buddy.new self.now }
+        ensures refused { IfNone result (buddy.new ≡ buddy.old) }
+    {
+        self.steady(space, buddy, t);
+        buddy.laws();
+        slab_laws::meets::taken_meets();
+        slab_laws::changes::reserved_shows();
+        model_core::laws::choices_meet();
+        model_core::block_laws::reserved_is_untaken();
+        buddy.reserve(t, k)
+    }
+}

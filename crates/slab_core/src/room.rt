@@ -1,0 +1,156 @@
+//! Whether there is room for a block, empty slabs left out of account.
+
+ghost use Rattle.std.specs.Prelude.{◌≡◌, ◌↔◌, ℕ, ◌-◌, ◌*◌, ◌^◌, ◌<◌, ◌≤◌, true, is_some, length, MatchOption};
+ghost use Rattle.model_core.specs.Blocks.{around};
+ghost use Rattle.model_core.specs.Machine.{Machine, choice};
+ghost use Rattle.model_core.specs.Slabs.{reaped};
+ghost use Rattle.model_core.specs.declared.limits.TheConstants.{MOST_CACHES, MOST_ORDER};
+ghost use Rattle.slab_laws.specs.Room.{HasRoom};
+ghost use Rattle.slab_laws.specs.Shows.{ShowsMachine, Agree};
+ghost use Rattle.slab_core.specs.Calls.{idle_at};
+ghost use Rattle.slab_core.specs.Room.{HasFree, IsUnusedFrame, IsUnusedTo, IsUnusedBlock, HasRoomAround, HasRoomInSlabs};
+
+use crate::Slabs;
+use buddy_core::Buddy;
+use model_core::limits::MOST_CACHES;
+use slab_laws::meets::{agree_steady, room_meets};
+use slab_tables::Kind;
+use space_core::Space;
+
+/// Whether tenant `t` has a free block of order `k` or more.
+fn has_free(buddy: &Buddy, t: u8, k: u8) -> bool
+    requires { t < length buddy.now.tenants }
+    ensures { (result ≡ true) ↔ HasFree buddy.now t k }
+{
+    buddy.laws();
+    for order in k..=buddy.order() {
+        if buddy.free_count(t, order) > 0 {
+            return true;
+        }
+    }
+    false
+}
+
+/// The first frame of the aligned block of `2^k` frames that has the frame.
+fn first_around(frame: u32, k: u8) -> u32
+    requires { k ≤ MOST_ORDER }
+    ensures { result ≡ (around frame k).first }
+{
+    frame >> k << k
+}
+
+impl Slabs {
+    /// Whether a block of order `k` would be found for tenant `t` once all its empty slabs were given back.
+    ///
+    /// Where a block is free that is large enough, or no slab is empty, counts and the heads of lists tell. Else only the
+    /// frames of the blocks of order `k` in which empty slabs begin are looked at.
+    pub fn would_fit(&self, space: &Space, buddy: &Buddy, t: u8, k: u8) -> bool
+        requires tenant { t < length space.now.slots }
+        requires order { k ≤ self.now.top }
+        requires agree { Agree space.now buddy.now self.now }
+        ensures room { (result ≡ true) ↔ HasRoom space.now buddy.now self.now t k }
+        ensures answer { (m : Machine) → ShowsMachine space.now buddy.now self.now t m
+            → result ≡ is_some (choice self.now.top (reaped m) k) }
+    {
+        self.tables.facts();
+        space.laws();
+        buddy.laws();
+        agree_steady();
+        room_meets();
+        has_free(buddy, t, k) || self.has_room_in_slabs(space, buddy, t, k)
+    }
+
+    /// Whether there is room for a block of order `k` around an empty slab of tenant `t`.
+    fn has_room_in_slabs(&self, space: &Space, buddy: &Buddy, t: u8, k: u8) -> bool
+        requires tenant { t < length space.now.slots }
+        requires order { k ≤ self.now.top }
+        requires agree { Agree space.now buddy.now self.now }
+        ensures { (result ≡ true) ↔ HasRoomInSlabs space.now buddy.now self.now t k }
+    {
+        for c in 0..u32::from(MOST_CACHES) {
+            if self.has_room_in_cache(space, buddy, t, c, k) {
+                return true;
+            }
+        }
+        false
+    }
+
+    /// Whether there is room for a block of order `k` around an empty slab of cache `c` of tenant `t`.
+    fn has_room_in_cache(&self, space: &Space, buddy: &Buddy, t: u8, c: u32, k: u8) -> bool
+        requires tenant { t < length space.now.slots }
+        requires cache { c < MOST_CACHES }
+        requires order { k ≤ self.now.top }
+        requires agree { Agree space.now buddy.now self.now }
+        ensures { (result ≡ true) ↔ HasRoomAround space.now buddy.now self.now t c k }
+    {
+        self.tables.facts();
+        self.steady(space, buddy, t);
+        let mut next = self.tables.first(t, c, Kind::Empty);
+        // Slabs that begin before this frame are done with, so that no block is walked twice for one cache.
+        let mut done = 0;
+        while let Some((slab, node)) = next {
+            if slab >= done {
+                let first = first_around(slab, k);
+                if self.is_unused_block(space, buddy, t, first, k) {
+                    return true;
+                }
+                done = first + (1 << k);
+            }
+            next = self.tables.lists().after(node);
+        }
+        false
+    }
+
+    /// Whether no frame of the block of order `k` at frame `first` of tenant `t` is taken, unless by an empty slab.
+    fn is_unused_block(&self, space: &Space, buddy: &Buddy, t: u8, first: u32, k: u8) -> bool
+        requires tenant { t < length space.now.slots }
+        requires first { first < 65536 }
+        requires order { k ≤ self.now.top }
+        requires agree { Agree space.now buddy.now self.now }
+        ensures { (result ≡ true) ↔ IsUnusedBlock space.now buddy.now self.now t first k }
+    {
+        self.tables.facts();
+        let end = first + (1 << k);
+        let mut frame = first;
+        while frame < end {
+            let Some(next) = self.past_unused(space, buddy, t, frame) else {
+                return false;
+            };
+            frame = next;
+        }
+        true
+    }
+
+    /// A frame up to which no frame of tenant `t` from this one on is taken, unless by an empty slab. None where this one is
+    /// taken otherwise.
+    fn past_unused(&self, space: &Space, buddy: &Buddy, t: u8, frame: u32) -> Option<u32>
+        requires tenant { t < length space.now.slots }
+        requires frame { frame < 2 ^ 32 - 1 }
+        requires agree { Agree space.now buddy.now self.now }
+        ensures { MatchOption result (IsUnusedFrame space.now buddy.now self.now t frame → ⊥)
+            (λ next. IsUnusedTo space.now buddy.now self.now t frame next) }
+    {
+        self.tables.facts();
+        self.steady(space, buddy, t);
+        let Some((first, order)) = buddy.block_of(t, frame) else {
+            return Some(frame + 1);
+        };
+        if self.is_idle(space, t, first) {
+            Some(first + (1 << order))
+        } else {
+            None
+        }
+    }
+
+    /// Whether an empty slab begins at a frame of tenant `t`.
+    fn is_idle(&self, space: &Space, t: u8, frame: u32) -> bool
+        requires tenant { t < length space.now.slots }
+        requires nodes { length self.now.lists.places ≡ length space.now.owners * 2 ^ self.now.top }
+        ensures { result ≡ idle_at (λ i. true) space.now self.now t frame }
+    {
+        match self.node(space, t, frame) {
+            None => false,
+            Some(node) => self.tables.place_of(node).is_some() && self.tables.kept(node).live == 0,
+        }
+    }
+}
