@@ -34,4 +34,6 @@ pub mod Constructed
 pub mod ConstructedRuns
 pub mod BytesStay
 pub mod SlabsLeave
+pub mod Vacant
+pub mod Room
 mod Witnesses

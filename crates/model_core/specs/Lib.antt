@@ -14,3 +14,4 @@ pub mod WellFormed
 pub mod Laws
 pub mod Owners
 pub mod Reports
+pub mod Room

@@ -1,6 +1,7 @@
 //! The laws of the machine, each the contract of a function that does nothing: call it where a proof needs the law.
 
 ghost use Rattle.model_core.specs.Layouts.{LayoutsFit};
+ghost use Rattle.model_core.specs.Room.{RoomIsPromised, AllocIsPromised, TakeIsPromised};
 ghost use Rattle.model_core.specs.Laws.{ChoiceIsUntaken, ChoicesMeet, AllocReaps, TakeReaps, RefusalsStay, KeepsWellFormed, RunsWellFormed, TakenApart, TakenSound, AllocTakes, FreeReleases, GrowthTakes, ReapReleases, ObjectsApart, RecordsFree, ConstructedFirst, WritesAlone, SlabsLeaveZeroes, ReleasedBytesStay};
 
 /// For each size and alignment the layout fits at each of its colour offsets.
@@ -63,4 +64,13 @@ pub fn bytes_stay()
     ensures writes { WritesAlone }
     ensures slabs { SlabsLeaveZeroes }
     ensures blocks { ReleasedBytesStay }
+{}
+
+/// Where fewer frames are taken, empty slabs not counted, than the held slots have aligned blocks of some order, a block of
+/// that order is never refused, however the taken blocks lie: neither a page block nor an object of a cache whose slabs have
+/// that order.
+pub fn room_is_promised()
+    ensures block { RoomIsPromised }
+    ensures alloc { AllocIsPromised }
+    ensures take { TakeIsPromised }
 {}

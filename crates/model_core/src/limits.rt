@@ -17,3 +17,6 @@ pub const MOST_CACHES: u8 = 32;
 
 /// A read or a write has at most this many bytes, and at least one.
 pub const MOST_BYTES: usize = 64;
+
+/// The pattern of a cache has at most this many bytes, and at least one.
+pub const MOST_PATTERN: usize = 16;

@@ -24,7 +24,7 @@ use Rattle.slab_laws.specs.Objects.{IsAllFull}
 use Rattle.slab_laws.specs.Room.{HasRoom}
 use Rattle.slab_laws.proofs.Lookups.{some_none, found_key, in_found, keys_mapped}
 use Rattle.slab_laws.proofs.Reaped.{reaped_shows}
-use Rattle.slab_laws.proofs.Room.{IsVacant, some_choice}
+use Rattle.model_core.proofs.Vacant.{IsVacant, some_choice}
 use Rattle.slab_laws.proofs.Steady.{within}
 use Rattle.slab_laws.proofs.Using.{take_makes}
 use Rattle.slab_core.specs.Calls.{idle_at, IsNew}

@@ -23,7 +23,7 @@ use Rattle.slab_laws.specs.Keeps.{Spares}
 use Rattle.slab_laws.specs.Steady.{IsSteady}
 use Rattle.slab_laws.specs.Laws.{TakenMeets, ReservedShows}
 use Rattle.slab_laws.proofs.Lookups.{some_none}
-use Rattle.slab_laws.proofs.Room.{IsVacant, some_choice}
+use Rattle.model_core.proofs.Vacant.{IsVacant, some_choice}
 use Rattle.slab_laws.proofs.Steady.{within}
 use Rattle.slab_core.specs.Room.{HasFree}
 use Rattle.slab_core.proofs.Building.{same_here}

@@ -6,7 +6,8 @@ use Rattle.std.proofs.lemmas.Nat.{pow_pos}
 use Rattle.std.proofs.lemmas.Bool.{cases_lt}
 use Rattle.model_core.specs.Blocks.{around}
 use Rattle.model_core.specs.declared.limits.TheConstants.{MOST_CACHES}
-use Rattle.klist_core.specs.Places.{place_at, IsEmpty, IsFirst, NoneAbove, IsNext}
+use Rattle.model_core.proofs.Bridge.{aligned_first}
+use Rattle.klist_core.specs.Places.{place_at, NoneAbove, IsNext}
 use Rattle.space_core.specs.Content as spaces
 use Rattle.buddy_core.specs.Content as buddies
 use Rattle.slab_tables.specs.Content.{Content, IsSlabs, head_of}
@@ -15,12 +16,15 @@ use Rattle.slab_laws.specs.Steady.{IsSteady}
 use Rattle.slab_core.specs.Room.{IsUnusedBlock, HasRoomAround}
 use Rattle.slab_core.proofs.ObjectFinding.{around_frame}
 use Rattle.slab_core.proofs.RoomFrames.{listed_taken}
-use Rattle.model_core.proofs.Bridge.{aligned_first}
 
 -- how far the search has to go yet
 abbrev pub left : Option (ℕ × ℕ) → ℕ
 left None = 0
 left (Some p) = 65536 - p.0
+
+-- what follows a place in its list
+abbrev pub Follows : List (Option (ℕ × ℕ)) → Option (ℕ × ℕ) → ℕ × ℕ → Type 0
+Follows places next p = MatchOption next (NoneAbove places p.0 p.1) (λ q. IsNext places p.0 p.1 q.0 q.1)
 
 module _ (r : spaces.Content) (b : buddies.Content) (s : Content) (t c k : ℕ) where
   -- there is no room around the cache's empty slabs that begin before the frame
@@ -37,15 +41,6 @@ module _ (r : spaces.Content) (b : buddies.Content) (s : Content) (t c k : ℕ) 
     pub none : IsNoneBefore done
     pub rest : MatchOption next (HasRoomAround r b s t c k → ⊥) (λ p. IsNextSlab p.0 p.1)
 
-  pub begins : (next : Option (ℕ × ℕ)) → MatchOption next (IsEmpty s.lists.places (head_of t c 2)) (λ p. IsFirst s.lists.places (head_of t c 2) p.0 p.1)
-      → IsSearched 0 next
-  begins next first = record { none = λ f n placed before. absurd (omega arith); rest = go next first }
-    where
-      go : (o : Option (ℕ × ℕ)) → MatchOption o (IsEmpty s.lists.places (head_of t c 2)) (λ p. IsFirst s.lists.places (head_of t c 2) p.0 p.1)
-          → MatchOption o (HasRoomAround r b s t c k → ⊥) (λ p. IsNextSlab p.0 p.1)
-      go None empty = λ h. empty h.node h.first h.empty
-      go (Some p) is = record { placed = is.here; none = λ f n placed before. let least = is.least n f placed in absurd (omega arith) }
-
   pub next_is : (done : ℕ) (next : Option (ℕ × ℕ)) (slab node : ℕ) → IsSearched done next → next ≡ Some (slab, node) → IsNextSlab slab node
   next_is done next slab node is e = subst (λ o. MatchOption o (HasRoomAround r b s t c k → ⊥) (λ p. IsNextSlab p.0 p.1)) e is.rest
 
@@ -55,15 +50,13 @@ module _ (r : spaces.Content) (b : buddies.Content) (s : Content) (t c k : ℕ) 
 
     -- what follows the slab in its list
     abbrev pub IsAfter : Option (ℕ × ℕ) → Type 0
-    IsAfter next = MatchOption next (NoneAbove s.lists.places (head_of t c 2) slab) (λ q. IsNext s.lists.places (head_of t c 2) slab q.0 q.1)
+    IsAfter next = Follows s.lists.places next (head_of t c 2, slab)
 
     pub after_is : (places : List (Option (ℕ × ℕ))) (next : Option (ℕ × ℕ)) → places ≡ s.lists.places
-        → IfSome (place_at places node) (λ p. MatchOption next (NoneAbove places p.0 p.1) (λ q. IsNext places p.0 p.1 q.0 q.1)) → IsAfter next
+        → IfSome (place_at places node) (Follows places next) → IsAfter next
     after_is places next same after =
-        let there : IfSome (place_at s.lists.places node) (λ p. MatchOption next (NoneAbove s.lists.places p.0 p.1) (λ q. IsNext s.lists.places p.0 p.1 q.0 q.1)) =
-        subst (λ (xs : List (Option (ℕ × ℕ))). IfSome (place_at xs node) (λ p. MatchOption next (NoneAbove xs p.0 p.1) (λ q. IsNext xs p.0 p.1 q.0 q.1))) same after in
-        subst (λ (o : Option (ℕ × ℕ)). IfSome o (λ p. MatchOption next (NoneAbove s.lists.places p.0 p.1) (λ q. IsNext s.lists.places p.0 p.1 q.0 q.1)))
-        here.placed there
+        subst (λ (o : Option (ℕ × ℕ)). IfSome o (Follows s.lists.places next)) here.placed
+        (subst (λ (xs : List (Option (ℕ × ℕ))). IfSome (place_at xs node) (Follows xs next)) same after)
 
     pub left_less : (next : Option (ℕ × ℕ)) → slab < 65536 → IsAfter next → left next < left (Some (slab, node))
     left_less None small after = omega arith

@@ -16,7 +16,7 @@ use Rattle.slab_tables.specs.Content.{Content, IsSlabs, numbers}
 use Rattle.slab_laws.specs.Shows.{Agree}
 use Rattle.slab_laws.specs.Steady.{IsSteady}
 use Rattle.slab_laws.specs.Room.{IsIdle, HasRoom}
-use Rattle.slab_laws.proofs.Room.{IsVacant, some_choice}
+use Rattle.model_core.proofs.Vacant.{IsVacant, some_choice}
 use Rattle.slab_core.specs.Room.{HasFree, IsUnusedBlock, HasRoomInSlabs}
 use Rattle.slab_core.proofs.ObjectFinding.{around_frame}
 use Rattle.slab_core.proofs.ReturnMany.{idle_listed}

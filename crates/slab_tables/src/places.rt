@@ -35,17 +35,47 @@ pub(crate) fn node_at(order: u8, superblock: u16, i: u32) -> u32
     (u32::from(superblock) << order) + i
 }
 
+/// How many nodes are looked at for one near another, at most.
+const MOST_LOOKS: u32 = 32;
+
 /// Moves the node, which stands in a list, into the list `head` under the same key. Nothing is done where it stands there.
-pub(crate) fn relist(lists: &mut Lists, head: u32, node: u32, key: u32)
+///
+/// Which node it follows there is looked for among `node - step`, `node - 2 * step` and so on, as far as `room` below: `step` and
+/// `room` decide the cost alone.
+pub(crate) fn relist(lists: &mut Lists, head: u32, node: u32, key: u32, step: u32, room: u32)
     requires head { head < lists.old.heads }
+    requires step { 0 < step }
+    requires room { room ≤ node }
     requires placed { (h : ℕ) × (place_at lists.old.places node ≡ Some (h, key)) }
     requires alone { (i : ℕ) → place_at lists.old.places i ≡ Some (head, key) → i ≡ node }
     ensures { lists.new ≡ inserted lists.old head node key }
 {
     if lists.place_of(node) != Some((head, key)) {
+        let near = near_below(lists, head, node, step, room);
         lists.remove(node);
-        lists.insert(head, node, key);
+        lists.insert_near(head, node, key, near);
     }
+}
+
+/// The first of `node - step`, `node - 2 * step` and so on that stands in the list; `node` itself where none is found. It looks
+/// as far as `room` below, but only at an eighth as many nodes as the list has: a short list is walked sooner.
+///
+/// A hint for [`Lists::insert_near`], which needs none to be right.
+fn near_below(lists: &Lists, head: u32, node: u32, step: u32, room: u32) -> u32
+    requires head { head < lists.now.heads }
+    requires node { node < length lists.now.places }
+    requires step { 0 < step }
+    requires room { room ≤ node }
+    ensures { result < length lists.now.places }
+{
+    let looks = (room / step).min(lists.len(head) / 8).min(MOST_LOOKS);
+    for i in 0..looks {
+        let below = node - (i + 1) * step;
+        if matches!(lists.place_of(below), Some((list, _)) if list == head) {
+            return below;
+        }
+    }
+    node
 }
 
 /// Takes all nodes out of the list.

@@ -126,11 +126,11 @@ command_of-at_row (row ∷ rows) word arguments =
 module _ {D : Type 0} (none : D) where
   at_row-admin : (found : Row AdminCommand → D) → All (λ row. at_row admin_rows row.word found none ≡ found row) admin_rows
   at_row-admin found = All-from_recursion (λ (row : Row AdminCommand). at_row admin_rows row.word found none ≡ found row) admin_rows
-      (refl, (refl, (refl, (refl, tt))))
+      (refl, (refl, (refl, (refl, (refl, tt)))))
 
   at_row-tenant : (found : Row Command → D) → All (λ row. at_row tenant_rows row.word found none ≡ found row) tenant_rows
   at_row-tenant found = All-from_recursion (λ (row : Row Command). at_row tenant_rows row.word found none ≡ found row) tenant_rows
-      (refl, (refl, (refl, (refl, tt))))
+      (refl, (refl, (refl, (refl, (refl, (refl, (refl, (refl, (refl, (refl, tt))))))))))
 
   -- no two rows of a table have one word
   at_row-found : (actor : Actor) (word : List ℕ) (row : Row (CommandOf actor)) (found : Row (CommandOf actor) → D)

@@ -1,4 +1,5 @@
 mod CaseLemmas
 mod LineLemmas
+mod ReportLemmas
 pub mod TextLemmas
 mod WordLemmas

@@ -4,14 +4,14 @@ use Rattle.std.specs.Char.{is_ascii_digit}
 use Rattle.arrayvec.specs.ArrayVec.{ArrayVec}
 use Rattle.hex.specs.Hex.{decode_of}
 use Rattle.hex.specs.declared.error.FromHexError.{FromHexError}
-use Rattle.model_core.specs.declared.limits.TheConstants.{MOST_BYTES}
+use Rattle.model_core.specs.declared.limits.TheConstants.{MOST_BYTES, MOST_PATTERN}
 use Rattle.words_core.specs.Numbers.{number_of}
 use Rattle.words_core.specs.declared.event.Event.{Event}
 use Rattle.words_core.specs.declared.event.Event.TheVariants.{Admin, Tenant}
 use Rattle.words_core.specs.declared.event.AdminCommand.{AdminCommand}
-use Rattle.words_core.specs.declared.event.AdminCommand.TheVariants.{Grant, TakeBack, Reset, Pool}
+use Rattle.words_core.specs.declared.event.AdminCommand.TheVariants.{Grant, TakeBack, Reset, Move, Pool}
 use Rattle.words_core.specs.declared.event.Command.{Command}
-use Rattle.words_core.specs.declared.event.Command.TheVariants.{Alloc, Free, Read, Write}
+use Rattle.words_core.specs.declared.event.Command.TheVariants.{Alloc, Free, Read, Write, Cache, Destroy, Take, Give, Reap, Report}
 use Rattle.words_core.specs.declared.event.LineFault.{LineFault}
 use Rattle.words_core.specs.declared.event.LineFault.TheVariants.{Unknown, Number, Hex}
 
@@ -69,6 +69,9 @@ take_back_row = record { word = codes "takeback"; forms = number ∷ number ∷ 
 abbrev pub reset_row : Row AdminCommand
 reset_row = record { word = codes "reset"; forms = number ∷ []; makes = Reset }
 
+abbrev pub move_row : Row AdminCommand
+move_row = record { word = codes "move"; forms = number ∷ number ∷ []; makes = Move }
+
 abbrev pub pool_row : Row AdminCommand
 pool_row = record { word = codes "pool"; forms = []; makes = Pool }
 
@@ -84,13 +87,32 @@ read_row = record { word = codes "read"; forms = number ∷ number ∷ []; makes
 abbrev pub write_row : Row Command
 write_row = record { word = codes "write"; forms = number ∷ hex MOST_BYTES ∷ []; makes = Write }
 
+abbrev pub cache_row : Row Command
+cache_row = record { word = codes "cache"; forms = number ∷ number ∷ hex MOST_PATTERN ∷ []; makes = Cache }
+
+abbrev pub destroy_row : Row Command
+destroy_row = record { word = codes "destroy"; forms = number ∷ []; makes = Destroy }
+
+abbrev pub take_row : Row Command
+take_row = record { word = codes "take"; forms = number ∷ []; makes = Take }
+
+abbrev pub give_row : Row Command
+give_row = record { word = codes "give"; forms = number ∷ number ∷ []; makes = Give }
+
+abbrev pub reap_row : Row Command
+reap_row = record { word = codes "reap"; forms = []; makes = Reap }
+
+abbrev pub report_row : Row Command
+report_row = record { word = codes "report"; forms = []; makes = Report }
+
 -- the commands of the administrator
 abbrev pub admin_rows : List (Row AdminCommand)
-admin_rows = grant_row ∷ take_back_row ∷ reset_row ∷ pool_row ∷ []
+admin_rows = grant_row ∷ take_back_row ∷ reset_row ∷ move_row ∷ pool_row ∷ []
 
 -- the commands of a tenant
 abbrev pub tenant_rows : List (Row Command)
-tenant_rows = alloc_row ∷ free_row ∷ read_row ∷ write_row ∷ []
+tenant_rows =
+    alloc_row ∷ free_row ∷ read_row ∷ write_row ∷ cache_row ∷ destroy_row ∷ take_row ∷ give_row ∷ reap_row ∷ report_row ∷ []
 
 -- who speaks in a line
 pub data Actor : Type 0 where

@@ -4,6 +4,7 @@ pub mod Numbers
 pub mod Commands
 pub mod Grammar
 pub mod Cases
+pub mod ReportTexts
 pub mod Texts
 pub mod Answers
 pub mod Examples

@@ -3,13 +3,14 @@ use Rattle.std.specs.Prelude.{ℕ, ◌+◌, length, count_by, is_none, Option, S
 use Rattle.std.specs.List.{concat}
 use Rattle.hex.specs.Hex.{encode_lower}
 use Rattle.model_core.specs.declared.owner.Owner.{Owner}
+use Rattle.words_core.specs.ReportTexts.{report_texts}
 use Rattle.words_core.specs.declared.event.LineFault.{LineFault}
 use Rattle.words_core.specs.declared.event.LineFault.TheVariants.{Long, Unknown, Words, Number, Hex}
 use Rattle.words_core.specs.declared.reply.Reply.{Reply}
 use Rattle.words_core.specs.declared.reply.Addressee.{Addressee}
 use Rattle.words_core.specs.declared.reply.Addressee.TheVariants.{Admin, Nobody, Tenant}
 use Rattle.words_core.specs.declared.reply.Body.{Body}
-use Rattle.words_core.specs.declared.reply.Body.TheVariants.{Granted, TakenBack, WasReset, Owners, Frame, Freed, Bytes, Written, Refused, Fault}
+use Rattle.words_core.specs.declared.reply.Body.TheVariants.{Granted, TakenBack, WasReset, Moved, Owners, Frame, Freed, Bytes, Written, Cache, Destroyed, Object, Given, Reaped, Report, Refused, Fault}
 use Rattle.words_core.specs.declared.reply.Refusal.{Refusal}
 use Rattle.words_core.specs.declared.reply.Refusal.TheVariants.{NoFrames, BadOrder, NotABlock, OutOfReach, BadLength, BadSize, BadAlign, NoCacheSlot, NoCache, CacheInUse, NotAnObject, NoTenant, PoolEmpty, NoSlot, SlotBusy}
 
@@ -83,11 +84,21 @@ body_texts front (Granted tenant slot superblock) =
 body_texts front (TakenBack superblock) = (front ++ codes "taken superblock " ++ decimal superblock) ∷ []
 body_texts front (WasReset tenant superblocks) =
     (front ++ codes "reset " ++ decimal tenant ++ codes " superblocks " ++ decimal superblocks) ∷ []
+body_texts front (Moved tenant slot superblock) =
+    (front ++ codes "moved " ++ decimal tenant ++ codes " slot " ++ decimal slot ++ codes " superblock " ++ decimal superblock) ∷ []
 body_texts front (Owners owners) = pool_texts front owners.items
 body_texts front (Frame frame) = (front ++ codes "frame " ++ decimal frame) ∷ []
 body_texts front (Freed order) = (front ++ codes "freed " ++ decimal order) ∷ []
 body_texts front (Bytes bytes) = (front ++ codes "bytes " ++ encode_lower bytes.items) ∷ []
 body_texts front (Written count) = (front ++ codes "written " ++ decimal count) ∷ []
+body_texts front (Cache cache chunk order objects colours) =
+    (front ++ codes "cache " ++ decimal cache ++ codes " chunk " ++ decimal chunk ++ codes " order " ++ decimal order
+    ++ codes " objects " ++ decimal objects ++ codes " colours " ++ decimal colours) ∷ []
+body_texts front (Destroyed frames) = (front ++ codes "destroyed " ++ decimal frames) ∷ []
+body_texts front (Object place) = (front ++ codes "object " ++ decimal place) ∷ []
+body_texts front Given = (front ++ codes "given") ∷ []
+body_texts front (Reaped frames) = (front ++ codes "reaped " ++ decimal frames) ∷ []
+body_texts front (Report report) = report_texts front report
 body_texts front (Refused refusal) =
     (front ++ codes "refused " ++ decimal (number_of_refusal refusal) ++ codes " " ++ name_of_refusal refusal) ∷ []
 body_texts front (Fault fault) = (front ++ codes "fault " ++ name_of_fault fault) ∷ []

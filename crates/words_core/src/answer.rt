@@ -1,5 +1,5 @@
-//! What a tenant's command is answered, in few bytes: a [`Reply`] has room for the owners of all
-//! superblocks, and is better not made for each command.
+//! What a tenant's command is answered, but for the report, in few bytes: a [`Reply`] has room for the
+//! owners of all superblocks, and is better not made for each command.
 
 ghost use Rattle.std.specs.Prelude.{◌≡◌, ◌<◌, ◌≤◌, [], ◌∷◌};
 ghost use Rattle.arrayvec.specs.ArrayVec.{array_vec_len};
@@ -7,14 +7,14 @@ ghost use Rattle.words_core.specs.Texts.{body_texts, text_of};
 ghost use Rattle.words_core.specs.Answers.{body_of_said, reply_of};
 
 use crate::put::{
-    Line, MOST_ADDRESSEE_BYTES, MOST_REPLY_BYTES, put_bytes, put_frame, put_freed, put_refused,
-    put_written, start_line,
+    Line, MOST_ADDRESSEE_BYTES, MOST_REPLY_BYTES, put, put_bytes, put_cache, put_labelled,
+    put_refused, start_line,
 };
 use crate::reply::{Addressee, Body, Refusal, Reply};
 use arrayvec::ArrayVec;
 use model_core::limits::MOST_BYTES;
 
-/// The answer to a tenant's command: to whom, and what. Its text is one line.
+/// The answer to a tenant's command other than `report`: to whom, and what. Its text is one line.
 #[derive(Debug, Drop, PartialEq, Eq)]
 pub struct Answer {
     pub addressee: Addressee,
@@ -32,6 +32,23 @@ pub enum Said {
     Bytes(ArrayVec<u8, MOST_BYTES>),
     /// How many bytes were written, 1 to 64.
     Written(u32),
+    /// The number of a new cache, and its layout: the bytes from one object to the next, the order of
+    /// the block of a slab, the objects of a slab, and its colour offsets.
+    Cache {
+        cache: u8,
+        chunk: u32,
+        order: u8,
+        objects: u32,
+        colours: u32,
+    },
+    /// The cache was destroyed, and its slabs gave back this many frames.
+    Destroyed(u32),
+    /// The place of an object that was taken: the number of its first byte.
+    Object(u32),
+    /// The object was given back.
+    Given,
+    /// The empty slabs gave back this many frames.
+    Reaped(u32),
     /// The command was refused, and changed nothing.
     Refused(Refusal),
 }
@@ -57,6 +74,23 @@ impl Said {
             Said::Freed(order) => Body::Freed(order),
             Said::Bytes(bytes) => Body::Bytes(bytes),
             Said::Written(count) => Body::Written(count),
+            Said::Cache {
+                cache,
+                chunk,
+                order,
+                objects,
+                colours,
+            } => Body::Cache {
+                cache,
+                chunk,
+                order,
+                objects,
+                colours,
+            },
+            Said::Destroyed(frames) => Body::Destroyed(frames),
+            Said::Object(place) => Body::Object(place),
+            Said::Given => Body::Given,
+            Said::Reaped(frames) => Body::Reaped(frames),
             Said::Refused(refusal) => Body::Refused(refusal),
         }
     }
@@ -78,10 +112,21 @@ fn put_said(said: &Said, out: &mut Line)
     ensures short { array_vec_len out.new < MOST_REPLY_BYTES }
 {
     match said {
-        Said::Frame(frame) => put_frame(*frame, out),
-        Said::Freed(order) => put_freed(*order, out),
+        Said::Frame(frame) => put_labelled(b"frame ", *frame, out),
+        Said::Freed(order) => put_labelled(b"freed ", u32::from(*order), out),
         Said::Bytes(bytes) => put_bytes(bytes, out),
-        Said::Written(count) => put_written(*count, out),
+        Said::Written(count) => put_labelled(b"written ", *count, out),
+        Said::Cache {
+            cache,
+            chunk,
+            order,
+            objects,
+            colours,
+        } => put_cache(*cache, *chunk, *order, *objects, *colours, out),
+        Said::Destroyed(frames) => put_labelled(b"destroyed ", *frames, out),
+        Said::Object(place) => put_labelled(b"object ", *place, out),
+        Said::Given => put(b"given", out),
+        Said::Reaped(frames) => put_labelled(b"reaped ", *frames, out),
         Said::Refused(refusal) => put_refused(*refusal, out),
     }
 }

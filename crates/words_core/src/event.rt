@@ -1,7 +1,7 @@
 ghost use Rattle.std.specs.Prelude.{◌≡◌, ◌≤◌, length};
 
 use arrayvec::ArrayVec;
-use model_core::limits::MOST_BYTES;
+use model_core::limits::{MOST_BYTES, MOST_PATTERN};
 
 /// What a line without fault asks for.
 #[derive(Debug, Drop, PartialEq, Eq)]
@@ -21,6 +21,8 @@ pub enum AdminCommand {
     TakeBack { tenant: u32, slot: u32 },
     /// `admin reset T`: all that the tenant has is taken back.
     Reset { tenant: u32 },
+    /// `admin move T SLOT`: this slot of the tenant is put over another superblock.
+    Move { tenant: u32, slot: u32 },
     /// `admin pool`: who owns which superblock.
     Pool,
 }
@@ -46,6 +48,31 @@ pub enum Command {
         place: u32,
         bytes: ArrayVec<u8, MOST_BYTES>,
     },
+    /// `T cache SIZE ALIGN HEX`: a cache of objects of `size` bytes, each at a multiple of `align`,
+    /// and constructed as the 1 to 16 bytes of the pattern, over and over.
+    Cache {
+        size: u32,
+        align: u32,
+        pattern: ArrayVec<u8, MOST_PATTERN>,
+    },
+    /// `T destroy C`: the cache of this number is destroyed.
+    Destroy {
+        cache: u32,
+    },
+    /// `T take C`: an object of the cache.
+    Take {
+        cache: u32,
+    },
+    /// `T give C PLACE`: the cache's object that begins at the tenant's byte number `place` is given
+    /// back.
+    Give {
+        cache: u32,
+        place: u32,
+    },
+    /// `T reap`: the empty slabs of all caches are given back.
+    Reap,
+    /// `T report`: the figures of the tenant's memory.
+    Report,
 }
 
 /// Why a line says nothing that can be done.

@@ -6,12 +6,14 @@
 #![tactic(auto)]
 
 mod answer;
+mod commands;
 mod event;
 mod laws;
 mod line;
 mod numbers;
 mod put;
 mod reply;
+mod report;
 mod text;
 mod words;
 
@@ -21,4 +23,5 @@ pub use laws::one_case;
 pub use line::{MOST_LINE_BYTES, read_line};
 pub use put::MOST_REPLY_BYTES;
 pub use reply::{Addressee, Body, OWNERS, Refusal, Reply};
+pub use report::{CACHES, ORDERS, Report};
 pub use text::{MOST_ROWS, rows, write_line};

@@ -1,11 +1,12 @@
 //! The pieces of a line, each written behind what the line holds.
 
-ghost use Rattle.std.specs.Prelude.{◌≡◌, ◌+◌, ◌-◌, ◌*◌, ◌<◌, ◌≤◌, [], ◌∷◌, ◌++◌, length, decimal};
+ghost use Rattle.std.specs.Prelude.{◌≡◌, ◌+◌, ◌-◌, ◌*◌, ◌<◌, ◌≤◌, [], ◌∷◌, ◌++◌, codes, length, decimal};
 ghost use Rattle.arrayvec.specs.ArrayVec.{array_vec_len};
 ghost use Rattle.hex.specs.Hex.{encode_lower};
-ghost use Rattle.words_core.specs.declared.reply.Body.TheVariants.{Frame, Freed, Bytes, Written, Refused};
+ghost use Rattle.words_core.specs.declared.reply.Body.TheVariants.{TakenBack, WasReset, Bytes, Cache, Refused, Fault};
 ghost use Rattle.words_core.specs.Texts.{addressee_text, body_texts};
 
+use crate::event::LineFault;
 use crate::numbers::MOST_DIGITS;
 use crate::reply::{Addressee, Refusal};
 use arrayvec::ArrayVec;
@@ -31,7 +32,7 @@ pub fn put(text: &[u8], out: &mut Line)
     prove!(taken.is_ok());
 }
 
-fn put_number(number: u32, out: &mut Line)
+pub fn put_number(number: u32, out: &mut Line)
     requires { array_vec_len out.old + MOST_DIGITS ≤ MOST_REPLY_BYTES }
     ensures text { out.new.items ≡ out.old.items ++ decimal number }
     ensures short { array_vec_len out.new ≤ array_vec_len out.old + MOST_DIGITS }
@@ -79,20 +80,33 @@ pub fn start_line(addressee: Addressee, out: &mut Line)
     }
 }
 
-pub fn put_frame(frame: u32, out: &mut Line)
-    requires { array_vec_len out.old ≤ MOST_ADDRESSEE_BYTES }
-    ensures text { body_texts out.old.items (Frame frame) ≡ out.new.items ∷ [] }
+/// A label, and then a slot of a tenant and the superblock under it.
+pub fn put_slot(label: &[u8], tenant: u8, slot: u16, superblock: u16, out: &mut Line)
+    requires few { length label.now ≤ MOST_LABEL_BYTES }
+    requires room { array_vec_len out.old ≤ MOST_ADDRESSEE_BYTES }
+    ensures text { out.new.items ≡ out.old.items ++ label.now ++ decimal tenant ++ codes " slot " ++ decimal slot ++ codes " superblock " ++ decimal superblock }
     ensures short { array_vec_len out.new < MOST_REPLY_BYTES }
 {
-    put_labelled(b"frame ", frame, out);
+    put_labelled(label, u32::from(tenant), out);
+    put_labelled(b" slot ", u32::from(slot), out);
+    put_labelled(b" superblock ", u32::from(superblock), out);
 }
 
-pub fn put_freed(order: u8, out: &mut Line)
+pub fn put_taken_back(superblock: u16, out: &mut Line)
     requires { array_vec_len out.old ≤ MOST_ADDRESSEE_BYTES }
-    ensures text { body_texts out.old.items (Freed order) ≡ out.new.items ∷ [] }
+    ensures text { body_texts out.old.items (TakenBack superblock) ≡ out.new.items ∷ [] }
     ensures short { array_vec_len out.new < MOST_REPLY_BYTES }
 {
-    put_labelled(b"freed ", u32::from(order), out);
+    put_labelled(b"taken superblock ", u32::from(superblock), out);
+}
+
+pub fn put_was_reset(tenant: u8, superblocks: u16, out: &mut Line)
+    requires { array_vec_len out.old ≤ MOST_ADDRESSEE_BYTES }
+    ensures text { body_texts out.old.items (WasReset tenant superblocks) ≡ out.new.items ∷ [] }
+    ensures short { array_vec_len out.new < MOST_REPLY_BYTES }
+{
+    put_labelled(b"reset ", u32::from(tenant), out);
+    put_labelled(b" superblocks ", u32::from(superblocks), out);
 }
 
 // The room for the digits is zeroed at each entry, which the other kinds need not pay for.
@@ -106,12 +120,16 @@ pub fn put_bytes(bytes: &ArrayVec<u8, MOST_BYTES>, out: &mut Line)
     put_hex(bytes.as_slice(), out);
 }
 
-pub fn put_written(count: u32, out: &mut Line)
+pub fn put_cache(cache: u8, chunk: u32, order: u8, objects: u32, colours: u32, out: &mut Line)
     requires { array_vec_len out.old ≤ MOST_ADDRESSEE_BYTES }
-    ensures text { body_texts out.old.items (Written count) ≡ out.new.items ∷ [] }
+    ensures text { body_texts out.old.items (Cache cache chunk order objects colours) ≡ out.new.items ∷ [] }
     ensures short { array_vec_len out.new < MOST_REPLY_BYTES }
 {
-    put_labelled(b"written ", count, out);
+    put_labelled(b"cache ", u32::from(cache), out);
+    put_labelled(b" chunk ", chunk, out);
+    put_labelled(b" order ", u32::from(order), out);
+    put_labelled(b" objects ", objects, out);
+    put_labelled(b" colours ", colours, out);
 }
 
 pub fn put_refused(refusal: Refusal, out: &mut Line)
@@ -122,4 +140,13 @@ pub fn put_refused(refusal: Refusal, out: &mut Line)
     put_labelled(b"refused ", u32::from(refusal.number()), out);
     put(b" ", out);
     put(refusal.name().as_bytes(), out);
+}
+
+pub fn put_fault(fault: LineFault, out: &mut Line)
+    requires { array_vec_len out.old ≤ MOST_ADDRESSEE_BYTES }
+    ensures text { body_texts out.old.items (Fault fault) ≡ out.new.items ∷ [] }
+    ensures short { array_vec_len out.new < MOST_REPLY_BYTES }
+{
+    put(b"fault ", out);
+    put(fault.name().as_bytes(), out);
 }

@@ -1,6 +1,7 @@
 ghost use Rattle.std.specs.Prelude.{◌≡◌, ◌≤◌, length};
 
 use crate::event::LineFault;
+use crate::report::Report;
 use arrayvec::ArrayVec;
 use model_core::limits::{MOST_BYTES, MOST_SUPERBLOCKS};
 use model_core::owner::Owner;
@@ -42,6 +43,12 @@ pub enum Body {
         tenant: u8,
         superblocks: u16,
     },
+    /// This slot of the tenant was put over this superblock of the machine.
+    Moved {
+        tenant: u8,
+        slot: u16,
+        superblock: u16,
+    },
     /// For each superblock of the machine, by rising number, its owner, if it has one.
     Owners(ArrayVec<Option<Owner>, OWNERS>),
     /// The first frame of a new page block.
@@ -52,6 +59,25 @@ pub enum Body {
     Bytes(ArrayVec<u8, MOST_BYTES>),
     /// How many bytes were written, 1 to 64.
     Written(u32),
+    /// The number of a new cache, and its layout: the bytes from one object to the next, the order of
+    /// the block of a slab, the objects of a slab, and its colour offsets.
+    Cache {
+        cache: u8,
+        chunk: u32,
+        order: u8,
+        objects: u32,
+        colours: u32,
+    },
+    /// The cache was destroyed, and its slabs gave back this many frames.
+    Destroyed(u32),
+    /// The place of an object that was taken: the number of its first byte.
+    Object(u32),
+    /// The object was given back.
+    Given,
+    /// The empty slabs gave back this many frames.
+    Reaped(u32),
+    /// The figures of the tenant's memory.
+    Report(Report),
     /// The command was refused, and changed nothing.
     Refused(Refusal),
     /// The line says nothing that can be done.

@@ -3,10 +3,11 @@ ghost use Rattle.arrayvec.specs.ArrayVec.{array_vec_len};
 ghost use Rattle.words_core.specs.Texts.{owner_text, pool_texts, body_texts, lines_of};
 
 use crate::put::{
-    Line, MOST_ADDRESSEE_BYTES, MOST_REPLY_BYTES, put, put_bytes, put_frame, put_freed,
-    put_labelled, put_refused, put_written, start_line,
+    Line, MOST_ADDRESSEE_BYTES, MOST_REPLY_BYTES, put, put_bytes, put_cache, put_fault,
+    put_labelled, put_refused, put_slot, put_taken_back, put_was_reset, start_line,
 };
 use crate::reply::{Body, OWNERS, Reply};
+use crate::report::put_report;
 use arrayvec::ArrayVec;
 use model_core::limits::MOST_SUPERBLOCKS;
 use model_core::owner::Owner;
@@ -22,6 +23,7 @@ pub fn rows(reply: &Reply) -> usize
 {
     match &reply.body {
         Body::Owners(owners) => 1 + owners.len(),
+        Body::Report(report) => 1 + report.orders.len() + report.caches.len(),
         _ => 1,
     }
 }
@@ -49,33 +51,36 @@ fn put_body(body: &Body, row: usize, out: &mut Line)
             tenant,
             slot,
             superblock,
-        } => {
-            put_labelled(b"granted ", u32::from(*tenant), out);
-            put_labelled(b" slot ", u32::from(*slot), out);
-            put_labelled(b" superblock ", u32::from(*superblock), out);
-        }
-        Body::TakenBack(superblock) => put_labelled(
-            b"taken superblock ",
-            u32::from(*superblock),
-            out,
-        ),
+        } => put_slot(b"granted ", *tenant, *slot, *superblock, out),
+        Body::TakenBack(superblock) => put_taken_back(*superblock, out),
         Body::WasReset {
             tenant,
             superblocks,
-        } => {
-            put_labelled(b"reset ", u32::from(*tenant), out);
-            put_labelled(b" superblocks ", u32::from(*superblocks), out);
-        }
+        } => put_was_reset(*tenant, *superblocks, out),
+        Body::Moved {
+            tenant,
+            slot,
+            superblock,
+        } => put_slot(b"moved ", *tenant, *slot, *superblock, out),
         Body::Owners(owners) => put_owners(owners.as_slice(), row, out),
-        Body::Frame(frame) => put_frame(*frame, out),
-        Body::Freed(order) => put_freed(*order, out),
+        Body::Frame(frame) => put_labelled(b"frame ", *frame, out),
+        Body::Freed(order) => put_labelled(b"freed ", u32::from(*order), out),
         Body::Bytes(bytes) => put_bytes(bytes, out),
-        Body::Written(count) => put_written(*count, out),
+        Body::Written(count) => put_labelled(b"written ", *count, out),
+        Body::Cache {
+            cache,
+            chunk,
+            order,
+            objects,
+            colours,
+        } => put_cache(*cache, *chunk, *order, *objects, *colours, out),
+        Body::Destroyed(frames) => put_labelled(b"destroyed ", *frames, out),
+        Body::Object(place) => put_labelled(b"object ", *place, out),
+        Body::Given => put(b"given", out),
+        Body::Reaped(frames) => put_labelled(b"reaped ", *frames, out),
+        Body::Report(report) => put_report(report, row, out),
         Body::Refused(refusal) => put_refused(*refusal, out),
-        Body::Fault(fault) => {
-            put(b"fault ", out);
-            put(fault.name().as_bytes(), out);
-        }
+        Body::Fault(fault) => put_fault(*fault, out),
     }
 }
 

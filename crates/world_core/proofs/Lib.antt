@@ -4,5 +4,9 @@ pub mod TextLines
 pub mod TenantLines
 pub mod Showing
 pub mod Operations
+pub mod MoreCaches
+pub mod Asked
 pub mod Reached
+pub mod ReachedObjects
+pub mod ReachedRoom
 pub mod Rows

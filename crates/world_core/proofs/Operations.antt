@@ -4,7 +4,7 @@ use Rattle.model_core.specs.Machine.{Machine}
 use Rattle.model_core.specs.Operations.{Step, read_step}
 use Rattle.model_core.specs.Reach.{in_reach}
 use Rattle.words_core.specs.declared.event.Command.TheVariants as Ask
-use Rattle.world_core.specs.PrivateStep.{Entry, private_step, command_step}
+use Rattle.world_core.specs.PrivateStep.{Entry, private_step, command_step, report_step}
 use Rattle.world_core.specs.PrivateRun.{private_run}
 use Rattle.world_core.specs.Reached.{EntriesAreOperations}
 
@@ -13,16 +13,22 @@ if_stays true x y m p q = p
 if_stays false x y m p q = q
 
 -- a read changes nothing
-read_stays : (place len : ℕ) (m : Machine) → (read_step place len m).machine ≡ m
+pub read_stays : (place len : ℕ) (m : Machine) → (read_step place len m).machine ≡ m
 unfolding read_step
 read_stays place len m = if_stays (not (nat_le 1 len && nat_le len 64)) _ _ m refl (if_stays (not (in_reach m place len)) _ _ m refl refl)
 
 pub entries_are_operations : EntriesAreOperations
-unfolding private_step command_step
+unfolding private_step command_step report_step
 entries_are_operations limit order [] m = refl
 entries_are_operations limit order (Entry.Ask (Ask.Alloc k) ∷ entries) m = entries_are_operations limit order entries _
 entries_are_operations limit order (Entry.Ask (Ask.Free first) ∷ entries) m = entries_are_operations limit order entries _
 entries_are_operations limit order (Entry.Ask (Ask.Write place bytes) ∷ entries) m = entries_are_operations limit order entries _
+entries_are_operations limit order (Entry.Ask (Ask.Cache size align pattern) ∷ entries) m = entries_are_operations limit order entries _
+entries_are_operations limit order (Entry.Ask (Ask.Destroy number) ∷ entries) m = entries_are_operations limit order entries _
+entries_are_operations limit order (Entry.Ask (Ask.Take number) ∷ entries) m = entries_are_operations limit order entries _
+entries_are_operations limit order (Entry.Ask (Ask.Give number place) ∷ entries) m = entries_are_operations limit order entries _
+entries_are_operations limit order (Entry.Ask Ask.Reap ∷ entries) m = entries_are_operations limit order entries _
+entries_are_operations limit order (Entry.Ask Ask.Report ∷ entries) m = entries_are_operations limit order entries m
 entries_are_operations limit order (Entry.Ask (Ask.Read place len) ∷ entries) m =
     ap (λ n. (private_run limit order entries n).machine) (read_stays place len m) ∙ entries_are_operations limit order entries m
 entries_are_operations limit order (Entry.Grant ∷ entries) m = entries_are_operations limit order entries _

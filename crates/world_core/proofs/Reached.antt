@@ -7,9 +7,7 @@ use Rattle.model_core.specs.Choice.{choose}
 use Rattle.model_core.specs.Machine.{Machine, empty_machine, holds, beyond, taken_blocks, order_in, taken_in, choice, slab_blocks}
 use Rattle.model_core.specs.Slabs.{by_need, reaped}
 use Rattle.model_core.specs.Operations.{refuse, alloc_at, alloc_step, free_at, free_step}
-use Rattle.model_core.specs.Runs.{IsPossible, ArePossible}
 use Rattle.model_core.specs.WellFormed.{IsWellFormed}
-use Rattle.model_core.proofs.Lists.{each_append}
 use Rattle.model_core.proofs.ByNeed.{by_need_keeps}
 use Rattle.model_core.proofs.Choosing.{choice_is_found}
 use Rattle.model_core.proofs.Chosen.{held_below}
@@ -17,32 +15,16 @@ use Rattle.model_core.proofs.FreeBlocks.{each_frame_in_one, splits}
 use Rattle.model_core.proofs.Joining.{joins}
 use Rattle.model_core.proofs.TakenSteps.{taken_sound, alloc_takes, free_releases}
 use Rattle.model_core.proofs.WellFormedRuns.{runs_well_formed}
-use Rattle.words_core.specs.declared.event.Command.TheVariants as Ask
-use Rattle.world_core.specs.PrivateStep.{Entry}
 use Rattle.world_core.specs.Reached.{operations_in, reached_machine, ReachedWellFormed, ReachedSound, ReachedFreeOnce, ReachedSplits, ReachedJoins}
 use Rattle.world_core.proofs.Operations.{entries_are_operations}
 
--- no entry makes a cache with a pattern out of order
-entry_possible : (entry : Entry) → ArePossible (operations_in entry)
-entry_possible (Entry.Ask (Ask.Alloc k)) = (tt, tt)
-entry_possible (Entry.Ask (Ask.Free first)) = (tt, tt)
-entry_possible (Entry.Ask (Ask.Read place len)) = tt
-entry_possible (Entry.Ask (Ask.Write place bytes)) = (tt, tt)
-entry_possible Entry.Grant = (tt, tt)
-entry_possible (Entry.TakeBack slot) = (tt, tt)
-entry_possible Entry.Reset = (tt, tt)
-
-all_possible : (entries : List Entry) → ArePossible (flat_map operations_in entries)
-all_possible [] = tt
-all_possible (entry ∷ entries) = each_append IsPossible (operations_in entry) (flat_map operations_in entries) (entry_possible entry) (all_possible entries)
-
 pub reached_well_formed : ReachedWellFormed
-reached_well_formed limit order entries =
+reached_well_formed limit order entries asked =
     subst (IsWellFormed order) (sym (entries_are_operations limit order entries empty_machine))
-    (runs_well_formed limit order (flat_map operations_in entries) (all_possible entries))
+    (runs_well_formed limit order (flat_map operations_in entries) asked)
 
 pub reached_sound : ReachedSound
-reached_sound limit order entries = taken_sound order (reached_machine limit order entries) (reached_well_formed limit order entries)
+reached_sound limit order entries asked = taken_sound order (reached_machine limit order entries) (reached_well_formed limit order entries asked)
 
 pub reached_free_once : ReachedFreeOnce
 reached_free_once limit order x entries =
@@ -118,18 +100,18 @@ by_account {P} order held held' taken taken' b slots blocks is =
     subst (λ h. IsFree order h taken' b ↔ P) (sym slots) (subst (λ t. IsFree order held t b ↔ P) (sym blocks) is)
 
 pub reached_splits : ReachedSplits
-reached_splits limit order k first entries e =
+reached_splits limit order k first entries asked e =
     let m : Machine = reached_machine limit order entries in
     let n : Machine = by_need order k m in
     let from = chosen_from order k first n (alloc_chooses order k first m e) in
     let taken : taken_in (alloc_step order k m).machine ≡ with_taken (taken_in n) first k =
-    λ i f. alloc_takes order k first m (reached_well_formed limit order entries) e f i in
+    λ i f. alloc_takes order k first m (reached_well_formed limit order entries asked) e f i in
     (from.0, from.1, λ b. by_account order _ _ _ _ b (alloc_holds order k m) taken (splits order (holds n) (taken_in n) first from.0 k from.1.0 from.1.1 b))
 
 pub reached_joins : ReachedJoins
-reached_joins limit order first k entries e =
+reached_joins limit order first k entries asked e =
     let m : Machine = reached_machine limit order entries in
-    let joined = joins order (holds m) (taken_in m) first k (reached_sound limit order entries) (free_taken first k m e) in
+    let joined = joins order (holds m) (taken_in m) first k (reached_sound limit order entries asked) (free_taken first k m e) in
     let taken : taken_in (free_step first m).machine ≡ without_taken (taken_in m) first =
-    λ i f. free_releases order first k m (reached_well_formed limit order entries) e f i in
+    λ i f. free_releases order first k m (reached_well_formed limit order entries asked) e f i in
     (joined.0, joined.1, λ b. by_account order _ _ _ _ b (free_holds first m) taken (joined.2 b))

@@ -3,15 +3,17 @@ use Rattle.std.proofs.Common.{◌≡◌, ℕ, List, [], ◌∷◌, map, codes, r
 use Rattle.std.specs.Fmt.{digits}
 use Rattle.hex.specs.Hex.{encode_with, decode_pairs}
 use Rattle.model_core.specs.Machine.{empty_machine, choice, taken_blocks}
-use Rattle.model_core.specs.Slabs.{by_need, reaped}
+use Rattle.model_core.specs.Layouts.{layout_of}
+use Rattle.model_core.specs.Slabs.{slab_to_use, fresh_byte, grown_cache, grown, by_need, reaped, destroyed}
+use Rattle.model_core.specs.CacheOperations.{next_number, create_step, cache_step, destroy_step, take_step, give_step, reap_step}
 use Rattle.model_core.specs.Operations.{alloc_step, free_step, read_step, write_step, next_slot, after_grant, after_take_back, take_back_step, is_busy}
 use Rattle.model_core.specs.Reach.{in_reach}
 use Rattle.words_core.specs.Grammar.{reading_of, judged, event_of}
 use Rattle.words_core.specs.Cutting.{lines_of_trace}
 use Rattle.words_core.specs.Words.{words_of}
 use Rattle.world_core.specs.Limits.{cache_limit}
-use Rattle.world_core.specs.PrivateStep.{Entry, command_step}
-use Rattle.world_core.specs.World.{opening_world, history, world_step, grant_step, tenant_step, slot_step, reset_step, answer}
+use Rattle.world_core.specs.PrivateStep.{Entry, figures_of, report_step, command_step}
+use Rattle.world_core.specs.World.{opening_world, history, world_step, grant_step, tenant_step, slot_step, reset_step, move_step, answer}
 use Rattle.world_core.specs.Output.{output_of, events_of, lines_for}
 use Rattle.world_core.specs.OwnList.{own_list}
 
@@ -81,6 +83,22 @@ rows =
       trace = codes "admin pool\nadmin grant 1\nadmin pool\n";
       output = codes "admin> pool free 2 of 2\nadmin> superblock 0 free\nadmin> superblock 1 free\nadmin> granted 1 slot 0 superblock 0\nadmin> pool free 1 of 2\nadmin> superblock 0 tenant 1 slot 0\nadmin> superblock 1 free\n";
     }
+    ∷ record {
+      trace = codes "0 report\nadmin grant 0\n0 alloc 1\n0 write 8191 7f\n0 cache 24 8 c3\n0 take 0\n0 report\n";
+      output = codes "0> frames 0 live 0 free 0 top none split 0\n0> order 0 free 0 taken 0\n0> order 1 free 0 taken 0\n0> order 2 free 0 taken 0\n0> order 3 free 0 taken 0\nadmin> granted 0 slot 0 superblock 0\n0> frame 0\n0> written 1\n0> cache 0 chunk 24 order 0 objects 169 colours 2\n0> object 8192\n0> frames 8 live 3 free 5 top 2 split 200\n0> order 0 free 1 taken 1\n0> order 1 free 0 taken 1\n0> order 2 free 1 taken 0\n0> order 3 free 0 taken 0\n0> cache 0 full 0 partial 1 empty 0 live 1\n";
+    }
+    ∷ record {
+      trace = codes "admin grant 0\n0 cache 100 8 5a\n0 take 0\n0 read 0 2\n0 read 99 2\n0 give 0 0\n0 read 0 1\n0 give 0 0\n0 give 1 0\n0 reap\n0 alloc 0\n0 read 0 2\n0 read 4064 2\n";
+      output = codes "admin> granted 0 slot 0 superblock 0\n0> cache 0 chunk 104 order 0 objects 39 colours 2\n0> object 0\n0> bytes 5a5a\n0> refused 4 OutOfReach\n0> given\n0> refused 4 OutOfReach\n0> refused 11 NotAnObject\n0> refused 9 NoCache\n0> reaped 1\n0> frame 0\n0> bytes 0000\n0> bytes 0000\n";
+    }
+    ∷ record {
+      trace = codes "admin grant 0\n0 cache 4097 8 00\n0 cache 1 12 00\n0 cache 2048 8 11\n0 take 0\n0 take 0\n0 take 0\n0 write 2048 22\n0 give 0 4096\n0 give 0 2048\n0 take 0\n0 read 2048 2\n0 destroy 0\n0 give 0 0\n0 give 0 2048\n0 destroy 0\n0 take 0\n";
+      output = codes "admin> granted 0 slot 0 superblock 0\n0> refused 6 BadSize\n0> refused 7 BadAlign\n0> cache 0 chunk 2048 order 0 objects 2 colours 1\n0> object 0\n0> object 2048\n0> object 4096\n0> written 1\n0> given\n0> given\n0> object 2048\n0> bytes 2211\n0> refused 10 CacheInUse\n0> given\n0> given\n0> destroyed 2\n0> refused 9 NoCache\n";
+    }
+    ∷ record {
+      trace = codes "admin grant 0\n0 alloc 0\n0 write 0 7f\nadmin move 0 0\n0 read 0 1\nadmin grant 1\n1 alloc 0\n1 read 0 1\nadmin move 0 0\nadmin move 0 1\nadmin move 2 0\nadmin pool\n";
+      output = codes "admin> granted 0 slot 0 superblock 0\n0> frame 0\n0> written 1\nadmin> moved 0 slot 0 superblock 1\n0> bytes 7f\nadmin> granted 1 slot 0 superblock 0\n1> frame 0\n1> bytes 00\nadmin> refused 13 PoolEmpty\nadmin> refused 14 NoSlot\nadmin> refused 12 NoTenant\nadmin> pool free 0 of 2\nadmin> superblock 0 tenant 1 slot 0\nadmin> superblock 1 tenant 0 slot 0\n";
+    }
     ∷ []
 
 -- what a trace writes on a new machine
@@ -91,16 +109,16 @@ abbrev pub expected : Row → List ℕ
 expected r = r.output
 
 rows_are_written : map written rows ≡ map expected rows
-unfolding decode_pairs after_take_back free_step write_step take_back_step is_busy slot_step reset_step output_of opening_world world_step grant_step tenant_step answer command_step alloc_step read_step next_slot after_grant in_reach choice by_need reaped taken_blocks empty_machine reading_of judged event_of words_of digits encode_with
+unfolding decode_pairs after_take_back free_step write_step take_back_step is_busy slot_step reset_step output_of opening_world world_step grant_step tenant_step answer command_step alloc_step read_step next_slot after_grant in_reach choice by_need reaped taken_blocks empty_machine layout_of slab_to_use fresh_byte grown_cache grown destroyed next_number create_step cache_step destroy_step take_step give_step reap_step figures_of report_step move_step reading_of judged event_of words_of digits encode_with
 rows_are_written = refl
 
 -- two traces in which tenant 0 does and is granted the same, and the others do much or nothing
 
 abbrev pub alone : List ℕ
-alone = codes "admin grant 0\n0 alloc 1\n0 read 8191 1\n0 alloc 3\n"
+alone = codes "admin grant 0\n0 alloc 1\n0 read 8191 1\n0 alloc 3\n0 cache 24 8 c3\n0 take 0\n"
 
 abbrev pub among_others : List ℕ
-among_others = codes "admin grant 1\n1 alloc 0\n1 read 0 2\nadmin grant 0\n0 alloc 1\nfrob\nadmin grant 1\nadmin grant 0\n0 read 8191 1\n1 alloc 0\n0 alloc 3\n"
+among_others = codes "admin grant 1\n1 alloc 0\n1 read 0 2\nadmin grant 0\n0 alloc 1\nfrob\nadmin grant 1\nadmin grant 0\n0 read 8191 1\n1 cache 24 8 99\n1 take 0\n0 alloc 3\nadmin reset 1\nadmin move 0 0\n0 cache 24 8 c3\n1 report\n0 take 0\n"
 
 abbrev pub own_list_of : List ℕ → List Entry
 own_list_of trace = own_list 0 (history cache_limit 3 (opening_world 2 2) (events_of (lines_of_trace trace)))
@@ -109,13 +127,15 @@ abbrev pub lines_of_0 : List ℕ → List (List ℕ)
 lines_of_0 trace = lines_for 0 (output_of cache_limit 3 trace (opening_world 2 2))
 
 same_own_list : own_list_of alone ≡ own_list_of among_others
-unfolding decode_pairs after_take_back free_step write_step take_back_step is_busy slot_step reset_step output_of opening_world world_step grant_step tenant_step answer command_step alloc_step read_step next_slot after_grant in_reach choice by_need reaped taken_blocks empty_machine reading_of judged event_of words_of digits encode_with
+unfolding decode_pairs after_take_back free_step write_step take_back_step is_busy slot_step reset_step output_of opening_world world_step grant_step tenant_step answer command_step alloc_step read_step next_slot after_grant in_reach choice by_need reaped taken_blocks empty_machine layout_of slab_to_use fresh_byte grown_cache grown destroyed next_number create_step cache_step destroy_step take_step give_step reap_step figures_of report_step move_step reading_of judged event_of words_of digits encode_with
 same_own_list = refl
 
-lines_alone : lines_of_0 alone ≡ codes "0> frame 0" ∷ codes "0> bytes 00" ∷ codes "0> refused 1 NoFrames" ∷ []
-unfolding decode_pairs after_take_back free_step write_step take_back_step is_busy slot_step reset_step output_of opening_world world_step grant_step tenant_step answer command_step alloc_step read_step next_slot after_grant in_reach choice by_need reaped taken_blocks empty_machine reading_of judged event_of words_of digits encode_with
+lines_alone : lines_of_0 alone ≡ codes "0> frame 0" ∷ codes "0> bytes 00" ∷ codes "0> refused 1 NoFrames"
+    ∷ codes "0> cache 0 chunk 24 order 0 objects 169 colours 2" ∷ codes "0> object 8192" ∷ []
+unfolding decode_pairs after_take_back free_step write_step take_back_step is_busy slot_step reset_step output_of opening_world world_step grant_step tenant_step answer command_step alloc_step read_step next_slot after_grant in_reach choice by_need reaped taken_blocks empty_machine layout_of slab_to_use fresh_byte grown_cache grown destroyed next_number create_step cache_step destroy_step take_step give_step reap_step figures_of report_step move_step reading_of judged event_of words_of digits encode_with
 lines_alone = refl
 
-lines_among_others : lines_of_0 among_others ≡ codes "0> frame 0" ∷ codes "0> bytes 00" ∷ codes "0> refused 1 NoFrames" ∷ []
-unfolding decode_pairs after_take_back free_step write_step take_back_step is_busy slot_step reset_step output_of opening_world world_step grant_step tenant_step answer command_step alloc_step read_step next_slot after_grant in_reach choice by_need reaped taken_blocks empty_machine reading_of judged event_of words_of digits encode_with
+lines_among_others : lines_of_0 among_others ≡ codes "0> frame 0" ∷ codes "0> bytes 00" ∷ codes "0> refused 1 NoFrames"
+    ∷ codes "0> cache 0 chunk 24 order 0 objects 169 colours 2" ∷ codes "0> object 8192" ∷ []
+unfolding decode_pairs after_take_back free_step write_step take_back_step is_busy slot_step reset_step output_of opening_world world_step grant_step tenant_step answer command_step alloc_step read_step next_slot after_grant in_reach choice by_need reaped taken_blocks empty_machine layout_of slab_to_use fresh_byte grown_cache grown destroyed next_number create_step cache_step destroy_step take_step give_step reap_step figures_of report_step move_step reading_of judged event_of words_of digits encode_with
 lines_among_others = refl

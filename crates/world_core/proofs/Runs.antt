@@ -1,16 +1,20 @@
 -- In any run of the world a tenant's replies and machine are the private run of its own list.
-use Rattle.std.proofs.Common.{◌≡◌, ℕ, ◌<◌, ◌==◌, ◌≢◌, true, false, List, [], ◌∷◌, ◌++◌, Option, Some, None, Result, Ok, Err, is_none, position, slice_get, refl, ap, sym, subst, ◌∙◌, inl, inr, arith, append_assoc}
+use Rattle.std.proofs.Common.{◌≡◌, ℕ, ◌<◌, ◌==◌, ◌≢◌, Bool, true, false, not, List, [], ◌∷◌, ◌++◌, Option, Some, None, Result, Ok, Err, is_none, position, slice_get, refl, ap, sym, subst, ◌∙◌, inl, inr, arith, append_assoc}
 use Rattle.std.proofs.lemmas.Bool.{cases_eq, eq-eqb}
-use Rattle.model_core.specs.Machine.{Machine, empty_machine}
+use Rattle.std.specs.Prelude.{if◌then◌else◌}
+use Rattle.model_core.specs.Machine.{Machine, empty_machine, holds}
 use Rattle.model_core.specs.Operations.{take_back_step}
 use Rattle.model_core.specs.declared.refusals.TakeBackRefusal.{TakeBackRefusal}
 use Rattle.words_core.specs.declared.event.Event.{Event}
 use Rattle.words_core.specs.declared.event.Event.TheVariants as On
 use Rattle.words_core.specs.declared.event.AdminCommand.TheVariants as Do
 use Rattle.words_core.specs.declared.event.Command.{Command}
+use Rattle.words_core.specs.declared.reply.Addressee.TheVariants as To
+use Rattle.words_core.specs.declared.reply.Body.TheVariants.{Refused}
+use Rattle.words_core.specs.declared.reply.Refusal.TheVariants.{NoSlot}
 use Rattle.world_core.specs.PrivateStep.{Entry, private_step}
 use Rattle.world_core.specs.PrivateRun.{private_run}
-use Rattle.world_core.specs.World.{World, WorldStep, answer, grant_step, tenant_step, taken_back, slot_step, reset_step, world_step, history, world_after, opening_world}
+use Rattle.world_core.specs.World.{World, WorldStep, answer, grant_step, tenant_step, taken_back, slot_step, reset_step, moved_to, move_step, world_step, history, world_after, opening_world}
 use Rattle.world_core.specs.OwnList.{own_entries, own_list, if_for, replies_to}
 use Rattle.world_core.specs.Laws.{IsPrivateRun, OwnRun, SameReplies, SameTexts, opening_history}
 use Rattle.world_core.specs.Output.{texts_for}
@@ -95,6 +99,24 @@ reset_other limit order t named w m None here other = rw (is_other named t other
 reset_other limit order t named w m (Some n) here other =
     rw (is_other named t other) record { replies = refl; machine = slice_get-set_other w.machines named t _ other ∙ here }
 
+-- a move keeps every machine
+moved_keeps : (limit order t named slot : ℕ) (w : World) (m : Machine) (free : Option ℕ) → slice_get w.machines t ≡ Some m
+    → StepLeaves limit order t (On.Admin (Do.Move named slot)) m (moved_to named slot w free)
+unfolding answer
+moved_keeps limit order t named slot w m None here = record { replies = refl; machine = here }
+moved_keeps limit order t named slot w m (Some superblock) here = record { replies = refl; machine = here }
+
+move_keeps : (limit order t named slot : ℕ) (w : World) (m : Machine) (o : Option Machine) (free : Option ℕ) → slice_get w.machines t ≡ Some m
+    → StepLeaves limit order t (On.Admin (Do.Move named slot)) m (move_step named slot w o free)
+unfolding move_step answer
+move_keeps limit order t named slot w m None free here = record { replies = refl; machine = here }
+move_keeps limit order t named slot w m (Some n) free here = go (holds n slot)
+  where
+    go : (held : Bool) → StepLeaves limit order t (On.Admin (Do.Move named slot)) m
+        (if not held then answer To.Admin (Refused NoSlot) w else moved_to named slot w free)
+    go true = moved_keeps limit order t named slot w m free here
+    go false = record { replies = refl; machine = here }
+
 -- one step of the world, to one tenant
 pub step_leaves : (limit order t : ℕ) (event : Event) (w : World) (m : Machine) → slice_get w.machines t ≡ Some m
     → StepLeaves limit order t event m (world_step limit order event w)
@@ -127,6 +149,8 @@ step_leaves limit order t (On.Admin (Do.Reset named)) w m here =
           (reset_same limit order t w m here))
       | inr other ↦ reset_other limit order t named w m (slice_get w.machines named) here other
     ]
+step_leaves limit order t (On.Admin (Do.Move named slot)) w m here =
+    move_keeps limit order t named slot w m (slice_get w.machines named) (position is_none w.owners) here
 step_leaves limit order t (On.Admin Do.Pool) w m here = record { replies = refl; machine = here }
 
 -- a private run of entries, and then of more

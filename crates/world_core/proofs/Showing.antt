@@ -16,7 +16,7 @@ use Rattle.world_core.specs.World.{World, world_step, world_after, history}
 use Rattle.world_core.specs.OwnList.{if_for, replies_to}
 use Rattle.world_core.specs.Output.{event_in, events_of, shown_text, shown_reading, shown_line, shown_lines, output_of, lines_for, texts_for, with_line_feeds, onto_ended, ended_lines}
 use Rattle.world_core.specs.Laws.{AllShown, OwnShown, OwnLinesShown, EndedAllButTail, EndedLinesStay, ShownStays}
-use Rattle.world_core.proofs.TextLines.{AreTexts, body_text, addressee_is_text, cut_rows}
+use Rattle.world_core.proofs.TextLines.{AreTexts, texts-append, body_text, addressee_is_text, cut_rows}
 use Rattle.world_core.proofs.TenantLines.{lines_tell}
 
 pub all_shown : AllShown
@@ -72,10 +72,6 @@ own_lines limit order t trace w many here = lines_tell limit order t (lines_of_t
 pub own_shown : OwnShown
 own_shown limit order t trace w many here =
     own_replies t limit order (lines_of_trace trace) w ∙ ap with_line_feeds (sym (own_lines limit order t trace w many here))
-
-texts-append : (xs ys : List (List ℕ)) → AreTexts xs → AreTexts ys → AreTexts (xs ++ ys)
-texts-append [] ys h k = k
-texts-append (x ∷ xs) ys h k = (h.0, texts-append xs ys h.1 k)
 
 are_texts : (t : ℕ) (bodies : List Body) → AreTexts (texts_for t bodies)
 are_texts t [] = tt

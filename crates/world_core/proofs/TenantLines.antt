@@ -1,6 +1,7 @@
 -- The lines of a tenant in the output of a trace are the texts of the replies addressed to it.
 use Rattle.model_core.specs.declared.owner.Owner.{Owner}
-use Rattle.std.proofs.Common.{◌≡◌, ℕ, ◌+◌, count_by, ◌<◌, ◌≤◌, ◌^◌, ◌≢◌, ◌==◌, nat_eq, Bool, true, false, List, [], ◌∷◌, ◌++◌, Option, Some, None, Result, Ok, Err, is_none, position, length, slice_get, map, filter, codes, decimal, refl, ap, sym, subst, ◌∙◌, inl, inr, arith, append_assoc}
+use Rattle.std.proofs.Common.{◌≡◌, ℕ, ◌+◌, count_by, ◌<◌, ◌≤◌, ◌^◌, ◌≢◌, ◌==◌, nat_eq, Bool, true, false, not, List, [], ◌∷◌, ◌++◌, Option, Some, None, Result, Ok, Err, is_none, position, length, slice_get, map, filter, codes, decimal, refl, ap, sym, subst, ◌∙◌, inl, inr, arith, append_assoc}
+use Rattle.std.specs.Prelude.{if◌then◌else◌}
 use Rattle.std.specs.List.{starts_with}
 use Rattle.std.proofs.lemmas.List.{append-nil, length-set, length-replicate}
 use Rattle.std.proofs.lemmas.List.Elements.{filter-append}
@@ -8,7 +9,7 @@ use Rattle.std.proofs.lemmas.Grind.{flat_map-append}
 use Rattle.std.proofs.lemmas.Option.{slice_get_within}
 use Rattle.std.proofs.lemmas.Fmt.{decimal_injective}
 use Rattle.std.proofs.lemmas.Bool.{cases_eq}
-use Rattle.model_core.specs.Machine.{Machine, empty_machine}
+use Rattle.model_core.specs.Machine.{Machine, empty_machine, holds}
 use Rattle.model_core.specs.Operations.{take_back_step}
 use Rattle.model_core.specs.declared.refusals.TakeBackRefusal.{TakeBackRefusal}
 use Rattle.hex.specs.Hex.{encode_lower}
@@ -20,16 +21,22 @@ use Rattle.words_core.specs.declared.event.LineFault.{LineFault}
 use Rattle.words_core.specs.declared.reply.Addressee.{Addressee}
 use Rattle.words_core.specs.declared.reply.Addressee.TheVariants.{Admin, Nobody, Tenant}
 use Rattle.words_core.specs.declared.reply.Body.{Body}
-use Rattle.words_core.specs.declared.reply.Body.TheVariants.{Granted, TakenBack, WasReset, Owners, Frame, Freed, Bytes, Written, Refused, Fault}
+use Rattle.words_core.specs.declared.reply.Body.TheVariants.{Granted, TakenBack, WasReset, Moved, Owners, Frame, Freed, Bytes, Written, Cache, Destroyed, Object, Given, Reaped, Report, Refused, Fault}
+use Rattle.words_core.specs.declared.reply.Refusal.TheVariants.{NoSlot}
 use Rattle.words_core.specs.declared.reply.Reply.{Reply}
 use Rattle.words_core.specs.Cutting.{lines_of_trace}
 use Rattle.words_core.specs.Grammar.{reading_of}
+use Rattle.model_core.specs.declared.report.OrderRow.{OrderRow}
+use Rattle.model_core.specs.declared.report.CacheRow.{CacheRow}
+use Rattle.words_core.specs.declared.report.Report as figures
+use Rattle.words_core.specs.ReportTexts.{top_text, frames_text, order_text, order_texts, cache_text, report_texts}
 use Rattle.words_core.specs.Texts.{addressee_text, body_texts, owner_text, owner_texts, number_of_refusal, name_of_refusal, name_of_fault, text_of}
-use Rattle.world_core.specs.World.{World, WorldStep, answer, grant_step, tenant_step, taken_back, slot_step, reset_step, world_step, world_after, history, opening_world}
+use Rattle.world_core.specs.World.{World, WorldStep, answer, grant_step, tenant_step, taken_back, slot_step, reset_step, moved_to, move_step, world_step, world_after, history, opening_world}
 use Rattle.world_core.specs.OwnList.{if_for, replies_to}
 use Rattle.world_core.specs.Output.{shown_reading, shown_lines, output_of, event_in, events_of, lines_for, texts_for}
 use Rattle.world_core.specs.Laws.{OwnLines, SameLines, private_lines, opening_history}
 use Rattle.world_core.specs.PrivateRun.{private_run}
+use Rattle.model_core.proofs.Lists.{map_append}
 use Rattle.world_core.proofs.TextLines.{AreTexts, body_text, addressee_is_text, cut_rows, decimal_digits, starts_same, starts_apart, starts_number}
 use Rattle.world_core.proofs.Runs as runs
 
@@ -45,6 +52,10 @@ behind_4 front a b c d = simp append_assoc
 behind_6 : (front a b c d e f : List ℕ) → (((((front ++ a) ++ b) ++ c) ++ d) ++ e) ++ f ≡ front ++ (((((([] ++ a) ++ b) ++ c) ++ d) ++ e) ++ f)
 behind_6 front a b c d e f = simp append_assoc
 
+behind_10 : (front a b c d e f g h i j : List ℕ) → (((((((((front ++ a) ++ b) ++ c) ++ d) ++ e) ++ f) ++ g) ++ h) ++ i) ++ j
+    ≡ front ++ (((((((((([] ++ a) ++ b) ++ c) ++ d) ++ e) ++ f) ++ g) ++ h) ++ i) ++ j)
+behind_10 front a b c d e f g h i j = simp append_assoc
+
 owner_fronted : (front : List ℕ) (superblock : ℕ) (owner : Option Owner) → owner_text front superblock owner ≡ front ++ owner_text [] superblock owner
 owner_fronted front superblock None = behind_3 front (codes "superblock ") (decimal superblock) (codes " free")
 owner_fronted front superblock (Some owner) =
@@ -59,6 +70,35 @@ owners_fronted front superblock [] = refl
 owners_fronted front superblock (owner ∷ owners) =
     both_rows (owner_fronted front superblock owner) (owners_fronted front (superblock + 1) owners)
 
+order_fronted : (front : List ℕ) (order : ℕ) (row : OrderRow) → order_text front order row ≡ front ++ order_text [] order row
+order_fronted front order row = behind_6 front (codes "order ") (decimal order) (codes " free ") (decimal row.free) (codes " taken ") (decimal row.taken)
+
+orders_fronted : (front : List ℕ) (order : ℕ) (rows : List OrderRow) → order_texts front order rows ≡ map (λ row. front ++ row) (order_texts [] order rows)
+orders_fronted front order [] = refl
+orders_fronted front order (row ∷ rows) = both_rows (order_fronted front order row) (orders_fronted front (order + 1) rows)
+
+cache_fronted : (front : List ℕ) (row : CacheRow) → cache_text front row ≡ front ++ cache_text [] row
+cache_fronted front row =
+    behind_10 front (codes "cache ") (decimal row.cache) (codes " full ") (decimal row.full) (codes " partial ") (decimal row.partial)
+    (codes " empty ") (decimal row.empty) (codes " live ") (decimal row.live)
+
+caches_fronted : (front : List ℕ) (rows : List CacheRow)
+    → map (λ row. cache_text front row) rows ≡ map (λ row. front ++ row) (map (λ row. cache_text [] row) rows)
+caches_fronted front [] = refl
+caches_fronted front (row ∷ rows) = both_rows (cache_fronted front row) (caches_fronted front rows)
+
+frames_fronted : (front : List ℕ) (report : figures.Report) → frames_text front report ≡ front ++ frames_text [] report
+frames_fronted front report =
+    behind_10 front (codes "frames ") (decimal report.frames) (codes " live ") (decimal report.live) (codes " free ") (decimal report.free)
+    (codes " top ") (top_text report.top) (codes " split ") (decimal report.split)
+
+report_fronted : (front : List ℕ) (report : figures.Report) → report_texts front report ≡ map (λ row. front ++ row) (report_texts [] report)
+report_fronted front report =
+    both_rows (frames_fronted front report)
+    (ap (λ rows. rows ++ map (λ row. cache_text front row) report.caches.items) (orders_fronted front 0 report.orders.items)
+    ∙ (ap (λ rows. map (λ row. front ++ row) (order_texts [] 0 report.orders.items) ++ rows) (caches_fronted front report.caches.items)
+    ∙ sym (map_append (λ row. front ++ row) (order_texts [] 0 report.orders.items) (map (λ row. cache_text [] row) report.caches.items))))
+
 alone : List ℕ → List (List ℕ)
 alone row = row ∷ []
 
@@ -70,6 +110,8 @@ fronted front (Granted tenant slot superblock) =
 fronted front (TakenBack superblock) = ap alone (behind_2 front (codes "taken superblock ") (decimal superblock))
 fronted front (WasReset tenant superblocks) =
     ap alone (behind_4 front (codes "reset ") (decimal tenant) (codes " superblocks ") (decimal superblocks))
+fronted front (Moved tenant slot superblock) =
+    ap alone (behind_6 front (codes "moved ") (decimal tenant) (codes " slot ") (decimal slot) (codes " superblock ") (decimal superblock))
 fronted front (Owners owners) =
     both_rows (behind_4 front (codes "pool free ") (decimal (count_by is_none owners.items)) (codes " of ") (decimal (length owners.items)))
     (owners_fronted front 0 owners.items)
@@ -77,6 +119,14 @@ fronted front (Freed order) = ap alone (behind_2 front (codes "freed ") (decimal
 fronted front (Written count) = ap alone (behind_2 front (codes "written ") (decimal count))
 fronted front (Frame frame) = ap alone (behind_2 front (codes "frame ") (decimal frame))
 fronted front (Bytes bytes) = ap alone (behind_2 front (codes "bytes ") (encode_lower bytes.items))
+fronted front (Cache number chunk order objects colours) =
+    ap alone (behind_10 front (codes "cache ") (decimal number) (codes " chunk ") (decimal chunk) (codes " order ") (decimal order)
+    (codes " objects ") (decimal objects) (codes " colours ") (decimal colours))
+fronted front (Destroyed frames) = ap alone (behind_2 front (codes "destroyed ") (decimal frames))
+fronted front (Object place) = ap alone (behind_2 front (codes "object ") (decimal place))
+fronted front Given = refl
+fronted front (Reaped frames) = ap alone (behind_2 front (codes "reaped ") (decimal frames))
+fronted front (Report report) = report_fronted front report
 fronted front (Refused refusal) =
     ap alone (behind_4 front (codes "refused ") (decimal (number_of_refusal refusal)) (codes " ") (name_of_refusal refusal))
 fronted front (Fault fault) = ap alone (behind_2 front (codes "fault ") (name_of_fault fault))
@@ -190,12 +240,27 @@ unfolding reset_step answer
 reset_stays named w None = record { tenants = refl; addressee = λ many. tt }
 reset_stays named w (Some m) = record { tenants = length-set w.machines named _; addressee = λ many. tt }
 
+moved_stays : (named slot : ℕ) (w : World) (free : Option ℕ) → StaysNumbered w (moved_to named slot w free)
+unfolding answer
+moved_stays named slot w None = record { tenants = refl; addressee = λ many. tt }
+moved_stays named slot w (Some superblock) = record { tenants = refl; addressee = λ many. tt }
+
+move_stays : (named slot : ℕ) (w : World) (o : Option Machine) (free : Option ℕ) → StaysNumbered w (move_step named slot w o free)
+unfolding move_step answer
+move_stays named slot w None free = record { tenants = refl; addressee = λ many. tt }
+move_stays named slot w (Some m) free = go (holds m slot)
+  where
+    go : (held : Bool) → StaysNumbered w (if not held then answer Admin (Refused NoSlot) w else moved_to named slot w free)
+    go true = moved_stays named slot w free
+    go false = record { tenants = refl; addressee = λ many. tt }
+
 step_stays : (limit order : ℕ) (event : Event) (w : World) → StaysNumbered w (world_step limit order event w)
 unfolding world_step answer
 step_stays limit order (On.Tenant named command) w = tenant_stays limit order named command w (slice_get w.machines named) refl
 step_stays limit order (On.Admin (Do.Grant named)) w = grant_stays order named w (slice_get w.machines named) (position is_none w.owners)
 step_stays limit order (On.Admin (Do.TakeBack named slot)) w = slot_stays order named slot w (slice_get w.machines named)
 step_stays limit order (On.Admin (Do.Reset named)) w = reset_stays named w (slice_get w.machines named)
+step_stays limit order (On.Admin (Do.Move named slot)) w = move_stays named slot w (slice_get w.machines named) (position is_none w.owners)
 step_stays limit order (On.Admin Do.Pool) w = record { tenants = refl; addressee = λ many. tt }
 
 -- lines tell tenant t, from each world of at most 2 ^ 64 tenants, the replies of their events that are addressed to it

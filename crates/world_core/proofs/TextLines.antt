@@ -11,11 +11,15 @@ use Rattle.words_core.specs.declared.event.LineFault.TheVariants.{Long, Unknown,
 use Rattle.words_core.specs.declared.reply.Addressee.{Addressee}
 use Rattle.words_core.specs.declared.reply.Addressee.TheVariants.{Admin, Nobody, Tenant}
 use Rattle.words_core.specs.declared.reply.Body.{Body}
-use Rattle.words_core.specs.declared.reply.Body.TheVariants.{Granted, TakenBack, WasReset, Owners, Frame, Freed, Bytes, Written, Refused, Fault}
+use Rattle.words_core.specs.declared.reply.Body.TheVariants.{Granted, TakenBack, WasReset, Moved, Owners, Frame, Freed, Bytes, Written, Cache, Destroyed, Object, Given, Reaped, Report, Refused, Fault}
 use Rattle.words_core.specs.declared.reply.Refusal.{Refusal}
 use Rattle.words_core.specs.declared.event.LineFault.{LineFault}
 use Rattle.words_core.specs.declared.reply.Refusal.TheVariants.{NoFrames, BadOrder, NotABlock, OutOfReach, BadLength, BadSize, BadAlign, NoCacheSlot, NoCache, CacheInUse, NotAnObject, NoTenant, PoolEmpty, NoSlot, SlotBusy}
 use Rattle.words_core.specs.Cutting.{lines_of_trace}
+use Rattle.model_core.specs.declared.report.OrderRow.{OrderRow}
+use Rattle.model_core.specs.declared.report.CacheRow.{CacheRow}
+use Rattle.words_core.specs.declared.report.Report as figures
+use Rattle.words_core.specs.ReportTexts.{top_text, frames_text, order_text, order_texts, cache_text, report_texts}
 use Rattle.words_core.specs.Texts.{addressee_text, body_texts, owner_text, owner_texts, number_of_refusal, name_of_refusal, name_of_fault}
 
 -- a byte that is no LF
@@ -152,6 +156,60 @@ owners_are_texts : (front : List ℕ) (superblock : ℕ) (owners : List (Option 
 owners_are_texts front superblock [] h = tt
 owners_are_texts front superblock (owner ∷ owners) h = (owner_is_text front superblock owner h, owners_are_texts front (superblock + 1) owners h)
 
+pub texts-append : (xs ys : List (List ℕ)) → AreTexts xs → AreTexts ys → AreTexts (xs ++ ys)
+texts-append [] ys h k = k
+texts-append (x ∷ xs) ys h k = (h.0, texts-append xs ys h.1 k)
+
+-- The rows of a report
+
+top_is_text : (top : Option ℕ) → list_all is_text (top_text top) ≡ true
+top_is_text None = refl
+top_is_text (Some order) = decimal_text order
+
+frames_are_text : (front : List ℕ) (report : figures.Report) → IsText front → IsText (frames_text front report)
+frames_are_text front report h =
+    let of_frames = with_number (with_piece h (codes "frames ") refl) report.frames in
+    let of_live = with_number (with_piece of_frames (codes " live ") refl) report.live in
+    let of_free = with_number (with_piece of_live (codes " free ") refl) report.free in
+    let of_top = with_piece (with_piece of_free (codes " top ") refl) (top_text report.top) (top_is_text report.top) in
+    with_number (with_piece of_top (codes " split ") refl) report.split
+
+order_is_text : (front : List ℕ) (order : ℕ) (row : OrderRow) → IsText front → IsText (order_text front order row)
+order_is_text front order row h =
+    let of_order = with_number (with_piece h (codes "order ") refl) order in
+    let of_free = with_number (with_piece of_order (codes " free ") refl) row.free in
+    with_number (with_piece of_free (codes " taken ") refl) row.taken
+
+orders_are_texts : (front : List ℕ) (order : ℕ) (rows : List OrderRow) → IsText front → AreTexts (order_texts front order rows)
+orders_are_texts front order [] h = tt
+orders_are_texts front order (row ∷ rows) h = (order_is_text front order row h, orders_are_texts front (order + 1) rows h)
+
+cache_is_text : (front : List ℕ) (row : CacheRow) → IsText front → IsText (cache_text front row)
+cache_is_text front row h =
+    let of_cache = with_number (with_piece h (codes "cache ") refl) row.cache in
+    let of_full = with_number (with_piece of_cache (codes " full ") refl) row.full in
+    let of_partial = with_number (with_piece of_full (codes " partial ") refl) row.partial in
+    let of_empty = with_number (with_piece of_partial (codes " empty ") refl) row.empty in
+    with_number (with_piece of_empty (codes " live ") refl) row.live
+
+caches_are_texts : (front : List ℕ) (rows : List CacheRow) → IsText front → AreTexts (map (λ row. cache_text front row) rows)
+caches_are_texts front [] h = tt
+caches_are_texts front (row ∷ rows) h = (cache_is_text front row h, caches_are_texts front rows h)
+
+report_is_text : (front : List ℕ) (report : figures.Report) → IsText front → AreTexts (report_texts front report)
+report_is_text front report h =
+    (frames_are_text front report h, texts-append _ _ (orders_are_texts front 0 report.orders.items h) (caches_are_texts front report.caches.items h))
+
+layout_is_text : (front : List ℕ) (number chunk order objects colours : ℕ) → IsText front → AreTexts (body_texts front (Cache number chunk order objects colours))
+layout_is_text front number chunk order objects colours h =
+    let of_cache = with_number (with_piece h (codes "cache ") refl) number in
+    let of_chunk = with_number (with_piece of_cache (codes " chunk ") refl) chunk in
+    let of_order = with_number (with_piece of_chunk (codes " order ") refl) order in
+    let of_objects = with_number (with_piece of_order (codes " objects ") refl) objects in
+    (with_number (with_piece of_objects (codes " colours ") refl) colours, tt)
+
+-- The rows of a reply
+
 pub body_text : (front : List ℕ) (body : Body) → IsText front → AreTexts (body_texts front body)
 body_text front (Granted tenant slot superblock) h =
     let of_tenant = with_number (with_piece h (codes "granted ") refl) tenant in
@@ -161,6 +219,10 @@ body_text front (TakenBack superblock) h = (with_number (with_piece h (codes "ta
 body_text front (WasReset tenant superblocks) h =
     let of_tenant = with_number (with_piece h (codes "reset ") refl) tenant in
     (with_number (with_piece of_tenant (codes " superblocks ") refl) superblocks, tt)
+body_text front (Moved tenant slot superblock) h =
+    let of_tenant = with_number (with_piece h (codes "moved ") refl) tenant in
+    let of_slot = with_number (with_piece of_tenant (codes " slot ") refl) slot in
+    (with_number (with_piece of_slot (codes " superblock ") refl) superblock, tt)
 body_text front (Owners owners) h =
     let of_free = with_number (with_piece h (codes "pool free ") refl) (count_by is_none owners.items) in
     (with_number (with_piece of_free (codes " of ") refl) (length owners.items), owners_are_texts front 0 owners.items h)
@@ -168,6 +230,12 @@ body_text front (Freed order) h = (with_number (with_piece h (codes "freed ") re
 body_text front (Written count) h = (with_number (with_piece h (codes "written ") refl) count, tt)
 body_text front (Frame frame) h = (with_number (with_piece h (codes "frame ") refl) frame, tt)
 body_text front (Bytes bytes) h = (with_piece (with_piece h (codes "bytes ") refl) (encode_lower bytes.items) (hex_text bytes.items), tt)
+body_text front (Cache number chunk order objects colours) h = layout_is_text front number chunk order objects colours h
+body_text front (Destroyed frames) h = (with_number (with_piece h (codes "destroyed ") refl) frames, tt)
+body_text front (Object place) h = (with_number (with_piece h (codes "object ") refl) place, tt)
+body_text front Given h = (with_piece h (codes "given") refl, tt)
+body_text front (Reaped frames) h = (with_number (with_piece h (codes "reaped ") refl) frames, tt)
+body_text front (Report report) h = report_is_text front report h
 body_text front (Refused refusal) h =
     let of_number = with_number (with_piece h (codes "refused ") refl) (number_of_refusal refusal) in
     (with_piece (with_piece of_number (codes " ") refl) (name_of_refusal refusal) (refusal_text refusal), tt)

@@ -3,6 +3,8 @@ use Rattle.std.specs.Prelude.{◌≡◌, ℕ, ◌^◌, ◌<◌, ◌≤◌, List,
 use Rattle.model_core.specs.Machine.{Machine, empty_machine}
 use Rattle.words_core.specs.declared.event.Event.{Event}
 use Rattle.words_core.specs.declared.reply.Body.{Body}
+use Rattle.words_core.specs.declared.reply.Body.TheVariants.{Refused}
+use Rattle.words_core.specs.declared.reply.Refusal.TheVariants.{NoCacheSlot}
 use Rattle.world_core.specs.PrivateStep.{Entry}
 use Rattle.world_core.specs.PrivateRun.{private_run}
 use Rattle.world_core.specs.World.{World, Exchange, opening_world, history, world_after}
@@ -44,6 +46,13 @@ SameTexts = (limit order superblocks tenants superblocks' tenants' t : ℕ) (eve
     HaveSameOwnList limit order superblocks tenants superblocks' tenants' t events events' →
     texts_for t (replies_to t (opening_history limit order superblocks tenants events))
     ≡ texts_for t (replies_to t (opening_history limit order superblocks' tenants' events'))
+
+-- A private run in which no cache is refused for want of a number is, with the same replies and machine, the run under any
+-- greater limit on caches.
+abbrev pub MoreCaches : Type 0
+MoreCaches = (limit more order : ℕ) (entries : List Entry) (m : Machine) → limit ≤ more
+    → (Contains (private_run limit order entries m).replies (Refused NoCacheSlot) → ⊥)
+    → private_run more order entries m ≡ private_run limit order entries m
 
 -- as text, what the private machine of tenant t answers to its own list of a trace
 unfoldable pub private_lines : ℕ → ℕ → ℕ → ℕ → ℕ → List ℕ → List (List ℕ)

@@ -6,7 +6,7 @@ use Rattle.words_core.specs.declared.event.AdminCommand.TheVariants as Do
 use Rattle.words_core.specs.declared.reply.Addressee.{Addressee}
 use Rattle.words_core.specs.declared.reply.Addressee.TheVariants as To
 use Rattle.words_core.specs.declared.reply.Body.{Body}
-use Rattle.words_core.specs.declared.reply.Body.TheVariants.{Granted, TakenBack, WasReset, Owners, Frame, Freed, Bytes, Written, Refused, Fault}
+use Rattle.words_core.specs.declared.reply.Body.TheVariants.{Granted, TakenBack, WasReset, Moved, Owners, Frame, Freed, Bytes, Written, Cache, Destroyed, Object, Given, Reaped, Report, Refused, Fault}
 use Rattle.world_core.specs.PrivateStep.{Entry, Ask, Grant, TakeBack, Reset}
 use Rattle.world_core.specs.World.{Exchange}
 
@@ -14,11 +14,18 @@ abbrev pub is_refused : Body → Bool
 is_refused (Granted tenant slot superblock) = false
 is_refused (TakenBack superblock) = false
 is_refused (WasReset tenant superblocks) = false
+is_refused (Moved tenant slot superblock) = false
 is_refused (Owners owners) = false
 is_refused (Frame first) = false
 is_refused (Freed order) = false
 is_refused (Bytes bytes) = false
 is_refused (Written count) = false
+is_refused (Cache number chunk order objects colours) = false
+is_refused (Destroyed frames) = false
+is_refused (Object place) = false
+is_refused Given = false
+is_refused (Reaped frames) = false
+is_refused (Report figures) = false
 is_refused (Refused refusal) = true
 is_refused (Fault fault) = false
 
@@ -30,12 +37,14 @@ if_named t named entry = if named == t then entry ∷ [] else []
 abbrev pub if_granted : ℕ → ℕ → Body → Entry → List Entry
 if_granted t named body entry = if is_refused body then [] else if_named t named entry
 
--- what an event with its reply is to the machine of tenant t; superblock numbers do not stand in it
+-- What an event with its reply is to the machine of tenant t. Superblock numbers do not stand in it, so a move, which
+-- changes nothing else, is nothing to any machine.
 abbrev pub own_entries : ℕ → Event → Body → List Entry
 own_entries t (On.Tenant named command) body = if_named t named (Ask command)
 own_entries t (On.Admin (Do.Grant named)) body = if_granted t named body Grant
 own_entries t (On.Admin (Do.TakeBack named slot)) body = if_granted t named body (TakeBack slot)
 own_entries t (On.Admin (Do.Reset named)) body = if_named t named Reset
+own_entries t (On.Admin (Do.Move named slot)) body = []
 own_entries t (On.Admin Do.Pool) body = []
 
 -- the tenant's own list: its commands, and what was granted to it, taken back and reset

@@ -1,13 +1,21 @@
 -- The private machine of one tenant, a step at a time.
-use Rattle.std.specs.Prelude.{ℕ, List, [], ◌∷◌, Option, Some, None, Result, Ok, Err}
+use Rattle.std.specs.Prelude.{ℕ, ◌+◌, List, [], ◌∷◌, Option, Some, None, Result, Ok, Err}
+use Rattle.model_core.specs.Layouts.{Layout, layout_of}
 use Rattle.model_core.specs.Machine.{Machine, empty_machine}
 use Rattle.model_core.specs.Operations.{Step, alloc_step, free_step, read_step, write_step, after_grant, take_back_step}
+use Rattle.model_core.specs.CacheOperations.{cache_step, destroy_step, take_step, give_step, reap_step}
+use Rattle.model_core.specs.Reports.{frames_held, frames_taken, frames_free, greatest_free, split_share, order_rows, rows_of}
 use Rattle.model_core.specs.declared.refusals.AllocRefusal.{AllocRefusal}
 use Rattle.model_core.specs.declared.refusals.ReadRefusal.{ReadRefusal}
+use Rattle.model_core.specs.declared.refusals.CacheRefusal.{CacheRefusal}
+use Rattle.model_core.specs.declared.refusals.DestroyRefusal.{DestroyRefusal}
+use Rattle.model_core.specs.declared.refusals.TakeRefusal.{TakeRefusal}
+use Rattle.model_core.specs.declared.refusals.GiveRefusal.{GiveRefusal}
 use Rattle.words_core.specs.declared.event.Command.{Command}
-use Rattle.words_core.specs.declared.event.Command.TheVariants.{Alloc, Free, Read, Write}
+use Rattle.words_core.specs.declared.event.Command.TheVariants as Asked
+use Rattle.words_core.specs.declared.report.Report as figures
 use Rattle.words_core.specs.declared.reply.Body.{Body}
-use Rattle.words_core.specs.declared.reply.Body.TheVariants.{Frame, Freed, Bytes, Written, Refused}
+use Rattle.words_core.specs.declared.reply.Body.TheVariants.{Frame, Freed, Bytes, Written, Cache, Destroyed, Object, Given, Reaped, Report, Refused}
 use Rattle.words_core.specs.declared.reply.Refusal.{Refusal}
 
 -- what the tenant is told of an operation on its machine
@@ -30,6 +38,50 @@ abbrev pub write_body : Option ℕ → Body
 write_body (Some count) = Written count
 write_body None = Refused Refusal.OutOfReach
 
+-- the number of a new cache, and its layout
+abbrev pub layout_body : ℕ → Layout → Body
+layout_body number l = Cache number l.chunk l.order l.count l.colours
+
+abbrev pub cache_body : ℕ → ℕ → Result ℕ CacheRefusal → Body
+cache_body size align (Ok number) = layout_body number (layout_of size align)
+cache_body size align (Err CacheRefusal.BadSize) = Refused Refusal.BadSize
+cache_body size align (Err CacheRefusal.BadAlign) = Refused Refusal.BadAlign
+cache_body size align (Err CacheRefusal.NoCacheSlot) = Refused Refusal.NoCacheSlot
+
+abbrev pub destroy_body : Result ℕ DestroyRefusal → Body
+destroy_body (Ok frames) = Destroyed frames
+destroy_body (Err DestroyRefusal.NoCache) = Refused Refusal.NoCache
+destroy_body (Err DestroyRefusal.CacheInUse) = Refused Refusal.CacheInUse
+
+abbrev pub take_body : Result ℕ TakeRefusal → Body
+take_body (Ok place) = Object place
+take_body (Err TakeRefusal.NoCache) = Refused Refusal.NoCache
+take_body (Err TakeRefusal.NoFrames) = Refused Refusal.NoFrames
+
+abbrev pub give_body : Result (Unit {0}) GiveRefusal → Body
+give_body (Ok done) = Given
+give_body (Err GiveRefusal.NoCache) = Refused Refusal.NoCache
+give_body (Err GiveRefusal.NotAnObject) = Refused Refusal.NotAnObject
+
+abbrev pub reap_body : ℕ → Body
+reap_body frames = Reaped frames
+
+-- the figures of the machine; slots have 2 ^ order frames
+unfoldable pub figures_of : ℕ → Machine → figures.Report
+figures_of order m = record {
+  frames = frames_held order m;
+  live = frames_taken m;
+  free = frames_free order m;
+  top = greatest_free order m;
+  split = split_share (frames_free order m) (greatest_free order m);
+  orders = record { items = order_rows order m (order + 1) };
+  caches = record { items = rows_of m };
+}
+
+-- a report, which changes nothing
+unfoldable pub report_step : ℕ → Machine → Step Body
+report_step order m = record { answer = Report (figures_of order m); machine = m }
+
 -- the operation, with its answer put as the body of a reply
 abbrev pub told_by : {A : Type 0} → (A → Body) → Step A → Step Body
 told_by body step = record { answer = body step.answer; machine = step.machine }
@@ -37,10 +89,16 @@ told_by body step = record { answer = body step.answer; machine = step.machine }
 -- What a tenant's command answers and makes of its machine. `limit` is on the number of its caches, slots have
 -- 2 ^ order frames.
 unfoldable pub command_step : ℕ → ℕ → Command → Machine → Step Body
-command_step limit order (Alloc k) m = told_by alloc_body (alloc_step order k m)
-command_step limit order (Free frame) m = told_by free_body (free_step frame m)
-command_step limit order (Read place len) m = told_by read_body (read_step place len m)
-command_step limit order (Write place bytes) m = told_by write_body (write_step place bytes.items m)
+command_step limit order (Asked.Alloc k) m = told_by alloc_body (alloc_step order k m)
+command_step limit order (Asked.Free frame) m = told_by free_body (free_step frame m)
+command_step limit order (Asked.Read place len) m = told_by read_body (read_step place len m)
+command_step limit order (Asked.Write place bytes) m = told_by write_body (write_step place bytes.items m)
+command_step limit order (Asked.Cache size align pattern) m = told_by (cache_body size align) (cache_step limit size align pattern.items m)
+command_step limit order (Asked.Destroy number) m = told_by destroy_body (destroy_step number m)
+command_step limit order (Asked.Take number) m = told_by take_body (take_step order number m)
+command_step limit order (Asked.Give number place) m = told_by give_body (give_step number place m)
+command_step limit order Asked.Reap m = told_by reap_body (reap_step m)
+command_step limit order Asked.Report m = report_step order m
 
 -- all that reaches the machine of a tenant: its own command, a superblock granted, a slot taken back, a reset
 pub data Entry : Type 0 where

@@ -1,16 +1,27 @@
 -- The machines that private runs leave, and what the model's laws say of them.
-use Rattle.std.specs.Prelude.{◌≡◌, ◌↔◌, ℕ, ◌/◌, ◌^◌, true, List, [], ◌∷◌, Some, Ok}
+use Rattle.std.specs.Prelude.{◌≡◌, ◌↔◌, ℕ, ◌+◌, ◌*◌, ◌/◌, ◌^◌, ◌<◌, ◌≤◌, true, false, List, [], ◌∷◌, ◌++◌, Some, Ok, slice_get, Contains}
 use Rattle.std.specs.List.{flat_map}
 use Rattle.model_core.specs.Blocks.{Block, block, HasFrame, IsTaken, IsFree, IsChoice, IsSound}
 use Rattle.model_core.specs.BlockLaws.{IsFreeOnceSplit, JoinsTo, IsFreeOnceJoined}
-use Rattle.model_core.specs.Machine.{Machine, empty_machine, holds, taken_in}
-use Rattle.model_core.specs.Slabs.{by_need}
+use Rattle.model_core.specs.Layouts.{is_small, pattern_byte}
+use Rattle.model_core.specs.Machine.{Cache, Machine, empty_machine, holds, taken_in, layout}
+use Rattle.model_core.specs.Slabs.{cache_of, by_need}
 use Rattle.model_core.specs.Operations.{alloc_step, free_step}
-use Rattle.model_core.specs.Runs.{Operation, run}
-use Rattle.model_core.specs.WellFormed.{IsWellFormed}
+use Rattle.model_core.specs.Runs.{Operation, ArePossible, run}
+use Rattle.model_core.specs.WellFormed.{in_slab, IsWellFormed}
+use Rattle.model_core.specs.Laws.{Object, IsObject, place_of, HasByte}
+use Rattle.model_core.specs.Room.{IsAmple}
+use Rattle.words_core.specs.declared.event.Event.TheVariants as On
 use Rattle.words_core.specs.declared.event.Command.TheVariants as Ask
-use Rattle.world_core.specs.PrivateStep.{Entry}
+use Rattle.words_core.specs.declared.reply.Addressee.TheVariants as To
+use Rattle.words_core.specs.declared.reply.Body.TheVariants as Say
+use Rattle.words_core.specs.Cutting.{lines_of_trace}
+use Rattle.world_core.specs.PrivateStep.{Entry, command_step}
 use Rattle.world_core.specs.PrivateRun.{private_run}
+use Rattle.world_core.specs.World.{opening_world, world_step, world_after}
+use Rattle.world_core.specs.OwnList.{own_list}
+use Rattle.world_core.specs.Output.{events_of}
+use Rattle.world_core.specs.Laws.{opening_history}
 
 -- what an entry is to the model: an operation, or nothing where it only reads
 abbrev pub operations_in : Entry → List Operation
@@ -18,6 +29,12 @@ operations_in (Entry.Ask (Ask.Alloc k)) = Operation.Alloc k ∷ []
 operations_in (Entry.Ask (Ask.Free first)) = Operation.Free first ∷ []
 operations_in (Entry.Ask (Ask.Read place len)) = []
 operations_in (Entry.Ask (Ask.Write place bytes)) = Operation.Write place bytes.items ∷ []
+operations_in (Entry.Ask (Ask.Cache size align pattern)) = Operation.Create size align pattern.items ∷ []
+operations_in (Entry.Ask (Ask.Destroy number)) = Operation.Destroy number ∷ []
+operations_in (Entry.Ask (Ask.Take number)) = Operation.Take number ∷ []
+operations_in (Entry.Ask (Ask.Give number place)) = Operation.Give number place ∷ []
+operations_in (Entry.Ask Ask.Reap) = Operation.Reap ∷ []
+operations_in (Entry.Ask Ask.Report) = []
 operations_in Entry.Grant = Operation.Grant ∷ []
 operations_in (Entry.TakeBack slot) = Operation.TakeBack slot ∷ []
 operations_in Entry.Reset = Operation.Reset ∷ []
@@ -31,13 +48,22 @@ EntriesAreOperations = (limit order : ℕ) (entries : List Entry) (m : Machine) 
 abbrev pub reached_machine : ℕ → ℕ → List Entry → Machine
 reached_machine limit order entries = (private_run limit order entries empty_machine).machine
 
--- it is well formed ..
+-- Each of the entries can be asked for: a cache is made with a pattern of 1 to 16 bytes.
+abbrev pub AreAsked : List Entry → Type 0
+AreAsked entries = ArePossible (flat_map operations_in entries)
+
+-- So it is in every tenant's own list of every trace.
+abbrev pub OwnListsAreAsked : Type 0
+OwnListsAreAsked = (limit order superblocks tenants t : ℕ) (trace : List ℕ) →
+    AreAsked (own_list t (opening_history limit order superblocks tenants (events_of (lines_of_trace trace))))
+
+-- The machine that is left is well formed ..
 abbrev pub ReachedWellFormed : Type 0
-ReachedWellFormed = (limit order : ℕ) (entries : List Entry) → IsWellFormed order (reached_machine limit order entries)
+ReachedWellFormed = (limit order : ℕ) (entries : List Entry) → AreAsked entries → IsWellFormed order (reached_machine limit order entries)
 
 -- .. so its taken blocks, page blocks and the blocks of slabs, are aligned, in held slots and apart
 abbrev pub ReachedSound : Type 0
-ReachedSound = (limit order : ℕ) (entries : List Entry) →
+ReachedSound = (limit order : ℕ) (entries : List Entry) → AreAsked entries →
     IsSound order (holds (reached_machine limit order entries)) (taken_in (reached_machine limit order entries))
 
 -- the block is free in this machine
@@ -53,7 +79,7 @@ ReachedFreeOnce = (limit order x : ℕ) (entries : List Entry) → let m = reach
 -- An `alloc` that answers a frame splits the free block that is chosen, of some order j, of those that there are once empty
 -- slabs are given back by need.
 abbrev pub ReachedSplits : Type 0
-ReachedSplits = (limit order k first : ℕ) (entries : List Entry) → let m = reached_machine limit order entries in
+ReachedSplits = (limit order k first : ℕ) (entries : List Entry) → AreAsked entries → let m = reached_machine limit order entries in
     let n = by_need order k m in
     (alloc_step order k m).answer ≡ Ok first →
     (j : ℕ) × IsChoice order (holds n) (taken_in n) k (block first j) × ((b : Block) →
@@ -61,7 +87,47 @@ ReachedSplits = (limit order k first : ℕ) (entries : List Entry) → let m = r
 
 -- A `free` that answers an order joins the block with its buddies as long as they are free, up to some order j.
 abbrev pub ReachedJoins : Type 0
-ReachedJoins = (limit order first k : ℕ) (entries : List Entry) → let m = reached_machine limit order entries in
+ReachedJoins = (limit order first k : ℕ) (entries : List Entry) → AreAsked entries → let m = reached_machine limit order entries in
     (free_step first m).answer ≡ Some k →
     (j : ℕ) × JoinsTo order (holds m) (taken_in m) first k j × ((b : Block) →
     (IsFreeIn order (free_step first m).machine b ↔ IsFreeOnceJoined (IsFreeIn order m) first k j b))
+
+-- Two objects of its slabs that share a byte are one ..
+abbrev pub ReachedApart : Type 0
+ReachedApart = (limit order : ℕ) (entries : List Entry) → AreAsked entries → let m = reached_machine limit order entries in
+    (a b : Object) → IsObject m a → IsObject m b → (place : ℕ) → HasByte a place → HasByte b place → a ≡ b
+
+-- .. and those of small slabs stay below the last 32 bytes of their frame.
+abbrev pub ReachedRecordsFree : Type 0
+ReachedRecordsFree = (limit order : ℕ) (entries : List Entry) → AreAsked entries → let m = reached_machine limit order entries in
+    (object : Object) → IsObject m object → is_small (layout object.cache).chunk ≡ true
+    → (place : ℕ) → HasByte object place → (4096 * object.slab.first ≤ place) × (place < 4096 * object.slab.first + 4064)
+
+-- Where no slab had the object's first place, and no reply since was that object, it reads as its cache's pattern: so it
+-- does when it is first handed out.
+abbrev pub ReachedConstructed : Type 0
+ReachedConstructed = (limit order : ℕ) (before since : List Entry) (object : Object) (j : ℕ) → AreAsked (before ++ since)
+    → in_slab (reached_machine limit order before) (place_of object) ≡ false
+    → (Contains (private_run limit order since (reached_machine limit order before)).replies (Say.Object (place_of object)) → ⊥)
+    → IsObject (reached_machine limit order (before ++ since)) object → j < object.cache.size
+    → (reached_machine limit order (before ++ since)).bytes (place_of object + j) ≡ Some (pattern_byte object.cache.pattern j)
+
+-- Where it holds more aligned blocks of an order than it has taken frames outside empty slabs, a block of that order is
+-- never refused ..
+abbrev pub ReachedRoom : Type 0
+ReachedRoom = (limit order k : ℕ) (entries : List Entry) → AreAsked entries → let m = reached_machine limit order entries in
+    IsAmple order k m → (first : ℕ) × ((command_step limit order (Ask.Alloc k) m).answer ≡ Say.Frame first)
+
+-- .. nor an object of a cache whose slabs have that order.
+abbrev pub ReachedObjectRoom : Type 0
+ReachedObjectRoom = (limit order number : ℕ) (entries : List Entry) (c : Cache) → AreAsked entries → let m = reached_machine limit order entries in
+    cache_of m number ≡ Some c → IsAmple order (layout c).order m
+    → (place : ℕ) × ((command_step limit order (Ask.Take number) m).answer ≡ Say.Object place)
+
+-- So nobody is starved by others: after any trace a tenant whose machine has that room is answered a frame, whatever all
+-- others did.
+abbrev pub NobodyStarves : Type 0
+NobodyStarves = (limit order superblocks tenants t k : ℕ) (trace : List ℕ) (m : Machine) → t < tenants →
+    let w = world_after limit order (opening_world superblocks tenants) (events_of (lines_of_trace trace)) in
+    slice_get w.machines t ≡ Some m → IsAmple order k m
+    → (first : ℕ) × ((world_step limit order (On.Tenant t (Ask.Alloc k)) w).reply ≡ record { addressee = To.Tenant t; body = Say.Frame first })

@@ -1,7 +1,7 @@
 -- The world of all tenants: who owns each superblock, and a private machine for each tenant.
-use Rattle.std.specs.Prelude.{ℕ, Bool, List, [], ◌∷◌, Option, Some, None, Result, Ok, Err, if◌then◌else◌, is_none, map, count_by, position, slice_get, slice_set, replicate}
+use Rattle.std.specs.Prelude.{ℕ, Bool, List, [], ◌∷◌, Option, Some, None, Result, Ok, Err, if◌then◌else◌, not, is_none, map, count_by, position, slice_get, slice_set, replicate}
 use Rattle.std.specs.List.{position_or_len}
-use Rattle.model_core.specs.Machine.{Machine, empty_machine}
+use Rattle.model_core.specs.Machine.{Machine, empty_machine, holds}
 use Rattle.model_core.specs.declared.owner.Owner.{Owner}
 use Rattle.model_core.specs.Owners.{owned_by, is_of, is_owner}
 use Rattle.model_core.specs.Operations.{next_slot, after_grant, take_back_step}
@@ -13,7 +13,7 @@ use Rattle.words_core.specs.declared.event.Command.{Command}
 use Rattle.words_core.specs.declared.reply.Addressee.{Addressee}
 use Rattle.words_core.specs.declared.reply.Addressee.TheVariants as To
 use Rattle.words_core.specs.declared.reply.Body.{Body}
-use Rattle.words_core.specs.declared.reply.Body.TheVariants.{Granted, TakenBack, WasReset, Owners, Refused}
+use Rattle.words_core.specs.declared.reply.Body.TheVariants.{Granted, TakenBack, WasReset, Moved, Owners, Refused}
 use Rattle.words_core.specs.declared.reply.Refusal.{Refusal}
 use Rattle.words_core.specs.declared.reply.Refusal.TheVariants.{NoTenant, PoolEmpty}
 use Rattle.words_core.specs.declared.reply.Reply.{Reply}
@@ -82,6 +82,20 @@ reset_step t w (Some m) = record {
   };
 }
 
+-- the slot stands over the least superblock without owner, and the one that was under it has no owner any more
+abbrev pub moved_to : ℕ → ℕ → World → Option ℕ → WorldStep
+moved_to t slot w None = answer To.Admin (Refused PoolEmpty) w
+moved_to t slot w (Some superblock) = record {
+  reply = record { addressee = To.Admin; body = Moved t slot superblock };
+  world = record w { owners = slice_set (map (given_up (is_owner t slot)) w.owners) superblock (Some (owned_by t slot)) };
+}
+
+-- a slot moved; every machine stays as it is
+unfoldable pub move_step : ℕ → ℕ → World → Option Machine → Option ℕ → WorldStep
+move_step t slot w None free = answer To.Admin (Refused NoTenant) w
+move_step t slot w (Some m) free =
+    if not (holds m slot) then answer To.Admin (Refused Refusal.NoSlot) w else moved_to t slot w free
+
 -- the command is a step of that tenant's machine alone
 unfoldable pub tenant_step : ℕ → ℕ → ℕ → Command → World → Option Machine → WorldStep
 tenant_step limit order t command w None = answer To.Nobody (Refused NoTenant) w
@@ -96,6 +110,7 @@ world_step limit order (On.Tenant t command) w = tenant_step limit order t comma
 world_step limit order (On.Admin (Do.Grant t)) w = grant_step order t w (slice_get w.machines t) (position is_none w.owners)
 world_step limit order (On.Admin (Do.TakeBack t slot)) w = slot_step order t slot w (slice_get w.machines t)
 world_step limit order (On.Admin (Do.Reset t)) w = reset_step t w (slice_get w.machines t)
+world_step limit order (On.Admin (Do.Move t slot)) w = move_step t slot w (slice_get w.machines t) (position is_none w.owners)
 world_step limit order (On.Admin Do.Pool) w = answer To.Admin (Owners (record { items = w.owners })) w
 
 -- an event with its reply

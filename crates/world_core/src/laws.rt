@@ -1,7 +1,7 @@
 //! The laws of whole runs. Each is the contract of a function that does nothing: a caller has the law by the call.
 
-ghost use Rattle.world_core.specs.Laws.{OwnRun, OwnLines, SameReplies, SameTexts, SameLines, AllShown, OwnShown, OwnLinesShown, EndedAllButTail, EndedLinesStay, ShownStays};
-ghost use Rattle.world_core.specs.Reached.{EntriesAreOperations, ReachedWellFormed, ReachedSound, ReachedFreeOnce, ReachedSplits, ReachedJoins};
+ghost use Rattle.world_core.specs.Laws.{OwnRun, MoreCaches, OwnLines, SameReplies, SameTexts, SameLines, AllShown, OwnShown, OwnLinesShown, EndedAllButTail, EndedLinesStay, ShownStays};
+ghost use Rattle.world_core.specs.Reached.{EntriesAreOperations, OwnListsAreAsked, ReachedWellFormed, ReachedSound, ReachedFreeOnce, ReachedSplits, ReachedJoins, ReachedApart, ReachedRecordsFree, ReachedConstructed, ReachedRoom, ReachedObjectRoom, NobodyStarves};
 
 /// In every run of the world, from its opening, a tenant is told exactly what its private machine
 /// answers to its own commands, grants, take-backs and resets, and is left with that machine.
@@ -46,6 +46,17 @@ pub fn entries_are_operations()
     ensures { EntriesAreOperations }
 {}
 
+/// A private run in which no cache is refused for want of a number is the run under any greater limit on caches.
+pub fn more_caches()
+    ensures { MoreCaches }
+{}
+
+/// Each cache of a tenant's own list of a trace is made with a pattern, so the laws of reached machines hold of the machine of
+/// every tenant after every trace.
+pub fn own_lists_are_asked()
+    ensures { OwnListsAreAsked }
+{}
+
 /// The machine that a private run leaves is well formed, and its taken blocks, those of slabs included, are aligned, in
 /// held slots and apart. So the laws of blocks hold there: each frame that is held and not taken lies in exactly one free
 /// block, `alloc` splits the block that is chosen, and `free` joins buddies.
@@ -55,4 +66,20 @@ pub fn reached_machines()
     ensures free_once { ReachedFreeOnce }
     ensures splits { ReachedSplits }
     ensures joins { ReachedJoins }
+{}
+
+/// The objects of the machine that a private run leaves share no byte and keep clear of control records; one that no reply
+/// has told since its slab was made is in constructed state.
+pub fn reached_objects()
+    ensures apart { ReachedApart }
+    ensures records { ReachedRecordsFree }
+    ensures constructed { ReachedConstructed }
+{}
+
+/// A tenant that holds more aligned blocks of some order than it has taken frames outside empty slabs is refused neither a
+/// block of that order nor an object of a cache whose slabs have it: in no run of the world is it starved by others.
+pub fn nobody_starves()
+    ensures block { ReachedRoom }
+    ensures object { ReachedObjectRoom }
+    ensures world { NobodyStarves }
 {}

@@ -7,4 +7,4 @@ pub returns-then-ne : goal.returns-then-ne
 returns-then-ne c =
     let s = c.args.lists.now in
     let with_places : List (Option (ℕ × ℕ)) → Placed = λ xs. record { heads = s.heads; places = xs } in
-    c.insert.ensures ∙ (ap (λ x. inserted x c.args.head c.args.node c.args.key) c.remove.ensures ∙ ap with_places (set-set s.places c.args.node None (Some (c.args.head, c.args.key))))
+    c.insert_near.ensures ∙ (ap (λ x. inserted x c.args.head c.args.node c.args.key) c.remove.ensures ∙ ap with_places (set-set s.places c.args.node None (Some (c.args.head, c.args.key))))

@@ -1,0 +1,27 @@
+-- The room that a machine has for a block, however its taken blocks lie.
+use Rattle.std.specs.Prelude.{◌≡◌, ℕ, ◌-◌, ◌*◌, ◌^◌, ◌<◌, ◌≤◌, length, Some, Ok}
+use Rattle.model_core.specs.Machine.{Cache, Machine, layout}
+use Rattle.model_core.specs.Slabs.{cache_of, reaped, choice_by_need}
+use Rattle.model_core.specs.Operations.{alloc_step}
+use Rattle.model_core.specs.CacheOperations.{take_step}
+use Rattle.model_core.specs.Reports.{frames_taken}
+use Rattle.model_core.specs.WellFormed.{IsWellFormed}
+
+-- Fewer frames are taken, empty slabs not counted, than the held slots have aligned blocks of order k; slots have
+-- 2 ^ order frames.
+pub record IsAmple (order k : ℕ) (m : Machine) : Type 0 where
+  pub of_slot : k ≤ order
+  pub fewer : frames_taken (reaped m) < length m.slots * 2 ^ (order - k)
+
+-- then a request for a block of order k gets one, whatever was done before ..
+abbrev pub RoomIsPromised : Type 0
+RoomIsPromised = (order k : ℕ) (m : Machine) → IsWellFormed order m → IsAmple order k m → (first : ℕ) × (choice_by_need order k m ≡ Some first)
+
+-- .. so a page block is never refused ..
+abbrev pub AllocIsPromised : Type 0
+AllocIsPromised = (order k : ℕ) (m : Machine) → IsWellFormed order m → IsAmple order k m → (first : ℕ) × ((alloc_step order k m).answer ≡ Ok first)
+
+-- .. nor an object of a cache whose slabs have this order
+abbrev pub TakeIsPromised : Type 0
+TakeIsPromised = (order number : ℕ) (m : Machine) (c : Cache) → IsWellFormed order m → cache_of m number ≡ Some c → IsAmple order (layout c).order m
+    → (place : ℕ) × ((take_step order number m).answer ≡ Ok place)

@@ -1,0 +1,36 @@
+-- The text of a report: its frames, then a line for each order, then a line for each cache.
+use Rattle.std.specs.Prelude.{ℕ, ◌+◌, Option, Some, None, List, [], ◌∷◌, ◌++◌, codes, decimal, map}
+use Rattle.model_core.specs.declared.report.OrderRow.{OrderRow}
+use Rattle.model_core.specs.declared.report.CacheRow.{CacheRow}
+use Rattle.words_core.specs.declared.report.Report.{Report}
+
+-- the greatest order of a free block, if there is one
+abbrev pub top_text : Option ℕ → List ℕ
+top_text None = codes "none"
+top_text (Some order) = decimal order
+
+-- the frames of the slots, those that are taken, those that are free, and how these are split
+abbrev pub frames_text : List ℕ → Report → List ℕ
+frames_text front report =
+    front ++ codes "frames " ++ decimal report.frames ++ codes " live " ++ decimal report.live ++ codes " free " ++ decimal report.free
+    ++ codes " top " ++ top_text report.top ++ codes " split " ++ decimal report.split
+
+-- the blocks of this order
+abbrev pub order_text : List ℕ → ℕ → OrderRow → List ℕ
+order_text front order row =
+    front ++ codes "order " ++ decimal order ++ codes " free " ++ decimal row.free ++ codes " taken " ++ decimal row.taken
+
+-- a line for each order, the first of them this one
+abbrev pub order_texts : List ℕ → ℕ → List OrderRow → List (List ℕ)
+order_texts front order [] = []
+order_texts front order (row ∷ rows) = order_text front order row ∷ order_texts front (order + 1) rows
+
+-- the slabs and objects of a cache
+abbrev pub cache_text : List ℕ → CacheRow → List ℕ
+cache_text front row =
+    front ++ codes "cache " ++ decimal row.cache ++ codes " full " ++ decimal row.full ++ codes " partial " ++ decimal row.partial
+    ++ codes " empty " ++ decimal row.empty ++ codes " live " ++ decimal row.live
+
+abbrev pub report_texts : List ℕ → Report → List (List ℕ)
+report_texts front report =
+    frames_text front report ∷ (order_texts front 0 report.orders.items ++ map (λ row. cache_text front row) report.caches.items)

@@ -1,0 +1,5 @@
+use Rattle.world_core.proofs.ReachedObjects.{reached_apart, reached_records_free, reached_constructed}
+use Rattle.world_core.proofs.laws.reached_objects.Goals as goal
+
+pub returns : goal.returns
+returns c = record { apart = reached_apart; records = reached_records_free; constructed = reached_constructed }
