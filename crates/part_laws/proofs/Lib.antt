@@ -20,3 +20,8 @@ pub mod PageHolds
 pub mod PageWritten
 pub mod PageOne
 pub mod PageRecords
+pub mod FigureSums
+pub mod FigureOrders
+pub mod FigureLists
+pub mod FigureBounds
+pub mod FigureMeets
