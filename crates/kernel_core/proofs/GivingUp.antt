@@ -14,7 +14,7 @@ use Rattle.world_core.specs.World.{given_up}
 use Rattle.kernel_core.specs.Parts.{mark_after, MarksFollow}
 use Rattle.kernel_core.specs.GivenUp.{GivesUp}
 use Rattle.kernel_core.proofs.Rising.{is_same, is_other, not_less, some_none}
-use Rattle.kernel_core.proofs.Unowned.{marks_replaced}
+use Rattle.kernel_core.proofs.Marks.{marks_replaced}
 
 pub same_after : (u : ℕ) (a b c : Content) → IsSameFor u a b → IsSameFor u b c → IsSameFor u a c
 same_after u a b c first second = record {

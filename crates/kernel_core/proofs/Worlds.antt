@@ -1,12 +1,14 @@
 -- From what one event does to the parts to what it does to the world that they show.
 use Rattle.model_core.specs.declared.owner.Owner.{Owner}
-use Rattle.std.proofs.Common.{◌≡◌, ◌≢◌, ℕ, zero, suc, ◌<◌, ◌≤◌, ◌==◌, Bool, true, false, Option, Some, None, is_some, List, [], ◌∷◌, length, slice_get, slice_set, refl, sym, ap, ◌∙◌, subst, ⊎_elim, arith}
+use Rattle.std.proofs.Common.{◌≡◌, ◌≢◌, ℕ, zero, suc, ◌<◌, ◌≤◌, ◌==◌, Bool, true, false, Option, Some, None, List, [], ◌∷◌, length, slice_get, slice_set, refl, sym, ap, ◌∙◌, subst, ⊎_elim, arith}
 use Rattle.std.proofs.lemmas.Bool.{cases_eq, eq-eqb}
 use Rattle.std.proofs.lemmas.List.{length-set}
 use Rattle.model_core.specs.Machine.{Machine}
 use Rattle.space_core.specs.Laws.{IsSameFor}
 use Rattle.space_core.specs.Content as spaces
 use Rattle.buddy_core.specs.Content as buddies
+use Rattle.slab_tables.specs.Content as tables
+use Rattle.slab_laws.proofs.Untouched.{kept_shows_same}
 use Rattle.words_core.specs.declared.event.Event.TheVariants as On
 use Rattle.words_core.specs.declared.event.Command.{Command}
 use Rattle.words_core.specs.declared.reply.Addressee.TheVariants as To
@@ -19,11 +21,14 @@ use Rattle.words_core.specs.declared.reply.Body.TheVariants.{Refused}
 use Rattle.world_core.specs.Limits.{cache_limit}
 use Rattle.world_core.specs.PrivateStep.{command_step}
 use Rattle.world_core.specs.World.{World, WorldStep, answer, tenant_step, world_step}
-use Rattle.kernel_core.specs.Parts.{Parts, PartsAgree, SameSizes, parts_of, Keeps}
+use Rattle.world_core.specs.OwnList.{is_refused}
+use Rattle.space_core.specs.Laws.{SpareStays}
+use Rattle.part_laws.specs.Slots.{ChangesFor}
+use Rattle.kernel_core.specs.Parts.{Parts, PartsAgree, SameSizes, MarksFollow, parts_of, Keeps}
 use Rattle.kernel_core.specs.Shows.{ShowsMachine, Shows}
-use Rattle.kernel_core.specs.Steps.{Steps, StepsMachine}
+use Rattle.kernel_core.specs.Steps.{is_named, Steps, StepsMachine}
 use Rattle.world_core.proofs.MachineLists.{slice_get-set_same, slice_get-set_other}
-use Rattle.kernel_core.proofs.Unowned.{marks_kept}
+use Rattle.kernel_core.proofs.Marks.{marks_kept}
 
 pub get_past : {A : Type 0} (xs : List A) (i : ℕ) → length xs ≤ i → slice_get xs i ≡ None
 get_past [] i past = refl
@@ -38,42 +43,43 @@ get_within (x ∷ xs) (suc i) within = get_within xs i (omega arith)
 some_same : {A : Type 0} (x y : A) → Some x ≡ Some y → x ≡ y
 some_same x y e = cc
 
+pub false_is : (b : Bool) → b ≡ false → b ≡ true → ⊥
+false_is b isnt is = cc
+
 -- a space that stays is the same for all
 pub same_all : (t : ℕ) (s : spaces.Content) → IsSameFor t s s
 same_all t s = record { slots = λ u. refl; banks = λ u m here. refl; bytes = λ place. refl; windows = λ place len. refl }
 
--- parts that agree are what their memory and their buddy systems tell
-pub same_parts : (k : Parts) → PartsAgree k → parts_of k.space k.buddy ≡ k
-same_parts k agree = λ i. record { order = agree.top i; superblocks = agree.sheets i; tenants = agree.holdings i; space = k.space; buddy = k.buddy }
+-- parts that agree are what their memory, their buddy systems and their caches tell
+pub same_parts : (k : Parts) → PartsAgree k → parts_of k.space k.buddy k.slabs ≡ k
+same_parts k agree =
+    λ i. record { order = agree.top i; superblocks = agree.sheets i; tenants = agree.holdings i; space = k.space; buddy = k.buddy; slabs = k.slabs }
 
-pub agree_viewed : (k : Parts) → PartsAgree k → PartsAgree (parts_of k.space k.buddy)
+pub agree_viewed : (k : Parts) → PartsAgree k → PartsAgree (parts_of k.space k.buddy k.slabs)
 agree_viewed k agree = subst PartsAgree (sym (same_parts k agree)) agree
 
-pub steps_viewed : (k k' : Parts) (event : Event) (reply : Reply) → PartsAgree k' → Steps k event k' reply → Steps k event (parts_of k'.space k'.buddy) reply
+pub steps_viewed : (k k' : Parts) (event : Event) (reply : Reply) → PartsAgree k' → Steps k event k' reply → Steps k event (parts_of k'.space k'.buddy k'.slabs) reply
 steps_viewed k k' event reply agree steps = subst (λ (x : Parts). Steps k event x reply) (sym (same_parts k' agree)) steps
 
 pub machine_viewed : (k k' : Parts) (t : ℕ) (command : Command) (body : Body) → StepsMachine k t command k' body
-    → StepsMachine k t command (parts_of k'.space k'.buddy) body
+    → StepsMachine k t command (parts_of k'.space k'.buddy k'.slabs) body
 machine_viewed k k' t command body steps = subst (λ (x : Parts). StepsMachine k t command x body) (sym (same_parts k' steps.agree)) steps
 
 -- parts that stay keep all
 pub keeps_all : (k : Parts) (t : ℕ) → Keeps k k t
-keeps_all k t = record { space = same_all t k.space; buddy = refl }
+keeps_all k t = record {
+  space = same_all t k.space;
+  buddy = refl;
+  slabs = record { top = refl; caches = λ c. refl; lists = λ f n under. refl; kept = λ f n under. refl };
+}
 
--- another memory and other buddy systems, of the same sizes
-pub same_sizes : (k : Parts) (s : spaces.Content) (b : buddies.Content) → SameSizes k (record k { space = s; buddy = b })
-same_sizes k s b = record { order = refl; superblocks = refl; tenants = refl }
+-- other contents, of the same sizes
+pub same_sizes : (k : Parts) (s : spaces.Content) (b : buddies.Content) (x : tables.Content) → SameSizes k (record k { space = s; buddy = b; slabs = x })
+same_sizes k s b x = record { order = refl; superblocks = refl; tenants = refl }
 
 -- parts that keep what a tenant has show the same machine for it
 pub keeps_shows : (k k' : Parts) (t : ℕ) (m : Machine) → Keeps k k' t → ShowsMachine k t m → ShowsMachine k' t m
-keeps_shows k k' t m keeps shown = record {
-  slots_rise = shown.slots_rise;
-  slots = λ slot. shown.slots slot ∙ sym (ap is_some (keeps.space.slots slot));
-  blocks_rise = shown.blocks_rise;
-  blocks = λ frame. shown.blocks frame ∙ sym (ap (λ h. buddies.taken_of h frame) keeps.buddy);
-  caches = shown.caches;
-  bytes = λ place. shown.bytes place ∙ sym (keeps.space.bytes place);
-}
+keeps_shows k k' t m keeps shown = kept_shows_same k.space k'.space k.buddy k'.buddy k.slabs k'.slabs t keeps m shown
 
 -- one tenant's machine changes, and the owners
 pub shows_changed : (k k' : Parts) (w : World) (t : ℕ) (m m' : Machine) (owners : List (Option Owner)) → Shows k w → PartsAgree k' → k'.tenants ≡ k.tenants → owners ≡ k'.space.owners
@@ -98,7 +104,7 @@ pub steps_answered : (k : Parts) (event : Event) (to : Addressee) (body : Body)
     → Steps k event k (record { addressee = to; body = body })
 unfolding answer
 steps_answered k event to body same = record {
-  sizes = same_sizes k _ _;
+  sizes = same_sizes k _ _ _;
   shows = λ w shown. subst (λ (s : WorldStep). Shows k s.world) (sym (same w shown)) shown;
   answer = λ w shown. sym (ap (λ (s : WorldStep). s.reply) (same w shown));
   refused = λ _. refl;
@@ -107,8 +113,36 @@ steps_answered k event to body same = record {
   spare = λ _ _. refl;
 }
 
-pub false_is : (b : Bool) → b ≡ false → b ≡ true → ⊥
-false_is b isnt is = cc
+-- The machine of one tenant changes, and with it the parts, for that tenant alone; and the owners.
+pub record IsOneStep (k k' : Parts) (event : Event) (reply : Reply) (t : ℕ) (change : Machine → Machine) : Type 0 where
+  pub tenant : t < k.tenants
+  pub sizes : SameSizes k k'
+  pub agree : PartsAgree k'
+  pub changes : ChangesFor t k.space k'.space k.buddy k'.buddy k.slabs k'.slabs change
+  pub step : (w : World) (m : Machine) → Shows k w → ShowsMachine k t m → slice_get w.machines t ≡ Some m
+      → world_step cache_limit k.order event w
+      ≡ record { reply = reply; world = record { owners = k'.space.owners; machines = slice_set w.machines t (change m) } }
+  pub only : (u : ℕ) → is_named u event ≡ false → u ≢ t
+  pub done : is_refused reply.body ≡ false
+  pub marks : MarksFollow k.space k'.space
+  pub spare : SpareStays k.space k'.space
+
+pub steps_changed : (k k' : Parts) (event : Event) (reply : Reply) (t : ℕ) (change : Machine → Machine) → IsOneStep k k' event reply t change → Steps k event k' reply
+steps_changed k k' event reply t change g = record {
+  sizes = g.sizes;
+  shows = λ w shown.
+      let (m, here) = get_within w.machines t (omega (arith, shown.tenants, g.tenant)) in
+      subst (λ (s : WorldStep). Shows k' s.world) (sym (g.step w m shown (shown.machines t m here) here))
+      (shows_changed k k' w t m (change m) k'.space.owners shown g.agree g.sizes.tenants refl here
+      (g.changes.shows m (shown.machines t m here)) g.changes.others);
+  answer = λ w shown.
+      let (m, here) = get_within w.machines t (omega (arith, shown.tenants, g.tenant)) in
+      sym (ap (λ (s : WorldStep). s.reply) (g.step w m shown (shown.machines t m here) here));
+  refused = λ refused. absurd (false_is (is_refused reply.body) g.done refused);
+  others = λ u unnamed. g.changes.others u (g.only u unnamed);
+  marks = g.marks;
+  spare = g.spare;
+}
 
 -- the tenant has no machine
 pub unknown_tenant : (k : Parts) (t : ℕ) (command : Command) → k.tenants ≤ t

@@ -3,3 +3,4 @@ pub mod Shows
 pub mod Steps
 pub mod Booting
 pub mod GivenUp
+pub mod Records

@@ -1,18 +1,13 @@
 -- Which world the parts of a kernel show.
-use Rattle.std.specs.Prelude.{◌≡◌, ℕ, [], length, map, Some, is_some, slice_get}
-use Rattle.model_core.specs.Machine.{Machine, holds, order_in}
-use Rattle.model_core.specs.WellFormed.{RisesFrom}
+use Rattle.std.specs.Prelude.{◌≡◌, ℕ, length, Some, slice_get}
+use Rattle.model_core.specs.Machine.{Machine}
+use Rattle.slab_laws.specs.Shows as showing
 use Rattle.world_core.specs.World.{World}
-use Rattle.kernel_core.specs.Parts.{Parts, PartsAgree, superblock_at, taken_of, byte_at}
+use Rattle.kernel_core.specs.Parts.{Parts, PartsAgree}
 
 -- the parts show that the tenant's private machine is this one
-pub record ShowsMachine (k : Parts) (t : ℕ) (m : Machine) : Type 0 where
-  pub slots_rise : RisesFrom 0 m.slots
-  pub slots : (slot : ℕ) → holds m slot ≡ is_some (superblock_at k t slot)
-  pub blocks_rise : RisesFrom 0 (map (λ b. b.first) m.blocks)
-  pub blocks : (frame : ℕ) → order_in m.blocks frame ≡ taken_of k t frame
-  pub caches : m.caches ≡ []
-  pub bytes : (place : ℕ) → m.bytes place ≡ byte_at k t place
+abbrev pub ShowsMachine : Parts → ℕ → Machine → Type 0
+ShowsMachine k t m = showing.ShowsMachine k.space k.buddy k.slabs t m
 
 -- the parts agree, and show this world
 pub record Shows (k : Parts) (w : World) : Type 0 where

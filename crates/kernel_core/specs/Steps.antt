@@ -4,6 +4,8 @@ use Rattle.words_core.specs.declared.event.Event.{Event}
 use Rattle.words_core.specs.declared.event.Event.TheVariants as On
 use Rattle.words_core.specs.declared.event.AdminCommand.TheVariants as Do
 use Rattle.words_core.specs.declared.event.Command.{Command}
+use Rattle.words_core.specs.declared.event.Command.TheVariants as Asked
+use Rattle.model_core.specs.Layouts.{is_pattern}
 use Rattle.words_core.specs.declared.reply.Body.{Body}
 use Rattle.words_core.specs.declared.reply.Body.TheVariants.{Refused}
 use Rattle.words_core.specs.declared.reply.Refusal.{Refusal}
@@ -13,7 +15,8 @@ use Rattle.world_core.specs.Limits.{cache_limit}
 use Rattle.world_core.specs.PrivateStep.{command_step}
 use Rattle.world_core.specs.World.{World, world_step}
 use Rattle.world_core.specs.OwnList.{is_refused}
-use Rattle.kernel_core.specs.Parts.{Parts, PartsAgree, SameSizes, MarksFollow, SpareStays, Keeps}
+use Rattle.space_core.specs.Laws.{SpareStays}
+use Rattle.kernel_core.specs.Parts.{Parts, PartsAgree, SameSizes, MarksFollow, Keeps}
 use Rattle.kernel_core.specs.Shows.{Shows, ShowsMachine}
 
 -- the event names tenant t
@@ -22,7 +25,22 @@ is_named t (On.Tenant tenant command) = tenant == t
 is_named t (On.Admin (Do.Grant tenant)) = tenant == t
 is_named t (On.Admin (Do.TakeBack tenant slot)) = tenant == t
 is_named t (On.Admin (Do.Reset tenant)) = tenant == t
+is_named t (On.Admin (Do.Move tenant slot)) = tenant == t
 is_named t (On.Admin Do.Pool) = false
+
+-- the pattern of a cache that the event asks for has 1 to 16 bytes
+abbrev pub HasPattern : Event → Type 0
+HasPattern (On.Tenant t (Asked.Cache size align pattern)) = is_pattern pattern.items ≡ true
+HasPattern (On.Tenant t (Asked.Alloc k)) = Unit {0}
+HasPattern (On.Tenant t (Asked.Free frame)) = Unit {0}
+HasPattern (On.Tenant t (Asked.Read place len)) = Unit {0}
+HasPattern (On.Tenant t (Asked.Write place bytes)) = Unit {0}
+HasPattern (On.Tenant t (Asked.Destroy number)) = Unit {0}
+HasPattern (On.Tenant t (Asked.Take number)) = Unit {0}
+HasPattern (On.Tenant t (Asked.Give number place)) = Unit {0}
+HasPattern (On.Tenant t Asked.Reap) = Unit {0}
+HasPattern (On.Tenant t Asked.Report) = Unit {0}
+HasPattern (On.Admin command) = Unit {0}
 
 -- the event is a step of whichever world the parts show
 pub record Steps (old : Parts) (event : Event) (new : Parts) (reply : Reply) : Type 0 where

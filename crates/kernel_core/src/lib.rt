@@ -5,7 +5,11 @@
 //! the others do, a tenant is told what its private machine answers.
 #![tactic(auto)]
 
+mod administering;
+mod caching;
 mod kernel;
 pub mod laws;
+mod paging;
+mod reporting;
 
 pub use kernel::{BootError, Config, Kernel};

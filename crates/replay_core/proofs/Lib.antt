@@ -4,3 +4,4 @@ pub mod OwnLemmas
 pub mod PendingLemmas
 pub mod PushLemmas
 pub mod RunLemmas
+pub mod RunnableLemmas

@@ -1,5 +1,5 @@
 -- One move after another.
-use Rattle.std.proofs.Common.{◌≡◌, ℕ, List, [], ◌++◌, Option, Some, None, take, refl, sym, ap, subst, ◌∙◌, append_assoc}
+use Rattle.std.proofs.Common.{◌≡◌, ℕ, ◌+◌, List, [], ◌++◌, Option, Some, None, take, refl, sym, ap, subst, ◌∙◌, arith, append_assoc}
 use Rattle.std.proofs.lemmas.List.{append-nil}
 use Rattle.std.specs.Io.KnownBytes.{Appends, Consumes, Keeps}
 
@@ -39,3 +39,6 @@ consumes_kept (Some us) (Some vs) (Some ws) xs h k = h ∙ ap (λ zs. xs ++ zs) 
 pub consumes_end : (a b c : Option (List ℕ)) (xs into : List ℕ) (count : ℕ) → count ≡ 0 → Consumes a b xs → Consumes b c (take count into) → Consumes a c xs
 consumes_end a b c xs into count none h k =
     subst (λ ys. Consumes a c ys) (ap (λ n. xs ++ take n into) none ∙ append-nil xs) (consumes_more a b c xs (take count into) h k)
+
+pub room_at_end : (start before now len count : ℕ) → count ≡ 0 → before + len ≡ start → now + count ≡ before → now + len ≡ start
+room_at_end start before now len count none had moved = omega arith

@@ -1,10 +1,11 @@
 -- Where a replay stands between two lines.
-use Rattle.std.specs.Prelude.{◌≡◌, ℕ, ◌+◌, ◌*◌, ◌≤◌, ◌==◌, false, List, [], ◌∷◌, ◌++◌, length, Option, Result}
+use Rattle.std.specs.Prelude.{◌≡◌, ℕ, ◌+◌, ◌*◌, ◌≤◌, ◌==◌, false, List, [], ◌∷◌, ◌++◌, length, Option, Some, None, Result, Ok, Err}
 use Rattle.std.specs.Io.KnownBytes.{Appends}
 use Rattle.words_core.specs.declared.event.Event.{Event}
 use Rattle.words_core.specs.declared.event.LineFault.{LineFault}
 use Rattle.kernel_core.specs.Parts.{Parts, SameSizes}
 use Rattle.kernel_core.specs.Shows.{Shows}
+use Rattle.kernel_core.specs.Steps.{HasPattern}
 use Rattle.world_core.specs.Limits.{cache_limit}
 use Rattle.world_core.specs.World.{World, world_after}
 use Rattle.world_core.specs.Output.{event_in, shown_reading, ended_lines, line_feed, with_line_feeds}
@@ -14,6 +15,12 @@ use Rattle.replay_core.specs.declared.replaying.Tally.{Tally}
 use Rattle.replay_core.specs.Pending.{Holds}
 use Rattle.replay_core.specs.Pushes.{most_reply_bytes, IsWholeAtOk}
 use Rattle.replay_core.specs.Runs.{fault_in, HasRun, IsCutShort}
+
+-- a line that was read so is no event, or one that a kernel can be asked to run
+abbrev pub IsRunnable : Result (Option Event) LineFault → Type 0
+IsRunnable (Ok (Some event)) = HasPattern event
+IsRunnable (Ok None) = Unit {0}
+IsRunnable (Err fault) = Unit {0}
 
 -- no LF is among the bytes
 abbrev pub IsOneLine : List ℕ → Type 0

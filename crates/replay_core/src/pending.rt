@@ -1,6 +1,7 @@
 ghost use Rattle.std.specs.Prelude.{◌≡◌, ℕ, ◌++◌, List, [], length, ◌==◌};
 ghost use Rattle.words_core.specs.Grammar.{reading_of};
 ghost use Rattle.replay_core.specs.Pending.{Holds};
+ghost use Rattle.replay_core.specs.Standing.{IsRunnable};
 
 use arrayvec::ArrayVec;
 use words_core::{Event, LineFault, read_line};
@@ -47,7 +48,8 @@ impl Pending {
 
     /// The line that has come, which is too long where it has more than is held.
     pub fn reading(&self) -> Result<Option<Event>, LineFault>
-        ensures { (line : List ℕ) → Holds line self.now → result ≡ reading_of line }
+        ensures reading { (line : List ℕ) → Holds line self.now → result ≡ reading_of line }
+        ensures runnable { IsRunnable result }
     {
         if self.longer {
             Err(LineFault::Long)
@@ -59,6 +61,7 @@ impl Pending {
     /// The line ends with these bytes: its reading. The next line begins.
     pub fn end_with(&mut self, bytes: &[u8]) -> Result<Option<Event>, LineFault>
         ensures reading { (line : List ℕ) → Holds line self.old → result ≡ reading_of (line ++ bytes.now) }
+        ensures runnable { IsRunnable result }
         ensures cleared { (line : List ℕ) → Holds line self.old → Holds [] self.new }
     {
         if self.is_empty() {

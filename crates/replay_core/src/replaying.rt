@@ -7,7 +7,7 @@ ghost use Rattle.world_core.specs.Output.{line_feed, shown_text};
 ghost use Rattle.kernel_core.specs.Steps.{Steps};
 ghost use Rattle.replay_core.specs.Pushes.{HasPushed, most_reply_bytes};
 ghost use Rattle.replay_core.specs.Runs.{Replays, HasOwnLines, IsDone, NamesFailed};
-ghost use Rattle.replay_core.specs.Standing.{IsBounded, HasAnswered, Stands, HasStopped};
+ghost use Rattle.replay_core.specs.Standing.{IsRunnable, IsBounded, HasAnswered, Stands, HasStopped};
 
 use crate::drain::Drain;
 use crate::feed::{Feed, Stopped};
@@ -16,7 +16,9 @@ use crate::pushing::{show, show_answer};
 use arrayvec::ArrayVec;
 use kernel_core::{Kernel, laws};
 use thiserror::Error;
-use words_core::{Addressee, AdminCommand, Body, Event, LineFault, MOST_REPLY_BYTES, Reply};
+use words_core::{
+    Addressee, AdminCommand, Body, Command, Event, LineFault, MOST_REPLY_BYTES, Reply,
+};
 
 /// How many bytes are asked for in one pull.
 const PIECE_BYTES: usize = 65_536;
@@ -165,6 +167,7 @@ fn answer<D: Drain>(
     tally: &mut Tally,
     line: &mut ArrayVec<u8, MOST_REPLY_BYTES>,
 ) -> Result<(), Stopped>
+    requires runnable { IsRunnable reading }
     requires fine { D.has_failed drain.old ≡ false }
     requires bounded { IsBounded tally.old }
     requires more { tally.old.lines + 1 < 2 ^ 64 }
@@ -178,8 +181,10 @@ fn answer<D: Drain>(
         Ok(None) => Ok(()),
         Ok(Some(Event::Tenant(tenant, command))) => {
             tally.events += 1;
-            let answer = kernel.ask(tenant, &command);
-            show_answer(&answer, line, only, drain, &mut tally.written)
+            match kernel.ask(tenant, &command) {
+                Some(answer) => show_answer(&answer, line, only, drain, &mut tally.written),
+                None => report(tenant, kernel, drain, only, &mut tally.written, line),
+            }
         }
         Ok(Some(Event::Admin(command))) => {
             tally.events += 1;
@@ -192,7 +197,29 @@ fn answer<D: Drain>(
     }
 }
 
-/// Runs a command of the administrator, and pushes what it shows; by itself, since its reply takes room that no other needs.
+/// Pushes the report of a tenant; by itself, as each reply of several lines is, since it takes room that no other needs.
+#[cold]
+#[inline(never)]
+fn report<D: Drain>(
+    tenant: u32,
+    kernel: &Kernel,
+    drain: &mut D,
+    only: Option<u8>,
+    written: &mut u128,
+    line: &mut ArrayVec<u8, MOST_REPLY_BYTES>,
+) -> Result<(), Stopped>
+    requires fine { D.has_failed drain.old ≡ false }
+    requires room { written.old + most_reply_bytes < 2 ^ 128 }
+    ensures answered { (reply : Reply) × Steps kernel.now (Event.Tenant tenant Command.Report) kernel.now reply
+        × HasPushed (D.contents drain.old) (D.contents drain.new) (shown_text only reply) written.old written.new result }
+    ensures few { written.new ≤ written.old + most_reply_bytes }
+    ensures failed { D.has_failed drain.new ≡ is_err result }
+{
+    let reply = kernel.report(tenant);
+    show(&reply, line, only, drain, written)
+}
+
+/// Runs a command of the administrator, and pushes what it shows; by itself, as a report is.
 #[cold]
 #[inline(never)]
 fn administer<D: Drain>(

@@ -120,7 +120,7 @@ asked_has : {C : Type 0} (P : C → Type 0) (rows : List (Row C)) (words : List 
 asked_has P rows [] c h e = absurd (cc)
 asked_has P rows (word ∷ arguments) c h e = command_has P rows word arguments c h e
 
-abbrev IsPossibleCommand : Command → Type 0
+abbrev pub IsPossibleCommand : Command → Type 0
 IsPossibleCommand command = ArePossible (operations_in (Ask command))
 
 tenant_rows_make : Each (RowMakes IsPossibleCommand) tenant_rows
@@ -143,7 +143,7 @@ tenant_rows_make = (
 
 -- Events
 
-abbrev IsPossibleEvent : Event → Type 0
+abbrev pub IsPossibleEvent : Event → Type 0
 IsPossibleEvent (On.Tenant t command) = IsPossibleCommand command
 IsPossibleEvent (On.Admin command) = Unit {0}
 
@@ -177,7 +177,8 @@ judged_possible (first ∷ rest) event e = go (slice_index first 0 == 35) e
         let parts = both (event_of first rest) (λ event. Ok (Some event)) (Some event) e in
         subst IsPossibleEvent (some_same parts.value event (ok_same (Some parts.value) (Some event) parts.rest)) (event_possible first rest parts.value parts.is)
 
-reading_possible : (line : List ℕ) (event : Event) → reading_of line ≡ Ok (Some event) → IsPossibleEvent event
+-- an event that a line reads as can be asked for
+pub reading_possible : (line : List ℕ) (event : Event) → reading_of line ≡ Ok (Some event) → IsPossibleEvent event
 unfolding reading_of
 reading_possible line event e = go (nat_lt 255 (length (strip_carriage_return line))) e
   where

@@ -2,7 +2,7 @@ use Rattle.std.proofs.Common.{◌≡◌, ◌+◌, ◌^◌, ◌<◌, ◌++◌, tr
 use Rattle.std.specs.Result.{is_err}
 use Rattle.std.proofs.lemmas.Bool.{eqb-true}
 use Rattle.std.proofs.lemmas.List.{length-take-le}
-use Rattle.replay_core.proofs.MoveLemmas.{consumes_nothing, consumes_more, consumes_kept, consumes_end}
+use Rattle.replay_core.proofs.MoveLemmas.{consumes_nothing, consumes_more, consumes_kept, consumes_end, room_at_end}
 use Rattle.replay_core.proofs.OwnLemmas.{own_lines_taken}
 use Rattle.replay_core.proofs.PushLemmas.{some_left}
 use Rattle.replay_core.proofs.RunLemmas.{stands_first, bounded_first, stands_given, stands_sent, stands_few, ended_are_done, all_are_done, last_is_done, stopped_at_last, ended_at, err_of, ok_of, is_ok_of, is_err_of}
@@ -111,7 +111,7 @@ returns-then-is_err-2-clause-ran g c =
     let stands = stands_sent _ _ _ _ _ _ _ _ _ _ c.pulls.invariant.3 c.send.ensures.bytes in
     let some = some_left stands.tail _ (c.is_empty.ensures stands.tail stands.holds) c.if-not-is_empty.true in
     let failed = is_err_of c.answer-answered.result (sym c.is_err-then-not-is_empty.ensures.value ∙ c.if-is_err-2.true) in
-    let stopped = stopped_at_last _ _ _ _ _ _ _ _ _ _ _ _ failed.0 stands c.reading.result some (c.reading.ensures stands.tail stands.holds)
+    let stopped = stopped_at_last _ _ _ _ _ _ _ _ _ _ _ _ failed.0 stands c.reading.result some (c.reading.ensures.reading stands.tail stands.holds)
     (rw failed.1 at c.answer-answered.ensures.answered) (ended_at _ c.in-Ok.count c.in-Ok.ensures.ended c.if-count-eq0.true) in (
       c.pulls.invariant.0,
       stopped.0,
@@ -119,7 +119,7 @@ returns-then-is_err-2-clause-ran g c =
       stopped.1,
       stopped.2,
       tt,
-      omega (arith, c.pulls.invariant.2, c.in-Ok.ensures.room, c.if-count-eq0.true),
+      room_at_end _ _ _ _ c.in-Ok.count c.if-count-eq0.true c.pulls.invariant.2 c.in-Ok.ensures.room,
     )
 
 pub returns-else-is_err-2-clause-ran : goal.returns-else-is_err-2-clause-ran
@@ -127,7 +127,7 @@ returns-else-is_err-2-clause-ran g c =
     let stands = stands_sent _ _ _ _ _ _ _ _ _ _ c.pulls.invariant.3 c.send.ensures.bytes in
     let some = some_left stands.tail _ (c.is_empty.ensures stands.tail stands.holds) c.if-not-is_empty.true in
     let fine = is_ok_of c.answer-answered.result (sym c.is_err-then-not-is_empty.ensures.value ∙ c.if-is_err-2.false) in
-    let done = last_is_done _ _ _ _ _ _ _ _ _ _ _ stands c.reading.result some (c.reading.ensures stands.tail stands.holds)
+    let done = last_is_done _ _ _ _ _ _ _ _ _ _ _ stands c.reading.result some (c.reading.ensures.reading stands.tail stands.holds)
     (rw fine at c.answer-answered.ensures.answered) in (
       c.pulls.invariant.0,
       done.0,
@@ -135,7 +135,7 @@ returns-else-is_err-2-clause-ran g c =
       done.1,
       done.2,
       own_lines_taken c.own_lines.ensures c.own_shown.ensures.bytes c.args.only c.args.kernel.now _ c.pulls.invariant.0 done.0 _ (omega (arith, c.tenants-tenants.ensures, c.tenants-tenants.type_inv)) done.2,
-      omega (arith, c.pulls.invariant.2, c.in-Ok.ensures.room, c.if-count-eq0.true),
+      room_at_end _ _ _ _ c.in-Ok.count c.if-count-eq0.true c.pulls.invariant.2 c.in-Ok.ensures.room,
     )
 
 pub returns-else-not-is_empty-clause-ran : goal.returns-else-not-is_empty-clause-ran
@@ -148,7 +148,7 @@ returns-else-not-is_empty-clause-ran g c =
       stands.appended,
       all_are_done _ _ _ _ _ _ _ _ stands none,
       own_lines_taken c.own_lines.ensures c.own_shown.ensures.bytes c.args.only c.args.kernel.now _ c.pulls.invariant.0 stands.taken _ (omega (arith, c.tenants-tenants.ensures, c.tenants-tenants.type_inv)) (all_are_done _ _ _ _ _ _ _ _ stands none),
-      omega (arith, c.pulls.invariant.2, c.in-Ok.ensures.room, c.if-count-eq0.true),
+      room_at_end _ _ _ _ c.in-Ok.count c.if-count-eq0.true c.pulls.invariant.2 c.in-Ok.ensures.room,
     )
 
 pub returns-else-not-is_empty-clause-failed : goal.returns-else-not-is_empty-clause-failed

@@ -1,23 +1,37 @@
-use Rattle.std.proofs.Common.{◌<◌, length, arith, sym, subst}
+use Rattle.std.proofs.Common.{arith}
 use Rattle.std.proofs.lemmas.Bool.{lt-ltb}
 use Rattle.words_core.specs.declared.event.Command.TheVariants.{Alloc}
 use Rattle.words_core.specs.declared.reply.Body.TheVariants.{Frame}
-use Rattle.kernel_core.specs.Parts.{Parts, parts_of}
-use Rattle.kernel_core.proofs.Worlds.{machine_viewed}
-use Rattle.kernel_core.proofs.Pages.{alloc_large, alloc_without, alloc_done}
+use Rattle.kernel_core.specs.Parts.{parts_of}
+use Rattle.kernel_core.specs.Steps.{StepsMachine, body_of}
+use Rattle.kernel_core.proofs.PageBlocks.{alloc_large, alloc_done}
 use Rattle.kernel_core.proofs.kernel.Kernel.alloc.Goals as goal
 
 pub returns-then-order-from : goal.returns-then-order-from
 returns-then-order-from c = rw (← c.self.view_is) (alloc_large _ c.args.t c.args.order c.self.invariant (lt-ltb c.self.inside.buddy.top c.args.order (omega arith)))
 
-pub returns-in_default : goal.returns-in_default
-returns-in_default c =
-    let without = c.in_default.ensures.refused in
-    rw (without.1, ← c.self.view_is) (alloc_without _ c.args.t c.args.order c.self.invariant (omega arith) without.0)
+steps : (c : goal.After-ok_or) → StepsMachine (parts_of c.self.inside.space c.self.inside.buddy c.self.inside.slabs) c.args.t (Alloc c.args.order)
+    (parts_of c.reserve_by_need-first.new.space c.reserve_by_need-first.new.buddy c.reserve_by_need-first.new.self) (body_of Frame c.ok_or.result)
+steps c =
+    let new = c.reserve_by_need-first.new in
+    let inside = c.self.inside in
+    rw (c.ok_or.ensures.value)
+    (alloc_done inside.space new.space inside.buddy new.buddy inside.slabs new.self c.args.t c.args.order c.reserve_by_need-first.result
+    (record {
+      call = record {
+        before = c.self.invariant;
+        spares = c.reserve_by_need-first.ensures.spares;
+        agree = c.reserve_by_need-first.ensures.agree;
+        space = c.laws.ensures.facts;
+      };
+      order = omega (arith, c.self.invariant.agree.order);
+      answer = c.reserve_by_need-first.ensures.answer;
+      shows = c.reserve_by_need-first.ensures.shows;
+      refused = c.reserve_by_need-first.ensures.refused;
+    }))
+
+pub invariant_of-self : goal.invariant_of-self
+invariant_of-self c = (steps c).agree
 
 pub returns : goal.returns
-returns c =
-    let done = c.in-Some.ensures.done in
-    let known : c.args.t < length c.self.inside.buddy.tenants = subst (λ (k : Parts). c.args.t < k.tenants) (sym c.self.view_is) c.requires in
-    rw (done.1.1, ← c.self.view_is)
-    (machine_viewed _ _ c.args.t (Alloc c.args.order) (Frame c.in-Some.frame) (alloc_done (parts_of c.self.inside.space c.self.inside.buddy) c.args.t c.in-Some.frame done.0 c.args.order c.self.invariant c.laws.ensures.sizes known (omega arith) done.1.0))
+returns c = rw (← c.self.view_is) (steps c)

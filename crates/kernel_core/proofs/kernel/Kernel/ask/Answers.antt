@@ -10,4 +10,4 @@ pub returns : goal.returns
 returns c =
     let inside : c.args.tenant < length c.self.inside.buddy.tenants = omega arith in
     let known : c.args.tenant < c.args.self.now.tenants = subst (λ (k : Parts). c.args.tenant < k.tenants) c.self.view_is inside in
-    steps_asked _ _ c.args.tenant c.args.command.now _ known c.run.ensures
+    steps_asked _ _ c.args.tenant c.args.command.now _ known c.in_ok-run.ensures

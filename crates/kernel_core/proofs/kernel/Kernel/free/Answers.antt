@@ -1,18 +1,24 @@
-use Rattle.std.proofs.Common.{◌<◌, length, sym, subst}
+use Rattle.std.proofs.Common.{sym, ◌∙◌}
 use Rattle.words_core.specs.declared.event.Command.TheVariants.{Free}
+use Rattle.kernel_core.specs.Parts.{parts_of}
+use Rattle.kernel_core.specs.Steps.{StepsMachine, body_of}
 use Rattle.words_core.specs.declared.reply.Body.TheVariants.{Freed}
-use Rattle.kernel_core.specs.Parts.{Parts, parts_of}
-use Rattle.kernel_core.proofs.Worlds.{machine_viewed}
-use Rattle.kernel_core.proofs.Pages.{free_refused, free_done}
+use Rattle.kernel_core.proofs.PageBlocks.{free_slab, free_done}
 use Rattle.kernel_core.proofs.kernel.Kernel.free.Goals as goal
 
-pub returns-in_default : goal.returns-in_default
-returns-in_default c =
-    rw (c.in_default.ensures.refused, ← c.self.view_is) (free_refused _ c.args.t c.args.frame c.self.invariant (sym c.in_default.ensures.answer))
+pub returns-then-is_slab : goal.returns-then-is_slab
+returns-then-is_slab c = rw (← c.self.view_is) (free_slab _ c.args.t c.args.frame c.self.invariant (sym c.is_slab.ensures ∙ c.if-is_slab.true))
+
+steps : (c : goal.After-ok_or) → StepsMachine (parts_of c.self.inside.space c.self.inside.buddy c.self.inside.slabs) c.args.t (Free c.args.frame)
+    (parts_of c.self.inside.space c.release.new.self c.self.inside.slabs) (body_of Freed c.ok_or.result)
+steps c =
+    let inside = c.self.inside in
+    rw (c.ok_or.ensures.value)
+    (free_done inside.space inside.buddy c.release.new.self inside.slabs c.args.t c.args.frame c.release.result c.self.invariant
+    (sym c.is_slab.ensures ∙ c.if-is_slab.false) c.release.ensures.answer c.release.ensures.refused c.release.ensures.done)
+
+pub invariant_of-self : goal.invariant_of-self
+invariant_of-self c = (steps c).agree
 
 pub returns : goal.returns
-returns c =
-    let known : c.args.t < length c.self.inside.buddy.tenants = subst (λ (k : Parts). c.args.t < k.tenants) (sym c.self.view_is) c.requires in
-    rw (c.in-Some.ensures.done, ← c.self.view_is)
-    (machine_viewed _ _ c.args.t (Free c.args.frame) (Freed c.in-Some.order)
-    (free_done (parts_of c.self.inside.space c.self.inside.buddy) c.args.t c.args.frame c.in-Some.order c.self.invariant known (sym c.in-Some.ensures.answer)))
+returns c = rw (← c.self.view_is) (steps c)

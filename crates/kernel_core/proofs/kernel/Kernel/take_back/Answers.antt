@@ -6,35 +6,36 @@ use Rattle.words_core.specs.declared.event.AdminCommand.TheVariants as Do
 use Rattle.kernel_core.specs.Parts.{Parts, parts_of}
 use Rattle.kernel_core.proofs.Owners.{same_some}
 use Rattle.kernel_core.proofs.Worlds.{agree_viewed, steps_viewed}
+use Rattle.kernel_core.proofs.Changing.{together}
 use Rattle.kernel_core.proofs.TakingBack.{IsIdle, after, take_without_tenant, take_without_slot, take_busy, steps_taken, agree_taken}
 use Rattle.kernel_core.proofs.kernel.Kernel.take_back.Goals as goal
 
 pub returns-then-tenant-from : goal.returns-then-tenant-from
-returns-then-tenant-from c = rw (c.to_admin.ensures, ← c.self.view_is) (take_without_tenant _ c.args.tenant c.args.slot (omega arith))
+returns-then-tenant-from c = rw (c.refused.ensures, ← c.self.view_is) (take_without_tenant _ c.args.tenant c.args.slot (omega arith))
 
 pub returns-in_default : goal.returns-in_default
 returns-in_default c =
-    rw (c.to_admin-in_default.ensures, ← c.self.view_is)
+    rw (c.refused-in_default.ensures, ← c.self.view_is)
     (take_without_slot _ c.args.tenant c.args.slot (omega arith) (sym c.in_default.ensures.value))
 
 pub returns-in_default-drop_slot : goal.returns-in_default-drop_slot
 returns-in_default-drop_slot c =
+    let inside : Parts = parts_of c.self.inside.space c.self.inside.buddy c.self.inside.slabs in
     let busy = c.in_default-drop_slot.ensures.busy in
-    rw (c.to_admin-in_default-drop_slot.ensures, busy.1, ← c.self.view_is)
-    (take_busy _ c.args.tenant c.args.slot c.in-Some.superblock c.self.invariant (omega arith) (sym c.in-Some.ensures.value) busy.0)
+    rw (c.refused-in_default-drop_slot.ensures, busy.1, ← c.self.view_is)
+    (take_busy inside c.args.tenant c.args.slot c.in-Some.superblock c.self.invariant
+    (together inside c.self.invariant c.laws.ensures c.laws-2.ensures c.facts.ensures) (omega arith) (sym c.in-Some.ensures.value) busy.0)
 
 pub invariant_of-self-2 : goal.invariant_of-self-2
 invariant_of-self-2 c =
-    let inside : Parts = parts_of c.self.inside.space c.self.inside.buddy in
+    let inside : Parts = parts_of c.self.inside.space c.self.inside.buddy c.self.inside.slabs in
     let same : c.in-Ok-take_back.field-0 ≡ c.in-Some.superblock =
     same_some _ _ (sym c.in-Ok-take_back.ensures.superblock ∙ sym c.in-Some.ensures.value) in
     let space_after : IsSpace (taken_back c.self.inside.space c.args.tenant c.args.slot c.in-Some.superblock) =
     rw (c.in-Ok-take_back.ensures.ok, same) at c.laws-3.ensures.facts in
     let idle : IsIdle inside c.args.tenant c.args.slot c.in-Some.superblock = record {
-      own_slots = c.laws.ensures.own_slots;
-      own_bytes = c.laws.ensures.own_bytes;
-      others = c.laws.ensures.others;
       agree = c.self.invariant;
+      together = together inside c.self.invariant c.laws.ensures c.laws-2.ensures c.facts.ensures;
       space_after = space_after;
       tenant = omega arith;
       here = sym c.in-Some.ensures.value;
@@ -46,23 +47,21 @@ invariant_of-self-2 c =
 
 pub returns : goal.returns
 returns c =
-    let inside : Parts = parts_of c.self.inside.space c.self.inside.buddy in
+    let inside : Parts = parts_of c.self.inside.space c.self.inside.buddy c.self.inside.slabs in
     let same : c.in-Ok-take_back.field-0 ≡ c.in-Some.superblock =
     same_some _ _ (sym c.in-Ok-take_back.ensures.superblock ∙ sym c.in-Some.ensures.value) in
     let space_after : IsSpace (taken_back c.self.inside.space c.args.tenant c.args.slot c.in-Some.superblock) =
     rw (c.in-Ok-take_back.ensures.ok, same) at c.laws-3.ensures.facts in
     let idle : IsIdle inside c.args.tenant c.args.slot c.in-Some.superblock = record {
-      own_slots = c.laws.ensures.own_slots;
-      own_bytes = c.laws.ensures.own_bytes;
-      others = c.laws.ensures.others;
       agree = c.self.invariant;
+      together = together inside c.self.invariant c.laws.ensures c.laws-2.ensures c.facts.ensures;
       space_after = space_after;
       tenant = omega arith;
       here = sym c.in-Some.ensures.value;
       below = c.in-Some.ensures.below;
       idle = c.in-Ok.ensures.done.0;
     } in
-    rw (c.to_admin-2.ensures, c.in-Ok.ensures.done.1, c.in-Ok-take_back.ensures.ok, same, ← c.self.view_is)
+    rw (c.to_admin.ensures, c.in-Ok.ensures.done.1, c.in-Ok-take_back.ensures.ok, same, ← c.self.view_is)
     (steps_viewed inside (after c.args.tenant c.args.slot c.in-Some.superblock inside) (On.Admin (Do.TakeBack c.args.tenant c.args.slot)) _
     (agree_taken inside c.args.tenant c.args.slot c.in-Some.superblock idle)
     (steps_taken inside c.args.tenant c.args.slot c.in-Some.superblock idle))

@@ -1,0 +1,52 @@
+-- The figures of a report, by those of the tenant in the buddy system.
+use Rattle.std.proofs.Common.{◌≡◌, ◌≢◌, ℕ, ◌+◌, ◌*◌, ◌%◌, ◌^◌, cond, List, Option, None, sym, ap, ap₂, ◌∙◌, arith}
+use Rattle.std.proofs.lemmas.Bool.{eq-eqb, ne_eqb}
+use Rattle.model_core.specs.declared.report.OrderRow.{OrderRow}
+use Rattle.model_core.specs.declared.report.CacheRow.{CacheRow}
+use Rattle.model_core.specs.Machine.{Machine}
+use Rattle.model_core.specs.Reports.{frames_held, frames_taken, frames_free, greatest, greatest_free, free_count, split_share, order_rows, rows_of}
+use Rattle.buddy_core.specs.Content as buddies
+use Rattle.part_laws.specs.Figures.{HasFigures, AreWithin}
+use Rattle.words_core.specs.declared.report.Report.{Report}
+use Rattle.world_core.specs.PrivateStep.{figures_of}
+
+-- the frames of the held slots fit a word
+pub frames_read : (b : buddies.Content) (t : ℕ) (m : Machine) (slots order : ℕ) → HasFigures b t m → AreWithin b t
+    → slots ≡ buddies.held_slots (buddies.holding_of t b) → order ≡ b.top → slots * 2 ^ order % 4294967296 ≡ frames_held b.top m
+frames_read b t m slots order has within e e' =
+    let product : slots * 2 ^ order ≡ buddies.held_slots (buddies.holding_of t b) * 2 ^ b.top = ap₂ (λ n k. n * 2 ^ k) e e' in
+    let few = within.held in
+    let held = has.held in
+    omega arith
+
+-- no frame is free
+pub top_none : (order : ℕ) (m : Machine) (free : ℕ) (top : Option ℕ) → free ≡ frames_free order m → free ≡ 0 → top ≡ None
+    → top ≡ greatest_free order m
+top_none order m free top e none is =
+    is ∙ sym (ap (λ v. cond v None (greatest (free_count order m) (order + 1))) (eq-eqb (frames_free order m) 0 (sym e ∙ none)))
+
+-- some frame is free
+pub top_some : (order : ℕ) (m : Machine) (free : ℕ) (top : Option ℕ) → free ≡ frames_free order m → free ≢ 0
+    → top ≡ greatest (free_count order m) (order + 1) → top ≡ greatest_free order m
+top_some order m free top e some is =
+    is ∙ sym (ap (λ v. cond v None (greatest (free_count order m) (order + 1))) (ne_eqb (frames_free order m) 0 (λ none. some (e ∙ none))))
+
+-- figures that are those of the machine, one by one
+pub figures_are : (order : ℕ) (m : Machine) (frames live free : ℕ) (top : Option ℕ) (split : ℕ) (orders : List OrderRow) (caches : List CacheRow)
+    → frames ≡ frames_held order m → live ≡ frames_taken m → free ≡ frames_free order m → top ≡ greatest_free order m
+    → split ≡ split_share free top → orders ≡ order_rows order m (order + 1) → caches ≡ rows_of m
+    → ◌≡◌ {A = Report}
+    (record { frames = frames; live = live; free = free; top = top; split = split; orders = record { items = orders }; caches = record { items = caches } })
+    (figures_of order m)
+unfolding figures_of
+figures_are order m frames live free top split orders caches frames_is live_is free_is top_is split_is orders_are caches_are =
+    let share : split ≡ split_share (frames_free order m) (greatest_free order m) = split_is ∙ ap₂ split_share free_is top_is in
+    λ i. record {
+      frames = frames_is i;
+      live = live_is i;
+      free = free_is i;
+      top = top_is i;
+      split = share i;
+      orders = record { items = orders_are i };
+      caches = record { items = caches_are i };
+    }

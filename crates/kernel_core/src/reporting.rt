@@ -1,0 +1,95 @@
+//! A tenant's report.
+
+ghost use Rattle.std.specs.Prelude.{◌≡◌, ◌+◌, ◌<◌, ◌≤◌, length, IfSome};
+ghost use Rattle.model_core.specs.Machine.{Machine};
+ghost use Rattle.model_core.specs.Reports.{free_count, greatest, order_rows, split_share as share};
+ghost use Rattle.buddy_core.specs.Content.{holding_of};
+ghost use Rattle.part_laws.specs.Figures.{HasFigures, frames_below};
+ghost use Rattle.world_core.specs.PrivateStep.{figures_of};
+ghost use Rattle.kernel_core.specs.Shows.{ShowsMachine};
+
+use crate::Kernel;
+use arrayvec::ArrayVec;
+use buddy_core::Buddy;
+use model_core::limits::MOST_ORDER;
+use model_core::report::OrderRow;
+use part_laws::figures::{figures_fit, figures_meet};
+use words_core::{ORDERS, Report};
+
+/// What a tenant's blocks of all orders are, read once.
+#[derive(Drop)]
+struct Blocks {
+    /// The blocks of each order, from order 0 on.
+    orders: ArrayVec<OrderRow, ORDERS>,
+    /// How many frames lie in taken blocks.
+    live: u32,
+    /// The greatest order of a free block, if there is one.
+    top: Option<u8>,
+}
+
+impl Kernel {
+    /// The figures of tenant `t`'s memory: its frames, its blocks of each order, and its caches.
+    pub(crate) fn figures(&self, t: u8) -> Report
+        requires { t < self.now.tenants }
+        ensures { (m : Machine) → ShowsMachine self.now t m → result ≡ figures_of self.now.order m }
+    {
+        self.buddy.laws();
+        self.slabs.steady(&self.space, &self.buddy, t);
+        figures_meet();
+        figures_fit();
+        let blocks = orders_of(&self.buddy, t);
+        let frames = self.buddy.slots(t) << self.buddy.order();
+        let free = frames - blocks.live;
+        // Without a free frame there is no free block, and no share of the free frames.
+        let top = if free == 0 { None } else { blocks.top };
+        Report {
+            frames,
+            live: blocks.live,
+            free,
+            top,
+            split: split_share(free, top),
+            orders: blocks.orders,
+            caches: self.slabs.rows(t),
+        }
+    }
+}
+
+/// The blocks of tenant `t`: a row for each order, the frames of the taken ones, and the greatest order of a free one.
+fn orders_of(buddy: &Buddy, t: u8) -> Blocks
+    requires { t < length buddy.now.tenants }
+    ensures live { result.live ≡ frames_below (holding_of t buddy.now) (buddy.now.top + 1) }
+    ensures short { IfSome result.top (λ k. k ≤ MOST_ORDER) }
+    ensures orders { (m : Machine) → HasFigures buddy.now t m → result.orders.items ≡ order_rows buddy.now.top m (buddy.now.top + 1) }
+    ensures top { (m : Machine) → HasFigures buddy.now t m → result.top ≡ greatest (free_count buddy.now.top m) (buddy.now.top + 1) }
+{
+    buddy.laws();
+    figures_fit();
+    let mut orders = ArrayVec::new();
+    let mut live = 0;
+    let mut top = None;
+    for k in 0..buddy.order() + 1 {
+        let row = OrderRow {
+            free: buddy.free_count(t, k),
+            taken: buddy.taken_count(t, k),
+        };
+        orders.push(row);
+        live += row.taken << k;
+        if row.free != 0 {
+            top = Some(k);
+        }
+    }
+    Blocks { orders, live, top }
+}
+
+/// The share of `free` frames that lie outside one greatest free block, of order `top`, in thousandths; 0 where there is no
+/// free block.
+fn split_share(free: u32, top: Option<u8>) -> u32
+    requires free { IfSome top (λ k. 0 < free) }
+    requires order { IfSome top (λ k. k ≤ MOST_ORDER) }
+    ensures { result ≡ share free top }
+{
+    let Some(order) = top else {
+        return 0;
+    };
+    1000u32.saturating_sub((1000 << order) / free)
+}
