@@ -2,7 +2,6 @@
 
 ghost use Rattle.std.specs.Prelude.{◌≡◌, false};
 
-use crate::ROWS;
 use crate::pieces::{in_pieces, taking};
 use crate::tests::MACHINE;
 use kernel_core::Kernel;
@@ -14,7 +13,7 @@ use std::test::Fail;
 
 const TRACE: &[u8] = b"admin grant 0\n0 alloc 0\n0 read 0 4\n";
 
-/// More pulls or pushes than a worked trace needs.
+/// More calls than the trace needs.
 const ALL: u32 = 1000;
 
 fn tally(lines: u64, events: u64, faults: u64, written: u128) -> Tally {
@@ -70,30 +69,6 @@ fn drain_fails(rt: HostRuntime) -> Result<(), Fail> {
             next.as_slice(),
             "after {good_pushes} pushes"
         );
-    }
-    Ok(())
-}
-
-/// Whichever pull or push fails, what was pushed is a beginning of what the trace writes, and all of it where none does.
-#[test]
-fn ends_fail_at_each_call(rt: HostRuntime) -> Result<(), Fail> {
-    for (number, row) in ROWS.iter().enumerate() {
-        for good in 0..100 {
-            for (good_pulls, good_pushes) in [(good, ALL), (ALL, good)] {
-                let mut kernel = Kernel::boot(rt.alloc(), MACHINE)?;
-                let mut feed = in_pieces(row.trace, 7, good_pulls);
-                let mut drain = taking(7, good_pushes);
-                let ran = replay(&mut kernel, &mut feed, &mut drain, None);
-                assert!(rt;
-                    row.output.starts_with(drain.taken()),
-                    "row {number} after {good} calls"
-                );
-                assert!(rt;
-                    ran.is_err() || drain.taken() == row.output,
-                    "row {number} after {good} calls"
-                );
-            }
-        }
     }
     Ok(())
 }

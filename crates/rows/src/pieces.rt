@@ -6,7 +6,7 @@ ghost use Rattle.rows.specs.declared.pieces.TheConstants.{ROOM};
 use replay_core::{Drain, Feed, Stopped};
 
 /// More than any worked trace writes.
-const ROOM: usize = 1024;
+const ROOM: usize = 8192;
 
 /// Gives a slice in pieces of at most `piece` bytes, and fails after so many good pulls.
 #[derive(Drop)]

@@ -1,7 +1,7 @@
 //! What the worked traces write, whatever the pieces are.
 
-use crate::ROWS;
 use crate::pieces::{PieceDrain, in_pieces, taking};
+use crate::tables;
 use kernel_core::{BootError, Config, Kernel};
 use replay_core::{ReaderFeed, Tally, WriterDrain, replay};
 use std::alloc::Global;
@@ -13,18 +13,22 @@ pub const MACHINE: Config = Config {
     tenants: 2,
 };
 
+/// The pieces that a trace is run in, the last of them whole.
+pub const PIECES: [usize; 5] = [1, 2, 3, 7, 200_000];
+
 /// As many pulls or pushes as no test makes.
 const ALL: u32 = 1_000_000;
 
 /// What is written and counted on a new machine when the trace comes in pieces of at most `piece` bytes, and so does
 /// what it writes.
-fn replayed(
+pub fn replayed(
     alloc: Global,
+    config: Config,
     trace: &[u8],
     piece: usize,
     only: Option<u8>,
 ) -> Result<(PieceDrain, Tally), Fail> {
-    let mut kernel = Kernel::boot(alloc, MACHINE)?;
+    let mut kernel = Kernel::boot(alloc, config)?;
     let mut drain = taking(piece, ALL);
     let tally = replay(
         &mut kernel,
@@ -37,14 +41,17 @@ fn replayed(
 
 #[test]
 fn traces_write_their_rows(rt: HostRuntime) -> Result<(), Fail> {
-    for (number, row) in ROWS.iter().enumerate() {
-        for piece in [1, 2, 3, 7, 1000] {
-            let (drain, _) = replayed(rt.alloc(), row.trace, piece, None)?;
-            assert_eq!(rt;
-                drain.taken(),
-                row.output,
-                "row {number} in pieces of {piece}"
-            );
+    for table in &tables() {
+        for (number, row) in table.rows.iter().enumerate() {
+            for piece in PIECES {
+                let (drain, _) = replayed(rt.alloc(), table.config, row.trace, piece, table.only)?;
+                assert_eq!(rt;
+                    drain.taken(),
+                    row.output,
+                    "{} {number} in pieces of {piece}",
+                    table.name
+                );
+            }
         }
     }
     Ok(())
@@ -71,8 +78,8 @@ fn counts_and_hides(rt: HostRuntime) -> Result<(), Fail> {
         (notes, None, (3, 0, 1, 17), b"!> fault Unknown\n".as_slice()),
         (notes, Some(0), (3, 0, 1, 0), b"".as_slice()),
     ] {
-        for piece in [1, 2, 3, 7, 1000] {
-            let (drain, tally) = replayed(rt.alloc(), trace, piece, only)?;
+        for piece in PIECES {
+            let (drain, tally) = replayed(rt.alloc(), MACHINE, trace, piece, only)?;
             assert_eq!(rt; drain.taken(), text, "in pieces of {piece}");
             assert_eq!(rt;
                 (tally.lines, tally.events, tally.faults, tally.written),
@@ -116,17 +123,27 @@ fn boots(rt: HostRuntime) -> Result<(), Fail> {
 fn longer_lines_are_faults(rt: HostRuntime) -> Result<(), Fail> {
     let ends: [&[u8]; 4] = [b"\n", b"", b"\r\n", b"\r"];
     for end in &ends {
-        for (blanks, want) in [
-            (246, b"0> refused 1 NoFrames\n".as_slice()),
-            (247, b"!> fault Long\n".as_slice()),
-            (100_000, b"!> fault Long\n".as_slice()),
+        for (begin, fill, len, want) in [
+            (
+                b"0 alloc 0".as_slice(),
+                b' ',
+                255,
+                b"0> refused 1 NoFrames\n".as_slice(),
+            ),
+            (
+                b"0 alloc 0".as_slice(),
+                b' ',
+                256,
+                b"!> fault Long\n".as_slice(),
+            ),
+            (b"".as_slice(), b'a', 100_000, b"!> fault Long\n".as_slice()),
         ] {
-            let mut line = b"0 alloc 0".as_slice().to_vec(rt.alloc())?;
-            line.resize(9 + blanks, b' ')?;
+            let mut line = begin.to_vec(rt.alloc())?;
+            line.resize(len, fill)?;
             line.extend_from_slice(end)?;
-            for piece in [1, 2, 3, 7, 1000] {
-                let (drain, _) = replayed(rt.alloc(), &line, piece, None)?;
-                assert_eq!(rt; drain.taken(), want, "{blanks} blanks, then {end:?}");
+            for piece in PIECES {
+                let (drain, _) = replayed(rt.alloc(), MACHINE, &line, piece, None)?;
+                assert_eq!(rt; drain.taken(), want, "{len} bytes, then {end:?}");
             }
         }
     }
