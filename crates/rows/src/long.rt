@@ -47,9 +47,9 @@ fn slab_of_the_most_objects(rt: HostRuntime) -> Result<(), Fail> {
         b"admin grant 0\n0 cache 1 8 00\n",
         b"admin> granted 0 slot 0 superblock 0\n0> cache 0 chunk 16 order 0 objects 254 colours 1\n",
     )?;
-    for object in 0..254 {
+    for object in 0..254_u8 {
         long.trace.extend_from_slice(b"0 take 0\n")?;
-        write!(long.output, "0> object {}\n", 16 * object)?;
+        write!(long.output, "0> object {}\n", 16 * u32::from(object))?;
     }
     long.trace.extend_from_slice(b"0 take 0\n")?;
     long.output.extend_from_slice(b"0> object 4096\n")?;
