@@ -1,18 +1,15 @@
 -- A grant and a take-back keep what is true of every space.
-use Rattle.std.proofs.Common.{◌≡◌, ◌≢◌, ℕ, ◌<◌, Bool, true, false, List, [], Option, Some, None, is_some, length, get_or, replicate, sym, ◌∙◌, ap, subst, inl, inr, refl, arith}
+use Rattle.std.proofs.Common.{◌≡◌, ◌≢◌, ℕ, ◌<◌, true, false, List, [], Option, Some, None, is_some, length, get_or, replicate, sym, ◌∙◌, ap, subst, inl, inr, refl, arith}
 use Rattle.std.proofs.Math.ListN.{set}
-use Rattle.std.specs.Prelude.{◌||◌, ◌==◌, if◌then◌else◌}
-use Rattle.std.proofs.lemmas.List.{get_or-set_same, get_or-set_other, set-get_or, set-set, length-set, length-replicate, get_or_past}
+use Rattle.std.proofs.lemmas.List.{get_or-set_same, get_or-set_other, set-set, length-set, length-replicate, get_or_past}
 use Rattle.std.proofs.lemmas.Bool.{cases_lt, cases_eq}
 use Rattle.std.proofs.lemmas.Bool.Decides.{nat_tests}
 use Rattle.model_core.specs.declared.owner.Owner.{Owner}
 use Rattle.model_core.specs.Owners.{owned_by, is_of}
 use Rattle.space_core.specs.Content.{Content, IsSpace, bank, owner_at, mark_at, row_of, superblock_at}
 use Rattle.space_core.specs.Changes.{with_slot, granted, taken_back, moved}
-use Rattle.space_core.specs.Storage.{shown, scrubbed, readied}
 use Rattle.space_core.specs.Laws.{IsApart}
 use Rattle.space_core.proofs.Banks.{after-set, with_bank, with_bank-IsSpace}
-use Rattle.space_core.proofs.Stored.{shown-set, or_zeros-zeros}
 use Rattle.space_core.proofs.Mapping.{within_from_some, superblock-lt}
 use Rattle.space_core.proofs.Reading.{not_unowned}
 use Rattle.space_core.proofs.Mapped.{superblock_at-with_slot, length-row_of-with_slot, counted-set, agree-set}
@@ -111,18 +108,6 @@ moved-IsSpace {s} facts t u from to under within unowned =
     let owned : owner_at (set left.owners to o) to ≢ None = λ none. let some = get_or-set_same left.owners to o None still in absurd (cc) in
     subst IsSpace (moved_is s t u from to tenant)
     (with_bank-IsSpace given to owned (omega (arith, length-set left.owners to o)) (bank s.banks from) (facts.sized from (omega (arith, facts.paired, superblock-lt facts t u from under))))
-
--- made ready, a superblock without owner reads as zero, and no other one changes
-pub banks-readied : {s : Content} → IsSpace s → (stored : List (List ℕ)) → s.banks ≡ shown s.unit stored → (m : ℕ) → m < length s.owners → owner_at s.owners m ≡ None → shown s.unit (readied stored s.marks m s.unit) ≡ set s.banks m (replicate s.unit 0)
-banks-readied {s} facts stored same m within unowned = go (mark_at s.marks m) refl (length (get_or stored m []) == 0)
-  where
-    written : shown s.unit (scrubbed stored m s.unit) ≡ set s.banks m (replicate s.unit 0)
-    written = shown-set s.unit stored m (replicate s.unit 0) ∙ (ap (λ bytes. set (shown s.unit stored) m bytes) (or_zeros-zeros s.unit) ∙ ap (λ banks. set banks m (replicate s.unit 0)) (sym same))
-
-    go : (marked : Bool) → mark_at s.marks m ≡ marked → (none : Bool) → shown s.unit (if marked || none then scrubbed stored m s.unit else stored) ≡ set s.banks m (replicate s.unit 0)
-    go true e none = written
-    go false e true = written
-    go false e false = sym same ∙ (sym (set-get_or s.banks m []) ∙ ap (λ bytes. set s.banks m bytes) (facts.spare m (omega (arith, facts.paired)) unowned e))
 
 -- the mapping is one to one
 pub space-IsApart : {s : Content} → IsSpace s → IsApart s

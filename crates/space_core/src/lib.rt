@@ -2,11 +2,11 @@
 //! the pool or stands under a slot of one tenant, and a tenant reaches the bytes of its own slots alone.
 //!
 //! Scrubbing is lazy: a superblock that is taken back, or that a slot moves away from, keeps its bytes
-//! and gets a mark. A marked one is set to zero before it is granted again, and written over whole
+//! and gets a mark. A marked one is emptied before it is granted again, and written over whole
 //! where a slot moves to it. So no tenant reads what another one left.
 //!
-//! Room for the bytes of every superblock is reserved at boot. Nothing is written there until the
-//! superblock first gets an owner; until then it reads as zero.
+//! Room for the bytes of every superblock is reserved at boot. A superblock that is granted reads as
+//! zero, and its bytes are written out when one of them is first written: a grant costs no filling.
 //!
 //! Only [`Space::new`] allocates.
 #![tactic(auto)]
@@ -19,7 +19,7 @@ ghost use Rattle.space_core.specs.Windows.{home_of, window_of, with_window, byte
 ghost use Rattle.space_core.specs.Changes.{IsLeastSlot, with_slot, granted, taken_back, moved};
 ghost use Rattle.space_core.specs.Tables.{rows_of, bytes_of};
 ghost use Rattle.space_core.specs.Laws.{SpaceLaws};
-ghost use Rattle.space_core.specs.Storage.{HasRoom, scrubbed, readied};
+ghost use Rattle.space_core.specs.Storage.{HasRoom, or_zeros};
 ghost use Rattle.space_core.specs.Lending.{LendsWindow, LendsPart};
 
 use model_core::owner::Owner;
@@ -55,10 +55,10 @@ pub struct Space {
     unit: u32,
     owners: Vec<Option<Owner>>,
     slots: Vec<Vec<Option<u16>>>,
-    // A superblock's vector is empty, with room for its bytes, until it first gets an owner.
+    // A superblock's vector has its bytes, or is empty, with room for them, while all of them are zero since it was granted.
     banks: Vec<Vec<u8>>,
     marks: Vec<bool>,
-    // What a superblock reads as until then.
+    // What a superblock reads as whose vector is empty.
     zeros: Vec<u8>,
 }
 
@@ -71,7 +71,7 @@ impl Model for Space {
 
     ghost view = { λ s. record { unit = s.unit; owners = s.owners.items; slots = rows_of s.slots; banks = shown s.unit (bytes_of s.banks); marks = s.marks.items } };
 
-    ghost invariant = { λ s. IsSpace (record { unit = s.unit; owners = s.owners.items; slots = rows_of s.slots; banks = shown s.unit (bytes_of s.banks); marks = s.marks.items }) × IsStored s.unit s.owners.items s.banks.items s.zeros.items };
+    ghost invariant = { λ s. IsSpace (record { unit = s.unit; owners = s.owners.items; slots = rows_of s.slots; banks = shown s.unit (bytes_of s.banks); marks = s.marks.items }) × IsStored s.unit s.banks.items s.zeros.items };
 }
 
 impl Space {
@@ -102,8 +102,7 @@ impl Space {
     }
 
     /// Gives the least superblock without owner to tenant `t`, as the least slot that it does not hold,
-    /// and answers slot and superblock. The slot reads as zero: a marked superblock is scrubbed first,
-    /// and one that had no owner yet gets its bytes.
+    /// and answers slot and superblock. The slot reads as zero, whatever the superblock held.
     pub fn grant(&mut self, t: u8) -> Result<(u16, u16), PoolEmpty>
         requires { t < length self.old.slots }
         ensures superblock { MatchResult result (λ p. position is_none self.old.owners ≡ Some p.1) (λ _. position is_none self.old.owners ≡ None) }
@@ -115,12 +114,8 @@ impl Space {
     {
         let m = self.least_unowned().ok_or(PoolEmpty)?;
         let u = self.least_slot(t);
-        make_ready(
-            &mut self.banks,
-            &mut self.marks,
-            usize::from(m),
-            self.unit as usize,
-        );
+        clear_bank(&mut self.banks, usize::from(m));
+        self.marks[usize::from(m)] = false;
         self.owners[usize::from(m)] = Some(Owner { tenant: t, slot: u });
         set_slot(&mut self.slots, t, usize::from(u), Some(m));
         Ok((u, m))
@@ -227,6 +222,7 @@ impl Space {
     {
         let at = place % self.unit;
         let m = self.held(t, place / self.unit);
+        write_out(&mut self.banks, m, self.unit as usize);
         set_byte_at(&mut self.banks, m, at as usize, byte);
     }
 
@@ -377,6 +373,7 @@ impl Space {
         ensures value { result.now ≡ slice_range (bank self.old.banks m) from (from + len) }
         ensures len { length result.now ≡ len }
     {
+        write_out(&mut self.banks, m, self.unit as usize);
         let bank = &mut self.banks[m];
         bank.slice_mut(from..from + len)
     }
@@ -398,30 +395,25 @@ fn part(bytes: &[u8], from: usize, len: usize) -> &[u8]
     &bytes[from..from + len]
 }
 
-/// Makes superblock `m` ready for an owner: where it is marked, or has no bytes yet, it gets `unit` zero
-/// bytes, and its mark is cleared.
-fn make_ready(banks: &mut Vec<Vec<u8>>, marks: &mut Vec<bool>, m: usize, unit: usize)
-    requires bank { m < vec_len banks.old }
-    requires mark { m < vec_len marks.old }
-    requires room { HasRoom unit banks.old.items }
-    ensures banks { bytes_of banks.new ≡ readied (bytes_of banks.old) marks.old.items m unit }
-    ensures marks { marks.new.items ≡ slice_set marks.old.items m false }
-    ensures room { HasRoom unit banks.new.items }
+/// Superblock `m` has no bytes any more, and reads as zero.
+fn clear_bank(banks: &mut Vec<Vec<u8>>, m: usize)
+    requires { m < vec_len banks.old }
+    ensures bytes { bytes_of banks.new ≡ slice_set (bytes_of banks.old) m [] }
+    ensures room { (unit : ℕ) → HasRoom unit banks.old.items → HasRoom unit banks.new.items }
 {
-    if marks[m] || banks[m].is_empty() {
-        scrub(banks, m, unit);
-        marks[m] = false;
-    }
+    banks[m].clear();
 }
 
-/// Sets the `unit` bytes of superblock `m` to zero.
-fn scrub(banks: &mut Vec<Vec<u8>>, m: usize, unit: usize)
+/// Writes the zeros out that superblock `m` reads as, where it has no bytes yet.
+fn write_out(banks: &mut Vec<Vec<u8>>, m: usize, unit: usize)
     requires bank { m < vec_len banks.old }
     requires room { HasRoom unit banks.old.items }
-    ensures banks { bytes_of banks.new ≡ scrubbed (bytes_of banks.old) m unit }
+    ensures banks { bytes_of banks.new ≡ slice_set (bytes_of banks.old) m (or_zeros unit (bank (bytes_of banks.old) m)) }
     ensures room { HasRoom unit banks.new.items }
 {
-    zero_fill(&mut banks[m], unit);
+    if banks[m].is_empty() {
+        zero_fill(&mut banks[m], unit);
+    }
 }
 
 /// Makes the bytes `unit` zeros.

@@ -1,4 +1,4 @@
-use Rattle.std.proofs.Common.{◌≡◌, ℕ, List, Option, ◌≢◌, ◌<◌, Some, None, length, ap, sym, ◌∙◌, refl, arith}
+use Rattle.std.proofs.Common.{◌≡◌, ℕ, List, Option, ◌<◌, Some, None, length, ap, sym, ◌∙◌, refl, arith}
 use Rattle.std.specs.List.{swap}
 use Rattle.std.proofs.Math.ListN.{set}
 use Rattle.std.proofs.lemmas.List.Edits.{swap_is}
@@ -7,11 +7,11 @@ use Rattle.model_core.specs.Owners.{owned_by}
 use Rattle.space_core.specs.Content.{owner_at}
 use Rattle.space_core.specs.Storage.{shown}
 use Rattle.space_core.specs.contracts.Space.{the_view}
-use Rattle.space_core.proofs.TableLemmas.{lists_of, length-lists_of}
+use Rattle.space_core.proofs.TableLemmas.{lists_of}
 use Rattle.space_core.proofs.Mapping.{superblock-lt}
 use Rattle.space_core.proofs.Reading.{not_unowned}
 use Rattle.space_core.proofs.Changed.{moved-IsSpace}
-use Rattle.space_core.proofs.Stored.{bank-shown_full, length-shown, shown-copied, moved-IsStored}
+use Rattle.space_core.proofs.Stored.{length-shown, shown-copied, stored-short}
 use Rattle.space_core.proofs.Vacancy.{unowned-from_position}
 use Rattle.space_core.proofs.Space.move_slot.Goals as goal
 
@@ -27,12 +27,12 @@ copy_bank-requires-clause-room c =
     let s = the_view c.self.inside in
     let facts = c.self.invariant.0 in
     let m = c.in_ok-from.from in
+    let stored = lists_of c.self.inside.banks.items in
     let under = rw (← c.self.view_is) at (sym c.machine_of.ensures.value ∙ c.in_ok-from.ensures.ok_part) in
-    let owned = (facts.agree c.args.t c.args.slot m).0 under in
-    let has_owner : owner_at s.owners m ≢ None = λ none. cc in
-    let full = c.self.invariant.1.owned m has_owner in
-    let size = ap length (sym (bank-shown_full s.unit (lists_of c.self.inside.banks.items) m full)) ∙ facts.sized m (omega (arith, facts.paired, superblock-lt facts c.args.t c.args.slot m under)) in
-    rw c.from-source.ensures (λ k d lt. omega (arith, size, c.self.invariant.1.room k d lt))
+    let within : m < length stored = omega (arith, facts.paired, superblock-lt facts c.args.t c.args.slot m under, length-shown s.unit stored) in
+    let short = stored-short s.unit stored m within in
+    let size = facts.sized m (omega (arith, within, length-shown s.unit stored)) in
+    rw c.from-source.ensures (λ k d lt. omega (arith, short, size, c.self.invariant.1.room k d lt))
 
 -- the owner of the old superblock passes to the one that had none
 owner_passes : (owners : List (Option Owner)) (from to : ℕ) (o : Owner) → from < length owners → to < length owners → owner_at owners from ≡ Some o → owner_at owners to ≡ None → swap owners from to ≡ set (set owners from None) to (Some o)
@@ -50,16 +50,14 @@ invariant_of-self c =
     let below = rw (← c.self.view_is) at (rw c.in_ok-to.ensures.ok_part at c.least_unowned.ensures.below) in
     let unowned = unowned-from_position s.owners to found in
     let owned = (facts.agree c.args.t c.args.slot from).0 under in
-    let has_owner : owner_at s.owners from ≢ None = λ none. cc in
-    let full = c.self.invariant.1.owned from has_owner in
+    let there : from < length stored = omega (arith, superblock-lt facts c.args.t c.args.slot from under, facts.paired, length-shown s.unit stored) in
     let bytes = rw (c.from-source.ensures, c.from-target.ensures) at c.copy_bank.ensures.bytes in
-    let banks = ap (shown s.unit) bytes ∙ shown-copied s.unit stored from to full in
-    let there : to < length c.self.inside.banks.items = omega (arith, below, facts.paired, length-shown s.unit stored, length-lists_of c.self.inside.banks.items) in
+    let banks = ap (shown s.unit) bytes ∙ shown-copied s.unit stored from to there in
     let within = superblock-lt facts c.args.t c.args.slot from under in
     let owners = rw (c.from-source.ensures, c.from-target.ensures) at c.swap.ensures.items ∙ owner_passes s.owners from to (owned_by c.args.t c.args.slot) within below owned unowned in
     rw (c.from-source.ensures, c.from-target.ensures, c.set_slot.ensures, banks, owners) (
       moved-IsSpace facts c.args.t c.args.slot from to under below unowned,
-      moved-IsStored c.self.invariant.1 from to (Some (owned_by c.args.t c.args.slot)) c.copy_bank.new.banks.items within there full (c.copy_bank.ensures.room s.unit c.self.invariant.1.room) bytes,
+      record { room = c.copy_bank.ensures.room s.unit c.self.invariant.1.room; blank = c.self.invariant.1.blank },
     )
 
 pub returns-clause-ok : goal.returns-clause-ok
@@ -71,10 +69,9 @@ returns-clause-ok c =
     let to = c.in_ok-to.to in
     let under = rw (← c.self.view_is) at (sym c.machine_of.ensures.value ∙ c.in_ok-from.ensures.ok_part) in
     let owned = (facts.agree c.args.t c.args.slot from).0 under in
-    let has_owner : owner_at s.owners from ≢ None = λ none. cc in
-    let full = c.self.invariant.1.owned from has_owner in
+    let there : from < length stored = omega (arith, superblock-lt facts c.args.t c.args.slot from under, facts.paired, length-shown s.unit stored) in
     let bytes = rw (c.from-source.ensures, c.from-target.ensures) at c.copy_bank.ensures.bytes in
-    let banks = ap (shown s.unit) bytes ∙ shown-copied s.unit stored from to full in
+    let banks = ap (shown s.unit) bytes ∙ shown-copied s.unit stored from to there in
     let within = superblock-lt facts c.args.t c.args.slot from under in
     let found = rw (← c.self.view_is) at (sym c.least_unowned.ensures.value ∙ c.in_ok-to.ensures.ok_part) in
     let below = rw (← c.self.view_is) at (rw c.in_ok-to.ensures.ok_part at c.least_unowned.ensures.below) in

@@ -4,7 +4,7 @@ use Rattle.std.proofs.lemmas.Nat.{pow_pos}
 use Rattle.model_core.specs.declared.limits.TheConstants.{MOST_ORDER}
 use Rattle.space_core.specs.Storage.{shown}
 use Rattle.space_core.proofs.Empty.{empty_space-IsSpace}
-use Rattle.space_core.proofs.Stored.{shown-none, empty-IsStored}
+use Rattle.space_core.proofs.Stored.{shown-none}
 use Rattle.space_core.proofs.Space.new.Goals as goal
 
 pub invariant_of-result : goal.invariant_of-result
@@ -20,7 +20,7 @@ invariant_of-result c =
     let zeros = c.in_ok-zeros.ensures.items_if_clones_equal (λ y same. search rules) in
     rw (owners, slots, banks, marks) (
       empty_space-IsSpace unit c.args.superblocks c.args.tenants (omega (arith, most)) (omega (arith, most)) c.requires.superblocks c.requires.tenants,
-      empty-IsStored unit c.args.superblocks c.in_ok-banks.banks.items c.in_ok-zeros.zeros.items c.in_ok-banks.ensures.room zeros,
+      record { room = c.in_ok-banks.ensures.room; blank = zeros },
     )
 
 pub returns : goal.returns
