@@ -45,8 +45,20 @@ count_none p (suc n) none =
     let last : bit (p n) ≡ 0 = ap bit (none n (omega arith)) in
     omega arith
 
+-- where something counts, a number passes
+pub count_found : (p : ℕ → Bool) (n : ℕ) → 0 < count_below p n → (f : ℕ) × (f < n) × (p f ≡ true)
+count_found p zero some = absurd (omega arith)
+count_found p (suc n) some = go (cases_Bool (p n)) (count_found p n)
+  where
+    go : (p n ≡ true) ⊎ (p n ≡ false) → (0 < count_below p n → (f : ℕ) × (f < n) × (p f ≡ true)) → (f : ℕ) × (f < suc n) × (p f ≡ true)
+    go (inl on) rest = (n, omega arith, on)
+    go (inr off) rest =
+        let last : bit (p n) ≡ 0 = ap bit off in
+        let found = rest (omega arith) in
+        (found.0, omega (arith, found.1), found.2)
+
 -- a frame of one of the first n slots
-frame_below : (top n x : ℕ) → x / 2 ^ top < n → x < n * 2 ^ top
+pub frame_below : (top n x : ℕ) → x / 2 ^ top < n → x < n * 2 ^ top
 frame_below top n x lt = go (cases_lt x (n * 2 ^ top))
   where
     go : (x < n * 2 ^ top) ⊎ (n * 2 ^ top ≤ x) → x < n * 2 ^ top

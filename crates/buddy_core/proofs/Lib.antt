@@ -5,6 +5,7 @@ pub mod TreeOrders
 pub mod TreeNodes
 pub mod TreeMends
 pub mod TreeChanges
+pub mod TreeSteps
 pub mod TreeSearch
 pub mod RootBits
 pub mod TreeSlots
@@ -12,7 +13,6 @@ pub mod Counting
 pub mod Steps
 pub mod Bounds
 pub mod Reserving
-pub mod Freed
 pub mod Releasing
 pub mod SlotSteps
 pub mod Granting

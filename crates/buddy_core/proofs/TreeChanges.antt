@@ -1,15 +1,17 @@
 -- The first write of a reserve or a release, and each step up from there.
-use Rattle.std.proofs.Common.{◌≡◌, ℕ, zero, suc, ◌+◌, ◌-◌, ◌*◌, ◌/◌, ◌^◌, ◌<◌, ◌≤◌, Bool, true, false, cond, List, length, get_or, set, length-set, inl, inr, refl, sym, ap, subst, ◌∙◌, arith, add-one}
-use Rattle.std.proofs.lemmas.Bool.{both_ways, cases_eq, cond-true, cond-false, false_from_ne_true}
+use Rattle.std.proofs.Common.{◌≡◌, ℕ, zero, suc, ◌+◌, ◌-◌, ◌*◌, ◌/◌, ◌^◌, ◌<◌, ◌≤◌, Bool, true, false, cond, List, length, get_or, set, length-set, ◌⊎◌, inl, inr, refl, sym, ap, ap₂, subst, ◌∙◌, arith}
+use Rattle.std.specs.Prelude.{bit_or}
+use Rattle.std.proofs.lemmas.Bool.{and_from, both_ways, cases_eq, cases_lt, cond-true, cond-false, false_from_ne_true}
+use Rattle.std.proofs.lemmas.List.{set-get_or}
 use Rattle.std.proofs.lemmas.Nat.{pow_pos}
 use Rattle.std.proofs.Math.Nat.{pow-suc}
 use Rattle.model_core.specs.Numbered.{number_at, is_clear, IsOpen}
-use Rattle.buddy_core.specs.Tree.{orders, word, word_at, Shows, IsWith, IsLess, joined}
+use Rattle.buddy_core.specs.Tree.{orders, word, word_at, Shows, IsWith, IsLess, Mended, IsConfined}
 use Rattle.model_core.proofs.Halves.{clear_same, clear_from}
-use Rattle.buddy_core.proofs.TreeNumbers.{number_above, number_below, half_clear, inside_clear, frame_not_clear}
-use Rattle.buddy_core.proofs.TreeOrders.{orders_clear, orders_none, orders_same, word_whole, word_inside}
+use Rattle.buddy_core.proofs.TreeNumbers.{halves, number_above, number_below, half_clear, inside_clear, frame_not_clear}
+use Rattle.buddy_core.proofs.TreeOrders.{orders_clear, orders_halves, orders_none, orders_same, orders_whole, word_whole, word_inside}
 use Rattle.buddy_core.proofs.TreeNodes.{node_stored, word_at-set_same, word_at-set_other, far_whole, far_half}
-use Rattle.buddy_core.proofs.TreeMends.{Mended, inside_with, around_with, away, climbs, climbs_joined}
+use Rattle.buddy_core.proofs.TreeMends.{Climbs, inside_with, around_with, away, climbs, climbs_split, climbs_join, shows_mended}
 
 -- inside a block that is taken whole, or strictly inside one that is free whole, all words are 0
 zero_either : (b : Bool) (n : ℕ) → n ≡ 0 → cond b 0 n ≡ 0
@@ -89,42 +91,107 @@ halves_stand top k f d old new words s agree m off q e b = elim (cases_eq q (num
     only : (i e q : ℕ) → (q ≡ number_at k f → ⊥) → (n : ℕ) → k + n ≡ k → number_at n q ≡ number_at k f → ⊥
     only i e q ne n t a = ne (subst (λ j. number_at j q ≡ number_at k f) (let z : n ≡ 0 = omega arith in z) a)
 
--- one step up
-up_plain : (top k f d : ℕ) (old new : ℕ → Bool) (words : List ℕ) → f < 2 ^ top → length words + 1 ≡ 2 ^ (top + 1) → d + suc k ≡ top
-    → ((x : ℕ) → (IsWith k f x → ⊥) → old x ≡ new x) → Mended top k f old new words → is_clear old (suc k) (number_at (suc k) f) ≡ false
-    → (n : ℕ) → n ≡ 2 ^ d + number_at (suc k) f → Mended top (suc k) f old new (joined words n k)
-up_plain top k f d old new words b size s agree m off n node =
+-- the word of a block that no larger free block has
+word_alone : (ok : ℕ → Bool) (top k q : ℕ) → k ≤ top → (k < top → is_clear ok (suc k) (q / 2) ≡ false) → word ok top k q ≡ orders ok k q
+word_alone ok top k q le off = elim (cases_lt k top) [
+  | inl lt ↦ word_inside ok top k q lt ∙ cond-false _ 0 (orders ok k q) (off lt)
+  | inr ge ↦ subst (λ i. word ok i k q ≡ orders ok k q) (let e : k ≡ top = omega arith in e) (word_whole ok k q)
+]
+
+-- the word of the block that changed
+word_changed : (top k f d : ℕ) (old new : ℕ → Bool) (words : List ℕ) → f < 2 ^ top → d + k ≡ top → Mended top k f old new words
+    → word_at words d (number_at k f) ≡ orders new k (number_at k f)
+word_changed top k f d old new words b s m =
+    m.within d k 0 (number_at k f) s (number_below d k f (subst (λ j. f < 2 ^ j) (sym s) b)) (omega arith) refl ∙ word_whole new k (number_at k f)
+
+pub confined_up : (top k f : ℕ) (old new : ℕ → Bool) → IsConfined top k f old new → IsConfined top (suc k) f old new
+confined_up top k f old new c = record {
+  same = agree_above old new k 1 (suc k) f (omega arith) c.same;
+  before = λ i le lt. c.before i (omega arith) lt;
+  after = λ i le lt. c.after i (omega arith) lt;
+}
+
+-- one step up, where the whole is not free: `v` is the word of the whole, s the other half
+pub climb_step : (top k f d : ℕ) (old new : ℕ → Bool) (words : List ℕ) → f < 2 ^ top → length words + 1 ≡ 2 ^ (top + 1) → d + suc k ≡ top
+    → IsConfined top k f old new → Mended top k f old new words → (n s v : ℕ) → n ≡ 2 ^ d + number_at (suc k) f → s + number_at k f ≡ 4 * number_at (suc k) f + 1
+    → v ≡ bit_or (word_at words (suc d) (number_at k f)) (word_at words (suc d) s) → Mended top (suc k) f old new (set words (n - 1) v)
+climb_step top k f d old new words b size t c m n s v node pair e =
     let p = number_at (suc k) f in
-    let small : p < 2 ^ d = number_below d (suc k) f (subst (λ j. f < 2 ^ j) (sym s) b) in
-    let high = node_stored top (suc d) k (2 * p + 1) words size (omega arith) (omega (arith, pow-suc 2 d)) in
-    climbs top k f d old new words (joined words n k) s agree m
-    (climbs_joined d k p n new words node small (omega (arith, pow-suc 2 d))
-    (λ q e. halves_stand top k f d old new words s agree m off q e (omega (arith, pow-suc 2 d))))
+    let small : p < 2 ^ d = number_below d (suc k) f (subst (λ j. f < 2 ^ j) (sym t) b) in
+    let stored = node_stored top d (suc k) p words size t small in
+    let each : (q : ℕ) → q / 2 ≡ p → word_at words (suc d) q ≡ orders new k q
+    = λ q h. halves_stand top k f d old new words t c.same m (c.before k (omega arith) (omega arith)) q h (omega (arith, pow-suc 2 d)) in
+    climbs top k f d old new words (set words (n - 1) v) t c.same m
+    (climbs_split d k p (number_at k f) s n v new words node small (omega arith) refl pair each (c.after k (omega arith) (omega arith))
+    (e ∙ ap₂ (λ i j. bit_or i j) (each (number_at k f) refl) (each s (omega arith))))
+
+-- where a word stays, all above it stay
+stays : (n top k f : ℕ) (old new : ℕ → Bool) (words : List ℕ) → k + n ≡ top → f < 2 ^ top → length words + 1 ≡ 2 ^ (top + 1)
+    → IsConfined top k f old new → Mended top k f old new words → orders new k (number_at k f) ≡ orders old k (number_at k f) → Shows top new words
+stays zero top k f old new words t b size c m e =
+    shows_mended top f old new words b size (subst (λ i. Mended top i f old new words) (let same : k ≡ top = omega arith in same) m)
+stays (suc n) top k f old new words t b size c m e =
+    let p = number_at (suc k) f in
+    let before = c.before k (omega arith) (omega arith) in
+    let after = c.after k (omega arith) (omega arith) in
+    let small : p < 2 ^ n = number_below n (suc k) f (subst (λ j. f < 2 ^ j) (let s : top ≡ n + suc k = omega arith in s) b) in
+    let up : orders new (suc k) p ≡ orders old (suc k) p
+    = orders_halves new k p after ∙ ap₂ (λ i j. bit_or i j) (half (2 * p) (omega arith)) (half (2 * p + 1) (omega arith)) ∙ sym (orders_halves old k p before) in
+    let climb : Climbs n k p new words words = record {
+      half = λ q h. halves_stand top k f n old new words (omega arith) c.same m before q h (omega (arith, pow-suc 2 n)) ∙ sym (cond-false (is_clear new (suc k) p) 0 (orders new k q) after);
+      whole = m.beyond n (suc k) p (omega arith) small (λ i h _. omega arith)
+          ∙ word_alone old top (suc k) p (omega arith) (λ lt. c.before (suc k) (omega arith) lt) ∙ sym up;
+      other = λ i q h g1 g2. refl;
+    } in
+    stays n top (suc k) f old new words (omega arith) b size (confined_up top k f old new c)
+    (climbs top k f n old new words words (omega arith) c.same m climb) up
+  where
+    half : (q : ℕ) → q / 2 ≡ number_at (suc k) f → orders new k q ≡ orders old k q
+    half q h = elim (cases_eq q (number_at k f)) [
+      | inl same ↦ subst (λ i. orders new k i ≡ orders old k i) (sym same) e
+      | inr ne ↦ orders_same new old k q (λ x at. sym (c.same x (away k f k 0 q x (omega arith) ne at)))
+    ]
+
+pub climb_stop : (top k f d : ℕ) (old new : ℕ → Bool) (words : List ℕ) → f < 2 ^ top → length words + 1 ≡ 2 ^ (top + 1) → d + suc k ≡ top
+    → IsConfined top k f old new → Mended top k f old new words → (n s v : ℕ) → n ≡ 2 ^ d + number_at (suc k) f → s + number_at k f ≡ 4 * number_at (suc k) f + 1
+    → v ≡ bit_or (word_at words (suc d) (number_at k f)) (word_at words (suc d) s) → get_or words (n - 1) 0 ≡ v → Shows top new words
+climb_stop top k f d old new words b size t c m n s v node pair e stay =
+    let p = number_at (suc k) f in
+    let small : p < 2 ^ d = number_below d (suc k) f (subst (λ j. f < 2 ^ j) (sym t) b) in
+    let same : set words (n - 1) v ≡ words = ap (λ i. set words (n - 1) i) (sym stay) ∙ set-get_or words (n - 1) 0 in
+    let up = subst (λ (ws : List ℕ). Mended top (suc k) f old new ws) same (climb_step top k f d old new words b size t c m n s v node pair e) in
+    stays d top (suc k) f old new words (omega arith) b size (confined_up top k f old new c) up
+    (sym (word_changed top (suc k) f d old new words b t up) ∙ m.beyond d (suc k) p t small (λ i h _. omega arith)
+    ∙ word_alone old top (suc k) p (omega arith) (λ lt. c.before (suc k) (omega arith) lt))
 
 -- one step up through a block that was free: its other half is now free on its own
 up_split : (top k f d : ℕ) (old new : ℕ → Bool) (words : List ℕ) → f < 2 ^ top → length words + 1 ≡ 2 ^ (top + 1) → d + suc k ≡ top
     → ((x : ℕ) → (IsWith k f x → ⊥) → old x ≡ new x) → Mended top k f old new words → is_clear old (suc k) (number_at (suc k) f) ≡ true
-    → (n r : ℕ) → n ≡ 2 ^ d + number_at (suc k) f → r + number_at k f ≡ 4 * number_at (suc k) f + 1
-    → (i : ℕ) → i + 1 ≡ 2 ^ suc d + r → Mended top (suc k) f old new (joined (set words i (2 ^ k)) n k)
-up_split top k f d old new words b size s agree m free n r node pair i place =
+    → is_clear new (suc k) (number_at (suc k) f) ≡ false → (n r : ℕ) → n ≡ 2 ^ d + number_at (suc k) f → r + number_at k f ≡ 4 * number_at (suc k) f + 1
+    → (i v : ℕ) → i + 1 ≡ 2 ^ suc d + r → v ≡ bit_or (word_at words (suc d) (number_at k f)) (2 ^ k)
+    → Mended top (suc k) f old new (set (set words i (2 ^ k)) (n - 1) v)
+up_split top k f d old new words b size s agree m free off n r node pair i v place e =
     let p = number_at (suc k) f in
     let after = set words i (2 ^ k) in
     let small : p < 2 ^ d = number_below d (suc k) f (subst (λ j. f < 2 ^ j) (sym s) b) in
-    let high = node_stored top (suc d) k (2 * p + 1) words size (omega arith) (omega (arith, pow-suc 2 d)) in
+    let stored = node_stored top d (suc k) p words size s small in
     let other = node_stored top (suc d) k r words size (omega arith) (omega (arith, pow-suc 2 d)) in
     let len : length after ≡ length words = length-set words i (2 ^ k) in
-    let each : (q : ℕ) → q / 2 ≡ p → word_at after (suc d) q ≡ orders new k q = λ q e. elim (cases_eq q (number_at k f)) [
+    let here = word_changed top k f (suc d) old new words b (omega arith) m in
+    let there : (q : ℕ) → (q ≡ number_at k f → ⊥) → q / 2 ≡ p → orders new k q ≡ 2 ^ k
+    = λ q ne h. orders_clear new k q (sym (clear_same old new k q (λ x at. agree x (away k f k 0 q x (omega arith) ne at))) ∙ half_clear old k p q free h) in
+    let each : (q : ℕ) → q / 2 ≡ p → word_at after (suc d) q ≡ orders new k q = λ q h. elim (cases_eq q (number_at k f)) [
       | inl same ↦ word_at-set_other words i (2 ^ k) (suc d) q (λ x. omega arith)
-          ∙ m.within (suc d) k 0 q (omega arith) (omega (arith, pow-suc 2 d)) (omega arith) same ∙ word_whole new k q
-      | inr ne ↦ word_at-set_same words i (2 ^ k) (suc d) q (omega arith) (omega arith)
-          ∙ sym (orders_clear new k q (sym (clear_same old new k q (λ x h. agree x (away k f k 0 q x (omega arith) ne h))) ∙ half_clear old k p q free e))
+          ∙ subst (λ j. word_at words (suc d) j ≡ orders new k j) (sym same) here
+      | inr ne ↦ word_at-set_same words i (2 ^ k) (suc d) q (omega arith) (omega arith) ∙ sym (there q ne h)
     ] in
-    let up = climbs_joined d k p n new after node small (omega (arith, pow-suc 2 d)) each in
-    climbs top k f d old new words (joined after n k) s agree m (record {
+    let up = climbs_split d k p (number_at k f) r n v new after node small (omega arith) refl pair each off
+    (e ∙ ap₂ (λ a b. bit_or a b) here (sym (there r (λ x. omega arith) (omega arith)))) in
+    climbs top k f d old new words (set after (n - 1) v) s agree m (record {
       half = up.half;
       whole = up.whole;
-      other = λ e q h a1 a2. up.other e q h a1 a2
-          ∙ word_at-set_other words i (2 ^ k) e q (λ x. far_half d p r (i + 1) e q place (omega arith) small h a1 x);
+      other = λ e2 q h a1 a2. up.other e2 q h a1 a2
+          ∙ word_at-set_other words i (2 ^ k) e2 q (λ x. far_half d p r (i + 1) e2 q place (omega arith) small h a1 x);
     })
 
 -- the blocks around the frame up to the free block of order `from` are free, and no larger one
@@ -147,24 +214,90 @@ split_up ok top from k f (small, clear, around) h lt =
 pub reserve_split : (top order from k f d : ℕ) (large small : ℕ → Bool) (words : List ℕ) → f < 2 ^ top → length words + 1 ≡ 2 ^ (top + 1) → d + suc k ≡ top
     → order ≤ k → IsLess small large order f → IsOpen large top from (number_at from f) → k < from → Mended top k f large small words
     → (n r : ℕ) → n ≡ 2 ^ d + number_at (suc k) f → r + number_at k f ≡ 4 * number_at (suc k) f + 1
-    → (i : ℕ) → i + 1 ≡ 2 ^ suc d + r → Mended top (suc k) f large small (joined (set words i (2 ^ k)) n k)
+    → (i v : ℕ) → i + 1 ≡ 2 ^ suc d + r → v ≡ bit_or (word_at words (suc d) (number_at k f)) (2 ^ k)
+    → Mended top (suc k) f large small (set (set words i (2 ^ k)) (n - 1) v)
 reserve_split top order from k f d large small words b size s le less free lt m =
     up_split top k f d large small words b size s
     (agree_above large small order (k - order) k f (omega arith) (λ x off. sym (less.kept x off))) m (free_up large top from k f free lt)
+    (frame_not_clear small (suc k) f (less.gone f refl))
 
-pub reserve_plain : (top order from k f d : ℕ) (large small : ℕ → Bool) (words : List ℕ) → f < 2 ^ top → length words + 1 ≡ 2 ^ (top + 1) → d + suc k ≡ top
-    → order ≤ k → IsLess small large order f → IsOpen large top from (number_at from f) → from ≤ k → Mended top k f large small words
-    → (n : ℕ) → n ≡ 2 ^ d + number_at (suc k) f → Mended top (suc k) f large small (joined words n k)
-reserve_plain top order from k f d large small words b size s le less free lt m =
-    up_plain top k f d large small words b size s
-    (agree_above large small order (k - order) k f (omega arith) (λ x off. sym (less.kept x off))) m (split_up large top from k f free lt (omega arith))
+-- what a reserve and a release leave to climb through
+pub reserve_confined : (top order from f : ℕ) (large small : ℕ → Bool) → order ≤ from → IsLess small large order f → IsOpen large top from (number_at from f)
+    → IsConfined top from f large small
+reserve_confined top order from f large small le less free = record {
+  same = agree_above large small order (from - order) from f (omega arith) (λ x off. sym (less.kept x off));
+  before = λ i up lt. split_up large top from i f free up lt;
+  after = λ i up lt. frame_not_clear small (suc i) f (less.gone f refl);
+}
 
-pub release_up : (top order k f d : ℕ) (small large : ℕ → Bool) (words : List ℕ) → f < 2 ^ top → length words + 1 ≡ 2 ^ (top + 1) → d + suc k ≡ top
-    → order ≤ k → IsLess small large order f → Mended top k f small large words
-    → (n : ℕ) → n ≡ 2 ^ d + number_at (suc k) f → Mended top (suc k) f small large (joined words n k)
-release_up top order k f d small large words b size s le less m =
-    up_plain top k f d small large words b size s
-    (agree_above small large order (k - order) k f (omega arith) less.kept) m (frame_not_clear small (suc k) f (less.gone f refl))
+pub release_confined : (top order joined f : ℕ) (small large : ℕ → Bool) → order ≤ joined → IsLess small large order f → IsOpen large top joined (number_at joined f)
+    → IsConfined top joined f small large
+release_confined top order joined f small large le less free = record {
+  same = agree_above small large order (joined - order) joined f (omega arith) less.kept;
+  before = λ i up lt. frame_not_clear small (suc i) f (less.gone f refl);
+  after = λ i up lt. split_up large top joined i f free up lt;
+}
+
+-- the other half of a block that is made available, by its word
+other_word : (top order k f d : ℕ) (small large : ℕ → Bool) (words : List ℕ) → f < 2 ^ top → d + suc k ≡ top → order ≤ k → IsLess small large order f
+    → Mended top k f small large words → (r : ℕ) → r + number_at k f ≡ 4 * number_at (suc k) f + 1 → word_at words (suc d) r ≡ orders large k r
+other_word top order k f d small large words b s le less m r pair =
+    let p = number_at (suc k) f in
+    let below : p < 2 ^ d = number_below d (suc k) f (subst (λ j. f < 2 ^ j) (sym s) b) in
+    halves_stand top k f d small large words s (agree_above small large order (k - order) k f (omega arith) less.kept) m
+    (frame_not_clear small (suc k) f (less.gone f refl)) r (omega arith) (omega (arith, pow-suc 2 d))
+
+changed_clear : (top k f d : ℕ) (small large : ℕ → Bool) (words : List ℕ) → f < 2 ^ top → length words + 1 ≡ 2 ^ (top + 1) → d + k ≡ top
+    → (n : ℕ) → n ≡ 2 ^ d + number_at k f → Mended top k f small large (set words (n - 1) (2 ^ k)) → is_clear large k (number_at k f) ≡ true
+changed_clear top k f d small large words b size s n node m =
+    let below = number_below d k f (subst (λ j. f < 2 ^ j) (sym s) b) in
+    let stored = node_stored top d k (number_at k f) words size s below in
+    orders_whole large k (number_at k f) (sym (word_changed top k f d small large _ b s m)
+    ∙ word_at-set_same words (n - 1) (2 ^ k) d (number_at k f) (omega (arith, pow_pos d)) (omega (arith, pow_pos d)))
+
+-- with a buddy that is one free block it is one free block, and the words inside are 0
+pub release_join : (top order k f d : ℕ) (small large : ℕ → Bool) (words : List ℕ) → f < 2 ^ top → length words + 1 ≡ 2 ^ (top + 1) → d + suc k ≡ top
+    → order ≤ k → IsLess small large order f → (m r : ℕ) → m ≡ 2 ^ suc d + number_at k f → r + number_at k f ≡ 4 * number_at (suc k) f + 1
+    → Mended top k f small large (set words (m - 1) (2 ^ k)) → (i n : ℕ) → i + 1 ≡ 2 ^ suc d + r → get_or words i 0 ≡ 2 ^ k → n ≡ 2 ^ d + number_at (suc k) f
+    → Mended top (suc k) f small large (set (set (set words i 0) (m - 1) 0) (n - 1) (2 ^ suc k))
+release_join top order k f d small large words b size s le less m r there pair mended i n here free node =
+    let p = number_at (suc k) f in
+    let below : p < 2 ^ d = number_below d (suc k) f (subst (λ j. f < 2 ^ j) (sym s) b) in
+    let stored = node_stored top (suc d) k (2 * p + 1) words size (omega arith) (omega (arith, pow-suc 2 d)) in
+    let some = pow_pos d in
+    let other : orders large k r ≡ 2 ^ k
+    = sym (other_word top order k f d small large _ b s le less mended r pair)
+    ∙ word_at-set_other words (m - 1) (2 ^ k) (suc d) r (λ x. omega arith) ∙ ap (λ j. get_or words j 0) (let e : 2 ^ suc d + r - 1 ≡ i = omega arith in e) ∙ free in
+    let clear = both (halves p (number_at k f) refl) (changed_clear top k f (suc d) small large words b size (omega arith) m there mended) (orders_whole large k r other) in
+    climbs top k f d small large (set words (m - 1) (2 ^ k)) _ s (agree_above small large order (k - order) k f (omega arith) less.kept) mended
+    (climbs_join d k p (number_at k f) r n i (m - 1) (2 ^ k) large words node below (omega (arith, pow-suc 2 d)) refl pair here (omega arith) clear)
+  where
+    both : (number_at k f ≡ 2 * number_at (suc k) f) ⊎ (number_at k f ≡ 2 * number_at (suc k) f + 1) → is_clear large k (number_at k f) ≡ true → is_clear large k r ≡ true
+        → is_clear large (suc k) (number_at (suc k) f) ≡ true
+    both (inl low) a c = and_from _ _ (subst (λ j. is_clear large k j ≡ true) low a) (subst (λ j. is_clear large k j ≡ true) (let e : r ≡ 2 * number_at (suc k) f + 1 = omega arith in e) c)
+    both (inr high) a c = and_from _ _ (subst (λ j. is_clear large k j ≡ true) (let e : r ≡ 2 * number_at (suc k) f = omega arith in e) c) (subst (λ j. is_clear large k j ≡ true) high a)
+
+-- with another it is a free block of its own
+pub release_open : (top order k f d : ℕ) (small large : ℕ → Bool) (words : List ℕ) → f < 2 ^ top → length words + 1 ≡ 2 ^ (top + 1) → d + suc k ≡ top
+    → order ≤ k → IsLess small large order f → (m r : ℕ) → m ≡ 2 ^ suc d + number_at k f → r + number_at k f ≡ 4 * number_at (suc k) f + 1
+    → Mended top k f small large (set words (m - 1) (2 ^ k)) → (i : ℕ) → i + 1 ≡ 2 ^ suc d + r → (get_or words i 0 ≡ 2 ^ k → ⊥)
+    → IsOpen large top k (number_at k f)
+release_open top order k f d small large words b size s le less m r there pair mended i here ne =
+    let p = number_at (suc k) f in
+    let some = pow_pos d in (
+      omega arith,
+      changed_clear top k f (suc d) small large words b size (omega arith) m there mended,
+      inr (false_from_ne_true _ (λ t. ne
+          (ap (λ j. get_or words j 0) (let e : i ≡ 2 ^ suc d + r - 1 = omega arith in e)
+          ∙ sym (word_at-set_other words (m - 1) (2 ^ k) (suc d) r (λ x. omega arith))
+          ∙ other_word top order k f d small large _ b s le less mended r pair
+          ∙ orders_clear large k r (half_clear large k p r t (omega arith))))),
+    )
+
+pub release_whole : (top f : ℕ) (small large : ℕ → Bool) (words : List ℕ) → f < 2 ^ top → length words + 1 ≡ 2 ^ (top + 1)
+    → (m : ℕ) → m ≡ 2 ^ 0 + number_at top f → Mended top top f small large (set words (m - 1) (2 ^ top)) → IsOpen large top top (number_at top f)
+release_whole top f small large words b size m there mended =
+    (omega arith, changed_clear top top f 0 small large words b size (omega arith) m there mended, inl refl)
 
 -- where the node of the block at one order stands, and its parent
 pub record Stands (top k f d node : ℕ) (words : List ℕ) : Type 0 where
@@ -216,14 +349,3 @@ shows_all top words shows n e =
         word_at-set_other words 0 n (suc d) q (λ x. omega (arith, pow-suc 2 d, pow_pos d)) ∙ shows.each (suc d) k q s b
         ∙ zero_either _ _ (orders_none (λ _. false) k q (λ x h. refl))
         ∙ sym (word_inside (λ _. true) top k q (omega arith) ∙ cond-true _ 0 _ (clear_from (λ _. true) (suc k) (q / 2) (λ x h. refl)))
-
--- the node of the next order, in the words of the loops
-pub parent_stands : (top k f node : ℕ) → f < 2 ^ top → ((d : ℕ) → d + k ≡ top → node ≡ 2 ^ d + number_at k f)
-    → (d : ℕ) → d + (k + 1) ≡ top → node / 2 ≡ 2 ^ d + number_at (k + 1) f
-parent_stands top k f node b e d s =
-    let at : node ≡ 2 ^ suc d + number_at k f = e (suc d) (omega arith) in
-    let half : node / 2 ≡ 2 ^ d + number_at (suc k) f = omega (arith, pow-suc 2 d) in
-    subst (λ i. node / 2 ≡ 2 ^ d + number_at i f) (sym (add-one k)) half
-
-pub next : (top k f : ℕ) (old new : ℕ → Bool) (words after : List ℕ) → after ≡ words → Mended top (suc k) f old new words → Mended top (k + 1) f old new after
-next top k f old new words after e m = subst (λ i. Mended top i f old new after) (sym (add-one k)) (subst (λ w. Mended top (suc k) f old new w) (sym e) m)

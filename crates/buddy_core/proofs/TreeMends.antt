@@ -1,19 +1,16 @@
 -- The words while a change is carried up: the part inside one block already shows the new availability, as a tree of
 -- its own; all other words are as before.
-use Rattle.std.proofs.Common.{◌≡◌, ℕ, zero, suc, ◌+◌, ◌-◌, ◌*◌, ◌/◌, ◌^◌, ◌<◌, ◌≤◌, Bool, true, false, ◌&&◌, cond, List, length, get_or, set, length-set, inl, inr, sym, ap, subst, ◌∙◌, arith, eqb, add-one}
+use Rattle.std.proofs.Common.{◌≡◌, ℕ, zero, suc, ◌+◌, ◌-◌, ◌*◌, ◌/◌, ◌^◌, ◌<◌, ◌≤◌, Bool, true, false, ◌⊎◌, cond, List, length, set, length-set, inl, inr, sym, ap, ap₂, subst, ◌∙◌, arith}
 use Rattle.std.specs.Prelude.{bit_or}
-use Rattle.std.proofs.lemmas.Bool.{and_from, and_parts, cases_Bool, both_ways, cases_eq, cond-true, cond-false, eq-eqb, eqb-true, false_from_ne_true}
-use Rattle.std.proofs.lemmas.Nat.{pow_pos}
+use Rattle.std.proofs.lemmas.Bool.{cases_eq, cond-true, cond-false}
+use Rattle.std.proofs.lemmas.Nat.{pow_pos, or_comm}
+use Rattle.std.proofs.Math.Nat.{pow-suc}
 use Rattle.model_core.specs.Numbered.{number_at, is_clear}
-use Rattle.buddy_core.specs.Tree.{orders, word, word_at, Shows, IsWith, joined}
+use Rattle.buddy_core.specs.Tree.{orders, word, word_at, Shows, IsWith, Mended}
 use Rattle.model_core.proofs.Halves.{clear_same}
 use Rattle.buddy_core.proofs.TreeNumbers.{halves, number_above, number_whole}
-use Rattle.buddy_core.proofs.TreeOrders.{orders_clear, orders_halves, orders_whole, orders_same, word_whole, word_inside}
-use Rattle.buddy_core.proofs.TreeNodes.{word_at-set_same, word_at-set_other, low_node, high_node, far_whole, far_half}
-
-pub record Mended (top k f : ℕ) (old new : ℕ → Bool) (words : List ℕ) : Type 0 where
-  pub within : (d i e q : ℕ) → d + i ≡ top → q < 2 ^ d → i + e ≡ k → number_at e q ≡ number_at k f → word_at words d q ≡ word new k i q
-  pub beyond : (d i q : ℕ) → d + i ≡ top → q < 2 ^ d → ((e : ℕ) → i + e ≡ k → number_at e q ≡ number_at k f → ⊥) → word_at words d q ≡ word old top i q
+use Rattle.buddy_core.proofs.TreeOrders.{orders_clear, orders_halves, orders_same, word_whole, word_inside}
+use Rattle.buddy_core.proofs.TreeNodes.{word_at-set_same, word_at-set_other, far_whole, far_half}
 
 -- frames of a block inside and away from the changed one
 pub inside_with : (k f i e q x : ℕ) → i + e ≡ k → number_at e q ≡ number_at k f → number_at i x ≡ q → IsWith k f x
@@ -96,91 +93,50 @@ shows_mended top f old new words h size m = record {
   each = λ d k q s b. m.within d k d q s b (omega arith) (number_whole d q b ∙ sym (number_whole top f h));
 }
 
--- the halves have the words of their own trees: what `joined` writes
-record Halves (d k p n : ℕ) (new : ℕ → Bool) (words : List ℕ) : Type 0 where
-  node : n ≡ 2 ^ d + p
-  small : p < 2 ^ d
-  stored : 2 * n < length words
-  low : get_or words (2 * n - 1) 0 ≡ orders new k (2 * p)
-  high : get_or words (2 * n) 0 ≡ orders new k (2 * p + 1)
-  each : (q : ℕ) → q / 2 ≡ p → word_at words (suc d) q ≡ orders new k q
+-- a half is one of the two
+either_half : (p r s q : ℕ) → r / 2 ≡ p → s + r ≡ 4 * p + 1 → q / 2 ≡ p → (q ≡ r) ⊎ (q ≡ s)
+either_half p r s q a b e = elim (cases_eq q r) [ inl h ↦ inl h | inr h ↦ inr (omega (arith, h)) ]
 
-both_free : List ℕ → ℕ → ℕ → List ℕ
-both_free words n k = set (set (set words (2 * n - 1) 0) (2 * n) 0) (n - 1) (2 ^ (k + 1))
-
-climbs_free : (d k p n : ℕ) (new : ℕ → Bool) (words : List ℕ) → Halves d k p n new words → is_clear new (suc k) p ≡ true → Climbs d k p new words (both_free words n k)
-unfolding both_free
-climbs_free d k p n new words h t =
-    let one = set words (2 * n - 1) 0 in
-    let two = set one (2 * n) 0 in
-    let node = h.node in
-    let stored = h.stored in
-    let some = pow_pos d in
-    let low = low_node d p n h.node in
-    let high = high_node d p n h.node in
-    let len1 : length one ≡ length words = length-set words (2 * n - 1) 0 in
-    let len2 : length two ≡ length one = length-set one (2 * n) 0 in
-    record {
-      half = λ q e. elim (halves p q e) [
-        | inl s ↦ word_at-set_other two (n - 1) (2 ^ (k + 1)) (suc d) q (λ x. omega arith)
-            ∙ word_at-set_other one (2 * n) 0 (suc d) q (λ x. omega arith)
-            ∙ word_at-set_same words (2 * n - 1) 0 (suc d) q (omega arith) (omega arith)
-            ∙ sym (cond-true (is_clear new (suc k) p) 0 (orders new k q) t)
-        | inr s ↦ word_at-set_other two (n - 1) (2 ^ (k + 1)) (suc d) q (λ x. omega arith)
-            ∙ word_at-set_same one (2 * n) 0 (suc d) q (omega arith) (omega arith)
-            ∙ sym (cond-true (is_clear new (suc k) p) 0 (orders new k q) t)
-      ];
-      whole = word_at-set_same two (n - 1) (2 ^ (k + 1)) d p (omega arith) (omega arith)
-          ∙ ap (λ i. 2 ^ i) (add-one k) ∙ sym (orders_clear new (suc k) p t);
-      other = λ e q b f g. word_at-set_other two (n - 1) (2 ^ (k + 1)) e q (λ x. far_whole d p n e q h.node h.small b g (omega arith))
-          ∙ word_at-set_other one (2 * n) 0 e q (λ x. far_half d p (2 * p + 1) (2 * n + 1) e q (sym high) (omega arith) h.small b f x)
-          ∙ word_at-set_other words (2 * n - 1) 0 e q (λ x. far_half d p (2 * p) (2 * n) e q (sym low) (omega arith) h.small b f (omega arith));
-    }
-
-climbs_split : (d k p n : ℕ) (new : ℕ → Bool) (words : List ℕ) (v : ℕ) → Halves d k p n new words → is_clear new (suc k) p ≡ false
-    → v ≡ bit_or (orders new k (2 * p)) (orders new k (2 * p + 1)) → Climbs d k p new words (set words (n - 1) v)
-climbs_split d k p n new words v h f e =
-    let node = h.node in
-    let stored = h.stored in
+-- halves r and s with the words of their own trees, not both clear: the whole has the orders of both
+pub climbs_split : (d k p r s n v : ℕ) (new : ℕ → Bool) (words : List ℕ) → n ≡ 2 ^ d + p → p < 2 ^ d → n ≤ length words → r / 2 ≡ p → s + r ≡ 4 * p + 1
+    → ((q : ℕ) → q / 2 ≡ p → word_at words (suc d) q ≡ orders new k q) → is_clear new (suc k) p ≡ false
+    → v ≡ bit_or (orders new k r) (orders new k s) → Climbs d k p new words (set words (n - 1) v)
+climbs_split d k p r s n v new words node small stored a b each off e =
     let some = pow_pos d in
     record {
-      half = λ q a. word_at-set_other words (n - 1) v (suc d) q (λ x. elim (halves p q a) [
-        | inl s ↦ let low = low_node d p n h.node in omega arith
-        | inr s ↦ let high = high_node d p n h.node in omega arith
-      ])
-          ∙ h.each q a ∙ sym (cond-false (is_clear new (suc k) p) 0 (orders new k q) f);
-      whole = word_at-set_same words (n - 1) v d p (omega arith) (omega arith) ∙ e ∙ sym (orders_halves new k p f);
-      other = λ e2 q b f2 g. word_at-set_other words (n - 1) v e2 q (λ x. far_whole d p n e2 q h.node h.small b g (omega arith));
+      half = λ q h. word_at-set_other words (n - 1) v (suc d) q (λ x. omega (arith, pow-suc 2 d)) ∙ each q h ∙ sym (cond-false (is_clear new (suc k) p) 0 (orders new k q) off);
+      whole = word_at-set_same words (n - 1) v d p (omega arith) (omega arith) ∙ e ∙ both (halves p r a) ∙ sym (orders_halves new k p off);
+      other = λ e2 q h f g. word_at-set_other words (n - 1) v e2 q (λ x. far_whole d p n e2 q node small h g (omega arith));
     }
+  where
+    both : (r ≡ 2 * p) ⊎ (r ≡ 2 * p + 1) → bit_or (orders new k r) (orders new k s) ≡ bit_or (orders new k (2 * p)) (orders new k (2 * p + 1))
+    both (inl low) = ap₂ (λ i j. bit_or (orders new k i) (orders new k j)) low (let high : s ≡ 2 * p + 1 = omega arith in high)
+    both (inr high) = or_comm (orders new k r) (orders new k s) ∙ ap₂ (λ i j. bit_or (orders new k i) (orders new k j)) (let low : s ≡ 2 * p = omega arith in low) high
 
--- where both halves are free blocks, and only there, the whole is one
-both_test : (d k p n : ℕ) (new : ℕ → Bool) (words : List ℕ) → Halves d k p n new words
-    → (eqb (get_or words (2 * n - 1) 0) (2 ^ k) && eqb (get_or words (2 * n) 0) (2 ^ k)) ≡ is_clear new (suc k) p
-both_test d k p n new words h = elim (cases_Bool (is_clear new (suc k) p)) [
-  | inl t ↦
-      let both = and_parts (is_clear new k (2 * p)) (is_clear new k (2 * p + 1)) t in
-      and_from _ _ (eq-eqb _ _ (h.low ∙ orders_clear new k (2 * p) both.0)) (eq-eqb _ _ (h.high ∙ orders_clear new k (2 * p + 1) both.1)) ∙ sym t
-  | inr f ↦ false_from_ne_true _ (λ t.
-      let both = and_parts (eqb (get_or words (2 * n - 1) 0) (2 ^ k)) (eqb (get_or words (2 * n) 0) (2 ^ k)) t in
-      both_ways (is_clear new (suc k) p) f (and_from _ _ (orders_whole new k (2 * p) (sym h.low ∙ eqb-true _ _ both.0)) (orders_whole new k (2 * p + 1) (sym h.high ∙ eqb-true _ _ both.1)))) ∙ sym f
-]
-
-pub climbs_joined : (d k p n : ℕ) (new : ℕ → Bool) (words : List ℕ) → n ≡ 2 ^ d + p → p < 2 ^ d → 2 * n < length words
-    → ((q : ℕ) → q / 2 ≡ p → word_at words (suc d) q ≡ orders new k q) → Climbs d k p new words (joined words n k)
-unfolding both_free
-climbs_joined d k p n new words e b stored each =
-    let high : 2 ^ suc d + (2 * p + 1) - 1 ≡ 2 * n = omega (arith, high_node d p n e) in
-    let h : Halves d k p n new words = record {
-      node = e;
-      small = b;
-      stored = stored;
-      each = each;
-      low = ap (λ i. get_or words (i - 1) 0) (sym (low_node d p n e)) ∙ each (2 * p) (omega arith);
-      high = ap (λ i. get_or words i 0) (sym high) ∙ each (2 * p + 1) (omega arith);
-    } in
-    let test = both_test d k p n new words h in
-    let tree : List ℕ → Type 0 = λ after. Climbs d k p new words after in
-    elim (cases_Bool (is_clear new (suc k) p)) [
-      | inl t ↦ subst tree (sym (cond-true _ _ _ (test ∙ t))) (climbs_free d k p n new words h t)
-      | inr f ↦ subst tree (sym (cond-false _ _ _ (test ∙ f))) (climbs_split d k p n new words _ h f (ap (λ i. bit_or i (get_or words (2 * n) 0)) h.low ∙ ap (λ i. bit_or (orders new k (2 * p)) i) h.high))
-    ]
+-- both halves free: the whole is one free block
+pub climbs_join : (d k p r s n i j v : ℕ) (new : ℕ → Bool) (words : List ℕ) → n ≡ 2 ^ d + p → p < 2 ^ d → 2 * n < length words → r / 2 ≡ p → s + r ≡ 4 * p + 1
+    → i + 1 ≡ 2 ^ suc d + s → j + 1 ≡ 2 ^ suc d + r → is_clear new (suc k) p ≡ true
+    → Climbs d k p new (set words j v) (set (set (set words i 0) j 0) (n - 1) (2 ^ suc k))
+climbs_join d k p r s n i j v new words node small stored a b here there clear =
+    let some = pow_pos d in
+    let one = set words i 0 in
+    let two = set one j 0 in
+    let len1 : length one ≡ length words = length-set words i 0 in
+    let len2 : length two ≡ length one = length-set one j 0 in
+    record {
+      half = λ q e. word_at-set_other two (n - 1) (2 ^ suc k) (suc d) q (λ x. omega (arith, pow-suc 2 d))
+          ∙ zero q (either_half p r s q a b e) ∙ sym (cond-true (is_clear new (suc k) p) 0 (orders new k q) clear);
+      whole = word_at-set_same two (n - 1) (2 ^ suc k) d p (omega arith) (omega (arith, pow-suc 2 d)) ∙ sym (orders_clear new (suc k) p clear);
+      other = λ e q h f g. word_at-set_other two (n - 1) (2 ^ suc k) e q (λ x. far_whole d p n e q node small h g (omega arith))
+          ∙ word_at-set_other one j 0 e q (λ x. far_half d p r (j + 1) e q there a small h f x)
+          ∙ word_at-set_other words i 0 e q (λ x. far_half d p s (i + 1) e q here (omega arith) small h f x)
+          ∙ sym (word_at-set_other words j v e q (λ x. far_half d p r (j + 1) e q there a small h f x));
+    }
+  where
+    zero : (q : ℕ) → (q ≡ r) ⊎ (q ≡ s) → word_at (set (set words i 0) j 0) (suc d) q ≡ 0
+    zero q (inl e) =
+        let len : length (set words i 0) ≡ length words = length-set words i 0 in
+        word_at-set_same (set words i 0) j 0 (suc d) q (omega arith) (omega (arith, pow-suc 2 d))
+    zero q (inr e) =
+        word_at-set_other (set words i 0) j 0 (suc d) q (λ x. omega arith)
+        ∙ word_at-set_same words i 0 (suc d) q (omega arith) (omega (arith, pow-suc 2 d))

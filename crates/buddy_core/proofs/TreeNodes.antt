@@ -35,12 +35,9 @@ word_at-set_same words i v d q e h =
 pub word_at-set_other : (words : List ℕ) (i v d q : ℕ) → (2 ^ d + q ≡ i + 1 → ⊥) → word_at (set words i v) d q ≡ word_at words d q
 word_at-set_other words i v d q ne = get_or-set_other words i (2 ^ d + q - 1) v 0 (λ e. ne (omega (arith, pow_pos d)))
 
--- the halves of a node
+-- the lower half of a node
 pub low_node : (d p n : ℕ) → n ≡ 2 ^ d + p → 2 ^ suc d + 2 * p ≡ 2 * n
 low_node d p n e = omega (arith, pow-suc 2 d)
-
-pub high_node : (d p n : ℕ) → n ≡ 2 ^ d + p → 2 ^ suc d + (2 * p + 1) ≡ 2 * n + 1
-high_node d p n e = omega (arith, pow-suc 2 d)
 
 pub half_small : (d p q : ℕ) → q / 2 ≡ p → p < 2 ^ d → q < 2 ^ suc d
 half_small d p q e h = omega (arith, pow-suc 2 d)

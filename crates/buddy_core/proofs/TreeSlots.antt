@@ -13,9 +13,9 @@ use Rattle.model_core.specs.Numbered.{number_at, is_clear, IsOpen}
 use Rattle.model_core.proofs.Halves.{clear_at, clear_same, same_above}
 use Rattle.model_core.proofs.TakeOut.{TakesOut}
 use Rattle.model_core.proofs.Bridge.{number_first, aligned_first, number_of_frame, frame_of_number, free_is_open, open_is_free, number_is}
-use Rattle.buddy_core.specs.Tree.{orders, word, word_at, Shows, IsLess, HasOpen, IsLeast}
+use Rattle.buddy_core.specs.Tree.{orders, word, Shows, IsLess, HasOpen, IsLeast}
 use Rattle.buddy_core.proofs.TreeNumbers.{number_above, number_below, number_whole, inside_clear}
-use Rattle.buddy_core.proofs.TreeOrders.{orders_clear, orders_same, orders_tell, orders_told, word_whole, word_inside}
+use Rattle.buddy_core.proofs.TreeOrders.{orders_same, orders_tell, orders_told, word_whole, word_inside}
 
 -- bit j of each stored word tells a free block of order j inside the node's block -----------------------
 
@@ -66,24 +66,6 @@ pub node_tells : (ok : ℕ → Bool) (top d k q j : ℕ) (words : List ℕ) → 
     → (bit_at (slice_index words (2 ^ d + q - 1)) j ≡ 1) ↔ HasOpen ok top k q j
 node_tells ok top d k q j words shows s b =
     subst (λ w. (bit_at w j ≡ 1) ↔ HasOpen ok top k q j) (sym (shows.each d k q s b)) (word_tells ok top k q j (omega arith))
-
--- the word of a free block, and those of the blocks inside it
-pub open_word : (ok : ℕ → Bool) (top d j q : ℕ) (words : List ℕ) → Shows top ok words → d + j ≡ top → q < 2 ^ d → IsOpen ok top j q → word_at words d q ≡ 2 ^ j
-open_word ok top d j q words shows s b (small, clear, around) = shows.each d j q s b ∙ elim around [
-  | inl e ↦ ap (λ i. word ok i j q) (sym e) ∙ word_whole ok j q ∙ orders_clear ok j q clear
-  | inr off ↦ elim (cases_lt j top) [
-    | inl lt ↦ word_inside ok top j q lt ∙ cond-false _ 0 (orders ok j q) off ∙ orders_clear ok j q clear
-    | inr ge ↦ let e : j ≡ top = omega arith in ap (λ i. word ok i j q) (sym e) ∙ word_whole ok j q ∙ orders_clear ok j q clear
-  ]
-]
-
-pub inner_word : (ok : ℕ → Bool) (top d i j f : ℕ) (words : List ℕ) → Shows top ok words → d + i ≡ top → f < 2 ^ top → i < j → IsOpen ok top j (number_at j f)
-    → word_at words d (number_at i f) ≡ 0
-inner_word ok top d i j f words shows s b lt (small, clear, around) =
-    shows.each d i (number_at i f) s (number_below d i f (subst (λ n. f < 2 ^ n) (sym s) b))
-    ∙ word_inside ok top i (number_at i f) (omega arith)
-    ∙ cond-true _ 0 (orders ok i (number_at i f)) (inside_clear ok (j - suc i) (suc i) j (number_at (suc i) f) (omega arith)
-    (ap (λ n. is_clear ok j n) (number_above (j - suc i) (suc i) j f (omega arith)) ∙ clear))
 
 -- tests that agree on the superblock's frames have the same words ------------------------------------------
 

@@ -1,8 +1,8 @@
 -- Which orders of free blocks the superblocks of one tenant have, by the first words of their trees.
-use Rattle.std.specs.Prelude.{◌≡◌, ℕ, ◌<◌, ◌≤◌, Option, Some, None, List, length, slice_index, slice_index_or}
+use Rattle.std.specs.Prelude.{◌≡◌, ◌↔◌, ℕ, ◌<◌, ◌≤◌, Option, Some, None, List, length, slice_index, slice_index_or}
 use Rattle.std.specs.Int.{bit_at}
 use Rattle.buddy_core.specs.declared.find.Place.{Place}
-use Rattle.buddy_core.specs.Stored.{Sheet, sheet_of}
+use Rattle.buddy_core.specs.Stored.{Sheet, Row, sheet_of}
 
 abbrev pub slot_in : List (Option ℕ) → ℕ → Option ℕ
 slot_in slots u = slice_index_or slots u None
@@ -19,6 +19,10 @@ HasBit sheets m j = bit_at (slice_index (sheet_of m sheets).words 0) j ≡ 1
 -- a superblock under one of the first n slots has one
 abbrev pub HasOrder : List Sheet → List (Option ℕ) → ℕ → ℕ → Type 0
 HasOrder sheets slots n j = (u m : ℕ) × (u < n) × (slot_in slots u ≡ Some m) × HasBit sheets m j
+
+-- a tenant counts free blocks of exactly the orders that its superblocks have
+abbrev pub IsCounted : List Sheet → Row → Type 0
+IsCounted sheets row = (j : ℕ) → (0 < slice_index row.free j) ↔ HasOrder sheets row.slots (length row.slots) j
 
 -- each superblock under a slot is there and has a first word
 abbrev pub IsRooted : List Sheet → List (Option ℕ) → Type 0

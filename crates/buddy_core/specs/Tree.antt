@@ -1,7 +1,7 @@
 -- The tree of orders of one superblock: node 1 is the whole superblock, of order `top`, and nodes 2i and 2i + 1 are
 -- the halves of node i. Node i is stored at index i - 1, so block q of order `top - d` is node 2 ^ d + q.
 -- Frames are those of the superblock, from 0; `ok` tells which are available.
-use Rattle.std.specs.Prelude.{◌≡◌, ℕ, zero, suc, ◌+◌, ◌-◌, ◌*◌, ◌/◌, ◌^◌, ◌<◌, ◌≤◌, ◌==◌, nat_lt, Bool, true, false, ◌&&◌, cond, List, length, slice_index, slice_set, bit_or}
+use Rattle.std.specs.Prelude.{◌≡◌, ℕ, zero, suc, ◌+◌, ◌-◌, ◌*◌, ◌/◌, ◌^◌, ◌<◌, ◌≤◌, nat_lt, Bool, true, false, ◌&&◌, cond, List, length, slice_index, bit_or}
 use Rattle.model_core.specs.Numbered.{number_at, is_clear, IsOpen}
 
 -- the orders of the free blocks in block q of order k, a bit for each, as if nothing lay around that block
@@ -41,9 +41,14 @@ HasOpen ok top k q j = (n p : ℕ) × (j + n ≡ k) × (number_at n p ≡ q) × 
 abbrev pub IsLeast : (ℕ → Bool) → ℕ → ℕ → ℕ → Type 0
 IsLeast ok top j q = IsOpen ok top j q × ((p : ℕ) → p < 2 ^ (top - j) → IsOpen ok top j p → q ≤ p)
 
--- the words once node n has its word from those of its halves, of order k each
-abbrev pub joined : List ℕ → ℕ → ℕ → List ℕ
-joined words n k =
-    cond (slice_index words (2 * n - 1) == 2 ^ k && slice_index words (2 * n) == 2 ^ k)
-    (slice_set (slice_set (slice_set words (2 * n - 1) 0) (2 * n) 0) (n - 1) (2 ^ (k + 1)))
-    (slice_set words (n - 1) (bit_or (slice_index words (2 * n - 1)) (slice_index words (2 * n))))
+-- the words while a change from `old` to `new` is carried up: those inside the block of order k around frame f are the
+-- words of a tree of its own under `new`, all others are as they were under `old`
+pub record Mended (top k f : ℕ) (old new : ℕ → Bool) (words : List ℕ) : Type 0 where
+  pub within : (d i e q : ℕ) → d + i ≡ top → q < 2 ^ d → i + e ≡ k → number_at e q ≡ number_at k f → word_at words d q ≡ word new k i q
+  pub beyond : (d i q : ℕ) → d + i ≡ top → q < 2 ^ d → ((e : ℕ) → i + e ≡ k → number_at e q ≡ number_at k f → ⊥) → word_at words d q ≡ word old top i q
+
+-- `old` and `new` are the same away from the block of order k around frame f, and neither has all of a larger block around it
+pub record IsConfined (top k f : ℕ) (old new : ℕ → Bool) : Type 0 where
+  pub same : (x : ℕ) → (IsWith k f x → ⊥) → old x ≡ new x
+  pub before : (i : ℕ) → k ≤ i → i < top → is_clear old (suc i) (number_at (suc i) f) ≡ false
+  pub after : (i : ℕ) → k ≤ i → i < top → is_clear new (suc i) (number_at (suc i) f) ≡ false

@@ -1,9 +1,8 @@
-//! Where the next block comes from: a slot and an order, by the words of whole superblocks alone.
+//! Where the next block comes from: a slot and an order, by a tenant's counts and the words of whole superblocks.
 
-ghost use Rattle.std.specs.Prelude.{◌≡◌, ◌↔◌, ℕ, ◌<◌, ◌≤◌, List, length, MatchOption};
-ghost use Rattle.std.specs.Int.{bit_at};
+ghost use Rattle.std.specs.Prelude.{ℕ, ◌<◌, ◌≤◌, List, length, MatchOption};
 ghost use Rattle.model_core.specs.declared.limits.TheConstants.{MOST_SUPERBLOCKS};
-ghost use Rattle.buddy_core.specs.Roots.{HasOrder, IsRooted, IsWithoutOrder, IsPlace};
+ghost use Rattle.buddy_core.specs.Roots.{HasOrder, IsCounted, IsRooted, IsWithoutOrder, IsPlace};
 
 use crate::superblock::Superblock;
 use crate::tenant::Tenant;
@@ -19,43 +18,16 @@ pub struct Place {
 
 /// The first slot of the tenant with a free block of the least order of at least `k` that there is.
 pub fn find(superblocks: &[Superblock], tenant: &Tenant, k: u8) -> Option<Place>
-    requires order { k < 16 }
     requires few { length tenant.now.slots ≤ MOST_SUPERBLOCKS }
+    requires orders { length tenant.now.free ≤ 16 }
     requires rooted { IsRooted superblocks.now tenant.now.slots }
+    requires counted { IsCounted superblocks.now tenant.now }
     ensures { MatchOption result (IsWithoutOrder superblocks.now tenant.now.slots k)
         (IsPlace superblocks.now tenant.now.slots k) }
 {
+    let order = tenant.least_free(k)?;
     let slots = tenant.held();
-    let order = least_order(orders(superblocks, slots), k)?;
     first_slot(superblocks, slots, k, order)
-}
-
-/// The orders of the free blocks of the superblocks under these slots, as bits of one word.
-fn orders(superblocks: &[Superblock], slots: &[Option<u16>]) -> u16
-    requires { IsRooted superblocks.now slots.now }
-    ensures { (j : ℕ) → (bit_at result j ≡ 1) ↔ HasOrder superblocks.now slots.now (length slots.now) j }
-{
-    let mut orders = 0;
-    for slot in slots {
-        if let Some(m) = *slot {
-            orders |= superblocks[m as usize].root();
-        }
-    }
-    orders
-}
-
-/// The least order of at least `k` in a word of orders.
-fn least_order(orders: u16, k: u8) -> Option<u8>
-    requires { k < 16 }
-    ensures { MatchOption result ((j : ℕ) → k ≤ j → bit_at orders j ≡ 1 → ⊥)
-        (λ j. (j < 16) × (k ≤ j) × (bit_at orders j ≡ 1)
-        × ((i : ℕ) → k ≤ i → i < j → bit_at orders i ≡ 1 → ⊥)) }
-{
-    let rest = orders >> k;
-    if rest == 0 {
-        return None;
-    }
-    Some(k + rest.trailing_zeros() as u8)
 }
 
 /// The first slot whose superblock has a free block of `order`, the least of at least `k`.

@@ -203,8 +203,7 @@ impl Buddy {
         let m = self.tenants[t as usize].superblock(frame >> order).unwrap();
         let first = frame % (1 << order);
         let superblock = &mut self.superblocks[m as usize];
-        superblock.release_at(order, first, k);
-        let joined = superblock.free_around(order, first, k);
+        let joined = superblock.release_at(order, first, k);
         self.tenants[t as usize].count_released(k, joined);
         Some(k)
     }

@@ -91,37 +91,22 @@ impl Superblock {
         self.orders[first as usize] = Some(order);
     }
 
-    /// Makes the taken block of `order` that begins at `first` free, joined with its buddies.
-    pub fn release_at(&mut self, top: u8, first: u32, order: u8)
+    /// Makes the taken block of `order` that begins at `first` free, joined with its buddies. The order of the free block
+    /// that this gives.
+    pub fn release_at(&mut self, top: u8, first: u32, order: u8) -> u8
         requires small { top ≤ MOST_ORDER }
         requires order { order ≤ top }
         requires first { first < 2 ^ top }
         requires words { length self.old.words + 1 ≡ 2 ^ (top + 1) }
         requires orders { length self.old.orders ≡ 2 ^ top }
         ensures orders { self.new.orders ≡ slice_set self.old.orders first None }
-        ensures size { length self.new.words ≡ length self.old.words }
         ensures words { (small large : ℕ → Bool) → Shows top small self.old.words
             → IsLess small large order first → Shows top large self.new.words }
+        ensures joined { (small large : ℕ → Bool) → Shows top small self.old.words → IsLess small large order first
+            → (order ≤ result) × IsOpen large top result (number_at result first) }
     {
-        tree::release_at(&mut self.words, top, first, order);
         self.orders[first as usize] = None;
-    }
-
-    /// The order of the free block that has frame `first`, of at least `order`.
-    pub fn free_around(&self, top: u8, first: u32, order: u8) -> u8
-        requires small { top ≤ MOST_ORDER }
-        requires order { order ≤ top }
-        requires first { first < 2 ^ top }
-        requires words { length self.now.words + 1 ≡ 2 ^ (top + 1) }
-        ensures { (ok : ℕ → Bool) (j : ℕ) → Shows top ok self.now.words → order ≤ j
-            → IsOpen ok top j (number_at j first) → result ≡ j }
-    {
-        for level in order..top {
-            if self.words[tree::node_of(top, first, level) - 1] == 1 << level {
-                return level;
-            }
-        }
-        top
+        tree::release_at(&mut self.words, top, first, order)
     }
 
     /// Makes the whole superblock one free block.

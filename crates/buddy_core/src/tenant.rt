@@ -1,6 +1,6 @@
 //! What is stored of one tenant.
 
-ghost use Rattle.std.specs.Prelude.{◌≡◌, ◌⊎◌, ℕ, replicate, count_by, is_some, ◌+◌, ◌-◌, ◌^◌, ◌<◌, ◌≤◌, Some, None, List, length, slice_index, slice_index_or, slice_set, IfOk, IsSome};
+ghost use Rattle.std.specs.Prelude.{◌≡◌, ◌⊎◌, ℕ, replicate, count_by, is_some, ◌+◌, ◌-◌, ◌^◌, ◌<◌, ◌≤◌, Some, None, List, length, slice_index, slice_index_or, slice_set, IfOk, IsSome, MatchOption};
 ghost use Rattle.model_core.specs.declared.limits.TheConstants.{MOST_ORDER};
 ghost use Rattle.buddy_core.specs.Stored.{blank_row};
 ghost use Rattle.buddy_core.specs.Roots.{slot_in};
@@ -68,6 +68,21 @@ impl Tenant {
         ensures { result ≡ slice_index self.now.free order }
     {
         self.free[order as usize]
+    }
+
+    /// The least order of at least `k` of which the tenant has a free block.
+    pub fn least_free(&self, k: u8) -> Option<u8>
+        requires { length self.now.free ≤ 16 }
+        ensures { MatchOption result ((j : ℕ) → k ≤ j → slice_index self.now.free j ≡ 0)
+            (λ j. (k ≤ j) × (j < length self.now.free) × (0 < slice_index self.now.free j)
+            × ((i : ℕ) → k ≤ i → i < j → slice_index self.now.free i ≡ 0)) }
+    {
+        for order in k..self.free.len() as u8 {
+            if self.free[order as usize] > 0 {
+                return Some(order);
+            }
+        }
+        None
     }
 
     /// How many taken blocks of `order` the tenant has.

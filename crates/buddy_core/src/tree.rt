@@ -4,11 +4,11 @@
 //! index `i - 1`. Bit `j` of a node is 1 exactly where a free block of order `j` lies inside the node's block, so all
 //! words below a node that is one free block are 0.
 
-ghost use Rattle.std.specs.Prelude.{◌≡◌, ℕ, ◌+◌, ◌-◌, ◌*◌, ◌/◌, ◌^◌, ◌<◌, ◌≤◌, ◌==◌, Bool, true, false, cond, ◌&&◌, ◌↔◌, IsTrue, length, slice_index, slice_set, bit_or};
+ghost use Rattle.std.specs.Prelude.{◌≡◌, ℕ, ◌+◌, ◌-◌, ◌*◌, ◌/◌, ◌^◌, ◌<◌, ◌≤◌, Bool, true, false, ◌↔◌, IsTrue, length, slice_index};
 ghost use Rattle.std.specs.Int.{bit_at};
 ghost use Rattle.model_core.specs.declared.limits.TheConstants.{MOST_ORDER};
 ghost use Rattle.model_core.specs.Numbered.{number_at, IsOpen};
-ghost use Rattle.buddy_core.specs.Tree.{Shows, IsLess, IsLeast, joined};
+ghost use Rattle.buddy_core.specs.Tree.{Shows, IsLess, IsLeast, Mended, IsConfined};
 
 /// Whether a node with this word has a free block of `order` inside, where `order` is at most 15.
 pub fn has(word: u16, order: u8) -> bool
@@ -74,24 +74,52 @@ fn sibling(node: usize) -> usize
     requires { 0 < node }
     ensures { result + node ≡ 4 * (node / 2) + 1 }
 {
-    if node % 2 == 0 { node + 1 } else { node - 1 }
+    node ^ 1
 }
 
-/// Writes the word of `node` from the words of its halves, of order `order` each. Two free halves are one free block.
-fn join(words: &mut [u16], node: usize, order: u8)
-    requires positive { 0 < node }
-    requires within { 2 * node < length words.old }
-    requires order { order < 15 }
-    ensures { words.new ≡ joined words.old node order }
+/// Writes the words of the blocks around the one of `order` that has frame `first`, each from those of its halves. Where
+/// a word stays, all above it stay.
+#[inline(always)]
+fn climb(words: &mut [u16], top: u8, first: u32, order: u8)
+    requires small { top ≤ MOST_ORDER }
+    requires order { order ≤ top }
+    requires first { first < 2 ^ top }
+    requires size { length words.old + 1 ≡ 2 ^ (top + 1) }
+    ensures { (old new : ℕ → Bool) → Mended top order first old new words.old → IsConfined top order first old new
+        → Shows top new words.new }
 {
-    let low = words[2 * node - 1];
-    let high = words[2 * node];
-    if low == 1 << order && high == 1 << order {
-        words[2 * node - 1] = 0;
-        words[2 * node] = 0;
-        words[node - 1] = 1 << (order + 1);
-    } else {
-        words[node - 1] = low | high;
+    let mut node = node_of(top, first, order);
+    let mut word = words[node - 1];
+    for _level in order..top {
+        word |= words[sibling(node) - 1];
+        node /= 2;
+        if words[node - 1] == word {
+            return;
+        }
+        words[node - 1] = word;
+    }
+}
+
+/// Writes the words inside the free block of order `from` around frame `first` once the block of `order` around that
+/// frame is taken out of it: what is left is one free block of each order between.
+fn split(words: &mut [u16], top: u8, first: u32, from: u8, order: u8)
+    requires small { top ≤ MOST_ORDER }
+    requires order { order ≤ from }
+    requires from { from ≤ top }
+    requires first { first < 2 ^ top }
+    requires size { length words.old + 1 ≡ 2 ^ (top + 1) }
+    ensures size { length words.new ≡ length words.old }
+    ensures mended { (large small : ℕ → Bool) → Shows top large words.old → IsOpen large top from (number_at from first)
+        → IsLess small large order first → Mended top from first large small words.new }
+{
+    let mut node = node_of(top, first, order);
+    let mut word = 0;
+    words[node - 1] = 0;
+    for level in order..from {
+        words[sibling(node) - 1] = 1 << level;
+        word |= 1 << level;
+        node /= 2;
+        words[node - 1] = word;
     }
 }
 
@@ -105,32 +133,52 @@ pub fn reserve_at(words: &mut [u16], top: u8, first: u32, from: u8, order: u8)
     ensures { (large small : ℕ → Bool) → Shows top large words.old → IsOpen large top from (number_at from first) → IsLess small large order first
         → Shows top small words.new }
 {
-    let mut node = node_of(top, first, order);
-    words[node - 1] = 0;
-    for level in order..top {
-        if level < from {
-            words[sibling(node) - 1] = 1 << level;
-        }
-        node /= 2;
-        join(words, node, level);
-    }
+    split(words, top, first, from, order);
+    climb(words, top, first, from);
 }
 
-/// Makes the block of `order` around frame `first` available, and joins it at once with its buddy while that is one
-/// free block.
-pub fn release_at(words: &mut [u16], top: u8, first: u32, order: u8)
+/// Joins the block of `order` around frame `first`, which is made available, with its buddy while that is one free
+/// block, and writes the words inside the free block that this gives. The order of that block.
+fn join(words: &mut [u16], top: u8, first: u32, order: u8) -> u8
     requires small { top ≤ MOST_ORDER }
     requires order { order ≤ top }
     requires first { first < 2 ^ top }
     requires size { length words.old + 1 ≡ 2 ^ (top + 1) }
-    ensures { (small large : ℕ → Bool) → Shows top small words.old → IsLess small large order first → Shows top large words.new }
+    ensures size { length words.new ≡ length words.old }
+    ensures rises { order ≤ result }
+    ensures within { result ≤ top }
+    ensures mended { (small large : ℕ → Bool) → Shows top small words.old → IsLess small large order first
+        → Mended top result first small large words.new × IsOpen large top result (number_at result first) }
 {
     let mut node = node_of(top, first, order);
-    words[node - 1] = 1 << order;
     for level in order..top {
+        let buddy = sibling(node);
+        if words[buddy - 1] != 1 << level {
+            words[node - 1] = 1 << level;
+            return level;
+        }
+        words[buddy - 1] = 0;
+        words[node - 1] = 0;
         node /= 2;
-        join(words, node, level);
     }
+    words[node - 1] = 1 << top;
+    top
+}
+
+/// Makes the block of `order` around frame `first` available, and joins it at once with its buddy while that is one
+/// free block. The order of the free block that this gives.
+pub fn release_at(words: &mut [u16], top: u8, first: u32, order: u8) -> u8
+    requires small { top ≤ MOST_ORDER }
+    requires order { order ≤ top }
+    requires first { first < 2 ^ top }
+    requires size { length words.old + 1 ≡ 2 ^ (top + 1) }
+    ensures words { (small large : ℕ → Bool) → Shows top small words.old → IsLess small large order first → Shows top large words.new }
+    ensures joined { (small large : ℕ → Bool) → Shows top small words.old → IsLess small large order first
+        → (order ≤ result) × IsOpen large top result (number_at result first) }
+{
+    let joined = join(words, top, first, order);
+    climb(words, top, first, joined);
+    joined
 }
 
 #[cfg(test)]
