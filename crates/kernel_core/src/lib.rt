@@ -10,6 +10,7 @@ mod caching;
 mod kernel;
 pub mod laws;
 mod paging;
+mod quick;
 mod reporting;
 
 pub use kernel::{BootError, Config, Kernel};

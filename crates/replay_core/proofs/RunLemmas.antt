@@ -373,7 +373,7 @@ answered_fault only fault k old new tally written result pushed = record {
 }
 
 -- a fact of an error
-pub at_error : (P : Unit {0} → Type 0) (Q : Stopped → Type 0) (r : Result (Unit {0}) Stopped) → is_err r ≡ true → ((e : Stopped) → Q e) → MatchResult r P Q
+pub at_error : {A : Type 0} (P : A → Type 0) (Q : Stopped → Type 0) (r : Result A Stopped) → is_err r ≡ true → ((e : Stopped) → Q e) → MatchResult r P Q
 at_error P Q (Ok x) failed h = cc
 at_error P Q (Err e) failed h = h e
 

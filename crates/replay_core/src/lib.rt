@@ -6,6 +6,7 @@ mod drain;
 mod feed;
 mod pending;
 mod pushing;
+mod quick;
 mod reader_feed;
 mod replaying;
 mod writer_drain;

@@ -1,6 +1,6 @@
 ghost use Rattle.std.specs.Prelude.{◌≡◌, ℕ, ◌++◌, List, [], length, ◌==◌};
 ghost use Rattle.words_core.specs.Grammar.{reading_of};
-ghost use Rattle.replay_core.specs.Pending.{Holds};
+ghost use Rattle.replay_core.specs.Pending.{Holds, HoldsNothing};
 ghost use Rattle.replay_core.specs.Standing.{IsRunnable};
 
 use arrayvec::ArrayVec;
@@ -63,6 +63,7 @@ impl Pending {
         ensures reading { (line : List ℕ) → Holds line self.old → result ≡ reading_of (line ++ bytes.now) }
         ensures runnable { IsRunnable result }
         ensures cleared { (line : List ℕ) → Holds line self.old → Holds [] self.new }
+        ensures none_held { HoldsNothing self.new }
     {
         if self.is_empty() {
             // It lies whole in these bytes: nothing is copied.

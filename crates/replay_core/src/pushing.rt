@@ -12,7 +12,7 @@ use arrayvec::ArrayVec;
 use words_core::{Addressee, Answer, MOST_REPLY_BYTES, Reply, rows, write_answer, write_line};
 
 /// The reply is to be shown: all are, or those of one tenant.
-fn is_shown(only: Option<u8>, addressee: Addressee) -> bool
+pub fn is_shown(only: Option<u8>, addressee: Addressee) -> bool
     ensures { result ≡ is_shown only addressee }
 {
     match (only, addressee) {
@@ -88,7 +88,7 @@ fn push_reply<D: Drain>(
 }
 
 /// Pushes all of the bytes, the rest again after a push that took less, and counts those that were taken.
-fn push_all<D: Drain>(bytes: &[u8], drain: &mut D, written: &mut u128) -> Result<(), Stopped>
+pub fn push_all<D: Drain>(bytes: &[u8], drain: &mut D, written: &mut u128) -> Result<(), Stopped>
     requires fine { D.has_failed drain.old ≡ false }
     requires room { written.old + length bytes.now < 2 ^ 128 }
     ensures pushed { HasPushed (D.contents drain.old) (D.contents drain.new) bytes.now written.old written.new result }

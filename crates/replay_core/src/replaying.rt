@@ -13,6 +13,7 @@ use crate::drain::Drain;
 use crate::feed::{Feed, Stopped};
 use crate::pending::Pending;
 use crate::pushing::{show, show_answer};
+use crate::quick::run_quick_lines;
 use arrayvec::ArrayVec;
 use kernel_core::{Kernel, laws};
 use thiserror::Error;
@@ -144,7 +145,8 @@ fn run_piece<D: Drain>(
     'lines: while let Some(end) = line_end(rest) {
         let reading = pending.end_with(&rest[..end]);
         answer(reading, kernel, drain, only, tally, line)?;
-        rest = &rest[end + 1..];
+        let more = &rest[end + 1..];
+        rest = run_quick_lines(more, pending, kernel, drain, only, tally, line)?;
     }
     pending.add(rest);
     Ok(())

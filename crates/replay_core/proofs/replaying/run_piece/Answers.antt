@@ -14,20 +14,34 @@ returns-in_err-answer-clause-ran g c before given start stands =
     (λ _. stopped_within c.args.only before _ _ given rest (take end rest) (drop (end + 1) rest) start _ _ _ _ _ c.in_err-answer.field-0.0 here c.end_with-reading.result
     found.0 found.1 (c.end_with-reading.ensures.reading here.tail here.holds) c.in_err-answer.ensures.answered)
 
+pub returns-in_err-rest-clause-ran : goal.returns-in_err-rest-clause-ran
+returns-in_err-rest-clause-ran g c before given start stands =
+    let rest = c.lines.rest.now in
+    let end = c.in-Some.end in
+    let here = c.lines.invariant.0 before given start stands in
+    let found = found_cut rest end (sym c.in-Some.ensures.at) in
+    let ran = rw (take_rest rest (end + 1)) at c.in_err-rest.ensures.ran in
+    at_error _ _ c.from_residual-in_err-rest.result c.from_residual-in_err-rest.ensures.0
+    (λ _. ran before given start (
+      stands_more_lines c.args.only before _ _ given rest (take end rest) (drop (end + 1) rest) start _ _ _ _ _ _ here c.end_with-reading.result
+      found.0 found.1 (c.end_with-reading.ensures.cleared here.tail here.holds) (c.end_with-reading.ensures.reading here.tail here.holds) c.in_ok-answer.ensures.answered
+    ))
+
 pub lines-preserved : goal.lines-preserved
 lines-preserved g c =
     let rest = c.lines.rest.now in
     let end = c.in-Some.end in
     let found = found_cut rest end (sym c.in-Some.ensures.at) in
-    let answered = c.in_ok-answer.ensures.answered in
-    rw (take_rest rest (end + 1)) (
+    let ran = rw (take_rest rest (end + 1)) at c.in_ok-rest.ensures.ran in (
       λ before given start stands.
           let here = c.lines.invariant.0 before given start stands in
-          stands_more_lines c.args.only before _ _ given rest (take end rest) (drop (end + 1) rest) start _ _ _ _ _ _ here c.end_with-reading.result
-          found.0 found.1 (c.end_with-reading.ensures.cleared here.tail here.holds) (c.end_with-reading.ensures.reading here.tail here.holds) c.in_ok-answer.ensures.answered,
-      c.in_ok-answer.ensures.bounded,
-      omega (arith, c.lines.invariant.2, c.in-Some.ensures.within, length-drop (end + 1) rest, answered.lines),
-      c.in_ok-answer.ensures.failed,
+          ran before given start (
+            stands_more_lines c.args.only before _ _ given rest (take end rest) (drop (end + 1) rest) start _ _ _ _ _ _ here c.end_with-reading.result
+            found.0 found.1 (c.end_with-reading.ensures.cleared here.tail here.holds) (c.end_with-reading.ensures.reading here.tail here.holds) c.in_ok-answer.ensures.answered
+          ),
+      c.in_ok-rest.ensures.bounded,
+      c.in_ok-rest.ensures.lines.0,
+      c.in_ok-rest.ensures.failed,
     )
 
 pub returns-clause-ran : goal.returns-clause-ran

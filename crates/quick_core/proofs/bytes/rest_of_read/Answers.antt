@@ -1,0 +1,23 @@
+use Rattle.std.proofs.Common.{◌≡◌, ◌+◌, get_or, slice_range, refl, arith}
+use Rattle.words_core.specs.Commands.{read_row}
+use Rattle.words_core.specs.declared.event.Command.TheVariants as Whole
+use Rattle.quick_core.proofs.LineLemmas.{is_read_two, two_numbers, read_plain}
+use Rattle.quick_core.proofs.bytes.rest_of_read.Goals as goal
+
+pub returns : goal.returns
+returns c =
+    let window = c.args.window.now in
+    let a = c.args.tenant.end in
+    let place = c.in_ok-place.place in
+    let within = c.in_ok-asked.ensures.within in
+    let asked = c.in_ok-asked.asked in
+    let blank : get_or window (a + 5) 0 ≡ 32 = omega arith in
+    let second : get_or window place.end 0 ≡ 32 = omega arith in
+    is_read_two c.one_case.ensures.some c.one_case.ensures.only window a (a + 1) (a + 5) (a + 5 + 1) place.end (place.end + 1) asked.end
+    c.args.tenant.value place.value asked.value read_row (Whole.Read place.value asked.value)
+    refl (omega arith) refl c.in_ok-place.ensures.some refl c.in_ok-asked.ensures.some (omega arith) (omega arith)
+    c.requires.number c.requires.blank c.requires.letters blank c.in_ok-place.ensures.value second c.in_ok-asked.ensures.value
+    c.in_ok-asked.ensures.ended
+    (2, omega arith, refl) read_plain
+    (two_numbers Whole.Read (slice_range window (a + 5 + 1) place.end) (slice_range window (place.end + 1) asked.end)
+    place.value asked.value c.in_ok-place.ensures.value c.in_ok-asked.ensures.value)
