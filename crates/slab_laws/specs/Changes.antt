@@ -9,7 +9,8 @@ use Rattle.space_core.specs.Content as spaces
 use Rattle.space_core.specs.Windows.{byte_at}
 use Rattle.buddy_core.specs.Content as buddies
 use Rattle.slab_tables.specs.declared.cache.Cache as own
-use Rattle.slab_tables.specs.Content.{Content, kept_at, cache_at, head_of, numbers}
+use Rattle.slab_tables.specs.declared.kind.Kind.TheVariants.{Empty}
+use Rattle.slab_tables.specs.Content.{Content, kept_at, cache_at, number_of, head_of, numbers}
 use Rattle.slab_tables.specs.Changes.{fresh_kept, made_more}
 use Rattle.slab_laws.specs.Shows.{node_of, record_byte, live_of, is_of_cache, has_slab, is_inside, IsSlab}
 
@@ -79,7 +80,7 @@ pub record IsGrown (r r' : spaces.Content) (b b' : buddies.Content) (s s' : Cont
   pub caches : (d : ℕ) → d ≢ c → cache_at s' t d ≡ cache_at s t d
   pub under : node_of s.top r.slots t f ≡ Some n
   pub vacant : place_at s.lists.places n ≡ None
-  pub listed : place_at s'.lists.places n ≡ Some (head_of t c 2, f)
+  pub listed : place_at s'.lists.places n ≡ Some (head_of t c (number_of Empty), f)
   pub fresh : kept_at s'.kept n ≡ fresh_kept cache
   pub lists : (x : ℕ) → x ≢ n → place_at s'.lists.places x ≡ place_at s.lists.places x
   pub kept : (x : ℕ) → x ≢ n → kept_at s'.kept x ≡ kept_at s.kept x

@@ -4,7 +4,8 @@ use Rattle.model_core.specs.Layouts.{object_place}
 use Rattle.klist_core.specs.Places.{IsEmpty, IsFirst}
 use Rattle.space_core.specs.Content as spaces
 use Rattle.slab_tables.specs.declared.cache.Cache as own
-use Rattle.slab_tables.specs.Content.{Content, kept_at, head_of, numbers}
+use Rattle.slab_tables.specs.declared.kind.Kind.TheVariants.{Partial, Empty}
+use Rattle.slab_tables.specs.Content.{Content, kept_at, number_of, head_of, numbers}
 use Rattle.slab_laws.specs.Shows.{IsSlab, is_live}
 use Rattle.slab_laws.specs.Changes.{Found}
 
@@ -27,12 +28,12 @@ pub record Standing : Type 0 where
 -- the slab of cache c that a take uses: the first of the partial ones, else of the empty ones
 pub record IsToUse (r : spaces.Content) (s : Content) (t c : ℕ) (cache : own.Cache) (o : Standing) : Type 0 where
   pub slab : IsSlab r s t c o.first o.node cache
-  pub first : IsFirst s.lists.places (head_of t c 1) o.first o.node
-      ⊎ (IsEmpty s.lists.places (head_of t c 1) × IsFirst s.lists.places (head_of t c 2) o.first o.node)
+  pub first : IsFirst s.lists.places (head_of t c (number_of Partial)) o.first o.node
+      ⊎ (IsEmpty s.lists.places (head_of t c (number_of Partial)) × IsFirst s.lists.places (head_of t c (number_of Empty)) o.first o.node)
 
 -- the cache has neither a partial nor an empty slab
 abbrev pub IsAllFull : Content → ℕ → ℕ → Type 0
-IsAllFull s t c = IsEmpty s.lists.places (head_of t c 1) × IsEmpty s.lists.places (head_of t c 2)
+IsAllFull s t c = IsEmpty s.lists.places (head_of t c (number_of Partial)) × IsEmpty s.lists.places (head_of t c (number_of Empty))
 
 -- the `len` bytes of tenant t from the place on, one at least, are among those of the live object o
 pub record HasRange (r : spaces.Content) (s : Content) (t place len : ℕ) (o : Found) : Type 0 where

@@ -1,5 +1,5 @@
 -- Which private machine the memory, the buddy systems and the tables of caches show for a tenant, and when the three agree.
-use Rattle.std.specs.Prelude.{◌≡◌, ℕ, ◌+◌, ◌-◌, ◌*◌, ◌/◌, ◌%◌, ◌^◌, ◌<◌, ◌≤◌, ◌==◌, ◌&&◌, Bool, true, false, if◌then◌else◌, List, [], map, Option, Some, None, is_some, option_map, length}
+use Rattle.std.specs.Prelude.{◌≡◌, ℕ, ◌+◌, ◌-◌, ◌*◌, ◌/◌, ◌%◌, ◌^◌, ◌<◌, ◌≤◌, ◌==◌, ◌&&◌, Bool, true, false, if◌then◌else◌, List, [], map, Option, Some, None, is_some, unwrap_or, option_map, length}
 use Rattle.model_core.specs.Blocks.{block}
 use Rattle.model_core.specs.Layouts.{is_small, in_object}
 use Rattle.model_core.specs.WellFormed.{RisesFrom}
@@ -25,8 +25,7 @@ abbrev pub node_of : ℕ → List (List (Option ℕ)) → ℕ → ℕ → Option
 node_of top slots t f = frame_under top f (spaces.superblock_at slots t (f / 2 ^ top))
 
 abbrev pub byte_or_zero : Option ℕ → ℕ
-byte_or_zero None = 0
-byte_or_zero (Some b) = b
+byte_or_zero o = unwrap_or o 0
 
 -- byte j of the control record in frame f of tenant t
 abbrev pub record_byte : spaces.Content → ℕ → ℕ → ℕ → ℕ

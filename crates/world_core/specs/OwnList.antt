@@ -6,28 +6,13 @@ use Rattle.words_core.specs.declared.event.AdminCommand.TheVariants as Do
 use Rattle.words_core.specs.declared.reply.Addressee.{Addressee}
 use Rattle.words_core.specs.declared.reply.Addressee.TheVariants as To
 use Rattle.words_core.specs.declared.reply.Body.{Body}
-use Rattle.words_core.specs.declared.reply.Body.TheVariants.{Granted, TakenBack, WasReset, Moved, Owners, Frame, Freed, Bytes, Written, Cache, Destroyed, Object, Given, Reaped, Report, Refused, Fault}
+use Rattle.words_core.specs.declared.reply.Body.TheVariants.{Refused}
 use Rattle.world_core.specs.PrivateStep.{Entry, Ask, Grant, TakeBack, Reset}
 use Rattle.world_core.specs.World.{Exchange}
 
 abbrev pub is_refused : Body → Bool
-is_refused (Granted tenant slot superblock) = false
-is_refused (TakenBack superblock) = false
-is_refused (WasReset tenant superblocks) = false
-is_refused (Moved tenant slot superblock) = false
-is_refused (Owners owners) = false
-is_refused (Frame first) = false
-is_refused (Freed order) = false
-is_refused (Bytes bytes) = false
-is_refused (Written count) = false
-is_refused (Cache number chunk order objects colours) = false
-is_refused (Destroyed frames) = false
-is_refused (Object place) = false
-is_refused Given = false
-is_refused (Reaped frames) = false
-is_refused (Report figures) = false
 is_refused (Refused refusal) = true
-is_refused (Fault fault) = false
+is_refused body = false
 
 -- the entry, where the number that the event names is the tenant's
 abbrev pub if_named : ℕ → ℕ → Entry → List Entry

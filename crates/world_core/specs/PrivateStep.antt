@@ -63,9 +63,6 @@ give_body (Ok done) = Given
 give_body (Err GiveRefusal.NoCache) = Refused Refusal.NoCache
 give_body (Err GiveRefusal.NotAnObject) = Refused Refusal.NotAnObject
 
-abbrev pub reap_body : ℕ → Body
-reap_body frames = Reaped frames
-
 -- the figures of the machine; slots have 2 ^ order frames
 unfoldable pub figures_of : ℕ → Machine → figures.Report
 figures_of order m = record {
@@ -97,7 +94,7 @@ command_step limit order (Asked.Cache size align pattern) m = told_by (cache_bod
 command_step limit order (Asked.Destroy number) m = told_by destroy_body (destroy_step number m)
 command_step limit order (Asked.Take number) m = told_by take_body (take_step order number m)
 command_step limit order (Asked.Give number place) m = told_by give_body (give_step number place m)
-command_step limit order Asked.Reap m = told_by reap_body (reap_step m)
+command_step limit order Asked.Reap m = told_by Reaped (reap_step m)
 command_step limit order Asked.Report m = report_step order m
 
 -- all that reaches the machine of a tenant: its own command, a superblock granted, a slot taken back, a reset

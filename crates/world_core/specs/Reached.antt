@@ -12,7 +12,7 @@ use Rattle.model_core.specs.WellFormed.{in_slab, IsWellFormed}
 use Rattle.model_core.specs.Laws.{Object, IsObject, place_of, HasByte}
 use Rattle.model_core.specs.Room.{IsAmple}
 use Rattle.words_core.specs.declared.event.Event.TheVariants as On
-use Rattle.words_core.specs.declared.event.Command.TheVariants as Ask
+use Rattle.words_core.specs.declared.event.Command.TheVariants as Asked
 use Rattle.words_core.specs.declared.reply.Addressee.TheVariants as To
 use Rattle.words_core.specs.declared.reply.Body.TheVariants as Say
 use Rattle.words_core.specs.Cutting.{lines_of_trace}
@@ -25,16 +25,16 @@ use Rattle.world_core.specs.Laws.{opening_history}
 
 -- what an entry is to the model: an operation, or nothing where it only reads
 abbrev pub operations_in : Entry → List Operation
-operations_in (Entry.Ask (Ask.Alloc k)) = Operation.Alloc k ∷ []
-operations_in (Entry.Ask (Ask.Free first)) = Operation.Free first ∷ []
-operations_in (Entry.Ask (Ask.Read place len)) = []
-operations_in (Entry.Ask (Ask.Write place bytes)) = Operation.Write place bytes.items ∷ []
-operations_in (Entry.Ask (Ask.Cache size align pattern)) = Operation.Create size align pattern.items ∷ []
-operations_in (Entry.Ask (Ask.Destroy number)) = Operation.Destroy number ∷ []
-operations_in (Entry.Ask (Ask.Take number)) = Operation.Take number ∷ []
-operations_in (Entry.Ask (Ask.Give number place)) = Operation.Give number place ∷ []
-operations_in (Entry.Ask Ask.Reap) = Operation.Reap ∷ []
-operations_in (Entry.Ask Ask.Report) = []
+operations_in (Entry.Ask (Asked.Alloc k)) = Operation.Alloc k ∷ []
+operations_in (Entry.Ask (Asked.Free first)) = Operation.Free first ∷ []
+operations_in (Entry.Ask (Asked.Read place len)) = []
+operations_in (Entry.Ask (Asked.Write place bytes)) = Operation.Write place bytes.items ∷ []
+operations_in (Entry.Ask (Asked.Cache size align pattern)) = Operation.Create size align pattern.items ∷ []
+operations_in (Entry.Ask (Asked.Destroy number)) = Operation.Destroy number ∷ []
+operations_in (Entry.Ask (Asked.Take number)) = Operation.Take number ∷ []
+operations_in (Entry.Ask (Asked.Give number place)) = Operation.Give number place ∷ []
+operations_in (Entry.Ask Asked.Reap) = Operation.Reap ∷ []
+operations_in (Entry.Ask Asked.Report) = []
 operations_in Entry.Grant = Operation.Grant ∷ []
 operations_in (Entry.TakeBack slot) = Operation.TakeBack slot ∷ []
 operations_in Entry.Reset = Operation.Reset ∷ []
@@ -116,13 +116,13 @@ ReachedConstructed = (limit order : ℕ) (before since : List Entry) (object : O
 -- never refused ..
 abbrev pub ReachedRoom : Type 0
 ReachedRoom = (limit order k : ℕ) (entries : List Entry) → AreAsked entries → let m = reached_machine limit order entries in
-    IsAmple order k m → (first : ℕ) × ((command_step limit order (Ask.Alloc k) m).answer ≡ Say.Frame first)
+    IsAmple order k m → (first : ℕ) × ((command_step limit order (Asked.Alloc k) m).answer ≡ Say.Frame first)
 
 -- .. nor an object of a cache whose slabs have that order.
 abbrev pub ReachedObjectRoom : Type 0
 ReachedObjectRoom = (limit order number : ℕ) (entries : List Entry) (c : Cache) → AreAsked entries → let m = reached_machine limit order entries in
     cache_of m number ≡ Some c → IsAmple order (layout c).order m
-    → (place : ℕ) × ((command_step limit order (Ask.Take number) m).answer ≡ Say.Object place)
+    → (place : ℕ) × ((command_step limit order (Asked.Take number) m).answer ≡ Say.Object place)
 
 -- So nobody is starved by others: after any trace a tenant whose machine has that room is answered a frame, whatever all
 -- others did.
@@ -130,4 +130,4 @@ abbrev pub NobodyStarves : Type 0
 NobodyStarves = (limit order superblocks tenants t k : ℕ) (trace : List ℕ) (m : Machine) → t < tenants →
     let w = world_after limit order (opening_world superblocks tenants) (events_of (lines_of_trace trace)) in
     slice_get w.machines t ≡ Some m → IsAmple order k m
-    → (first : ℕ) × ((world_step limit order (On.Tenant t (Ask.Alloc k)) w).reply ≡ record { addressee = To.Tenant t; body = Say.Frame first })
+    → (first : ℕ) × ((world_step limit order (On.Tenant t (Asked.Alloc k)) w).reply ≡ record { addressee = To.Tenant t; body = Say.Frame first })
