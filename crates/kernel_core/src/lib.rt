@@ -3,6 +3,24 @@
 //! [`Kernel::step`] runs one event. It is proved to be a step of the world (`specs/`): who owns which superblock, and a
 //! private machine for each tenant. The laws of whole runs, and of traces from bytes to bytes, are in [`laws`]: whatever
 //! the others do, a tenant is told what its private machine answers.
+//!
+//! # Example
+//!
+//! ```
+//! let config = Config { order: 3, superblocks: 2, tenants: 2 };
+//! let mut kernel = Kernel::boot(rt.alloc(), config)?;
+//! let granted = kernel.step(&Event::Admin(AdminCommand::Grant { tenant: 0 }));
+//! let answered = kernel.step(&Event::Tenant(0, Command::Alloc { order: 1 }));
+//! let refused = kernel.step(&Event::Tenant(1, Command::Alloc { order: 1 }));
+//! assert_eq!(rt; granted.body, Body::Granted { tenant: 0, slot: 0, superblock: 0 });
+//! assert_eq!(rt; answered.body, Body::Frame(0));
+//! assert_eq!(rt; refused.addressee, Addressee::Tenant(1));
+//! assert_eq!(rt; refused.body, Body::Refused(Refusal::NoFrames));
+//! ```
+//!
+//! The test `boots_and_answers` of crate `rows` runs it. Another crate has the line `NAME: kernel_core words_core` in crates.txt, and
+//! `use kernel_core::{Config, Kernel};` and `use words_core::{Addressee, AdminCommand, Body, Command, Event, Refusal};`.
+//! `step` asks for a proof that the pattern of a cache has a byte; of other commands it follows from their form.
 #![tactic(auto)]
 
 mod administering;

@@ -19,9 +19,9 @@ impl Kernel {
     pub fn ask_quick(&mut self, tenant: u32, command: Quick) -> Option<(u8, Told)>
         ensures { MatchOption result
             (Steps self.old (Event.Tenant tenant (command_of command)) self.new
-                (record { addressee = Addressee.Nobody; body = Refused NoTenant }))
+            (record { addressee = Addressee.Nobody; body = Refused NoTenant }))
             (λ answer. (answer.0 ≡ tenant)
-                × Steps self.old (Event.Tenant tenant (command_of command)) self.new (reply_of_told tenant answer.1)) }
+            × Steps self.old (Event.Tenant tenant (command_of command)) self.new (reply_of_told tenant answer.1)) }
     {
         if tenant >= u32::from(self.buddy.tenants()) {
             return None;

@@ -1,5 +1,5 @@
 -- From the answer of a replay on a new machine to the outcome of a run.
-use Rattle.std.proofs.Common.{◌≡◌, ℕ, Bool, true, inl, inr, List, [], ◌∷◌, ◌++◌, Option, Some, None, Result, Ok, Err, OnOk, IfSome, refl, ap, sym, subst, ◌∙◌, append_assoc}
+use Rattle.std.proofs.Common.{◌≡◌, ℕ, Bool, true, false, inl, inr, List, [], ◌∷◌, ◌++◌, Option, Some, None, Result, Ok, Err, is_ok, OnOk, IfSome, refl, ap, sym, subst, ◌∙◌, append_assoc}
 use Rattle.std.specs.Io.KnownBytes.{Appends, Consumes, Keeps, IsAtEnd}
 use Rattle.std.proofs.lemmas.List.{append-nil}
 use Rattle.words_core.specs.Cutting.{lines_of_trace}
@@ -9,18 +9,19 @@ use Rattle.world_core.specs.Output.{shown_lines, ended_lines, lines_for, with_li
 use Rattle.world_core.specs.Laws.{private_lines, ShownStays}
 use Rattle.kernel_core.specs.Parts.{Parts, opening_parts}
 use Rattle.kernel_core.specs.Shows.{Shows}
+use Rattle.kernel_core.proofs.Worlds.{false_is}
 use Rattle.world_core.specs.World.{World, opening_world}
 use Rattle.world_core.proofs.Showing.{shown_first}
 use Rattle.replay_core.specs.declared.replaying.Tally.{Tally}
 use Rattle.replay_core.specs.declared.replaying.ReplayError.{ReplayError}
 use Rattle.replay_core.specs.declared.replaying.ReplayError.TheVariants as Failed
-use Rattle.replay_core.specs.Runs.{HasCome, IsCutShort, Replays, IsDone, HasOwnLines}
+use Rattle.replay_core.specs.Runs.{HasCome, IsCutShort, Replays, IsDone, NamesFailed, HasOwnLines}
 use Rattle.replay_core.proofs.RunLemmas.{shown_more}
 use Rattle.partmem.specs.declared.settings.Settings.{Settings}
 use Rattle.partmem.specs.declared.outcome.Outcome.{Outcome}
-use Rattle.partmem.specs.declared.outcome.Outcome.TheVariants.{Unwritable}
-use Rattle.partmem.specs.Outcome.{outcome_of}
-use Rattle.partmem.specs.Run.{replies_to, IsPrivate, IsBeginning, Answers, IsGiven, IsOfTrace}
+use Rattle.partmem.specs.declared.outcome.Outcome.TheVariants.{Unwritable, NoMemory}
+use Rattle.partmem.specs.Outcome.{outcome_of, tally_of}
+use Rattle.partmem.specs.Run.{replies_to, IsPrivate, IsBeginning, Answers, EndsAs, IsGiven, IsOfTrace, Tallies}
 
 -- the kernel shows the opening world of the settings
 pub record IsNew (s : Settings) (k : Parts) : Type 0 where
@@ -122,6 +123,32 @@ answers stays s k k' ended given taken (Ok tally) new ran done own = (
 )
 answers stays s k k' ended given taken (Err (Failed.Feed tally)) new ran done own = ran.shown _ new.shows ∙ at_order s k (ended_lines given) new
 answers stays s k k' ended given taken (Err (Failed.Drain tally)) new ran done own = unwritten stays s k k' ended given taken (Err (Failed.Drain tally)) new ran done
+
+-- what the replay counted, when its replies could not be written
+pub unwritten_tally : (only : Option ℕ) (k k' : Parts) (ended : Bool) (given taken : List ℕ) (replayed : Result Tally ReplayError)
+    → Replays ended only k k' given taken replayed → IsDone replayed ended → Tallies Unwritable (tally_of replayed) ended given taken
+unwritten_tally only k k' ended given taken (Ok tally) ran done = (lines_of_trace given, inr (done, refl), ran.counted)
+unwritten_tally only k k' ended given taken (Err (Failed.Feed tally)) ran done = (ended_lines given, inl ([], sym (append-nil _)), ran.counted)
+unwritten_tally only k k' ended given taken (Err (Failed.Drain tally)) ran done = (ran.0 ++ ran.1 ∷ [], ran.2, ran.3.counted)
+
+-- and by its outcome
+pub tallied : (only : Option ℕ) (k k' : Parts) (ended : Bool) (given taken : List ℕ) (replayed : Result Tally ReplayError)
+    → Replays ended only k k' given taken replayed → IsDone replayed ended → Tallies (outcome_of replayed) (tally_of replayed) ended given taken
+tallied only k k' ended given taken (Ok tally) ran done = ran.counted
+tallied only k k' ended given taken (Err (Failed.Feed tally)) ran done = ran.counted
+tallied only k k' ended given taken (Err (Failed.Drain tally)) ran done = unwritten_tally only k k' ended given taken (Err (Failed.Drain tally)) ran done
+
+-- which end had failed, where the drain had not before it was flushed, and of a trace that is done not then either
+pub ends : (replayed : Result Tally ReplayError) (ended unread failed unflushed : Bool) → IsDone replayed ended → NamesFailed replayed unread failed
+    → failed ≡ false → (is_ok replayed ≡ true → unflushed ≡ false) → EndsAs (outcome_of replayed) ended unread unflushed
+ends (Ok tally) ended unread failed unflushed done named fine kept = (done, named.0, kept refl)
+ends (Err (Failed.Feed tally)) ended unread failed unflushed done named fine kept = named.0
+ends (Err (Failed.Drain tally)) ended unread failed unflushed done named fine kept = absurd (false_is failed fine named.1)
+
+-- before the first line
+pub nothing_of : (s : Settings) (known : Option (List ℕ)) → IfSome known (λ trace. IsOfTrace s NoMemory trace [] [])
+nothing_of s None = tt
+nothing_of s (Some trace) = record { part = (trace, refl); begins = (replies_to s (lines_of_trace trace), refl) }
 
 -- a trace is done only at its end
 pub given_so_far : (replayed : Result Tally ReplayError) (ended : Bool) (given more : List ℕ) → IsDone replayed ended → (ended ≡ true → more ≡ [])

@@ -1,9 +1,10 @@
 -- What is told of how a run ended.
 use Rattle.std.specs.Prelude.{◌≡◌, ◌≢◌, ℕ, List, Option, Some, None, Result, Ok, Err, codes}
 use Rattle.clap.specs.declared.error.kind.ErrorKind.{ErrorKind}
-use Rattle.clap.specs.declared.error.kind.ErrorKind.TheVariants.{DisplayHelp, OutOfMemory}
+use Rattle.clap.specs.declared.error.kind.ErrorKind.TheVariants.{DisplayHelp, DisplayVersion, OutOfMemory}
 use Rattle.partmem.specs.declared.outcome.Outcome.{Outcome}
-use Rattle.partmem.specs.declared.outcome.Outcome.TheVariants.{Done, Help, Unreadable, Unwritable, BadLine, BadOnly, NoMemory}
+use Rattle.partmem.specs.declared.outcome.Ended.{Ended}
+use Rattle.partmem.specs.declared.outcome.Outcome.TheVariants.{Done, Help, Version, Unreadable, Unwritable, BadLine, BadOnly, NoMemory}
 use Rattle.replay_core.specs.declared.replaying.Tally.{Tally}
 use Rattle.replay_core.specs.declared.replaying.ReplayError.{ReplayError}
 use Rattle.replay_core.specs.declared.replaying.ReplayError.TheVariants as Failed
@@ -12,6 +13,7 @@ use Rattle.replay_core.specs.declared.replaying.ReplayError.TheVariants as Faile
 abbrev pub status_of : Outcome → ℕ
 status_of Done = 0
 status_of (Help text) = 0
+status_of (Version text) = 0
 status_of Unreadable = 1
 status_of Unwritable = 1
 status_of (BadLine text) = 2
@@ -22,6 +24,7 @@ status_of NoMemory = 3
 abbrev pub text_of : Outcome → Option (List ℕ)
 text_of Done = None
 text_of (Help text) = None
+text_of (Version text) = None
 text_of Unreadable = Some (codes "partmem: trace could not be read")
 text_of Unwritable = Some (codes "partmem: replies could not be written")
 text_of (BadLine text) = None
@@ -34,10 +37,25 @@ outcome_of (Ok tally) = Done
 outcome_of (Err (Failed.Feed tally)) = Unreadable
 outcome_of (Err (Failed.Drain tally)) = Unwritable
 
+-- what had been done when the replay answered so
+abbrev pub tally_of : Result Tally ReplayError → Tally
+tally_of (Ok tally) = tally
+tally_of (Err (Failed.Feed tally)) = tally
+tally_of (Err (Failed.Drain tally)) = tally
+
+-- nothing was done
+abbrev pub no_tally : Tally
+no_tally = record { lines = 0; events = 0; faults = 0; written = 0 }
+
+-- a run that ended so before the first line
+abbrev pub ended_at_once : Outcome → Ended
+ended_at_once outcome = record { outcome = outcome; tally = no_tally }
+
 -- how a run can end: the words were in order
 abbrev pub IsOfRun : Outcome → Type 0
 IsOfRun Done = Unit {0}
 IsOfRun (Help text) = ⊥
+IsOfRun (Version text) = ⊥
 IsOfRun Unreadable = Unit {0}
 IsOfRun Unwritable = Unit {0}
 IsOfRun (BadLine text) = ⊥
@@ -48,6 +66,7 @@ IsOfRun NoMemory = Unit {0}
 abbrev pub IsRefusal : Outcome → Type 0
 IsRefusal Done = ⊥
 IsRefusal (Help text) = Unit {0}
+IsRefusal (Version text) = Unit {0}
 IsRefusal Unreadable = ⊥
 IsRefusal Unwritable = ⊥
 IsRefusal (BadLine text) = Unit {0}
@@ -58,8 +77,9 @@ IsRefusal NoMemory = Unit {0}
 abbrev pub IsToldAs : ErrorKind → Outcome → Type 0
 IsToldAs kind Done = ⊥
 IsToldAs kind (Help text) = kind ≡ DisplayHelp
+IsToldAs kind (Version text) = kind ≡ DisplayVersion
 IsToldAs kind Unreadable = ⊥
 IsToldAs kind Unwritable = ⊥
-IsToldAs kind (BadLine text) = (kind ≢ DisplayHelp) × (kind ≢ OutOfMemory)
+IsToldAs kind (BadLine text) = (kind ≢ DisplayHelp) × (kind ≢ DisplayVersion) × (kind ≢ OutOfMemory)
 IsToldAs kind BadOnly = ⊥
 IsToldAs kind NoMemory = Unit {0}

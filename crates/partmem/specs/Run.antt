@@ -6,9 +6,12 @@ use Rattle.world_core.specs.Limits.{cache_limit}
 use Rattle.world_core.specs.World.{opening_world}
 use Rattle.world_core.specs.Output.{shown_lines, ended_lines, lines_for, with_line_feeds}
 use Rattle.world_core.specs.Laws.{private_lines}
+use Rattle.replay_core.specs.declared.replaying.Tally.{Tally}
+use Rattle.replay_core.specs.Runs.{Counts, HasCome}
 use Rattle.partmem.specs.declared.settings.Settings.{Settings}
 use Rattle.partmem.specs.declared.outcome.Outcome.{Outcome}
-use Rattle.partmem.specs.declared.outcome.Outcome.TheVariants.{Done, Help, Unreadable, Unwritable, BadLine, BadOnly, NoMemory}
+use Rattle.partmem.specs.Outcome.{no_tally}
+use Rattle.partmem.specs.declared.outcome.Outcome.TheVariants.{Done, Help, Version, Unreadable, Unwritable, BadLine, BadOnly, NoMemory}
 
 -- what these lines show on a new machine of the settings: all replies, or those to one tenant
 abbrev pub replies_to : Settings → List (List ℕ) → List ℕ
@@ -33,8 +36,20 @@ Answers s Unreadable given written = written ≡ replies_to s (ended_lines given
 Answers s Unwritable given written = IsBeginning written (replies_to s (lines_of_trace given))
 Answers s NoMemory given written = (given ≡ []) × (written ≡ [])
 Answers s (Help text) given written = ⊥
+Answers s (Version text) given written = ⊥
 Answers s (BadLine text) given written = ⊥
 Answers s BadOnly given written = ⊥
+
+-- what is counted when the run ended so: the lines that were run, and what was written
+abbrev pub Tallies : Outcome → Tally → Bool → List ℕ → List ℕ → Type 0
+Tallies Done tally ended given written = Counts tally (lines_of_trace given) written
+Tallies Unreadable tally ended given written = Counts tally (ended_lines given) written
+Tallies Unwritable tally ended given written = (lines : List (List ℕ)) × HasCome ended given lines × Counts tally lines written
+Tallies NoMemory tally ended given written = tally ≡ no_tally
+Tallies (Help text) tally ended given written = ⊥
+Tallies (Version text) tally ended given written = ⊥
+Tallies (BadLine text) tally ended given written = ⊥
+Tallies BadOnly tally ended given written = ⊥
 
 -- which end had failed when the run ended so; a trace is done only at its end
 abbrev pub EndsAs : Outcome → Bool → Bool → Bool → Type 0
@@ -43,6 +58,7 @@ EndsAs Unreadable ended unread unwritten = unread ≡ true
 EndsAs Unwritable ended unread unwritten = (unread ≡ false) × (unwritten ≡ true)
 EndsAs NoMemory ended unread unwritten = (unread ≡ false) × (unwritten ≡ false)
 EndsAs (Help text) ended unread unwritten = ⊥
+EndsAs (Version text) ended unread unwritten = ⊥
 EndsAs (BadLine text) ended unread unwritten = ⊥
 EndsAs BadOnly ended unread unwritten = ⊥
 

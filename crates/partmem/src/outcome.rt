@@ -1,7 +1,7 @@
 //! How a run can end, and what is told of it.
 
 ghost use Rattle.std.specs.Prelude.{◌≡◌, option_map};
-ghost use Rattle.partmem.specs.Outcome.{status_of, text_of, outcome_of};
+ghost use Rattle.partmem.specs.Outcome.{status_of, text_of, outcome_of, tally_of, ended_at_once};
 
 use replay_core::{ReplayError, Tally};
 
@@ -12,6 +12,8 @@ pub enum Outcome {
     Done,
     /// `--help` was asked for: the text of it.
     Help(String),
+    /// `--version` was asked for: the text of it.
+    Version(String),
     /// The trace could not be opened or read.
     Unreadable,
     /// The replies could not be written.
@@ -30,7 +32,7 @@ impl Outcome {
         ensures { result ≡ status_of self.now }
     {
         match self {
-            Outcome::Done | Outcome::Help(_) => 0,
+            Outcome::Done | Outcome::Help(_) | Outcome::Version(_) => 0,
             Outcome::Unreadable | Outcome::Unwritable => 1,
             Outcome::BadLine(_) | Outcome::BadOnly => 2,
             Outcome::NoMemory => 3,
@@ -46,7 +48,28 @@ impl Outcome {
             Outcome::Unwritable => Some("partmem: replies could not be written"),
             Outcome::BadOnly => Some("partmem: --only names no tenant"),
             Outcome::NoMemory => Some("partmem: not enough memory"),
-            Outcome::Done | Outcome::Help(_) | Outcome::BadLine(_) => None,
+            Outcome::Done | Outcome::Help(_) | Outcome::Version(_) | Outcome::BadLine(_) => None,
+        }
+    }
+}
+
+/// A run that has ended.
+#[derive(Debug, Drop)]
+pub struct Ended {
+    /// How it ended.
+    pub outcome: Outcome,
+    /// What was done until then.
+    pub tally: Tally,
+}
+
+impl Ended {
+    /// Nothing was done.
+    pub fn at_once(outcome: Outcome) -> Ended
+        ensures { result ≡ ended_at_once outcome }
+    {
+        Ended {
+            outcome,
+            tally: Tally::default(),
         }
     }
 }
@@ -59,5 +82,16 @@ pub fn outcome_of(replayed: &Result<Tally, ReplayError>) -> Outcome
         Ok(_) => Outcome::Done,
         Err(ReplayError::Feed(_)) => Outcome::Unreadable,
         Err(ReplayError::Drain(_)) => Outcome::Unwritable,
+    }
+}
+
+/// What had been done when a replay answered so.
+pub fn tally_of(replayed: &Result<Tally, ReplayError>) -> Tally
+    ensures { result ≡ tally_of replayed.now }
+{
+    match replayed {
+        Ok(tally) => *tally,
+        Err(ReplayError::Feed(tally)) => *tally,
+        Err(ReplayError::Drain(tally)) => *tally,
     }
 }

@@ -12,6 +12,39 @@ use kernel_core::Config;
 use model_core::limits::{LEAST_ORDER, MOST_ORDER, MOST_SUPERBLOCKS, MOST_TENANTS};
 use std::alloc::{AllocError, Global};
 
+/// What `--version` tells.
+pub const VERSION: &str = "1.0.0";
+
+/// What `--help` tells below the arguments.
+const AFTER_HELP: &str = "\
+Lines of a trace, and the replies:
+  admin grant T           admin> granted T slot U superblock M
+  admin takeback T SLOT   admin> taken superblock M
+  admin reset T           admin> reset T superblocks R
+  admin move T SLOT       admin> moved T slot U superblock M
+  admin pool              admin> pool free F of N, then a line for each superblock
+  T alloc K               T> frame F: the first of 2^K frames
+  T free FRAME            T> freed K
+  T read PLACE LEN        T> bytes HEX, 1 to 64 of them
+  T write PLACE HEX       T> written L
+  T cache SIZE ALIGN HEX  T> cache C chunk c order q objects n colours x
+  T destroy C             T> destroyed F
+  T take C                T> object P
+  T give C PLACE          T> given
+  T reap                  T> reaped F
+  T report                T> frames .., then a line for each order and each cache
+A refused command is answered T> refused NUMBER NAME, a faulty line !> fault NAME.
+Blank lines and those that begin with # have no reply.
+
+Exit status:
+  0  the trace is done; or --help or --version
+  1  the trace could not be read, or the replies could not be written
+  2  the command line is faulty
+  3  there is not enough memory
+
+Example:
+  printf 'admin grant 0\\n0 alloc 1\\n0 report\\n' | partmem --order 3 --superblocks 2 --tenants 2";
+
 /// What a command line asks for.
 #[derive(Debug, Drop)]
 pub struct Settings {
@@ -19,13 +52,15 @@ pub struct Settings {
     pub config: Config,
     /// The tenant whose lines alone are written; all lines without it.
     pub only: Option<u8>,
+    /// Whether the tally of the run is told.
+    pub tally: bool,
     /// The path of the trace, as it was written; standard input without it.
     pub file: Option<String>,
 }
 
 /// Reads the words of a command line, without the program's name.
 ///
-/// Refused with `Help`, `BadLine`, `BadOnly` (the command line is otherwise in order) or `NoMemory`.
+/// Refused with `Help`, `Version`, `BadLine`, `BadOnly` (the command line is otherwise in order) or `NoMemory`.
 pub fn read_words<'a>(alloc: Global, words: &'a [&'a str]) -> Result<Settings, Outcome>
     ensures config { IfOk result (λ settings. is_bootable settings.config ≡ true) }
     ensures only { IfOk result (λ settings. IfSome settings.only (λ tenant. tenant < settings.config.tenants)) }
@@ -42,15 +77,31 @@ pub fn read_words<'a>(alloc: Global, words: &'a [&'a str]) -> Result<Settings, O
 
 /// The arguments that there are, with their ranges.
 fn command<'a>(alloc: Global) -> Result<Command<'a>, AllocError> {
-    let order = number(alloc, "order", "S", "A superblock has 2^S frames");
-    let superblocks = number(alloc, "superblocks", "N", "How many there are");
-    let tenants = number(alloc, "tenants", "T", "How many share the machine");
-    let only = number(alloc, "only", "T", "Writes the lines of this tenant alone");
+    let order = number(
+        alloc,
+        "order",
+        "S",
+        "A superblock has 2^S frames of 4096 bytes: 3 to 8",
+    );
+    let superblocks = number(alloc, "superblocks", "N", "How many there are: 1 to 256");
+    let tenants = number(alloc, "tenants", "T", "How many share the machine: 1 to 64");
+    let only = number(
+        alloc,
+        "only",
+        "T",
+        "Writes the lines of this tenant alone, a number below the tenants",
+    );
+    let tally = Arg::new(alloc, "tally")
+        .long("tally")
+        .help("Tells what was done, in one line on standard error")
+        .action(ArgAction::SetTrue);
     let file = Arg::new(alloc, "FILE")
         .help("The trace [default: standard input]")
         .action(ArgAction::Set);
     Command::new(alloc, "partmem")
+        .version(VERSION)
         .about("Runs a trace on a machine that tenants share, and writes its replies")
+        .after_help(AFTER_HELP)
         .no_binary_name(true)
         .arg(order.value_parser(value_parser!(u32).range(
             i64::from(LEAST_ORDER)..=i64::from(MOST_ORDER),
@@ -58,6 +109,7 @@ fn command<'a>(alloc: Global) -> Result<Command<'a>, AllocError> {
         .arg(superblocks.value_parser(value_parser!(u32).range(1..=i64::from(MOST_SUPERBLOCKS))))?
         .arg(tenants.value_parser(value_parser!(u32).range(1..=i64::from(MOST_TENANTS))))?
         .arg(only.value_parser(value_parser!(u32)).required(false))?
+        .arg(tally)?
         .arg(file)
 }
 
@@ -104,7 +156,12 @@ fn settings_of(alloc: Global, matches: &ArgMatches<'_>) -> Result<Settings, Outc
             Err(_) => return Err(Outcome::NoMemory),
         },
     };
-    Ok(Settings { config, only, file })
+    Ok(Settings {
+        config,
+        only,
+        tally: matches.get_flag("tally"),
+        file,
+    })
 }
 
 /// The value of a required argument; 0, which no range has, where it is missing.
@@ -136,6 +193,7 @@ fn refusal(alloc: Global, error: &Error) -> Outcome
     match error.kind() {
         ErrorKind::OutOfMemory => Outcome::NoMemory,
         ErrorKind::DisplayHelp => Outcome::Help(text),
+        ErrorKind::DisplayVersion => Outcome::Version(text),
         _ => Outcome::BadLine(text),
     }
 }

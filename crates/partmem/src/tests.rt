@@ -3,11 +3,12 @@
 ghost use Rattle.std.specs.Prelude.{◌≡◌, true};
 ghost use Rattle.kernel_core.specs.Booting.{is_bootable};
 
-use crate::outcome::{Outcome, outcome_of};
+use crate::outcome::{Ended, Outcome, outcome_of, tally_of};
 use crate::run::run;
-use crate::settings::{Settings, read_words};
-use crate::{run_from, run_opened, tell};
+use crate::settings::{Settings, VERSION, read_words};
+use crate::{run_from, run_opened, tell, tell_tally};
 use kernel_core::Config;
+use model_core::limits::{LEAST_ORDER, MOST_ORDER, MOST_SUPERBLOCKS, MOST_TENANTS};
 use replay_core::{ReaderFeed, ReplayError, Tally, WriterDrain};
 use std::alloc::{AllocError, Global};
 use std::cell::RefCell;
@@ -52,6 +53,7 @@ fn refuses_words(rt: HostRuntime) -> Result<(), Fail> {
         ),
         ("--order 3 --superblocks 2 --tenants 65 --only 300", 2, None),
         ("--help", 0, None),
+        ("--version", 0, None),
     ] {
         match read(rt.alloc(), line)? {
             Ok(_) => assert!(rt; false, "at {line}"),
@@ -95,6 +97,7 @@ fn reads_words(rt: HostRuntime) -> Result<(), Fail> {
                 };
                 assert_eq!(rt; settings.config, config, "at {line}");
                 assert_eq!(rt; settings.only, only, "at {line}");
+                assert!(rt; !settings.tally, "at {line}");
                 assert_eq!(rt;
                     settings.file.as_ref().map(|path| path.as_str()),
                     file,
@@ -107,16 +110,130 @@ fn reads_words(rt: HostRuntime) -> Result<(), Fail> {
     Ok(())
 }
 
+/// The text that a command line asks for.
+fn asked(alloc: Global, line: &str) -> Result<Option<String>, AllocError> {
+    match read(alloc, line)? {
+        Ok(_settings) => Ok(None),
+        Err(outcome) => match outcome {
+            Outcome::Help(text) => Ok(Some(text)),
+            Outcome::Version(text) => Ok(Some(text)),
+            _other => Ok(None),
+        },
+    }
+}
+
+/// Help has the range of each number, each command, each exit status and the other arguments; the version is told by itself.
+#[test]
+fn tells_help(rt: HostRuntime) -> Result<(), Fail> {
+    let help = asked(rt.alloc(), "--help")?.unwrap_or(String::new(rt.alloc()));
+    let help = help.as_str();
+    for (least, most, number) in [
+        (LEAST_ORDER.into(), MOST_ORDER.into(), "order"),
+        (1, MOST_SUPERBLOCKS, "superblocks"),
+        (1, MOST_TENANTS.into(), "tenants"),
+    ] {
+        let range = format!(in rt.alloc(); ": {least} to {most}\n")?;
+        assert!(rt; help.contains(range.as_str()), "no range of {number}");
+    }
+    for part in [
+        "--order <S>",
+        "--superblocks <N>",
+        "--tenants <T>",
+        "--only <T>",
+        "--tally",
+        "[FILE]",
+        "admin grant T ",
+        "admin takeback T SLOT ",
+        "admin reset T ",
+        "admin move T SLOT ",
+        "admin pool ",
+        "T alloc K ",
+        "T free FRAME ",
+        "T read PLACE LEN ",
+        "T write PLACE HEX ",
+        "T cache SIZE ALIGN HEX ",
+        "T destroy C ",
+        "T take C ",
+        "T give C PLACE ",
+        "T reap ",
+        "T report ",
+        "\n  0  ",
+        "\n  1  ",
+        "\n  2  ",
+        "\n  3  ",
+        "\\n' | partmem --order 3 --superblocks 2 --tenants 2",
+    ] {
+        assert!(rt; help.contains(part), "no {part}");
+    }
+    let version = asked(rt.alloc(), "--version")?.unwrap_or(String::new(rt.alloc()));
+    let told = format!(in rt.alloc(); "partmem {VERSION}\n")?;
+    assert_eq!(rt; version.as_str(), told.as_str());
+    Ok(())
+}
+
+/// The line of the tally: of all lines, of those to one tenant, and of an empty trace. It is told where it was asked for.
+#[test]
+fn tells_tallies(rt: HostRuntime) -> Result<(), Fail> {
+    const ALL: &[u8] = b"# two\nadmin grant 1\n1 alloc 0\n\n0 free 9\n2 alloc\n";
+    for (trace, only, text) in [
+        (
+            ALL,
+            None,
+            "partmem: 6 lines, 3 events, 1 faults, 86 bytes written\n",
+        ),
+        (
+            ALL,
+            Some(1),
+            "partmem: 6 lines, 3 events, 1 faults, 11 bytes written\n",
+        ),
+        (
+            b"",
+            None,
+            "partmem: 0 lines, 0 events, 0 faults, 0 bytes written\n",
+        ),
+    ] {
+        let told = no_text(rt.alloc());
+        let settings = Settings { only, ..small() };
+        let Ended { outcome, tally } = run_opened(&told, &settings, Ok(trace));
+        assert_eq!(rt; outcome.status(), 0, "at {text}");
+        tell_tally(&told, &tally);
+        assert_eq!(rt;
+            told.output.into_inner().len() as u128,
+            tally.written,
+            "at {text}"
+        );
+        assert_eq!(rt;
+            told.errors.into_inner().as_slice(),
+            text.as_bytes(),
+            "at {text}"
+        );
+    }
+    match read(
+        rt.alloc(),
+        "--order 3 --superblocks 2 --tenants 2 --tally --only 1",
+    )? {
+        Ok(settings) => assert!(rt; settings.tally),
+        Err(outcome) => assert!(rt; false, "{outcome:?}"),
+    }
+    Ok(())
+}
+
 /// What each answer of a replay is told as.
 #[test]
 fn tells_replays(rt: HostRuntime) {
-    let tally = Tally::default();
+    let tally = Tally {
+        lines: 4,
+        events: 2,
+        faults: 1,
+        written: 50,
+    };
     for (replayed, text) in [
         (Ok(tally), None),
         (Err(ReplayError::Feed(tally)), UNREADABLE),
         (Err(ReplayError::Drain(tally)), UNWRITABLE),
     ] {
         assert_eq!(rt; outcome_of(&replayed).text(), text, "at {replayed:?}");
+        assert_eq!(rt; tally_of(&replayed), tally, "at {replayed:?}");
     }
 }
 
@@ -187,6 +304,7 @@ fn small() -> Settings
             tenants: 2,
         },
         only: None,
+        tally: false,
         file: None,
     }
 }
@@ -194,17 +312,17 @@ fn small() -> Settings
 /// Reads, writes and flushes that fail, at once and in mid-stream: what was answered before is written and flushed.
 #[test]
 fn ends_fail(rt: HostRuntime) -> Result<(), Fail> {
-    for (good_reads, room, good_flushes, text, written, flushes) in [
-        (1000, 100, 9, None, 66, 4),
-        (0, 100, 9, UNREADABLE, 0, 1),
-        (19, 100, 9, UNREADABLE, 37, 2),
-        (24, 100, 9, UNREADABLE, 48, 3),
-        (24, 100, 1, UNREADABLE, 48, 1),
-        (1000, 0, 9, UNWRITABLE, 0, 0),
-        (1000, 40, 9, UNWRITABLE, 37, 1),
-        (1000, 100, 0, UNWRITABLE, 37, 0),
-        (1000, 100, 2, UNWRITABLE, 66, 2),
-        (1000, 100, 3, UNWRITABLE, 66, 3),
+    for (good_reads, room, good_flushes, text, lines, written, flushes) in [
+        (1000, 100, 9, None, 3, 66, 4),
+        (0, 100, 9, UNREADABLE, 0, 0, 1),
+        (19, 100, 9, UNREADABLE, 1, 37, 2),
+        (24, 100, 9, UNREADABLE, 2, 48, 3),
+        (24, 100, 1, UNREADABLE, 2, 48, 1),
+        (1000, 0, 9, UNWRITABLE, 1, 0, 0),
+        (1000, 40, 9, UNWRITABLE, 2, 37, 1),
+        (1000, 100, 0, UNWRITABLE, 2, 37, 0),
+        (1000, 100, 2, UNWRITABLE, 3, 66, 2),
+        (1000, 100, 3, UNWRITABLE, 3, 66, 3),
     ] {
         let mut keeper = Keeper {
             text: Vec::new(rt.alloc()),
@@ -212,14 +330,15 @@ fn ends_fail(rt: HostRuntime) -> Result<(), Fail> {
             good_flushes,
             flushes: 0,
         };
-        let outcome = run(
+        let ended = run(
             rt.alloc(),
             &small(),
             &mut ReaderFeed::new(reads(good_reads)),
             &mut WriterDrain::new(&mut keeper),
         );
         let at = (good_reads, room, good_flushes);
-        assert_eq!(rt; outcome.text(), text, "at {at:?}");
+        assert_eq!(rt; ended.outcome.text(), text, "at {at:?}");
+        assert_eq!(rt; ended.tally.lines, lines, "at {at:?}");
         assert!(rt; keeper.text.as_slice() == &REPLIES[..written], "at {at:?}");
         assert_eq!(rt; keeper.flushes, flushes, "at {at:?}");
     }
@@ -290,8 +409,8 @@ fn no_text(alloc: Global) -> Streams {
 #[test]
 fn opens(rt: HostRuntime) -> Result<(), Fail> {
     let told = no_text(rt.alloc());
-    let outcome = run_opened(&told, &small(), Ok(reads(1000)));
-    assert_eq!(rt; outcome.status(), 0);
+    let ended = run_opened(&told, &small(), Ok(reads(1000)));
+    assert_eq!(rt; ended.outcome.status(), 0);
     assert_eq!(rt; told.output.into_inner().as_slice(), REPLIES);
     for cause in [
         ErrorKind::NotFound,
@@ -300,14 +419,15 @@ fn opens(rt: HostRuntime) -> Result<(), Fail> {
     ] {
         let told = no_text(rt.alloc());
         let opened: io::Result<ByteReader<'static>> = Err(cause.into());
-        let outcome = run_opened(&told, &small(), opened);
-        assert_eq!(rt; outcome.text(), UNREADABLE, "at {cause:?}");
+        let ended = run_opened(&told, &small(), opened);
+        assert_eq!(rt; ended.outcome.text(), UNREADABLE, "at {cause:?}");
+        assert_eq!(rt; ended.tally, Tally::default(), "at {cause:?}");
     }
     let missing = Settings {
         file: Some(String::from_str(rt.alloc(), "no such file")?),
         ..small()
     };
-    assert_eq!(rt; run_from(&rt, &missing).text(), UNREADABLE);
+    assert_eq!(rt; run_from(&rt, &missing).outcome.text(), UNREADABLE);
     Ok(())
 }
 
@@ -316,9 +436,11 @@ fn opens(rt: HostRuntime) -> Result<(), Fail> {
 fn tells_outcomes(rt: HostRuntime) -> Result<(), Fail> {
     let text = String::from_str(rt.alloc(), "wrong\n")?;
     let help = String::from_str(rt.alloc(), "help\n")?;
+    let version = String::from_str(rt.alloc(), "version\n")?;
     for (outcome, status, output, errors) in [
         (Outcome::Done, 0, "", ""),
         (Outcome::Help(help), 0, "help\n", ""),
+        (Outcome::Version(version), 0, "version\n", ""),
         (
             Outcome::Unreadable,
             1,

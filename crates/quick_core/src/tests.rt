@@ -216,7 +216,11 @@ fn reads_writes(rt: HostRuntime) -> Result<(), Fail> {
         b"3 write 4096 00ff10aB00ff10aB00ff10aB",
         b"3 wrote 4096 00ff10aB\n0 alloc 0\n0 alloc 0\n",
     ] {
-        assert!(rt; written(rest, &mut bytes).is_none(), "a rest of {} bytes", rest.len());
+        assert!(rt;
+            written(rest, &mut bytes).is_none(),
+            "a rest of {} bytes",
+            rest.len()
+        );
     }
     Ok(())
 }

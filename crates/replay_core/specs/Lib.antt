@@ -1,3 +1,4 @@
+pub mod Held
 pub mod Moves
 pub mod Pending
 pub mod Pushes

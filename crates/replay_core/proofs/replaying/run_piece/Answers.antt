@@ -23,8 +23,8 @@ returns-in_err-rest-clause-ran g c before given start stands =
     let ran = rw (take_rest rest (end + 1)) at c.in_err-rest.ensures.ran in
     at_error _ _ c.from_residual-in_err-rest.result c.from_residual-in_err-rest.ensures.0
     (λ _. ran before given start (
-      stands_more_lines c.args.only before _ _ given rest (take end rest) (drop (end + 1) rest) start _ _ _ _ _ _ here c.end_with-reading.result
-      found.0 found.1 (c.end_with-reading.ensures.cleared here.tail here.holds) (c.end_with-reading.ensures.reading here.tail here.holds) c.in_ok-answer.ensures.answered
+    stands_more_lines c.args.only before _ _ given rest (take end rest) (drop (end + 1) rest) start _ _ _ _ _ _ here c.end_with-reading.result
+    found.0 found.1 (c.end_with-reading.ensures.cleared here.tail here.holds) (c.end_with-reading.ensures.reading here.tail here.holds) c.in_ok-answer.ensures.answered
     ))
 
 pub lines-preserved : goal.lines-preserved
@@ -36,8 +36,8 @@ lines-preserved g c =
       λ before given start stands.
           let here = c.lines.invariant.0 before given start stands in
           ran before given start (
-            stands_more_lines c.args.only before _ _ given rest (take end rest) (drop (end + 1) rest) start _ _ _ _ _ _ here c.end_with-reading.result
-            found.0 found.1 (c.end_with-reading.ensures.cleared here.tail here.holds) (c.end_with-reading.ensures.reading here.tail here.holds) c.in_ok-answer.ensures.answered
+          stands_more_lines c.args.only before _ _ given rest (take end rest) (drop (end + 1) rest) start _ _ _ _ _ _ here c.end_with-reading.result
+          found.0 found.1 (c.end_with-reading.ensures.cleared here.tail here.holds) (c.end_with-reading.ensures.reading here.tail here.holds) c.in_ok-answer.ensures.answered
           ),
       c.in_ok-rest.ensures.bounded,
       c.in_ok-rest.ensures.lines.0,
