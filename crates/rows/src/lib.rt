@@ -5,12 +5,20 @@ mod caches;
 mod limits;
 mod lines;
 mod moves;
-mod own;
+pub mod own;
 mod pages;
+pub mod pieces;
 mod reaping;
 mod slots;
 
 use kernel_core::Config;
+
+/// The small machine, on which most rows run.
+pub const MACHINE: Config = Config {
+    order: 3,
+    superblocks: 2,
+    tenants: 2,
+};
 
 /// A trace, and what it writes.
 pub struct Row {
@@ -41,42 +49,33 @@ impl Table {
 
 /// The rows, by what they show.
 pub fn tables() -> [Table; 10] {
-    let small = Config {
-        order: 3,
-        superblocks: 2,
-        tenants: 2,
-    };
     let middle = Config {
         superblocks: 3,
         tenants: 3,
-        ..small
+        ..MACHINE
     };
     let greatest = Config {
         superblocks: 256,
         tenants: 64,
-        ..small
+        ..MACHINE
     };
     [
-        Table::new("lines", small, None, &lines::ROWS),
-        Table::new("pages", small, None, &pages::ROWS),
-        Table::new("slots", small, None, &slots::ROWS),
-        Table::new("caches", small, None, &caches::ROWS),
-        Table::new("reaping", small, None, &reaping::ROWS),
-        Table::new("moves", small, None, &moves::ROWS),
-        Table::new("tenant 0", small, Some(0), &own::ROWS),
-        Table::new("tenant 1", small, Some(1), &own::OTHER_ROWS),
+        Table::new("lines", MACHINE, None, &lines::ROWS),
+        Table::new("pages", MACHINE, None, &pages::ROWS),
+        Table::new("slots", MACHINE, None, &slots::ROWS),
+        Table::new("caches", MACHINE, None, &caches::ROWS),
+        Table::new("reaping", MACHINE, None, &reaping::ROWS),
+        Table::new("moves", MACHINE, None, &moves::ROWS),
+        Table::new("tenant 0", MACHINE, Some(0), &own::ROWS),
+        Table::new("tenant 1", MACHINE, Some(1), &own::OTHER_ROWS),
         Table::new("tenant 0 of 3", middle, Some(0), &own::THREE_ROWS),
         Table::new("limits", greatest, None, &limits::ROWS),
     ]
 }
 
 #[cfg(test)]
-mod cuts;
-#[cfg(test)]
-mod ends;
+mod example;
 #[cfg(test)]
 mod long;
-#[cfg(test)]
-mod pieces;
 #[cfg(test)]
 mod tests;

@@ -1,6 +1,7 @@
 //! Worked traces that are built, since much of them or of what they write is alike.
 
-use crate::tests::{MACHINE, PIECES, replayed};
+use crate::MACHINE;
+use crate::tests::{PIECES, replayed};
 use kernel_core::Config;
 use std::alloc::Global;
 use std::io::Write;
@@ -95,55 +96,4 @@ fn greatest_pool(rt: HostRuntime) -> Result<(), Fail> {
         write!(long.output, "admin> superblock {superblock} free\n")?;
     }
     writes(&rt, &long)
-}
-
-/// Commands of a tenant that is granted a superblock.
-const LINES: [&[u8]; 6] = [
-    b"admin grant 0\n",
-    b"0 alloc 1\n",
-    b"0 write 8191 7f\n",
-    b"0 cache 24 8 c3\n",
-    b"0 take 0\n",
-    b"0 report\n",
-];
-
-/// A take-back that is refused, and a move of all that the tenant has, change nothing that it is told, wherever they come.
-#[test]
-fn foreign_lines(rt: HostRuntime) -> Result<(), Fail> {
-    let take_back = b"admin takeback 0 1\n".as_slice();
-    let moved = b"admin move 0 0\n".as_slice();
-    for (line, first, last) in [
-        (take_back, 0, 0),
-        (take_back, 1, 1),
-        (take_back, 2, 2),
-        (take_back, 3, 3),
-        (take_back, 4, 4),
-        (take_back, 5, 5),
-        (take_back, 6, 6),
-        (take_back, 0, 6),
-        (moved, 1, 6),
-    ] {
-        let mut long = Long {
-            only: Some(0),
-            ..beginning(
-                rt.alloc(),
-                b"",
-                b"0> frame 0\n0> written 1\n0> cache 0 chunk 24 order 0 objects 169 colours 2\n\
-                    0> object 8192\n0> frames 8 live 3 free 5 top 2 split 200\n\
-                    0> order 0 free 1 taken 1\n0> order 1 free 0 taken 1\n\
-                    0> order 2 free 1 taken 0\n0> order 3 free 0 taken 0\n\
-                    0> cache 0 full 0 partial 1 empty 0 live 1\n",
-            )?
-        };
-        for gap in 0..=6 {
-            if (first..=last).contains(&gap) {
-                long.trace.extend_from_slice(line)?;
-            }
-            if let Some(own) = LINES.get(gap) {
-                long.trace.extend_from_slice(own)?;
-            }
-        }
-        writes(&rt, &long)?;
-    }
-    Ok(())
 }

@@ -1,17 +1,11 @@
 //! What the worked traces write, whatever the pieces are.
 
 use crate::pieces::{PieceDrain, in_pieces, taking};
-use crate::tables;
+use crate::{MACHINE, tables};
 use kernel_core::{BootError, Config, Kernel};
 use replay_core::{ReaderFeed, Tally, WriterDrain, replay};
 use std::alloc::Global;
 use std::test::Fail;
-
-pub const MACHINE: Config = Config {
-    order: 3,
-    superblocks: 2,
-    tenants: 2,
-};
 
 /// The pieces that a trace is run in, the last of them whole.
 pub const PIECES: [usize; 5] = [1, 2, 3, 7, 200_000];

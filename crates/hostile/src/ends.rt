@@ -2,10 +2,10 @@
 
 ghost use Rattle.std.specs.Prelude.{◌≡◌, false};
 
-use crate::pieces::{in_pieces, taking};
-use crate::tests::MACHINE;
 use kernel_core::Kernel;
 use replay_core::{Feed, ReaderFeed, ReplayError, Tally, WriterDrain, replay};
+use rows::MACHINE;
+use rows::pieces::{in_pieces, taking};
 use std::alloc::Global;
 use std::cell::Cell;
 use std::io::{self, ErrorKind, Read, Write};

@@ -1,0 +1,16 @@
+//! A trace on the small machine.
+
+use kernel_core::Kernel;
+use replay_core::{ReaderFeed, WriterDrain, replay};
+use rows::MACHINE;
+use std::alloc::Global;
+use std::test::Fail;
+
+/// The machine after the trace, and all that was written.
+pub fn run(alloc: Global, trace: &[u8]) -> Result<(Kernel, Vec<u8>), Fail> {
+    let mut kernel = Kernel::boot(alloc, MACHINE)?;
+    let mut replies = Vec::new(alloc);
+    let mut drain = WriterDrain::new(&mut replies);
+    replay(&mut kernel, &mut ReaderFeed::new(trace), &mut drain, None)?;
+    Ok((kernel, replies))
+}

@@ -1,0 +1,148 @@
+//! Makes a part of the kernel where memory runs short, and tells what it answered.
+//!
+//! Standard input has `SPENT SUBJECT`: so many growths are asked for first, and then the subject is made. So where a run
+//! refuses one growth by its number, each growth of each subject can be the one.
+//!
+//! | Subject | What is made |
+//! |---|---|
+//! | `lists`, `space`, `buddy`, `slabs` | such a part, of the sizes of the small machine |
+//! | `boot`, `wide` | a kernel, of those sizes and of the greatest ones |
+//! | `bad` | kernels with a number out of its range, one for each end of each range |
+//! | `row TABLE ROW` | a kernel, and then that worked trace runs on it |
+#![tactic(auto)]
+
+use buddy_core::Buddy;
+use kernel_core::{BootError, Config, Kernel};
+use klist_core::Lists;
+use replay_core::replay;
+use rows::pieces::{in_pieces, taking};
+use rows::{MACHINE, Row, Table, tables};
+use slab_core::Slabs;
+use space_core::Space;
+use std::alloc::Global;
+use std::io::{self, ErrorKind, Read};
+use std::str;
+
+const DONE: &str = "done";
+
+const NO_MEMORY: &str = "no memory";
+
+const BAD_CONFIG: &str = "bad configuration";
+
+fn main(rt: HostRuntime) -> io::Result<()> {
+    let mut buffer = [0; 64];
+    let count = rt.reader().read(&mut buffer)?;
+    let Ok(line) = str::from_utf8(&buffer[..count]) else {
+        return Err(ErrorKind::InvalidInput.into());
+    };
+    let mut words = line.trim_end().split(' ');
+    let Some(Ok(spent)) = words.next().map(|word| word.parse::<u32>()) else {
+        return Err(ErrorKind::InvalidInput.into());
+    };
+    spend(rt.alloc(), spent);
+    let told = match words.next() {
+        Some("row") => run_row(rt.alloc(), words.next(), words.next()),
+        Some(subject) => make(rt.alloc(), subject),
+        None => "nothing",
+    };
+    println!(rt; "{told}")
+}
+
+/// Asks for so many growths, and keeps none.
+fn spend(alloc: Global, growths: u32) {
+    for _growth in 0..growths {
+        let _kept = Box::new(alloc, 0_u8);
+    }
+}
+
+/// Makes a part or a kernel.
+fn make(alloc: Global, subject: &str) -> &'static str {
+    let is_made = match subject {
+        "lists" => Lists::new(alloc, 16, 6).is_ok(),
+        "space" => Space::new(alloc, 3, 2, 2).is_ok(),
+        "buddy" => Buddy::new(alloc, 3, 2, 2).is_ok(),
+        "slabs" => Slabs::new(alloc, 3, 2, 2).is_ok(),
+        "boot" => return boot(alloc, MACHINE),
+        "wide" => return boot(alloc, WIDEST),
+        "bad" => return boot_badly(alloc),
+        _ => return "no such subject",
+    };
+    if is_made { DONE } else { NO_MEMORY }
+}
+
+/// The greatest machine.
+const WIDEST: Config = Config {
+    order: 8,
+    superblocks: 256,
+    tenants: 64,
+};
+
+fn boot(alloc: Global, config: Config) -> &'static str {
+    match Kernel::boot(alloc, config) {
+        Ok(_) => DONE,
+        Err(BootError::Memory) => NO_MEMORY,
+        Err(BootError::BadConfig) => BAD_CONFIG,
+    }
+}
+
+/// Boots kernels that there are none of.
+fn boot_badly(alloc: Global) -> &'static str {
+    for (order, superblocks, tenants) in [
+        (2, 2, 2),
+        (9, 2, 2),
+        (3, 0, 2),
+        (3, 257, 2),
+        (3, 2, 0),
+        (3, 2, 65),
+        (u32::MAX, u32::MAX, u32::MAX),
+    ] {
+        let config = Config {
+            order,
+            superblocks,
+            tenants,
+        };
+        let told = boot(alloc, config);
+        if told != BAD_CONFIG {
+            return told;
+        }
+    }
+    BAD_CONFIG
+}
+
+/// Boots a kernel for a worked trace, and runs it.
+fn run_row(alloc: Global, table: Option<&str>, row: Option<&str>) -> &'static str {
+    let number = |word: Option<&str>| word.and_then(|word| word.parse::<usize>().ok());
+    let (Some(table), Some(row)) = (number(table), number(row)) else {
+        return "no such row";
+    };
+    match tables().get(table) {
+        Some(table) => match table.rows.get(row) {
+            Some(row) => replay_row(alloc, table, row),
+            None => "no such row",
+        },
+        None => "no such row",
+    }
+}
+
+fn replay_row(alloc: Global, table: &Table, row: &Row) -> &'static str {
+    let Ok(mut kernel) = Kernel::boot(alloc, table.config) else {
+        return NO_MEMORY;
+    };
+    let mut drain = taking(WHOLE, ALL);
+    let ran = replay(
+        &mut kernel,
+        &mut in_pieces(row.trace, WHOLE, ALL),
+        &mut drain,
+        table.only,
+    );
+    if ran.is_ok() && drain.taken() == row.output {
+        DONE
+    } else {
+        "other lines"
+    }
+}
+
+/// More bytes than a row has, and more pulls and pushes than it takes.
+const WHOLE: usize = 10_000;
+
+const ALL: u32 = 10_000;

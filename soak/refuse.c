@@ -1,0 +1,28 @@
+/* Refuses one allocation of a process, the REFUSED-th: to be loaded before the C library. */
+#define _GNU_SOURCE
+#include <dlfcn.h>
+#include <stdlib.h>
+
+static int is_refused(void)
+{
+    static long left = -1;
+    if (left < 0) {
+        const char *number = getenv("REFUSED");
+        left = number ? atol(number) : 0;
+    }
+    return left > 0 && --left == 0;
+}
+
+void *malloc(size_t size)
+{
+    static void *(*next)(size_t);
+    if (!next) next = (void *(*)(size_t))dlsym(RTLD_NEXT, "malloc");
+    return is_refused() ? NULL : next(size);
+}
+
+void *realloc(void *old, size_t size)
+{
+    static void *(*next)(void *, size_t);
+    if (!next) next = (void *(*)(void *, size_t))dlsym(RTLD_NEXT, "realloc");
+    return is_refused() ? NULL : next(old, size);
+}

@@ -1,0 +1,121 @@
+# Writes a random trace: what tenant 0 does and gets is drawn from `seed` alone, and all that comes between from `seed` and
+# `world`. So two worlds of one seed and order have the same own list of tenant 0, whatever their other numbers are.
+#
+#   awk -v seed=1 -v world=1 -v lines=1000000 -v order=3 -v superblocks=256 -v tenants=64 -v broken=10 -f soak/traces.awk
+#
+# `lines` counts the lines of both worlds that are tenant 0's; `others` lines come between on average; `broken` in a hundred of
+# those are no command, or one with numbers that nobody has.
+#
+# Tenant 0 never holds more than 4 superblocks, and others never more than all but 4, so that no grant to it is refused: there
+# have to be more than 4.
+
+# A number below n: Park and Miller's generator, one for the own list (0) and one for what is between (1).
+function draw(n) {
+    state[whose] = (state[whose] * 16807) % 2147483647
+    return int(state[whose] / 2147483647 * n)
+}
+
+function pick(words,    n, all) {
+    n = split(words, all, " ")
+    return all[draw(n) + 1]
+}
+
+function hex(bytes,    text) {
+    while (bytes-- > 0) text = text substr("0123456789abcdefABCDEF", draw(22) + 1, 1) substr("0123456789abcdef", draw(16) + 1, 1)
+    return text
+}
+
+# A frame that the tenant may hold, where a block of that order can begin.
+function frame(t, k) {
+    return int(draw((held[t] ? held[t] : 1) * 2 ^ order) / 2 ^ k) * 2 ^ k
+}
+
+# The sizes of caches by number: most tenants make them in this order.
+function size(c) {
+    return sizes[c % size_count + 1]
+}
+
+# A place where an object of the cache may begin.
+function object(t, c,    chunk, count) {
+    chunk = size(c) < 16 ? 16 : size(c)
+    count = chunk < 512 ? int(4064 / chunk) : int(4096 / chunk)
+    return 4096 * int(frame(t, 0) / (1 + draw(4))) + chunk * draw(1 + draw(count > 12 ? 12 : count))
+}
+
+function make_cache(t, c) {
+    return t " cache " size(c) " 8 " hex(1 + draw(16))
+}
+
+# A command of the tenant.
+function command(t,    word, c) {
+    word = pick("alloc alloc alloc alloc free free free free take take take take take give give give give give read read write " \
+        "write cache destroy reap report")
+    if (!made[t] && word ~ /take|give|destroy/) return make_cache(t, made[t]++)
+    # Mostly the first caches, so that there are full slabs too.
+    c = draw(20) ? draw(1 + draw(made[t] < 6 ? made[t] : 6)) : draw(33)
+    if (word == "alloc") return t " alloc " (draw(20) ? int(draw(4) * draw(4) / 3) : draw(order + 2))
+    if (word == "free") return t " free " frame(t, draw(3))
+    if (word == "take") return t " take " c
+    if (word == "give") return t " give " c " " object(t, c)
+    if (word == "read") return t " read " (4096 * frame(t, 0) + draw(2) * draw(4096)) " " 1 + draw(64)
+    if (word == "write") return t " write " (4096 * frame(t, 0) + draw(2) * draw(4096)) " " hex(1 + draw(64))
+    if (word == "cache" && made[t] < 40) return make_cache(t, made[t]++)
+    if (word == "destroy") return t " destroy " c
+    if (word == "report" && draw(8)) return t " reap"
+    return t " " (word == "cache" ? "reap" : word)
+}
+
+# What is done with the tenant's superblocks; it never holds more than `most`.
+function administer(t, most,    word) {
+    word = pick("grant grant grant grant takeback takeback reset")
+    if (word == "grant" && held[t] < most) { held[t]++; all_held++; return "admin grant " t }
+    if (word == "reset" && draw(12) == 0) { all_held -= held[t]; held[t] = 0; made[t] = 0; return "admin reset " t }
+    return "admin takeback " t " " draw(held[t] + 1)
+}
+
+# A number that hardly anything has: the ends of ranges, and what wraps to a small number.
+function far() {
+    return pick("31 32 63 64 255 256 65535 65536 1048576 16777216 536870912 2147483647 2147483648 4294963200 4294967232 4294967295 " \
+        "4294967296 9999999999 00000000000 18446744073709551616 -1 +1 0x1 1e3 x")
+}
+
+# A line that is no command, or one that is refused whatever the machine is like.
+function broken_line(    kind, text, n) {
+    kind = draw(8)
+    if (kind == 0) { n = draw(300); while (n-- > 0) text = text sprintf("%c", 11 + draw(245)); return (text ~ /^[ 0a]/ ? "~" : "") text }
+    if (kind == 1) { n = draw(300); text = "0 alloc"; while (n-- > 0) text = text pick("0 1 # \t x") " "; return "\377" text }
+    if (kind == 2) return pick("frob # #0 admin 0 \r") pick(" \t  \r")
+    if (kind == 3) return "admin " pick("grant reset takeback move pool") " " far() " x"
+    if (kind == 4) return 64 + draw(9) " " pick("alloc free take destroy") " " far()
+    if (kind == 5) return "admin takeback 0 " 256 + draw(2147480000)
+    if (kind == 6) return "admin move " pick("0 0 1 64 4294967295") " " far()
+    return 1 + draw(tenants - 1) " " pick("alloc free take destroy read write cache give") " " far() " " far()
+}
+
+# A line that is not in the own list of tenant 0.
+function between(    t) {
+    if (draw(100) < broken) return broken_line()
+    if (draw(40) == 0) return "admin move 0 " draw(held[0] + 1)
+    if (draw(2000) == 0) return "admin pool"
+    if (tenants == 1) return "# nobody else"
+    t = 1 + (draw(3) ? draw(tenants - 1 < 4 ? tenants - 1 : 4) : draw(tenants - 1))
+    if (draw(8)) return command(t)
+    if (draw(6) == 0) return "admin move " t " " draw(held[t] + 1)
+    return administer(t, all_held - held[0] < superblocks - own_most ? held[t] + 1 : 0)
+}
+
+BEGIN {
+    size_count = split("1024 512 4096 2048 16 200 100 3000 64", sizes, " ")
+    own_most = 4
+    if (others == "") others = 3
+    state[0] = seed * 7919 + 1
+    state[1] = seed * 104729 + world * 611953 + 1
+    for (whose = 0; whose < 2; whose++) for (n = 0; n < 9; n++) draw(2)
+    for (done = 0; done < lines; ) {
+        whose = 1
+        if (draw(others + 1)) { print between(); continue }
+        whose = 0
+        done++
+        print draw(60) ? command(0) : administer(0, own_most)
+    }
+}
