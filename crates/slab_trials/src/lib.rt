@@ -1,0 +1,9 @@
+//! The object layer beside a plain model of it.
+#![tactic(auto)]
+
+#[cfg(test)]
+mod parts;
+#[cfg(test)]
+mod plain;
+#[cfg(test)]
+mod tests;
