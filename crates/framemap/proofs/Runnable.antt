@@ -1,0 +1,25 @@
+-- What lines read as can be run: the pattern of a cache has a byte.
+use Rattle.std.proofs.Common.{◌≡◌, sym, ℕ, List, Some, Ok}
+use Rattle.words_core.specs.declared.event.Event.{Event}
+use Rattle.words_core.specs.declared.event.Event.TheVariants as On
+use Rattle.words_core.specs.declared.event.Command.TheVariants as Asked
+use Rattle.words_core.specs.Grammar.{reading_of}
+use Rattle.world_core.proofs.Asked.{IsPossibleEvent, reading_possible}
+use Rattle.kernel_core.specs.Steps.{HasPattern}
+
+possible_pattern : (event : Event) → IsPossibleEvent event → HasPattern event
+possible_pattern (On.Tenant t (Asked.Cache size align pattern)) possible = possible.0
+possible_pattern (On.Tenant t (Asked.Alloc k)) possible = tt
+possible_pattern (On.Tenant t (Asked.Free frame)) possible = tt
+possible_pattern (On.Tenant t (Asked.Read place len)) possible = tt
+possible_pattern (On.Tenant t (Asked.Write place bytes)) possible = tt
+possible_pattern (On.Tenant t (Asked.Destroy number)) possible = tt
+possible_pattern (On.Tenant t (Asked.Take number)) possible = tt
+possible_pattern (On.Tenant t (Asked.Give number place)) possible = tt
+possible_pattern (On.Tenant t Asked.Reap) possible = tt
+possible_pattern (On.Tenant t Asked.Report) possible = tt
+possible_pattern (On.Admin command) possible = tt
+
+-- a line that was read
+pub read_has_pattern : (line : List ℕ) (event : Event) → Ok (Some event) ≡ reading_of line → HasPattern event
+read_has_pattern line event is = possible_pattern event (reading_possible line event (sym is))
