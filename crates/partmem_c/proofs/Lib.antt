@@ -1,0 +1,3 @@
+mod SlotSteps
+pub mod TextLemmas
+pub mod CallLemmas

@@ -1,0 +1,122 @@
+-- An event as numbers, and its answer as numbers.
+use Rattle.std.specs.Prelude.{◌≡◌, ℕ, ◌+◌, ◌==◌, nat_lt, nat_le, not, ◌&&◌, List, [], ◌++◌, length, drop, if◌then◌else◌, Option, Some, None, is_some, is_none, option_map}
+use Rattle.arrayvec.specs.ArrayVec.{ArrayVec}
+use Rattle.words_core.specs.declared.event.Event.{Event}
+use Rattle.words_core.specs.declared.event.Event.TheVariants as On
+use Rattle.words_core.specs.declared.event.AdminCommand.{AdminCommand}
+use Rattle.words_core.specs.declared.event.AdminCommand.TheVariants as Do
+use Rattle.words_core.specs.declared.event.Command.{Command}
+use Rattle.words_core.specs.declared.event.Command.TheVariants as Ask
+use Rattle.words_core.specs.declared.reply.Body.{Body}
+use Rattle.words_core.specs.declared.reply.Body.TheVariants.{Granted, TakenBack, WasReset, Moved, Owners, Frame, Freed, Bytes, Written, Cache, Destroyed, Object, Given, Reaped, Report, Refused, Fault}
+use Rattle.words_core.specs.declared.reply.Reply.{Reply}
+use Rattle.words_core.specs.Texts.{number_of_refusal}
+use Rattle.model_core.specs.declared.limits.TheConstants.{MOST_BYTES, MOST_PATTERN}
+use Rattle.kernel_core.specs.Parts.{Parts}
+use Rattle.kernel_core.specs.Steps.{Steps}
+use Rattle.partmem_c.specs.declared.status.TheConstants.{DONE, NO_MACHINE, NOT_AN_EVENT, NO_ROOM}
+use Rattle.partmem_c.specs.declared.kinds.TheConstants as kind
+use Rattle.partmem_c.specs.declared.asking.Asked.{Asked}
+use Rattle.partmem_c.specs.declared.telling.Told.{Told}
+
+-- these bytes, where there are any and no more than so many
+abbrev pub some_bytes : ℕ → List ℕ → Option (ArrayVec ℕ)
+some_bytes most bytes =
+    if nat_le 1 (length bytes) && nat_le (length bytes) most then Some (record { items = bytes }) else None
+
+-- the commands of the administrator, by their kinds
+abbrev pub admin_command_of : Asked → Option AdminCommand
+admin_command_of a =
+    if a.kind == kind.GRANT then Some (Do.Grant a.tenant)
+    else (if a.kind == kind.TAKE_BACK then Some (Do.TakeBack a.tenant a.first)
+    else (if a.kind == kind.RESET then Some (Do.Reset a.tenant)
+    else (if a.kind == kind.MOVE then Some (Do.Move a.tenant a.first)
+    else (if a.kind == kind.POOL then Some Do.Pool
+    else None))))
+
+-- the commands of a tenant
+abbrev pub command_of : Asked → List ℕ → Option Command
+command_of a bytes =
+    if a.kind == kind.ALLOC then Some (Ask.Alloc a.first)
+    else (if a.kind == kind.FREE then Some (Ask.Free a.first)
+    else (if a.kind == kind.READ then Some (Ask.Read a.first a.second)
+    else (if a.kind == kind.WRITE then option_map (Ask.Write a.first) (some_bytes MOST_BYTES bytes)
+    else (if a.kind == kind.CACHE then option_map (Ask.Cache a.first a.second) (some_bytes MOST_PATTERN bytes)
+    else (if a.kind == kind.DESTROY then Some (Ask.Destroy a.first)
+    else (if a.kind == kind.TAKE then Some (Ask.Take a.first)
+    else (if a.kind == kind.GIVE then Some (Ask.Give a.first a.second)
+    else (if a.kind == kind.REAP then Some Ask.Reap
+    else (if a.kind == kind.REPORT then Some Ask.Report
+    else None)))))))))
+
+-- the event that the numbers and bytes say, if they say one
+abbrev pub event_of : Asked → List ℕ → Option Event
+event_of a bytes =
+    if nat_le a.kind kind.POOL then option_map On.Admin (admin_command_of a) else option_map (On.Tenant a.tenant) (command_of a bytes)
+
+abbrev pub numbers : ℕ → ℕ → ℕ → ℕ → ℕ → ℕ → Told
+numbers of a b c d e = record { kind = of; first = a; second = b; third = c; fourth = d; fifth = e }
+
+-- the order of the greatest free block and one more, 0 where there is none
+abbrev pub top_number : Option ℕ → ℕ
+top_number None = 0
+top_number (Some order) = order + 1
+
+-- a reply as numbers: of a report the figures, of the table of owners how many superblocks there are
+abbrev pub told_of : Body → Told
+told_of (Granted tenant slot superblock) = numbers kind.GRANTED tenant slot superblock 0 0
+told_of (TakenBack superblock) = numbers kind.TAKEN_BACK superblock 0 0 0 0
+told_of (WasReset tenant superblocks) = numbers kind.WAS_RESET tenant superblocks 0 0 0
+told_of (Moved tenant slot superblock) = numbers kind.MOVED tenant slot superblock 0 0
+told_of (Owners owners) = numbers kind.OWNERS (length owners.items) 0 0 0 0
+told_of (Frame frame) = numbers kind.FRAME frame 0 0 0 0
+told_of (Freed order) = numbers kind.FREED order 0 0 0 0
+told_of (Bytes bytes) = numbers kind.BYTES (length bytes.items) 0 0 0 0
+told_of (Written count) = numbers kind.WRITTEN count 0 0 0 0
+told_of (Cache cache chunk order objects colours) = numbers kind.MADE cache chunk order objects colours
+told_of (Destroyed frames) = numbers kind.DESTROYED frames 0 0 0 0
+told_of (Object place) = numbers kind.OBJECT place 0 0 0 0
+told_of Given = numbers kind.GIVEN 0 0 0 0 0
+told_of (Reaped frames) = numbers kind.REAPED frames 0 0 0 0
+told_of (Report report) = numbers kind.FIGURES report.frames report.live report.free (top_number report.top) report.split
+told_of (Refused refusal) = numbers kind.REFUSED (number_of_refusal refusal) 0 0 0 0
+told_of (Fault fault) = numbers kind.NOTHING 0 0 0 0 0
+
+-- the bytes that a reply tells
+abbrev pub bytes_of : Body → List ℕ
+bytes_of (Granted tenant slot superblock) = []
+bytes_of (TakenBack superblock) = []
+bytes_of (WasReset tenant superblocks) = []
+bytes_of (Moved tenant slot superblock) = []
+bytes_of (Owners owners) = []
+bytes_of (Frame frame) = []
+bytes_of (Freed order) = []
+bytes_of (Bytes bytes) = bytes.items
+bytes_of (Written count) = []
+bytes_of (Cache cache chunk order objects colours) = []
+bytes_of (Destroyed frames) = []
+bytes_of (Object place) = []
+bytes_of Given = []
+bytes_of (Reaped frames) = []
+bytes_of (Report report) = []
+bytes_of (Refused refusal) = []
+bytes_of (Fault fault) = []
+
+-- What such a call answers: the first of the errors that there is.
+abbrev pub event_status : Option Parts → Asked → List ℕ → List ℕ → ℕ
+event_status held a bytes room =
+    if not (is_some held) then NO_MACHINE
+    else (if is_none (event_of a bytes) then NOT_AN_EVENT else (if nat_lt (length room) MOST_BYTES then NO_ROOM else DONE))
+
+-- the event was a step of the kernel that was held, and was answered by these numbers and bytes
+pub record RunsEvent (old new : Option Parts) (a : Asked) (bytes : List ℕ) (told : Told) (room room' : List ℕ) : Type 0 where
+  pub before : Parts
+  pub after : Parts
+  pub event : Event
+  pub reply : Reply
+  pub was : old ≡ Some before
+  pub is : new ≡ Some after
+  pub says : event_of a bytes ≡ Some event
+  pub steps : Steps before event after reply
+  pub numbers_told : told ≡ told_of reply.body
+  pub over : room' ≡ bytes_of reply.body ++ drop (length (bytes_of reply.body)) room

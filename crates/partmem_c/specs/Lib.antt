@@ -1,0 +1,5 @@
+pub mod Slots
+pub mod Lines
+pub mod Events
+pub mod Owners
+pub mod Laws

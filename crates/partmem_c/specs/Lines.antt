@@ -1,0 +1,48 @@
+-- A line run on the kernel that is held.
+use Rattle.std.specs.Prelude.{◌≡◌, ℕ, ◌==◌, nat_lt, Bool, not, List, [], ◌++◌, length, drop, if◌then◌else◌, Option, Some, None, is_some, Result, Ok, Err}
+use Rattle.std.specs.List.{list_any}
+use Rattle.words_core.specs.declared.event.Event.{Event}
+use Rattle.words_core.specs.declared.event.LineFault.{LineFault}
+use Rattle.words_core.specs.declared.reply.Addressee.TheVariants.{Nobody}
+use Rattle.words_core.specs.declared.reply.Body.TheVariants.{Fault}
+use Rattle.words_core.specs.declared.reply.Reply.{Reply}
+use Rattle.words_core.specs.Grammar.{reading_of}
+use Rattle.words_core.specs.Texts.{text_of}
+use Rattle.world_core.specs.Output.{line_feed}
+use Rattle.kernel_core.specs.Parts.{Parts}
+use Rattle.kernel_core.specs.Steps.{Steps}
+use Rattle.replay_core.specs.Pushes.{most_reply_bytes}
+use Rattle.replay_core.specs.Standing.{IsOneLine}
+use Rattle.partmem_c.specs.declared.status.TheConstants.{DONE, NO_MACHINE, NOT_A_LINE, NO_ROOM}
+
+abbrev pub has_line_feed : List ℕ → Bool
+has_line_feed bytes = list_any (λ b. b == line_feed) bytes
+
+-- What such a call answers: the first of the errors that there is.
+abbrev pub line_status : Option Parts → List ℕ → List ℕ → ℕ
+line_status held line room =
+    if not (is_some held) then NO_MACHINE
+    else (if has_line_feed line then NOT_A_LINE else (if nat_lt (length room) most_reply_bytes then NO_ROOM else DONE))
+
+-- A line with this reading was run, and answered by this text: an event is a step of the kernel's, a faulty line is told to
+-- nobody, and a blank line or a comment is answered nothing.
+abbrev pub Answers : Parts → Result (Option Event) LineFault → Parts → List ℕ → Type 0
+Answers old (Ok (Some event)) new text = (reply : Reply) × Steps old event new reply × (text ≡ text_of reply)
+Answers old (Ok None) new text = (new ≡ old) × (text ≡ [])
+Answers old (Err fault) new text = (new ≡ old) × (text ≡ text_of (record { addressee = Nobody; body = Fault fault }))
+
+-- the text stands over the first bytes of the room, and is counted
+pub record IsWritten (text room room' : List ℕ) (written : ℕ) : Type 0 where
+  pub counted : written ≡ length text
+  pub over : room' ≡ text ++ drop (length text) room
+
+-- the line was run on the kernel that was held, and answered in full
+pub record RunsLine (old new : Option Parts) (line room room' : List ℕ) (written : ℕ) : Type 0 where
+  pub before : Parts
+  pub after : Parts
+  pub text : List ℕ
+  pub was : old ≡ Some before
+  pub is : new ≡ Some after
+  pub one : IsOneLine line
+  pub answers : Answers before (reading_of line) after text
+  pub puts : IsWritten text room room' written

@@ -1,0 +1,59 @@
+//! A machine in the hands of C.
+
+ghost use Rattle.std.specs.Prelude.{◌≡◌, is_some, IsSome, Some, None};
+
+use crate::slot::Slot;
+use kernel_core::Kernel;
+use raw_box::RawBox;
+use std::alloc::Global;
+use std::mem::replace;
+
+/// The place where C keeps a machine, of zeroes as long as there is none; a clause reads as `slot.held` which kernel it holds.
+#[repr(C)]
+pub struct Machine {
+    is_booted: bool,
+    pub slot: Slot,
+    ghost agrees: { is_booted ≡ is_some slot.held },
+}
+
+impl Machine {
+    /// A place without a machine.
+    fn vacant() -> Machine
+        ensures { result.slot.held ≡ None }
+    {
+        Machine {
+            is_booted: false,
+            slot: Slot::vacant(),
+        }
+    }
+
+    /// Whether it holds a machine.
+    pub fn is_booted(&self) -> bool
+        ensures { result ≡ is_some self.now.slot.held }
+    {
+        self.is_booted
+    }
+
+    /// Puts a kernel where there is none.
+    pub fn put_in(&mut self, kernel: Box<Kernel>)
+        requires { self.old.slot.held ≡ None }
+        ensures { self.new.slot.held ≡ Some kernel.value }
+    {
+        let booted = Machine {
+            is_booted: true,
+            slot: Slot::park(RawBox::of(kernel)),
+        };
+        let Machine { is_booted: _, slot } = replace(self, booted);
+        slot.discard();
+    }
+
+    /// Takes the kernel out.
+    pub fn take_out(&mut self, alloc: Global) -> Box<Kernel>
+        requires { IsSome self.old.slot.held }
+        ensures held { self.old.slot.held ≡ Some result.value }
+        ensures vacant { self.new.slot.held ≡ None }
+    {
+        let Machine { is_booted: _, slot } = replace(self, Machine::vacant());
+        slot.unpark(alloc).into_box()
+    }
+}

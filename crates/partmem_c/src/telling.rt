@@ -1,0 +1,128 @@
+//! A reply as numbers and bytes.
+
+ghost use Rattle.std.specs.Prelude.{◌≡◌, ◌≤◌, length};
+ghost use Rattle.partmem_c.specs.Events.{told_of, bytes_of, numbers, top_number};
+
+use crate::kinds::{
+    BYTES, DESTROYED, FIGURES, FRAME, FREED, GIVEN, GRANTED, MADE, MOVED, NOTHING, OBJECT, OWNERS,
+    REAPED, REFUSED, TAKEN_BACK, WAS_RESET, WRITTEN,
+};
+use model_core::limits::MOST_BYTES;
+use words_core::Body;
+
+/// What an event is answered, as numbers in the order that [`crate::kinds`] says of each kind; all others are 0.
+#[repr(C)]
+#[derive(Clone, Copy)]
+pub struct Told {
+    pub kind: u32,
+    pub first: u32,
+    pub second: u32,
+    pub third: u32,
+    pub fourth: u32,
+    pub fifth: u32,
+}
+
+/// A reply as numbers.
+pub fn told_of(body: &Body) -> Told
+    ensures { result ≡ told_of body.now }
+{
+    match body {
+        Body::Granted {
+            tenant,
+            slot,
+            superblock,
+        } => three(
+            GRANTED,
+            u32::from(*tenant),
+            u32::from(*slot),
+            u32::from(*superblock),
+        ),
+        Body::TakenBack(superblock) => one(TAKEN_BACK, u32::from(*superblock)),
+        Body::WasReset {
+            tenant,
+            superblocks,
+        } => three(WAS_RESET, u32::from(*tenant), u32::from(*superblocks), 0),
+        Body::Moved {
+            tenant,
+            slot,
+            superblock,
+        } => three(
+            MOVED,
+            u32::from(*tenant),
+            u32::from(*slot),
+            u32::from(*superblock),
+        ),
+        Body::Owners(owners) => one(OWNERS, owners.len() as u32),
+        Body::Frame(frame) => one(FRAME, *frame),
+        Body::Freed(order) => one(FREED, u32::from(*order)),
+        Body::Bytes(bytes) => one(BYTES, bytes.len() as u32),
+        Body::Written(count) => one(WRITTEN, *count),
+        Body::Cache {
+            cache,
+            chunk,
+            order,
+            objects,
+            colours,
+        } => Told {
+            kind: MADE,
+            first: u32::from(*cache),
+            second: *chunk,
+            third: u32::from(*order),
+            fourth: *objects,
+            fifth: *colours,
+        },
+        Body::Destroyed(frames) => one(DESTROYED, *frames),
+        Body::Object(place) => one(OBJECT, *place),
+        Body::Given => one(GIVEN, 0),
+        Body::Reaped(frames) => one(REAPED, *frames),
+        Body::Report(report) => Told {
+            kind: FIGURES,
+            first: report.frames,
+            second: report.live,
+            third: report.free,
+            fourth: top_number(report.top),
+            fifth: report.split,
+        },
+        Body::Refused(refusal) => one(REFUSED, u32::from(refusal.number())),
+        Body::Fault(_) => one(NOTHING, 0),
+    }
+}
+
+fn one(kind: u32, first: u32) -> Told
+    ensures { result ≡ numbers kind first 0 0 0 0 }
+{
+    three(kind, first, 0, 0)
+}
+
+fn three(kind: u32, first: u32, second: u32, third: u32) -> Told
+    ensures { result ≡ numbers kind first second third 0 0 }
+{
+    Told {
+        kind,
+        first,
+        second,
+        third,
+        fourth: 0,
+        fifth: 0,
+    }
+}
+
+fn top_number(top: Option<u8>) -> u32
+    ensures { result ≡ top_number top }
+{
+    match top {
+        None => 0,
+        Some(order) => u32::from(order) + 1,
+    }
+}
+
+/// The bytes that a reply tells.
+pub fn bytes_of(body: &Body) -> &[u8]
+    ensures value { result.now ≡ bytes_of body.now }
+    ensures few { length result.now ≤ MOST_BYTES }
+{
+    match body {
+        Body::Bytes(bytes) => bytes.as_slice(),
+        _ => &[],
+    }
+}
