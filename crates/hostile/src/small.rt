@@ -10,7 +10,11 @@ use std::test::Fail;
 pub fn run(alloc: Global, trace: &[u8]) -> Result<(Kernel, Vec<u8>), Fail> {
     let mut kernel = Kernel::boot(alloc, MACHINE)?;
     let mut replies = Vec::new(alloc);
-    let mut drain = WriterDrain::new(&mut replies);
-    replay(&mut kernel, &mut ReaderFeed::new(trace), &mut drain, None)?;
+    replay(
+        &mut kernel,
+        &mut ReaderFeed::new(trace),
+        &mut WriterDrain::new(&mut replies),
+        None,
+    )?;
     Ok((kernel, replies))
 }
