@@ -4,6 +4,7 @@ ghost use Rattle.std.specs.Prelude.{◌≡◌, ◌≢◌, ◌↔◌, ℕ, ◌+�
 ghost use Rattle.world_core.specs.Limits.{cache_limit};
 ghost use Rattle.world_core.specs.World.{World, opening_world, world_step};
 
+use crate::paging::copied;
 use buddy_core::Buddy;
 use model_core::limits::{LEAST_ORDER, MOST_ORDER, MOST_SUPERBLOCKS, MOST_TENANTS};
 use slab_core::Slabs;
@@ -215,10 +216,10 @@ impl Kernel {
                 Err(refusal) => Said::Refused(refusal),
             },
             Command::Read { place, len } => match self.read(t, *place, *len) {
-                Ok(bytes) => Said::Bytes(bytes),
+                Ok(bytes) => Said::Bytes(copied(bytes)),
                 Err(refusal) => Said::Refused(refusal),
             },
-            Command::Write { place, bytes } => match self.write(t, *place, bytes) {
+            Command::Write { place, bytes } => match self.write(t, *place, bytes.as_slice()) {
                 Ok(len) => Said::Written(len),
                 Err(refusal) => Said::Refused(refusal),
             },

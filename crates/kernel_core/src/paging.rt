@@ -1,8 +1,8 @@
 //! A tenant's commands on page blocks and bytes.
 
-ghost use Rattle.std.specs.Prelude.{◌≡◌, ◌↔◌, true, ◌+◌, ◌*◌, ◌^◌, ◌<◌, ◌≤◌, length, IsSome};
+ghost use Rattle.std.specs.Prelude.{◌≡◌, ◌↔◌, true, ◌+◌, ◌*◌, ◌^◌, ◌<◌, ◌≤◌, length, IfOk, IsSome};
 ghost use Rattle.slab_laws.specs.Shows.{Agree};
-ghost use Rattle.part_laws.specs.Pages.{IsInPage, IsInReach};
+ghost use Rattle.part_laws.specs.Pages.{IsInReach};
 ghost use Rattle.space_core.specs.Windows.{home_of, with_window};
 ghost use Rattle.words_core.specs.declared.reply.Body.TheVariants.{Frame, Freed, Bytes, Written};
 ghost use Rattle.words_core.specs.declared.event.Command.TheVariants as Command;
@@ -47,15 +47,12 @@ impl Kernel {
         self.buddy.release(t, frame).ok_or(Refusal::NotABlock)
     }
 
-    /// Reads `len` bytes from `place` on.
-    pub(crate) fn read(
-        &self,
-        t: u8,
-        place: u32,
-        len: u32,
-    ) -> Result<ArrayVec<u8, MOST_BYTES>, Refusal>
+    /// Lends the `len` bytes from `place` on, where they lie; `BadLength` but for 1 to 64 of them.
+    #[inline(always)]
+    pub(crate) fn read(&self, t: u8, place: u32, len: u32) -> Result<&[u8], Refusal>
         requires { t < self.now.tenants }
-        ensures { StepsMachine self.now t (Command.Read place len) self.now (body_of Bytes result) }
+        ensures steps { StepsMachine self.now t (Command.Read place len) self.now (body_of (λ bytes. Bytes (record { items = bytes.now })) result) }
+        ensures few { IfOk result (λ bytes. length bytes.now ≤ MOST_BYTES) }
     {
         self.space.laws();
         self.slabs.steady(&self.space, &self.buddy, t);
@@ -68,18 +65,16 @@ impl Kernel {
         let Some(bytes) = self.space.window(t, place, len) else {
             unreachable!()
         };
-        Ok(copied(bytes))
+        Ok(bytes)
     }
 
-    /// Stores bytes from `place` on.
-    pub(crate) fn write(
-        &mut self,
-        t: u8,
-        place: u32,
-        bytes: &ArrayVec<u8, MOST_BYTES>,
-    ) -> Result<u32, Refusal>
-        requires { t < self.old.tenants }
-        ensures { StepsMachine self.old t (Command.Write place bytes.now) self.new (body_of Written result) }
+    /// Stores bytes from `place` on, and answers how many.
+    #[inline(always)]
+    pub(crate) fn write(&mut self, t: u8, place: u32, bytes: &[u8]) -> Result<u32, Refusal>
+        requires tenant { t < self.old.tenants }
+        requires few { length bytes.now ≤ MOST_BYTES }
+        ensures steps { StepsMachine self.old t (Command.Write place (record { items = bytes.now })) self.new (body_of Written result) }
+        ensures count { IfOk result (λ count. count ≡ length bytes.now) }
     {
         self.space.laws();
         self.slabs.facts();
@@ -88,7 +83,7 @@ impl Kernel {
         if !is_in_reach(&self.space, &self.buddy, &self.slabs, t, place, len) {
             return Err(Refusal::OutOfReach);
         }
-        store(&mut self.space, t, place, bytes.as_slice());
+        store(&mut self.space, t, place, bytes);
         self.space.laws();
         Ok(len)
     }
@@ -100,27 +95,17 @@ fn is_in_reach(space: &Space, buddy: &Buddy, slabs: &Slabs, t: u8, place: u32, l
     requires agree { Agree space.now buddy.now slabs.now }
     ensures { (result ≡ true) ↔ IsInReach space.now buddy.now slabs.now t place len }
 {
-    if len == 0 {
-        return false;
-    }
-    is_in_page(space, buddy, slabs, t, place, len) || slabs.object_at(space, buddy, t, place, len)
-}
-
-/// Whether a range lies inside one live page block of tenant `t`.
-fn is_in_page(space: &Space, buddy: &Buddy, slabs: &Slabs, t: u8, place: u32, len: u32) -> bool
-    requires tenant { t < length space.now.slots }
-    requires agree { Agree space.now buddy.now slabs.now }
-    requires some { 0 < len }
-    ensures { (result ≡ true) ↔ IsInPage space.now buddy.now slabs.now t place len }
-{
     slabs.steady(space, buddy, t);
     buddy.laws();
     block_tells();
+    if len == 0 {
+        return false;
+    }
     let Some((first, order)) = buddy.block_of(t, place / FRAME_BYTES) else {
         return false;
     };
     if slabs.is_slab(space, t, first) {
-        return false;
+        return slabs.object_at(space, buddy, t, place, len);
     }
     let end = u64::from(place) + u64::from(len);
     end <= u64::from(FRAME_BYTES) * (u64::from(first) + (1 << order))
@@ -137,8 +122,8 @@ fn store(space: &mut Space, t: u8, place: u32, bytes: &[u8])
     space.window_mut(t, place, len).copy_from_slice(bytes);
 }
 
-/// These bytes.
-fn copied(bytes: &[u8]) -> ArrayVec<u8, MOST_BYTES>
+/// These bytes, as a value of their own.
+pub(crate) fn copied(bytes: &[u8]) -> ArrayVec<u8, MOST_BYTES>
     requires { length bytes.now ≤ MOST_BYTES }
     ensures { result.items ≡ bytes.now }
 {

@@ -1,15 +1,18 @@
 //! The commands of the short path. They are the same calls as on the whole path, with small values in and out.
 
-ghost use Rattle.std.specs.Prelude.{◌≡◌, ◌<◌, MatchOption};
+ghost use Rattle.std.specs.Prelude.{◌≡◌, ◌<◌, ◌≤◌, length, IfOk, IfSome, MatchOption};
 ghost use Rattle.words_core.specs.declared.event.Event.TheVariants as Event;
+ghost use Rattle.words_core.specs.declared.event.Command.TheVariants as Command;
 ghost use Rattle.words_core.specs.declared.reply.Addressee.TheVariants as Addressee;
-ghost use Rattle.words_core.specs.declared.reply.Body.TheVariants.{Refused};
+ghost use Rattle.words_core.specs.declared.reply.Body.TheVariants.{Bytes, Written, Refused};
 ghost use Rattle.words_core.specs.declared.reply.Refusal.TheVariants.{NoTenant};
 ghost use Rattle.quick_core.specs.Quick.{command_of, body_of_told, reply_of_told};
-ghost use Rattle.kernel_core.specs.Steps.{Steps, StepsMachine};
+ghost use Rattle.kernel_core.specs.Steps.{Steps, StepsMachine, body_of};
 
 use crate::Kernel;
+use model_core::limits::MOST_BYTES;
 use quick_core::{Quick, Told};
+use words_core::Refusal;
 
 impl Kernel {
     /// Runs a command of the short path: [`Kernel::step`] of that event, with an answer of a few bytes to the tenant.
@@ -28,6 +31,61 @@ impl Kernel {
         }
         let t = tenant as u8;
         Some((t, self.run_quick(t, command)))
+    }
+
+    /// Lends the `asked` bytes of a tenant from its byte number `place` on, where they lie: [`Kernel::step`] of the event that reads
+    /// them.
+    ///
+    /// `BadLength` but for 1 to 64 bytes; `OutOfReach` where they do not lie inside one live page block or one live object of the
+    /// tenant. None where there is no tenant of that number: nobody is told so.
+    #[inline(always)]
+    pub fn read_quick(
+        &self,
+        tenant: u32,
+        place: u32,
+        asked: u32,
+    ) -> Option<(u8, Result<&[u8], Refusal>)>
+        ensures steps { MatchOption result
+            (Steps self.now (Event.Tenant tenant (Command.Read place asked)) self.now
+            (record { addressee = Addressee.Nobody; body = Refused NoTenant }))
+            (λ answer. (answer.0 ≡ tenant)
+            × Steps self.now (Event.Tenant tenant (Command.Read place asked)) self.now
+            (record { addressee = Addressee.Tenant answer.0; body = body_of (λ bytes. Bytes (record { items = bytes.now })) answer.1 })) }
+        ensures few { IfSome result (λ answer. IfOk answer.1 (λ bytes. length bytes.now ≤ MOST_BYTES)) }
+    {
+        if tenant >= u32::from(self.buddy.tenants()) {
+            return None;
+        }
+        let t = tenant as u8;
+        Some((t, self.read(t, place, asked)))
+    }
+
+    /// Stores at most 64 bytes from a tenant's byte number `place` on, and answers how many: [`Kernel::step`] of the event that
+    /// writes them.
+    ///
+    /// `OutOfReach`, and nothing is stored, where they do not lie inside one live page block or one live object of the tenant, or
+    /// where there is none. None where there is no tenant of that number: nobody is told so, and nothing is done.
+    #[inline(always)]
+    pub fn write_quick(
+        &mut self,
+        tenant: u32,
+        place: u32,
+        bytes: &[u8],
+    ) -> Option<(u8, Result<u32, Refusal>)>
+        requires { length bytes.now ≤ MOST_BYTES }
+        ensures steps { MatchOption result
+            (Steps self.old (Event.Tenant tenant (Command.Write place (record { items = bytes.now }))) self.new
+            (record { addressee = Addressee.Nobody; body = Refused NoTenant }))
+            (λ answer. (answer.0 ≡ tenant)
+            × Steps self.old (Event.Tenant tenant (Command.Write place (record { items = bytes.now }))) self.new
+            (record { addressee = Addressee.Tenant answer.0; body = body_of Written answer.1 })) }
+        ensures count { IfSome result (λ answer. IfOk answer.1 (λ count. count ≡ length bytes.now)) }
+    {
+        if tenant >= u32::from(self.buddy.tenants()) {
+            return None;
+        }
+        let t = tenant as u8;
+        Some((t, self.write(t, place, bytes)))
     }
 
     /// Runs a command of a tenant that there is.

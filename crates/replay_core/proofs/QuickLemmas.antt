@@ -1,6 +1,6 @@
 -- A line at the front of a piece.
-use Rattle.std.proofs.Common.{◌≡◌, ℕ, cond, zero, suc, ◌+◌, ◌-◌, ◌<◌, ◌≤◌, Bool, true, false, List, [], ◌∷◌, ◌++◌, Option, Some, None, length, take, drop, position, refl, ap, sym, ◌∙◌, arith, take-take}
-use Rattle.std.specs.Prelude.{◌==◌, IfSome, Result, Ok}
+use Rattle.std.proofs.Common.{◌≡◌, ℕ, cond, zero, suc, ◌+◌, ◌-◌, ◌<◌, ◌≤◌, Bool, true, false, List, [], ◌∷◌, ◌++◌, Option, Some, None, length, take, drop, position, ap, sym, subst, ◌∙◌, arith, take-take}
+use Rattle.std.specs.Prelude.{◌==◌, IfSome, Result, Ok, Err}
 use Rattle.std.specs.List.{position_from}
 use Rattle.std.proofs.lemmas.Iterator.Adapters.{position_from-zero}
 use Rattle.std.proofs.lemmas.List.{nil_from_length, length-take}
@@ -9,11 +9,17 @@ use Rattle.words_core.specs.declared.event.Event.TheVariants.{Tenant}
 use Rattle.words_core.specs.declared.event.LineFault.{LineFault}
 use Rattle.words_core.specs.Grammar.{reading_of}
 use Rattle.world_core.specs.Output.{line_feed}
-use Rattle.quick_core.specs.declared.line.QuickLine.{QuickLine}
+use Rattle.words_core.specs.declared.event.Command.{Command}
+use Rattle.kernel_core.specs.Parts.{Parts}
 use Rattle.quick_core.specs.declared.window.TheConstants.{WINDOW}
-use Rattle.quick_core.specs.Quick.{command_of}
+use Rattle.quick_core.specs.Lines.{IsRead}
+use Rattle.replay_core.specs.declared.feed.Stopped.{Stopped}
 use Rattle.replay_core.specs.declared.pending.Pending.{Pending}
-use Rattle.replay_core.specs.Pending.{Holds}
+use Rattle.replay_core.specs.declared.replaying.Tally.{Tally}
+use Rattle.replay_core.specs.Pending.{Holds, HoldsNothing}
+use Rattle.replay_core.specs.Standing.{HasAnswered, Stands, HasStopped}
+use Rattle.replay_core.proofs.LineLemmas.{found_cut}
+use Rattle.replay_core.proofs.RunLemmas.{stands_more_lines, stopped_within}
 
 found_first : (p : ℕ → Bool) (n k : ℕ) (bytes : List ℕ) (i : ℕ) → position_from p k (take n bytes) ≡ Some i → position_from p k bytes ≡ Some i
 found_first p zero k bytes i found = cc
@@ -37,24 +43,62 @@ none_was_held pending none line holds = nil_from_length line (omega (arith, ap l
 abbrev pub is_line_feed : ℕ → Bool
 is_line_feed b = b == line_feed
 
--- a line of the window ends where one of the bytes behind it does
-pub quick_at : (o : Option QuickLine) (window bytes : List ℕ) → window ≡ take WINDOW bytes
-    → IfSome o (λ line. position is_line_feed window ≡ Some (line.len - 1)) → IfSome o (λ line. position is_line_feed bytes ≡ Some (line.len - 1))
-quick_at None window bytes front at = tt
-quick_at (Some line) window bytes front at = position_in_front is_line_feed WINDOW bytes (line.len - 1) (ap (position is_line_feed) (sym front) ∙ at)
+-- What is read of some bytes, clause by clause
+pub lines_read : {A : Type 0} (o : Option A) (tenant : A → ℕ) (command : A → Command) (len : A → ℕ) (bytes : List ℕ)
+    → IfSome o (λ line. position is_line_feed bytes ≡ Some (len line - 1)) → IfSome o (λ line. 0 < len line)
+    → IfSome o (λ line. reading_of (take (len line - 1) bytes) ≡ Ok (Some (Tenant (tenant line) (command line))))
+    → IfSome o (λ line. len line ≤ length bytes)
+    → IfSome o (λ line. IsRead bytes (tenant line) (command line) (len line))
+lines_read None tenant command len bytes at some reading within = tt
+lines_read (Some line) tenant command len bytes at some reading within = record { some = some; within = within; ended = at; reading = reading }
 
--- and reads as it does
-pub quick_reading : (o : Option QuickLine) (window bytes : List ℕ) → window ≡ take WINDOW bytes → IfSome o (λ line. line.len ≤ WINDOW)
-    → IfSome o (λ line. reading_of (take (line.len - 1) window) ≡ Ok (Some (Tenant line.tenant (command_of line.command))))
-    → IfSome o (λ line. reading_of (take (line.len - 1) bytes) ≡ Ok (Some (Tenant line.tenant (command_of line.command))))
-quick_reading None window bytes front within reading = tt
-quick_reading (Some line) window bytes front within reading =
-    ap reading_of (sym (ap (take (line.len - 1)) front ∙ take-take (line.len - 1) WINDOW bytes (omega (arith, within)))) ∙ reading
+-- .. and of a window: a line of the window is one of the bytes behind it
+pub lines_in_front : {A : Type 0} (o : Option A) (tenant : A → ℕ) (command : A → Command) (len : A → ℕ) (window bytes : List ℕ)
+    → window ≡ take WINDOW bytes → WINDOW ≤ length bytes
+    → IfSome o (λ line. position is_line_feed window ≡ Some (len line - 1)) → IfSome o (λ line. 0 < len line)
+    → IfSome o (λ line. reading_of (take (len line - 1) window) ≡ Ok (Some (Tenant (tenant line) (command line))))
+    → IfSome o (λ line. len line ≤ WINDOW)
+    → IfSome o (λ line. IsRead bytes (tenant line) (command line) (len line))
+lines_in_front None tenant command len window bytes front room at some reading within = tt
+lines_in_front (Some line) tenant command len window bytes front room at some reading within = record {
+  some = some;
+  within = omega (arith, within, room);
+  ended = position_in_front is_line_feed WINDOW bytes (len line - 1) (ap (position is_line_feed) (sym front) ∙ at);
+  reading = ap reading_of (sym (ap (take (len line - 1)) front ∙ take-take (len line - 1) WINDOW bytes (omega (arith, within)))) ∙ reading;
+}
 
 -- a line in whose front nothing was held
-pub whole_line : (tail part : List ℕ) (reading : Result (Option Event) LineFault) → tail ≡ [] → reading_of part ≡ reading → reading ≡ reading_of (tail ++ part)
+whole_line : (tail part : List ℕ) (reading : Result (Option Event) LineFault) → tail ≡ [] → reading_of part ≡ reading → reading ≡ reading_of (tail ++ part)
 whole_line tail part reading none is = sym is ∙ ap (λ xs. reading_of (xs ++ part)) (sym none)
 
 -- what stands behind a line with its line feed
-pub one_more : (bytes : List ℕ) (len : ℕ) → 0 < len → drop (len - 1 + 1) bytes ≡ drop len bytes
+one_more : (bytes : List ℕ) (len : ℕ) → 0 < len → drop (len - 1 + 1) bytes ≡ drop len bytes
 one_more bytes len some = ap (λ n. drop n bytes) (omega arith)
+
+-- a line at the front of the rest has been run and answered
+pub line_done : (only : Option ℕ) (before now next : Parts) (given rest : List ℕ) (start old new : Option (List ℕ)) (pending : Pending) (tally tally' : Tally)
+    (tenant : ℕ) (command : Command) (len : ℕ) → IsRead rest tenant command len → HoldsNothing pending
+    → Stands only before now given rest start old pending tally
+    → HasAnswered only (Ok (Some (Tenant tenant command))) now next old new tally tally' (Ok tt)
+    → Stands only before next given (drop len rest) start new pending tally'
+line_done only before now next given rest start old new pending tally tally' tenant command len read holds stands answered =
+    let end : ℕ = len - 1 in
+    let found = found_cut rest end read.ended in
+    let none = holds stands.tail stands.holds in
+    subst (λ (xs : List ℕ). Stands only before next given xs start new pending tally') (one_more rest len read.some)
+    (stands_more_lines only before now next given rest (take end rest) (drop (end + 1) rest) start old new pending pending tally tally' stands
+    (Ok (Some (Tenant tenant command))) found.0 found.1 (subst (λ (tail : List ℕ). Holds tail pending) none stands.holds)
+    (whole_line stands.tail (take end rest) _ none read.reading) answered)
+
+-- the drain failed within its answer
+pub line_stopped : (only : Option ℕ) (before now next : Parts) (given rest : List ℕ) (start old new : Option (List ℕ)) (pending : Pending) (tally tally' : Tally)
+    (stopped : Stopped) (tenant : ℕ) (command : Command) (len : ℕ) → IsRead rest tenant command len → HoldsNothing pending
+    → Stands only before now given rest start old pending tally
+    → HasAnswered only (Ok (Some (Tenant tenant command))) now next old new tally tally' (Err stopped)
+    → HasStopped only before next given start new tally'
+line_stopped only before now next given rest start old new pending tally tally' stopped tenant command len read holds stands answered =
+    let end : ℕ = len - 1 in
+    let found = found_cut rest end read.ended in
+    let none = holds stands.tail stands.holds in
+    stopped_within only before now next given rest (take end rest) (drop (end + 1) rest) start old new pending tally tally' stopped stands
+    (Ok (Some (Tenant tenant command))) found.0 found.1 (whole_line stands.tail (take end rest) _ none read.reading) answered

@@ -7,6 +7,7 @@ mod feed;
 mod pending;
 mod pushing;
 mod quick;
+mod quick_bytes;
 mod reader_feed;
 mod replaying;
 mod writer_drain;

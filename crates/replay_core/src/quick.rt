@@ -1,14 +1,14 @@
 //! The short path of a replay: the lines that make up a load, run one after the other.
 
-ghost use Rattle.std.specs.Prelude.{◌≡◌, ℕ, ◌+◌, ◌-◌, ◌^◌, ◌<◌, ◌≤◌, ◌==◌, false, List, [], Option, Some, Ok, length, position, take, is_err, IfSome, IfOk, MatchResult};
-ghost use Rattle.words_core.specs.Grammar.{reading_of};
+ghost use Rattle.std.specs.Prelude.{◌≡◌, ℕ, ◌+◌, ◌^◌, ◌<◌, ◌≤◌, false, List, Option, Some, Ok, length, is_err, IfSome, IfOk, MatchResult};
 ghost use Rattle.words_core.specs.declared.event.Event.TheVariants as Event;
 ghost use Rattle.words_core.specs.declared.reply.Addressee.TheVariants as Addressee;
 ghost use Rattle.words_core.specs.declared.reply.Body.TheVariants.{Refused};
 ghost use Rattle.words_core.specs.declared.reply.Refusal.TheVariants.{NoTenant};
+ghost use Rattle.quick_core.specs.Lines.{IsRead};
 ghost use Rattle.quick_core.specs.Quick.{command_of, reply_of_told};
 ghost use Rattle.kernel_core.specs.Parts.{Parts};
-ghost use Rattle.world_core.specs.Output.{line_feed, shown_text};
+ghost use Rattle.world_core.specs.Output.{shown_text};
 ghost use Rattle.replay_core.specs.Pending.{HoldsNothing};
 ghost use Rattle.replay_core.specs.Pushes.{HasPushed, most_reply_bytes};
 ghost use Rattle.replay_core.specs.Standing.{IsBounded, HasAnswered, Stands, HasStopped};
@@ -17,9 +17,11 @@ use crate::drain::Drain;
 use crate::feed::Stopped;
 use crate::pending::Pending;
 use crate::pushing::{is_shown, push_all, show};
+use crate::quick_bytes::{answer_read, answer_write, line_of_read, line_of_write};
 use crate::replaying::Tally;
 use arrayvec::ArrayVec;
 use kernel_core::Kernel;
+use model_core::limits::MOST_BYTES;
 use quick_core::{QuickLine, Told, WINDOW, read_quick, write_quick};
 use words_core::{Addressee, Body, MOST_REPLY_BYTES, Refusal, Reply};
 
@@ -47,21 +49,30 @@ pub fn run_quick_lines<'a, D: Drain>(
     ensures lines { IfOk result (λ rest. (tally.new.lines + length rest.now < 2 ^ 64) × (length rest.now ≤ length piece.now)) }
     ensures failed { D.has_failed drain.new ≡ is_err result }
 {
+    // What a write stores: one room for all lines, filled anew by each.
+    let mut room = [0; MOST_BYTES];
     let mut rest = piece;
-    'lines: while let Some(line) = quick_line(rest) {
-        answer_quick(line, kernel, drain, only, tally, text)?;
-        rest = &rest[line.len..];
+    'lines: loop {
+        if let Some(line) = quick_line(rest) {
+            answer_quick(line, kernel, drain, only, tally, text)?;
+            rest = &rest[line.len..];
+        } else if let Some(line) = line_of_read(rest) {
+            answer_read(line, kernel, drain, only, tally, text)?;
+            rest = &rest[line.len..];
+        } else if let Some(line) = line_of_write(rest, &mut room) {
+            let bytes = &room[..line.count];
+            answer_write(line, bytes, kernel, drain, only, tally, text)?;
+            rest = &rest[line.len..];
+        } else {
+            return Ok(rest);
+        }
     }
-    Ok(rest)
 }
 
 /// The line at the front of these bytes, where it is of the short path and lies in the first of them.
 #[inline(always)]
 fn quick_line(bytes: &[u8]) -> Option<QuickLine>
-    ensures at { IfSome result (λ line. position (λ b. b == line_feed) bytes.now ≡ Some (line.len - 1)) }
-    ensures some { IfSome result (λ line. 0 < line.len) }
-    ensures within { IfSome result (λ line. line.len ≤ length bytes.now) }
-    ensures reading { IfSome result (λ line. reading_of (take (line.len - 1) bytes.now) ≡ Ok (Some (Event.Tenant line.tenant (command_of line.command)))) }
+    ensures { IfSome result (λ line. IsRead bytes.now line.tenant (command_of line.command) line.len) }
 {
     let window = bytes.first_chunk::<WINDOW>()?;
     read_quick(window)
@@ -95,7 +106,7 @@ fn answer_quick<D: Drain>(
 
 /// Pushes what a tenant is told, if it is to be shown.
 #[inline(always)]
-fn show_quick<D: Drain>(
+pub fn show_quick<D: Drain>(
     tenant: u8,
     told: Told,
     drain: &mut D,
@@ -119,7 +130,7 @@ fn show_quick<D: Drain>(
 /// Pushes the answer to a command of a number that is no tenant, which is to nobody.
 #[cold]
 #[inline(never)]
-fn show_no_tenant<D: Drain>(
+pub fn show_no_tenant<D: Drain>(
     drain: &mut D,
     only: Option<u8>,
     written: &mut u128,

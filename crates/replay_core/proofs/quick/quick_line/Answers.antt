@@ -1,9 +1,9 @@
-use Rattle.replay_core.proofs.QuickLemmas.{quick_at, quick_reading}
+use Rattle.quick_core.specs.Quick.{command_of}
+use Rattle.replay_core.proofs.QuickLemmas.{lines_in_front}
 use Rattle.replay_core.proofs.quick.quick_line.Goals as goal
 
-pub returns-clause-at : goal.returns-clause-at
-returns-clause-at c = quick_at c.read_quick.result _ c.args.bytes.now c.in_ok-window.ensures.cases.same c.read_quick.ensures.line
-
-pub returns-clause-reading : goal.returns-clause-reading
-returns-clause-reading c =
-    quick_reading c.read_quick.result _ c.args.bytes.now c.in_ok-window.ensures.cases.same c.read_quick.ensures.within c.read_quick.ensures.reading
+pub returns : goal.returns
+returns c =
+    let read = c.read_quick.ensures in
+    lines_in_front c.read_quick.result (λ line. line.tenant) (λ line. command_of line.command) (λ line. line.len) _ c.args.bytes.now
+    c.in_ok-window.ensures.cases.same c.in_ok-window.ensures.cases.enough read.line read.some read.reading read.within

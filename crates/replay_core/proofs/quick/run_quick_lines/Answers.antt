@@ -1,39 +1,71 @@
-use Rattle.std.proofs.Common.{◌≡◌, ◌+◌, ◌-◌, take, drop, length, List, ℕ, subst, sym, ap, arith, length-drop}
+use Rattle.std.proofs.Common.{◌≡◌, ℕ, ◌+◌, ◌≤◌, List, length, drop, arith, length-drop}
 use Rattle.std.proofs.lemmas.List.{take_rest}
-use Rattle.replay_core.specs.Pending.{Holds}
-use Rattle.replay_core.proofs.LineLemmas.{found_cut}
-use Rattle.replay_core.proofs.QuickLemmas.{whole_line, one_more}
-use Rattle.replay_core.proofs.RunLemmas.{stands_more_lines, stopped_within, at_error}
+use Rattle.replay_core.proofs.QuickLemmas.{line_done, line_stopped}
+use Rattle.replay_core.proofs.RunLemmas.{at_error}
 use Rattle.replay_core.proofs.quick.run_quick_lines.Goals as goal
+
+left_over : (rest : List ℕ) (len : ℕ) → len ≤ length rest → length (drop len rest) + len ≡ length rest
+left_over rest len within = omega (arith, length-drop len rest)
 
 pub returns-in_err-answer_quick-clause-ran : goal.returns-in_err-answer_quick-clause-ran
 returns-in_err-answer_quick-clause-ran g c before given start stands =
-    let rest = c.lines.rest.now in
-    let end = c.in-Some.line.len - 1 in
-    let here = c.lines.invariant.0 before given start stands in
-    let found = found_cut rest end c.in-Some.ensures.at in
-    let none = c.requires.none_held here.tail here.holds in
     at_error _ _ c.from_residual.result c.from_residual.ensures.0
-    (λ _. stopped_within c.args.only before _ _ given rest (take end rest) (drop (end + 1) rest) start _ _ _ _ _ c.in_err-answer_quick.field-0.0 here _
-    found.0 found.1 (whole_line here.tail (take end rest) _ none c.in-Some.ensures.reading) c.in_err-answer_quick.ensures.answered)
+    (λ _. line_stopped c.args.only before _ _ given c.lines.rest.now start _ _ _ _ _ c.in_err-answer_quick.field-0.0 _ _ c.in-Some.line.len c.in-Some.ensures c.requires.none_held
+    (c.lines.invariant.0 before given start stands) c.in_err-answer_quick.ensures.answered)
+
+pub lines-preserved-in-Some : goal.lines-preserved-in-Some
+lines-preserved-in-Some g c =
+    let rest = c.lines.rest.now in
+    let read = c.in-Some.ensures in
+    let answered = c.in_ok-answer_quick.ensures.answered in
+    let left = left_over rest c.in-Some.line.len read.within in
+    rw (take_rest rest c.in-Some.line.len) (
+      λ before given start stands.
+          line_done c.args.only before _ _ given rest start _ _ _ _ _ _ _ c.in-Some.line.len read c.requires.none_held (c.lines.invariant.0 before given start stands) answered,
+      c.in_ok-answer_quick.ensures.bounded,
+      omega (arith, c.lines.invariant.2, left, read.some, answered.lines),
+      omega (arith, c.lines.invariant.3, left),
+      c.in_ok-answer_quick.ensures.failed,
+    )
+
+pub returns-in_err-answer_read-clause-ran : goal.returns-in_err-answer_read-clause-ran
+returns-in_err-answer_read-clause-ran g c before given start stands =
+    at_error _ _ c.from_residual-in_err-answer_read.result c.from_residual-in_err-answer_read.ensures.0
+    (λ _. line_stopped c.args.only before _ _ given c.lines.rest.now start _ _ _ _ _ c.in_err-answer_read.field-0.0 _ _ c.in-Some-line_of_read.line.len c.in-Some-line_of_read.ensures c.requires.none_held
+    (c.lines.invariant.0 before given start stands) c.in_err-answer_read.ensures.answered)
+
+pub lines-preserved-in-Some-line_of_read : goal.lines-preserved-in-Some-line_of_read
+lines-preserved-in-Some-line_of_read g c =
+    let rest = c.lines.rest.now in
+    let read = c.in-Some-line_of_read.ensures in
+    let answered = c.in_ok-answer_read.ensures.answered in
+    let left = left_over rest c.in-Some-line_of_read.line.len read.within in
+    rw (take_rest rest c.in-Some-line_of_read.line.len) (
+      λ before given start stands.
+          line_done c.args.only before _ _ given rest start _ _ _ _ _ _ _ c.in-Some-line_of_read.line.len read c.requires.none_held (c.lines.invariant.0 before given start stands) answered,
+      c.in_ok-answer_read.ensures.bounded,
+      omega (arith, c.lines.invariant.2, left, read.some, answered.lines),
+      omega (arith, c.lines.invariant.3, left),
+      c.in_ok-answer_read.ensures.failed,
+    )
+
+pub returns-in_err-answer_write-clause-ran : goal.returns-in_err-answer_write-clause-ran
+returns-in_err-answer_write-clause-ran g c before given start stands =
+    at_error _ _ c.from_residual-in_err-answer_write.result c.from_residual-in_err-answer_write.ensures.0
+    (λ _. line_stopped c.args.only before _ _ given c.lines.rest.now start _ _ _ _ _ c.in_err-answer_write.field-0.0 _ _ c.in-Some-line_of_write.line.len c.in-Some-line_of_write.ensures.read c.requires.none_held
+    (c.lines.invariant.0 before given start stands) c.in_err-answer_write.ensures.answered)
 
 pub lines-preserved : goal.lines-preserved
 lines-preserved g c =
     let rest = c.lines.rest.now in
-    let end = c.in-Some.line.len - 1 in
-    let found = found_cut rest end c.in-Some.ensures.at in
-    let answered = c.in_ok-answer_quick.ensures.answered in
-    let behind = one_more rest c.in-Some.line.len c.in-Some.ensures.some in
-    let short : length (drop (end + 1) rest) + c.in-Some.line.len ≡ length rest =
-    omega (arith, c.in-Some.ensures.within, c.in-Some.ensures.some, length-drop (end + 1) rest) in
-    rw (take_rest rest c.in-Some.line.len, ← behind) (
+    let read = c.in-Some-line_of_write.ensures.read in
+    let answered = c.in_ok-answer_write.ensures.answered in
+    let left = left_over rest c.in-Some-line_of_write.line.len read.within in
+    rw (take_rest rest c.in-Some-line_of_write.line.len) (
       λ before given start stands.
-          let here = c.lines.invariant.0 before given start stands in
-          let none = c.requires.none_held here.tail here.holds in
-          stands_more_lines c.args.only before _ _ given rest (take end rest) (drop (end + 1) rest) start _ _ _ _ _ _ here _
-          found.0 found.1 (subst (λ (tail : List ℕ). Holds tail c.args.pending.now) none here.holds) (whole_line here.tail (take end rest) _ none c.in-Some.ensures.reading) answered,
-      c.in_ok-answer_quick.ensures.bounded,
-      omega (arith, c.lines.invariant.2, short, c.in-Some.ensures.some, answered.lines),
-      omega (arith, c.lines.invariant.3, short),
-      c.in_ok-answer_quick.ensures.failed,
+          line_done c.args.only before _ _ given rest start _ _ _ _ _ _ _ c.in-Some-line_of_write.line.len read c.requires.none_held (c.lines.invariant.0 before given start stands) answered,
+      c.in_ok-answer_write.ensures.bounded,
+      omega (arith, c.lines.invariant.2, left, read.some, answered.lines),
+      omega (arith, c.lines.invariant.3, left),
+      c.in_ok-answer_write.ensures.failed,
     )

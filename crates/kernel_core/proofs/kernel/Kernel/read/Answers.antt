@@ -1,15 +1,14 @@
-use Rattle.std.proofs.Common.{sym, subst, arith}
-use Rattle.space_core.specs.Laws.{IsRead}
+use Rattle.std.proofs.Common.{sym, arith}
 use Rattle.part_laws.proofs.PageHolds.{reach_held}
 use Rattle.kernel_core.proofs.Worlds.{false_is}
 use Rattle.kernel_core.proofs.PageBytes.{read_bad, read_beyond, read_done, window_some}
 use Rattle.kernel_core.proofs.kernel.Kernel.read.Goals as goal
 
-pub returns-then-len-lt1 : goal.returns-then-len-lt1
-returns-then-len-lt1 c = rw (← c.self.view_is) (read_bad _ c.args.t c.args.place c.args.len c.self.invariant (λ low high. omega arith))
+pub returns-then-len-lt1-clause-steps : goal.returns-then-len-lt1-clause-steps
+returns-then-len-lt1-clause-steps c = rw (← c.self.view_is) (read_bad _ c.args.t c.args.place c.args.len c.self.invariant (λ low high. omega arith))
 
-pub returns-then-not-is_in_reach : goal.returns-then-not-is_in_reach
-returns-then-not-is_in_reach c =
+pub returns-then-not-is_in_reach-clause-steps : goal.returns-then-not-is_in_reach-clause-steps
+returns-then-not-is_in_reach-clause-steps c =
     rw (← c.self.view_is) (read_beyond _ c.args.t c.args.place c.args.len c.self.invariant c.steady.ensures (omega arith) (omega arith)
     (λ reach. false_is c.is_in_reach.result c.if-not-is_in_reach.true (c.is_in_reach.ensures.1 reach)))
 
@@ -21,10 +20,8 @@ unreachable-requires c =
     (c.is_in_reach.ensures.0 c.if-not-is_in_reach.false))
     (sym (c.in_default.ensures.value))
 
-pub returns : goal.returns
-returns c =
+pub returns-clause-steps : goal.returns-clause-steps
+returns-clause-steps c =
     let window = c.laws.ensures.own_bytes.read c.args.t c.args.place c.args.len c.in-Some.bytes.now (sym c.in-Some.ensures.value) in
-    let is : IsRead c.self.inside.space c.args.t c.args.place c.args.len c.copied.result.items =
-    subst (λ xs. IsRead c.self.inside.space c.args.t c.args.place c.args.len xs) (sym c.copied.ensures) window in
-    rw (← c.self.view_is) (read_done _ c.args.t c.args.place c.args.len c.copied.result.items c.self.invariant c.steady.ensures (omega arith) (omega arith)
-    (c.is_in_reach.ensures.0 c.if-not-is_in_reach.false) is)
+    rw (← c.self.view_is) (read_done _ c.args.t c.args.place c.args.len c.in-Some.bytes.now c.self.invariant c.steady.ensures (omega arith) (omega arith)
+    (c.is_in_reach.ensures.0 c.if-not-is_in_reach.false) window)
