@@ -1,3 +1,2 @@
 pub mod Outcome
-pub mod Cells
 pub mod Lines

@@ -16,15 +16,10 @@ ghost use Rattle.std.specs.Prelude.{◌≡◌, ◌≤◌, true, IfErr, IfOk, OnE
 ghost use Rattle.kernel_core.specs.Booting.{is_bootable};
 ghost use Rattle.framemap.specs.Outcome.{IsOfRun, IsRefusal, status_of};
 
-mod band;
-mod cell;
-mod history;
 mod lines;
 mod outcome;
-mod picture;
 mod run;
 mod settings;
-mod shapes;
 #[cfg(test)]
 mod tests;
 

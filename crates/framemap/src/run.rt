@@ -3,11 +3,11 @@
 ghost use Rattle.kernel_core.specs.Steps.{HasPattern};
 ghost use Rattle.framemap.specs.Outcome.{IsOfRun};
 
-use crate::history::History;
 use crate::lines::{Next, next_line};
 use crate::outcome::Outcome;
-use crate::picture::Picture;
 use crate::settings::Settings;
+use frame_cells::history::History;
+use frame_picture::picture::Picture;
 use kernel_core::Kernel;
 use std::alloc::Global;
 use std::io::{self, BufRead, ErrorKind, Write};
@@ -39,7 +39,7 @@ pub fn run<R: BufRead, W: Write>(
     let Ok(mut line) = Vec::with_capacity(alloc, LINE_BYTES) else {
         return Outcome::NoMemory;
     };
-    let Ok(mut picture) = Picture::new(alloc, settings) else {
+    let Ok(mut picture) = Picture::new(alloc, &history, settings.only) else {
         return Outcome::NoMemory;
     };
     if watch(&mut kernel, reader, &mut line, &mut history).is_err() {

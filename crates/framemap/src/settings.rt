@@ -8,12 +8,10 @@ ghost use Rattle.framemap.specs.Outcome.{IsRefusal, IsToldAs, status_of};
 use crate::outcome::Outcome;
 use clap::error::ErrorKind;
 use clap::{Arg, ArgAction, ArgMatches, Command, Error, value_parser};
+use frame_cells::history::MOST_COLUMNS;
 use kernel_core::Config;
 use model_core::limits::{LEAST_ORDER, MOST_ORDER, MOST_SUPERBLOCKS, MOST_TENANTS};
 use std::alloc::{AllocError, Global};
-
-/// A picture has at most so many columns, so that what is kept of them is never more than the machine's own memory.
-pub const MOST_COLUMNS: u32 = 4096;
 
 /// How many columns a picture has at most where the command line doesn't say.
 const DEFAULT_COLUMNS: u32 = 600;

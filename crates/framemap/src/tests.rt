@@ -1,11 +1,11 @@
 //! Command lines, what is told of an outcome, the columns of a trace, and a whole picture.
 
-use crate::history::History;
 use crate::lines::{Next, next_line};
 use crate::outcome::Outcome;
 use crate::run::run;
 use crate::settings::{Settings, read_words};
 use crate::{run_from, run_opened, tell};
+use frame_cells::history::History;
 use kernel_core::{Config, Kernel};
 use std::alloc::{AllocError, Global};
 use std::cell::RefCell;

@@ -1,8 +1,8 @@
 -- What the parts tell of a frame is what it is in the machine that they show.
-use Rattle.std.proofs.Common.{◌≡◌, ℕ, ◌+◌, ◌*◌, ◌/◌, ◌%◌, ◌^◌, ◌<◌, Bool, true, false, cond, Some, None, is_some, refl, sym, ap, ◌∙◌, subst, arith, lit<}
+use Rattle.std.proofs.Common.{◌≡◌, ℕ, ◌+◌, ◌*◌, ◌/◌, ◌%◌, ◌<◌, false, cond, Some, None, sym, ap, ◌∙◌, subst, arith, lit<}
 use Rattle.model_core.specs.Blocks.{block, HasFrame, IsTaken}
-use Rattle.model_core.specs.Machine.{Slab, Cache, Machine, holds, order_in, taken_in, slab_block}
-use Rattle.model_core.specs.Slabs.{cache_of, slab_of}
+use Rattle.model_core.specs.Machine.{Machine, order_in, taken_in}
+use Rattle.model_core.specs.Slabs.{slab_of}
 use Rattle.model_core.specs.Layouts.{Layout}
 use Rattle.klist_core.specs.Places.{place_at}
 use Rattle.space_core.specs.Content as spaces
@@ -16,9 +16,9 @@ use Rattle.slab_laws.proofs.Facts.{cache_shown}
 use Rattle.slab_laws.proofs.Steady.{placed_as}
 use Rattle.slab_laws.proofs.ByKind.{from_list}
 use Rattle.slab_laws.proofs.Taken.{taken_meets}
-use Rattle.framemap.specs.declared.cell.Cell.{Cell}
-use Rattle.framemap.specs.declared.cell.Cell.TheVariants.{NotHeld, Free, Page, Full, Partial, Empty}
-use Rattle.framemap.specs.Cells.{IsInSlab, IsCell, IsSlabCell}
+use Rattle.frame_cells.specs.declared.cell.Cell.{Cell}
+use Rattle.frame_cells.specs.declared.cell.Cell.TheVariants.{NotHeld, Free, Page, Full, Partial, Empty}
+use Rattle.frame_cells.specs.Cells.{IsInSlab, IsCell, IsSlabCell}
 
 head_is : (head index kind : ℕ) → head / 3 ≡ index → head % 3 ≡ kind → head ≡ 3 * index + kind
 head_is head index kind e e' = omega arith

@@ -1,7 +1,7 @@
 //! Equal cells drawn as one.
 
 use crate::band::MOST_ROWS;
-use crate::cell::Cell;
+use frame_cells::cell::Cell;
 use std::io::{self, Write};
 
 /// A rectangle of cells that isn't closed yet: it begins in this column and has so many rows.

@@ -1,10 +1,9 @@
 //! The picture of a trace, in SVG.
 
 use crate::band::{Grid, MOST_ROWS, set_rows};
-use crate::cell::Cell;
-use crate::history::{Column, History};
-use crate::settings::{MOST_COLUMNS, Settings};
 use crate::shapes::draw_cells;
+use frame_cells::cell::Cell;
+use frame_cells::history::{Column, History, MOST_COLUMNS};
 use std::alloc::{AllocError, Global};
 use std::fmt;
 use std::io::{self, Write};
@@ -60,11 +59,10 @@ text{font:12px sans-serif;fill:#444}\
 .frame{fill:none;stroke:#888;shape-rendering:crispEdges}\
 </style>\n";
 
-/// What is drawn, with room for the cells of one band.
+/// Which tenants are drawn, with room for the cells of one band.
 #[derive(Drop)]
 pub struct Picture {
-    order: u32,
-    superblocks: u32,
+    /// The first tenant who is drawn, and the number above the last.
     first: u8,
     end: u8,
     cells: Vec<[Cell; MOST_ROWS]>,
@@ -120,22 +118,20 @@ fn name_of(cell: Cell) -> &'static str {
 }
 
 impl Picture {
-    /// A picture of these settings.
-    pub fn new(alloc: Global, settings: &Settings) -> Result<Picture, AllocError> {
-        let (first, end) = match settings.only {
+    /// Room for a picture of a history, when it is at its end: of the tenant `only`, or of all without it.
+    pub fn new(alloc: Global, history: &History, only: Option<u8>) -> Result<Picture, AllocError> {
+        let (first, end) = match only {
             Some(t) => (t, t.saturating_add(1)),
-            None => (0, settings.config.tenants.min(64) as u8),
+            None => (0, history.tenants().min(64) as u8),
         };
         Ok(Picture {
-            order: settings.config.order,
-            superblocks: settings.config.superblocks,
             first,
             end,
-            cells: vec![in alloc; [Cell::NotHeld; MOST_ROWS]; settings.columns as usize]?,
+            cells: vec![in alloc; [Cell::NotHeld; MOST_ROWS]; history.room()]?,
         })
     }
 
-    /// Draws what became of the frames.
+    /// Draws what became of the frames, and flushes. Of a history with more columns than that of `new` the first are drawn.
     pub fn draw<W: Write>(&mut self, history: &History, out: &mut W) -> io::Result<()> {
         let mut height = HEAD;
         for t in self.first..self.end {
@@ -165,15 +161,15 @@ impl Picture {
     fn grid(&self, history: &History, t: u8) -> Grid {
         let bands = u32::from(self.end.saturating_sub(self.first)).max(TALL_BANDS);
         let most_rows = TALL_BANDS * MOST_ROWS as u32 / bands;
-        Grid::of(history, t, self.order, most_rows)
+        Grid::of(history, t, most_rows)
     }
 
     /// Draws the title and the legend.
     fn draw_head<W: Write>(&self, history: &History, out: &mut W) -> io::Result<()> {
         let lines = history.lines();
         let width = history.width();
-        let superblocks = self.superblocks;
-        let frames = 1u32 << self.order.min(16);
+        let superblocks = history.superblocks();
+        let frames = 1u32 << history.order().min(16);
         writeln!(
             out,
             "<text class=\"head\" x=\"{LEFT}\" y=\"30\">Frames over {lines} lines of a trace</text>"

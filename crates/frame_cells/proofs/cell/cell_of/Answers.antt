@@ -1,6 +1,6 @@
 use Rattle.std.proofs.Common.{sym, ◌∙◌}
-use Rattle.framemap.proofs.Cells.{free_told, slab_told}
-use Rattle.framemap.proofs.cell.cell_of.Goals as goal
+use Rattle.frame_cells.proofs.Cells.{free_told, slab_told}
+use Rattle.frame_cells.proofs.cell.cell_of.Goals as goal
 
 pub returns-in_default : goal.returns-in_default
 returns-in_default c m h = (

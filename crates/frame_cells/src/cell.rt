@@ -6,7 +6,7 @@ ghost use Rattle.klist_core.specs.Places.{place_at};
 ghost use Rattle.slab_laws.specs.Shows.{node_of, has_slab};
 ghost use Rattle.kernel_core.specs.Parts.{superblock_at};
 ghost use Rattle.kernel_core.specs.Shows.{ShowsMachine};
-ghost use Rattle.framemap.specs.Cells.{IsCell, IsSlabCell};
+ghost use Rattle.frame_cells.specs.Cells.{IsCell, IsSlabCell};
 
 use kernel_core::Kernel;
 

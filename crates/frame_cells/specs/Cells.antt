@@ -3,8 +3,8 @@ use Rattle.std.specs.Prelude.{◌≡◌, ℕ, ◌/◌, ◌%◌, ◌^◌, Bool, t
 use Rattle.model_core.specs.Blocks.{HasFrame, IsTaken}
 use Rattle.model_core.specs.Machine.{Slab, Cache, Machine, holds, order_in, taken_in, slab_block}
 use Rattle.model_core.specs.Slabs.{cache_of, slab_of, is_full, is_partial, is_empty}
-use Rattle.framemap.specs.declared.cell.Cell.{Cell}
-use Rattle.framemap.specs.declared.cell.Cell.TheVariants.{NotHeld, Free, Page, Full, Partial, Empty}
+use Rattle.frame_cells.specs.declared.cell.Cell.{Cell}
+use Rattle.frame_cells.specs.declared.cell.Cell.TheVariants.{NotHeld, Free, Page, Full, Partial, Empty}
 
 -- frame f lies in a slab that passes the test
 pub record IsInSlab (m : Machine) (f : ℕ) (test : Slab → Bool) : Type 0 where

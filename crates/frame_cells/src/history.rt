@@ -1,12 +1,15 @@
 //! What a machine was like over the lines of a trace.
 
-ghost use Rattle.std.specs.Prelude.{◌<◌};
+ghost use Rattle.std.specs.Prelude.{◌≡◌, ◌+◌, ◌<◌, ◌≤◌, IfOk, length, vec_len};
 
 use crate::cell::{Cell, cell_of};
 use kernel_core::Kernel;
 use model_core::owner::Owner;
 use std::alloc::{AllocError, Global};
 use words_core::Body;
+
+/// A history should be given room for at most so many columns, so that what is kept of them is never more than the machine's own memory.
+pub const MOST_COLUMNS: u32 = 4096;
 
 /// A superblock at some time.
 #[derive(Debug, Drop)]
@@ -35,6 +38,10 @@ pub struct Column {
 /// No memory is asked for once a history is made, however long the trace is.
 #[derive(Debug, Drop)]
 pub struct History {
+    /// A superblock has `2^order` frames.
+    order: u32,
+    superblocks: u32,
+    tenants: u32,
     columns: Vec<Column>,
     /// How many of the columns are in use.
     kept: usize,
@@ -43,16 +50,24 @@ pub struct History {
     /// How many lines have been run.
     lines: u32,
     ghost some: { 0 < width },
+    ghost within: { kept ≤ vec_len columns },
 }
 
 impl History {
     /// No line has been run yet; there is room for so many columns.
-    pub fn new(alloc: Global, kernel: &Kernel, room: u32) -> Result<History, AllocError> {
+    pub fn new(alloc: Global, kernel: &Kernel, room: u32) -> Result<History, AllocError>
+        ensures room { IfOk result (λ history. vec_len history.columns ≡ room) }
+        ensures lines { IfOk result (λ history. history.lines ≡ 0) }
+        ensures width { IfOk result (λ history. history.width ≡ 1) }
+    {
         let mut columns = Vec::with_capacity(alloc, room as usize)?;
-        for _ in 0..room {
+        for _column in 0..room {
             columns.push(Column::new(alloc, kernel)?)?;
         }
         Ok(History {
+            order: kernel.order(),
+            superblocks: kernel.superblocks(),
+            tenants: kernel.tenants(),
             columns,
             kept: 0,
             width: 1,
@@ -60,26 +75,57 @@ impl History {
         })
     }
 
+    /// A superblock of the machine has `2^order` frames.
+    pub fn order(&self) -> u32 {
+        self.order
+    }
+
+    /// How many superblocks the machine has.
+    pub fn superblocks(&self) -> u32 {
+        self.superblocks
+    }
+
+    /// How many tenants share the machine.
+    pub fn tenants(&self) -> u32 {
+        self.tenants
+    }
+
+    /// How many columns there is room for.
+    pub fn room(&self) -> usize
+        ensures { result ≡ vec_len self.now.columns }
+    {
+        self.columns.len()
+    }
+
     /// The columns in use.
-    pub fn columns(&self) -> &[Column] {
-        match self.columns.get(..self.kept) {
-            Some(columns) => columns,
-            None => &[],
-        }
+    pub fn columns(&self) -> &[Column]
+        ensures all { length result.now ≡ self.now.kept }
+        ensures fit { length result.now ≤ vec_len self.now.columns }
+    {
+        &self.columns[..self.kept]
     }
 
     /// How many lines a column stands for; the last one may stand for fewer.
-    pub fn width(&self) -> u32 {
+    pub fn width(&self) -> u32
+        ensures value { result ≡ self.now.width }
+        ensures some { 0 < result }
+    {
         self.width
     }
 
     /// How many lines have been run.
-    pub fn lines(&self) -> u32 {
+    pub fn lines(&self) -> u32
+        ensures { result ≡ self.now.lines }
+    {
         self.lines
     }
 
     /// One more line has been run, and the kernel stands after it.
-    pub fn add_line(&mut self, kernel: &Kernel) {
+    pub fn add_line(&mut self, kernel: &Kernel)
+        ensures counted { self.old.lines < u32.MAX → self.new.lines ≡ self.old.lines + 1 }
+        ensures room { vec_len self.new.columns ≡ vec_len self.old.columns }
+        ensures width { self.old.width ≤ self.new.width }
+    {
         self.lines = self.lines.saturating_add(1);
         if self.lines % self.width != 0 {
             return;
@@ -93,7 +139,11 @@ impl History {
     }
 
     /// The trace has ended: the lines that have no column yet get one.
-    pub fn end(&mut self, kernel: &Kernel) {
+    pub fn end(&mut self, kernel: &Kernel)
+        ensures lines { self.new.lines ≡ self.old.lines }
+        ensures room { vec_len self.new.columns ≡ vec_len self.old.columns }
+        ensures width { self.old.width ≤ self.new.width }
+    {
         if self.lines % self.width == 0 {
             return;
         }
@@ -104,7 +154,12 @@ impl History {
     }
 
     /// Keeps what the kernel is like now.
-    fn keep(&mut self, kernel: &Kernel) {
+    fn keep(&mut self, kernel: &Kernel)
+        ensures lines { self.new.lines ≡ self.old.lines }
+        ensures room { vec_len self.new.columns ≡ vec_len self.old.columns }
+        ensures width { self.new.width ≡ self.old.width }
+        ensures one { self.old.kept < vec_len self.old.columns → self.new.kept ≡ self.old.kept + 1 }
+    {
         if let Some(column) = self.columns.get_mut(self.kept) {
             column.show(kernel, self.lines);
             self.kept += 1;
@@ -112,7 +167,11 @@ impl History {
     }
 
     /// Gives up every second column, the first one first: what is left stands for twice as many lines.
-    fn halve(&mut self) {
+    fn halve(&mut self)
+        ensures lines { self.new.lines ≡ self.old.lines }
+        ensures room { vec_len self.new.columns ≡ vec_len self.old.columns }
+        ensures width { self.old.width ≤ self.new.width }
+    {
         let half = self.kept / 2;
         for i in 0..half {
             if 2 * i + 1 < self.columns.len() {
@@ -143,7 +202,9 @@ impl Column {
     }
 
     /// Shows what the kernel is like now, after so many lines.
-    fn show(&mut self, kernel: &Kernel, line: u32) {
+    fn show(&mut self, kernel: &Kernel, line: u32)
+        ensures { self.new.line ≡ line }
+    {
         self.line = line;
         for (sheet, owner) in self.sheets.iter_mut().zip(kernel.space().owners()) {
             sheet.show(kernel, *owner);
@@ -158,7 +219,9 @@ impl Column {
 
 impl Sheet {
     /// Shows what the frames of this owner are now.
-    fn show(&mut self, kernel: &Kernel, owner: Option<Owner>) {
+    fn show(&mut self, kernel: &Kernel, owner: Option<Owner>)
+        ensures { self.new.owner ≡ owner }
+    {
         self.owner = owner;
         let Some(Owner { tenant, slot }) = owner else {
             return;
