@@ -275,6 +275,3 @@ pub fn taken_follows()
     ensures reserve { WithBlockTakes }
     ensures release { WithoutBlockFrees }
 {}
-
-#[cfg(test)]
-mod tests;

@@ -18,8 +18,6 @@ use std::alloc::{AllocError, Global};
 use std::marker::Model;
 
 pub mod laws;
-#[cfg(test)]
-mod tests;
 
 /// The two ends of a list and how many nodes stand in it.
 #[derive(Clone, Copy)]

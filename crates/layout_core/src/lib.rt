@@ -8,6 +8,3 @@ mod pattern;
 
 pub use layout::{Layout, LayoutRefusal};
 pub use pattern::Pattern;
-
-#[cfg(test)]
-mod tests;

@@ -8,8 +8,6 @@ mod bytes;
 mod command;
 mod line;
 mod number;
-#[cfg(test)]
-mod tests;
 mod window;
 mod write;
 mod written;

@@ -16,6 +16,3 @@ mod tables;
 pub use cache::{Cache, Kept};
 pub use kind::Kind;
 pub use tables::Tables;
-
-#[cfg(test)]
-mod tests;

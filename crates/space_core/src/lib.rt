@@ -497,6 +497,3 @@ fn make_banks(alloc: Global, count: usize, unit: usize) -> Result<Vec<Vec<u8>>, 
     }
     Ok(banks)
 }
-
-#[cfg(test)]
-mod tests;
