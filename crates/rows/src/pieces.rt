@@ -1,6 +1,6 @@
 //! A feed and a drain over memory, in pieces, each of which can fail.
 
-ghost use Rattle.std.specs.Prelude.{◌≡◌, ◌≤◌, false};
+ghost use Rattle.std.specs.Prelude.{◌≡◌, ◌≤◌, true, false, [], length};
 ghost use Rattle.rows.specs.declared.pieces.TheConstants.{ROOM};
 
 use replay_core::{Drain, Feed, Stopped};
@@ -8,7 +8,7 @@ use replay_core::{Drain, Feed, Stopped};
 /// More than any worked trace writes.
 const ROOM: usize = 8192;
 
-/// Gives a slice in pieces of at most `piece` bytes, and fails after so many good pulls.
+/// Gives a slice in pieces of at most `piece` bytes, at least one, and fails after so many good pulls.
 #[derive(Drop)]
 pub struct PieceFeed<'a> {
     rest: &'a [u8],
@@ -16,11 +16,15 @@ pub struct PieceFeed<'a> {
     good_pulls: u32,
     ended: bool,
     failed: bool,
+    ghost whole: { ended ≡ true → rest.now ≡ [] },
 }
 
 /// Such a feed of these bytes.
-pub fn in_pieces(bytes: &[u8], piece: usize, good_pulls: u32) -> PieceFeed<'_>
-    ensures { result.failed ≡ false }
+pub fn in_pieces<'a>(bytes: &'a [u8], piece: usize, good_pulls: u32) -> PieceFeed<'a>
+    ensures remaining { ⟦<PieceFeed<'a> as Feed>⟧.remaining result ≡ Some bytes.now }
+    ensures room { ⟦<PieceFeed<'a> as Feed>⟧.room_left result ≡ length bytes.now }
+    ensures not_ended { ⟦<PieceFeed<'a> as Feed>⟧.has_ended result ≡ false }
+    ensures fine { ⟦<PieceFeed<'a> as Feed>⟧.has_failed result ≡ false }
 {
     PieceFeed {
         rest: bytes,
@@ -32,7 +36,9 @@ pub fn in_pieces(bytes: &[u8], piece: usize, good_pulls: u32) -> PieceFeed<'_>
 }
 
 impl<'a> Feed for PieceFeed<'a> {
-    ghost use Rattle.std.specs.Prelude.{length};
+    ghost use Rattle.std.specs.Prelude.{length, Some};
+
+    ghost remaining = { λ s. Some s.rest.now };
 
     ghost room_left = { λ s. length s.rest.now };
 
@@ -49,7 +55,7 @@ impl<'a> Feed for PieceFeed<'a> {
             return Err(Stopped);
         }
         self.good_pulls -= 1;
-        let count = into.len().min(self.piece).min(self.rest.len());
+        let count = into.len().min(self.piece.max(1)).min(self.rest.len());
         into[..count].copy_from_slice(&self.rest[..count]);
         self.rest = &self.rest[count..];
         self.ended = count == 0;
@@ -69,7 +75,7 @@ impl<'a> Feed for PieceFeed<'a> {
     }
 }
 
-/// Takes at most `piece` bytes a push into a fixed array, and fails after so many good pushes.
+/// Takes at most `piece` bytes a push, at least one, into a fixed array, and fails after so many good pushes.
 #[derive(Drop)]
 pub struct PieceDrain {
     bytes: [u8; ROOM],
@@ -82,7 +88,8 @@ pub struct PieceDrain {
 
 /// Such a drain, with nothing taken.
 pub fn taking(piece: usize, good_pushes: u32) -> PieceDrain
-    ensures { result.failed ≡ false }
+    ensures contents { ⟦<PieceDrain as Drain>⟧.contents result ≡ Some [] }
+    ensures fine { ⟦<PieceDrain as Drain>⟧.has_failed result ≡ false }
 {
     PieceDrain {
         bytes: [0; ROOM],
@@ -95,12 +102,18 @@ pub fn taking(piece: usize, good_pushes: u32) -> PieceDrain
 
 impl PieceDrain {
     /// What it has taken.
-    pub fn taken(&self) -> &[u8] {
+    pub fn taken(&self) -> &[u8]
+        ensures { ⟦<PieceDrain as Drain>⟧.contents self.now ≡ Some result.now }
+    {
         &self.bytes[..self.len]
     }
 }
 
 impl Drain for PieceDrain {
+    ghost use Rattle.std.specs.Prelude.{take, Some};
+
+    ghost contents = { λ s. Some (take s.len s.bytes) };
+
     ghost has_failed = { λ s. s.failed };
 
     fn push(&mut self, bytes: &[u8]) -> Result<usize, Stopped> {

@@ -11,6 +11,9 @@
 //! | `row TABLE ROW` | a kernel, and then that worked trace runs on it |
 #![tactic(auto)]
 
+ghost use Rattle.std.specs.Prelude.{◌≡◌, ◌↔◌, false};
+ghost use Rattle.kernel_core.specs.Booting.{is_bootable};
+
 use buddy_core::Buddy;
 use kernel_core::{BootError, Config, Kernel};
 use klist_core::Lists;
@@ -77,7 +80,10 @@ const WIDEST: Config = Config {
     tenants: 64,
 };
 
-fn boot(alloc: Global, config: Config) -> &'static str {
+/// Boots a kernel, and tells what that was answered.
+fn boot(alloc: Global, config: Config) -> &'static str
+    ensures { (result.now ≡ BAD_CONFIG.now) ↔ (is_bootable config ≡ false) }
+{
     match Kernel::boot(alloc, config) {
         Ok(_) => DONE,
         Err(BootError::Memory) => NO_MEMORY,
