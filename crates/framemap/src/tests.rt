@@ -1,21 +1,12 @@
-//! Command lines, what is told of an outcome, the columns of a trace, and a whole picture.
+//! The columns of a trace, lines that are too long, and a whole picture.
 
 use crate::lines::{Next, next_line};
-use crate::outcome::Outcome;
 use crate::run::run;
-use crate::settings::{Settings, read_words};
-use crate::{run_from, run_opened, tell};
+use crate::settings::Settings;
 use frame_cells::history::History;
 use kernel_core::{Config, Kernel};
-use std::alloc::{AllocError, Global};
-use std::cell::RefCell;
-use std::fmt::Display;
 use std::io::{self, ErrorKind, Read, Write};
 use std::test::Fail;
-
-const NO_TENANT: Option<&str> = Some("framemap: --only names no tenant");
-
-const UNREADABLE: Option<&str> = Some("framemap: trace could not be read");
 
 /// A page block and a slab, which is given back. Its 7 lines fill 3 columns twice over.
 const TRACE: &[u8] =
@@ -71,107 +62,6 @@ const PICTURE: &str =
 <path class=\"axis\" d=\"M1122 314v5\"/><text class=\"middle\" x=\"1122\" y=\"332\">7</text>\n\
 <text class=\"right\" x=\"63\" y=\"332\">line</text>\n\
 </svg>\n";
-
-/// The words of a line, read.
-fn read(alloc: Global, line: &str) -> Result<Result<Settings, Outcome>, AllocError> {
-    let words: Vec<&str> = line.split(' ').collect(alloc)?;
-    Ok(read_words(alloc, words.as_slice()))
-}
-
-/// Command lines that give no settings: the exit status, and the line that is told.
-#[test]
-fn refuses_words(rt: HostRuntime) -> Result<(), Fail> {
-    for (line, status, text) in [
-        ("--order 2 --superblocks 2 --tenants 2", 2, None),
-        ("--order 9 --superblocks 2 --tenants 2", 2, None),
-        ("--order 3 --superblocks 257 --tenants 2", 2, None),
-        ("--order 3 --superblocks 0 --tenants 2", 2, None),
-        ("--order 3 --superblocks 2 --tenants 65", 2, None),
-        ("--order 3 --superblocks 2", 2, None),
-        ("--order 3 --superblocks 2 --tenants 2 --only x", 2, None),
-        (
-            "--order 3 --superblocks 2 --tenants 2 --only 2",
-            2,
-            NO_TENANT,
-        ),
-        (
-            "--order 3 --superblocks 2 --tenants 2 --only 300",
-            2,
-            NO_TENANT,
-        ),
-        ("--order 3 --superblocks 2 --tenants 65 --only 300", 2, None),
-        ("--order 3 --superblocks 2 --tenants 2 --columns 0", 2, None),
-        (
-            "--order 3 --superblocks 2 --tenants 2 --columns 4097",
-            2,
-            None,
-        ),
-        ("--help", 0, None),
-    ] {
-        match read(rt.alloc(), line)? {
-            Ok(_) => assert!(rt; false, "at {line}"),
-            Err(outcome) => {
-                assert_eq!(rt; outcome.status(), status, "at {line}");
-                assert_eq!(rt; outcome.text(), text, "at {line}");
-            }
-        }
-    }
-    Ok(())
-}
-
-/// Command lines that give settings; a FILE is kept as it was written.
-#[test]
-fn reads_words(rt: HostRuntime) -> Result<(), Fail> {
-    for (line, order, superblocks, tenants, only, columns, file) in [
-        (
-            "--order 3 --superblocks 2 --tenants 2",
-            3,
-            2,
-            2,
-            None,
-            600,
-            None,
-        ),
-        (
-            "--tenants 64 --order 8 --superblocks 256 --only 63 --columns 4096",
-            8,
-            256,
-            64,
-            Some(63),
-            4096,
-            None,
-        ),
-        (
-            "../a//b --order=3 --superblocks=1 --tenants=1 --columns=1",
-            3,
-            1,
-            1,
-            None,
-            1,
-            Some("../a//b"),
-        ),
-    ] {
-        match read(rt.alloc(), line)? {
-            Ok(settings) => {
-                let config = Config {
-                    order,
-                    superblocks,
-                    tenants,
-                };
-                assert_eq!(rt; settings.config, config, "at {line}");
-                assert_eq!(rt; settings.only, only, "at {line}");
-                assert_eq!(rt; settings.columns, columns, "at {line}");
-                assert_eq!(rt;
-                    settings.file.as_ref().map(|path| path.as_str()),
-                    file,
-                    "at {line}"
-                );
-            }
-            Err(outcome) => assert!(rt; false, "at {line}: {outcome:?}"),
-        }
-    }
-    Ok(())
-}
 
 /// The settings of a small machine.
 fn small(columns: u32) -> Settings {
@@ -322,130 +212,6 @@ fn draws(rt: HostRuntime) -> Result<(), Fail> {
         assert!(rt;
             keeper.text.as_slice() == picture.as_bytes(),
             "at {good_reads} {room}"
-        );
-    }
-    Ok(())
-}
-/// Standard output and standard error that keep what they are told.
-#[derive(Drop)]
-struct Streams {
-    alloc: Global,
-    output: RefCell<Vec<u8>>,
-    errors: RefCell<Vec<u8>>,
-}
-
-/// Adds a text to what is kept.
-fn keep<D: Display + Drop>(kept: &RefCell<Vec<u8>>, value: D, end: &str) -> io::Result<()> {
-    match kept.try_borrow_mut() {
-        Ok(mut text) => write!(text, "{value}{end}"),
-        Err(_) => Err(ErrorKind::Other.into()),
-    }
-}
-
-impl Print for Streams {
-    fn print<D: Display + Drop>(&self, value: D) -> io::Result<()> {
-        keep(&self.output, value, "")
-    }
-
-    fn println<D: Display + Drop>(&self, value: D) -> io::Result<()> {
-        keep(&self.output, value, "\n")
-    }
-
-    fn write_all(&self, bytes: &[u8]) -> io::Result<()> {
-        match self.output.try_borrow_mut() {
-            Ok(mut text) => Ok(text.extend_from_slice(bytes)?),
-            Err(_) => Err(ErrorKind::Other.into()),
-        }
-    }
-}
-
-impl Eprint for Streams {
-    fn eprint<D: Display + Drop>(&self, value: D) -> io::Result<()> {
-        keep(&self.errors, value, "")
-    }
-
-    fn eprintln<D: Display + Drop>(&self, value: D) -> io::Result<()> {
-        keep(&self.errors, value, "\n")
-    }
-}
-
-impl Alloc for Streams {
-    type A = Global;
-
-    fn alloc(&self) -> Global {
-        self.alloc
-    }
-}
-
-fn no_text(alloc: Global) -> Streams {
-    Streams {
-        alloc,
-        output: RefCell::new(Vec::new(alloc)),
-        errors: RefCell::new(Vec::new(alloc)),
-    }
-}
-
-/// What could not be opened, for whatever cause, could not be read.
-#[test]
-fn opens(rt: HostRuntime) -> Result<(), Fail> {
-    for cause in [
-        ErrorKind::NotFound,
-        ErrorKind::PermissionDenied,
-        ErrorKind::OutOfMemory,
-    ] {
-        let told = no_text(rt.alloc());
-        let opened: io::Result<Reader<'static>> = Err(cause.into());
-        let outcome = run_opened(&told, &small(3), opened);
-        assert_eq!(rt; outcome.text(), UNREADABLE, "at {cause:?}");
-    }
-    let missing = Settings {
-        file: Some(String::from_str(rt.alloc(), "no such file")?),
-        ..small(3)
-    };
-    assert_eq!(rt; run_from(&rt, &missing).text(), UNREADABLE);
-    Ok(())
-}
-/// Help goes to standard output, what is wrong to standard error, and of a trace that is done nothing is told.
-#[test]
-fn tells_outcomes(rt: HostRuntime) -> Result<(), Fail> {
-    let text = String::from_str(rt.alloc(), "wrong\n")?;
-    let help = String::from_str(rt.alloc(), "help\n")?;
-    for (outcome, status, output, errors) in [
-        (Outcome::Done, 0, "", ""),
-        (Outcome::Help(help), 0, "help\n", ""),
-        (
-            Outcome::Unreadable,
-            1,
-            "",
-            "framemap: trace could not be read\n",
-        ),
-        (
-            Outcome::Unwritable,
-            1,
-            "",
-            "framemap: picture could not be written\n",
-        ),
-        (Outcome::BadLine(text), 2, "", "wrong\n"),
-        (
-            Outcome::BadOnly,
-            2,
-            "",
-            "framemap: --only names no tenant\n",
-        ),
-        (Outcome::NoMemory, 3, "", "framemap: not enough memory\n"),
-    ] {
-        let told = no_text(rt.alloc());
-        tell(&told, &outcome);
-        assert_eq!(rt; outcome.status(), status, "at {outcome:?}");
-        assert_eq!(rt;
-            told.output.into_inner().as_slice(),
-            output.as_bytes(),
-            "at {outcome:?}"
-        );
-        assert_eq!(rt;
-            told.errors.into_inner().as_slice(),
-            errors.as_bytes(),
-            "at {outcome:?}"
         );
     }
     Ok(())
