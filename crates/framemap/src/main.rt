@@ -20,8 +20,6 @@ mod lines;
 mod outcome;
 mod run;
 mod settings;
-#[cfg(test)]
-mod tests;
 
 use outcome::Outcome;
 use run::run;

@@ -22,8 +22,6 @@ ghost use Rattle.partmem.specs.Outcome.{IsOfRun, IsRefusal, ended_at_once, statu
 mod outcome;
 mod run;
 mod settings;
-#[cfg(test)]
-mod tests;
 
 use outcome::{Ended, Outcome};
 use replay_core::{ReaderFeed, Tally, WriterDrain};
