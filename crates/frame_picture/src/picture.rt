@@ -365,6 +365,26 @@ fn draw_curve<W: Write>(out: &mut W, columns: &[Column], t: u8, foot: u32) -> io
         out,
         "<rect class=\"ground\" x=\"{LEFT}\" y=\"{top}\" width=\"{WIDTH}\" height=\"{CURVE}\"/>"
     )?;
+    draw_splits(out, columns, t, foot)?;
+    writeln!(
+        out,
+        "<rect class=\"frame\" x=\"{LEFT}\" y=\"{top}\" width=\"{WIDTH}\" height=\"{CURVE}\"/>"
+    )?;
+    writeln!(
+        out,
+        "<text class=\"right\" x=\"{}\" y=\"{}\">100 %</text>",
+        x - 3,
+        top.saturating_add(9)
+    )?;
+    writeln!(
+        out,
+        "<text class=\"right\" x=\"{}\" y=\"{foot}\">0</text>",
+        x - 3
+    )
+}
+
+/// Fills what lies below the curve: the share of each column, over its width.
+fn draw_splits<W: Write>(out: &mut W, columns: &[Column], t: u8, foot: u32) -> io::Result<()> {
     write!(
         out,
         "<path class=\"cells split\" transform=\"translate({LEFT} {foot}) scale({} -{})\" d=\"M0 0",
@@ -381,22 +401,7 @@ fn draw_curve<W: Write>(out: &mut W, columns: &[Column], t: u8, foot: u32) -> io
         }
         at = at.saturating_add(1);
     }
-    writeln!(out, "H{at}V0z\"/>")?;
-    writeln!(
-        out,
-        "<rect class=\"frame\" x=\"{LEFT}\" y=\"{top}\" width=\"{WIDTH}\" height=\"{CURVE}\"/>"
-    )?;
-    writeln!(
-        out,
-        "<text class=\"right\" x=\"{}\" y=\"{}\">100 %</text>",
-        x - 3,
-        top.saturating_add(9)
-    )?;
-    writeln!(
-        out,
-        "<text class=\"right\" x=\"{}\" y=\"{foot}\">0</text>",
-        x - 3
-    )
+    writeln!(out, "H{at}V0z\"/>")
 }
 
 /// Draws the numbers of lines below a foot.

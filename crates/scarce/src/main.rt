@@ -8,7 +8,6 @@
 //! | `lists`, `space`, `buddy`, `slabs` | such a part, of the sizes of the small machine |
 //! | `boot`, `wide` | a kernel, of those sizes and of the greatest ones |
 //! | `bad` | kernels with a number out of its range, one for each end of each range |
-//! | `row TABLE ROW` | a kernel, and then that worked trace runs on it |
 #![tactic(auto)]
 
 ghost use Rattle.std.specs.Prelude.{◌≡◌, ◌↔◌, false};
@@ -17,9 +16,6 @@ ghost use Rattle.kernel_core.specs.Booting.{is_bootable};
 use buddy_core::Buddy;
 use kernel_core::{BootError, Config, Kernel};
 use klist_core::Lists;
-use replay_core::replay;
-use rows::pieces::{in_pieces, taking};
-use rows::{MACHINE, Row, Table, tables};
 use slab_core::Slabs;
 use space_core::Space;
 use std::alloc::Global;
@@ -43,12 +39,8 @@ fn main(rt: HostRuntime) -> io::Result<()> {
         return Err(ErrorKind::InvalidInput.into());
     };
     spend(rt.alloc(), spent);
-    let told = match words.next() {
-        Some("row") => run_row(rt.alloc(), words.next(), words.next()),
-        Some(subject) => make(rt.alloc(), subject),
-        None => "nothing",
-    };
-    println!(rt; "{told}")
+    let subject = words.next().unwrap_or("");
+    println!(rt; "{}", make(rt.alloc(), subject))
 }
 
 /// Asks for so many growths, and keeps none.
@@ -65,13 +57,20 @@ fn make(alloc: Global, subject: &str) -> &'static str {
         "space" => Space::new(alloc, 3, 2, 2).is_ok(),
         "buddy" => Buddy::new(alloc, 3, 2, 2).is_ok(),
         "slabs" => Slabs::new(alloc, 3, 2, 2).is_ok(),
-        "boot" => return boot(alloc, MACHINE),
+        "boot" => return boot(alloc, SMALL),
         "wide" => return boot(alloc, WIDEST),
         "bad" => return boot_badly(alloc),
         _ => return "no such subject",
     };
     if is_made { DONE } else { NO_MEMORY }
 }
+
+/// The sizes of the worked traces.
+const SMALL: Config = Config {
+    order: 3,
+    superblocks: 2,
+    tenants: 2,
+};
 
 /// The greatest machine.
 const WIDEST: Config = Config {
@@ -114,41 +113,3 @@ fn boot_badly(alloc: Global) -> &'static str {
     }
     BAD_CONFIG
 }
-
-/// Boots a kernel for a worked trace, and runs it.
-fn run_row(alloc: Global, table: Option<&str>, row: Option<&str>) -> &'static str {
-    let number = |word: Option<&str>| word.and_then(|word| word.parse::<usize>().ok());
-    let (Some(table), Some(row)) = (number(table), number(row)) else {
-        return "no such row";
-    };
-    match tables().get(table) {
-        Some(table) => match table.rows.get(row) {
-            Some(row) => replay_row(alloc, table, row),
-            None => "no such row",
-        },
-        None => "no such row",
-    }
-}
-
-fn replay_row(alloc: Global, table: &Table, row: &Row) -> &'static str {
-    let Ok(mut kernel) = Kernel::boot(alloc, table.config) else {
-        return NO_MEMORY;
-    };
-    let mut drain = taking(WHOLE, ALL);
-    let ran = replay(
-        &mut kernel,
-        &mut in_pieces(row.trace, WHOLE, ALL),
-        &mut drain,
-        table.only,
-    );
-    if ran.is_ok() && drain.taken() == row.output {
-        DONE
-    } else {
-        "other lines"
-    }
-}
-
-/// More bytes than a row has, and more pulls and pushes than it takes.
-const WHOLE: usize = 10_000;
-
-const ALL: u32 = 10_000;

@@ -57,13 +57,11 @@ fn judged(words: &[&[u8]]) -> Result<Option<Event>, LineFault>
 fn event_of(first: &[u8], rest: &[&[u8]]) -> Result<Event, LineFault>
     ensures { result ≡ event_of first.now (map (λ word. word.now) rest.now) }
 {
-    match first {
-        b"admin" => Ok(Event::Admin(asked_of_admin(rest)?)),
-        _ => {
-            let tenant = tenant_of(first)?;
-            Ok(Event::Tenant(tenant, asked_of_tenant(rest)?))
-        }
+    if first == b"admin".as_slice() {
+        return Ok(Event::Admin(asked_of_admin(rest)?));
     }
+    let tenant = tenant_of(first)?;
+    Ok(Event::Tenant(tenant, asked_of_tenant(rest)?))
 }
 
 fn tenant_of(word: &[u8]) -> Result<u32, LineFault>
@@ -96,13 +94,19 @@ fn asked_of_tenant(words: &[&[u8]]) -> Result<Command, LineFault>
 fn admin_command_of(name: &[u8], arguments: &[&[u8]]) -> Result<AdminCommand, LineFault>
     ensures { result ≡ command_of admin_rows name.now (map (λ word. word.now) arguments.now) }
 {
-    match name {
-        b"grant" => grant_of(arguments),
-        b"takeback" => take_back_of(arguments),
-        b"reset" => reset_of(arguments),
-        b"move" => move_of(arguments),
-        b"pool" => pool_of(arguments),
-        _ => Err(LineFault::Unknown),
+    // Tests in turn, as below.
+    if name == b"grant".as_slice() {
+        grant_of(arguments)
+    } else if name == b"takeback".as_slice() {
+        take_back_of(arguments)
+    } else if name == b"reset".as_slice() {
+        reset_of(arguments)
+    } else if name == b"move".as_slice() {
+        move_of(arguments)
+    } else if name == b"pool".as_slice() {
+        pool_of(arguments)
+    } else {
+        Err(LineFault::Unknown)
     }
 }
 
