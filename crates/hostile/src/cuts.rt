@@ -1,7 +1,8 @@
 //! Worked traces whose feed or drain fails, at each call of it.
 
+use crate::ending::line_end;
 use kernel_core::Kernel;
-use replay_core::{ReplayError, replay};
+use replay_core::{ReplayError, Tally, replay};
 use rows::pieces::{in_pieces, taking};
 use rows::{Row, Table, tables};
 use std::process::Abort;
@@ -54,34 +55,43 @@ fn is_done_after(
         &mut drain,
         table.only,
     );
-    let taken = drain.taken();
     let (tally, is_cut) = match ran {
         Ok(tally) => (tally, false),
         Err(ReplayError::Feed(tally)) => (tally, false),
         Err(ReplayError::Drain(tally)) => (tally, true),
     };
-    let at = (table.name, piece, good);
-    assert!(rt; row.output.starts_with(taken), "{at:?}");
-    assert_eq!(rt; tally.written, taken.len() as u128, "{at:?}");
-
     let mut rest = taking(WHOLE, ALL);
     let mut behind = in_pieces(behind(row.trace, tally.lines), WHOLE, ALL);
     replay(&mut kernel, &mut behind, &mut rest, table.only)?;
-    assert!(rt; row.output.ends_with(rest.taken()), "then {at:?}");
-    let answered = row.output.len().saturating_sub(rest.taken().len());
-    assert!(rt; taken.len() <= answered, "then {at:?}");
-    assert_eq!(rt; taken.len() < answered, is_cut, "then {at:?}");
+    let fits = begins(row.output, drain.taken(), tally)
+        && goes_on(row.output, drain.taken(), rest.taken(), is_cut);
+    assert!(rt; fits, "{} {good_pulls} {good_pushes}", table.name);
     Ok(ran.is_ok())
+}
+
+/// What was taken is a beginning, as long as the tally says.
+fn begins(output: &[u8], taken: &[u8], tally: Tally) -> bool {
+    output.starts_with(taken) && tally.written == taken.len() as u128
+}
+
+/// The rest is an end, behind what was taken: there is something between them where a reply was cut, and only there.
+fn goes_on(output: &[u8], taken: &[u8], rest: &[u8], is_cut: bool) -> bool {
+    let answered = output.len().saturating_sub(rest.len());
+    output.ends_with(rest) && taken.len() <= answered && (taken.len() < answered) == is_cut
 }
 
 /// What is behind the first lines of a trace.
 fn behind(trace: &[u8], lines: u64) -> &[u8] {
     let mut rest = trace;
     for _line in 0..lines {
-        rest = match rest.iter().position(|byte| *byte == b'\n') {
-            Some(end) => &rest[end + 1..],
-            None => b"",
-        };
+        rest = behind_line(rest);
     }
     rest
+}
+
+fn behind_line(bytes: &[u8]) -> &[u8] {
+    match line_end(bytes) {
+        Some(end) => &bytes[end + 1..],
+        None => b"",
+    }
 }

@@ -2,6 +2,7 @@
 
 ghost use Rattle.std.specs.Prelude.{◌≡◌, false};
 
+use crate::ending::line_end;
 use kernel_core::Kernel;
 use replay_core::{Feed, ReaderFeed, ReplayError, Tally, WriterDrain, replay};
 use rows::MACHINE;
@@ -16,86 +17,99 @@ const TRACE: &[u8] = b"admin grant 0\n0 alloc 0\n0 read 0 4\n";
 /// More calls than the trace needs.
 const ALL: u32 = 1000;
 
-fn tally(lines: u64, events: u64, faults: u64, written: u128) -> Tally {
+/// Each line is an event here, and none is faulty.
+fn tally(lines: u64, written: u128) -> Tally {
     Tally {
         lines,
-        events,
-        faults,
+        events: lines,
+        faults: 0,
         written,
     }
 }
 
+/// How a replay ends.
+#[derive(Clone, Copy)]
+enum End {
+    Done,
+    FeedFails,
+    DrainFails,
+}
+
+/// Whether a replay ended so, after so many lines and with so much written.
+fn is_ended(ran: Result<Tally, ReplayError>, end: End, lines: u64, written: u128) -> bool {
+    let tally = tally(lines, written);
+    match (ran, end) {
+        (Ok(done), End::Done) => done == tally,
+        (Err(ReplayError::Feed(done)), End::FeedFails) => done == tally,
+        (Err(ReplayError::Drain(done)), End::DrainFails) => done == tally,
+        _ => false,
+    }
+}
+
+/// Good pulls, and what is told then: lines and bytes written.
+const FAILING_FEEDS: [(u32, u64, u128); 4] = [(0, 0, 0), (14, 1, 37), (19, 1, 37), (24, 2, 48)];
+
 /// After a failed feed the lines that ended are done, and the unfinished one is not.
 #[test]
 fn feed_fails(rt: HostRuntime) -> Result<(), Fail> {
-    for (good_pulls, want) in [
-        (0, tally(0, 0, 0, 0)),
-        (14, tally(1, 1, 0, 37)),
-        (19, tally(1, 1, 0, 37)),
-        (24, tally(2, 2, 0, 48)),
-    ] {
+    for (good_pulls, lines, written) in FAILING_FEEDS {
         let mut kernel = Kernel::boot(rt.alloc(), MACHINE)?;
         let mut feed = in_pieces(TRACE, 1, good_pulls);
         let ran = replay(&mut kernel, &mut feed, &mut taking(100, ALL), None);
-        assert_eq!(rt;
-            ran,
-            Err(ReplayError::Feed(want)),
-            "after {good_pulls} pulls"
-        );
+        let fits = is_ended(ran, End::FeedFails, lines, written);
+        assert!(rt; fits, "after {good_pulls} pulls");
     }
     Ok(())
 }
 
+/// Good pushes, what is told then, and the reply to a next line.
+const FAILING_DRAINS: [(u32, u64, u128, &[u8]); 2] = [
+    (1, 1, 10, b"0> frame 0\n"),
+    (4, 2, 37, b"0> frame 1\n"),
+];
+
+const NEXT_LINE: &[u8] = b"0 alloc 0";
+
 /// After a failed drain the kernel stands after the line whose reply was cut.
 #[test]
 fn drain_fails(rt: HostRuntime) -> Result<(), Fail> {
-    for (good_pushes, want, next) in [
-        (1, tally(1, 1, 0, 10), b"0> frame 0\n"),
-        (4, tally(2, 2, 0, 37), b"0> frame 1\n"),
-    ] {
+    for (good_pushes, lines, written, next) in FAILING_DRAINS {
         let mut kernel = Kernel::boot(rt.alloc(), MACHINE)?;
         let mut feed = in_pieces(TRACE, 100, ALL);
         let ran = replay(&mut kernel, &mut feed, &mut taking(10, good_pushes), None);
-        assert_eq!(rt;
-            ran,
-            Err(ReplayError::Drain(want)),
-            "after {good_pushes} pushes"
-        );
+        let fits = is_ended(ran, End::DrainFails, lines, written);
         let mut drain = taking(100, ALL);
-        let mut feed = in_pieces(b"0 alloc 0", 100, ALL);
+        let mut feed = in_pieces(NEXT_LINE, 100, ALL);
         replay(&mut kernel, &mut feed, &mut drain, None)?;
-        assert_eq!(rt;
-            drain.taken(),
-            next.as_slice(),
-            "after {good_pushes} pushes"
-        );
+        assert!(rt; fits && drain.taken() == next, "after {good_pushes} pushes");
     }
     Ok(())
 }
+
+/// How much less or more room than the trace needs, how the replay ends then, and what is told.
+const ROOMS: [(u64, End, u64, u128); 4] = [
+    (0, End::FeedFails, 0, 0),
+    (LEN - 1, End::FeedFails, 2, 48),
+    (LEN, End::Done, 3, 66),
+    (LEN + 1, End::Done, 3, 66),
+];
+
+/// The bytes of the trace.
+const LEN: u64 = TRACE.len() as u64;
 
 /// A reader that has used up the room of its feed is asked once more: the feed has ended where the reader has, and
 /// failed where it has more.
 #[test]
 fn room_ends(rt: HostRuntime) -> Result<(), Fail> {
-    let len = TRACE.len() as u64;
-    let all = tally(3, 3, 0, 66);
-    for (room, want) in [
-        (0, Err(ReplayError::Feed(tally(0, 0, 0, 0)))),
-        (len - 1, Err(ReplayError::Feed(tally(2, 2, 0, 48)))),
-        (len, Ok(all)),
-        (len + 1, Ok(all)),
-    ] {
+    for (room, end, lines, written) in ROOMS {
         let mut kernel = Kernel::boot(rt.alloc(), MACHINE)?;
         let mut feed = ReaderFeed::with_room(TRACE, room);
         let ran = replay(&mut kernel, &mut feed, &mut taking(100, ALL), None);
-        assert_eq!(rt; ran, want, "room for {room} bytes");
-        assert_eq!(rt; feed.ended(), ran.is_ok(), "room for {room} bytes");
-        assert_eq!(rt; feed.failed(), ran.is_err(), "room for {room} bytes");
-        assert_eq!(rt;
-            feed.room(),
-            room.saturating_sub(len),
-            "room for {room} bytes"
-        );
+        let fits = is_ended(ran, end, lines, written)
+            && feed.ended() == ran.is_ok()
+            && feed.failed() == ran.is_err()
+            && feed.room() == room.saturating_sub(LEN);
+        assert!(rt; fits, "room for {room} bytes");
     }
     Ok(())
 }
@@ -139,7 +153,7 @@ impl Read for LineReader<'_> {
             return Err(ErrorKind::Interrupted.into());
         }
         self.good_reads -= 1;
-        let line = match self.rest.iter().position(|byte| *byte == b'\n') {
+        let line = match line_end(self.rest) {
             Some(end) => end + 1,
             None => self.rest.len(),
         };
@@ -184,12 +198,15 @@ impl Write for LogWriter<'_> {
     }
 }
 
+/// How many reads, writes and flushes are good.
+type Good = (u32, u32, u32);
+
 /// A replay between such ends, and whether the flush at its end was good.
 fn between(
     alloc: Global,
     trace: &[u8],
     log: &Log,
-    good: (u32, u32, u32),
+    good: Good,
 ) -> Result<(Result<Tally, ReplayError>, bool), Fail> {
     let (good_reads, good_writes, good_flushes) = good;
     let mut kernel = Kernel::boot(alloc, MACHINE)?;
@@ -208,67 +225,50 @@ fn between(
     Ok((ran, flushed))
 }
 
+/// Good reads, writes and flushes, how the replay ends then, what is told, and whether the flush at its end was good.
+const STAYING: [(Good, End, u64, u128, bool); 9] = [
+    ((ALL, ALL, ALL), End::Done, 3, 66, true),
+    ((0, ALL, ALL), End::FeedFails, 0, 0, false),
+    ((2, ALL, ALL), End::FeedFails, 2, 48, false),
+    ((3, ALL, ALL), End::FeedFails, 3, 66, false),
+    ((ALL, 0, ALL), End::DrainFails, 1, 0, false),
+    ((ALL, 1, ALL), End::DrainFails, 2, 37, false),
+    ((ALL, ALL, 0), End::DrainFails, 2, 37, false),
+    ((ALL, ALL, 2), End::Done, 3, 66, false),
+    ((ALL, ALL, 3), End::Done, 3, 66, false),
+];
+
 /// A failed read, a write that took nothing and a failed flush are not tried again. A flush that failed on the way is
 /// told by the next push, or by the flush at the end.
 #[test]
 fn failures_stay(rt: HostRuntime) -> Result<(), Fail> {
-    let done = Ok(tally(3, 3, 0, 66));
-    for (good, want, flushed) in [
-        ((ALL, ALL, ALL), done, true),
-        (
-            (0, ALL, ALL),
-            Err(ReplayError::Feed(tally(0, 0, 0, 0))),
-            false,
-        ),
-        (
-            (2, ALL, ALL),
-            Err(ReplayError::Feed(tally(2, 2, 0, 48))),
-            false,
-        ),
-        (
-            (3, ALL, ALL),
-            Err(ReplayError::Feed(tally(3, 3, 0, 66))),
-            false,
-        ),
-        (
-            (ALL, 0, ALL),
-            Err(ReplayError::Drain(tally(1, 1, 0, 0))),
-            false,
-        ),
-        (
-            (ALL, 1, ALL),
-            Err(ReplayError::Drain(tally(2, 2, 0, 37))),
-            false,
-        ),
-        (
-            (ALL, ALL, 0),
-            Err(ReplayError::Drain(tally(2, 2, 0, 37))),
-            false,
-        ),
-        ((ALL, ALL, 2), done, false),
-        ((ALL, ALL, 3), done, false),
-    ] {
-        let outcome = between(rt.alloc(), TRACE, &no_calls(), good)?;
-        assert_eq!(rt; outcome, (want, flushed), "good calls {good:?}");
+    for (good, end, lines, written, flushed) in STAYING {
+        let (ran, was_flushed) = between(rt.alloc(), TRACE, &no_calls(), good)?;
+        let fits = is_ended(ran, end, lines, written) && was_flushed == flushed;
+        let (good_reads, good_writes, good_flushes) = good;
+        assert!(rt; fits, "{good_reads} {good_writes} {good_flushes}");
     }
     Ok(())
 }
 
+/// Traces, and how often is written and flushed for them.
+const CALLS: [(&[u8], u32, u32); 4] = [
+    (TRACE, 3, 4),
+    (b"", 0, 1),
+    (b"# note\n\n# note\n", 0, 1),
+    (b"# note\nfrob\n\n# note\n", 1, 2),
+];
+
 /// Each reply has gone out when the reader is called again, and where nothing was pushed nothing is flushed.
 #[test]
 fn answers_at_once(rt: HostRuntime) -> Result<(), Fail> {
-    for (trace, writes, flushes) in [
-        (TRACE, 3, 4),
-        (b"".as_slice(), 0, 1),
-        (b"# note\n\n# note\n".as_slice(), 0, 1),
-        (b"# note\nfrob\n\n# note\n".as_slice(), 1, 2),
-    ] {
+    for (trace, writes, flushes) in CALLS {
         let log = no_calls();
         let (ran, flushed) = between(rt.alloc(), trace, &log, (ALL, ALL, ALL))?;
         assert!(rt; ran.is_ok() && flushed);
         assert!(rt; !log.late.get());
-        assert_eq!(rt; log.writes.get(), writes);
-        assert_eq!(rt; log.flushes.get(), flushes);
+        assert!(rt; log.writes.get() == writes);
+        assert!(rt; log.flushes.get() == flushes);
     }
     Ok(())
 }

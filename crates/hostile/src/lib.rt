@@ -3,6 +3,7 @@
 
 #[cfg(test)]
 mod cuts;
+pub mod ending;
 #[cfg(test)]
 mod ends;
 #[cfg(test)]

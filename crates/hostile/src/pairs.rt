@@ -2,20 +2,15 @@
 
 use kernel_core::{Config, Kernel};
 use replay_core::replay;
+use rows::MACHINE;
 use rows::own::ROWS;
 use rows::pieces::{PieceDrain, in_pieces, taking};
-use rows::{MACHINE, Row};
 use std::alloc::Global;
 use std::process::Abort;
 use std::test::Fail;
 
 /// More pulls or pushes than a test makes.
 const ALL: u32 = 1_000_000;
-
-/// A tenant that is alone: six lines, and what it is told.
-fn alone() -> &'static Row {
-    &ROWS[0]
-}
 
 /// More bytes than a trace has.
 const WHOLE: usize = 200_000;
@@ -44,10 +39,16 @@ const WIDER: Config = Config {
     ..MACHINE
 };
 
-/// The trace of the tenant with these lines in the gaps from `first` to `last`.
-fn among(alloc: Global, noise: &[&[u8]], first: usize, last: usize) -> Result<Vec<u8>, Fail> {
+/// The trace `alone` with these lines in the gaps from `first` to `last`.
+fn among(
+    alloc: Global,
+    alone: &[u8],
+    noise: &[&[u8]],
+    first: usize,
+    last: usize,
+) -> Result<Vec<u8>, Fail> {
     let mut trace = Vec::new(alloc);
-    let mut own = alone().trace.split_inclusive(|byte| *byte == b'\n');
+    let mut own = alone.split_inclusive(|byte| *byte == b'\n');
     for gap in 0..GAPS {
         if (first..=last).contains(&gap) {
             for line in noise {
@@ -74,30 +75,27 @@ fn told(alloc: Global, config: Config, trace: &[u8], piece: usize) -> Result<Pie
     Ok(drain)
 }
 
-/// The tenant is told the same with these lines in these gaps as without them.
+/// A tenant that is alone, with six lines, is told the same with these lines in these gaps.
 fn is_told_alike(
     rt: &(impl AllocGlobal + Abort),
     noise: &[&[u8]],
     first: usize,
     last: usize,
 ) -> Result<(), Fail> {
-    let trace = among(rt.alloc(), noise, first, last)?;
+    let alone = ROWS.first().expect(rt, "a tenant alone");
+    let trace = among(rt.alloc(), alone.trace, noise, first, last)?;
     for config in [MACHINE, WIDER] {
         for piece in [1, WHOLE] {
             let drain = told(rt.alloc(), config, &trace, piece)?;
-            assert_eq!(rt;
-                drain.taken(),
-                alone().output,
-                "{noise:?} in {first} to {last}"
-            );
+            assert!(rt; drain.taken() == alone.output, "{trace:?}");
         }
     }
-    begins_alike(rt, &trace)
+    begins_alike(rt, &trace, alone.output)
 }
 
 /// Of each beginning of the trace the tenant is told what its lines that ended are answered, a beginning of the whole, and
 /// at most one line more: a last line that was cut is a line too.
-fn begins_alike(rt: &(impl AllocGlobal + Abort), trace: &[u8]) -> Result<(), Fail> {
+fn begins_alike(rt: &(impl AllocGlobal + Abort), trace: &[u8], output: &[u8]) -> Result<(), Fail> {
     let mut ended = told(rt.alloc(), MACHINE, b"", WHOLE)?;
     for len in 0..=trace.len() {
         let beginning = &trace[..len];
@@ -108,7 +106,7 @@ fn begins_alike(rt: &(impl AllocGlobal + Abort), trace: &[u8]) -> Result<(), Fai
         );
         if beginning.ends_with(b"\n") {
             assert!(rt;
-                alone().output.starts_with(drain.taken()),
+                output.starts_with(drain.taken()),
                 "of {len} bytes of {trace:?}"
             );
             ended = drain;

@@ -5,6 +5,13 @@ use kernel_core::Kernel;
 use std::alloc::{AllocError, Global};
 use std::test::Fail;
 
+/// How a trace begins.
+const CACHE: &[u8] = b"admin grant 0\n0 cache ";
+
+const TAKE: &[u8] = b"\n0 take 0";
+
+const LINE_FEED: &[u8] = b"\n";
+
 /// The bytes of a frame, and of the record at its end.
 const FRAME_BYTES: usize = 4096;
 
@@ -96,29 +103,27 @@ const CASES: [Case; 8] = [
 /// leaves zeroes, a move takes the record along, and a slab of large objects has objects there.
 #[test]
 fn records_stand(rt: HostRuntime) -> Result<(), Fail> {
-    for case in &CASES {
-        let trace = trace_of(rt.alloc(), case)?;
-        let (kernel, _) = run(rt.alloc(), &trace)?;
-        let want = record_of(rt.alloc(), case)?;
-        assert!(rt;
-            ends_with(&kernel, case, &want),
-            "after {} takes of {:?}, then {:?}",
-            case.takes,
-            case.cache,
-            case.after
-        );
+    for (number, case) in CASES.iter().enumerate() {
+        assert!(rt; stands(rt.alloc(), case)?, "case {number}");
     }
     Ok(())
 }
 
+fn stands(alloc: Global, case: &Case) -> Result<bool, Fail> {
+    let trace = trace_of(alloc, case)?;
+    let (kernel, _) = run(alloc, &trace)?;
+    let want = record_of(alloc, case)?;
+    Ok(ends_with(&kernel, case, &want))
+}
+
 /// The lines that make the cache, take out of it, and come after.
 fn trace_of(alloc: Global, case: &Case) -> Result<Vec<u8>, AllocError> {
-    let mut trace = b"admin grant 0\n0 cache ".to_vec(alloc)?;
+    let mut trace = CACHE.to_vec(alloc)?;
     trace.extend_from_slice(case.cache)?;
     for _object in 0..case.takes {
-        trace.extend_from_slice(b"\n0 take 0")?;
+        trace.extend_from_slice(TAKE)?;
     }
-    trace.extend_from_slice(b"\n")?;
+    trace.extend_from_slice(LINE_FEED)?;
     trace.extend_from_slice(case.after)?;
     Ok(trace)
 }

@@ -1,14 +1,9 @@
 -- What stands at the nodes of a table of places.
-use Rattle.std.proofs.Common.{◌≡◌, ℕ, ◌<◌, zero, suc, Option, Some, None, List, length, get_or, replicate, refl, sym, ◌∙◌, inl, inr}
+use Rattle.std.proofs.Common.{◌≡◌, ℕ, ◌<◌, Option, Some, None, List, length, sym, ◌∙◌, inl, inr}
 use Rattle.std.proofs.lemmas.Bool.{cases_lt}
 use Rattle.std.proofs.lemmas.List.{get_or_past}
 use Rattle.std.proofs.lemmas.Option.{none-some}
 use Rattle.klist_core.specs.Places.{place_at}
-
-pub everywhere : {X : Type 0} (x : X) (n i : ℕ) → get_or (replicate n x) i x ≡ x
-everywhere x zero i = refl
-everywhere x (suc n) zero = refl
-everywhere x (suc n) (suc i) = everywhere x n i
 
 -- a node that has a place is one of the table
 pub placed_within : (places : List (Option (ℕ × ℕ))) (i : ℕ) (p : ℕ × ℕ) → place_at places i ≡ Some p → i < length places

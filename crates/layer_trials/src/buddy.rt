@@ -161,6 +161,17 @@ struct Plain {
     marks: Vec<u8>,
 }
 
+/// How many taken blocks of order `k` begin among the marks.
+fn blocks_of(marks: &[u8], k: u8) -> usize {
+    let mut count = 0usize;
+    for mark in marks {
+        if u32::from(*mark) == u32::from(k) + 1 {
+            count = count.wrapping_add(1);
+        }
+    }
+    count
+}
+
 impl Plain {
     /// The machine frame of a tenant's frame.
     fn place(&self, order: u8, t: u8, frame: u32) -> Option<usize>
@@ -203,9 +214,24 @@ impl Plain {
         None
     }
 
+    fn is_unowned(&self, m: u16) -> bool {
+        self.owners.get(m as usize) == Some(&None)
+    }
+
+    fn own(&mut self, m: u16, owner: Owner) {
+        if usize::from(m) < self.owners.len() {
+            self.owners[m as usize] = Some(owner);
+        }
+    }
+
     fn slots(&self, t: u8) -> usize {
-        let owners = self.owners.iter().flatten();
-        owners.filter(|owner| owner.tenant == t).count()
+        let mut count = 0usize;
+        for owner in self.owners.iter().flatten() {
+            if owner.tenant == t {
+                count = count.wrapping_add(1);
+            }
+        }
+        count
     }
 
     /// The marks of superblock `m`.
@@ -213,9 +239,18 @@ impl Plain {
         requires { order ≤ MOST_ORDER }
     {
         let first = m << order;
-        self.marks
-            .get(first..first.saturating_add(1 << order))
-            .unwrap_or(&[])
+        let end = first.saturating_add(1 << order);
+        if end <= self.marks.len() {
+            &self.marks[first..end]
+        } else {
+            &[]
+        }
+    }
+
+    fn is_busy(&self, order: u8, m: usize) -> bool
+        requires { order ≤ MOST_ORDER }
+    {
+        self.sheet(order, m).iter().any(|mark| *mark != 0)
     }
 
     fn taken_count(&self, order: u8, t: u8, k: u8) -> usize
@@ -226,9 +261,8 @@ impl Plain {
             if let Some(owner) = owner
                 && owner.tenant == t
             {
-                let marks = self.sheet(order, m).iter();
-                let blocks = marks.filter(|mark| u32::from(**mark) == u32::from(k) + 1);
-                count = count.wrapping_add(blocks.count());
+                let blocks = blocks_of(self.sheet(order, m), k);
+                count = count.wrapping_add(blocks);
             }
         }
         count
@@ -354,7 +388,10 @@ impl Beside {
         let k = self.numbers.below(most + 1) as u8;
         if self.recorded.has_tenant(t) {
             let answer = self.recorded.reserve(t, k);
-            assert_eq!(rt; answer, self.plain.reserve(order, t, k));
+            assert!(rt;
+                answer == self.plain.reserve(order, t, k),
+                "tenant {t}, order {k}"
+            );
             match answer {
                 Some(_) => self.tally.reserved = self.tally.reserved.wrapping_add(1),
                 None => self.tally.refused = self.tally.refused.wrapping_add(1),
@@ -382,15 +419,15 @@ impl Beside {
         let frame = self.some_frame(order, t);
         let is_any = self.numbers.below(4) == 0;
         if self.recorded.has_tenant(t) {
-            let block = self.recorded.buddy().block_of(t, frame);
-            assert_eq!(rt; block, self.plain.block_of(order, t, frame));
-            assert_eq!(rt;
-                self.recorded.buddy().live_order(t, frame),
-                self.plain.live_order(order, t, frame)
-            );
-            let first = block.map_or(frame, |block| if is_any { frame } else { block.0 });
+            let first = match self.block_of(rt, order, t, frame) {
+                Some(block) if !is_any => block.0,
+                _ => frame,
+            };
             let answer = self.recorded.release(t, first);
-            assert_eq!(rt; answer, self.plain.release(order, t, first));
+            assert!(rt;
+                answer == self.plain.release(order, t, first),
+                "tenant {t}, frame {first}"
+            );
             match answer {
                 Some(_) => self.tally.released = self.tally.released.wrapping_add(1),
                 None => self.tally.untaken = self.tally.untaken.wrapping_add(1),
@@ -398,20 +435,31 @@ impl Beside {
         }
     }
 
+    /// The taken block round a frame; whether one begins there is compared too.
+    fn block_of(&self, rt: &impl Abort, order: u8, t: u8, frame: u32) -> Option<(u32, u8)>
+        requires tenant { t < length self.now.recorded.tenants }
+        requires order { order ≤ MOST_ORDER }
+    {
+        let block = self.recorded.buddy().block_of(t, frame);
+        let is_same_block = block == self.plain.block_of(order, t, frame);
+        let live = self.recorded.buddy().live_order(t, frame);
+        let is_same_order = live == self.plain.live_order(order, t, frame);
+        assert!(rt; is_same_block && is_same_order, "tenant {t}, frame {frame}");
+        block
+    }
+
     fn add_slot(&mut self, rt: &impl Abort, t: u8) {
         let slot = self.numbers.below(6) as u16;
         let m = self.numbers.below(6) as u16;
         let unused = self.recorded.is_unused(m);
-        assert_eq!(rt; unused, self.plain.owners.get(m as usize) == Some(&None));
+        assert!(rt; unused == self.plain.is_unowned(m), "superblock {m}");
         let count = self.recorded.buddy().superblocks();
         if !unused || slot >= count || m >= count || !self.recorded.has_tenant(t) {
             return;
         }
-        if self.recorded.superblock_under(t, slot).is_none()
-            && usize::from(m) < self.plain.owners.len()
-        {
+        if self.recorded.superblock_under(t, slot).is_none() {
             self.recorded.add_slot(t, slot, m);
-            self.plain.owners[m as usize] = Some(Owner { tenant: t, slot });
+            self.plain.own(m, Owner { tenant: t, slot });
             self.tally.added = self.tally.added.wrapping_add(1);
         }
     }
@@ -434,24 +482,23 @@ impl Beside {
         if !self.recorded.has_tenant(t) || slot >= count {
             return;
         }
-        let order = self.recorded.order();
         let under = search::superblock_under(&self.plain.owners, t, u32::from(slot));
-        if let Some(m) = self.recorded.superblock_under(t, slot) {
-            assert_eq!(rt; under, Some(usize::from(m)));
-            let is_busy = self
-                .plain
-                .sheet(order, usize::from(m))
-                .iter()
-                .any(|mark| *mark != 0);
-            assert_eq!(rt; self.recorded.drop_slot(t, slot).is_err(), is_busy);
-            if is_busy {
-                self.tally.busy = self.tally.busy.wrapping_add(1);
-            } else {
-                self.plain.clear(order, usize::from(m));
-                self.tally.dropped = self.tally.dropped.wrapping_add(1);
-            }
+        let Some(m) = self.recorded.superblock_under(t, slot) else {
+            assert!(rt; under.is_none(), "tenant {t}, slot {slot}");
+            return;
+        };
+        assert!(rt; under == Some(usize::from(m)), "tenant {t}, slot {slot}");
+        let order = self.recorded.order();
+        let is_busy = self.plain.is_busy(order, usize::from(m));
+        assert!(rt;
+            self.recorded.drop_slot(t, slot).is_err() == is_busy,
+            "superblock {m}"
+        );
+        if is_busy {
+            self.tally.busy = self.tally.busy.wrapping_add(1);
         } else {
-            assert_eq!(rt; under, None);
+            self.plain.clear(order, usize::from(m));
+            self.tally.dropped = self.tally.dropped.wrapping_add(1);
         }
     }
 
@@ -505,27 +552,37 @@ impl Beside {
 
     /// The counts of each tenant, of each order.
     fn compare_counts(&self, rt: &impl Abort) {
-        let order = self.recorded.order();
         for t in 0..3 {
-            if self.recorded.has_tenant(t) {
-                assert_eq!(rt;
-                    self.recorded.buddy().slots(t) as usize,
-                    self.plain.slots(t)
-                );
-                for k in 0..=order {
-                    let free = search::count_free(
-                        order,
-                        &self.plain.owners,
-                        &self.plain.marks,
-                        t,
-                        k,
-                    );
-                    assert_eq!(rt; self.recorded.buddy().free_count(t, k), free);
-                    let taken = self.recorded.buddy().taken_count(t, k);
-                    assert_eq!(rt; taken as usize, self.plain.taken_count(order, t, k));
-                }
+            self.compare_tenant(rt, t);
+        }
+    }
+
+    fn compare_tenant(&self, rt: &impl Abort, t: u8) {
+        if self.recorded.has_tenant(t) {
+            let slots = self.recorded.buddy().slots(t);
+            assert!(rt; slots as usize == self.plain.slots(t), "tenant {t}");
+            for k in 0..=self.recorded.order() {
+                self.compare_order(rt, t, k);
             }
         }
+    }
+
+    fn compare_order(&self, rt: &impl Abort, t: u8, k: u8)
+        requires tenant { t < length self.now.recorded.tenants }
+        requires order { k ≤ self.now.recorded.top }
+    {
+        let order = self.recorded.order();
+        let (owners, marks) = (&self.plain.owners, &self.plain.marks);
+        let free = search::count_free(order, owners, marks, t, k);
+        assert!(rt;
+            self.recorded.buddy().free_count(t, k) == free,
+            "tenant {t}, order {k}"
+        );
+        let taken = self.recorded.buddy().taken_count(t, k) as usize;
+        assert!(rt;
+            taken == self.plain.taken_count(order, t, k),
+            "tenant {t}, order {k}"
+        );
     }
 }
 
@@ -544,70 +601,51 @@ fn answers_as_the_plain_search(rt: HostRuntime) -> Result<(), Fail> {
     Ok(())
 }
 
-/// A block of order `k` for tenant 0.
-fn reserve(rt: &impl Abort, buddy: &mut Buddy, k: u8) -> Option<u32> {
+/// A block of order `k` for tenant 0 begins at `frame`.
+fn is_reserved(rt: &impl Abort, buddy: &mut Buddy, k: u8, frame: u32) {
     assert!(rt; 0 < buddy.tenants());
     assert!(rt; k <= buddy.order());
-    buddy.reserve(0, k)
+    let first = buddy.reserve(0, k);
+    assert!(rt; first == Some(frame), "order {k}, frame {frame}");
 }
 
-fn release(rt: &impl Abort, buddy: &mut Buddy, frame: u32) -> Option<u8> {
+/// The block that begins at `frame` has order `k`.
+fn is_released(rt: &impl Abort, buddy: &mut Buddy, frame: u32, k: u8) {
     assert!(rt; 0 < buddy.tenants());
-    buddy.release(0, frame)
+    let order = buddy.release(0, frame);
+    assert!(rt; order == Some(k), "frame {frame}, order {k}");
 }
 
 /// The words of superblock 0.
-fn words<'a>(rt: &impl Abort, buddy: &'a Buddy) -> &'a [u16] {
+fn has_words(rt: &impl Abort, buddy: &Buddy, words: [u16; 15]) {
     assert!(rt; 0 < buddy.superblocks());
-    buddy.table(0)
+    assert!(rt; buddy.table(0) == words.as_slice(), "not {words:?}");
 }
 
-// Splits, then frames 0 and 4 are given back, then order 1 is taken.
-#[test]
-fn worked_example(rt: HostRuntime) -> Result<(), Fail> {
-    let mut buddy = Buddy::new(rt.alloc(), 3, 2, 2)?;
+/// Eight frames under slot 0 of tenant 0.
+fn one_superblock(alloc: Global) -> Result<Buddy, AllocError> {
+    let mut buddy = Buddy::new(alloc, 3, 1, 1)?;
     buddy.add_slot(0, 0, 0);
-    for (k, frame) in [(0, 0), (1, 2), (2, 4), (0, 1)] {
-        assert_eq!(rt; reserve(&rt, &mut buddy, k), Some(frame));
-    }
-    for (frame, k) in [(0, 0), (4, 2)] {
-        assert_eq!(rt; release(&rt, &mut buddy, frame), Some(k));
-    }
-    assert_eq!(rt; reserve(&rt, &mut buddy, 1), Some(4));
-    assert_eq!(rt;
-        words(&rt, &buddy),
-        [3, 1, 2, 1, 0, 0, 2, 1, 0, 0, 0, 0, 0, 0, 0].as_slice()
-    );
-    Ok(())
+    Ok(buddy)
 }
 
 // Orders 0, 0, 1 and 2 are taken, frames 0 and 4 given back, order 1 is taken again, and all is given back.
 #[test]
 fn words_of_a_tree(rt: HostRuntime) -> Result<(), Fail> {
-    let mut buddy = Buddy::new(rt.alloc(), 3, 1, 1)?;
-    buddy.add_slot(0, 0, 0);
-    for (k, frame) in [(0, 0), (0, 1), (1, 2), (2, 4)] {
-        assert_eq!(rt; reserve(&rt, &mut buddy, k), Some(frame));
-    }
-    assert_eq!(rt; words(&rt, &buddy), [0; 15].as_slice());
-    for (frame, k) in [(0, 0), (4, 2)] {
-        assert_eq!(rt; release(&rt, &mut buddy, frame), Some(k));
-    }
-    assert_eq!(rt;
-        words(&rt, &buddy),
-        [5, 1, 4, 1, 0, 0, 0, 1, 0, 0, 0, 0, 0, 0, 0].as_slice()
-    );
-    assert_eq!(rt; reserve(&rt, &mut buddy, 1), Some(4));
-    assert_eq!(rt;
-        words(&rt, &buddy),
-        [3, 1, 2, 1, 0, 0, 2, 1, 0, 0, 0, 0, 0, 0, 0].as_slice()
-    );
-    for (frame, k) in [(1, 0), (2, 1), (4, 1)] {
-        assert_eq!(rt; release(&rt, &mut buddy, frame), Some(k));
-    }
-    assert_eq!(rt;
-        words(&rt, &buddy),
-        [8, 0, 0, 0, 0, 0, 0, 0, 0, 0, 0, 0, 0, 0, 0].as_slice()
-    );
+    let mut buddy = one_superblock(rt.alloc())?;
+    is_reserved(&rt, &mut buddy, 0, 0);
+    is_reserved(&rt, &mut buddy, 0, 1);
+    is_reserved(&rt, &mut buddy, 1, 2);
+    is_reserved(&rt, &mut buddy, 2, 4);
+    has_words(&rt, &buddy, [0; 15]);
+    is_released(&rt, &mut buddy, 0, 0);
+    is_released(&rt, &mut buddy, 4, 2);
+    has_words(&rt, &buddy, [5, 1, 4, 1, 0, 0, 0, 1, 0, 0, 0, 0, 0, 0, 0]);
+    is_reserved(&rt, &mut buddy, 1, 4);
+    has_words(&rt, &buddy, [3, 1, 2, 1, 0, 0, 2, 1, 0, 0, 0, 0, 0, 0, 0]);
+    is_released(&rt, &mut buddy, 1, 0);
+    is_released(&rt, &mut buddy, 2, 1);
+    is_released(&rt, &mut buddy, 4, 1);
+    has_words(&rt, &buddy, [8, 0, 0, 0, 0, 0, 0, 0, 0, 0, 0, 0, 0, 0, 0]);
     Ok(())
 }

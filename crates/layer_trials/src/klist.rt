@@ -1,6 +1,6 @@
 //! Ten thousand mixed calls beside plain sorted vectors, every answer compared.
 
-ghost use Rattle.std.specs.Prelude.{◌≡◌, ◌≢◌, ℕ, ◌<◌, Some, None, false, length, vec_len};
+ghost use Rattle.std.specs.Prelude.{◌≡◌, ◌≢◌, ℕ, ◌<◌, Some, None, false, length};
 ghost use Rattle.klist_core.specs.Places.{place_at};
 
 use crate::numbers::Numbers;
@@ -22,7 +22,6 @@ struct Beside {
     plain: Vec<Vec<(u32, u32)>>,
     ghost nodes: { length lists.places ≡ 64 },
     ghost heads: { lists.heads ≡ 5 },
-    ghost plain_heads: { vec_len plain ≡ 5 },
 }
 
 /// Whether a node of the list has the key, by a look at each node.
@@ -38,18 +37,27 @@ fn has_key(lists: &Lists, head: u32, key: u32) -> bool
     false
 }
 
+/// Puts the pair where the vector still rises by key.
+fn put(list: &mut Vec<(u32, u32)>, key: u32, node: u32) -> Result<(), AllocError> {
+    let at = list.iter().position(|p| p.0 > key).unwrap_or(list.len());
+    list.insert(at, (key, node))?;
+    Ok(())
+}
+
+/// Where the pair stands; past the end where it doesn't.
+fn index_of(list: &[(u32, u32)], key: u32, node: u32) -> usize {
+    let at = list.iter().position(|p| p.0 == key && p.1 == node);
+    at.unwrap_or(list.len())
+}
+
 impl Beside {
     fn new(alloc: Global) -> Result<Beside, AllocError> {
-        Ok(Beside {
-            lists: Lists::new(alloc, NODES, HEADS)?,
-            plain: vec![in alloc;
-                Vec::new(alloc),
-                Vec::new(alloc),
-                Vec::new(alloc),
-                Vec::new(alloc),
-                Vec::new(alloc),
-            ]?,
-        })
+        let lists = Lists::new(alloc, NODES, HEADS)?;
+        let mut plain = Vec::new(alloc);
+        for _ in 0..HEADS {
+            plain.push(Vec::new(alloc))?;
+        }
+        Ok(Beside { lists, plain })
     }
 
     /// Lets `other` take the place of the node where that stands in a list, or takes the node out; else puts
@@ -74,7 +82,6 @@ impl Beside {
         Ok(())
     }
 
-    /// Every odd key is put in with a hint, right or wrong.
     fn insert(
         &mut self,
         rt: &impl Abort,
@@ -88,19 +95,30 @@ impl Beside {
         requires free { place_at self.old.lists.places node ≡ None }
         requires near { near < 64 }
     {
-        let known = self.plain[head as usize].iter().any(|p| p.0 == key);
-        assert_eq!(rt; has_key(&self.lists, head, key), known);
-        if !has_key(&self.lists, head, key) {
-            if key % 2 == 0 {
-                self.lists.insert(head, node, key);
-            } else {
-                self.lists.insert_near(head, node, key, near);
-            }
-            let list = &mut self.plain[head as usize];
-            let at = list.iter().position(|p| p.0 > key).unwrap_or(list.len());
-            list.insert(at, (key, node))?;
+        let known = has_key(&self.lists, head, key);
+        assert!(rt; (head as usize) < self.plain.len());
+        let list = &mut self.plain[head as usize];
+        assert!(rt; list.iter().any(|p| p.0 == key) == known, "key {key}");
+        if !known {
+            put(list, key, node)?;
+            self.insert_new(head, node, key, near);
         }
         Ok(())
+    }
+
+    /// With a hint, right or wrong, for every other pair of key and node.
+    fn insert_new(&mut self, head: u32, node: u32, key: u32, near: u32)
+        requires head { head < 5 }
+        requires node { node < 64 }
+        requires free { place_at self.old.lists.places node ≡ None }
+        requires near { near < 64 }
+        requires fresh { (i : ℕ) → place_at self.old.lists.places i ≢ Some (head, key) }
+    {
+        if (key ^ node) % 2 == 0 {
+            self.lists.insert(head, node, key);
+        } else {
+            self.lists.insert_near(head, node, key, near);
+        }
     }
 
     fn replace(&mut self, rt: &impl Abort, node: u32, by: u32)
@@ -112,13 +130,11 @@ impl Beside {
             return;
         };
         self.lists.replace(node, by);
-        assert!(rt; head < HEADS);
+        assert!(rt; (head as usize) < self.plain.len());
         let list = &mut self.plain[head as usize];
-        let at = list.iter().position(|p| *p == (key, node));
-        assert!(rt; at.is_some());
-        if let Some(at) = at {
-            list[at] = (key, by);
-        }
+        let at = index_of(list, key, node);
+        assert!(rt; at < list.len(), "node {node}");
+        list[at] = (key, by);
     }
 
     fn remove(&mut self, rt: &impl Abort, node: u32)
@@ -128,29 +144,49 @@ impl Beside {
             return;
         };
         self.lists.remove(node);
-        assert!(rt; head < HEADS);
+        assert!(rt; (head as usize) < self.plain.len());
         let list = &mut self.plain[head as usize];
-        let at = list.iter().position(|p| *p == (key, node));
-        assert!(rt; at.is_some());
-        if let Some(at) = at {
-            let _pair = list.remove(at);
-        }
+        let at = index_of(list, key, node);
+        assert!(rt; at < list.len(), "node {node}");
+        let _pair = list.remove(at);
     }
 
     /// Lengths, places, first pairs and those that follow are those of the vectors.
     fn compare(&self, rt: &impl Abort) {
-        for (head, list) in self.plain.iter().enumerate() {
-            let head = head as u32;
-            assert_eq!(rt; self.lists.len(head) as usize, list.len());
-            assert_eq!(rt; self.lists.first(head), list.first().copied());
-            for (i, (key, node)) in list.iter().enumerate() {
-                assert!(rt; *node < NODES);
-                let place = self.lists.place_of(*node);
-                assert_eq!(rt; place, Some((head, *key)));
-                assert!(rt; place.is_some());
-                assert_eq!(rt; self.lists.after(*node), list.get(i + 1).copied());
-            }
+        for head in 0..HEADS {
+            assert!(rt; (head as usize) < self.plain.len());
+            self.compare_list(rt, head, &self.plain[head as usize]);
         }
+    }
+
+    fn compare_list(&self, rt: &impl Abort, head: u32, list: &[(u32, u32)])
+        requires { head < 5 }
+    {
+        assert!(rt; self.lists.len(head) as usize == list.len(), "list {head}");
+        assert!(rt;
+            self.lists.first(head) == list.first().copied(),
+            "list {head}"
+        );
+        for (i, (key, node)) in list.iter().enumerate() {
+            let next = list.get(i + 1).copied();
+            self.compare_node(rt, head, *key, *node, next);
+        }
+    }
+
+    fn compare_node(
+        &self,
+        rt: &impl Abort,
+        head: u32,
+        key: u32,
+        node: u32,
+        next: Option<(u32, u32)>,
+    ) {
+        assert!(rt; node < NODES);
+        let Some(place) = self.lists.place_of(node) else {
+            panic!(rt; "node {node} is in no list");
+        };
+        assert!(rt; place == (head, key), "node {node}");
+        assert!(rt; self.lists.after(node) == next, "node {node}");
     }
 
     /// Empties a list from its front, which is the order of its vector.
@@ -168,37 +204,35 @@ impl Beside {
     }
 }
 
+/// One call with numbers that look random. The last key stands for the greatest of all.
+fn mixed_call(
+    rt: &impl Abort,
+    beside: &mut Beside,
+    numbers: &mut Numbers,
+) -> Result<(), AllocError> {
+    let head = numbers.below(HEADS);
+    let node = numbers.below(NODES);
+    let key = numbers.below(KEYS);
+    let key = if key == KEYS - 1 { u32::MAX } else { key };
+    let other = numbers.below(NODES);
+    beside.step(rt, head, node, key, other)
+}
+
 #[test]
 fn behaves_as_sorted_vectors(rt: HostRuntime) -> Result<(), Fail> {
     let mut beside = Beside::new(rt.alloc())?;
     let mut numbers = Numbers::new(1);
     for _ in 0..10_000 {
-        let head = numbers.below(HEADS);
-        let node = numbers.below(NODES);
-        let key = numbers.below(KEYS);
-        let other = numbers.below(NODES);
-        beside.step(&rt, head, node, key, other)?;
+        mixed_call(&rt, &mut beside, &mut numbers)?;
         beside.compare(&rt);
     }
-    for head in 0..HEADS {
-        beside.drain(&rt, head);
-        assert_eq!(rt; beside.lists.len(head), 0);
-    }
+    empties(&rt, &mut beside);
     Ok(())
 }
 
-#[test]
-fn places_keys_at_both_ends(rt: HostRuntime) -> Result<(), Fail> {
-    let mut lists = Lists::new(rt.alloc(), 3, 1)?;
-    lists.insert(0, 1, 70);
-    lists.insert(0, 0, 0);
-    lists.insert(0, 2, u32::MAX);
-    assert_eq!(rt; lists.first(0), Some((0, 0)));
-    lists.remove(0);
-    assert_eq!(rt; lists.first(0), Some((70, 1)));
-    lists.remove(2);
-    lists.insert(0, 2, 3);
-    assert_eq!(rt; lists.first(0), Some((3, 2)));
-    assert_eq!(rt; lists.len(0), 2);
-    Ok(())
+fn empties(rt: &impl Abort, beside: &mut Beside) {
+    for head in 0..HEADS {
+        beside.drain(rt, head);
+        assert!(rt; beside.lists.len(head) == 0, "list {head}");
+    }
 }

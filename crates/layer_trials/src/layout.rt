@@ -1,6 +1,7 @@
 //! The table of layouts, the objects of one slab, and patterns.
 
 use layout_core::{Layout, LayoutRefusal, Pattern};
+use std::process::Abort;
 
 /// Size, alignment, and what the table of layouts says: chunk, order, objects and colours.
 const TABLE: [(u32, u32, u32, u8, u32, u32); 22] = [
@@ -28,40 +29,64 @@ const TABLE: [(u32, u32, u32, u8, u32, u32); 22] = [
     (4096, 8, 4096, 0, 1, 1),
 ];
 
+/// Whether a layout says what its row of the table says.
+fn is_as_told(layout: &Layout, row: (u32, u32, u32, u8, u32, u32)) -> bool {
+    let (size, align, chunk, order, count, colours) = row;
+    layout.size() == size
+        && layout.align() == align
+        && layout.chunk() == chunk
+        && layout.order() == order
+        && layout.count() == count
+        && layout.colours() == colours
+        && layout.in_page() == (chunk < 512)
+}
+
 #[test]
 fn table_of_layouts(rt: HostRuntime) {
-    for (size, align, chunk, order, count, colours) in TABLE {
-        let Ok(layout) = Layout::of(size, align) else {
-            panic!(rt; "size {size} and alignment {align} have a layout");
+    for row in TABLE {
+        let Ok(layout) = Layout::of(row.0, row.1) else {
+            panic!(rt; "size {}, alignment {}: refused", row.0, row.1);
         };
-        assert_eq!(rt; (layout.size(), layout.align()), (size, align));
-        assert_eq!(rt;
-            (
-                layout.chunk(),
-                layout.order(),
-                layout.count(),
-                layout.colours()
-            ),
-            (chunk, order, count, colours),
-            "size {size}, alignment {align}"
-        );
-        assert_eq!(rt;
-            layout.in_page(),
-            chunk < 512,
-            "size {size}, alignment {align}"
+        assert!(rt;
+            is_as_told(&layout, row),
+            "size {}, alignment {}",
+            row.0,
+            row.1
         );
     }
-    for (size, align, refusal) in [
-        (0, 12, LayoutRefusal::BadSize),
-        (4097, 8, LayoutRefusal::BadSize),
-        (1, 12, LayoutRefusal::BadAlign),
-        (1, 512, LayoutRefusal::BadAlign),
+}
+
+/// No layout, for this reason.
+fn is_refused(rt: &impl Abort, size: u32, align: u32, refusal: LayoutRefusal) {
+    let refused = Layout::of(size, align).err();
+    assert!(rt; refused == Some(refusal), "size {size}, alignment {align}");
+}
+
+#[test]
+fn refuses_layouts(rt: HostRuntime) {
+    is_refused(&rt, 0, 12, LayoutRefusal::BadSize);
+    is_refused(&rt, 4097, 8, LayoutRefusal::BadSize);
+    is_refused(&rt, 1, 12, LayoutRefusal::BadAlign);
+    is_refused(&rt, 1, 512, LayoutRefusal::BadAlign);
+}
+
+/// The object of a slab of the second colour that begins at an offset, and the one that holds bytes from there on.
+fn finds(rt: &impl Abort, layout: &Layout) {
+    for (offset, index) in [(3960, Some(38)), (3961, None), (4064, None), (0, None)] {
+        assert!(rt; layout.index_of(8, offset) == index, "offset {offset}");
+    }
+}
+
+fn holds(rt: &impl Abort, layout: &Layout) {
+    for (offset, len, index) in [
+        (3960, 100, Some(38)),
+        (3960, 101, None),
+        (3960, 0, None),
+        (4059, 2, None),
+        (0, 1, None),
     ] {
-        let refused = match Layout::of(size, align) {
-            Ok(_) => None,
-            Err(refusal) => Some(refusal),
-        };
-        assert_eq!(rt; refused, Some(refusal), "size {size}, alignment {align}");
+        let holder = layout.holder(8, offset, len);
+        assert!(rt; holder == index, "{len} bytes at offset {offset}");
     }
 }
 
@@ -71,16 +96,9 @@ fn objects_of_a_slab(rt: HostRuntime) {
         panic!(rt; "objects of 100 bytes have a layout");
     };
     layout.fits();
-    assert_eq!(rt; layout.offset(8, 38), 3960);
-    assert_eq!(rt; layout.index_of(8, 3960), Some(38));
-    assert_eq!(rt; layout.index_of(8, 3961), None);
-    assert_eq!(rt; layout.index_of(8, 4064), None);
-    assert_eq!(rt; layout.index_of(8, 0), None);
-    assert_eq!(rt; layout.holder(8, 3960, 100), Some(38));
-    assert_eq!(rt; layout.holder(8, 3960, 101), None);
-    assert_eq!(rt; layout.holder(8, 3960, 0), None);
-    assert_eq!(rt; layout.holder(8, 4059, 2), None);
-    assert_eq!(rt; layout.holder(8, 0, 1), None);
+    assert!(rt; layout.offset(8, 38) == 3960);
+    finds(&rt, &layout);
+    holds(&rt, &layout);
 }
 
 #[test]
@@ -90,8 +108,13 @@ fn patterns(rt: HostRuntime) {
     };
     let mut object = [0; 7];
     pattern.fill(&mut object);
-    assert_eq!(rt; object, [1, 2, 3, 1, 2, 3, 1]);
-    assert_eq!(rt; pattern.as_slice().len(), 3);
+    assert!(rt; object == [1, 2, 3, 1, 2, 3, 1]);
+    assert!(rt; pattern.as_slice().len() == 3);
+    has_lengths(&rt);
+}
+
+/// A pattern has 1 to 16 bytes.
+fn has_lengths(rt: &impl Abort) {
     assert!(rt; Pattern::new(&[]).is_none());
     assert!(rt; Pattern::new(&[0; 17]).is_none());
     assert!(rt; Pattern::new(&[0; 16]).is_some());

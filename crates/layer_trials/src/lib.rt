@@ -7,11 +7,8 @@ mod buddy;
 mod klist;
 #[cfg(test)]
 mod layout;
-#[cfg(test)]
-mod numbers;
+pub mod numbers;
 #[cfg(test)]
 mod quick;
 #[cfg(test)]
 mod space;
-#[cfg(test)]
-mod tables;

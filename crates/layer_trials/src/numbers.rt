@@ -4,14 +4,16 @@ ghost use Rattle.std.specs.Prelude.{◌<◌};
 
 /// The upper bits of a linear congruential generator (Knuth, The Art of Computer Programming, volume 2, 3.3.4, table 1).
 #[derive(Drop)]
-pub(crate) struct Numbers(u64);
+pub struct Numbers(u64);
 
 impl Numbers {
-    pub(crate) fn new(seed: u64) -> Numbers {
+    /// A generator for each seed.
+    pub fn new(seed: u64) -> Numbers {
         Numbers(seed)
     }
 
-    pub(crate) fn below(&mut self, n: u32) -> u32
+    /// The next number, below `n`.
+    pub fn below(&mut self, n: u32) -> u32
         requires { 0 < n }
         ensures { result < n }
     {

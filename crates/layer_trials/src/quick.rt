@@ -5,6 +5,8 @@ use quick_core::{
     MOST_BYTES_TEXT, Quick, QuickLine, Told, WINDOW, WriteLine, read_bytes_line, read_quick,
     read_write_line, write_bytes, write_quick, write_written,
 };
+use std::alloc::{AllocError, Global};
+use std::process::Abort;
 use std::test::Fail;
 use words_core::{
     Addressee, Answer, Command, Event, MOST_REPLY_BYTES, Refusal, Said, read_line, write_answer,
@@ -31,97 +33,107 @@ fn event_of(line: QuickLine) -> Event {
     )
 }
 
+/// A line that the short path answers, as the whole path reads it.
+fn is_read_alike(rt: &impl Abort, line: &str) {
+    let Some(quick) = read_quick(&window_of(line.as_bytes())) else {
+        panic!(rt; "left: {line}");
+    };
+    assert!(rt; quick.len == line.len() + 1, "{line}");
+    let event = read_line(line.as_bytes());
+    assert!(rt; event == Ok(Some(event_of(quick))), "{line}");
+}
+
 #[test]
 fn reads_as_the_whole_path(rt: HostRuntime) -> Result<(), Fail> {
-    let alloc = rt.alloc();
     for tenant in [0, 1, 9, 10, 63, 999] {
         for number in [0, 1, 9, 10, 255, 4096, 12_345, 999_999_999] {
-            for line in [
-                format!(in alloc; "{tenant} alloc {number}")?,
-                format!(in alloc; "{tenant} free {number}")?,
-                format!(in alloc; "{tenant} take {number}")?,
-                format!(in alloc; "{tenant} give 3 {number}")?,
-                format!(in alloc; "0{tenant} give {number} 4096")?,
-            ] {
-                let line = line.as_str();
-                let Some(quick) = read_quick(&window_of(line.as_bytes())) else {
-                    // No tenant's number of four digits is read.
-                    assert!(rt; line.starts_with("0999"), "{line}");
-                    continue;
-                };
-                assert_eq!(rt; quick.len, line.len() + 1, "{line}");
-                assert_eq!(rt;
-                    Ok(Some(event_of(quick))),
-                    read_line(line.as_bytes()),
-                    "{line}"
-                );
-            }
+            reads_commands(&rt, rt.alloc(), tenant, number)?;
         }
     }
     Ok(())
 }
 
+/// Each command of the short path, with the number.
+fn reads_commands(
+    rt: &impl Abort,
+    alloc: Global,
+    tenant: u32,
+    number: u32,
+) -> Result<(), AllocError> {
+    for (words, more) in [
+        ("alloc", ""),
+        ("free", ""),
+        ("take", ""),
+        ("give 03", ""),
+        ("give", " 4096"),
+    ] {
+        let line = format!(in alloc; "{tenant} {words} {number}{more}")?;
+        is_read_alike(rt, line.as_str());
+    }
+    Ok(())
+}
+
+/// A tenant's number of four digits, more than one blank, another word, a number too many or too few, and the like.
+const LEFT: &[u8] = b"
+0
+0\x20
+ 0 alloc 0
+0  alloc 0
+0 alloc  0
+0 alloc 0\x20
+0 alloc 0\r
+0\talloc 0
+0 alloc
+0 alloc\x20
+0 alloc x
+0 alloc 1x
+0 alloc 1 2
+0 alloc 1000000000
+0 allok 1
+0 freed 1
+0 give 1
+0 give 1\x20
+0 give 1 2 3
+0 read 0 4
+0 write 0 ff
+0 report
+admin pool
+1000 alloc 0
+0999 give 1 4096
+# alloc 0";
+
 #[test]
 fn leaves_the_others(rt: HostRuntime) {
-    for line in [
-        b"".as_slice(),
-        b"0",
-        b"0 ",
-        b" 0 alloc 0",
-        b"0  alloc 0",
-        b"0 alloc  0",
-        b"0 alloc 0 ",
-        b"0 alloc 0\r",
-        b"0\talloc 0",
-        b"0 alloc",
-        b"0 alloc ",
-        b"0 alloc x",
-        b"0 alloc 1x",
-        b"0 alloc 1 2",
-        b"0 alloc 1000000000",
-        b"0 allok 1",
-        b"0 freed 1",
-        b"0 give 1",
-        b"0 give 1 ",
-        b"0 give 1 2 3",
-        b"0 read 0 4",
-        b"0 write 0 ff",
-        b"0 report",
-        b"admin pool",
-        b"1000 alloc 0",
-        b"# alloc 0",
-    ] {
-        assert!(rt;
-            read_quick(&window_of(line)).is_none(),
-            "a line of {} bytes",
-            line.len()
-        );
+    for line in LEFT.split(|byte| *byte == b'\n') {
+        assert!(rt; read_quick(&window_of(line)).is_none(), "{line:?}");
     }
+}
+
+/// A read that the short path answers, as the whole path reads it.
+fn is_read_read_alike(rt: &impl Abort, line: &str) {
+    let Some(read) = read_bytes_line(&window_of(line.as_bytes())) else {
+        panic!(rt; "left: {line}");
+    };
+    assert!(rt; read.len == line.len() + 1, "{line}");
+    let (place, len) = (read.place, read.asked);
+    let event = Event::Tenant(read.tenant, Command::Read { place, len });
+    assert!(rt; read_line(line.as_bytes()) == Ok(Some(event)), "{line}");
 }
 
 #[test]
 fn reads_reads(rt: HostRuntime) -> Result<(), Fail> {
-    let alloc = rt.alloc();
     for place in [0, 7, 4095, 131_071, 999_999_999] {
         for asked in [0, 1, 64, 65, 1000] {
-            let line = format!(in alloc; "12 read {place} {asked}")?;
-            let line = line.as_str();
-            let Some(read) = read_bytes_line(&window_of(line.as_bytes())) else {
-                return Err(Fail::new("a read is left"));
-            };
-            assert_eq!(rt; read.len, line.len() + 1, "{line}");
-            let event = Event::Tenant(
-                read.tenant,
-                Command::Read {
-                    place: read.place,
-                    len: read.asked,
-                },
-            );
-            assert_eq!(rt; Ok(Some(event)), read_line(line.as_bytes()), "{line}");
+            let line = format!(in rt.alloc(); "12 read {place} {asked}")?;
+            is_read_read_alike(&rt, line.as_str());
         }
     }
-    assert!(rt; read_bytes_line(&window_of(b"12 reed 0 4")).is_none());
     Ok(())
+}
+
+#[test]
+fn leaves_another_word(rt: HostRuntime) {
+    assert!(rt; read_bytes_line(&window_of(b"12 reed 0 4")).is_none());
 }
 
 /// What is told, as the whole path says it.
@@ -142,54 +154,59 @@ fn text_of(tenant: u8, said: Said) -> ArrayVec<u8, MOST_REPLY_BYTES> {
     text
 }
 
+/// A reply of the short path, as the whole path writes it.
+fn is_written_alike(rt: &impl Abort, tenant: u8, told: Told) {
+    let mut out = [0; WINDOW];
+    let len = write_quick(tenant, told, &mut out);
+    let text = text_of(tenant, said_of(told));
+    assert!(rt; &out[..len] == text.as_slice(), "{tenant} {text:?}");
+}
+
+/// Numbers of each length.
+const NUMBERS: [u32; 13] = [
+    0,
+    9,
+    10,
+    99,
+    100,
+    999,
+    1000,
+    9999,
+    10_000,
+    99_999,
+    100_000,
+    1_234_567_890,
+    u32::MAX,
+];
+
 #[test]
 fn writes_as_the_whole_path(rt: HostRuntime) {
-    let mut out = [0; WINDOW];
     for tenant in [0, 9, 10, 63, 99, 100, 255] {
-        for number in [
-            0,
-            9,
-            10,
-            99,
-            100,
-            999,
-            1000,
-            9999,
-            10_000,
-            99_999,
-            100_000,
-            1_234_567_890,
-            u32::MAX,
-        ] {
-            for told in [
-                Told::Frame(number),
-                Told::Freed((number % 256) as u8),
-                Told::Object(number),
-                Told::Given,
-                Told::Refused(Refusal::NoFrames),
-                Told::Refused(Refusal::NotAnObject),
-            ] {
-                let len = write_quick(tenant, told, &mut out);
-                assert_eq!(rt;
-                    &out[..len],
-                    text_of(tenant, said_of(told)).as_slice(),
-                    "{number}"
-                );
-            }
+        for number in NUMBERS {
+            is_written_alike(&rt, tenant, Told::Frame(number));
+            is_written_alike(&rt, tenant, Told::Object(number));
+            is_written_alike(&rt, tenant, Told::Freed((number % 256) as u8));
         }
+        is_written_alike(&rt, tenant, Told::Given);
+        is_written_alike(&rt, tenant, Told::Refused(Refusal::NoFrames));
+        is_written_alike(&rt, tenant, Told::Refused(Refusal::NotAnObject));
     }
 }
 
 #[test]
-fn writes_bytes(rt: HostRuntime) {
+fn tells_bytes(rt: HostRuntime) {
     let mut out = [0; MOST_BYTES_TEXT];
     let len = write_bytes(7, &[0, 15, 16, 171, 255], &mut out);
-    assert_eq!(rt; &out[..len], b"7> bytes 000f10abff\n".as_slice());
+    assert!(rt; &out[..len] == b"7> bytes 000f10abff\n".as_slice());
     let len = write_bytes(255, &[0xc3; 64], &mut out);
-    assert_eq!(rt; len, MOST_BYTES_TEXT);
+    assert!(rt; len == MOST_BYTES_TEXT);
+}
+
+#[test]
+fn tells_what_was_written(rt: HostRuntime) {
     let mut out = [0; WINDOW];
     let len = write_written(10, 64, &mut out);
-    assert_eq!(rt; &out[..len], b"10> written 64\n".as_slice());
+    assert!(rt; &out[..len] == b"10> written 64\n".as_slice());
 }
 
 /// What a write says, where the rest is long enough to look at.
@@ -201,29 +218,42 @@ fn written(rest: &[u8], bytes: &mut [u8; 64]) -> Option<WriteLine> {
 }
 
 #[test]
-fn reads_writes(rt: HostRuntime) -> Result<(), Fail> {
+fn reads_writes(rt: HostRuntime) {
     let mut bytes = [0; 64];
     let Some(line) = written(b"3 write 4096 00ff10aB\n0 alloc 0\n0 alloc 0\n", &mut bytes) else {
-        return Err(Fail::new("a write is left"));
+        panic!(rt; "a write is left");
     };
-    assert_eq!(rt; line.tenant, 3);
-    assert_eq!(rt; line.place, 4096);
-    assert_eq!(rt; line.count, 4);
-    assert_eq!(rt; line.len, 22);
-    assert_eq!(rt; &bytes[..4], [0, 255, 16, 171].as_slice());
-    for rest in [
-        b"3 write 4096 00ff10a\n0 alloc 0\n0 alloc 0\n".as_slice(),
-        b"3 write 4096 00ff10ag\n0 alloc 0\n0 alloc 0\n",
-        b"3 write 4096 \n0 alloc 0\n0 alloc 0\n0 alloc 0\n",
-        b"3 write 4096 00ff10aB \n0 alloc 0\n0 alloc 0\n",
-        b"3 write 4096 00ff10aB00ff10aB00ff10aB",
-        b"3 wrote 4096 00ff10aB\n0 alloc 0\n0 alloc 0\n",
-    ] {
-        assert!(rt;
-            written(rest, &mut bytes).is_none(),
-            "a rest of {} bytes",
-            rest.len()
-        );
+    assert!(rt; line.tenant == 3);
+    assert!(rt; line.place == 4096);
+    assert!(rt; line.count == 4);
+    assert!(rt; line.len == 22);
+    assert!(rt; bytes[..4] == [0, 255, 16, 171]);
+}
+
+/// What is no write, with the lines behind it: a digit too few, no digit, no byte, a blank at the end, no line feed, and
+/// another word.
+const NO_WRITES: &[u8] = b"3 write 4096 00ff10a
+0 alloc 0
+0 alloc 0
+|3 write 4096 00ff10ag
+0 alloc 0
+0 alloc 0
+|3 write 4096\x20
+0 alloc 0
+0 alloc 0
+0 alloc 0
+|3 write 4096 00ff10aB\x20
+0 alloc 0
+0 alloc 0
+|3 write 4096 00ff10aB00ff10aB00ff10aB|3 wrote 4096 00ff10aB
+0 alloc 0
+0 alloc 0
+";
+
+#[test]
+fn leaves_other_writes(rt: HostRuntime) {
+    let mut bytes = [0; 64];
+    for rest in NO_WRITES.split(|byte| *byte == b'|') {
+        assert!(rt; written(rest, &mut bytes).is_none(), "{rest:?}");
     }
-    Ok(())
 }

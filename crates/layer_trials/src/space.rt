@@ -1,120 +1,135 @@
 //! Superblocks that change hands, windows, and moves, byte by byte.
 
-ghost use Rattle.std.specs.Prelude.{◌≡◌, ◌<◌, length};
-
 use space_core::{MoveRefusal, Space};
+use std::alloc::{AllocError, Global};
 use std::process::Abort;
 use std::test::Fail;
 
-// A superblock of 8 frames goes from tenant 1 to tenant 0: marked in between, zero after.
+/// Two superblocks of 8 frames, for two tenants.
+fn boot(alloc: Global) -> Result<Space, AllocError> {
+    Space::new(alloc, 3, 2, 2)
+}
+
+/// Tenant `t` is granted superblock `m`, as its slot 0.
+fn is_granted(rt: &impl Abort, space: &mut Space, t: u8, m: u16) {
+    assert!(rt; t < space.tenants());
+    let granted = space.grant(t).ok();
+    assert!(rt; granted == Some((0, m)), "superblock {m}");
+}
+
+/// Slot 0 of tenant 0 moves from one superblock to another.
+fn moves(rt: &impl Abort, space: &mut Space, from: u16, to: u16) {
+    assert!(rt; 0 < space.tenants());
+    let moved = space.move_slot(0, 0).ok();
+    assert!(rt; moved == Some((from, to)), "to superblock {to}");
+    has_sizes(rt, space);
+}
+
+/// A slot of tenant 0 does not move.
+fn stays(rt: &impl Abort, space: &mut Space, slot: u32, refusal: MoveRefusal) {
+    assert!(rt; 0 < space.tenants());
+    assert!(rt; space.move_slot(0, slot) == Err(refusal), "slot {slot}");
+}
+
+fn has_sizes(rt: &impl Abort, space: &Space) {
+    assert!(rt; space.superblocks() == 2);
+    assert!(rt; space.tenants() == 2);
+}
+
+/// Writes byte 5 of slot 0 of tenant `t`.
+fn write(rt: &impl Abort, space: &mut Space, t: u8, byte: u8) {
+    assert!(rt; space.unit() == 32768);
+    assert!(rt; t < space.tenants());
+    assert!(rt; space.machine_of(t, 0).is_some());
+    space.set_byte(t, 5, byte);
+}
+
+/// Tenant 0 reads this byte there.
+fn reads(rt: &impl Abort, space: &Space, byte: u8) {
+    assert!(rt; space.unit() == 32768);
+    assert!(rt; 0 < space.tenants());
+    assert!(rt; space.machine_of(0, 0).is_some());
+    assert!(rt; space.byte(0, 5) == byte);
+    assert!(rt; space.window(0, 4, 3) == Some([0, byte, 0].as_slice()));
+}
+
+/// Superblock `m` is marked, and this is its byte 5.
+fn is_marked_with(rt: &impl Abort, space: &Space, m: u16, byte: u8) {
+    assert!(rt; is_marked(rt, space, m));
+    assert!(rt; m < space.superblocks());
+    assert!(rt; space.machine_bytes(m).get(5) == Some(&byte));
+}
+
+fn is_marked(rt: &impl Abort, space: &Space, m: u16) -> bool {
+    assert!(rt; m < space.superblocks());
+    space.is_marked(m)
+}
+
+fn owner(rt: &impl Abort, space: &Space, m: u16) -> Option<(u8, u16)> {
+    assert!(rt; m < space.superblocks());
+    space.owner(m)
+}
+
+// A superblock goes from tenant 1 to tenant 0: marked in between, zero after.
 #[test]
 fn changes_hands(rt: HostRuntime) -> Result<(), Fail> {
-    let mut space = Space::new(rt.alloc(), 3, 2, 2)?;
-    let first = space.grant(1)?;
-    assert_eq!(rt; first, (0, 0));
-    space.set_byte(1, 5, 0xaa);
-    let taken = space.take_back(1, 0)?;
-    assert_eq!(rt; taken, 0);
-    assert!(rt; space.is_marked(0));
-    assert_eq!(rt; space.machine_bytes(0).get(5).copied(), Some(0xaa));
-    let second = space.grant(0)?;
-    assert_eq!(rt; second, (0, 0));
-    assert!(rt; !space.is_marked(0));
-    assert_eq!(rt; space.byte(0, 5), 0);
+    let mut space = boot(rt.alloc())?;
+    is_granted(&rt, &mut space, 1, 0);
+    write(&rt, &mut space, 1, 0xaa);
+    is_taken_back(&rt, &mut space);
+    is_marked_with(&rt, &space, 0, 0xaa);
+    is_granted(&rt, &mut space, 0, 0);
+    assert!(rt; !is_marked(&rt, &space, 0));
+    reads(&rt, &space, 0);
     Ok(())
+}
+
+/// Slot 0 of tenant 1, which is superblock 0, is taken back.
+fn is_taken_back(rt: &impl Abort, space: &mut Space) {
+    assert!(rt; 1 < space.tenants());
+    assert!(rt; space.take_back(1, 0).ok() == Some(0));
 }
 
 #[test]
 fn windows_end_with_their_slot(rt: HostRuntime) -> Result<(), Fail> {
     let mut space = Space::new(rt.alloc(), 3, 2, 2)?;
     let granted = space.grant(0)?;
-    assert_eq!(rt; granted, (0, 0));
+    assert!(rt; granted == (0, 0));
     space.window_mut(0, 32765, 3).copy_from_slice(&[1, 2, 3]);
     space.zero(0, 32766, 1);
-    assert_eq!(rt; space.window(0, 32764, 4), Some([0, 1, 0, 3].as_slice()));
-    assert_eq!(rt; space.window(0, 32767, 2), None);
+    assert!(rt; space.window(0, 32764, 4) == Some([0, 1, 0, 3].as_slice()));
+    assert!(rt; space.window(0, 32767, 2).is_none());
     Ok(())
 }
 
 #[test]
 fn moves_with_its_bytes(rt: HostRuntime) -> Result<(), Fail> {
-    let mut space = Space::new(rt.alloc(), 3, 2, 2)?;
-    let granted = space.grant(0)?;
-    assert_eq!(rt; granted, (0, 0));
-    space.set_byte(0, 5, 0x7f);
-    let moved = space.move_slot(0, 0).ok();
-    assert_eq!(rt; moved, Some((0, 1)));
-    has_sizes(&rt, &space);
-    assert_eq!(rt; space.window(0, 4, 3), Some([0, 0x7f, 0].as_slice()));
-    assert_eq!(rt; (space.owner(0), space.owner(1)), (None, Some((0, 0))));
-    assert!(rt; space.is_marked(0));
-    assert_eq!(rt; space.machine_bytes(0).get(5).copied(), Some(0x7f));
+    let mut space = boot(rt.alloc())?;
+    is_granted(&rt, &mut space, 0, 0);
+    write(&rt, &mut space, 0, 0x7f);
+    moves(&rt, &mut space, 0, 1);
+    reads(&rt, &space, 0x7f);
+    assert!(rt; owner(&rt, &space, 0).is_none());
+    assert!(rt; owner(&rt, &space, 1) == Some((0, 0)));
+    is_marked_with(&rt, &space, 0, 0x7f);
     Ok(())
 }
 
 // Back to the superblock that the slot left, where old bytes lie, and with none to go to.
 #[test]
 fn moves_back(rt: HostRuntime) -> Result<(), Fail> {
-    let mut space = Space::new(rt.alloc(), 3, 2, 2)?;
-    let granted = space.grant(0)?;
-    assert_eq!(rt; granted, (0, 0));
-    space.set_byte(0, 5, 0x7f);
-    let moved = space.move_slot(0, 0).ok();
-    assert_eq!(rt; moved, Some((0, 1)));
+    let mut space = boot(rt.alloc())?;
+    is_granted(&rt, &mut space, 0, 0);
+    write(&rt, &mut space, 0, 0x7f);
+    moves(&rt, &mut space, 0, 1);
+    write(&rt, &mut space, 0, 0xaa);
+    moves(&rt, &mut space, 1, 0);
+    reads(&rt, &space, 0xaa);
+    assert!(rt; !is_marked(&rt, &space, 0));
+    assert!(rt; is_marked(&rt, &space, 1));
+    is_granted(&rt, &mut space, 1, 1);
     has_sizes(&rt, &space);
-    write(&rt, &mut space, 0xaa);
-    let back = space.move_slot(0, 0).ok();
-    assert_eq!(rt; back, Some((1, 0)));
-    has_sizes(&rt, &space);
-    assert_eq!(rt; space.window(0, 4, 3), Some([0, 0xaa, 0].as_slice()));
-    assert!(rt; !space.is_marked(0) && space.is_marked(1));
-    assert!(rt; space.grant(1).is_ok());
-    has_sizes(&rt, &space);
-    assert_eq!(rt; space.move_slot(0, 0), Err(MoveRefusal::PoolEmpty));
-    assert_eq!(rt; space.move_slot(0, 1), Err(MoveRefusal::NoSlot));
+    stays(&rt, &mut space, 0, MoveRefusal::PoolEmpty);
+    stays(&rt, &mut space, 1, MoveRefusal::NoSlot);
     Ok(())
-}
-
-// For runs in which one allocation is refused: `new` then answers that, and no later call needs any.
-#[test]
-fn asks_for_memory_at_boot_alone(rt: HostRuntime) {
-    let Ok(mut space) = Space::new(rt.alloc(), 3, 2, 2) else {
-        return;
-    };
-    has_sizes(&rt, &space);
-    assert_eq!(rt; space.unowned(), 2);
-    assert!(rt; space.grant(0).is_ok());
-    has_sizes(&rt, &space);
-    write(&rt, &mut space, 0x7f);
-    assert!(rt; space.move_slot(0, 0).is_ok());
-    has_sizes(&rt, &space);
-    assert_eq!(rt; byte_of(&space, 0), Some(0x7f));
-    assert!(rt; space.grant(1).is_ok());
-    has_sizes(&rt, &space);
-    assert_eq!(rt; byte_of(&space, 1), Some(0));
-    assert_eq!(rt; space.take_back(0, 0).ok(), Some(1));
-}
-
-fn has_sizes(rt: &impl Abort, space: &Space)
-    ensures superblocks { length space.now.owners ≡ 2 }
-    ensures tenants { length space.now.slots ≡ 2 }
-{
-    assert_eq!(rt; (space.superblocks(), space.tenants()), (2, 2));
-}
-
-// Writes a byte of slot 0 of tenant 0.
-fn write(rt: &impl Abort, space: &mut Space, byte: u8)
-    requires { length space.old.slots ≡ 2 }
-    ensures { length space.new.slots ≡ 2 }
-{
-    assert_eq!(rt; space.unit(), 32768);
-    assert!(rt; space.machine_of(0, 0).is_some());
-    space.set_byte(0, 5, byte);
-}
-
-// That byte, of any tenant.
-fn byte_of(space: &Space, t: u8) -> Option<u8>
-    requires { t < length space.now.slots }
-{
-    space.window(t, 5, 1)?.first().copied()
 }

@@ -1,6 +1,7 @@
 //! The object layer beside a plain model of it.
 #![tactic(auto)]
 
+pub mod numbers;
 #[cfg(test)]
 mod parts;
 #[cfg(test)]

@@ -38,15 +38,23 @@ pub(crate) struct Slab {
 
 impl Slab {
     fn live(&self) -> u32 {
-        let flags = self.flags.iter().take(self.cut.count as usize);
-        flags.filter(|flag| **flag).count() as u32
+        let mut live = 0u32;
+        for index in 0..self.cut.count {
+            if self.is_live(index) {
+                live = live.wrapping_add(1);
+            }
+        }
+        live
     }
 
     fn kind(&self) -> Kind {
-        match self.live() {
-            0 => Kind::Empty,
-            live if live == self.cut.count => Kind::Full,
-            _ => Kind::Partial,
+        let live = self.live();
+        if live == 0 {
+            Kind::Empty
+        } else if live == self.cut.count {
+            Kind::Full
+        } else {
+            Kind::Partial
         }
     }
 
@@ -103,16 +111,14 @@ impl Slab {
 
     /// The place of the first live object from an index on, else of the first of all.
     pub(crate) fn some_live(&self, from: u32) -> Option<u32> {
-        for index in from..self.cut.count {
-            if self.is_live(index) {
-                return Some(self.place(index));
-            }
+        match self.first_live(from) {
+            None => self.first_live(0),
+            place => place,
         }
-        if from > 0 { self.first_live() } else { None }
     }
 
-    fn first_live(&self) -> Option<u32> {
-        for index in 0..self.cut.count {
+    fn first_live(&self, from: u32) -> Option<u32> {
+        for index in from..self.cut.count {
             if self.is_live(index) {
                 return Some(self.place(index));
             }
@@ -248,7 +254,7 @@ impl Plain {
         let mut frames = 0u32;
         for i in 0..self.slabs.len() {
             if let Some((c, first, order)) = self.empty_at(t, i)
-                && only.is_none_or(|cache| cache == c)
+                && (only.is_none() || only == Some(c))
             {
                 self.mark(t, first, order, 0, 0);
                 self.forget(i);
@@ -313,7 +319,7 @@ impl Plain {
             if slab.tenant == t
                 && slab.cache == c
                 && slab.first >= from
-                && least.is_none_or(|first| slab.first < first)
+                && slab.first < least.unwrap_or(u32::MAX)
                 && slab.kind() == kind
             {
                 least = Some(slab.first);

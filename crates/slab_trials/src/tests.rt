@@ -1,8 +1,9 @@
 //! Twenty thousand mixed calls beside a plain model of slabs.
 
-ghost use Rattle.std.specs.Prelude.{◌<◌, ◌≤◌};
+ghost use Rattle.std.specs.Prelude.{◌≤◌};
 ghost use Rattle.model_core.specs.declared.limits.TheConstants.{MOST_ORDER};
 
+use crate::numbers::Numbers;
 use crate::parts::{Parts, TENANTS};
 use crate::plain::{Cut, Plain};
 use layout_core::{Layout, Pattern};
@@ -15,7 +16,9 @@ use std::process::Abort;
 use std::test::Fail;
 
 /// Size, alignment, and what the table of layouts says: chunk, order, objects and colours.
-const CUTS: [(u32, u32, u32, u8, u32, u32); 12] = [
+type CutRow = (u32, u32, u32, u8, u32, u32);
+
+const CUTS: [CutRow; 12] = [
     (1, 8, 16, 0, 254, 1),
     (65, 64, 128, 0, 31, 2),
     (200, 8, 200, 0, 20, 9),
@@ -30,23 +33,38 @@ const CUTS: [(u32, u32, u32, u8, u32, u32); 12] = [
     (3000, 8, 3000, 2, 5, 174),
 ];
 
+fn cut_of(row: CutRow) -> Cut {
+    let (size, align, chunk, order, count, colours) = row;
+    Cut {
+        size,
+        align,
+        chunk,
+        order,
+        count,
+        colours,
+        made: 0,
+    }
+}
+
 /// Every object is constructed so, and none is written.
 const PATTERN: [u8; 3] = [3, 5, 7];
 
-/// Numbers that look random (Marsaglia's xorshift).
-#[derive(Drop)]
-struct Numbers(u64);
-
-impl Numbers {
-    fn below(&mut self, n: u32) -> u32
-        requires { 0 < n }
-        ensures { result < n }
-    {
-        self.0 ^= self.0 << 13;
-        self.0 ^= self.0 >> 7;
-        self.0 ^= self.0 << 17;
-        (self.0 >> 33) as u32 % n
+fn is_constructed(bytes: &[u8]) -> bool {
+    for piece in bytes.chunks(PATTERN.len()) {
+        if !PATTERN.starts_with(piece) {
+            return false;
+        }
     }
+    true
+}
+
+fn is_zero(bytes: &[u8]) -> bool {
+    for byte in bytes {
+        if *byte != 0 {
+            return false;
+        }
+    }
+    true
 }
 
 /// What the calls did.
@@ -96,7 +114,7 @@ impl Beside {
             order,
             parts: Parts::new(alloc, order)?,
             plain: Plain::new(alloc, order)?,
-            numbers: Numbers(0x9e37_79b9_7f4a_7c15 ^ u64::from(order)),
+            numbers: Numbers::new(0x9e37_79b9_7f4a_7c15 ^ u64::from(order)),
             tally: [0; 24],
         })
     }
@@ -109,23 +127,12 @@ impl Beside {
 
     fn create(&mut self, rt: &impl Abort, t: u8) {
         let i = self.numbers.below(12) as usize;
-        let (size, align, chunk, order, count, colours) = CUTS[i];
-        let Ok(layout) = Layout::of(size, align) else {
-            panic!(rt; "size {size} and alignment {align} have a layout");
-        };
+        let cut = cut_of(CUTS[i]);
+        let layout = Layout::of(cut.size, cut.align).expect(rt, "one of the table");
         let pattern = Pattern::new(&PATTERN).expect(rt, "three bytes");
-        let cut = Cut {
-            size,
-            align,
-            chunk,
-            order,
-            count,
-            colours,
-            made: 0,
-        };
         if self.parts.has_tenant(t) {
             let answer = self.parts.create(t, layout, pattern);
-            assert_eq!(rt; answer, self.plain.create(t, cut));
+            assert!(rt; answer == self.plain.create(t, cut));
             self.saw(if answer.is_some() {
                 Done::Created
             } else {
@@ -149,7 +156,7 @@ impl Beside {
             return;
         }
         let answer = self.parts.take(t, c);
-        assert_eq!(rt; answer, self.plain.take(t, c));
+        assert!(rt; answer == self.plain.take(t, c));
         let done = match answer {
             Ok(_) if is_standing => Done::Taken,
             Ok(_) if self.plain.needed != needed => Done::GrownByNeed,
@@ -165,15 +172,16 @@ impl Beside {
 
     /// The object reads as it was constructed.
     fn compare_object(&self, rt: &impl Abort, t: u8, c: u32, place: u32) {
-        let size = self.plain.cache(t, c).map_or(0, |cut| cut.size);
+        let size = match self.plain.cache(t, c) {
+            Some(cut) => cut.size,
+            None => 0,
+        };
         if self.parts.has_tenant(t) {
             let bytes = self
                 .parts
                 .bytes(t, place, size)
                 .expect(rt, "it has a place");
-            for (i, byte) in bytes.iter().enumerate() {
-                assert_eq!(rt; *byte, PATTERN[i % 3]);
-            }
+            assert!(rt; is_constructed(bytes));
         }
     }
 
@@ -196,7 +204,7 @@ impl Beside {
         }
         if self.parts.has_tenant(t) {
             let answer = self.parts.give(t, c, place);
-            assert_eq!(rt; answer, self.plain.give(t, c, place));
+            assert!(rt; answer == self.plain.give(t, c, place));
             self.saw(if answer.is_ok() {
                 Done::Given
             } else {
@@ -208,7 +216,7 @@ impl Beside {
     fn reap(&mut self, rt: &impl Abort, t: u8) {
         if self.parts.has_tenant(t) {
             let answer = self.parts.reap(t);
-            assert_eq!(rt; answer, self.plain.reap(t));
+            assert!(rt; answer == self.plain.reap(t));
             if answer > 0 {
                 self.saw(Done::Reaped);
             }
@@ -219,7 +227,7 @@ impl Beside {
         let c = self.some_cache();
         if self.parts.has_tenant(t) {
             let answer = self.parts.destroy(t, c);
-            assert_eq!(rt; answer, self.plain.destroy(t, c));
+            assert!(rt; answer == self.plain.destroy(t, c));
             self.saw(match answer {
                 Ok(_) => Done::Destroyed,
                 Err(DestroyRefusal::CacheInUse) => Done::InUse,
@@ -236,7 +244,7 @@ impl Beside {
         for c in 6..u32::from(MOST_CACHES) {
             if self.parts.has_tenant(t) {
                 let answer = self.parts.destroy(t, c);
-                assert_eq!(rt; answer, self.plain.destroy(t, c));
+                assert!(rt; answer == self.plain.destroy(t, c));
             }
         }
     }
@@ -250,7 +258,7 @@ impl Beside {
             return;
         }
         let answer = self.parts.reserve(t, k);
-        assert_eq!(rt; answer, self.plain.reserve(t, k));
+        assert!(rt; answer == self.plain.reserve(t, k));
         if let Some(first) = answer {
             self.compare_block(rt, t, first, k);
         }
@@ -267,7 +275,7 @@ impl Beside {
         if self.parts.has_tenant(t) {
             let bytes = self.parts.bytes(t, place, FRAME_BYTES << (k & 7));
             let bytes = bytes.expect(rt, "it lies in a slot");
-            assert!(rt; bytes.iter().all(|byte| *byte == 0));
+            assert!(rt; is_zero(bytes));
         }
     }
 
@@ -287,7 +295,7 @@ impl Beside {
         let frame = self.some_frame(t);
         if self.parts.has_tenant(t) {
             let answer = self.parts.release(t, frame);
-            assert_eq!(rt; answer, self.plain.release(t, frame));
+            assert!(rt; answer == self.plain.release(t, frame));
             self.saw(if answer.is_some() {
                 Done::Released
             } else {
@@ -299,7 +307,7 @@ impl Beside {
     fn grant(&mut self, rt: &impl Abort, t: u8) {
         if self.parts.has_tenant(t) {
             let answer = self.parts.grant(t);
-            assert_eq!(rt; answer, self.plain.grant(t));
+            assert!(rt; answer == self.plain.grant(t));
             self.saw(if answer.is_some() {
                 Done::Granted
             } else {
@@ -316,7 +324,7 @@ impl Beside {
         let slot = self.some_slot();
         if self.parts.has_tenant(t) {
             let answer = self.parts.take_back(t, slot.into());
-            assert_eq!(rt; answer, self.plain.take_back(t, slot));
+            assert!(rt; answer == self.plain.take_back(t, slot));
             match answer {
                 Ok(_) => self.saw(Done::TakenBack),
                 Err(TakeBackRefusal::SlotBusy) => self.saw(Done::Busy),
@@ -329,7 +337,7 @@ impl Beside {
         let slot = self.some_slot();
         if self.parts.has_tenant(t) {
             let answer = self.parts.move_slot(t, slot.into());
-            assert_eq!(rt; answer, self.plain.move_slot(t, slot));
+            assert!(rt; answer == self.plain.move_slot(t, slot));
             self.saw(if answer.is_ok() {
                 Done::Moved
             } else {
@@ -389,14 +397,21 @@ impl Beside {
         }
         for _ in 0..=self.plain.slabs.len() {
             let want = self.plain.slab_from(t, c.into(), kind, from);
-            assert_eq!(rt; next.map(|slab| slab.0), want, "cache {c} {kind:?}");
             let Some((first, node)) = next else {
+                assert!(rt; want.is_none());
                 return;
             };
-            assert_eq!(rt; Some(node as usize), self.plain.node(t, first));
+            self.compare_slab(rt, t, (first, node), want);
             from = first.wrapping_add(1);
             next = self.parts.slab_after(node);
         }
+    }
+
+    /// The first frame and the node of a slab in a list.
+    fn compare_slab(&self, rt: &impl Abort, t: u8, slab: (u32, u32), want: Option<u32>) {
+        let (first, node) = slab;
+        assert!(rt; want == Some(first));
+        assert!(rt; self.plain.node(t, first) == Some(node as usize));
     }
 
     fn compare_lists(&self, rt: &impl Abort, t: u8) {
@@ -415,11 +430,11 @@ impl Beside {
         let mut i = 0usize;
         for c in 0..MOST_CACHES {
             if let Some(want) = self.plain.row(t, c) {
-                assert_eq!(rt; rows.get(i).copied(), Some(want));
+                assert!(rt; rows.get(i) == Some(&want));
                 i = i.wrapping_add(1);
             }
         }
-        assert_eq!(rt; rows.len(), i);
+        assert!(rt; rows.len() == i);
     }
 
     /// Room for blocks of an order, also of one that no superblock has.
@@ -427,7 +442,7 @@ impl Beside {
         let k = self.numbers.below(u32::from(self.order) + 2).min(9) as u8;
         if self.parts.has_tenant(t) {
             let room = self.parts.would_fit(t, k);
-            assert_eq!(rt; room, self.plain.find_reaped(t, k).is_some(), "order {k}");
+            assert!(rt; room == self.plain.find_reaped(t, k).is_some());
         }
     }
 
@@ -439,8 +454,30 @@ impl Beside {
         let frame = self.some_frame(t);
         if self.parts.has_tenant(t) {
             let reach = self.parts.object_at(t, place, len);
-            assert_eq!(rt; reach, self.plain.object_at(t, place, len));
-            assert_eq!(rt; self.parts.is_slab(t, frame), self.plain.is_slab(t, frame));
+            assert!(rt; reach == self.plain.object_at(t, place, len));
+            assert!(rt; self.parts.is_slab(t, frame) == self.plain.is_slab(t, frame));
+        }
+    }
+
+    fn begin(&mut self, rt: &impl Abort) {
+        for t in 0..TENANTS {
+            self.settle(rt, t);
+        }
+    }
+
+    /// So many calls, for any of the tenants.
+    fn call_often(&mut self, rt: &impl Abort, calls: u32) {
+        for number in 0..calls {
+            let t = self.numbers.below(u32::from(TENANTS)) as u8;
+            self.call(rt, t, number / 200 % 2 == 1);
+            self.compare(rt, t, number);
+        }
+    }
+
+    /// Everything came up that the calls can do.
+    fn check_tally(&self, rt: &impl Abort) {
+        for count in &self.tally {
+            assert!(rt; *count > 5);
         }
     }
 
@@ -464,20 +501,10 @@ impl Beside {
 fn answers_as_the_plain_model(rt: HostRuntime) -> Result<(), Fail> {
     for order in 3..6u8 {
         let mut beside = Beside::new(rt.alloc(), order)?;
-        for t in 0..TENANTS {
-            beside.settle(&rt, t);
-        }
+        beside.begin(&rt);
         // The plain model is slow in large superblocks. In all these are 20,100 calls.
-        for number in 0..13_500 - 1_700 * u32::from(order) {
-            let t = beside.numbers.below(u32::from(TENANTS)) as u8;
-            beside.call(&rt, t, number / 200 % 2 == 1);
-            beside.compare(&rt, t, number);
-        }
-        assert!(rt;
-            beside.tally.iter().all(|count| *count > 5),
-            "{:?}",
-            beside.tally
-        );
+        beside.call_often(&rt, 13_500 - 1_700 * u32::from(order));
+        beside.check_tally(&rt);
     }
     Ok(())
 }
