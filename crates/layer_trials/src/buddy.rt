@@ -602,7 +602,7 @@ fn answers_as_the_plain_search(rt: HostRuntime) -> Result<(), Fail> {
 }
 
 /// A block of order `k` for tenant 0 begins at `frame`.
-fn is_reserved(rt: &impl Abort, buddy: &mut Buddy, k: u8, frame: u32) {
+fn expect_reserved(rt: &impl Abort, buddy: &mut Buddy, k: u8, frame: u32) {
     assert!(rt; 0 < buddy.tenants());
     assert!(rt; k <= buddy.order());
     let first = buddy.reserve(0, k);
@@ -610,14 +610,14 @@ fn is_reserved(rt: &impl Abort, buddy: &mut Buddy, k: u8, frame: u32) {
 }
 
 /// The block that begins at `frame` has order `k`.
-fn is_released(rt: &impl Abort, buddy: &mut Buddy, frame: u32, k: u8) {
+fn expect_released(rt: &impl Abort, buddy: &mut Buddy, frame: u32, k: u8) {
     assert!(rt; 0 < buddy.tenants());
     let order = buddy.release(0, frame);
     assert!(rt; order == Some(k), "frame {frame}, order {k}");
 }
 
 /// The words of superblock 0.
-fn has_words(rt: &impl Abort, buddy: &Buddy, words: [u16; 15]) {
+fn expect_words(rt: &impl Abort, buddy: &Buddy, words: [u16; 15]) {
     assert!(rt; 0 < buddy.superblocks());
     assert!(rt; buddy.table(0) == words.as_slice(), "not {words:?}");
 }
@@ -633,19 +633,19 @@ fn one_superblock(alloc: Global) -> Result<Buddy, AllocError> {
 #[test]
 fn words_of_a_tree(rt: HostRuntime) -> Result<(), Fail> {
     let mut buddy = one_superblock(rt.alloc())?;
-    is_reserved(&rt, &mut buddy, 0, 0);
-    is_reserved(&rt, &mut buddy, 0, 1);
-    is_reserved(&rt, &mut buddy, 1, 2);
-    is_reserved(&rt, &mut buddy, 2, 4);
-    has_words(&rt, &buddy, [0; 15]);
-    is_released(&rt, &mut buddy, 0, 0);
-    is_released(&rt, &mut buddy, 4, 2);
-    has_words(&rt, &buddy, [5, 1, 4, 1, 0, 0, 0, 1, 0, 0, 0, 0, 0, 0, 0]);
-    is_reserved(&rt, &mut buddy, 1, 4);
-    has_words(&rt, &buddy, [3, 1, 2, 1, 0, 0, 2, 1, 0, 0, 0, 0, 0, 0, 0]);
-    is_released(&rt, &mut buddy, 1, 0);
-    is_released(&rt, &mut buddy, 2, 1);
-    is_released(&rt, &mut buddy, 4, 1);
-    has_words(&rt, &buddy, [8, 0, 0, 0, 0, 0, 0, 0, 0, 0, 0, 0, 0, 0, 0]);
+    expect_reserved(&rt, &mut buddy, 0, 0);
+    expect_reserved(&rt, &mut buddy, 0, 1);
+    expect_reserved(&rt, &mut buddy, 1, 2);
+    expect_reserved(&rt, &mut buddy, 2, 4);
+    expect_words(&rt, &buddy, [0; 15]);
+    expect_released(&rt, &mut buddy, 0, 0);
+    expect_released(&rt, &mut buddy, 4, 2);
+    expect_words(&rt, &buddy, [5, 1, 4, 1, 0, 0, 0, 1, 0, 0, 0, 0, 0, 0, 0]);
+    expect_reserved(&rt, &mut buddy, 1, 4);
+    expect_words(&rt, &buddy, [3, 1, 2, 1, 0, 0, 2, 1, 0, 0, 0, 0, 0, 0, 0]);
+    expect_released(&rt, &mut buddy, 1, 0);
+    expect_released(&rt, &mut buddy, 2, 1);
+    expect_released(&rt, &mut buddy, 4, 1);
+    expect_words(&rt, &buddy, [8, 0, 0, 0, 0, 0, 0, 0, 0, 0, 0, 0, 0, 0, 0]);
     Ok(())
 }

@@ -57,17 +57,17 @@ fn table_of_layouts(rt: HostRuntime) {
 }
 
 /// No layout, for this reason.
-fn is_refused(rt: &impl Abort, size: u32, align: u32, refusal: LayoutRefusal) {
+fn expect_refused(rt: &impl Abort, size: u32, align: u32, refusal: LayoutRefusal) {
     let refused = Layout::of(size, align).err();
     assert!(rt; refused == Some(refusal), "size {size}, alignment {align}");
 }
 
 #[test]
 fn refuses_layouts(rt: HostRuntime) {
-    is_refused(&rt, 0, 12, LayoutRefusal::BadSize);
-    is_refused(&rt, 4097, 8, LayoutRefusal::BadSize);
-    is_refused(&rt, 1, 12, LayoutRefusal::BadAlign);
-    is_refused(&rt, 1, 512, LayoutRefusal::BadAlign);
+    expect_refused(&rt, 0, 12, LayoutRefusal::BadSize);
+    expect_refused(&rt, 4097, 8, LayoutRefusal::BadSize);
+    expect_refused(&rt, 1, 12, LayoutRefusal::BadAlign);
+    expect_refused(&rt, 1, 512, LayoutRefusal::BadAlign);
 }
 
 /// The object of a slab of the second colour that begins at an offset, and the one that holds bytes from there on.

@@ -34,7 +34,7 @@ fn event_of(line: QuickLine) -> Event {
 }
 
 /// A line that the short path answers, as the whole path reads it.
-fn is_read_alike(rt: &impl Abort, line: &str) {
+fn expect_read(rt: &impl Abort, line: &str) {
     let Some(quick) = read_quick(&window_of(line.as_bytes())) else {
         panic!(rt; "left: {line}");
     };
@@ -68,7 +68,7 @@ fn reads_commands(
         ("give", " 4096"),
     ] {
         let line = format!(in alloc; "{tenant} {words} {number}{more}")?;
-        is_read_alike(rt, line.as_str());
+        expect_read(rt, line.as_str());
     }
     Ok(())
 }
@@ -110,7 +110,7 @@ fn leaves_the_others(rt: HostRuntime) {
 }
 
 /// A read that the short path answers, as the whole path reads it.
-fn is_read_read_alike(rt: &impl Abort, line: &str) {
+fn expect_read_of_bytes(rt: &impl Abort, line: &str) {
     let Some(read) = read_bytes_line(&window_of(line.as_bytes())) else {
         panic!(rt; "left: {line}");
     };
@@ -125,7 +125,7 @@ fn reads_reads(rt: HostRuntime) -> Result<(), Fail> {
     for place in [0, 7, 4095, 131_071, 999_999_999] {
         for asked in [0, 1, 64, 65, 1000] {
             let line = format!(in rt.alloc(); "12 read {place} {asked}")?;
-            is_read_read_alike(&rt, line.as_str());
+            expect_read_of_bytes(&rt, line.as_str());
         }
     }
     Ok(())
@@ -155,7 +155,7 @@ fn text_of(tenant: u8, said: Said) -> ArrayVec<u8, MOST_REPLY_BYTES> {
 }
 
 /// A reply of the short path, as the whole path writes it.
-fn is_written_alike(rt: &impl Abort, tenant: u8, told: Told) {
+fn expect_written(rt: &impl Abort, tenant: u8, told: Told) {
     let mut out = [0; WINDOW];
     let len = write_quick(tenant, told, &mut out);
     let text = text_of(tenant, said_of(told));
@@ -183,13 +183,13 @@ const NUMBERS: [u32; 13] = [
 fn writes_as_the_whole_path(rt: HostRuntime) {
     for tenant in [0, 9, 10, 63, 99, 100, 255] {
         for number in NUMBERS {
-            is_written_alike(&rt, tenant, Told::Frame(number));
-            is_written_alike(&rt, tenant, Told::Object(number));
-            is_written_alike(&rt, tenant, Told::Freed((number % 256) as u8));
+            expect_written(&rt, tenant, Told::Frame(number));
+            expect_written(&rt, tenant, Told::Object(number));
+            expect_written(&rt, tenant, Told::Freed((number % 256) as u8));
         }
-        is_written_alike(&rt, tenant, Told::Given);
-        is_written_alike(&rt, tenant, Told::Refused(Refusal::NoFrames));
-        is_written_alike(&rt, tenant, Told::Refused(Refusal::NotAnObject));
+        expect_written(&rt, tenant, Told::Given);
+        expect_written(&rt, tenant, Told::Refused(Refusal::NoFrames));
+        expect_written(&rt, tenant, Told::Refused(Refusal::NotAnObject));
     }
 }
 

@@ -11,27 +11,27 @@ fn boot(alloc: Global) -> Result<Space, AllocError> {
 }
 
 /// Tenant `t` is granted superblock `m`, as its slot 0.
-fn is_granted(rt: &impl Abort, space: &mut Space, t: u8, m: u16) {
+fn expect_granted(rt: &impl Abort, space: &mut Space, t: u8, m: u16) {
     assert!(rt; t < space.tenants());
     let granted = space.grant(t).ok();
     assert!(rt; granted == Some((0, m)), "superblock {m}");
 }
 
 /// Slot 0 of tenant 0 moves from one superblock to another.
-fn moves(rt: &impl Abort, space: &mut Space, from: u16, to: u16) {
+fn expect_moved(rt: &impl Abort, space: &mut Space, from: u16, to: u16) {
     assert!(rt; 0 < space.tenants());
     let moved = space.move_slot(0, 0).ok();
     assert!(rt; moved == Some((from, to)), "to superblock {to}");
-    has_sizes(rt, space);
+    expect_sizes(rt, space);
 }
 
 /// A slot of tenant 0 does not move.
-fn stays(rt: &impl Abort, space: &mut Space, slot: u32, refusal: MoveRefusal) {
+fn expect_stays(rt: &impl Abort, space: &mut Space, slot: u32, refusal: MoveRefusal) {
     assert!(rt; 0 < space.tenants());
     assert!(rt; space.move_slot(0, slot) == Err(refusal), "slot {slot}");
 }
 
-fn has_sizes(rt: &impl Abort, space: &Space) {
+fn expect_sizes(rt: &impl Abort, space: &Space) {
     assert!(rt; space.superblocks() == 2);
     assert!(rt; space.tenants() == 2);
 }
@@ -45,7 +45,7 @@ fn write(rt: &impl Abort, space: &mut Space, t: u8, byte: u8) {
 }
 
 /// Tenant 0 reads this byte there.
-fn reads(rt: &impl Abort, space: &Space, byte: u8) {
+fn expect_read(rt: &impl Abort, space: &Space, byte: u8) {
     assert!(rt; space.unit() == 32768);
     assert!(rt; 0 < space.tenants());
     assert!(rt; space.machine_of(0, 0).is_some());
@@ -54,7 +54,7 @@ fn reads(rt: &impl Abort, space: &Space, byte: u8) {
 }
 
 /// Superblock `m` is marked, and this is its byte 5.
-fn is_marked_with(rt: &impl Abort, space: &Space, m: u16, byte: u8) {
+fn expect_marked(rt: &impl Abort, space: &Space, m: u16, byte: u8) {
     assert!(rt; is_marked(rt, space, m));
     assert!(rt; m < space.superblocks());
     assert!(rt; space.machine_bytes(m).get(5) == Some(&byte));
@@ -74,18 +74,18 @@ fn owner(rt: &impl Abort, space: &Space, m: u16) -> Option<(u8, u16)> {
 #[test]
 fn changes_hands(rt: HostRuntime) -> Result<(), Fail> {
     let mut space = boot(rt.alloc())?;
-    is_granted(&rt, &mut space, 1, 0);
+    expect_granted(&rt, &mut space, 1, 0);
     write(&rt, &mut space, 1, 0xaa);
-    is_taken_back(&rt, &mut space);
-    is_marked_with(&rt, &space, 0, 0xaa);
-    is_granted(&rt, &mut space, 0, 0);
+    expect_taken_back(&rt, &mut space);
+    expect_marked(&rt, &space, 0, 0xaa);
+    expect_granted(&rt, &mut space, 0, 0);
     assert!(rt; !is_marked(&rt, &space, 0));
-    reads(&rt, &space, 0);
+    expect_read(&rt, &space, 0);
     Ok(())
 }
 
 /// Slot 0 of tenant 1, which is superblock 0, is taken back.
-fn is_taken_back(rt: &impl Abort, space: &mut Space) {
+fn expect_taken_back(rt: &impl Abort, space: &mut Space) {
     assert!(rt; 1 < space.tenants());
     assert!(rt; space.take_back(1, 0).ok() == Some(0));
 }
@@ -105,13 +105,13 @@ fn windows_end_with_their_slot(rt: HostRuntime) -> Result<(), Fail> {
 #[test]
 fn moves_with_its_bytes(rt: HostRuntime) -> Result<(), Fail> {
     let mut space = boot(rt.alloc())?;
-    is_granted(&rt, &mut space, 0, 0);
+    expect_granted(&rt, &mut space, 0, 0);
     write(&rt, &mut space, 0, 0x7f);
-    moves(&rt, &mut space, 0, 1);
-    reads(&rt, &space, 0x7f);
+    expect_moved(&rt, &mut space, 0, 1);
+    expect_read(&rt, &space, 0x7f);
     assert!(rt; owner(&rt, &space, 0).is_none());
     assert!(rt; owner(&rt, &space, 1) == Some((0, 0)));
-    is_marked_with(&rt, &space, 0, 0x7f);
+    expect_marked(&rt, &space, 0, 0x7f);
     Ok(())
 }
 
@@ -119,17 +119,17 @@ fn moves_with_its_bytes(rt: HostRuntime) -> Result<(), Fail> {
 #[test]
 fn moves_back(rt: HostRuntime) -> Result<(), Fail> {
     let mut space = boot(rt.alloc())?;
-    is_granted(&rt, &mut space, 0, 0);
+    expect_granted(&rt, &mut space, 0, 0);
     write(&rt, &mut space, 0, 0x7f);
-    moves(&rt, &mut space, 0, 1);
+    expect_moved(&rt, &mut space, 0, 1);
     write(&rt, &mut space, 0, 0xaa);
-    moves(&rt, &mut space, 1, 0);
-    reads(&rt, &space, 0xaa);
+    expect_moved(&rt, &mut space, 1, 0);
+    expect_read(&rt, &space, 0xaa);
     assert!(rt; !is_marked(&rt, &space, 0));
     assert!(rt; is_marked(&rt, &space, 1));
-    is_granted(&rt, &mut space, 1, 1);
-    has_sizes(&rt, &space);
-    stays(&rt, &mut space, 0, MoveRefusal::PoolEmpty);
-    stays(&rt, &mut space, 1, MoveRefusal::NoSlot);
+    expect_granted(&rt, &mut space, 1, 1);
+    expect_sizes(&rt, &space);
+    expect_stays(&rt, &mut space, 0, MoveRefusal::PoolEmpty);
+    expect_stays(&rt, &mut space, 1, MoveRefusal::NoSlot);
     Ok(())
 }
