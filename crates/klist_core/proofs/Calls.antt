@@ -1,55 +1,63 @@
 -- What is known in an insertion and in a removal before their writes.
-use Rattle.std.proofs.Common.{◌≡◌, ℕ, ◌+◌, ◌^◌, ◌<◌, ◌≤◌, List, [], Option, Some, None, length, get_or, set, ap, sym, ◌∙◌, subst, arith}
-use Rattle.std.specs.Prelude.{◌≢◌}
+use Rattle.std.proofs.Common.{◌≡◌, ℕ, ◌+◌, ◌-◌, ◌^◌, ◌<◌, ◌≤◌, List, [], Option, Some, None, length, get_or, set, refl, ap, sym, ◌∙◌, subst, arith}
+use Rattle.std.specs.Prelude.{◌≢◌, IfSome}
 use Rattle.std.proofs.Math.ListN.{get_or-map}
 use Rattle.std.proofs.lemmas.List.{length-map, length-set, get_or_read}
 use Rattle.std.proofs.lemmas.List.Sums.{count_by-le-length}
 use Rattle.klist_core.specs.Places.{place_at, is_in}
-use Rattle.klist_core.specs.Links.{up, down, IsNearest, IsLinked, head_at, node_at, places_of}
+use Rattle.klist_core.specs.Links.{up, down, IsNearest, IsLinked, head_at, node_at, places_of, place_in}
+use Rattle.klist_core.specs.Raw.{place_of}
 use Rattle.klist_core.specs.declared.Head.{Head}
 use Rattle.klist_core.specs.declared.Node.{Node}
 use Rattle.klist_core.proofs.Tables.{count_inserted, count_removed}
 use Rattle.klist_core.proofs.Rewired.{IsWithin}
 use Rattle.klist_core.proofs.Linked.{nearest_within}
 
--- node n, which was read as x, stands in list h under the key k
-pub record IsRemoval (heads : List Head) (nodes : List Node) (n : ℕ) (x : Node) (h k : ℕ) : Type 0 where
+-- a node of the table, if any, fits a link
+pub linkable : (o : Option ℕ) (len : ℕ) → IsWithin o len → len < 2 ^ 32 → IfSome o (λ i. i < 2 ^ 32 - 1)
+linkable None len w small = tt
+linkable (Some i) len w small = omega (arith, w.below i refl)
+
+-- node n, which was read as x, stands in list h
+pub record IsRemoval (heads : List Head) (nodes : List Node) (n : ℕ) (x : Node) (h : ℕ) : Type 0 where
   pub linked : IsLinked heads nodes
   pub read : x ≡ node_at nodes n
-  pub place : place_at (places_of nodes) n ≡ Some (h, k)
+  pub place : place_at (places_of nodes) n ≡ Some (h, x.key)
   pub in_heads : h < length heads
   pub in_nodes : n < length nodes
   pub left : IsWithin x.previous (length nodes)
   pub right : IsWithin x.next (length nodes)
   pub some : 1 ≤ (head_at heads h).len
+  pub small : length nodes < 2 ^ 32
 
-pub removal_known : (heads : List Head) (nodes : List Node) (n : ℕ) (x : Node) (h k : ℕ) → IsLinked heads nodes → n < length (places_of nodes) → x ≡ get_or nodes n x → x.place ≡ Some (h, k)
-    → IsRemoval heads nodes n x h k
-removal_known heads nodes n x h k t within got is = record {
+pub removal_known : (heads : List Head) (nodes : List Node) (n : ℕ) (x : Node) (h : ℕ) → IsLinked heads nodes → n < length (places_of nodes) → x ≡ get_or nodes n x → x.list ≡ Some h
+    → IsRemoval heads nodes n x h
+removal_known heads nodes n x h t within got is = record {
   linked = t;
   read = read;
   place = place;
   in_heads = in_heads;
   in_nodes = in_nodes;
-  left = subst (λ (y : Node). IsWithin y.previous (length nodes)) (sym read) (fitting _ (nearest_within down (places_of nodes) h _ _ (t.downwards.goes_on n h k place)));
-  right = subst (λ (y : Node). IsWithin y.next (length nodes)) (sym read) (fitting _ (nearest_within up (places_of nodes) h _ _ (t.upwards.goes_on n h k place)));
-  some = omega (arith, t.counted h in_heads, count_removed (places_of nodes) h n k within place);
+  left = subst (λ (y : Node). IsWithin y.previous (length nodes)) (sym read) (fitting _ (nearest_within down (places_of nodes) h _ _ (t.downwards.goes_on n h x.key place)));
+  right = subst (λ (y : Node). IsWithin y.next (length nodes)) (sym read) (fitting _ (nearest_within up (places_of nodes) h _ _ (t.upwards.goes_on n h x.key place)));
+  some = omega (arith, t.counted h in_heads, count_removed (places_of nodes) h n x.key within place);
+  small = omega (arith, t.table.small, length-map nodes place_in);
 }
   where
     in_nodes : n < length nodes
-    in_nodes = omega (arith, length-map nodes (λ (y : Node). y.place))
+    in_nodes = omega (arith, length-map nodes place_in)
 
     read : x ≡ node_at nodes n
     read = get_or_read nodes n x in_nodes got (node_at [] 0)
 
-    place : place_at (places_of nodes) n ≡ Some (h, k)
-    place = get_or-map (λ (y : Node). y.place) nodes n (node_at [] 0) ∙ (ap (λ (y : Node). y.place) (sym read) ∙ is)
+    place : place_at (places_of nodes) n ≡ Some (h, x.key)
+    place = get_or-map place_in nodes n (node_at [] 0) ∙ (ap place_in (sym read) ∙ ap (λ (o : Option ℕ). place_of o x.key) is)
 
     in_heads : h < length heads
-    in_heads = t.table.headed n h k place
+    in_heads = t.table.headed n h x.key place
 
     fitting : (o : Option ℕ) → IsWithin o (length (places_of nodes)) → IsWithin o (length nodes)
-    fitting o w = record { below = λ i e. omega (arith, w.below i e, length-map nodes (λ (y : Node). y.place)) }
+    fitting o w = record { below = λ i e. omega (arith, w.below i e, length-map nodes place_in) }
 
 -- node n stands in no list, and the key k comes between `previous` and `next` of list h
 pub record IsInsertion (heads : List Head) (nodes : List Node) (h n k : ℕ) (previous next : Option ℕ) : Type 0 where
@@ -83,7 +91,7 @@ insertion_known heads nodes h n k previous next t in_heads within fits free fres
 }
   where
     same_length : length (places_of nodes) ≡ length nodes
-    same_length = length-map nodes (λ (y : Node). y.place)
+    same_length = length-map nodes place_in
 
     fitting : (o : Option ℕ) → IsWithin o (length (places_of nodes)) → IsWithin o (length nodes)
     fitting o w = record { below = λ i e. omega (arith, w.below i e, same_length) }

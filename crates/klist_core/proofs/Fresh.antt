@@ -4,15 +4,11 @@ use Rattle.std.specs.Prelude.{count_by}
 use Rattle.std.proofs.Math.ListN.{length-replicate}
 use Rattle.std.proofs.lemmas.List.Sums.{sum_by-cons}
 use Rattle.klist_core.specs.Places.{Placed, place_at, is_in}
-use Rattle.klist_core.specs.Links.{up, down, IsNearest, IsChain, IsLinked, places_of, shown}
+use Rattle.klist_core.specs.Links.{up, down, IsNearest, IsChain, IsLinked, free_node, places_of, shown}
 use Rattle.klist_core.specs.declared.Head.{Head}
-use Rattle.klist_core.specs.declared.Node.{Node}
 
 abbrev pub empty_head : Head
 empty_head = record { first = None; last = None; len = 0 }
-
-abbrev pub free_node : Node
-free_node = record { place = None; previous = None; next = None }
 
 same_everywhere : {X : Type 0} (x : X) (n i : ℕ) → get_or (replicate n x) i x ≡ x
 same_everywhere x zero i = refl

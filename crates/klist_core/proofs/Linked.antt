@@ -4,7 +4,7 @@ use Rattle.std.specs.Prelude.{◌≢◌, count_by}
 use Rattle.std.proofs.lemmas.Bool.{cases_eq}
 use Rattle.std.proofs.lemmas.List.{length-map}
 use Rattle.klist_core.specs.Places.{Placed, IsTable, place_at, is_in, removed}
-use Rattle.klist_core.specs.Links.{up, down, IsLeast, IsNearest, IsChain, IsLinked, head_at, node_at, places_of, shown}
+use Rattle.klist_core.specs.Links.{up, down, IsLeast, IsNearest, IsChain, IsLinked, free_node, head_at, node_at, places_of, place_in, shown}
 use Rattle.klist_core.specs.declared.Head.{Head}
 use Rattle.klist_core.specs.declared.Node.{Node}
 use Rattle.klist_core.proofs.Directions.{IsKeyed, IsLastBelow, upwards, downwards, last_below}
@@ -43,7 +43,7 @@ table_of heads places = record { heads = heads; places = places }
 
 -- what is shown of rewired tables
 pub shown_rewired : (heads heads' : List Head) (nodes nodes' : List Node) (h n : ℕ) (own : Node) (previous next a b : Option ℕ) (m : ℕ)
-    → IsRewired heads heads' nodes nodes' h n own previous next a b m → shown heads' nodes' ≡ record { heads = length heads; places = set (places_of nodes) n own.place }
+    → IsRewired heads heads' nodes nodes' h n own previous next a b m → shown heads' nodes' ≡ record { heads = length heads; places = set (places_of nodes) n (place_in own) }
 unfolding table_of
 shown_rewired heads heads' nodes nodes' h n own previous next a b m w =
     ap (λ (x : ℕ). table_of x (places_of nodes')) w.heads_stay ∙ ap (λ (x : List (Option (ℕ × ℕ))). table_of (length heads) x) w.places
@@ -55,7 +55,7 @@ chain_rewired rank places places' heads heads' ends links e f v =
     subst (λ x. IsChain rank (place_at x) heads' ends links) (sym e) (subst (λ x. IsChain rank (place_at places) x ends links) (sym f) v)
 
 pub linked_inserted : (heads heads' : List Head) (nodes nodes' : List Node) (h n k : ℕ) (previous next : Option ℕ) (m : ℕ) → IsLinked heads nodes
-    → IsRewired heads heads' nodes nodes' h n (record { place = Some (h, k); previous = previous; next = next }) previous next (Some n) (Some n) m → m ≡ (head_at heads h).len + 1
+    → IsRewired heads heads' nodes nodes' h n (record { list = Some h; key = k; previous = previous; next = next }) previous next (Some n) (Some n) m → m ≡ (head_at heads h).len + 1
     → h < length heads → n < length nodes → k < 2 ^ 32 → place_at (places_of nodes) n ≡ None → ((i : ℕ) → place_at (places_of nodes) i ≢ Some (h, k))
     → IsNearest down (place_at (places_of nodes)) h (down k + 1) previous → IsNearest up (place_at (places_of nodes)) h (up k + 1) next → IsLinked heads' nodes'
 linked_inserted heads heads' nodes nodes' h n k previous next m t w more in_heads in_nodes fits free fresh before after = record {
@@ -81,7 +81,7 @@ linked_inserted heads heads' nodes nodes' h n k previous next m t w more in_head
     large = set (places_of nodes) n (Some (h, k))
 
     within : n < length (places_of nodes)
-    within = omega (arith, length-map nodes (λ (x : Node). x.place))
+    within = omega (arith, length-map nodes place_in)
 
     put : IsPut small (place_at large) h n k
     put = put_by_insertion (places_of nodes) h n k within free fresh
@@ -99,7 +99,7 @@ linked_inserted heads heads' nodes nodes' h n k previous next m t w more in_head
     ]
 
 pub linked_removed : (heads heads' : List Head) (nodes nodes' : List Node) (h n k : ℕ) (x : Node) (m : ℕ) → IsLinked heads nodes → x ≡ node_at nodes n
-    → IsRewired heads heads' nodes nodes' h n (record { place = None; previous = None; next = None }) x.previous x.next x.next x.previous m → m + 1 ≡ (head_at heads h).len
+    → IsRewired heads heads' nodes nodes' h n free_node x.previous x.next x.next x.previous m → m + 1 ≡ (head_at heads h).len
     → place_at (places_of nodes) n ≡ Some (h, k) → IsLinked heads' nodes'
 linked_removed heads heads' nodes nodes' h n k x m t read w less e = record {
   table = subst IsTable (sym (shown_rewired heads heads' nodes nodes' h n _ previous next next previous _ w)) (table_removed old h n k t.table put);

@@ -4,7 +4,7 @@ use Rattle.std.specs.Prelude.{◌≢◌}
 use Rattle.std.proofs.Math.ListN.{get_or-map}
 use Rattle.std.proofs.Math.Seq.{map-set_same}
 use Rattle.std.proofs.lemmas.List.{length-set, get_or-set_same, get_or-set_other, get_or_read, map-set}
-use Rattle.klist_core.specs.Links.{head_at, node_at, places_of}
+use Rattle.klist_core.specs.Links.{head_at, node_at, places_of, place_in}
 use Rattle.klist_core.specs.Writes.{heads_linked_after, heads_linked_before, nodes_linked_after, nodes_linked_before}
 use Rattle.klist_core.specs.declared.Head.{Head}
 use Rattle.klist_core.specs.declared.Node.{Node}
@@ -32,11 +32,11 @@ heads_before (Some i) h to heads = refl
 
 places_after : (o to : Option ℕ) (nodes : List Node) → places_of (nodes_linked_after o to nodes) ≡ places_of nodes
 places_after None to nodes = refl
-places_after (Some i) to nodes = map-set_same (λ (n : Node). n.place) nodes i (record (node_at nodes i) { next = to }) (node_at [] 0) refl
+places_after (Some i) to nodes = map-set_same place_in nodes i (record (node_at nodes i) { next = to }) (node_at [] 0) refl
 
 places_before : (o to : Option ℕ) (nodes : List Node) → places_of (nodes_linked_before o to nodes) ≡ places_of nodes
 places_before None to nodes = refl
-places_before (Some i) to nodes = map-set_same (λ (n : Node). n.place) nodes i (record (node_at nodes i) { previous = to }) (node_at [] 0) refl
+places_before (Some i) to nodes = map-set_same place_in nodes i (record (node_at nodes i) { previous = to }) (node_at [] 0) refl
 
 -- what the writes in the other direction do not show
 next_before : (o to : Option ℕ) (nodes : List Node) (i : ℕ) → (node_at (nodes_linked_before o to nodes) i).next ≡ (node_at nodes i).next
@@ -128,7 +128,7 @@ heads_counted heads h m = set heads h (record (head_at heads h) { len = m })
 
 pub record IsRewired (heads heads' : List Head) (nodes nodes' : List Node) (h n : ℕ) (own : Node) (previous next a b : Option ℕ) (m : ℕ) : Type 0 where
   pub heads_stay : length heads' ≡ length heads
-  pub places : places_of nodes' ≡ set (places_of nodes) n own.place
+  pub places : places_of nodes' ≡ set (places_of nodes) n (place_in own)
   pub upwards : IsRelinked (λ g. (head_at heads g).first) (λ i. (node_at nodes i).next) (λ g. (head_at heads' g).first) (λ i. (node_at nodes' i).next) h n previous a
   pub downwards : IsRelinked (λ g. (head_at heads g).last) (λ i. (node_at nodes i).previous) (λ g. (head_at heads' g).last) (λ i. (node_at nodes' i).previous) h n next b
   pub own_next : previous ≢ Some n → (node_at nodes' n).next ≡ own.next
@@ -141,7 +141,7 @@ pub rewired : (heads : List Head) (nodes : List Node) (h n : ℕ) (own : Node) (
     → IsRewired heads (heads_counted (heads_rewired heads h previous next a b) h m) nodes (nodes_rewired nodes n own previous next a b) h n own previous next a b m
 rewired heads nodes h n own previous next a b m in_heads in_nodes left right = record {
   heads_stay = length-set two h (record (head_at two h) { len = m }) ∙ (heads_before next h b one ∙ heads_after previous h a heads);
-  places = places_before next b after ∙ (places_after previous a written ∙ map-set (λ (x : Node). x.place) nodes n own);
+  places = places_before next b after ∙ (places_after previous a written ∙ map-set place_in nodes n own);
   upwards = relinked_same _ _ (λ g. (head_at one g).first) _ (λ i. (node_at after i).next) _ h n previous a
       (after_relinks previous h n a (λ g. (head_at heads g).first) (λ i. (node_at nodes i).next) heads written in_heads (within previous left) (λ g. refl)
       (λ i ne. ap (λ (x : Node). x.next) (get_or-set_other nodes n i own (node_at [] 0) ne)))

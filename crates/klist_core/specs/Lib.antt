@@ -1,3 +1,4 @@
+pub mod Raw
 pub mod Places
 pub mod Lists
 pub mod Laws

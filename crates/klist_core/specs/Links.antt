@@ -1,6 +1,7 @@
 -- What the links of a table say. A list has two directions, up and down the keys; what holds in one holds in the other.
 use Rattle.std.specs.Prelude.{◌≡◌, ◌≢◌, ℕ, ◌+◌, ◌-◌, ◌^◌, ◌<◌, ◌≤◌, Option, Some, None, List, length, map, slice_index_or, count_by, MatchOption}
 use Rattle.klist_core.specs.Places.{Placed, IsTable, place_at, is_in}
+use Rattle.klist_core.specs.Raw.{place_of}
 use Rattle.klist_core.specs.declared.Head.{Head}
 use Rattle.klist_core.specs.declared.Node.{Node}
 
@@ -41,11 +42,19 @@ pub record IsChain (rank : ℕ → ℕ) (place : ℕ → Option (ℕ × ℕ)) (h
 abbrev pub head_at : List Head → ℕ → Head
 head_at heads h = slice_index_or heads h (record { first = None; last = None; len = 0 })
 
+-- a node in no list
+abbrev pub free_node : Node
+free_node = record { list = None; key = 0; previous = None; next = None }
+
 abbrev pub node_at : List Node → ℕ → Node
-node_at nodes i = slice_index_or nodes i (record { place = None; previous = None; next = None })
+node_at nodes i = slice_index_or nodes i free_node
+
+-- list and key of the node
+abbrev pub place_in : Node → Option (ℕ × ℕ)
+place_in n = place_of n.list n.key
 
 abbrev pub places_of : List Node → List (Option (ℕ × ℕ))
-places_of nodes = map (λ n. n.place) nodes
+places_of nodes = map place_in nodes
 
 -- what callers see of the table
 abbrev pub shown : List Head → List Node → Placed

@@ -7,11 +7,11 @@
 //! Only [`Lists::new`] allocates.
 #![tactic(auto)]
 
-ghost use Rattle.std.specs.Prelude.{◌≡◌, ◌≢◌, ℕ, ◌+◌, ◌<◌, ◌≤◌, Some, None, length, IsSome, IfSome, IfOk, MatchOption, slice_get, replicate, count_by};
+ghost use Rattle.std.specs.Prelude.{◌≡◌, ◌≢◌, ℕ, ◌+◌, ◌-◌, ◌^◌, ◌<◌, ◌≤◌, Some, None, length, IsSome, IfSome, IfOk, MatchOption, slice_get, replicate, count_by};
 ghost use Rattle.std.specs.Option.{ForSome};
 ghost use Rattle.klist_core.specs.Places.{IsTable, IsEmpty, IsFirst, NoneAbove, IsNext, place_at, is_in, inserted, removed, replaced};
 ghost use Rattle.klist_core.specs.Lists.{list_of};
-ghost use Rattle.klist_core.specs.Links.{up, down, IsNearest, IsAfter, IsStart};
+ghost use Rattle.klist_core.specs.Links.{free_node, up, down, IsNearest, IsAfter, IsStart};
 ghost use Rattle.klist_core.specs.Writes.{heads_linked_after, heads_linked_before, nodes_linked_after, nodes_linked_before};
 
 use std::alloc::{AllocError, Global};
@@ -19,20 +19,81 @@ use std::marker::Model;
 
 pub mod laws;
 
+/// The number of a node or a list, or none, in four bytes: `u32::MAX` stands for none.
+#[derive(Clone, Copy)]
+struct Link {
+    raw: u32,
+}
+
+impl Model for Link {
+    ghost use Rattle.std.specs.Prelude.{ℕ, Option};
+    ghost use Rattle.klist_core.specs.Raw.{to_option, to_raw, raw_stays};
+
+    ghost Value = { Option ℕ };
+
+    ghost view = { λ l. to_option l.raw };
+
+    ghost inverse = { λ o. record { raw = to_raw o } };
+
+    ghost inverse_ok = { λ l h i. record { raw = raw_stays l.raw i } };
+}
+
+impl Link {
+    #[inline(always)]
+    fn of(to: Option<u32>) -> Link
+        requires { IfSome to (λ i. i < 2 ^ 32 - 1) }
+        ensures { result ≡ to }
+    {
+        match to {
+            Some(raw) => Link { raw },
+            None => Link { raw: u32::MAX },
+        }
+    }
+
+    #[inline(always)]
+    fn get(self) -> Option<u32>
+        ensures { result ≡ self }
+    {
+        if self.raw == u32::MAX {
+            None
+        } else {
+            Some(self.raw)
+        }
+    }
+}
+
 /// The two ends of a list and how many nodes stand in it.
 #[derive(Clone, Copy)]
 struct Head {
-    first: Option<u32>,
-    last: Option<u32>,
+    first: Link,
+    last: Link,
     len: u32,
 }
 
-/// List and key of a node, and the nodes with the next lesser and the next greater key there.
+/// List and key of a node, and the nodes with the next lesser and the next greater key there. A node in no list
+/// has the key 0, which stands for nothing.
 #[derive(Clone, Copy)]
 struct Node {
-    place: Option<(u32, u32)>,
-    previous: Option<u32>,
-    next: Option<u32>,
+    list: Link,
+    key: u32,
+    previous: Link,
+    next: Link,
+}
+
+impl Node {
+    /// A node in no list.
+    #[inline(always)]
+    fn free() -> Node
+        ensures { result ≡ free_node }
+    {
+        let none = Link::of(None);
+        Node {
+            list: none,
+            key: 0,
+            previous: none,
+            next: none,
+        }
+    }
 }
 
 /// Ordered lists over one table of nodes. Lists are numbered by their heads, from 0, and so are nodes.
@@ -60,16 +121,13 @@ impl Lists {
     pub fn new(alloc: Global, nodes: u32, heads: u32) -> Result<Lists, AllocError>
         ensures { IfOk result (λ s. s ≡ record { heads = heads; places = replicate nodes None }) }
     {
+        let none = Link::of(None);
         let head = Head {
-            first: None,
-            last: None,
+            first: none,
+            last: none,
             len: 0,
         };
-        let node = Node {
-            place: None,
-            previous: None,
-            next: None,
-        };
+        let node = Node::free();
         let heads = vec![in alloc; head; heads as usize]?;
         let nodes = vec![in alloc; node; nodes as usize]?;
         Ok(Lists { heads, nodes })
@@ -87,7 +145,9 @@ impl Lists {
         requires { node < length self.now.places }
         ensures { result ≡ place_at self.now.places node }
     {
-        self.nodes[node as usize].place
+        let node = &self.nodes[node as usize];
+        let list = node.list.get()?;
+        Some((list, node.key))
     }
 
     /// How many nodes the list has.
@@ -180,19 +240,12 @@ impl Lists {
         requires placed { IsSome (place_at self.old.places node) }
         ensures { self.new ≡ removed self.old node }
     {
-        let Node {
-            place,
-            previous,
-            next,
-        } = self.nodes[node as usize];
-        let Some((head, _)) = place else {
+        let own = self.nodes[node as usize];
+        let (previous, next) = (own.previous.get(), own.next.get());
+        let Some(head) = own.list.get() else {
             unreachable!()
         };
-        self.nodes[node as usize] = Node {
-            place: None,
-            previous: None,
-            next: None,
-        };
+        self.nodes[node as usize] = Node::free();
         link_after(&mut self.heads, &mut self.nodes, head, previous, next);
         link_before(&mut self.heads, &mut self.nodes, head, next, previous);
         self.heads[head as usize].len -= 1;
@@ -215,10 +268,12 @@ impl Lists {
         requires next { IsNearest up (place_at self.old.places) head (up key + 1) next }
         ensures { self.new ≡ inserted self.old head node key }
     {
+        self.facts();
         self.nodes[node as usize] = Node {
-            place: Some((head, key)),
-            previous,
-            next,
+            list: Link::of(Some(head)),
+            key,
+            previous: Link::of(previous),
+            next: Link::of(next),
         };
         link_after(&mut self.heads, &mut self.nodes, head, previous, Some(node));
         link_before(&mut self.heads, &mut self.nodes, head, next, Some(node));
@@ -318,38 +373,35 @@ impl Lists {
         requires { IsSome (place_at self.now.places node) }
         ensures { IfSome (place_at self.now.places node) (λ p. result ≡ p.1) }
     {
-        match self.place_of(node) {
-            Some((_, key)) => key,
-            None => unreachable!(),
-        }
+        self.nodes[node as usize].key
     }
 
     fn first_of(&self, head: u32) -> Option<u32>
         requires { head < self.now.heads }
         ensures { IsNearest up (place_at self.now.places) head 0 result }
     {
-        self.heads[head as usize].first
+        self.heads[head as usize].first.get()
     }
 
     fn last_of(&self, head: u32) -> Option<u32>
         requires { head < self.now.heads }
         ensures { IsNearest down (place_at self.now.places) head 0 result }
     {
-        self.heads[head as usize].last
+        self.heads[head as usize].last.get()
     }
 
     fn next_of(&self, node: u32) -> Option<u32>
         requires { IsSome (place_at self.now.places node) }
         ensures { IsAfter up (place_at self.now.places) node result }
     {
-        self.nodes[node as usize].next
+        self.nodes[node as usize].next.get()
     }
 
     fn previous_of(&self, node: u32) -> Option<u32>
         requires { IsSome (place_at self.now.places node) }
         ensures { IsAfter down (place_at self.now.places) node result }
     {
-        self.nodes[node as usize].previous
+        self.nodes[node as usize].previous.get()
     }
 }
 
@@ -363,12 +415,13 @@ fn link_after(
 )
     requires head { head < length heads.old.items }
     requires previous { ForSome previous (λ i. i < length nodes.old.items) }
+    requires to { IfSome to (λ i. i < 2 ^ 32 - 1) }
     ensures heads { heads.new.items ≡ heads_linked_after previous head to heads.old.items }
     ensures nodes { nodes.new.items ≡ nodes_linked_after previous to nodes.old.items }
 {
     match previous {
-        Some(node) => nodes[node as usize].next = to,
-        None => heads[head as usize].first = to,
+        Some(node) => nodes[node as usize].next = Link::of(to),
+        None => heads[head as usize].first = Link::of(to),
     }
 }
 
@@ -382,11 +435,12 @@ fn link_before(
 )
     requires head { head < length heads.old.items }
     requires next { ForSome next (λ i. i < length nodes.old.items) }
+    requires to { IfSome to (λ i. i < 2 ^ 32 - 1) }
     ensures heads { heads.new.items ≡ heads_linked_before next head to heads.old.items }
     ensures nodes { nodes.new.items ≡ nodes_linked_before next to nodes.old.items }
 {
     match next {
-        Some(node) => nodes[node as usize].previous = to,
-        None => heads[head as usize].last = to,
+        Some(node) => nodes[node as usize].previous = Link::of(to),
+        None => heads[head as usize].last = Link::of(to),
     }
 }

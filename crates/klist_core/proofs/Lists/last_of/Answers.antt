@@ -8,4 +8,4 @@ returns c =
     let heads = c.self.inside.heads.items in
     let lt = rw (← c.self.view_is) at c.requires in
     let read = get_or_read heads c.args.head c.index.result.now lt c.index.ensures (head_at [] 0) in
-    rw (← c.self.view_is) (rw read (c.self.invariant.downwards.begins c.args.head lt))
+    rw (← c.self.view_is) (rw (c.get.ensures, read) (c.self.invariant.downwards.begins c.args.head lt))

@@ -1,7 +1,6 @@
 use Rattle.std.proofs.Common.{◌<◌, [], length, arith}
 use Rattle.std.proofs.lemmas.List.{get_or_read, length-map}
-use Rattle.klist_core.specs.Links.{node_at, places_of}
-use Rattle.klist_core.specs.declared.Node.{Node}
+use Rattle.klist_core.specs.Links.{node_at, places_of, place_in}
 use Rattle.klist_core.proofs.Tables.{some_within}
 use Rattle.klist_core.proofs.Lists.next_of.Goals as goal
 
@@ -9,6 +8,6 @@ pub returns : goal.returns
 returns c =
     let nodes = c.self.inside.nodes.items in
     let within = some_within (places_of nodes) c.args.node (rw (← c.self.view_is) at c.requires) in
-    let lt : c.args.node < length nodes = omega (arith, within, length-map nodes (λ (n : Node). n.place)) in
+    let lt : c.args.node < length nodes = omega (arith, within, length-map nodes place_in) in
     let read = get_or_read nodes c.args.node c.index.result.now lt c.index.ensures (node_at [] 0) in
-    rw (← c.self.view_is) (rw read (c.self.invariant.upwards.goes_on c.args.node))
+    rw (← c.self.view_is) (rw (c.get.ensures, read) (c.self.invariant.upwards.goes_on c.args.node))
