@@ -1,22 +1,9 @@
--- Going round a pattern, and the 16 bytes that hold one.
-use Rattle.std.proofs.Common.{◌≡◌, ℕ, ◌+◌, ◌-◌, ◌*◌, ◌/◌, ◌%◌, ◌<◌, ◌≤◌, ◌++◌, List, length, take, drop, arith, ap, sym, ◌∙◌}
+-- The 16 bytes that hold a pattern.
+use Rattle.std.proofs.Common.{◌≡◌, ℕ, ◌+◌, ◌-◌, ◌<◌, ◌≤◌, ◌++◌, List, length, take, drop, arith, ap, sym, ◌∙◌}
 use Rattle.std.specs.Prelude.{replicate}
 use Rattle.std.proofs.lemmas.List.{take-replicate, drop-replicate}
-use Rattle.std.proofs.lemmas.Nat.{div-add-mod', mod-mul-add}
 use Rattle.std.proofs.Math.Seq.{take-append_seam, take-append-add}
 use Rattle.layout_core.specs.Inside.{IsHeld}
-
-pub mod-next_first : (i n : ℕ) → 0 < n → i % n + 1 ≡ n → (i + 1) % n ≡ 0
-mod-next_first i n some last =
-    let split = div-add-mod' i n in
-    let e : i + 1 ≡ (i / n + 1) * n + 0 = omega arith in
-    ap (λ x. x % n) e ∙ mod-mul-add (i / n + 1) n 0 some
-
-pub mod-next : (i n : ℕ) → i % n + 1 < n → (i + 1) % n ≡ i % n + 1
-mod-next i n more =
-    let split = div-add-mod' i n in
-    let e : i + 1 ≡ i / n * n + (i % n + 1) = omega arith in
-    ap (λ x. x % n) e ∙ mod-mul-add (i / n) n (i % n + 1) more
 
 -- these bytes, and zeroes up to 16
 pub is_held : (xs : List ℕ) → 0 < length xs → length xs ≤ 16 → IsHeld (xs ++ drop (length xs) (replicate 16 0)) (length xs)

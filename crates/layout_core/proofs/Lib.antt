@@ -2,3 +2,4 @@ pub mod Objects
 pub mod Fits
 pub mod Bytes
 pub mod Orders
+pub mod Repeating

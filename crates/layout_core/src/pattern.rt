@@ -56,10 +56,23 @@ impl Pattern {
         ensures { EachIndex out.new (λ j. slice_index out.new j ≡ pattern_byte self.now j) }
     {
         let bytes = self.as_slice();
-        let mut from = 0;
-        for byte in out.iter_mut() {
-            *byte = bytes[from];
-            from = if from + 1 == bytes.len() { 0 } else { from + 1 };
-        }
+        let first = bytes.len().min(out.len());
+        out[..first].copy_from_slice(&bytes[..first]);
+        repeat(out, bytes.len());
+    }
+}
+
+/// The first `period` bytes come over and over: what stands is copied on behind itself, each time twice as much.
+fn repeat(out: &mut [u8], period: usize)
+    requires { 0 < period }
+    ensures bytes { EachIndex out.new (λ j. slice_index out.new j ≡ slice_index out.old (j % period)) }
+    ensures length { length out.new ≡ length out.old }
+{
+    let mut done = period;
+    while done < out.len() {
+        let (front, rest) = out.split_at_mut(done);
+        let more = done.min(rest.len());
+        rest[..more].copy_from_slice(&front[..more]);
+        done *= 2;
     }
 }
