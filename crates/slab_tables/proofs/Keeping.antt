@@ -252,6 +252,12 @@ slabs_count s t c cache first node count w e below p few =
               )
         ]
 
+-- what the code reads of the slab
+pub kept_read : (s : Content) (t c first node : ℕ) (k : Kept) → IsSlabs s → IsPlaced s t c first node → k ≡ get_or s.kept node k → k ≡ kept_at s.kept node
+kept_read s t c first node k w p read =
+    let lt = placed_within s.lists.places node (head_of t c p.kind, first) p.placed in
+    get_or_read s.kept node k (omega (arith, w.paired)) read blank
+
 -- what the code reads when it counts a slab anew: its cache's total and what is kept of it, and that the sums fit
 pub record IsCounting (s : Content) (t c node count total : ℕ) (k : Kept) : Type 0 where
   pub total_is : total ≡ get_or s.live (index_of_cache t c) 0
@@ -265,10 +271,9 @@ pub counting : (s : Content) (t c : ℕ) (cache : Cache) (first node count total
 counting s t c cache first node count total k w tenant e p few read read_kept =
     let here = cached s t c cache e in
     let below = cache_within s t c tenant here.below in
-    let lt = placed_within s.lists.places node (head_of t c p.kind, first) p.placed in
     let x = total_of s t c first node w below p in
     let same = get_or_read s.live (index_of_cache t c) total (omega (arith, below, w.totals)) read 0 in
-    let same_kept = get_or_read s.kept node k (omega (arith, w.paired)) read_kept blank in
+    let same_kept = kept_read s t c first node k w p read_kept in
     let objects = ((w.fits (index_of_cache t c) cache here.cached).layout.fits 0).few in
     record {
       total_is = same;

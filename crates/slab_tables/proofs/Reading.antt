@@ -6,7 +6,7 @@ use Rattle.klist_core.specs.Places.{place_at}
 use Rattle.model_core.specs.declared.limits.TheConstants.{MOST_CACHES}
 use Rattle.slab_tables.specs.declared.cache.Cache.{Cache}
 use Rattle.slab_tables.specs.declared.tables.Tables.TheInside.{Inside}
-use Rattle.slab_tables.specs.Content.{Content, IsSlabs, IsListed, IsTenant, IsPlaced, kept_at, cache_in, cache_at, index_of_cache, head_of, kind_of}
+use Rattle.slab_tables.specs.Content.{Content, IsSlabs, IsListed, IsTenant, IsPlaced, kept_at, cache_in, cache_at, index_of_cache, head_of, kind_of, numbers}
 
 -- what callers see of the tables
 abbrev pub shown : Inside → Content
@@ -62,6 +62,13 @@ listed s w t c first node cache e kind lt placed =
     let k = w.standing node (head_of t c kind) first placed in
     let same : k.0 ≡ cache = same_cache (sym (ap (cache_in s.caches) (head_parts t c kind lt).0) ∙ k.1) (cached s t c cache e).cached in
     subst (λ x. IsListed (kept_at s.kept node) x (head_of t c kind)) same k.2
+
+-- a slab stands in the list of its kind
+pub placed_by_kind : (s : Content) → IsSlabs s → (t c first node : ℕ) (cache : Cache) → cache_at s t c ≡ Some cache → IsPlaced s t c first node
+    → place_at s.lists.places node ≡ Some (head_of t c (kind_of (numbers cache).count (kept_at s.kept node).live), first)
+placed_by_kind s w t c first node cache e slab =
+    let stands = listed s w t c first node cache e slab.kind slab.few slab.placed in
+    slab.placed ∙ ap (λ (k : ℕ). Some (head_of t c k, first)) (sym (head_parts t c slab.kind slab.few).1 ∙ stands.kind)
 
 -- no slab has more than 256 objects
 pub few_live : (s : Content) → IsSlabs s → (i head key : ℕ) → place_at s.lists.places i ≡ Some (head, key) → (kept_at s.kept i).live ≤ 256

@@ -1,6 +1,6 @@
 //! Where caches and their lists stand among those of all tenants, and changes of one list.
 
-ghost use Rattle.std.specs.Prelude.{◌≡◌, ◌≢◌, ℕ, ◌+◌, ◌*◌, ◌^◌, ◌<◌, ◌≤◌, Some, None, length};
+ghost use Rattle.std.specs.Prelude.{◌≡◌, ◌≢◌, ℕ, ◌+◌, ◌*◌, ◌^◌, ◌<◌, ◌≤◌, Some, None, length, IsSome};
 ghost use Rattle.model_core.specs.declared.limits.TheConstants.{MOST_ORDER};
 ghost use Rattle.klist_core.specs.Places.{place_at, inserted, replaced};
 ghost use Rattle.slab_tables.specs.Content.{index_of_cache, head_of, number_of};
@@ -38,23 +38,48 @@ pub(crate) fn node_at(order: u8, superblock: u16, i: u32) -> u32
 /// How many nodes are looked at for one near another, at most.
 const MOST_LOOKS: u32 = 32;
 
-/// Moves the node, which stands in a list, into the list `head` under the same key. Nothing is done where it stands there.
+/// Moves the node, which stands in the list `from`, into the list `to` under the same key. Nothing is done where these are one.
 ///
-/// Which node it follows there is looked for among `node - step`, `node - 2 * step` and so on, as far as `room` below: `step` and
-/// `room` decide the cost alone.
-pub(crate) fn relist(lists: &mut Lists, head: u32, node: u32, key: u32, step: u32, room: u32)
+/// `slab` and `superblock` are the orders of its slab and of the superblock around that: they decide the cost alone.
+#[inline(always)]
+pub(crate) fn relist(
+    lists: &mut Lists,
+    from: u32,
+    to: u32,
+    node: u32,
+    key: u32,
+    slab: u8,
+    superblock: u8,
+)
+    requires to { to < lists.old.heads }
+    requires slab { slab ≤ 3 }
+    requires superblock { superblock ≤ MOST_ORDER }
+    requires placed { place_at lists.old.places node ≡ Some (from, key) }
+    requires alone { (i : ℕ) → place_at lists.old.places i ≡ Some (to, key) → i ≡ node }
+    ensures { lists.new ≡ inserted lists.old to node key }
+{
+    if from != to {
+        move_to(lists, to, node, key, slab, superblock);
+    }
+}
+
+/// Moves the node, which stands in a list, into the list `head` under the same key.
+///
+/// Which node it follows there is looked for among the nodes of its superblock below it where slabs of that order begin.
+#[inline(never)]
+fn move_to(lists: &mut Lists, head: u32, node: u32, key: u32, slab: u8, superblock: u8)
     requires head { head < lists.old.heads }
-    requires step { 0 < step }
-    requires room { room ≤ node }
-    requires placed { (h : ℕ) × (place_at lists.old.places node ≡ Some (h, key)) }
+    requires slab { slab ≤ 3 }
+    requires superblock { superblock ≤ MOST_ORDER }
+    requires placed { IsSome (place_at lists.old.places node) }
     requires alone { (i : ℕ) → place_at lists.old.places i ≡ Some (head, key) → i ≡ node }
     ensures { lists.new ≡ inserted lists.old head node key }
 {
-    if lists.place_of(node) != Some((head, key)) {
-        let near = near_below(lists, head, node, step, room);
-        lists.remove(node);
-        lists.insert_near(head, node, key, near);
-    }
+    let step = 1 << slab;
+    let room = node % (1 << superblock);
+    let near = near_below(lists, head, node, step, room);
+    lists.remove(node);
+    lists.insert_near(head, node, key, near);
 }
 
 /// The first of `node - step`, `node - 2 * step` and so on that stands in the list; `node` itself where none is found. It looks

@@ -209,6 +209,7 @@ impl Tables {
     /// Counts the live objects of the slab of cache `c` of tenant `t` that begins at frame `first` and node `node`: they are
     /// `count` now. The slab goes to the list of its kind; where the kind stays, no list is touched. Its place there is looked for
     /// from the next slab below it in its superblock that stands in that list.
+    #[inline(always)]
     pub fn set_count(&mut self, t: u8, c: u32, cache: &Cache, first: u32, node: u32, count: u32)
         requires tenant { IsTenant self.old t }
         requires cache { cache_at self.old t c ≡ Some cache.now }
@@ -218,12 +219,13 @@ impl Tables {
         ensures { self.new ≡ with_count self.old t c cache.now first node count }
     {
         cache.layout.fits();
-        let kind = Kind::of(cache.layout.count(), count);
-        let step = 1 << cache.layout.order();
-        let room = node % (1 << self.order);
-        relist(&mut self.lists, head(t, c, kind), node, first, step, room);
+        let total = cache.layout.count();
+        let before = u32::from(self.kept[node as usize].live);
+        let from = head(t, c, Kind::of(total, before));
+        let to = head(t, c, Kind::of(total, count));
+        let slab = cache.layout.order();
+        relist(&mut self.lists, from, to, node, first, slab, self.order);
         let kept = &mut self.kept[node as usize];
-        let before = u32::from(kept.live);
         kept.live = count as u16;
         let i = index_of(t, c);
         self.live[i] = self.live[i] + count - before;
