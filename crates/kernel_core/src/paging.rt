@@ -19,6 +19,7 @@ use words_core::Refusal;
 
 impl Kernel {
     /// Takes a page block of `2^order` frames; the tenant's empty slabs are given back where a block is found only then.
+    #[inline(always)]
     pub(crate) fn alloc(&mut self, t: u8, order: u32) -> Result<u32, Refusal>
         requires { t < self.old.tenants }
         ensures { StepsMachine self.old t (Command.Alloc order) self.new (body_of Frame result) }
@@ -35,6 +36,7 @@ impl Kernel {
     }
 
     /// Releases the page block that begins at a frame; its bytes stay.
+    #[inline(always)]
     pub(crate) fn free(&mut self, t: u8, frame: u32) -> Result<u8, Refusal>
         requires { t < self.old.tenants }
         ensures { StepsMachine self.old t (Command.Free frame) self.new (body_of Freed result) }

@@ -31,6 +31,8 @@ impl Slabs {
     ///
     /// The tenant's empty slabs are given back for it where a block is found only then. None, and nothing changed, where no
     /// block is found then either.
+    #[cold]
+    #[inline(never)]
     pub(crate) fn grow(
         &mut self,
         space: &mut Space,

@@ -168,6 +168,7 @@ impl Slabs {
     }
 
     /// Lets an object be live, which is not, or not be live, which is.
+    #[inline(always)]
     pub(crate) fn mark(
         &mut self,
         space: &mut Space,

@@ -98,6 +98,7 @@ impl Slabs {
     }
 
     /// The least object of a slab that is not live; the number of its objects where all are.
+    #[inline(always)]
     fn next_object(&self, space: &Space, t: u8, cache: &Cache, first: u32, node: u32) -> u32
         requires tenant { t < length space.now.slots }
         requires unit { space.now.unit ≡ 4096 * 2 ^ self.now.top }
@@ -119,6 +120,7 @@ impl Slabs {
     }
 
     /// Hands out the least object of a slab that is not live, and answers its first place.
+    #[inline(always)]
     fn hand_out(
         &mut self,
         space: &mut Space,
