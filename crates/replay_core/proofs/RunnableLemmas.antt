@@ -1,5 +1,5 @@
 -- What lines read as can be run: the pattern of a cache has a byte.
-use Rattle.std.proofs.Common.{◌≡◌, ◌∙◌, sym, List, ℕ, Option, Some, None, Result, Ok, Err}
+use Rattle.std.proofs.Common.{◌≡◌, sym, List, ℕ, Option, Some, None, Result, Ok, Err}
 use Rattle.words_core.specs.declared.event.Event.{Event}
 use Rattle.words_core.specs.declared.event.Event.TheVariants as On
 use Rattle.words_core.specs.declared.event.Command.TheVariants as Asked

@@ -1,7 +1,8 @@
-ghost use Rattle.std.specs.Prelude.{◌≡◌, ℕ, ◌<◌, ◌≤◌, Bool, false, List, Option, None, length, IfOk, is_err};
+ghost use Rattle.std.specs.Prelude.{◌≡◌, ℕ, ◌<◌, ◌≤◌, Bool, false, List, Option, None, length, take, IfOk, is_err};
 ghost use Rattle.std.specs.Io.KnownBytes.{Keeps, WriteAppends};
 
 use crate::feed::Stopped;
+use quick_core::WINDOW;
 
 /// Where replies go, a piece at a time.
 pub trait Drain {
@@ -17,6 +18,19 @@ pub trait Drain {
         ensures count { IfOk result (λ n. (0 < n) × (n ≤ length bytes.now)) }
         ensures bytes { WriteAppends (contents self.old) (contents self.new) result bytes.now }
         ensures failed { has_failed self.new ≡ is_err result };
+
+    /// Offers the first `len` bytes of a short text, as [`Drain::push`] offers bytes. A drain that has room for the whole text may
+    /// copy all of it: a copy of fixed length costs less.
+    fn push_short(&mut self, text: &[u8; WINDOW], len: usize) -> Result<usize, Stopped>
+        requires some { 0 < len }
+        requires within { len ≤ WINDOW }
+        requires fine { has_failed self.old ≡ false }
+        ensures count { IfOk result (λ n. (0 < n) × (n ≤ len)) }
+        ensures bytes { WriteAppends (contents self.old) (contents self.new) result (take len text.now) }
+        ensures failed { has_failed self.new ≡ is_err result }
+    {
+        self.push(&text[..len])
+    }
 
     /// Hands on what was pushed and is still held back, before what may be a long wait. Tells no failure: where it
     /// fails, so does the next push.

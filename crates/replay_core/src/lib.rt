@@ -4,6 +4,7 @@
 
 mod drain;
 mod feed;
+mod held;
 mod pending;
 mod pushing;
 mod quick;

@@ -1,6 +1,6 @@
 //! Replies into a drain.
 
-ghost use Rattle.std.specs.Prelude.{◌≡◌, ◌+◌, ◌^◌, ◌<◌, ◌≤◌, false, is_err, length};
+ghost use Rattle.std.specs.Prelude.{◌≡◌, ◌+◌, ◌^◌, ◌<◌, ◌≤◌, false, is_err, length, take};
 ghost use Rattle.words_core.specs.Answers.{reply_of};
 ghost use Rattle.words_core.specs.Texts.{text_of};
 ghost use Rattle.replay_core.specs.Pushes.{most_reply_bytes, HasPushed};
@@ -9,6 +9,7 @@ ghost use Rattle.world_core.specs.Output.{is_shown, shown_text};
 use crate::drain::Drain;
 use crate::feed::Stopped;
 use arrayvec::ArrayVec;
+use quick_core::WINDOW;
 use words_core::{Addressee, Answer, MOST_REPLY_BYTES, Reply, rows, write_answer, write_line};
 
 /// The reply is to be shown: all are, or those of one tenant.
@@ -101,4 +102,24 @@ pub fn push_all<D: Drain>(bytes: &[u8], drain: &mut D, written: &mut u128) -> Re
         rest = &rest[count..];
     }
     Ok(())
+}
+
+/// Pushes the first `len` bytes of a short text, the rest again after a push that took less, and counts those that were taken.
+#[inline(always)]
+pub fn push_short<D: Drain>(
+    text: &[u8; WINDOW],
+    len: usize,
+    drain: &mut D,
+    written: &mut u128,
+) -> Result<(), Stopped>
+    requires some { 0 < len }
+    requires within { len ≤ WINDOW }
+    requires fine { D.has_failed drain.old ≡ false }
+    requires room { written.old + len < 2 ^ 128 }
+    ensures pushed { HasPushed (D.contents drain.old) (D.contents drain.new) (take len text.now) written.old written.new result }
+    ensures failed { D.has_failed drain.new ≡ is_err result }
+{
+    let count = drain.push_short(text, len)?;
+    *written += count as u128;
+    push_all(&text[count..len], drain, written)
 }

@@ -16,7 +16,7 @@ ghost use Rattle.replay_core.specs.Standing.{IsBounded, HasAnswered, Stands, Has
 use crate::drain::Drain;
 use crate::feed::Stopped;
 use crate::pending::Pending;
-use crate::pushing::{is_shown, push_all, show};
+use crate::pushing::{is_shown, push_short, show};
 use crate::quick_bytes::{answer_read, answer_write, line_of_read, line_of_write};
 use crate::replaying::Tally;
 use arrayvec::ArrayVec;
@@ -124,7 +124,7 @@ pub fn show_quick<D: Drain>(
     }
     let mut text = [0; WINDOW];
     let len = write_quick(tenant, told, &mut text);
-    push_all(&text[..len], drain, written)
+    push_short(&text, len, drain, written)
 }
 
 /// Pushes the answer to a command of a number that is no tenant, which is to nobody.

@@ -1,9 +1,11 @@
-ghost use Rattle.std.specs.Prelude.{◌≡◌, ℕ, ◌+◌, ◌<◌, ◌≤◌, false, [], ◌++◌, length, take, drop, OnOk, IfOk, is_err, vec_len, vec_capacity};
+ghost use Rattle.std.specs.Prelude.{◌≡◌, ℕ, ◌<◌, ◌≤◌, false, [], length, take, OnOk, IfOk, is_err, vec_len};
 ghost use Rattle.std.specs.Io.KnownBytes.{Appends, Keeps, WriteAppends, append_known};
 ghost use Rattle.replay_core.specs.Held.{held_bytes};
 
 use crate::drain::Drain;
 use crate::feed::Stopped;
+use crate::held::Held;
+use quick_core::WINDOW;
 use std::io::Write;
 
 /// A drain over one of std's writers. It may have room to hold bytes: these are written where it sends, where it is
@@ -15,8 +17,8 @@ use std::io::Write;
 #[derive(Drop)]
 pub struct WriterDrain<W> {
     writer: W,
-    // What was taken and is not written yet; with no vector each push is a write. It never grows.
-    held: Option<Vec<u8>>,
+    // What was taken and is not written yet; with no room each push is a write.
+    held: Option<Held>,
     // Bytes were written since the last flush.
     unsent: bool,
     // A write or a flush has failed while it sent, and no call has told it.
@@ -47,7 +49,7 @@ impl<W: Write> WriterDrain<W> {
     {
         WriterDrain {
             writer,
-            held: Some(room),
+            held: Some(Held::new(room)),
             unsent: false,
             send_failed: false,
             failed: false,
@@ -86,9 +88,8 @@ impl<W: Write> WriterDrain<W> {
             return Err(Stopped);
         }
         if let Some(held) = &mut self.held
-            && bytes.len() <= held.capacity() - held.len()
+            && held.append(bytes)
         {
-            append(held, bytes);
             return Ok(bytes.len());
         }
         self.write_through(bytes)
@@ -138,7 +139,7 @@ impl<W: Write> WriterDrain<W> {
         };
         let written = write_out(held.as_slice(), &mut self.writer);
         self.unsent = self.unsent || written > 0;
-        remove_front(held, written);
+        held.remove_front(written);
         if held.is_empty() {
             Ok(())
         } else {
@@ -156,12 +157,22 @@ impl<W: Write> Drain for WriterDrain<W> {
     fn push(&mut self, bytes: &[u8]) -> Result<usize, Stopped> {
         if !self.send_failed
             && let Some(held) = &mut self.held
-            && bytes.len() <= held.capacity() - held.len()
+            && held.append(bytes)
         {
-            append(held, bytes);
             return Ok(bytes.len());
         }
         self.push_beyond(bytes)
+    }
+
+    #[inline(always)]
+    fn push_short(&mut self, text: &[u8; WINDOW], len: usize) -> Result<usize, Stopped> {
+        if !self.send_failed
+            && let Some(held) = &mut self.held
+            && held.append_short(text, len)
+        {
+            return Ok(len);
+        }
+        self.push_beyond(&text[..len])
     }
 
     fn send(&mut self) {
@@ -188,25 +199,4 @@ fn write_out<W: Write>(bytes: &[u8], writer: &mut W) -> usize
         }
     }
     written
-}
-
-/// The bytes behind the first `count` of them move to the front.
-fn remove_front(held: &mut Vec<u8>, count: usize)
-    requires { count ≤ vec_len held.old }
-    ensures { held.new.items ≡ drop count held.old.items }
-{
-    let len = held.len();
-    held.as_mut_slice().copy_within(count..len, 0);
-    held.truncate(len - count);
-}
-
-/// Appends bytes for which there is room.
-#[inline(always)]
-fn append(held: &mut Vec<u8>, bytes: &[u8])
-    requires { vec_len held.old + length bytes.now ≤ vec_capacity held.old }
-    ensures { held.new.items ≡ held.old.items ++ bytes.now }
-{
-    let Ok(()) = held.extend_from_slice(bytes) else {
-        unreachable!()
-    };
 }

@@ -1,4 +1,4 @@
-use Rattle.std.proofs.Common.{◌+◌, take, drop, sym, arith, length-drop}
+use Rattle.std.proofs.Common.{◌+◌, take, drop, sym}
 use Rattle.std.proofs.lemmas.List.{take_rest}
 use Rattle.replay_core.proofs.LineLemmas.{found_cut, none_cut}
 use Rattle.replay_core.proofs.RunLemmas.{stands_more_lines, stopped_within, stands_held, at_error}

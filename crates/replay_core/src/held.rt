@@ -1,0 +1,86 @@
+ghost use Rattle.std.specs.Prelude.{◌≡◌, ◌≤◌, true, false, [], ◌++◌, length, take, drop, ◌==◌};
+
+use quick_core::WINDOW;
+use std::marker::Model;
+
+/// Bytes in a room of fixed size.
+#[derive(Drop)]
+pub struct Held {
+    // The room: the bytes behind the first `len` are of no meaning.
+    bytes: Vec<u8>,
+    len: usize,
+}
+
+impl Model for Held {
+    ghost use Rattle.std.specs.Prelude.{ℕ, ◌≤◌, List, length, take};
+
+    ghost Value = { List ℕ };
+
+    ghost view = { λ a. take a.len a.bytes.items };
+
+    ghost invariant = { λ a. a.len ≤ length a.bytes.items };
+}
+
+impl Held {
+    /// No bytes, in the capacity of `room`: nothing is allocated.
+    pub fn new(room: Vec<u8>) -> Self
+        ensures { result ≡ [] }
+    {
+        let mut bytes = room;
+        bytes.resize(bytes.capacity(), 0).unwrap();
+        Held { bytes, len: 0 }
+    }
+
+    /// Appends bytes, and answers whether there was room for them.
+    #[inline(always)]
+    pub fn append(&mut self, more: &[u8]) -> bool
+        ensures appended { result ≡ true → self.new ≡ self.old ++ more.now }
+        ensures refused { result ≡ false → self.new ≡ self.old }
+    {
+        if more.len() > self.bytes.len() - self.len {
+            return false;
+        }
+        let end = self.len + more.len();
+        self.bytes[self.len..end].copy_from_slice(more);
+        self.len = end;
+        true
+    }
+
+    /// Appends the first `len` bytes of a text, and answers whether there was room for the whole text.
+    #[inline(always)]
+    pub fn append_short(&mut self, text: &[u8; WINDOW], len: usize) -> bool
+        requires { len ≤ WINDOW }
+        ensures appended { result ≡ true → self.new ≡ self.old ++ take len text.now }
+        ensures refused { result ≡ false → self.new ≡ self.old }
+    {
+        if self.bytes.len() - self.len < WINDOW {
+            return false;
+        }
+        self.bytes[self.len..self.len + WINDOW].copy_from_slice(text);
+        self.len += len;
+        true
+    }
+
+    /// The bytes.
+    pub fn as_slice(&self) -> &[u8]
+        ensures { result.now ≡ self.now }
+    {
+        &self.bytes[..self.len]
+    }
+
+    /// There are none.
+    pub fn is_empty(&self) -> bool
+        ensures { result ≡ (length self.now == 0) }
+    {
+        self.len == 0
+    }
+
+    /// The bytes behind the first `count` of them move to the front.
+    pub fn remove_front(&mut self, count: usize)
+        requires { count ≤ length self.old }
+        ensures { self.new ≡ drop count self.old }
+    {
+        self.bytes.as_mut_slice().copy_within(count..self.len, 0);
+        self.len -= count;
+    }
+}
