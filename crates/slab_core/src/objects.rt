@@ -145,6 +145,7 @@ impl Slabs {
     }
 
     /// Turns the bit of an object in the record of its slab.
+    #[inline(always)]
     fn turn(&mut self, space: &mut Space, t: u8, cache: &Cache, object: Object)
         requires tenant { t < length space.old.slots }
         requires unit { space.old.unit ≡ 4096 * 2 ^ self.old.top }
