@@ -1,0 +1,116 @@
+"""The loads of the benchmark: what tenants ask for, one batch of lines after the other.
+
+A load never models the allocator. It talks to the program while the trace is made: what the program answers (frames, places) is
+what later lines name. So every line of a trace does something, and the trace can be run again at full speed.
+"""
+import random
+
+# Bytes of the objects of each cache of a tenant, by its number.
+SIZES = (16, 24, 64, 100, 256, 500, 1000, 2000, 3000)
+BATCH = 256
+
+
+class Tenant:
+    """What a tenant holds, as far as it was told."""
+
+    def __init__(self, number, frames):
+        self.number, self.frames = number, frames
+        self.blocks, self.objects, self.used = [], [], 0
+
+    def drop(self, held, draw):
+        """One of the things held, which is given back: any may be the one."""
+        at = draw.randrange(len(held))
+        held[at], held[-1] = held[-1], held[at]
+        return held.pop()
+
+
+def grants(superblocks, tenants):
+    """The superblocks are shared out in turn."""
+    return [f'admin grant {m % tenants}' for m in range(superblocks)]
+
+
+def caches(draw, tenants):
+    """Each tenant makes a cache of every size; a constructed object is a pattern of 1, 4 or 8 bytes, over and over."""
+    return [f'{t} cache {size} 8 {draw.randbytes(draw.choice((1, 4, 8))).hex()}' for t in range(tenants) for size in SIZES]
+
+
+def pages(draw, tenants):
+    """Blocks of order 0 to 3, mostly small, about half of each tenant's frames, freed in any order."""
+    for tenant in draw.choices(tenants, k=BATCH):
+        if draw.random() < (.6 if tenant.used < tenant.frames // 2 else .4) or not tenant.blocks:
+            order = draw.choices((0, 1, 2, 3), (8, 4, 2, 1))[0]
+            yield tenant, f'{tenant.number} alloc {order}', order
+        else:
+            frame, order = tenant.drop(tenant.blocks, draw)
+            tenant.used -= 1 << order
+            yield tenant, f'{tenant.number} free {frame}', None
+
+
+def took(tenant, cache):
+    return tenant, f'{tenant.number} take {cache}', cache
+
+
+def objects(draw, tenants):
+    """Objects of all sizes, some tens of each tenant live at a time: slabs come and go."""
+    for tenant in draw.choices(tenants, k=BATCH):
+        if draw.random() < .0005:
+            yield tenant, f'{tenant.number} reap', None
+        elif draw.random() < (.6 if len(tenant.objects) < tenant.frames // 2 else .4) or not tenant.objects:
+            yield took(tenant, draw.randrange(len(SIZES)))
+        else:
+            cache, place = tenant.drop(tenant.objects, draw)
+            yield tenant, f'{tenant.number} give {cache} {place}', None
+
+
+def scattered(draw, tenants):
+    """Small objects that use most frames, given back all over them: each cache has hundreds of partial slabs."""
+    for tenant in draw.choices(tenants, k=BATCH):
+        if draw.random() < (.9 if len(tenant.objects) < tenant.frames * 5 else .5) or not tenant.objects:
+            yield took(tenant, draw.choice((4, 5, 6)))
+        else:
+            cache, place = tenant.drop(tenant.objects, draw)
+            yield tenant, f'{tenant.number} give {cache} {place}', None
+
+
+def transfers(draw, tenants):
+    """1 to 64 bytes read or written in live objects and blocks, as often as not the least or the greatest number of them."""
+    for tenant in draw.choices(tenants, k=BATCH):
+        if len(tenant.objects) < 20:
+            yield took(tenant, draw.randrange(len(SIZES)))
+        elif len(tenant.blocks) < 20:
+            yield tenant, f'{tenant.number} alloc 0', 0
+        else:
+            room, place = draw.choice([(4096, 4096 * draw.choice(tenant.blocks)[0]), object_of(draw.choice(tenant.objects))])
+            count = min(room, draw.choice((1, 64, draw.randint(1, 64))))
+            at = place + draw.randint(0, room - count)
+            if draw.random() < .5:
+                yield tenant, f'{tenant.number} read {at} {count}', None
+            else:
+                yield tenant, f'{tenant.number} write {at} {draw.randbytes(count).hex()}', None
+
+
+def object_of(held):
+    cache, place = held
+    return SIZES[cache], place
+
+
+LOADS = {'pages': pages, 'objects': objects, 'scattered': scattered, 'transfers': transfers}
+
+
+def make(name, ask, lines, order, superblocks, tenants, seed=1):
+    """All lines of a load; `ask` runs some and answers the replies, one to a line."""
+    draw = random.Random(f'{name} {seed}')
+    made = grants(superblocks, tenants) + caches(draw, tenants)
+    ask(made)
+    holders = [Tenant(t, (superblocks - t + tenants - 1) // tenants << order) for t in range(tenants)]
+    while len(made) < lines:
+        batch = list(LOADS[name](draw, holders))
+        for (tenant, line, kind), reply in zip(batch, ask([line for _, line, _ in batch])):
+            words = reply.split()
+            if words[1] == 'frame':
+                tenant.blocks.append((int(words[2]), kind))
+                tenant.used += 1 << kind
+            elif words[1] == 'object':
+                tenant.objects.append((kind, int(words[2])))
+        made += [line for _, line, _ in batch]
+    return made[:lines]
