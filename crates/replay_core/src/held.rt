@@ -53,10 +53,9 @@ impl Held {
         ensures appended { result ≡ true → self.new ≡ self.old ++ take len text.now }
         ensures refused { result ≡ false → self.new ≡ self.old }
     {
-        if self.bytes.len() - self.len < WINDOW {
+        if !write_first(&mut self.bytes[self.len..], text) {
             return false;
         }
-        self.bytes[self.len..self.len + WINDOW].copy_from_slice(text);
         self.len += len;
         true
     }
@@ -83,4 +82,17 @@ impl Held {
         self.bytes.as_mut_slice().copy_within(count..self.len, 0);
         self.len -= count;
     }
+}
+
+/// Writes the text over the first bytes of the room, and answers whether it has so many.
+#[inline(always)]
+fn write_first(room: &mut [u8], text: &[u8; WINDOW]) -> bool
+    ensures written { result ≡ true → room.new ≡ text.now ++ drop WINDOW room.old }
+    ensures short { result ≡ false → room.new ≡ room.old }
+{
+    let Some(first) = room.first_chunk_mut::<WINDOW>() else {
+        return false;
+    };
+    *first = *text;
+    true
 }
