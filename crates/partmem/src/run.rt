@@ -11,6 +11,7 @@ use kernel_core::{BootError, Kernel, laws};
 use replay_core::{Drain, Feed, WriterDrain, replay};
 use std::alloc::Global;
 use std::io::Write;
+use std::mem;
 
 /// Boots a new machine of these settings, replays the trace and flushes: after a failed feed too, but not after a failed
 /// drain. The first failure decides.
@@ -41,6 +42,8 @@ pub fn run<F: Feed, W: Write>(
         Err(BootError::BadConfig) => unreachable!(),
     };
     let replayed = replay(&mut kernel, feed, drain, settings.only);
+    // The system takes all memory back at once when the process ends, sooner than piece by piece.
+    mem::forget(kernel);
     let tally = tally_of(&replayed);
     if drain.failed() {
         return Ended {
