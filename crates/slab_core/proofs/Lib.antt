@@ -16,6 +16,7 @@ pub mod ObjectGiven
 pub mod MarkBits
 pub mod MarkTurned
 pub mod MarkAgreed
+pub mod MarkCount
 pub mod TakeBits
 pub mod TakeNext
 pub mod TakeSlab

@@ -1,14 +1,14 @@
 -- A bit turned in a control record, where the record stands in the frame and where it is kept outside.
-use Rattle.std.proofs.Common.{◌≡◌, ◌≢◌, ℕ, ◌+◌, ◌*◌, ◌/◌, ◌%◌, ◌^◌, ◌<◌, true, false, not, cond, Option, Some, length, refl, sym, ap, ◌∙◌, subst, ◌⊎◌, inl, inr, arith}
+use Rattle.std.proofs.Common.{◌≡◌, ◌≢◌, ℕ, ◌+◌, ◌-◌, ◌*◌, ◌/◌, ◌%◌, ◌^◌, ◌<◌, true, false, not, cond, Option, Some, length, get_or, refl, sym, ap, ◌∙◌, subst, ◌⊎◌, inl, inr, arith}
 use Rattle.std.specs.Prelude.{IsSome, ◌==◌, if◌then◌else◌}
 use Rattle.std.specs.Int.Bits.{bit_xor}
-use Rattle.std.proofs.lemmas.Bool.{cases_eq, eq-eqb, ne_eqb}
+use Rattle.std.proofs.lemmas.Bool.{cases_eq, cases_lt, eq-eqb, ne_eqb}
 use Rattle.std.proofs.lemmas.List.{length-set, get_or-set_same, get_or-set_other}
 use Rattle.std.proofs.lemmas.Nat.{one_shl}
 use Rattle.model_core.specs.Layouts.{is_small}
 use Rattle.space_core.specs.Content as spaces
-use Rattle.space_core.specs.Laws.{SpaceLaws}
-use Rattle.space_core.specs.Windows.{byte_at, with_byte}
+use Rattle.space_core.specs.Laws.{SpaceLaws, IsSameFor, SpareStays, IsRead}
+use Rattle.space_core.specs.Windows.{byte_at, with_byte, home_of, with_window}
 use Rattle.slab_tables.specs.declared.cache.Cache as own
 use Rattle.slab_tables.specs.declared.cache.Kept.{Kept}
 use Rattle.slab_tables.specs.Content.{Content, blank, kept_at, numbers}
@@ -16,7 +16,8 @@ use Rattle.slab_tables.specs.Changes.{with_outside}
 use Rattle.slab_laws.specs.Records.{is_set}
 use Rattle.slab_laws.specs.Shows.{byte_or_zero, record_byte, is_live}
 use Rattle.slab_laws.specs.Changes.{Found}
-use Rattle.slab_core.specs.Objects.{IsTurned}
+use Rattle.slab_core.specs.Objects.{IsTurned, IsRecordRaised}
+use Rattle.slab_core.proofs.Building.{in_range, out_of_range}
 use Rattle.slab_core.proofs.MarkBits.{bit_turned, bit_stays}
 
 -- which word of a record tells of an object
@@ -29,25 +30,16 @@ pub live_large : (r : spaces.Content) (t : ℕ) (cache : own.Cache) (kept : Kept
 live_large r t cache kept f i large = ap (λ b. cond b (is_set (record_byte r t f (i / 8)) (i % 8)) (is_set kept.outside i)) large
 
 module _ (r : spaces.Content) (s : Content) (t : ℕ) (o : Found) where
-  module _ (laws : SpaceLaws r) (few : o.index < 256) (small : is_small (numbers o.cache).chunk ≡ true) (place byte word : ℕ)
-      (at : place ≡ 4096 * o.first + 4064 + o.index / 8) (reads : byte_at r t place ≡ Some byte) (is : word ≡ bit_xor byte (1 * 2 ^ (o.index % 8) % 256)) where
-    abbrev after : spaces.Content
-    after = with_byte r t place word
-
-    kept : Kept
-    kept = kept_at s.kept o.node
-
-    now : (p : ℕ) → byte_at after t p ≡ (if p == place then Some word else byte_at r t p)
-    now p = laws.own_bytes.byte t place word (subst (λ (x : Option ℕ). IsSome x) (sym reads) refl) p
-
+  -- a byte of the record written with the bit turned, however that was done
+  module _ (after : spaces.Content) (few : o.index < 256) (small : is_small (numbers o.cache).chunk ≡ true) (place byte word : ℕ)
+      (at : place ≡ 4096 * o.first + 4064 + o.index / 8) (reads : byte_at r t place ≡ Some byte) (is_flipped : word ≡ bit_xor byte (2 ^ (o.index % 8)))
+      (now : (p : ℕ) → byte_at after t p ≡ (if p == place then Some word else byte_at r t p)) (same : after ≡ record r { banks = after.banks })
+      (others : (u : ℕ) → u ≢ t → IsSameFor u r after) (spare : SpareStays r after) where
     here : byte_at after t place ≡ Some word
     here = now place ∙ ap (λ b. cond b (Some word) (byte_at r t place)) (eq-eqb place place refl)
 
     elsewhere : (p : ℕ) → p ≢ place → byte_at after t p ≡ byte_at r t p
     elsewhere p other = now p ∙ ap (λ b. cond b (Some word) (byte_at r t p)) (ne_eqb p place other)
-
-    is_flipped : word ≡ bit_xor byte (2 ^ (o.index % 8))
-    is_flipped = is ∙ ap (bit_xor byte) (one_shl (o.index % 8) 8 (omega arith))
 
     was_byte : record_byte r t o.first (o.index / 8) ≡ byte
     was_byte = ap (λ p. byte_or_zero (byte_at r t p)) (sym at) ∙ ap byte_or_zero reads
@@ -68,16 +60,16 @@ module _ (r : spaces.Content) (s : Content) (t : ℕ) (o : Found) where
             ∙ ap (λ w. is_set w (i % 8)) (sym was_byte) ∙ ap (λ j. is_set (record_byte r t o.first j) (i % 8)) (sym same)
         word_of (inr differ) = ap (λ x. is_set (byte_or_zero x) (i % 8)) (elsewhere (4096 * o.first + 4064 + i / 8) (λ e. differ (omega arith)))
 
-    pub turned_inside : IsTurned r after s s t o
-    turned_inside = record {
+    pub turned_by : IsTurned r after s s t o
+    turned_by = record {
       turned = live_small after t o.cache (kept_at s.kept o.node) o.first o.index small
           ∙ ap (λ w. is_set w (o.index % 8)) (now_byte ∙ is_flipped) ∙ bit_turned byte (o.index % 8)
           ∙ ap (λ w. not (is_set w (o.index % 8))) (sym was_byte)
           ∙ ap not (sym (live_small r t o.cache (kept_at s.kept o.node) o.first o.index small));
       stay = stay;
-      space = refl;
-      others = λ u other. laws.others.byte t place word u other;
-      spare = laws.spare.byte t place word;
+      space = same;
+      others = others;
+      spare = spare;
       bytes = λ p out. elsewhere p (λ e. out (o.index / 8) (omega arith) (e ∙ at));
       large = λ big. absurd (big small);
       tables = refl;
@@ -86,6 +78,70 @@ module _ (r : spaces.Content) (s : Content) (t : ℕ) (o : Found) where
       colour = refl;
       live = refl;
     }
+
+  module _ (laws : SpaceLaws r) (few : o.index < 256) (small : is_small (numbers o.cache).chunk ≡ true) (place byte word : ℕ)
+      (at : place ≡ 4096 * o.first + 4064 + o.index / 8) (reads : byte_at r t place ≡ Some byte) (is : word ≡ bit_xor byte (1 * 2 ^ (o.index % 8) % 256)) where
+    pub turned_inside : IsTurned r (with_byte r t place word) s s t o
+    turned_inside =
+        turned_by (with_byte r t place word) few small place byte word at reads
+        (is ∙ ap (bit_xor byte) (one_shl (o.index % 8) 8 (omega arith)))
+        (laws.own_bytes.byte t place word (subst (λ (x : Option ℕ). IsSome x) (sym reads) refl)) refl
+        (λ u other. laws.others.byte t place word u other) (laws.spare.byte t place word)
+
+  -- .. where the whole record was lent
+  module _ (after : spaces.Content) (laws : SpaceLaws r) (few : o.index < 256) (small : is_small (numbers o.cache).chunk ≡ true) (place : ℕ)
+      (at : place ≡ 4096 * o.first + 4064) (home : IsSome (home_of r t place 32)) (k : IsRecordRaised r after t place o.index) where
+    read : IsRead r t place 32 k.before
+    read = laws.own_bytes.read t place 32 k.before k.read
+
+    abbrev byte : ℕ
+    byte = get_or k.before (o.index / 8) 0
+
+    abbrev word : ℕ
+    word = bit_xor byte (2 ^ (o.index % 8))
+
+    long : length k.after ≡ 32
+    long = ap length k.raised.turned ∙ length-set k.before (o.index / 8) word ∙ read.count
+
+    abbrev bit_place : ℕ
+    bit_place = place + o.index / 8
+
+    index_of : (p j : ℕ) → p ≡ place + j → p - place ≡ j
+    index_of p j e = omega arith
+
+    turned_there : get_or k.after (o.index / 8) 0 ≡ word
+    turned_there = ap (λ bytes. get_or bytes (o.index / 8) 0) k.raised.turned ∙ get_or-set_same k.before (o.index / 8) word 0 (omega (arith, read.count))
+
+    stays_there : (j : ℕ) → j ≢ o.index / 8 → get_or k.after j 0 ≡ get_or k.before j 0
+    stays_there j differ = ap (λ bytes. get_or bytes j 0) k.raised.turned ∙ get_or-set_other k.before (o.index / 8) j word 0 differ
+
+    other : (p : ℕ) → p ≢ bit_place → byte_at (with_window r t place 32 k.after) t p ≡ byte_at r t p
+    other p differ = elim (cases_lt p place) [
+      | inl before ↦ out_of_range r t place 32 k.after laws.own_bytes home long p (λ low high. omega arith)
+      | inr low ↦ elim (cases_lt p (place + 32)) [
+        | inl high ↦
+            let whole : place + (p - place) ≡ p = omega arith in
+            in_range r t place 32 k.after laws.own_bytes home long p low high
+            ∙ ap (λ (x : ℕ). Some x) (stays_there (p - place) (λ e. differ (omega arith)))
+            ∙ sym (ap (byte_at r t) (sym whole) ∙ read.each (p - place) (omega arith))
+        | inr past ↦ out_of_range r t place 32 k.after laws.own_bytes home long p (λ low high. omega arith)
+      ]
+    ]
+
+    after_now : (p : ℕ) → byte_at (with_window r t place 32 k.after) t p ≡ (if p == bit_place then Some word else byte_at r t p)
+    after_now p = elim (cases_eq p bit_place) [
+      | inl same ↦
+          in_range r t place 32 k.after laws.own_bytes home long p (omega arith) (omega arith)
+          ∙ ap (λ (x : ℕ). Some x) (ap (λ j. get_or k.after j 0) (index_of p (o.index / 8) same) ∙ turned_there)
+          ∙ sym (ap (λ b. cond b (Some word) (byte_at r t p)) (eq-eqb p bit_place same))
+      | inr differ ↦ other p differ ∙ sym (ap (λ b. cond b (Some word) (byte_at r t p)) (ne_eqb p bit_place differ))
+    ]
+
+    pub turned_window : IsTurned r after s s t o
+    turned_window =
+        subst (λ (x : spaces.Content). IsTurned r x s s t o) (sym k.written)
+        (turned_by (with_window r t place 32 k.after) few small bit_place byte word (omega (arith, at)) (read.each (o.index / 8) (omega arith)) refl
+        after_now refl (λ u other. laws.others.window t place 32 k.after u other) (laws.spare.window t place 32 k.after))
 
   module _ (large : is_small (numbers o.cache).chunk ≡ false) (few : o.index < 16) (within : o.node < length s.kept) (word : ℕ)
       (is : word ≡ bit_xor (kept_at s.kept o.node).outside (1 * 2 ^ o.index % 65536)) where

@@ -1,10 +1,13 @@
 -- The least bit of a record that is 0, and the least object that is not live.
-use Rattle.std.proofs.Common.{◌≡◌, ◌≢◌, ℕ, ◌+◌, ◌*◌, ◌/◌, ◌%◌, ◌<◌, ◌≤◌, Bool, true, false, not, zero, suc, List, ◌∷◌, get_or, sym, ap, ◌∙◌, inl, inr, min, w8, w32, arith}
+use Rattle.std.proofs.Common.{◌≡◌, ◌≢◌, ℕ, ◌+◌, ◌*◌, ◌/◌, ◌%◌, ◌^◌, ◌<◌, ◌≤◌, Bool, true, false, not, zero, suc, List, ◌∷◌, length, get_or, set, sym, ap, ◌∙◌, inl, inr, min, w8, w32, arith}
 use Rattle.std.specs.List.{position_or_len}
 use Rattle.std.specs.Int.{bit_at, trailing_ones}
 use Rattle.std.proofs.lemmas.Bool.{cases_lt, eq-eqb, ne_eqb}
 use Rattle.std.proofs.lemmas.Nat.Bits.{bit_at_above, bit_at_ones, bit_at-trailing_ones}
+use Rattle.std.specs.Int.Bits.{bit_xor}
+use Rattle.std.proofs.lemmas.Nat.{one_shl}
 use Rattle.slab_laws.specs.Records.{is_set, flags_from, flags}
+use Rattle.slab_core.specs.Objects.{IsRaised}
 
 -- every bit of a full byte is 1
 pub full_byte : (byte j : ℕ) → byte ≡ 255 → j < 8 → is_set byte j ≡ true
@@ -56,6 +59,19 @@ clear_at bytes i k less is =
     let byte : (8 * i + k) / 8 ≡ i = omega arith in
     let bit : (8 * i + k) % 8 ≡ k = omega arith in
     ap (λ n. is_set (get_or bytes n 0) ((8 * i + k) % 8)) byte ∙ (ap (is_set (get_or bytes i 0)) bit ∙ is.clear less)
+
+-- the least 0 of the first byte that is not full, turned
+pub raised : (bytes : List ℕ) (i bit : ℕ) → i < length bytes → ((n : ℕ) → n < i → get_or bytes n 0 ≡ 255) → bit < 8 → IsClear 8 (get_or bytes i 0) bit
+    → IsRaised bytes (set bytes i (bit_xor (get_or bytes i 0) (1 * 2 ^ bit % 256))) (8 * i + bit)
+raised bytes i bit within full less is =
+    let byte : (8 * i + bit) / 8 ≡ i = omega arith in
+    let rest : (8 * i + bit) % 8 ≡ bit = omega arith in
+    record {
+      below = omega arith;
+      ones = λ j low. ones_below bytes i bit j full is low;
+      clear = clear_at bytes i bit less is;
+      turned = rw (byte, rest) (ap (λ m. set bytes i (bit_xor (get_or bytes i 0) m)) (one_shl bit 8 less));
+    }
 
 -- the least number that fails the test, or n
 pub first_clear : (k n i : ℕ) (p : ℕ → Bool) → i ≤ n → ((j : ℕ) → k ≤ j → j < k + i → p j ≡ true) → (i < n → p (k + i) ≡ false) → position_or_len not (flags_from k n p) ≡ i

@@ -1,13 +1,16 @@
 -- What the steps of giving and taking objects do.
-use Rattle.std.specs.Prelude.{◌≡◌, ◌≢◌, ℕ, ◌+◌, ◌*◌, ◌<◌, ◌≤◌, not, true, length}
+use Rattle.std.specs.Prelude.{◌≡◌, ◌≢◌, ℕ, ◌+◌, ◌*◌, ◌/◌, ◌%◌, ◌^◌, ◌<◌, Bool, not, true, false, List, Some, length, slice_index, slice_set}
+use Rattle.std.specs.Int.Bits.{bit_xor}
 use Rattle.model_core.specs.Layouts.{is_small}
 use Rattle.space_core.specs.Content as spaces
-use Rattle.space_core.specs.Laws.{IsSameFor, SpareStays}
-use Rattle.space_core.specs.Windows.{byte_at}
-use Rattle.slab_tables.specs.Content.{Content, kept_at, numbers}
-use Rattle.slab_laws.specs.Shows.{is_live}
+use Rattle.space_core.specs.Laws.{SpaceLaws, IsSameFor, SpareStays}
+use Rattle.space_core.specs.Windows.{byte_at, window_of, with_window}
+use Rattle.buddy_core.specs.Content as buddies
+use Rattle.slab_tables.specs.Content.{Content, IsSlabs, kept_at, numbers}
+use Rattle.slab_laws.specs.Records.{is_set}
+use Rattle.slab_laws.specs.Shows.{is_live, IsSlab, Agree}
 use Rattle.slab_laws.specs.Changes.{Found}
-use Rattle.slab_laws.specs.Objects.{Standing, IsObject}
+use Rattle.slab_laws.specs.Objects.{Standing}
 
 -- the slab at this first frame and node
 abbrev pub standing : ℕ → ℕ → Standing
@@ -30,3 +33,36 @@ pub record IsTurned (r r' : spaces.Content) (s s' : Content) (t : ℕ) (o : Foun
   pub kept : (n : ℕ) → n ≢ o.node → kept_at s'.kept n ≡ kept_at s.kept n
   pub colour : (kept_at s'.kept o.node).colour ≡ (kept_at s.kept o.node).colour
   pub live : (kept_at s'.kept o.node).live ≡ (kept_at s.kept o.node).live
+
+-- Object o of a slab of cache c of tenant t is turned, and its slab is still to be counted. Before, in r and s, the parts agreed,
+-- and the object was live where it is not to be, and the other way round.
+pub record IsToCount (r r' : spaces.Content) (b : buddies.Content) (s s' : Content) (t c : ℕ) (o : Found) (live : Bool) : Type 0 where
+  pub tenant : t < length r.slots
+  pub laws : SpaceLaws r
+  pub slabs : IsSlabs s
+  pub agree : Agree r b s
+  pub slab : IsSlab r s t c o.first o.node o.cache
+  pub index : o.index < (numbers o.cache).count
+  pub was : is_live r t o.cache (kept_at s.kept o.node) o.first o.index ≡ not live
+  pub turned : IsTurned r r' s s' t o
+
+-- some bit of these bytes is 0
+pub record HasClear (bytes : List ℕ) : Type 0 where
+  pub at : ℕ
+  pub within : at < length bytes
+  pub clear : slice_index bytes at ≢ 255
+
+-- bit k was the least of the bytes that was 0, and is the one that changed
+pub record IsRaised (before after : List ℕ) (k : ℕ) : Type 0 where
+  pub below : k < 8 * length before
+  pub ones : (j : ℕ) → j < k → is_set (slice_index before (j / 8)) (j % 8) ≡ true
+  pub clear : is_set (slice_index before (k / 8)) (k % 8) ≡ false
+  pub turned : after ≡ slice_set before (k / 8) (bit_xor (slice_index before (k / 8)) (2 ^ (k % 8)))
+
+-- so it is in the control record at a place of tenant t, and all else of the memory is as before
+pub record IsRecordRaised (r r' : spaces.Content) (t place k : ℕ) : Type 0 where
+  pub before : List ℕ
+  pub after : List ℕ
+  pub read : window_of r t place 32 ≡ Some before
+  pub raised : IsRaised before after k
+  pub written : r' ≡ with_window r t place 32 after

@@ -34,7 +34,9 @@ impl Slabs {
         ensures agree { Agree space.new buddy.now self.new }
         ensures refused { OnErr result ((space.new ≡ space.old) × (self.new ≡ self.old)) }
     {
+        self.tables.facts();
         self.steady(space, buddy, t);
+        space.laws();
         found_gives();
         not_found_refuses();
         marked_shows();
@@ -42,7 +44,8 @@ impl Slabs {
         let object = self
             .find(space, buddy, t, c, &cache, place)
             .ok_or(GiveRefusal::NotAnObject)?;
-        self.mark(space, buddy, t, c, &cache, object, false);
+        self.turn(space, t, &cache, object);
+        self.count(space, buddy, t, c, &cache, object, false);
         Ok(())
     }
 }

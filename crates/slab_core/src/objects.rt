@@ -3,12 +3,13 @@
 ghost use Rattle.std.specs.Prelude.{◌≡◌, ℕ, ◌*◌, ◌+◌, ◌/◌, ◌%◌, ◌^◌, ◌<◌, ◌≤◌, Some, length, IfSome, MatchOption, not};
 ghost use Rattle.model_core.specs.Blocks.{around};
 ghost use Rattle.model_core.specs.declared.limits.TheConstants.{MOST_CACHES};
-ghost use Rattle.slab_tables.specs.Content.{kept_at, cache_at, index_of_cache, numbers};
+ghost use Rattle.slab_tables.specs.Content.{Content, kept_at, cache_at, index_of_cache, numbers};
 ghost use Rattle.slab_laws.specs.Shows.{node_of, has_slab, is_of_cache, is_live, IsSlab, Agree};
 ghost use Rattle.slab_laws.specs.Changes.{found, IsMarked};
 ghost use Rattle.slab_laws.specs.Objects.{IsObject, IsNoObject};
 ghost use Rattle.slab_laws.specs.Keeps.{Spares};
-ghost use Rattle.slab_core.specs.Objects.{IsTurned};
+ghost use Rattle.slab_core.specs.Objects.{IsTurned, IsToCount};
+ghost use Rattle.space_core.specs.Content as spaces;
 ghost use Rattle.klist_core.specs.Places.{place_at};
 ghost use Rattle.space_core.specs.declared.TheConstants.{FRAME_BYTES};
 
@@ -146,7 +147,7 @@ impl Slabs {
 
     /// Turns the bit of an object in the record of its slab.
     #[inline(always)]
-    fn turn(&mut self, space: &mut Space, t: u8, cache: &Cache, object: Object)
+    pub(crate) fn turn(&mut self, space: &mut Space, t: u8, cache: &Cache, object: Object)
         requires tenant { t < length space.old.slots }
         requires unit { space.old.unit ≡ 4096 * 2 ^ self.old.top }
         requires slab { (c : ℕ) × IsSlab space.old self.old t c object.first object.node cache.now }
@@ -168,11 +169,11 @@ impl Slabs {
         }
     }
 
-    /// Lets an object be live, which is not, or not be live, which is.
+    /// Counts the live objects of a slab anew, of which one has been turned: it is live now, or is not any more.
     #[inline(always)]
-    pub(crate) fn mark(
+    pub(crate) fn count(
         &mut self,
-        space: &mut Space,
+        space: &Space,
         buddy: &Buddy,
         t: u8,
         c: u32,
@@ -180,18 +181,14 @@ impl Slabs {
         object: Object,
         live: bool,
     )
-        requires tenant { t < length space.old.slots }
-        requires agree { Agree space.old buddy.now self.old }
-        requires slab { IsSlab space.old self.old t c object.first object.node cache.now }
-        requires index { object.index < (numbers cache.now).count }
-        requires was { is_live space.old t cache.now (kept_at self.old.kept object.node) object.first object.index ≡ not live }
-        ensures marked { IsMarked space.old space.new self.old self.new t c (found cache.now object.first object.node object.index) live }
-        ensures spares { Spares t space.old space.new buddy.now buddy.now self.old self.new }
-        ensures agree { Agree space.new buddy.now self.new }
+        requires { (r : spaces.Content) × ((s : Content)
+            × IsToCount r space.now buddy.now s self.old t c (found cache.now object.first object.node object.index) live) }
+        ensures marked { (r : spaces.Content) (s : Content) → IsToCount r space.now buddy.now s self.old t c (found cache.now object.first object.node object.index) live
+            → IsMarked r space.now s self.new t c (found cache.now object.first object.node object.index) live }
+        ensures spares { (r : spaces.Content) (s : Content) → IsToCount r space.now buddy.now s self.old t c (found cache.now object.first object.node object.index) live
+            → Spares t r space.now buddy.now buddy.now s self.new }
+        ensures agree { Agree space.now buddy.now self.new }
     {
-        self.tables.facts();
-        space.laws();
-        self.turn(space, t, cache, object);
         let before = u32::from(self.tables.kept(object.node).live);
         let count = if live { before + 1 } else { before - 1 };
         self.tables

@@ -1,9 +1,8 @@
 //! Taking an object.
 
-ghost use Rattle.std.specs.Prelude.{◌≡◌, ℕ, ◌+◌, ◌*◌, ◌/◌, ◌%◌, ◌^◌, ◌<◌, ◌≤◌, true, false, not, Some, Ok, length, slice_index, IfSome, OnErr, MatchOption};
+ghost use Rattle.std.specs.Prelude.{◌≡◌, ◌≢◌, ℕ, ◌*◌, ◌^◌, ◌<◌, ◌≤◌, not, List, Some, Ok, length, slice_index, IsSome, IfSome, OnErr, MatchOption};
 ghost use Rattle.std.specs.List.{position_or_len};
 ghost use Rattle.slab_tables.specs.Content.{kept_at, cache_at, numbers};
-ghost use Rattle.slab_laws.specs.Records.{is_set};
 ghost use Rattle.slab_laws.specs.Shows.{live_of, IsSlab, Agree, ShowsMachine};
 ghost use Rattle.slab_laws.specs.Keeps.{Spares};
 ghost use Rattle.model_core.specs.Machine as machines;
@@ -11,7 +10,9 @@ ghost use Rattle.model_core.specs.Machine.{Machine};
 ghost use Rattle.model_core.specs.Slabs.{cache_of, slab_of};
 ghost use Rattle.model_core.specs.CacheOperations.{hand_out, take_step};
 ghost use Rattle.slab_laws.specs.Objects.{IsToUse, IsAllFull};
-ghost use Rattle.slab_core.specs.Objects.{standing};
+ghost use Rattle.slab_laws.specs.Changes.{found};
+ghost use Rattle.space_core.specs.Windows.{home_of, window_of};
+ghost use Rattle.slab_core.specs.Objects.{standing, HasClear, IsRaised, IsRecordRaised, IsTurned};
 
 use crate::Slabs;
 use crate::objects::{Object, record_place};
@@ -22,19 +23,44 @@ use slab_laws::changes::marked_shows;
 use slab_tables::{Cache, Kind};
 use space_core::{FRAME_BYTES, Space};
 
-/// The least bit of these bytes that is 0, counted through all of them; their number of bits where all are 1.
-fn least_clear(bytes: &[u8]) -> u32
-    requires { length bytes.now ≤ 32 }
-    ensures below { result ≤ 8 * length bytes.now }
-    ensures ones { (j : ℕ) → j < result → is_set (slice_index bytes.now (j / 8)) (j % 8) ≡ true }
-    ensures zero { result < 8 * length bytes.now → is_set (slice_index bytes.now (result / 8)) (result % 8) ≡ false }
+/// The least index of a byte of which not every bit is 1.
+#[inline(always)]
+fn least_not_full(bytes: &[u8]) -> usize
+    requires { HasClear bytes.now }
+    ensures below { result < length bytes.now }
+    ensures full { (i : ℕ) → i < result → slice_index bytes.now i ≡ 255 }
+    ensures clear { slice_index bytes.now result ≢ 255 }
 {
     for (i, byte) in bytes.iter().enumerate() {
         if *byte != u8::MAX {
-            return 8 * i as u32 + byte.trailing_ones();
+            return i;
         }
     }
-    8 * bytes.len() as u32
+    unreachable!()
+}
+
+/// Sets the least bit of these bytes that is 0, and answers which, counted through all of them.
+#[inline(always)]
+fn raise(bytes: &mut [u8]) -> u32
+    requires short { length bytes.old ≤ 32 }
+    requires clear { HasClear bytes.old }
+    ensures { IsRaised bytes.old bytes.new result }
+{
+    let i = least_not_full(bytes);
+    let bit = bytes[i].trailing_ones();
+    bytes[i] ^= 1 << bit;
+    8 * i as u32 + bit
+}
+
+/// Sets the least bit of the control record at a place of tenant `t` that is 0, and answers which.
+#[inline(always)]
+fn raise_in_record(space: &mut Space, t: u8, place: u32) -> u32
+    requires tenant { t < length space.old.slots }
+    requires in_reach { IsSome (home_of space.old t place 32) }
+    requires clear { (bytes : List ℕ) → window_of space.old t place 32 ≡ Some bytes → HasClear bytes }
+    ensures { IsRecordRaised space.old space.new t place result }
+{
+    raise(space.window_mut(t, place, 32))
 }
 
 impl Slabs {
@@ -97,26 +123,29 @@ impl Slabs {
         }
     }
 
-    /// The least object of a slab that is not live; the number of its objects where all are.
+    /// Lets the least object of a slab be live that is not, and answers which. The slab is still to be counted.
     #[inline(always)]
-    fn next_object(&self, space: &Space, t: u8, cache: &Cache, first: u32, node: u32) -> u32
-        requires tenant { t < length space.now.slots }
-        requires unit { space.now.unit ≡ 4096 * 2 ^ self.now.top }
-        requires slab { (c : ℕ) × IsSlab space.now self.now t c first node cache.now }
-        ensures { result ≡ position_or_len not (live_of space.now t cache.now (kept_at self.now.kept node) first) }
+    fn claim(&mut self, space: &mut Space, t: u8, cache: &Cache, first: u32, node: u32) -> u32
+        requires tenant { t < length space.old.slots }
+        requires unit { space.old.unit ≡ 4096 * 2 ^ self.old.top }
+        requires slab { (c : ℕ) × IsSlab space.old self.old t c first node cache.now }
+        requires free { position_or_len not (live_of space.old t cache.now (kept_at self.old.kept node) first) < (numbers cache.now).count }
+        ensures least { result ≡ position_or_len not (live_of space.old t cache.now (kept_at self.old.kept node) first) }
+        ensures turned { IsTurned space.old space.new self.old self.new t (found cache.now first node result) }
     {
         self.tables.facts();
         space.laws();
         cache.layout.fits();
         cache.layout.accepted();
         few_objects();
-        let clear = if cache.layout.in_page() {
-            let record = space.window(t, record_place(first, 0), 32);
-            least_clear(record.unwrap())
+        if cache.layout.in_page() {
+            raise_in_record(space, t, record_place(first, 0))
         } else {
-            u32::from(self.tables.kept(node).outside).trailing_ones()
-        };
-        clear.min(cache.layout.count())
+            let outside = self.tables.kept(node).outside;
+            let index = u32::from(outside).trailing_ones();
+            self.tables.set_outside(node, outside ^ 1 << index);
+            index
+        }
     }
 
     /// Hands out the least object of a slab that is not live, and answers its first place.
@@ -145,11 +174,12 @@ impl Slabs {
         self.steady(space, buddy, t);
         marked_shows();
         self.tables.facts();
+        space.laws();
         cache.layout.fits();
         let colour = u32::from(self.tables.kept(node).colour);
-        let index = self.next_object(space, t, cache, first, node);
+        let index = self.claim(space, t, cache, first, node);
         let object = Object { first, node, index };
-        self.mark(space, buddy, t, c, cache, object, true);
+        self.count(space, buddy, t, c, cache, object, true);
         FRAME_BYTES * first + cache.layout.offset(colour, index)
     }
 }
