@@ -7,7 +7,7 @@
 //! Only [`Lists::new`] allocates.
 #![tactic(auto)]
 
-ghost use Rattle.std.specs.Prelude.{◌≡◌, ◌≢◌, ℕ, ◌+◌, ◌-◌, ◌^◌, ◌<◌, ◌≤◌, Some, None, length, IsSome, IfSome, IfOk, MatchOption, slice_get, replicate, count_by};
+ghost use Rattle.std.specs.Prelude.{◌≡◌, ◌≢◌, ℕ, ◌+◌, ◌-◌, ◌^◌, ◌<◌, ◌≤◌, ◌↔◌, Some, None, length, IsTrue, IsSome, IfSome, IfOk, MatchOption, slice_get, replicate, count_by};
 ghost use Rattle.std.specs.Option.{ForSome};
 ghost use Rattle.klist_core.specs.Places.{IsTable, IsEmpty, IsFirst, NoneAbove, IsNext, place_at, is_in, inserted, removed, replaced};
 ghost use Rattle.klist_core.specs.Lists.{list_of};
@@ -59,6 +59,15 @@ impl Link {
         } else {
             Some(self.raw)
         }
+    }
+
+    /// Whether it is this number: one comparison.
+    #[inline(always)]
+    fn is(self, number: u32) -> bool
+        requires { number < 2 ^ 32 - 1 }
+        ensures { IsTrue result ↔ (self ≡ Some number) }
+    {
+        self.raw == number
     }
 }
 
@@ -150,6 +159,16 @@ impl Lists {
         Some((list, node.key))
     }
 
+    /// Whether the node stands in the list.
+    #[inline(always)]
+    pub fn is_in(&self, node: u32, head: u32) -> bool
+        requires node { node < length self.now.places }
+        requires head { head < self.now.heads }
+        ensures { result ≡ is_in head (place_at self.now.places node) }
+    {
+        self.nodes[node as usize].list.is(head)
+    }
+
     /// How many nodes the list has.
     pub fn len(&self, head: u32) -> u32
         requires { head < self.now.heads }
@@ -184,8 +203,9 @@ impl Lists {
 
     /// Puts a node that stands in no list into the list, under a key that the list does not have.
     ///
-    /// A key below the first of the list or above the last takes constant time. Any other is looked for
-    /// from the end whose key is nearer to it.
+    /// A key below the first of the list or above the last takes constant time. Any other is looked for from the
+    /// first on, so a long list wants [`Lists::insert_near`].
+    #[inline(always)]
     pub fn insert(&mut self, head: u32, node: u32, key: u32)
         requires head { head < self.old.heads }
         requires node { node < length self.old.places }
@@ -193,8 +213,7 @@ impl Lists {
         requires fresh { (i : ℕ) → place_at self.old.places i ≢ Some (head, key) }
         ensures { self.new ≡ inserted self.old head node key }
     {
-        let start = self.nearer_end(head, key);
-        let (previous, next) = self.neighbours(head, key, start);
+        let (previous, next) = self.gap(head, key);
         self.put_between(head, node, key, previous, next);
     }
 
@@ -208,9 +227,10 @@ impl Lists {
         requires near { near < length self.old.places }
         ensures { self.new ≡ inserted self.old head node key }
     {
-        let start = match self.place_of(near) {
-            Some((list, _)) if list == head => Some(near),
-            _ => self.nearer_end(head, key),
+        let start = if self.is_in(near, head) {
+            Some(near)
+        } else {
+            self.nearer_end(head, key)
         };
         let (previous, next) = self.neighbours(head, key, start);
         self.put_between(head, node, key, previous, next);
@@ -278,6 +298,28 @@ impl Lists {
         link_after(&mut self.heads, &mut self.nodes, head, previous, Some(node));
         link_before(&mut self.heads, &mut self.nodes, head, next, Some(node));
         self.heads[head as usize].len += 1;
+    }
+
+    /// The nodes between which a key comes that the list does not have: the ends of the list are tried first.
+    #[inline(always)]
+    fn gap(&self, head: u32, key: u32) -> (Option<u32>, Option<u32>)
+        requires head { head < self.now.heads }
+        requires fresh { (i : ℕ) → place_at self.now.places i ≢ Some (head, key) }
+        ensures previous { IsNearest down (place_at self.now.places) head (down key + 1) result.0 }
+        ensures next { IsNearest up (place_at self.now.places) head (up key + 1) result.1 }
+    {
+        let Some(first) = self.first_of(head) else {
+            return (None, None);
+        };
+        if key < self.key_of(first) {
+            return (None, Some(first));
+        }
+        if let Some(last) = self.last_of(head)
+            && self.key_of(last) < key
+        {
+            return (Some(last), None);
+        }
+        self.neighbours(head, key, Some(first))
     }
 
     /// The nodes between which a key comes that the list does not have, looked for from a node of the list.

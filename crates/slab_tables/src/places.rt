@@ -38,6 +38,9 @@ pub(crate) fn node_at(order: u8, superblock: u16, i: u32) -> u32
 /// How many nodes are looked at for one near another, at most.
 const MOST_LOOKS: u32 = 32;
 
+/// A list of fewer nodes is walked at once: `near_below` looks at an eighth as many nodes as the list has, so at none here.
+const SHORT: u32 = 8;
+
 /// Moves the node, which stands in the list `from`, into the list `to` under the same key. Nothing is done where these are one.
 ///
 /// `slab` and `superblock` are the orders of its slab and of the superblock around that: they decide the cost alone.
@@ -65,7 +68,8 @@ pub(crate) fn relist(
 
 /// Moves the node, which stands in a list, into the list `head` under the same key.
 ///
-/// Which node it follows there is looked for among the nodes of its superblock below it where slabs of that order begin.
+/// A short list is walked, unless the node comes at an end of it. In a longer one, which node it follows is looked for among the
+/// nodes of its superblock below it where slabs of that order begin.
 #[inline(never)]
 fn move_to(lists: &mut Lists, head: u32, node: u32, key: u32, slab: u8, superblock: u8)
     requires head { head < lists.old.heads }
@@ -75,11 +79,16 @@ fn move_to(lists: &mut Lists, head: u32, node: u32, key: u32, slab: u8, superblo
     requires alone { (i : ℕ) → place_at lists.old.places i ≡ Some (head, key) → i ≡ node }
     ensures { lists.new ≡ inserted lists.old head node key }
 {
-    let step = 1 << slab;
-    let room = node % (1 << superblock);
-    let near = near_below(lists, head, node, step, room);
-    lists.remove(node);
-    lists.insert_near(head, node, key, near);
+    if lists.len(head) < SHORT {
+        lists.remove(node);
+        lists.insert(head, node, key);
+    } else {
+        let step = 1 << slab;
+        let room = node % (1 << superblock);
+        let near = near_below(lists, head, node, step, room);
+        lists.remove(node);
+        lists.insert_near(head, node, key, near);
+    }
 }
 
 /// The first of `node - step`, `node - 2 * step` and so on that stands in the list; `node` itself where none is found. It looks
@@ -94,9 +103,10 @@ fn near_below(lists: &Lists, head: u32, node: u32, step: u32, room: u32) -> u32
     ensures { result < length lists.now.places }
 {
     let looks = (room / step).min(lists.len(head) / 8).min(MOST_LOOKS);
-    for i in 0..looks {
-        let below = node - (i + 1) * step;
-        if matches!(lists.place_of(below), Some((list, _)) if list == head) {
+    let mut below = node;
+    for _ in 0..looks {
+        below -= step;
+        if lists.is_in(below, head) {
             return below;
         }
     }

@@ -207,8 +207,8 @@ impl Tables {
     }
 
     /// Counts the live objects of the slab of cache `c` of tenant `t` that begins at frame `first` and node `node`: they are
-    /// `count` now. The slab goes to the list of its kind; where the kind stays, no list is touched. Its place there is looked for
-    /// from the next slab below it in its superblock that stands in that list.
+    /// `count` now. The slab goes to the list of its kind; where the kind stays, no list is touched. Its place in a list of eight or
+    /// more is looked for from the next slab below it in its superblock that stands in that list.
     #[inline(always)]
     pub fn set_count(&mut self, t: u8, c: u32, cache: &Cache, first: u32, node: u32, count: u32)
         requires tenant { IsTenant self.old t }

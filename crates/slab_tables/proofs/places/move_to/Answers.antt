@@ -1,10 +1,16 @@
-use Rattle.std.proofs.Common.{ℕ, List, Option, Some, None, ap, ◌∙◌}
+use Rattle.std.proofs.Common.{◌≡◌, ℕ, List, Option, Some, None, ap, ◌∙◌}
 use Rattle.std.proofs.lemmas.List.{set-set}
-use Rattle.klist_core.specs.Places.{Placed, inserted}
+use Rattle.klist_core.specs.Places.{Placed, inserted, removed}
 use Rattle.slab_tables.proofs.places.move_to.Goals as goal
 
-pub returns : goal.returns
-returns c =
-    let s = c.args.lists.now in
+-- a node that is taken out and put in again is put in
+put_anew : (s t : Placed) (h i k : ℕ) → t ≡ removed s i → inserted t h i k ≡ inserted s h i k
+put_anew s t h i k e =
     let with_places : List (Option (ℕ × ℕ)) → Placed = λ xs. record { heads = s.heads; places = xs } in
-    c.insert_near.ensures ∙ (ap (λ x. inserted x c.args.head c.args.node c.args.key) c.remove.ensures ∙ ap with_places (set-set s.places c.args.node None (Some (c.args.head, c.args.key))))
+    ap (λ x. inserted x h i k) e ∙ ap with_places (set-set s.places i None (Some (h, k)))
+
+pub returns-then-len-lt-SHORT : goal.returns-then-len-lt-SHORT
+returns-then-len-lt-SHORT c = c.insert.ensures ∙ put_anew c.args.lists.now _ c.args.head c.args.node c.args.key c.remove.ensures
+
+pub returns-else-len-lt-SHORT : goal.returns-else-len-lt-SHORT
+returns-else-len-lt-SHORT c = c.insert_near.ensures ∙ put_anew c.args.lists.now _ c.args.head c.args.node c.args.key c.remove-else-len-lt-SHORT.ensures
