@@ -93,19 +93,6 @@ pushed_into old now new text rest line after written written' written'' stopped 
   whole = part_at_err result (more.rest ++ after) failed (omega (arith, more.whole, length-append more.rest after));
 }
 
--- a beginning was taken, and then the rest offered
-pub pushed_then : (old now new : Option (List ℕ)) (text : List ℕ) (count written written' written'' : ℕ) (result : Result (Unit {0}) Stopped)
-    → count ≤ length text → Appends old now (take count text) → written' ≡ written + count → HasPushed now new (drop count text) written' written'' result
-    → HasPushed old new text written written'' result
-pushed_then old now new text count written written' written'' result within first counted more = record {
-  taken = take count text ++ more.taken;
-  rest = more.rest;
-  split = sym (take-append-drop count text) ∙ ap (λ xs. take count text ++ xs) more.split ∙ sym (append_assoc (take count text) more.taken more.rest);
-  appended = appends_more old now new (take count text) more.taken first more.appended;
-  counted = omega (arith, counted, more.counted, length-append (take count text) more.taken, length-take-le count text within);
-  whole = more.whole;
-}
-
 -- no more is counted than the text has
 pub pushed_few : (old new : Option (List ℕ)) (text : List ℕ) (written written' : ℕ) (result : Result (Unit {0}) Stopped)
     → HasPushed old new text written written' result → written' ≤ written + length text

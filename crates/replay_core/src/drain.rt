@@ -1,5 +1,5 @@
-ghost use Rattle.std.specs.Prelude.{◌≡◌, ℕ, ◌<◌, ◌≤◌, Bool, false, List, Option, None, length, take, IfOk, is_err};
-ghost use Rattle.std.specs.Io.KnownBytes.{Keeps, WriteAppends};
+ghost use Rattle.std.specs.Prelude.{◌≡◌, ℕ, ◌<◌, ◌≤◌, Bool, true, false, List, Option, None, length, take, IfOk, is_err};
+ghost use Rattle.std.specs.Io.KnownBytes.{Appends, Keeps, WriteAppends};
 
 use crate::feed::Stopped;
 use quick_core::WINDOW;
@@ -19,17 +19,15 @@ pub trait Drain {
         ensures bytes { WriteAppends (contents self.old) (contents self.new) result bytes.now }
         ensures failed { has_failed self.new ≡ is_err result };
 
-    /// Offers the first `len` bytes of a short text, as [`Drain::push`] offers bytes. A drain that has room for the whole text may
-    /// copy all of it: a copy of fixed length costs less.
-    fn push_short(&mut self, text: &[u8; WINDOW], len: usize) -> Result<usize, Stopped>
-        requires some { 0 < len }
+    /// Takes the first `len` bytes of a short text where there is room at hand for the whole text, and answers whether it did:
+    /// then it took them all, else none. A copy of the whole text, of fixed length, costs less than one of `len` bytes.
+    fn take_short(&mut self, text: &[u8; WINDOW], len: usize) -> bool
         requires within { len ≤ WINDOW }
-        requires fine { has_failed self.old ≡ false }
-        ensures count { IfOk result (λ n. (0 < n) × (n ≤ len)) }
-        ensures bytes { WriteAppends (contents self.old) (contents self.new) result (take len text.now) }
-        ensures failed { has_failed self.new ≡ is_err result }
+        ensures taken { result ≡ true → Appends (contents self.old) (contents self.new) (take len text.now) }
+        ensures refused { result ≡ false → Keeps (contents self.old) (contents self.new) }
+        ensures failed { has_failed self.new ≡ has_failed self.old }
     {
-        self.push(&text[..len])
+        false
     }
 
     /// Hands on what was pushed and is still held back, before what may be a long wait. Tells no failure: where it

@@ -104,7 +104,7 @@ pub fn push_all<D: Drain>(bytes: &[u8], drain: &mut D, written: &mut u128) -> Re
     Ok(())
 }
 
-/// Pushes the first `len` bytes of a short text, the rest again after a push that took less, and counts those that were taken.
+/// Pushes the first `len` bytes of a short text, at once where the drain has room at hand, and counts those that were taken.
 #[inline(always)]
 pub fn push_short<D: Drain>(
     text: &[u8; WINDOW],
@@ -112,14 +112,27 @@ pub fn push_short<D: Drain>(
     drain: &mut D,
     written: &mut u128,
 ) -> Result<(), Stopped>
-    requires some { 0 < len }
     requires within { len ≤ WINDOW }
     requires fine { D.has_failed drain.old ≡ false }
     requires room { written.old + len < 2 ^ 128 }
     ensures pushed { HasPushed (D.contents drain.old) (D.contents drain.new) (take len text.now) written.old written.new result }
     ensures failed { D.has_failed drain.new ≡ is_err result }
 {
-    let count = drain.push_short(text, len)?;
-    *written += count as u128;
-    push_all(&text[count..len], drain, written)
+    if drain.take_short(text, len) {
+        *written += len as u128;
+        return Ok(());
+    }
+    push_rest(&text[..len], drain, written)
+}
+
+/// [`push_all`] out of line, which keeps its loop out of the path of a text that is taken at once.
+#[cold]
+#[inline(never)]
+fn push_rest<D: Drain>(bytes: &[u8], drain: &mut D, written: &mut u128) -> Result<(), Stopped>
+    requires fine { D.has_failed drain.old ≡ false }
+    requires room { written.old + length bytes.now < 2 ^ 128 }
+    ensures pushed { HasPushed (D.contents drain.old) (D.contents drain.new) bytes.now written.old written.new result }
+    ensures failed { D.has_failed drain.new ≡ is_err result }
+{
+    push_all(bytes, drain, written)
 }

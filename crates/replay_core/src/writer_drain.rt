@@ -165,14 +165,14 @@ impl<W: Write> Drain for WriterDrain<W> {
     }
 
     #[inline(always)]
-    fn push_short(&mut self, text: &[u8; WINDOW], len: usize) -> Result<usize, Stopped> {
-        if !self.send_failed
-            && let Some(held) = &mut self.held
-            && held.append_short(text, len)
-        {
-            return Ok(len);
+    fn take_short(&mut self, text: &[u8; WINDOW], len: usize) -> bool {
+        if self.send_failed {
+            return false;
         }
-        self.push_beyond(&text[..len])
+        match &mut self.held {
+            Some(held) => held.append_short(text, len),
+            None => false,
+        }
     }
 
     fn send(&mut self) {
