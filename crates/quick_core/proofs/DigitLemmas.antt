@@ -1,8 +1,24 @@
 -- The text of a number, two digits at a time.
-use Rattle.std.proofs.Common.{◌≡◌, ℕ, ◌+◌, ◌/◌, ◌%◌, ◌^◌, ◌<◌, ◌≤◌, List, [], ◌∷◌, ◌++◌, sym, ap, arith, append_assoc}
+use Rattle.std.proofs.Common.{◌≡◌, ℕ, ◌+◌, ◌*◌, ◌/◌, ◌%◌, ◌^◌, ◌<◌, ◌≤◌, List, [], ◌∷◌, ◌++◌, get_or, map, refl, sym, ◌∙◌, ap, arith, append_assoc}
 use Rattle.std.specs.Fmt.{decimal}
+use Rattle.std.specs.List.{range_with_len}
 use Rattle.std.proofs.lemmas.Fmt.{decimal_digit, decimal_step}
+use Rattle.std.proofs.lemmas.List.FromFn.{get_or-map-range_with_len}
 use Rattle.quick_core.specs.Digits.{two_digits, five_digits}
+use Rattle.quick_core.specs.declared.window.TheConstants.{PAIRS}
+
+-- what the table has for a number
+abbrev pub pair : ℕ → List ℕ
+pair n = get_or PAIRS (2 * n) 0 ∷ get_or PAIRS (2 * n + 1) 0 ∷ []
+
+pairs_are : map pair (range_with_len 0 100) ≡ map two_digits (range_with_len 0 100)
+pairs_are = refl
+
+pub pair_at : (n : ℕ) → n < 100 → pair n ≡ two_digits n
+pair_at n below =
+    sym (get_or-map-range_with_len pair 0 100 n n [] below (omega arith))
+    ∙ ap (λ pairs. get_or pairs n []) pairs_are
+    ∙ get_or-map-range_with_len two_digits 0 100 n n [] below (omega arith)
 
 decimal_two : (n : ℕ) → 10 ≤ n → n < 100 → decimal n ≡ two_digits n
 decimal_two n low high = rw (decimal_step n low (omega arith), decimal_digit (n / 10) (omega arith))

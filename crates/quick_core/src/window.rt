@@ -41,9 +41,24 @@ fn put_two(number: u32, at: usize, out: &mut [u8]) -> usize
     ensures text { take result out.new ≡ take at out.old ++ two_digits number }
     ensures end { result ≡ at + 2 }
 {
-    let at = put_digit(number / 10, at, out);
-    put_digit(number % 10, at, out)
+    let from = 2 * number as usize;
+    out[at] = PAIRS[from];
+    out[at + 1] = PAIRS[from + 1];
+    at + 2
 }
+
+/// The two digits of each number below 100.
+static PAIRS: [u8; 200] = *b"\
+    00010203040506070809\
+    10111213141516171819\
+    20212223242526272829\
+    30313233343536373839\
+    40414243444546474849\
+    50515253545556575859\
+    60616263646566676869\
+    70717273747576777879\
+    80818283848586878889\
+    90919293949596979899";
 
 /// Writes a number of at most three digits.
 #[tactic(auto, using(crate::proofs::DigitLemmas::digit_rules))]
