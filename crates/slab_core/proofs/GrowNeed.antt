@@ -1,14 +1,14 @@
 -- A slab made by need: where no block is free, once the empty slabs are given back.
-use Rattle.std.proofs.Common.{◌≡◌, ℕ, ◌/◌, ◌^◌, ◌<◌, Bool, true, false, map, length, Option, Some, None, IsSome, refl, sym, ap, ◌∙◌, subst, arith}
-use Rattle.std.specs.Prelude.{option_map, is_some, MatchOption, IfSome, IfNone, if◌then◌else◌, ◌==◌}
+use Rattle.std.proofs.Common.{◌≡◌, ℕ, ◌/◌, ◌^◌, ◌<◌, true, false, map, Option, Some, None, IsSome, refl, sym, ap, ◌∙◌, subst, arith}
+use Rattle.std.specs.Prelude.{option_map, is_some, MatchOption, IfSome, IfNone, ◌==◌}
 use Rattle.std.proofs.lemmas.Bool.{false≢true, eq-eqb, and_from}
-use Rattle.model_core.specs.Blocks.{Block, block, HasFrame, IsAligned, IsChoice, IsWithout}
+use Rattle.model_core.specs.Blocks.{Block, IsChoice, IsWithout}
 use Rattle.model_core.specs.Choice.{choose}
 use Rattle.model_core.specs.Machine.{Cache, Machine, holds, taken_in, beyond, choice}
 use Rattle.model_core.specs.Slabs.{cache_of, without_empty, reaped, by_need, choice_by_need}
 use Rattle.model_core.specs.Slabs as slabs
 use Rattle.model_core.specs.WellFormed.{RisesFrom}
-use Rattle.model_core.proofs.ByNeed.{by_need_keeps, by_need_found, by_need_reaps, by_need_stays}
+use Rattle.model_core.proofs.ByNeed.{by_need_keeps, by_need_found, by_need_reaps}
 use Rattle.model_core.proofs.CacheSteps.{stands_by_need}
 use Rattle.model_core.proofs.Choosing.{choice_is_found}
 use Rattle.model_core.proofs.Chosen.{held_below}
@@ -16,20 +16,17 @@ use Rattle.model_core.proofs.Lists.{find_in}
 use Rattle.space_core.specs.Content as spaces
 use Rattle.buddy_core.specs.Content as buddies
 use Rattle.slab_tables.specs.declared.cache.Cache as own
-use Rattle.slab_tables.specs.Content.{Content, IsSlabs, index_of_cache, head_of, numbers}
+use Rattle.slab_tables.specs.Content.{Content, IsSlabs, index_of_cache, head_of}
 use Rattle.slab_laws.specs.Shows.{frame_under, node_of, is_of_cache, ShowsMachine, Agree}
 use Rattle.slab_laws.specs.Steady.{IsSteady}
 use Rattle.slab_laws.specs.Changes.{IsReturned, IsGrown}
 use Rattle.slab_laws.specs.Objects.{IsAllFull}
-use Rattle.slab_laws.specs.Room.{HasRoom}
-use Rattle.slab_laws.proofs.Lookups.{some_none, found_key, in_found, keys_mapped}
+use Rattle.slab_laws.proofs.Lookups.{found_key, in_found, keys_mapped}
 use Rattle.slab_laws.proofs.Reaped.{reaped_shows}
-use Rattle.model_core.proofs.Vacant.{IsVacant, some_choice}
-use Rattle.slab_laws.proofs.Steady.{within}
 use Rattle.slab_laws.proofs.Using.{take_makes}
 use Rattle.slab_core.specs.Calls.{idle_at, IsNew}
 use Rattle.slab_core.proofs.ReserveByNeed.{next_choice, no_choice}
-use Rattle.slab_core.proofs.ReturnMany.{one_idle, any_idle, idle_empty}
+use Rattle.slab_core.proofs.ReturnMany.{idle_empty}
 
 -- The block that is found by need
 

@@ -1,12 +1,12 @@
 -- The least object of a slab that is not live, read out of its record.
-use Rattle.std.proofs.Common.{◌≡◌, ℕ, suc, ◌+◌, ◌*◌, ◌/◌, ◌%◌, ◌^◌, ◌<◌, ◌≤◌, Bool, true, false, not, List, [], ◌∷◌, Option, Some, length, get_or, refl, sym, ap, ◌∙◌, subst, arith}
-use Rattle.std.specs.Prelude.{IsSome}
+use Rattle.std.proofs.Common.{◌≡◌, ℕ, suc, ◌+◌, ◌*◌, ◌/◌, ◌%◌, ◌^◌, ◌<◌, ◌≤◌, Bool, true, false, not, List, [], ◌∷◌, Option, Some, None, length, get_or, refl, sym, ap, ◌∙◌, subst, arith}
+use Rattle.std.specs.Prelude.{IsSome, None, if◌then◌else◌}
 use Rattle.std.proofs.lemmas.Bool.{false≢true}
 use Rattle.std.specs.List.{position_or_len}
 use Rattle.model_core.specs.Layouts.{is_small}
 use Rattle.space_core.specs.Content as spaces
 use Rattle.space_core.specs.Laws.{OwnBytes}
-use Rattle.space_core.specs.Windows.{byte_at, home_of, window_of}
+use Rattle.space_core.specs.Windows.{byte_at, is_in_slot, home_of, window_of}
 use Rattle.space_core.proofs.Ranges.{range_held}
 use Rattle.slab_tables.specs.declared.cache.Cache as own
 use Rattle.slab_tables.specs.declared.cache.Kept.{Kept}
@@ -17,14 +17,22 @@ use Rattle.slab_laws.proofs.Facts.{under_is}
 use Rattle.slab_core.proofs.MarkTurned.{live_small, live_large}
 use Rattle.slab_laws.proofs.Flags.{length_flags, flag_at}
 use Rattle.slab_core.specs.Objects.{HasClear, IsRecordRaised}
+use Rattle.slab_core.proofs.ObjectPlaces.{record_under}
 use Rattle.slab_core.proofs.TakeBits.{IsClear, full_byte, least_of}
 
 -- the record of a slab lies in one held slot
 pub record_home : (r : spaces.Content) (s : Content) (t c f n place : ℕ) (cache : own.Cache) → IsSlab r s t c f n cache → r.unit ≡ 4096 * 2 ^ s.top
-    → place ≡ 4096 * f + 4064 → IsSome (home_of r t place 32)
+    → place ≡ 4096 * f + 4064 → home_of r t place 32 ≡ Some (n / 2 ^ s.top)
 record_home r s t c f n place cache q unit at =
     let m = under_is s.top f n (spaces.superblock_at r.slots t (f / 2 ^ s.top)) q.under in
-    range_held r t s.top f 0 place 32 unit (omega arith) (omega arith) (subst (λ (o : Option ℕ). IsSome o) (sym m.1) refl) (omega arith) (omega arith) (omega arith)
+    let held = range_held r t s.top f 0 place 32 unit (omega arith) (omega arith) (subst (λ (o : Option ℕ). IsSome o) (sym m.1) refl) (omega arith) (omega arith) (omega arith) in
+    let under = record_under r s t c f n 0 cache q unit (omega arith) in
+    go (is_in_slot r.unit place 32) (spaces.superblock_at r.slots t (place / r.unit)) held
+    (subst (λ p. spaces.superblock_at r.slots t (p / r.unit) ≡ Some (n / 2 ^ s.top)) (omega (arith, at)) under)
+  where
+    go : (b : Bool) (o : Option ℕ) → IsSome (if b then o else None) → o ≡ Some (n / 2 ^ s.top) → (if b then o else None) ≡ Some (n / 2 ^ s.top)
+    go true o some under = under
+    go false o none under = absurd (false≢true none)
 
 -- .. and its bytes
 pub record_read : (r : spaces.Content) (t f place : ℕ) (bytes : List ℕ) → OwnBytes r → place ≡ 4096 * f + 4064 → window_of r t place 32 ≡ Some bytes

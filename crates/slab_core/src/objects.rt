@@ -63,6 +63,16 @@ impl Slabs {
         Some((u32::from(m) << order) + frame % (1 << order))
     }
 
+    /// The superblock that has the machine frame.
+    #[inline(always)]
+    pub(crate) fn superblock(&self, node: u32) -> u16
+        requires { node < length self.now.lists.places }
+        ensures { result ≡ node / 2 ^ self.now.top }
+    {
+        self.tables.facts();
+        (node >> self.tables.order()) as u16
+    }
+
     /// Whether a slab begins at a frame of tenant `t`.
     pub fn is_slab(&self, space: &Space, t: u8, frame: u32) -> bool
         requires tenant { t < length space.now.slots }
@@ -102,8 +112,9 @@ impl Slabs {
         cache.layout.accepted();
         few_objects();
         if cache.layout.in_page() {
-            let byte = space.byte(t, record_place(object.first, object.index));
-            byte >> (object.index % 8) & 1 == 1
+            let superblock = self.superblock(object.node);
+            let place = record_place(object.first, object.index);
+            space.byte_in(superblock, t, place) >> (object.index % 8) & 1 == 1
         } else {
             let outside = self.tables.kept(object.node).outside;
             outside >> object.index & 1 == 1
@@ -160,9 +171,10 @@ impl Slabs {
         cache.layout.accepted();
         few_objects();
         if cache.layout.in_page() {
+            let superblock = self.superblock(object.node);
             let place = record_place(object.first, object.index);
-            let byte = space.byte(t, place) ^ 1 << (object.index % 8);
-            space.set_byte(t, place, byte);
+            let byte = space.byte_in(superblock, t, place) ^ 1 << (object.index % 8);
+            space.set_byte_in(superblock, t, place, byte);
         } else {
             let outside = self.tables.kept(object.node).outside ^ 1 << object.index;
             self.tables.set_outside(object.node, outside);

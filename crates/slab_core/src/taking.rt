@@ -52,15 +52,14 @@ fn raise(bytes: &mut [u8]) -> u32
     8 * i as u32 + bit
 }
 
-/// Sets the least bit of the control record at a place of tenant `t` that is 0, and answers which.
+/// Sets the least bit of the control record at a place of tenant `t`, in this superblock, that is 0, and answers which.
 #[inline(always)]
-fn raise_in_record(space: &mut Space, t: u8, place: u32) -> u32
-    requires tenant { t < length space.old.slots }
-    requires in_reach { IsSome (home_of space.old t place 32) }
+fn raise_in_record(space: &mut Space, superblock: u16, t: u8, place: u32) -> u32
+    requires home { home_of space.old t place 32 ≡ Some superblock }
     requires clear { (bytes : List ℕ) → window_of space.old t place 32 ≡ Some bytes → HasClear bytes }
     ensures { IsRecordRaised space.old space.new t place result }
 {
-    raise(space.window_mut(t, place, 32))
+    raise(space.window_in(superblock, t, place, 32))
 }
 
 impl Slabs {
@@ -139,7 +138,8 @@ impl Slabs {
         cache.layout.accepted();
         few_objects();
         if cache.layout.in_page() {
-            raise_in_record(space, t, record_place(first, 0))
+            let superblock = self.superblock(node);
+            raise_in_record(space, superblock, t, record_place(first, 0))
         } else {
             let outside = self.tables.kept(node).outside;
             let index = u32::from(outside).trailing_ones();

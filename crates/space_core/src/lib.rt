@@ -189,9 +189,21 @@ impl Space {
         ensures value { window_of self.old t place len ≡ Some result.now }
         ensures len { length result.now ≡ len }
     {
-        let at = place % self.unit;
         let m = self.held(t, place / self.unit);
-        self.part_mut(m, at as usize, len as usize)
+        self.window_in(m, t, place, len)
+    }
+
+    /// As [`Space::window_mut`], where the caller knows that superblock `m` stands there; `t` is named for the contract alone.
+    #[inline(always)]
+    pub fn window_in(&mut self, m: u16, t: u8, place: u32, len: u32) -> &mut [u8]
+        requires { home_of self.old t place len ≡ Some m }
+        ensures* writes_back { sem 𝓛 (LendsWindow self.entry t place len result) }
+        ensures value { window_of self.old t place len ≡ Some result.now }
+        ensures len { length result.now ≡ len }
+    {
+        let _ = t;
+        let at = place % self.unit;
+        self.part_mut(usize::from(m), at as usize, len as usize)
     }
 
     /// Sets the bytes of tenant `t` from `place` on to zero, `len` of them.
@@ -209,8 +221,19 @@ impl Space {
         requires held { IsSome (superblock_at self.now.slots t (place / self.now.unit)) }
         ensures { byte_at self.now t place ≡ Some result }
     {
-        let at = place % self.unit;
         let m = self.held(t, place / self.unit);
+        self.byte_in(m, t, place)
+    }
+
+    /// As [`Space::byte`], where the caller knows that superblock `m` stands there; `t` is named for the contract alone.
+    #[inline(always)]
+    pub fn byte_in(&self, m: u16, t: u8, place: u32) -> u8
+        requires { superblock_at self.now.slots t (place / self.now.unit) ≡ Some m }
+        ensures { byte_at self.now t place ≡ Some result }
+    {
+        let _ = t;
+        let at = place % self.unit;
+        let m = usize::from(m);
         self.bytes(m)[at as usize]
     }
 
@@ -220,8 +243,19 @@ impl Space {
         requires held { IsSome (superblock_at self.old.slots t (place / self.old.unit)) }
         ensures { self.new ≡ with_byte self.old t place byte }
     {
-        let at = place % self.unit;
         let m = self.held(t, place / self.unit);
+        self.set_byte_in(m, t, place, byte);
+    }
+
+    /// As [`Space::set_byte`], where the caller knows that superblock `m` stands there; `t` is named for the contract alone.
+    #[inline(always)]
+    pub fn set_byte_in(&mut self, m: u16, t: u8, place: u32, byte: u8)
+        requires { superblock_at self.old.slots t (place / self.old.unit) ≡ Some m }
+        ensures { self.new ≡ with_byte self.old t place byte }
+    {
+        let _ = t;
+        let at = place % self.unit;
+        let m = usize::from(m);
         write_out(&mut self.banks, m, self.unit as usize);
         set_byte_at(&mut self.banks, m, at as usize, byte);
     }
@@ -315,13 +349,13 @@ impl Space {
     }
 
     /// The superblock under a slot that the tenant holds.
-    fn held(&self, t: u8, slot: u32) -> usize
+    fn held(&self, t: u8, slot: u32) -> u16
         requires tenant { t < length self.now.slots }
         requires held { IsSome (superblock_at self.now.slots t slot) }
         ensures value { superblock_at self.now.slots t slot ≡ Some result }
         ensures below { result < length self.now.owners }
     {
-        usize::from(self.machine_of(t, slot).unwrap())
+        self.machine_of(t, slot).unwrap()
     }
 
     /// The slots of tenant `t`.
@@ -416,6 +450,9 @@ fn write_out(banks: &mut Vec<Vec<u8>>, m: usize, unit: usize)
     }
 }
 
+/// So many bytes are zeroed at once. More of them are left to one string instruction, which is no faster.
+const CLEARED: usize = 1024;
+
 /// Makes the bytes `unit` zeros.
 fn zero_fill(bytes: &mut Vec<u8>, unit: usize)
     requires { unit ≤ vec_capacity bytes.old }
@@ -423,6 +460,9 @@ fn zero_fill(bytes: &mut Vec<u8>, unit: usize)
     ensures room { unit ≤ vec_capacity bytes.new }
 {
     bytes.clear();
+    for i in 0..unit / CLEARED {
+        bytes.resize((i + 1) * CLEARED, 0).unwrap();
+    }
     bytes.resize(unit, 0).unwrap();
 }
 

@@ -1,4 +1,5 @@
-use Rattle.std.proofs.Common.{◌≡◌, ◌+◌, ◌*◌, ◌^◌, ◌%◌, ◌<◌, ◌≤◌, not, sym, ap, ◌∙◌, subst, arith}
+use Rattle.std.proofs.Common.{◌≡◌, ◌+◌, ◌*◌, ◌^◌, ◌%◌, ◌<◌, ◌≤◌, not, Some, refl, sym, ap, ◌∙◌, subst, arith}
+use Rattle.std.specs.Prelude.{IsSome}
 use Rattle.std.specs.List.{position_or_len}
 use Rattle.slab_laws.specs.Shows.{live_of}
 use Rattle.std.specs.Int.Bits.{bit_xor}
@@ -14,10 +15,15 @@ use Rattle.slab_core.proofs.TakeNext.{record_home, has_clear, claimed_inside, cl
 use Rattle.slab_core.proofs.Slabs.claim.Goals as goal
 use Rattle.slab_core.proofs.Slabs.claim.Goals.{After-trailing_ones-index}
 
-pub raise_in_record-requires-clause-in_reach : goal.raise_in_record-requires-clause-in_reach
-raise_in_record-requires-clause-in_reach c =
+pub superblock-superblock-requires : goal.superblock-superblock-requires
+superblock-superblock-requires c =
+    node_within c.args.space.now c.args.self.now c.args.t c.requires.slab.0 c.args.first c.args.node c.args.cache.now c.requires.slab.1
+
+pub raise_in_record-requires-clause-home : goal.raise_in_record-requires-clause-home
+raise_in_record-requires-clause-home c =
     record_home c.args.space.now c.args.self.now c.args.t c.requires.slab.0 c.args.first c.args.node c.record_place.result c.args.cache.now c.requires.slab.1 c.requires.unit
     (omega (arith, c.record_place.ensures))
+    ∙ ap (λ x. Some x) (sym c.superblock-superblock.ensures)
 
 pub raise_in_record-requires-clause-clear : goal.raise_in_record-requires-clause-clear
 raise_in_record-requires-clause-clear c = λ bytes e.
@@ -40,7 +46,7 @@ returns-then-in_page-clause-turned c =
     let few = (c.fits.ensures.fits 0).few in
     turned_window c.args.space.now c.args.self.now c.args.t (found c.args.cache.now c.args.first c.args.node c.raise_in_record.result)
     c.raise_in_record.new.space c.laws.ensures (omega (arith, few, c.requires.free)) (sym c.in_page.ensures ∙ c.if-in_page.true) c.record_place.result place
-    (record_home c.args.space.now c.args.self.now c.args.t c.requires.slab.0 c.args.first c.args.node c.record_place.result c.args.cache.now c.requires.slab.1 c.requires.unit place)
+    (subst (λ o. IsSome o) (sym (record_home c.args.space.now c.args.self.now c.args.t c.requires.slab.0 c.args.first c.args.node c.record_place.result c.args.cache.now c.requires.slab.1 c.requires.unit place)) refl)
     c.raise_in_record.ensures
 
 -- where the record is kept outside

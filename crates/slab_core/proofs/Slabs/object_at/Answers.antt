@@ -1,6 +1,5 @@
-use Rattle.std.proofs.Common.{◌≡◌, Bool, true, false, Option, Some, None, sym, refl, subst}
+use Rattle.std.proofs.Common.{◌≡◌, Bool, true, Option, Some, None}
 use Rattle.std.specs.Prelude.{MatchOption, is_some, ◌↔◌}
-use Rattle.std.proofs.lemmas.Bool.{false≢true}
 use Rattle.slab_laws.specs.Changes.{Found}
 use Rattle.slab_laws.specs.Objects.{HasRange}
 use Rattle.slab_core.proofs.Slabs.object_at.Goals as goal

@@ -1,4 +1,4 @@
-use Rattle.std.proofs.Common.{◌≡◌, Some, None, sym, ap, ◌∙◌, subst, rules}
+use Rattle.std.proofs.Common.{◌≡◌, Some, sym, ap, ◌∙◌, subst, rules}
 use Rattle.std.specs.Prelude.{option_map, IfSome, IfNone}
 use Rattle.model_core.specs.Machine as machines
 use Rattle.model_core.specs.Machine.{Machine}

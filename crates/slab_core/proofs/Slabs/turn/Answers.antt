@@ -1,5 +1,4 @@
-use Rattle.std.proofs.Common.{◌≡◌, ℕ, ◌*◌, ◌/◌, ◌%◌, ◌^◌, ◌≤◌, refl, sym, ap, ◌∙◌, subst, arith}
-use Rattle.std.specs.Prelude.{IsSome}
+use Rattle.std.proofs.Common.{◌≡◌, ◌*◌, ◌%◌, ◌^◌, ◌≤◌, refl, sym, ap, ◌∙◌, subst, arith}
 use Rattle.space_core.specs.Content as spaces
 use Rattle.std.specs.Int.Bits.{bit_xor}
 use Rattle.slab_tables.specs.declared.cache.Kept.{Kept}
@@ -8,24 +7,34 @@ use Rattle.slab_tables.specs.Changes.{with_outside}
 use Rattle.slab_laws.specs.Changes.{found}
 use Rattle.slab_core.specs.Objects.{IsTurned}
 use Rattle.slab_core.proofs.ObjectSlabs.{node_within}
-use Rattle.slab_core.proofs.ObjectPlaces.{record_held}
+use Rattle.slab_core.proofs.ObjectPlaces.{object_under}
 use Rattle.slab_core.proofs.MarkTurned.{turned_inside, turned_outside}
 use Rattle.slab_core.proofs.Slabs.turn.Goals as goal
 
-pub byte-requires-clause-held : goal.byte-requires-clause-held
-byte-requires-clause-held c =
+pub superblock-superblock-requires : goal.superblock-superblock-requires
+superblock-superblock-requires c =
+    node_within c.args.space.now c.args.self.now c.args.t c.requires.slab.0 c.args.object.first c.args.object.node c.args.cache.now c.requires.slab.1
+
+pub byte_in-requires : goal.byte_in-requires
+byte_in-requires c =
     let few = (c.fits.ensures.fits 0).few in
-    subst (λ (p : ℕ). IsSome (spaces.superblock_at c.args.space.now.slots c.args.t (p / c.args.space.now.unit))) (sym c.record_place-place.ensures)
-    (record_held c.args.space.now c.args.self.now c.args.t c.requires.slab.0 c.args.object.first c.args.object.node (c.args.object.index / 8) c.args.cache.now c.requires.slab.1 c.requires.unit (omega (arith, few, c.requires.index)))
+    object_under c.args.space.now c.args.self.now c.args.t c.requires.slab.0 c.args.object.first c.args.object.node c.args.object.index c.record_place-place.result c.superblock-superblock.result
+    c.args.cache.now c.requires.slab.1 c.requires.unit (omega (arith, few, c.requires.index)) c.record_place-place.ensures c.superblock-superblock.ensures
+
+pub set_byte_in-requires : goal.set_byte_in-requires
+set_byte_in-requires c =
+    let few = (c.fits.ensures.fits 0).few in
+    object_under c.args.space.now c.args.self.now c.args.t c.requires.slab.0 c.args.object.first c.args.object.node c.args.object.index c.record_place-place.result c.superblock-superblock.result
+    c.args.cache.now c.requires.slab.1 c.requires.unit (omega (arith, few, c.requires.index)) c.record_place-place.ensures c.superblock-superblock.ensures
 
 pub returns-then-in_page : goal.returns-then-in_page
 returns-then-in_page c =
     let few = (c.fits.ensures.fits 0).few in
     subst (λ (r : spaces.Content). IsTurned c.args.space.now r c.args.self.now c.args.self.now c.args.t (found c.args.cache.now c.args.object.first c.args.object.node c.args.object.index))
-    (sym c.set_byte.ensures)
+    (sym c.set_byte_in.ensures)
     (turned_inside c.args.space.now c.args.self.now c.args.t (found c.args.cache.now c.args.object.first c.args.object.node c.args.object.index)
-    c.laws.ensures (omega (arith, few, c.requires.index)) (sym c.in_page.ensures ∙ c.if-in_page.true) c.record_place-place.result c.byte.result _
-    c.record_place-place.ensures c.byte.ensures refl)
+    c.laws.ensures (omega (arith, few, c.requires.index)) (sym c.in_page.ensures ∙ c.if-in_page.true) c.record_place-place.result c.byte_in.result _
+    c.record_place-place.ensures c.byte_in.ensures refl)
 
 pub returns-else-in_page : goal.returns-else-in_page
 returns-else-in_page c =

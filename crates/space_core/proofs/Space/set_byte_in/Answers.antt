@@ -1,25 +1,26 @@
-use Rattle.std.proofs.Common.{◌≡◌, ◌≢◌, ℕ, ◌%◌, ◌/◌, ◌<◌, List, Option, None, [], length, get_or, ap, sym, subst, ◌∙◌, arith}
+use Rattle.std.proofs.Common.{◌≡◌, ◌≢◌, ℕ, ◌%◌, ◌/◌, ◌<◌, List, Option, Some, None, [], length, get_or, ap, sym, subst, ◌∙◌, arith}
 use Rattle.std.proofs.Math.ListN.{set}
 use Rattle.std.proofs.lemmas.List.{length-set}
 use Rattle.space_core.specs.Content.{IsSpace, owner_at}
 use Rattle.space_core.specs.Windows.{banks_with_byte}
 use Rattle.space_core.specs.Storage.{shown}
 use Rattle.space_core.specs.contracts.Space.{the_view}
-use Rattle.space_core.proofs.TableLemmas.{lists_of}
+use Rattle.space_core.proofs.TableLemmas.{lists_of, length-lists_of}
+use Rattle.space_core.proofs.Mapping.{superblock-lt}
 use Rattle.space_core.proofs.Banks.{with_banks, with_bank-IsSpace}
 use Rattle.space_core.proofs.Stored.{length-shown, bank-shown_full, shown-set_byte, shown-written_out, written_out-full}
-use Rattle.space_core.proofs.Space.set_byte.Goals as goal
+use Rattle.space_core.proofs.Space.set_byte_in.Goals as goal
 
 pub invariant_of-self : goal.invariant_of-self
 invariant_of-self c =
     let s = the_view c.self.inside in
     let facts = c.self.invariant.0 in
-    let m = c.held-m.result in
+    let m : ℕ = c.from-m.result in
     let i = c.args.place % s.unit in
     let before = lists_of c.self.inside.banks.items in
     let stored = lists_of c.write_out.new.banks.items in
-    let within = rw (← c.self.view_is) at c.held-m.ensures.below in
-    let under = rw (← c.self.view_is) at c.held-m.ensures.value in
+    let under = rw (← c.self.view_is) at c.requires ∙ ap Some (sym c.from-m.ensures) in
+    let within = superblock-lt facts c.args.t (c.args.place / s.unit) m under in
     let owned = (facts.agree c.args.t (c.args.place / s.unit) m).0 under in
     let has_owner : owner_at s.owners m ≢ None = λ none. cc in
     let there : m < length before = omega (arith, facts.paired, length-shown s.unit before) in
@@ -36,12 +37,12 @@ pub returns : goal.returns
 returns c =
     let s = the_view c.self.inside in
     let facts = c.self.invariant.0 in
-    let m = c.held-m.result in
+    let m : ℕ = c.from-m.result in
     let i = c.args.place % s.unit in
     let before = lists_of c.self.inside.banks.items in
     let stored = lists_of c.write_out.new.banks.items in
-    let within = rw (← c.self.view_is) at c.held-m.ensures.below in
-    let under = rw (← c.self.view_is) at c.held-m.ensures.value in
+    let under = rw (← c.self.view_is) at c.requires ∙ ap Some (sym c.from-m.ensures) in
+    let within = superblock-lt facts c.args.t (c.args.place / s.unit) m under in
     let there : m < length before = omega (arith, within, facts.paired, length-shown s.unit before) in
     let full = subst (λ (banks : List (List ℕ)). get_or banks m [] ≢ []) (sym c.write_out.ensures.banks) (written_out-full s.unit before m facts.some there) in
     let whole : shown s.unit stored ≡ s.banks = ap (shown s.unit) c.write_out.ensures.banks ∙ shown-written_out s.unit before m in
@@ -53,12 +54,31 @@ pub set_byte_at-requires-clause-byte : goal.set_byte_at-requires-clause-byte
 set_byte_at-requires-clause-byte c =
     let s = the_view c.self.inside in
     let facts = c.self.invariant.0 in
-    let m = c.held-m.result in
+    let m : ℕ = c.from-m.result in
     let before = lists_of c.self.inside.banks.items in
     let stored = lists_of c.write_out.new.banks.items in
-    let within = rw (← c.self.view_is) at c.held-m.ensures.below in
+    let under = rw (← c.self.view_is) at c.requires ∙ ap Some (sym c.from-m.ensures) in
+    let within = superblock-lt facts c.args.t (c.args.place / s.unit) m under in
     let there : m < length before = omega (arith, within, facts.paired, length-shown s.unit before) in
     let full = subst (λ (banks : List (List ℕ)). get_or banks m [] ≢ []) (sym c.write_out.ensures.banks) (written_out-full s.unit before m facts.some there) in
     let whole : shown s.unit stored ≡ s.banks = ap (shown s.unit) c.write_out.ensures.banks ∙ shown-written_out s.unit before m in
     let size : length (get_or stored m []) ≡ s.unit = ap length (sym (bank-shown_full s.unit stored m full) ∙ ap (λ (banks : List (List ℕ)). get_or banks m []) whole) ∙ facts.sized m (omega (arith, within, facts.paired)) in
     omega (arith, size, facts.some)
+
+pub write_out-requires-clause-bank : goal.write_out-requires-clause-bank
+write_out-requires-clause-bank c =
+    let s = the_view c.self.inside in
+    let facts = c.self.invariant.0 in
+    let banks = c.self.inside.banks in
+    let below = superblock-lt facts c.args.t (c.args.place / s.unit) c.args.m (rw (← c.self.view_is) at c.requires) in
+    omega (arith, below, c.from-m.ensures, facts.paired, length-shown s.unit (lists_of banks.items), length-lists_of banks.items, banks.ok.0)
+
+pub set_byte_at-requires-clause-bank : goal.set_byte_at-requires-clause-bank
+set_byte_at-requires-clause-bank c =
+    let s = the_view c.self.inside in
+    let facts = c.self.invariant.0 in
+    let before = c.self.inside.banks in
+    let after = c.write_out.new.banks in
+    let below = superblock-lt facts c.args.t (c.args.place / s.unit) c.args.m (rw (← c.self.view_is) at c.requires) in
+    let stored = ap length (ap (shown s.unit) c.write_out.ensures.banks ∙ shown-written_out s.unit (lists_of before.items) c.from-m.result) in
+    omega (arith, below, c.from-m.ensures, facts.paired, stored, length-shown s.unit (lists_of after.items), length-lists_of after.items, after.ok.0)
