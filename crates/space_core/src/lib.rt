@@ -439,6 +439,7 @@ fn clear_bank(banks: &mut Vec<Vec<u8>>, m: usize)
 }
 
 /// Writes the zeros out that superblock `m` reads as, where it has no bytes yet.
+#[inline(always)]
 fn write_out(banks: &mut Vec<Vec<u8>>, m: usize, unit: usize)
     requires bank { m < vec_len banks.old }
     requires room { HasRoom unit banks.old.items }
@@ -450,10 +451,12 @@ fn write_out(banks: &mut Vec<Vec<u8>>, m: usize, unit: usize)
     }
 }
 
-/// So many bytes are zeroed at once. More of them are left to one string instruction, which is no faster.
-const CLEARED: usize = 1024;
+/// So many bytes are zeroed at once. More than 2 KiB are left to one string instruction, which is no faster.
+const CLEARED: usize = 1536;
 
 /// Makes the bytes `unit` zeros.
+#[cold]
+#[inline(never)]
 fn zero_fill(bytes: &mut Vec<u8>, unit: usize)
     requires { unit ≤ vec_capacity bytes.old }
     ensures items { bytes.new.items ≡ replicate unit 0 }

@@ -12,12 +12,12 @@ grown a n z len few whole =
 
 pub loop-i-preserved : goal.loop-i-preserved
 loop-i-preserved c =
-    let items : c.resize.new.self.items ≡ replicate {A = ℕ} ((c.loop-i.i + 1) * 1024) 0 =
+    let items : c.resize.new.self.items ≡ replicate {A = ℕ} ((c.loop-i.i + 1) * 1536) 0 =
     rw (c.unwrap.ensures, c.loop-i.invariant.items) at c.resize.ensures.items
-    ∙ grown (c.loop-i.i * 1024) ((c.loop-i.i + 1) * 1024) 0 c.loop-i.bytes.len (omega arith) (c.loop-i.bytes.ok.0 ∙ ap length c.loop-i.invariant.items) in
+    ∙ grown (c.loop-i.i * 1536) ((c.loop-i.i + 1) * 1536) 0 c.loop-i.bytes.len (omega arith) (c.loop-i.bytes.ok.0 ∙ ap length c.loop-i.invariant.items) in
     record { items = items; room = omega (arith, c.loop-i.invariant.room, c.resize.ensures.capacity) }
 
 pub returns-clause-items : goal.returns-clause-items
 returns-clause-items c =
     rw (c.unwrap-2.ensures, c.loop-i.invariant.items) at c.resize-2.ensures.items
-    ∙ grown (c.loop-i.i * 1024) c.args.unit 0 c.loop-i.bytes.len (omega (arith, c.loop-i.auto.i-end)) (c.loop-i.bytes.ok.0 ∙ ap length c.loop-i.invariant.items)
+    ∙ grown (c.loop-i.i * 1536) c.args.unit 0 c.loop-i.bytes.len (omega (arith, c.loop-i.auto.i-end)) (c.loop-i.bytes.ok.0 ∙ ap length c.loop-i.invariant.items)
