@@ -107,8 +107,9 @@ fn put_five(number: u32, at: usize, out: &mut [u8]) -> usize
     ensures end { result ≡ at + 5 }
 {
     let at = put_digit(number / 10000, at, out);
-    let at = put_two(number / 100 % 100, at, out);
-    put_two(number % 100, at, out)
+    let rest = number % 10000;
+    let at = put_two(rest / 100, at, out);
+    put_two(rest % 100, at, out)
 }
 
 /// Writes a number.
