@@ -11,7 +11,8 @@ use std::marker::Model;
 
 /// The pointer of a box with the handle that frees its block; a clause reads what lies there as `value`.
 ///
-/// Rattle code can't let go of it, so neither the value nor the block is lost.
+/// It is no `Drop`, so a whole one can't be let go of. Who takes it apart into its fields, or forgets the box that `into_box` makes
+/// again, loses the value and its block, and no contract says so.
 pub struct RawBox<T, A: Allocator> {
     pub at: *mut T,
     pub alloc: A,
