@@ -1,249 +1,256 @@
--- What an operation does to bytes: those in reach stay but for writes, and a slab given back leaves zeroes.
-use Rattle.std.proofs.Common.{◌≡◌, ◌≢◌, ℕ, zero, suc, ◌+◌, ◌-◌, ◌/◌, ◌^◌, ◌<◌, Bool, true, false, not, ◌&&◌, eqb, ltb, leb, List, [], ◌∷◌, ◌++◌, map, length, get_or, Option, Some, None, Ok, refl, sym, ap, ◌∙◌, subst, ◌⊎◌, inl, inr, arith}
-use Rattle.std.specs.Prelude.{if◌then◌else◌, filter, find, slice_get}
-use Rattle.std.specs.List.{list_any, AllByRecursion as Each}
-use Rattle.std.proofs.lemmas.Bool.{false≢true, ne_eqb, or_left, or_right, or_parts, not_from_false}
+-- A place that an operation leaves alone keeps its byte.
+use Rattle.std.proofs.Common.{◌≡◌, ℕ, ◌+◌, ◌-◌, Bool, true, false, not, ◌&&◌, ◌||◌, eqb, ltb, leb, List, [], ◌∷◌, ◌++◌, map, length, Option, Some, None, Ok, refl, sym, ap, ◌∙◌}
+use Rattle.std.specs.Prelude.{if◌then◌else◌, filter, find, is_some, option_map, option_and_then, slice_get}
+use Rattle.std.specs.Option.{option_map_or}
+use Rattle.std.specs.List.{list_any}
+use Rattle.std.proofs.lemmas.Bool.{false≢true, eq-eqb, ne_eqb, not-true, false_from_ne_true}
 use Rattle.model_core.specs.declared.refusals.AllocRefusal.{AllocRefusal}
 use Rattle.model_core.specs.declared.refusals.CacheRefusal.{CacheRefusal}
 use Rattle.model_core.specs.declared.refusals.DestroyRefusal.{DestroyRefusal}
 use Rattle.model_core.specs.declared.refusals.TakeBackRefusal.{TakeBackRefusal}
 use Rattle.model_core.specs.Blocks.{Block, block}
 use Rattle.model_core.specs.Layouts.{is_size, is_alignment}
-use Rattle.model_core.specs.Machine.{Slab, Cache, Machine, empty_machine, holds, slot_of, layout, in_block, slab_blocks, choice, order_in}
-use Rattle.model_core.specs.Slabs.{LiveObject, live_objects, is_partial, is_empty, cache_of, grown, slab_to_use, without_empty, reaped, by_need, destroyed}
+use Rattle.model_core.specs.Machine.{Slab, Cache, Machine, empty_machine, put_rising, holds, slot_of, in_block, layout, slab_block, choice, order_in}
+use Rattle.model_core.specs.Slabs.{LiveObject, live_objects, is_partial, is_empty, cache_of, new_slab, grown_cache, grown, slab_to_use, next_object, zeroed, reaped, by_need, choice_by_need, destroyed}
 use Rattle.model_core.specs.Reach.{in_reach}
 use Rattle.model_core.specs.Operations.{refuse, alloc_at, alloc_step, free_at, free_step, write_step, next_slot, after_grant, is_busy, after_take_back, take_back_step}
-use Rattle.model_core.specs.CacheOperations.{created, next_number, create_step, cache_step, take_new, take_from, take_of, take_step, give_object, give_of, give_step, frames_of, destroy_of, destroy_step, reap_step}
-use Rattle.model_core.specs.Runs.{Operation, Alloc, Free, Write, Create, Take, Give, Destroy, Reap, Grant, TakeBack, Reset, after}
-use Rattle.model_core.specs.WellFormed.{IsApart, IsWellFormed}
-use Rattle.model_core.specs.Laws.{writes, WritesAlone, ReleasedBytesStay}
-use Rattle.model_core.proofs.Lists.{IsIn, in_filter, each_in, find_in, Found, found, any_map, any_split, none_any}
-use Rattle.model_core.proofs.ByNeed.{by_need_keeps}
-use Rattle.model_core.proofs.Apart.{in_block-true, apart_place}
-use Rattle.model_core.proofs.Chosen.{chosen_apart}
-use Rattle.model_core.proofs.Laid.{Laid, laid, all_laid, laid_block, in_laid, Placed, IsCutLaid, taken_laid, laid_out}
-use Rattle.model_core.proofs.Kept.{frame_slot, place_held}
-use Rattle.model_core.proofs.Split.{laid_of, slab_blocks_laid, is_empty_laid, gone_laid}
-use Rattle.model_core.proofs.PageSteps.{either, done, by_need_kept, not_busy}
-use Rattle.model_core.proofs.CacheSteps.{in_left, in_right, in_map, in_all_laid}
-use Rattle.model_core.proofs.Objects.{byte_is_of, IsPageByte, IsLiveByte, reached, live_byte, page_apart}
-use Rattle.model_core.proofs.Constructed.{grown_byte, not_gone, next_unheld}
-use Rattle.model_core.proofs.ObjectsApart.{one_key}
+use Rattle.model_core.specs.CacheOperations.{created, next_number, create_step, cache_step, take_new, take_from, take_of, take_step, give_object, give_of, give_step, destroy_of, destroy_step, reap_step}
+use Rattle.model_core.specs.Runs.{Alloc, Free, Write, Create, Take, Give, Destroy, Reap, Grant, TakeBack, Reset, after}
+use Rattle.model_core.specs.WellFormed.{AreApart, in_slab, IsWellFormed}
+use Rattle.model_core.specs.Laws.{block_of_growth}
+use Rattle.model_core.specs.ByteLaws.{AllocKeeps, FreeKeeps, TakeKeeps, GiveKeeps, BytesStay, RunsKeepBytes}
+use Rattle.model_core.proofs.Lists.{IsIn, each_weaker, each_filtered, find_in, Found, found, PutIn, put_in, any_map, any_none, any_split}
+use Rattle.model_core.proofs.ByNeed.{by_need_keeps, by_need_found, by_need_none}
+use Rattle.model_core.proofs.Apart.{one_side}
+use Rattle.model_core.proofs.Laid.{Laid, laid, all_laid, laid_block, in_laid, in_laid_object, in_slab_laid, IsLaidOut, laid_out}
+use Rattle.model_core.proofs.Kept.{any_put, no_object, slab_held}
+use Rattle.model_core.proofs.Split.{filter_laid, laid_of, slab_blocks_laid, is_empty_laid, kept_laid, gone_laid}
+use Rattle.model_core.proofs.PageSteps.{either, done, by_need_kept}
+use Rattle.model_core.proofs.CacheSteps.{IsGrown, grown_is, grown_kept, stands_by_need}
+use Rattle.model_core.proofs.Constructed.{grown_byte, next_unheld}
+use Rattle.model_core.proofs.SlabsLeave.{flagged_same}
+use Rattle.model_core.proofs.WellFormedRuns.{keeps_well_formed}
 
--- a page block that is released keeps its bytes
-pub released_bytes_stay : ReleasedBytesStay
-unfolding free_step
-released_bytes_stay first m = go (order_in m.blocks first)
+-- No byte changes
+
+abbrev AllSame : Machine → Machine → Type 0
+AllSame m n = n.bytes ≡ m.bytes
+
+pub alloc_keeps : AllocKeeps
+unfolding alloc_step
+alloc_keeps order k first m e =
+    let n : Machine = by_need order k m in
+    either (AllSame m) (ltb order k) (refuse AllocRefusal.BadOrder m) (alloc_at k n (choice order n k)) refl (go n (ap (λ n. n.bytes) (by_need_found order k first m e)) (choice order n k))
   where
-    go : (o : Option ℕ) → (free_at first m o).machine.bytes ≡ m.bytes
+    go : (n : Machine) → AllSame m n → (o : Option ℕ) → AllSame m (alloc_at k n o).machine
+    go n h None = h
+    go n h (Some first) = h
+
+pub free_keeps : FreeKeeps
+unfolding free_step
+free_keeps first m = go (order_in m.blocks first)
+  where
+    go : (o : Option ℕ) → AllSame m (free_at first m o).machine
     go None = refl
     go (Some k) = refl
 
--- What is in reach lies in a taken block
+pub take_keeps : TakeKeeps
+unfolding take_step
+take_keeps order number m e = go (cache_of m number) e
+  where
+    new : (c : Cache) (o : Option ℕ) → choice_by_need order (layout c).order m ≡ o → option_map (λ first. block first (layout c).order) o ≡ None
+        → AllSame m (take_new c (by_need order (layout c).order m) o).machine
+    new c None is e = ap (λ n. n.bytes) (by_need_none order (layout c).order m is)
+    new c (Some first) is e = absurd (cc)
 
-abbrev Reached : Machine → ℕ → Type 0
-Reached m place = IsPageByte m place ⊎ IsLiveByte m place
+    slab : (c : Cache) (o : Option Slab) → (if is_some o then None else option_map (λ first. block first (layout c).order) (choice_by_need order (layout c).order m)) ≡ None
+        → AllSame m (take_from order c m o).machine
+    slab c (Some s) e = refl
+    slab c None e = new c (choice_by_need order (layout c).order m) refl e
 
-record IsHolder (m : Machine) (place : ℕ) : Type 0 where
-  holder : Block
-  holder_in : IsIn holder (m.blocks ++ map laid_block (all_laid m.caches))
-  here : in_block place holder ≡ true
+    go : (o : Option Cache) → option_and_then (block_of_growth order m) o ≡ None → AllSame m (take_of order m o).machine
+    go None e = refl
+    go (Some c) e = slab c (slab_to_use (find is_partial c.slabs) (find is_empty c.slabs)) e
 
-live_in_slab : (order : ℕ) (m : Machine) (place : ℕ) → IsWellFormed order m → (h : IsLiveByte m place) → in_laid place (laid h.cache h.slab) ≡ true
-live_in_slab order m place w h =
-    let cut : IsCutLaid (laid h.cache h.slab) = each_in IsCutLaid (laid h.cache h.slab) (all_laid m.caches) (laid_out order m w).cut (in_all_laid h.cache h.slab m.caches h.cache_in h.slab_in) in
-    (byte_is_of (laid h.cache h.slab) cut h.index h.byte place (live_byte m place h cut)).in_slab
+pub give_keeps : GiveKeeps
+unfolding give_step
+give_keeps number place m = go (cache_of m number)
+  where
+    object : (c : Cache) (o : Option LiveObject) → AllSame m (give_object c m o).machine
+    object c None = refl
+    object c (Some o) = refl
 
-holder_of : (order : ℕ) (m : Machine) (place : ℕ) → IsWellFormed order m → Reached m place → IsHolder m place
-holder_of order m place w (inl h) = record { holder = h.page; holder_in = in_left h.page m.blocks (map laid_block (all_laid m.caches)) h.page_in; here = h.in_page }
-holder_of order m place w (inr h) = record {
-  holder = laid_block (laid h.cache h.slab);
-  holder_in = in_right (laid_block (laid h.cache h.slab)) m.blocks (map laid_block (all_laid m.caches))
-      (in_map laid_block (laid h.cache h.slab) (all_laid m.caches) (in_all_laid h.cache h.slab m.caches h.cache_in h.slab_in));
-  here = live_in_slab order m place w h;
-}
+    go : (o : Option Cache) → AllSame m (give_of place m o).machine
+    go None = refl
+    go (Some c) = object c (find (λ x. eqb x.place place) (live_objects c))
 
-holder_placed : (order : ℕ) (m : Machine) (place : ℕ) → IsWellFormed order m → (h : IsHolder m place) → Placed order m.slots h.holder
-holder_placed order m place w h = each_in (Placed order m.slots) h.holder (m.blocks ++ map laid_block (all_laid m.caches)) (subst (Each (Placed order m.slots)) (taken_laid m) w.placed) h.holder_in
+-- The byte at a place
 
--- growth leaves it
-reached_grown : (order first : ℕ) (c : Cache) (m : Machine) (place : ℕ) → IsWellFormed order m → choice order m (layout c).order ≡ Some first → Reached m place → (grown first c m).bytes place ≡ m.bytes place
-reached_grown order first c m place w e r =
-    let h : IsHolder m place = holder_of order m place w r in
-    let b : Block = block first (layout c).order in
-    let apart : IsApart b h.holder = each_in (IsApart b) h.holder (m.blocks ++ map laid_block (all_laid m.caches)) (subst (Each (IsApart b)) (taken_laid m) (chosen_apart order (layout c).order first m w.apart e)) h.holder_in in
-    grown_byte first c m place false (apart_place place h.holder b (λ x p q. apart x q p) h.here)
-
--- slabs given back leave it, if it is in none of them
-reached_kept : (order : ℕ) (q : Laid → Bool) (m : Machine) (place : ℕ) → IsWellFormed order m → (r : Reached m place)
-    → ((h : IsLiveByte m place) → q (laid h.cache h.slab) ≡ false) → list_any (in_block place) (map laid_block (filter q (all_laid m.caches))) ≡ false
-reached_kept order q m place w (inl h) kept =
-    let none : list_any (in_laid place) (all_laid m.caches) ≡ false = page_apart order m place (laid_out order m w) h in
-    any_map (in_block place) laid_block (filter q (all_laid m.caches)) ∙ (or_parts (list_any (in_laid place) (filter q (all_laid m.caches))) _ (sym (any_split (in_laid place) q (all_laid m.caches)) ∙ none)).0
-reached_kept order q m place w (inr h) kept =
-    not_gone q (all_laid m.caches) place (laid h.cache h.slab) (laid_out order m w).apart_slabs
-    (in_filter (λ x. not (q x)) (laid h.cache h.slab) (all_laid m.caches) (in_all_laid h.cache h.slab m.caches h.cache_in h.slab_in) (not_from_false (q (laid h.cache h.slab)) (kept h))) (live_in_slab order m place w h)
-
--- a slab with a live object is not empty
-some_live : (flags : List Bool) (i : ℕ) → i < length flags → get_or flags i false ≡ true → list_any (λ live. live) flags ≡ true
-some_live [] i lt live = absurd (omega arith)
-some_live (flag ∷ flags) zero lt live = or_left flag (list_any (λ live. live) flags) live
-some_live (flag ∷ flags) (suc i) lt live = or_right flag (list_any (λ live. live) flags) (some_live flags i (omega arith) live)
-
-live_not_empty : (m : Machine) (place : ℕ) (h : IsLiveByte m place) → is_empty h.slab ≡ false
-live_not_empty m place h = ap not (some_live h.slab.live h.index h.index_in h.live)
-
--- What is in reach stays
-
+-- where the place is in a slab of n exactly where it is in one of m, both have the same byte there
 abbrev Same : ℕ → Machine → Machine → Type 0
-Same place m n = n.bytes place ≡ m.bytes place
+Same place m n = in_slab n place ≡ in_slab m place → n.bytes place ≡ m.bytes place
 
-same_reaped : (order place : ℕ) (m : Machine) → IsWellFormed order m → Reached m place → Same place m (reaped m)
+-- slabs given back
+same_given_back : (place : ℕ) (q : Laid → Bool) (ls : List Laid) (bytes : ℕ → Option ℕ) → AreApart (map laid_block ls)
+    → list_any (in_laid place) (filter (λ l. not (q l)) ls) ≡ list_any (in_laid place) ls → zeroed (map laid_block (filter q ls)) bytes place ≡ bytes place
+same_given_back place q ls bytes apart same = ap (λ b. if b then Some 0 else bytes place) (any_map (in_block place) laid_block (filter q ls)
+    ∙ false_from_ne_true (list_any (in_laid place) (filter q ls)) (λ gone. false≢true (sym (one_side laid_block q ls place apart gone)
+    ∙ (same ∙ (any_split (in_laid place) q ls ∙ ap (λ b. b || list_any (in_laid place) (filter (λ l. not (q l)) ls)) gone)))))
+
+same_reaped : {limit : ℕ} (order place : ℕ) (m : Machine) → IsWellFormed limit order m → Same place m (reaped m)
 unfolding reaped
-same_reaped order place m w r = ap (λ b. if b then Some 0 else m.bytes place) (ap (λ bs. list_any (in_block place) bs) (gone_laid m.caches)
-    ∙ reached_kept order is_empty_laid m place w r (live_not_empty m place))
+same_reaped order place m w same = ap (λ bs. zeroed bs m.bytes place) (gone_laid m.caches)
+    ∙ same_given_back place is_empty_laid (all_laid m.caches) m.bytes (laid_out order m w).apart_slabs
+    (ap (λ ls. list_any (in_laid place) ls) (kept_laid m.caches) ∙ (sym (in_slab_laid (reaped m) place) ∙ (same ∙ in_slab_laid m place)))
 
-same_by_need : (order k place : ℕ) (m : Machine) → IsWellFormed order m → Reached m place → Same place m (by_need order k m)
-same_by_need order k place m w r = by_need_keeps (Same place m) order k m refl (same_reaped order place m w r)
+same_by_need : {limit : ℕ} (order k place : ℕ) (m : Machine) → IsWellFormed limit order m → Same place m (by_need order k m)
+same_by_need order k place m w = by_need_keeps (Same place m) order k m (λ _. refl) (same_reaped order place m w)
 
-same_alloc : (order k place : ℕ) (m : Machine) → IsWellFormed order m → Reached m place → Same place m (alloc_step order k m).machine
+same_alloc : {limit : ℕ} (order k place : ℕ) (m : Machine) → IsWellFormed limit order m → Same place m (alloc_step order k m).machine
 unfolding alloc_step
-same_alloc order k place m w r =
+same_alloc order k place m w =
     let n : Machine = by_need order k m in
-    either (Same place m) (ltb order k) (refuse AllocRefusal.BadOrder m) (alloc_at k n (choice order n k)) refl (go n (same_by_need order k place m w r) (choice order n k))
+    either (Same place m) (ltb order k) (refuse AllocRefusal.BadOrder m) (alloc_at k n (choice order n k)) (λ _. refl) (go n (same_by_need order k place m w) (choice order n k))
   where
     go : (n : Machine) → Same place m n → (o : Option ℕ) → Same place m (alloc_at k n o).machine
     go n h None = h
     go n h (Some first) = h
 
-same_write : (begin place : ℕ) (new : List ℕ) (m : Machine) → (leb begin place && ltb place (begin + length new)) ≡ false → Same place m (write_step begin new m).machine
+pub same_write : (begin place : ℕ) (new : List ℕ) (m : Machine) → (leb begin place && ltb place (begin + length new)) ≡ false → (write_step begin new m).machine.bytes place ≡ m.bytes place
 unfolding write_step
-same_write begin place new m e = either (Same place m) (in_reach m begin (length new)) _ (record { answer = None; machine = m })
+same_write begin place new m e = either (λ n. n.bytes place ≡ m.bytes place) (in_reach m begin (length new)) _ (record { answer = None; machine = m })
     (ap (λ b. if b then slice_get new (place - begin) else m.bytes place) e) refl
 
-same_create : (limit size align place : ℕ) (pattern : List ℕ) (m : Machine) → Same place m (cache_step limit size align pattern m).machine
+pub same_create : (limit size align : ℕ) (pattern : List ℕ) (m : Machine) → AllSame m (cache_step limit size align pattern m).machine
 unfolding cache_step create_step
-same_create limit size align place pattern m =
-    either (Same place m) (not (is_size size)) (refuse CacheRefusal.BadSize m) _ refl
-    (either (Same place m) (not (is_alignment align)) (refuse CacheRefusal.BadAlign m) _ refl
-    (either (Same place m) (leb limit (next_number m)) (record { answer = None; machine = m }) (record { answer = Some (next_number m); machine = created (next_number m) size align pattern m }) refl refl))
+same_create limit size align pattern m =
+    either (AllSame m) (not (is_size size)) (refuse CacheRefusal.BadSize m) _ refl
+    (either (AllSame m) (not (is_alignment align)) (refuse CacheRefusal.BadAlign m) _ refl
+    (either (AllSame m) (leb limit (next_number m)) (record { answer = None; machine = m }) (record { answer = Some (next_number m); machine = created (next_number m) size align pattern m }) refl refl))
 
--- what is in reach is in reach of the reaped machine
-reached_reaped : (m : Machine) (place : ℕ) → Reached m place → Reached (reaped m) place
-unfolding reaped
-reached_reaped m place (inl h) = inl (record { page = h.page; page_in = h.page_in; in_page = h.in_page })
-reached_reaped m place (inr h) = inr (record {
-  cache = without_empty h.cache;
-  slab = h.slab;
-  index = h.index;
-  byte = h.byte;
-  cache_in = in_map without_empty h.cache m.caches h.cache_in;
-  slab_in = in_filter (λ s. not (is_empty s)) h.slab h.cache.slabs h.slab_in (ap not (live_not_empty m place h));
-  index_in = h.index_in;
-  live = h.live;
-  byte_in = h.byte_in;
-  at = h.at;
-})
+-- a new slab elsewhere
+grown_elsewhere : {limit : ℕ} (order place first : ℕ) (c : Cache) (m : Machine) → IsWellFormed limit order m → IsIn c m.caches → in_block place (slab_block c (new_slab c first)) ≡ false
+    → in_slab (grown first c m) place ≡ in_slab m place
+grown_elsewhere order place first c m w in_c outside =
+    let g : IsGrown first c m = grown_is order first c m w in_c in
+    in_slab_laid (grown first c m) place
+    ∙ (ap (λ ls. list_any (in_laid place) ls) g.is
+    ∙ (any_put (in_laid place) g.xs g.ys (laid c (new_slab c first))
+    ∙ (ap (λ b. b || list_any (in_laid place) (g.xs ++ g.ys)) outside
+    ∙ (ap (λ ls. list_any (in_laid place) ls) (sym g.was) ∙ sym (in_slab_laid m place)))))
 
-same_take : (order number place : ℕ) (m : Machine) → IsWellFormed order m → Reached m place → Same place m (take_step order number m).machine
+abbrev Unmade : ℕ → Option Block → Type 0
+Unmade place made = option_map_or (in_block place) made false ≡ false
+
+same_take : {limit : ℕ} (order number place : ℕ) (m : Machine) → IsWellFormed limit order m → Unmade place (option_and_then (block_of_growth order m) (cache_of m number)) → Same place m (take_step order number m).machine
 unfolding take_step
-same_take order number place m w r = go (cache_of m number)
+same_take {limit} order number place m w unmade = go (cache_of m number) refl unmade
   where
-    new : (c : Cache) (n : Machine) → IsWellFormed order n → Reached n place → Same place m n → (o : Option ℕ) → choice order n (layout c).order ≡ o → Same place m (take_new c n o).machine
-    new c n w r h None e = h
-    new c n w r h (Some first) e = reached_grown order first c n place w e r ∙ h
+    new : (c : Cache) (n : Machine) → IsWellFormed limit order n → IsIn c n.caches → Same place m n → (o : Option ℕ) → choice order n (layout c).order ≡ o
+        → Unmade place (option_map (λ first. block first (layout c).order) o) → Same place m (take_new c n o).machine
+    new c n w in_c h None e unmade same = h same
+    new c n w in_c h (Some first) e unmade same =
+        let g : IsGrown first c n = grown_is order first c n w in_c in
+        let flags = flagged_same order place (grown_cache first c) (new_slab c first) (next_object (new_slab c first)) true (grown first c n) (grown_kept order first c n w in_c e) g.cache_in g.slab_in in
+        grown_byte first c n place false unmade ∙ h (sym (grown_elsewhere order place first c n w in_c unmade) ∙ (sym flags ∙ same))
 
-    slab : (c : Cache) (o : Option Slab) → Same place m (take_from order c m o).machine
-    slab c (Some s) = refl
-    slab c None =
+    slab : (c : Cache) → IsIn c m.caches → (o : Option Slab) → slab_to_use (find is_partial c.slabs) (find is_empty c.slabs) ≡ o
+        → Unmade place (if is_some o then None else option_map (λ first. block first (layout c).order) (choice_by_need order (layout c).order m))
+        → Same place m (take_from order c m o).machine
+    slab c in_c (Some s) e unmade same = refl
+    slab c in_c None e unmade same =
         let k : ℕ = (layout c).order in
-        let n : Machine = by_need order k m in
-        new c n (by_need_kept order k m w) (by_need_keeps (λ n. Reached n place) order k m r (reached_reaped m place r)) (same_by_need order k place m w r) (choice order n k) refl
+        new c (by_need order k m) (by_need_kept order k m w) (stands_by_need order k c m in_c e) (same_by_need order k place m w) (choice_by_need order k m) refl unmade same
 
-    go : (o : Option Cache) → Same place m (take_of order m o).machine
-    go None = refl
-    go (Some c) = slab c (slab_to_use (find is_partial c.slabs) (find is_empty c.slabs))
+    go : (o : Option Cache) → cache_of m number ≡ o → Unmade place (option_and_then (block_of_growth order m) o) → Same place m (take_of order m o).machine
+    go None e unmade same = refl
+    go (Some c) e unmade same = slab c (find_in (λ x. eqb x.number number) c m.caches e).0 (slab_to_use (find is_partial c.slabs) (find is_empty c.slabs)) refl unmade same
 
-same_give : (number begin place : ℕ) (m : Machine) → Same place m (give_step number begin m).machine
-unfolding give_step
-same_give number begin place m = go (cache_of m number)
-  where
-    object : (c : Cache) (o : Option LiveObject) → Same place m (give_object c m o).machine
-    object c None = refl
-    object c (Some o) = refl
-
-    go : (o : Option Cache) → Same place m (give_of begin m o).machine
-    go None = refl
-    go (Some c) = object c (find (λ x. eqb x.place begin) (live_objects c))
-
-same_destroyed : (order place : ℕ) (c : Cache) (m : Machine) → IsWellFormed order m → Reached m place → IsIn c m.caches → list_any (λ s. not (is_empty s)) c.slabs ≡ false → Same place m (destroyed c m)
+same_destroyed : {limit : ℕ} (order place : ℕ) (c : Cache) (m : Machine) → IsWellFormed limit order m → IsIn c m.caches → Same place m (destroyed c m)
 unfolding destroyed
-same_destroyed order place c m w r in_c e =
+same_destroyed order place c m w in_c same =
     let f : Found (λ x. x.number) c m.caches = found (λ x. x.number) 0 c m.caches w.caches_rise in_c in
-    ap (λ b. if b then Some 0 else m.bytes place) (ap (λ bs. list_any (in_block place) bs) (slab_blocks_laid c ∙ ap (λ ls. map laid_block ls) (sym (laid_of c m.caches f)))
-    ∙ reached_kept order (λ l. eqb l.number c.number) m place w r (λ h. ne_eqb h.cache.number c.number (λ same.
-    let one : h.cache ≡ c = one_key (λ x. x.number) 0 m.caches h.cache c w.caches_rise h.cache_in in_c same in
-    false≢true (sym (each_in (λ s. not (is_empty s) ≡ false) h.slab c.slabs (none_any (λ s. not (is_empty s)) c.slabs e) (subst (λ x. IsIn h.slab x.slabs) one h.slab_in)) ∙ ap not (live_not_empty m place h)))))
+    ap (λ bs. zeroed bs m.bytes place) (slab_blocks_laid c ∙ ap (λ ls. map laid_block ls) (sym (laid_of c m.caches f)))
+    ∙ same_given_back place (λ l. eqb l.number c.number) (all_laid m.caches) m.bytes (laid_out order m w).apart_slabs
+    (ap (λ ls. list_any (in_laid place) ls) (filter_laid (λ n. not (eqb n c.number)) m.caches) ∙ (sym (in_slab_laid (destroyed c m) place) ∙ (same ∙ in_slab_laid m place)))
 
-same_destroy : (order number place : ℕ) (m : Machine) → IsWellFormed order m → Reached m place → Same place m (destroy_step number m).machine
+same_destroy : {limit : ℕ} (order number place : ℕ) (m : Machine) → IsWellFormed limit order m → Same place m (destroy_step number m).machine
 unfolding destroy_step
-same_destroy order number place m w r = go (cache_of m number) refl
+same_destroy order number place m w = go (cache_of m number) refl
   where
-    test : (c : Cache) → IsIn c m.caches → (b : Bool) → list_any (λ s. not (is_empty s)) c.slabs ≡ b
-        → Same place m (if b then refuse DestroyRefusal.CacheInUse m else record { answer = Ok (frames_of (slab_blocks c)); machine = destroyed c m }).machine
-    test c in_c true e = refl
-    test c in_c false e = same_destroyed order place c m w r in_c e
-
     go : (o : Option Cache) → cache_of m number ≡ o → Same place m (destroy_of m o).machine
-    go None e = refl
-    go (Some c) e = test c (find_in (λ x. eqb x.number number) c m.caches e).0 (list_any (λ s. not (is_empty s)) c.slabs) refl
+    go None e same = refl
+    go (Some c) e same = either (Same place m) (list_any (λ s. not (is_empty s)) c.slabs) (refuse DestroyRefusal.CacheInUse m) _ (λ _. refl)
+        (same_destroyed order place c m w (find_in (λ x. eqb x.number number) c m.caches e).0) same
 
-same_reap : (order place : ℕ) (m : Machine) → IsWellFormed order m → Reached m place → Same place m (reap_step m).machine
+same_reap : {limit : ℕ} (order place : ℕ) (m : Machine) → IsWellFormed limit order m → Same place m (reap_step m).machine
 unfolding reap_step
-same_reap order place m w r = same_reaped order place m w r
+same_reap order place m w = same_reaped order place m w
 
-same_grant : (order place : ℕ) (m : Machine) → IsWellFormed order m → Reached m place → Same place m (after_grant order m)
+-- Slots
+
+-- the slot of the place is held in n exactly where it is in m
+abbrev SameSlot : ℕ → ℕ → Machine → Machine → Type 0
+SameSlot order place m n = holds n (slot_of order place) ≡ holds m (slot_of order place)
+
+same_grant : {limit : ℕ} (order place : ℕ) (m : Machine) → IsWellFormed limit order m → SameSlot order place m (after_grant order m) → (after_grant order m).bytes place ≡ m.bytes place
 unfolding after_grant
-same_grant order place m w r =
-    let h : IsHolder m place = holder_of order m place w r in
-    ap (λ b. if b then Some 0 else m.bytes place) (ne_eqb (slot_of order place) (next_slot m) (λ same.
-    false≢true (sym (next_unheld order m w) ∙ (ap (λ u. list_any (λ v. eqb v u) m.slots) (sym same) ∙ place_held order m.slots place h.holder (holder_placed order m place w h) h.here))))
+same_grant order place m w same =
+    let u : ℕ = next_slot m in
+    let p : PutIn (λ v. v) u m.slots = put_in (λ v. v) u m.slots in
+    let held : list_any (λ v. eqb v u) (put_rising (λ v. v) u m.slots) ≡ true =
+    ap (λ us. list_any (λ v. eqb v u) us) p.is ∙ (any_put (λ v. eqb v u) p.before p.later u ∙ ap (λ b. b || list_any (λ v. eqb v u) (p.before ++ p.later)) (eq-eqb u u refl)) in
+    ap (λ b. if b then Some 0 else m.bytes place) (ne_eqb (slot_of order place) u (λ at.
+    false≢true (sym (next_unheld order m w) ∙ (ap (holds m) (sym at) ∙ (sym same ∙ (ap (λ v. holds (after_grant order m) v) at ∙ held))))))
 
-same_gone : (order slot place : ℕ) (m : Machine) → IsWellFormed order m → Reached m place → is_busy order m slot ≡ false → Same place m (after_take_back order slot m)
-unfolding after_take_back
-same_gone order slot place m w r e =
-    let h : IsHolder m place = holder_of order m place w r in
-    ap (λ b. if b then None else m.bytes place) (ne_eqb (slot_of order place) slot (λ same.
-    each_in (λ b. b.first / 2 ^ order ≢ slot) h.holder (m.blocks ++ map laid_block (all_laid m.caches)) (not_busy order slot m e) h.holder_in
-    (sym (frame_slot order (place / 4096) h.holder (holder_placed order m place w h).0 (in_block-true place h.holder h.here)) ∙ same)))
-
-same_take_back : (order slot place : ℕ) (m : Machine) → IsWellFormed order m → Reached m place → Same place m (take_back_step order slot m).machine
-unfolding take_back_step
-same_take_back order slot place m w r = either (Same place m) (not (holds m slot)) (refuse TakeBackRefusal.NoSlot m) _ refl (go (is_busy order m slot) refl)
+same_take_back : (order slot place : ℕ) (m : Machine) → SameSlot order place m (take_back_step order slot m).machine → (take_back_step order slot m).machine.bytes place ≡ m.bytes place
+unfolding take_back_step after_take_back
+same_take_back order slot place m same = go (holds m slot) refl (is_busy order m slot) same
   where
-    go : (b : Bool) → is_busy order m slot ≡ b → Same place m (if b then refuse TakeBackRefusal.SlotBusy m else record { answer = Ok done; machine = after_take_back order slot m }).machine
-    go true e = refl
-    go false e = same_gone order slot place m w r e
+    gone : list_any (λ v. eqb v slot) (filter (λ u. not (eqb u slot)) m.slots) ≡ false
+    gone = any_none (λ v. eqb v slot) (filter (λ u. not (eqb u slot)) m.slots)
+        (each_weaker (λ v. not (eqb v slot) ≡ true) (λ v. eqb v slot ≡ false) (λ v h. not-true (eqb v slot) h) (filter (λ u. not (eqb u slot)) m.slots) (each_filtered (λ u. not (eqb u slot)) m.slots))
 
-nothing_reached : (place : ℕ) → in_reach empty_machine place 1 ≡ false
-unfolding in_reach empty_machine
-nothing_reached place = refl
+    go : (held : Bool) → holds m slot ≡ held → (busy : Bool)
+        → (let n = (if not held then refuse TakeBackRefusal.NoSlot m else (if busy then refuse TakeBackRefusal.SlotBusy m else record { answer = Ok done; machine = after_take_back order slot m })).machine in
+        SameSlot order place m n → n.bytes place ≡ m.bytes place)
+    go false e busy same = refl
+    go true e true same = refl
+    go true e false same = ap (λ t. if t then None else m.bytes place) (ne_eqb (slot_of order place) slot (λ at.
+        false≢true (sym gone ∙ (ap (λ u. list_any (λ v. eqb v u) (filter (λ u. not (eqb u slot)) m.slots)) (sym at) ∙ (same ∙ (ap (holds m) at ∙ e))))))
 
-pub writes_alone : WritesAlone
-writes_alone limit order operation m place w e = go operation
+-- a place of a slot that is not held has no byte
+unheld_none : {limit : ℕ} (order place : ℕ) (m : Machine) → IsWellFormed limit order m → holds m (slot_of order place) ≡ false → m.bytes place ≡ None
+unheld_none order place m w unheld =
+    let ls : List Laid = all_laid m.caches in
+    let out : IsLaidOut order m.slots m.blocks ls m.bytes = laid_out order m w in
+    let outside : list_any (in_laid place) ls ≡ false = false_from_ne_true (list_any (in_laid place) ls) (λ here.
+    false≢true (sym unheld ∙ slab_held order m.slots place ls out.placed_slabs here)) in
+    go (m.bytes place) (out.mapped place ∙ (ap (λ b. (b && not (list_any (in_laid place) ls)) || list_any (in_laid_object place) ls) unheld ∙ no_object place ls outside))
   where
-    r : Reached m place
-    r = reached m place 1 place e (omega arith) (omega arith)
+    go : (o : Option ℕ) → is_some o ≡ false → o ≡ None
+    go None e = refl
+    go (Some b) e = absurd (false≢true (sym e))
 
-    go : (operation : Operation) → in_reach (after limit order operation m) place 1 ≡ true → writes operation place ≡ false → Same place m (after limit order operation m)
-    go (Alloc k) f not_written = same_alloc order k place m w r
-    go (Free first) f not_written = ap (λ bytes. bytes place) (released_bytes_stay first m)
-    go (Write begin new) f not_written = same_write begin place new m not_written
-    go (Create size align pattern) f not_written = same_create limit size align place pattern m
-    go (Take number) f not_written = same_take order number place m w r
-    go (Give number begin) f not_written = same_give number begin place m
-    go (Destroy number) f not_written = same_destroy order number place m w r
-    go Reap f not_written = same_reap order place m w r
-    go Grant f not_written = same_grant order place m w r
-    go (TakeBack slot) f not_written = same_take_back order slot place m w r
-    go Reset f not_written = absurd (false≢true (sym (nothing_reached place) ∙ f))
+same_reset : {limit : ℕ} (order place : ℕ) (m : Machine) → IsWellFormed limit order m → SameSlot order place m empty_machine → empty_machine.bytes place ≡ m.bytes place
+unfolding empty_machine
+same_reset order place m w same = sym (unheld_none order place m w (sym same))
+
+pub bytes_stay : BytesStay
+bytes_stay limit order (Alloc k) m place w h = same_alloc order k place m w h.same_slab
+bytes_stay limit order (Free first) m place w h = ap (λ bytes. bytes place) (free_keeps first m)
+bytes_stay limit order (Write begin new) m place w h = same_write begin place new m h.unwritten
+bytes_stay limit order (Create size align pattern) m place w h = ap (λ bytes. bytes place) (same_create limit size align pattern m)
+bytes_stay limit order (Take number) m place w h = same_take order number place m w h.unmade h.same_slab
+bytes_stay limit order (Give number begin) m place w h = ap (λ bytes. bytes place) (give_keeps number begin m)
+bytes_stay limit order (Destroy number) m place w h = same_destroy order number place m w h.same_slab
+bytes_stay limit order Reap m place w h = same_reap order place m w h.same_slab
+bytes_stay limit order Grant m place w h = same_grant order place m w h.same_slot
+bytes_stay limit order (TakeBack slot) m place w h = same_take_back order slot place m h.same_slot
+bytes_stay limit order Reset m place w h = same_reset order place m w h.same_slot
+
+pub runs_keep_bytes : RunsKeepBytes
+runs_keep_bytes limit order [] m place can w h = refl
+runs_keep_bytes limit order (operation ∷ operations) m place (first, rest) w (here, later) =
+    runs_keep_bytes limit order operations (after limit order operation m) place rest (keeps_well_formed limit order operation m first w) later
+    ∙ bytes_stay limit order operation m place w here

@@ -1,5 +1,5 @@
 -- Objects taken and given back, and growth: the machine stays well formed.
-use Rattle.std.proofs.Common.{◌≡◌, ◌≢◌, ℕ, ◌+◌, ◌-◌, ◌*◌, Bool, true, false, not, cond, eqb, List, [], ◌∷◌, ◌++◌, map, length, Option, Some, None, refl, sym, ap, ◌∙◌, subst, inl, inr, arith}
+use Rattle.std.proofs.Common.{◌≡◌, ◌≢◌, ℕ, ◌+◌, ◌-◌, ◌*◌, ◌<◌, Bool, true, false, not, cond, eqb, List, [], ◌∷◌, ◌++◌, map, length, Option, Some, None, refl, sym, ap, ◌∙◌, subst, inl, inr, arith}
 use Rattle.std.specs.Prelude.{if◌then◌else◌, is_some, filter, find, slice_set}
 use Rattle.std.specs.List.{AllByRecursion as Each}
 use Rattle.std.proofs.Math.ListN.{length-set, length-replicate}
@@ -15,7 +15,7 @@ use Rattle.model_core.proofs.Lists.{IsIn, each_left, each_right, each_put, each_
 use Rattle.model_core.proofs.ByNeed.{by_need_keeps}
 use Rattle.model_core.proofs.Apart.{apart_first}
 use Rattle.model_core.proofs.Chosen.{chosen_apart, chosen_placed}
-use Rattle.model_core.proofs.Laid.{Laid, laid, laid_in, all_laid, laid_block, IsLaidOut, taken_laid, laid_out, well_formed}
+use Rattle.model_core.proofs.Laid.{Laid, laid, laid_in, all_laid, laid_block, IsLaidOut, taken_laid, laid_out, Numbered, well_formed}
 use Rattle.model_core.proofs.Kept.{with_flags, flags_set, slab_put}
 use Rattle.model_core.proofs.Split.{in_middle, laid_parts}
 use Rattle.model_core.proofs.PageSteps.{by_need_kept}
@@ -45,6 +45,14 @@ in_all_laid c s (d ∷ cs) (inr i) j = in_right (laid c s) (laid_in d) (all_laid
 pub same_keys : {X : Type 0} (key : X → ℕ) (before later : List X) (x y : X) → key y ≡ key x → map key (before ++ y ∷ later) ≡ map key (before ++ x ∷ later)
 same_keys key before later x y e = map_append key before (y ∷ later) ∙ (ap (λ n. map key before ++ n ∷ map key later) e ∙ sym (map_append key before (x ∷ later)))
 
+-- another cache with the same number has one within the limit too
+renumbered : (limit : ℕ) (before later was is : List Cache) (c d : Cache) → d.number ≡ c.number → was ≡ before ++ c ∷ later → is ≡ before ++ d ∷ later
+    → Each (Numbered limit) was → Each (Numbered limit) is
+renumbered limit before later was is c d same from to h =
+    let old : Each (Numbered limit) (before ++ c ∷ later) = subst (Each (Numbered limit)) from h in
+    subst (Each (Numbered limit)) (sym to) (each_put (Numbered limit) before later d (each_less (Numbered limit) before later c old)
+    (subst (λ n. n < limit) (sym same) (each_middle (Numbered limit) before later c old)))
+
 -- One flag set
 
 -- what it does to the slabs
@@ -54,7 +62,7 @@ pub record IsFlagged (c : Cache) (s : Slab) (i : ℕ) (b : Bool) (m : Machine) :
   pub was : all_laid m.caches ≡ xs ++ laid c s ∷ ys
   pub is : all_laid (with_cache (with_slab (with_live i b s) c) m).caches ≡ xs ++ with_flags (slice_set s.live i b) (laid c s) ∷ ys
 
-pub flagged : (order : ℕ) (c : Cache) (s : Slab) (i : ℕ) (b : Bool) (m : Machine) → IsWellFormed order m → IsIn c m.caches → IsIn s c.slabs → IsFlagged c s i b m
+pub flagged : {limit : ℕ} (order : ℕ) (c : Cache) (s : Slab) (i : ℕ) (b : Bool) (m : Machine) → IsWellFormed limit order m → IsIn c m.caches → IsIn s c.slabs → IsFlagged c s i b m
 flagged order c s i b m w in_c in_s =
     let is_c : IsCache c = each_in IsCache c m.caches w.caches in_c in
     let fc : Found (λ x. x.number) c m.caches = found (λ x. x.number) 0 c m.caches w.caches_rise in_c in
@@ -68,9 +76,9 @@ flagged order c s i b m w in_c in_s =
       is = ap all_laid (found_replaced (λ x. x.number) c m.caches fc d c.number refl) ∙ laid_parts fc.before fc.later d fs.before (t ∷ fs.later) (found_replaced (λ x. x.first) s c.slabs fs t s.first refl);
     }
 
-pub live_kept : (order : ℕ) (c : Cache) (s : Slab) (i : ℕ) (b : Bool) (m : Machine) → IsWellFormed order m → IsIn c m.caches → IsIn s c.slabs
-    → IsWellFormed order (with_cache (with_slab (with_live i b s) c) m)
-live_kept order c s i b m w in_c in_s =
+pub live_kept : {limit : ℕ} (order : ℕ) (c : Cache) (s : Slab) (i : ℕ) (b : Bool) (m : Machine) → IsWellFormed limit order m → IsIn c m.caches → IsIn s c.slabs
+    → IsWellFormed limit order (with_cache (with_slab (with_live i b s) c) m)
+live_kept {limit} order c s i b m w in_c in_s =
     let is_c : IsCache c = each_in IsCache c m.caches w.caches in_c in
     let fc : Found (λ x. x.number) c m.caches = found (λ x. x.number) 0 c m.caches w.caches_rise in_c in
     let fs : Found (λ x. x.first) s c.slabs = found (λ x. x.first) 0 s c.slabs is_c.slabs_rise in_s in
@@ -91,6 +99,7 @@ live_kept order c s i b m w in_c in_s =
     } in
     well_formed order (with_cache d m) w.slots_rise w.blocks_rise
     (subst (RisesFrom 0) (ap (λ xs. map (λ x. x.number) xs) fc.is ∙ (sym (same_keys (λ x. x.number) fc.before fc.later c d refl) ∙ ap (λ xs. map (λ x. x.number) xs) (sym caches))) w.caches_rise)
+    (renumbered limit fc.before fc.later m.caches (with_cache d m).caches c d refl fc.is caches w.numbered)
     (subst (Each IsCache) (sym caches) (each_put IsCache fc.before fc.later d (each_less IsCache fc.before fc.later c (subst (Each IsCache) fc.is w.caches)) is_d))
     (subst (λ ls. IsLaidOut order m.slots m.blocks ls m.bytes) (sym h.is)
     (flags_set order m.slots m.blocks h.xs h.ys (laid c s) (slice_set s.live i b) m.bytes (length-set {A = Bool} s.live i b)
@@ -111,7 +120,7 @@ pub record IsGrown (first : ℕ) (c : Cache) (m : Machine) : Type 0 where
   pub cache_in : IsIn (grown_cache first c) (grown first c m).caches
   pub slab_in : IsIn (new_slab c first) (grown_cache first c).slabs
 
-pub grown_is : (order first : ℕ) (c : Cache) (m : Machine) → IsWellFormed order m → IsIn c m.caches → IsGrown first c m
+pub grown_is : {limit : ℕ} (order first : ℕ) (c : Cache) (m : Machine) → IsWellFormed limit order m → IsIn c m.caches → IsGrown first c m
 unfolding grown grown_cache
 grown_is order first c m w in_c =
     let g : Cache = grown_cache first c in
@@ -128,9 +137,9 @@ grown_is order first c m w in_c =
       slab_in = subst (IsIn s) (sym p.is) (in_middle p.before p.later s);
     }
 
-pub grown_kept : (order first : ℕ) (c : Cache) (m : Machine) → IsWellFormed order m → IsIn c m.caches → choice order m (layout c).order ≡ Some first → IsWellFormed order (grown first c m)
+pub grown_kept : {limit : ℕ} (order first : ℕ) (c : Cache) (m : Machine) → IsWellFormed limit order m → IsIn c m.caches → choice order m (layout c).order ≡ Some first → IsWellFormed limit order (grown first c m)
 unfolding grown grown_cache fresh_byte
-grown_kept order first c m w in_c e =
+grown_kept {limit} order first c m w in_c e =
     let is_c : IsCache c = each_in IsCache c m.caches w.caches in_c in
     let g : Cache = grown_cache first c in
     let s : Slab = new_slab c first in
@@ -155,6 +164,7 @@ grown_kept order first c m w in_c e =
     } in
     well_formed order (grown first c m) w.slots_rise w.blocks_rise
     (subst (RisesFrom 0) (ap (λ xs. map (λ x. x.number) xs) fc.is ∙ (sym (same_keys (λ x. x.number) fc.before fc.later c g refl) ∙ ap (λ xs. map (λ x. x.number) xs) (sym caches))) w.caches_rise)
+    (renumbered limit fc.before fc.later m.caches (grown first c m).caches c g refl fc.is caches w.numbered)
     (subst (Each IsCache) (sym caches) (each_put IsCache fc.before fc.later g (each_less IsCache fc.before fc.later c (subst (Each IsCache) fc.is w.caches)) is_g))
     (subst (λ ls. IsLaidOut order m.slots m.blocks ls (grown first c m).bytes) (sym h.is)
     (slab_put order m.slots m.blocks h.xs h.ys (laid c s) m.bytes (fresh_byte c s) (subst (λ ls. IsLaidOut order m.slots m.blocks ls m.bytes) h.was (laid_out order m w))
@@ -198,23 +208,23 @@ stands_reaped c m i e =
 pub stands_by_need : (order k : ℕ) (c : Cache) (m : Machine) → IsIn c m.caches → slab_to_use (find is_partial c.slabs) (find is_empty c.slabs) ≡ None → IsIn c (by_need order k m).caches
 stands_by_need order k c m i e = by_need_keeps (λ n. IsIn c n.caches) order k m i (stands_reaped c m i e)
 
-take_from_kept : (order : ℕ) (c : Cache) (m : Machine) → IsWellFormed order m → IsIn c m.caches → (o : Option Slab) → slab_to_use (find is_partial c.slabs) (find is_empty c.slabs) ≡ o
-    → IsWellFormed order (take_from order c m o).machine
-take_from_kept order c m w in_c (Some s) e = live_kept order c s (next_object s) true m w in_c (used_in c s e)
-take_from_kept order c m w in_c None e =
+take_from_kept : {limit : ℕ} (order : ℕ) (c : Cache) (m : Machine) → IsWellFormed limit order m → IsIn c m.caches → (o : Option Slab) → slab_to_use (find is_partial c.slabs) (find is_empty c.slabs) ≡ o
+    → IsWellFormed limit order (take_from order c m o).machine
+take_from_kept {limit} order c m w in_c (Some s) e = live_kept order c s (next_object s) true m w in_c (used_in c s e)
+take_from_kept {limit} order c m w in_c None e =
     let n : Machine = by_need order (layout c).order m in
     go n (by_need_kept order (layout c).order m w) (stands_by_need order (layout c).order c m in_c e) (choice order n (layout c).order) refl
   where
-    go : (n : Machine) → IsWellFormed order n → IsIn c n.caches → (o : Option ℕ) → choice order n (layout c).order ≡ o → IsWellFormed order (take_new c n o).machine
+    go : (n : Machine) → IsWellFormed limit order n → IsIn c n.caches → (o : Option ℕ) → choice order n (layout c).order ≡ o → IsWellFormed limit order (take_new c n o).machine
     go n w in_c None e = w
     go n w in_c (Some first) e =
         let h : IsGrown first c n = grown_is order first c n w in_c in
         live_kept order (grown_cache first c) (new_slab c first) (next_object (new_slab c first)) true (grown first c n) (grown_kept order first c n w in_c e) h.cache_in h.slab_in
 
-pub take_kept : (order number : ℕ) (m : Machine) → IsWellFormed order m → IsWellFormed order (take_step order number m).machine
+pub take_kept : {limit : ℕ} (order number : ℕ) (m : Machine) → IsWellFormed limit order m → IsWellFormed limit order (take_step order number m).machine
 unfolding take_step
-take_kept order number m w = go (cache_of m number) refl
+take_kept {limit} order number m w = go (cache_of m number) refl
   where
-    go : (o : Option Cache) → cache_of m number ≡ o → IsWellFormed order (take_of order m o).machine
+    go : (o : Option Cache) → cache_of m number ≡ o → IsWellFormed limit order (take_of order m o).machine
     go None e = w
     go (Some c) e = take_from_kept order c m w (find_in (λ x. eqb x.number number) c m.caches e).0 (slab_to_use (find is_partial c.slabs) (find is_empty c.slabs)) refl

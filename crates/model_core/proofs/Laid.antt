@@ -1,5 +1,5 @@
 -- Slabs as they lie in memory: each with what its cache says of it.
-use Rattle.std.proofs.Common.{◌≡◌, ℕ, ◌-◌, ◌*◌, ◌/◌, ◌^◌, Bool, true, not, ◌&&◌, ◌||◌, eqb, List, [], ◌∷◌, ◌++◌, map, length, Option, refl, sym, ap, ◌∙◌, subst}
+use Rattle.std.proofs.Common.{◌≡◌, ℕ, ◌-◌, ◌*◌, ◌/◌, ◌^◌, ◌<◌, Bool, true, not, ◌&&◌, ◌||◌, eqb, List, [], ◌∷◌, ◌++◌, map, length, Option, refl, sym, ap, ◌∙◌, subst}
 use Rattle.std.specs.Prelude.{flat_map, is_some}
 use Rattle.std.specs.List.{list_any, AllByRecursion as Each}
 use Rattle.model_core.specs.Blocks.{Block, block, IsAligned}
@@ -95,7 +95,7 @@ pub taken_laid : (m : Machine) → taken_blocks m ≡ m.blocks ++ map laid_block
 unfolding taken_blocks
 taken_laid m = ap (λ bs. m.blocks ++ bs) (blocks_laid m.caches)
 
-pub laid_out : (order : ℕ) (m : Machine) → IsWellFormed order m → IsLaidOut order m.slots m.blocks (all_laid m.caches) m.bytes
+pub laid_out : {limit : ℕ} (order : ℕ) (m : Machine) → IsWellFormed limit order m → IsLaidOut order m.slots m.blocks (all_laid m.caches) m.bytes
 laid_out order m w =
     let slabs : List Block = map laid_block (all_laid m.caches) in
     let placed : Each (IsPlaced order m) (m.blocks ++ slabs) = subst (λ bs. Each (IsPlaced order m) bs) (taken_laid m) w.placed in
@@ -110,14 +110,19 @@ laid_out order m w =
       mapped = λ place. w.mapped place ∙ mapped_laid order m place;
     }
 
-pub well_formed : (order : ℕ) (m : Machine) → RisesFrom 0 m.slots → RisesFrom 0 (map (λ b. b.first) m.blocks) → RisesFrom 0 (map (λ c. c.number) m.caches) → Each IsCache m.caches
-    → IsLaidOut order m.slots m.blocks (all_laid m.caches) m.bytes → IsWellFormed order m
-well_formed order m slots blocks caches each l =
+-- a number within the limit
+abbrev pub Numbered : ℕ → Cache → Type 0
+Numbered limit c = c.number < limit
+
+pub well_formed : {limit : ℕ} (order : ℕ) (m : Machine) → RisesFrom 0 m.slots → RisesFrom 0 (map (λ b. b.first) m.blocks) → RisesFrom 0 (map (λ c. c.number) m.caches) → Each (Numbered limit) m.caches → Each IsCache m.caches
+    → IsLaidOut order m.slots m.blocks (all_laid m.caches) m.bytes → IsWellFormed limit order m
+well_formed order m slots blocks caches numbered each l =
     let slabs : List Block = map laid_block (all_laid m.caches) in
     record {
       slots_rise = slots;
       blocks_rise = blocks;
       caches_rise = caches;
+      numbered = numbered;
       caches = each;
       placed = subst (λ bs. Each (IsPlaced order m) bs) (sym (taken_laid m)) (each_append (IsPlaced order m) m.blocks slabs l.placed_blocks (each_map (IsPlaced order m) laid_block (all_laid m.caches) l.placed_slabs));
       apart = subst AreApart (sym (taken_laid m)) (apart_append m.blocks slabs l.apart_blocks l.apart_slabs l.across);

@@ -33,7 +33,10 @@ pub mod SlabBlocks
 pub mod Constructed
 pub mod ConstructedRuns
 pub mod BytesStay
+pub mod WritesAlone
 pub mod SlabsLeave
 pub mod Vacant
 pub mod Room
-mod Witnesses
+pub mod Witnesses
+mod WitnessesObjects
+mod WitnessesBlocks

@@ -179,7 +179,7 @@ page_apart order m place l h =
     (each_unmap (IsApart h.page) laid_block (all_laid m.caches) apart))
 
 -- a place in reach has a byte
-pub reached_mapped : (order : ℕ) (m : Machine) (place : ℕ) → IsWellFormed order m → IsPageByte m place ⊎ IsLiveByte m place → is_some (m.bytes place) ≡ true
+pub reached_mapped : {limit : ℕ} (order : ℕ) (m : Machine) (place : ℕ) → IsWellFormed limit order m → IsPageByte m place ⊎ IsLiveByte m place → is_some (m.bytes place) ≡ true
 reached_mapped order m place w (inl h) =
     let l : IsLaidOut order m.slots m.blocks (all_laid m.caches) m.bytes = laid_out order m w in
     l.mapped place

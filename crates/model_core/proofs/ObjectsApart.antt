@@ -25,7 +25,7 @@ pairs_apart (b ∷ bs) (e, h) zero (suc j) d lt in_bs = each_get (IsApart b) bs 
 pairs_apart (b ∷ bs) (e, h) (suc i) (suc j) d lt in_bs = pairs_apart bs h i j d (omega arith) (omega arith)
 
 pub taken_apart : TakenApart
-taken_apart order m w = pairs_apart (taken_blocks m) w.apart
+taken_apart limit order m w = pairs_apart (taken_blocks m) w.apart
 
 -- Objects
 
@@ -57,7 +57,7 @@ pub record IsLaidObject (order : ℕ) (m : Machine) (o : Object) : Type 0 where
   pub cut : IsCutLaid (laid o.cache o.slab)
   pub index_in : o.index < (layout o.cache).count
 
-pub laid_object : (order : ℕ) (m : Machine) (o : Object) → IsWellFormed order m → IsObject m o → IsLaidObject order m o
+pub laid_object : {limit : ℕ} (order : ℕ) (m : Machine) (o : Object) → IsWellFormed limit order m → IsObject m o → IsLaidObject order m o
 laid_object order m o w h =
     let c : IsIn o.cache m.caches = contains_in m.caches o.cache h.cache_in in
     let s : IsIn o.slab o.cache.slabs = contains_in o.cache.slabs o.slab h.slab_in in
@@ -72,7 +72,7 @@ same_object : (c d : Cache) (s t : Slab) (i j : ℕ) → c ≡ d → s ≡ t →
 same_object c d s t i j e f g = cc
 
 pub objects_apart : ObjectsApart
-objects_apart order m w a b ha hb place in_a in_b =
+objects_apart limit order m w a b ha hb place in_a in_b =
     let la : IsLaidObject order m a = laid_object order m a w ha in
     let lb : IsLaidObject order m b = laid_object order m b w hb in
     let k : Laid = laid a.cache a.slab in
@@ -86,7 +86,7 @@ objects_apart order m w a b ha hb place in_a in_b =
     same_object a.cache b.cache a.slab b.slab a.index b.index caches slabs index
 
 pub records_free : RecordsFree
-records_free order m w o h small place in_o =
+records_free limit order m w o h small place in_o =
     let l : IsLaidObject order m o = laid_object order m o w h in
     let k : Laid = laid o.cache o.slab in
     let p : IsByteOf k o.index (place - place_of o) place = byte_is_of k l.cut o.index (place - place_of o) place (byte_of o place l.index_in in_o) in

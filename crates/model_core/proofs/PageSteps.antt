@@ -5,7 +5,7 @@ use Rattle.std.specs.List.{list_any, AllByRecursion as Each}
 use Rattle.std.proofs.lemmas.List.{map-id}
 use Rattle.std.proofs.lemmas.Nat.{pow_pos}
 use Rattle.std.proofs.Math.Nat.{div-mul-le_self, lt-div-mul-add}
-use Rattle.std.proofs.lemmas.Bool.{and_from, lt-ltb, ne_eqb, false≢true}
+use Rattle.std.proofs.lemmas.Bool.{and_from, lt-ltb, leb-false, ne_eqb, false≢true}
 use Rattle.model_core.specs.declared.refusals.AllocRefusal.{AllocRefusal}
 use Rattle.model_core.specs.declared.refusals.CacheRefusal.{CacheRefusal}
 use Rattle.model_core.specs.declared.refusals.DestroyRefusal.{DestroyRefusal}
@@ -21,7 +21,7 @@ use Rattle.model_core.proofs.Lists.{IsIn, each_left, each_right, each_put, each_
 use Rattle.model_core.proofs.ByNeed.{by_need_keeps}
 use Rattle.model_core.proofs.Apart.{apart_first}
 use Rattle.model_core.proofs.Chosen.{chosen_apart, chosen_placed}
-use Rattle.model_core.proofs.Laid.{all_laid, laid_block, IsLaidOut, taken_laid, laid_out, well_formed}
+use Rattle.model_core.proofs.Laid.{all_laid, laid_block, IsLaidOut, taken_laid, laid_out, Numbered, well_formed}
 use Rattle.model_core.proofs.Kept.{block_put, blocks_filtered, given_back, slot_put, slot_gone}
 use Rattle.model_core.proofs.Split.{laid_without, filter_laid, laid_of, is_empty_laid, kept_laid, gone_laid, slab_blocks_laid}
 
@@ -30,9 +30,9 @@ pub either : {A : Type 0} (P : Machine → Type 0) (b : Bool) (s t : Step A) →
 either P true s t p q = p
 either P false s t p q = q
 
-pub empty_kept : (order : ℕ) → IsWellFormed order empty_machine
+pub empty_kept : {limit : ℕ} (order : ℕ) → IsWellFormed limit order empty_machine
 unfolding empty_machine
-empty_kept order = well_formed order empty_machine tt tt tt tt (record {
+empty_kept order = well_formed order empty_machine tt tt tt tt tt (record {
   placed_blocks = tt;
   placed_slabs = tt;
   apart_blocks = tt;
@@ -58,24 +58,25 @@ numbers_same : (cs : List Cache) → map (λ c. c.number) cs ≡ map (λ c. c.nu
 numbers_same [] = refl
 numbers_same (c ∷ cs) = ap (λ ns. c.number ∷ ns) (numbers_same cs)
 
-pub reaped_kept : (order : ℕ) (m : Machine) → IsWellFormed order m → IsWellFormed order (reaped m)
+pub reaped_kept : {limit : ℕ} (order : ℕ) (m : Machine) → IsWellFormed limit order m → IsWellFormed limit order (reaped m)
 unfolding reaped
-reaped_kept order m w = well_formed order (reaped m) w.slots_rise w.blocks_rise (subst (RisesFrom 0) (numbers_same m.caches) w.caches_rise)
+reaped_kept {limit} order m w = well_formed order (reaped m) w.slots_rise w.blocks_rise (subst (RisesFrom 0) (numbers_same m.caches) w.caches_rise)
+    (each_map (Numbered limit) without_empty m.caches w.numbered)
     (each_map IsCache without_empty m.caches (each_weaker IsCache (λ c. IsCache (without_empty c)) without_empty_is m.caches w.caches))
     (subst (λ ls. IsLaidOut order m.slots m.blocks ls (reaped m).bytes) (kept_laid m.caches)
     (subst (λ bs. IsLaidOut order m.slots m.blocks (filter (λ l. not (is_empty_laid l)) (all_laid m.caches)) (zeroed bs m.bytes)) (sym (gone_laid m.caches))
     (given_back order m.slots m.blocks is_empty_laid (all_laid m.caches) m.bytes (laid_out order m w))))
 
-pub reap_kept : (order : ℕ) (m : Machine) → IsWellFormed order m → IsWellFormed order (reap_step m).machine
+pub reap_kept : {limit : ℕ} (order : ℕ) (m : Machine) → IsWellFormed limit order m → IsWellFormed limit order (reap_step m).machine
 unfolding reap_step
 reap_kept order m w = reaped_kept order m w
 
-pub by_need_kept : (order k : ℕ) (m : Machine) → IsWellFormed order m → IsWellFormed order (by_need order k m)
-by_need_kept order k m w = by_need_keeps (IsWellFormed order) order k m w (reaped_kept order m w)
+pub by_need_kept : {limit : ℕ} (order k : ℕ) (m : Machine) → IsWellFormed limit order m → IsWellFormed limit order (by_need order k m)
+by_need_kept {limit} order k m w = by_need_keeps (IsWellFormed limit order) order k m w (reaped_kept order m w)
 
 -- Page blocks
 
-block_kept : (order first k : ℕ) (m : Machine) → IsWellFormed order m → choice order m k ≡ Some first → IsWellFormed order (with_block (block first k) m)
+block_kept : {limit : ℕ} (order first k : ℕ) (m : Machine) → IsWellFormed limit order m → choice order m k ≡ Some first → IsWellFormed limit order (with_block (block first k) m)
 block_kept order first k m w e =
     let b : Block = block first k in
     let slabs : List Block = map laid_block (all_laid m.caches) in
@@ -84,34 +85,34 @@ block_kept order first k m w e =
     let l : IsLaidOut order m.slots m.blocks (all_laid m.caches) m.bytes = laid_out order m w in
     well_formed order (with_block b m) w.slots_rise
     (put_rises (λ x. x.first) 0 b m.blocks w.blocks_rise (omega arith) (each_weaker (IsApart b) (λ y. y.first ≢ first) (λ y h same. apart_first b y h (sym same)) m.blocks (each_left (IsApart b) m.blocks slabs apart)))
-    w.caches_rise w.caches
+    w.caches_rise w.numbered w.caches
     (subst (λ bs. IsLaidOut order m.slots bs (all_laid m.caches) m.bytes) (sym p.is)
     (block_put order m.slots p.before p.later b (all_laid m.caches) m.bytes (subst (λ bs. IsLaidOut order m.slots bs (all_laid m.caches) m.bytes) p.was l)
     (chosen_placed order k first m e) (subst (Each (IsApart b)) p.was (each_left (IsApart b) m.blocks slabs apart)) (each_right (IsApart b) m.blocks slabs apart)))
 
-alloc_at_kept : (order k : ℕ) (m : Machine) → IsWellFormed order m → (o : Option ℕ) → choice order m k ≡ o → IsWellFormed order (alloc_at k m o).machine
+alloc_at_kept : {limit : ℕ} (order k : ℕ) (m : Machine) → IsWellFormed limit order m → (o : Option ℕ) → choice order m k ≡ o → IsWellFormed limit order (alloc_at k m o).machine
 alloc_at_kept order k m w None e = w
 alloc_at_kept order k m w (Some first) e = block_kept order first k m w e
 
-pub alloc_kept : (order k : ℕ) (m : Machine) → IsWellFormed order m → IsWellFormed order (alloc_step order k m).machine
+pub alloc_kept : {limit : ℕ} (order k : ℕ) (m : Machine) → IsWellFormed limit order m → IsWellFormed limit order (alloc_step order k m).machine
 unfolding alloc_step
-alloc_kept order k m w =
+alloc_kept {limit} order k m w =
     let n : Machine = by_need order k m in
-    either (IsWellFormed order) (ltb order k) (refuse AllocRefusal.BadOrder m) (alloc_at k n (choice order n k)) w
+    either (IsWellFormed limit order) (ltb order k) (refuse AllocRefusal.BadOrder m) (alloc_at k n (choice order n k)) w
     (alloc_at_kept order k n (by_need_kept order k m w) (choice order n k) refl)
 
-pub free_kept : (order first : ℕ) (m : Machine) → IsWellFormed order m → IsWellFormed order (free_step first m).machine
+pub free_kept : {limit : ℕ} (order first : ℕ) (m : Machine) → IsWellFormed limit order m → IsWellFormed limit order (free_step first m).machine
 unfolding free_step
-free_kept order first m w = go (order_in m.blocks first)
+free_kept {limit} order first m w = go (order_in m.blocks first)
   where
-    go : (o : Option ℕ) → IsWellFormed order (free_at first m o).machine
+    go : (o : Option ℕ) → IsWellFormed limit order (free_at first m o).machine
     go None = w
-    go (Some k) = well_formed order (without_block first m) w.slots_rise (filter_rises (λ b. b.first) (λ x. not (eqb x.first first)) 0 m.blocks w.blocks_rise) w.caches_rise w.caches
+    go (Some k) = well_formed order (without_block first m) w.slots_rise (filter_rises (λ b. b.first) (λ x. not (eqb x.first first)) 0 m.blocks w.blocks_rise) w.caches_rise w.numbered w.caches
         (blocks_filtered order m.slots (λ x. not (eqb x.first first)) m.blocks (all_laid m.caches) m.bytes (laid_out order m w))
 
 -- Slots
 
-pub grant_kept : (order : ℕ) (m : Machine) → IsWellFormed order m → IsWellFormed order (after_grant order m)
+pub grant_kept : {limit : ℕ} (order : ℕ) (m : Machine) → IsWellFormed limit order m → IsWellFormed limit order (after_grant order m)
 unfolding after_grant next_slot
 grant_kept order m w =
     let u : ℕ = least_missing 0 m.slots in
@@ -120,7 +121,7 @@ grant_kept order m w =
     let new : list_any (λ v. eqb v u) m.slots ≡ false = any_none (λ v. eqb v u) m.slots (each_weaker (λ v. v ≢ u) (λ v. eqb v u ≡ false) (λ v. ne_eqb v u) m.slots missing) in
     well_formed order (after_grant order m)
     (subst (RisesFrom 0) (map-id (put_rising (λ v. v) u m.slots)) (put_rises (λ v. v) 0 u m.slots (subst (RisesFrom 0) (sym (map-id m.slots)) w.slots_rise) (omega arith) missing))
-    w.blocks_rise w.caches_rise w.caches
+    w.blocks_rise w.caches_rise w.numbered w.caches
     (subst (λ us. IsLaidOut order us m.blocks (all_laid m.caches) (after_grant order m).bytes) (sym p.is)
     (slot_put order p.before p.later u m.blocks (all_laid m.caches) m.bytes (subst (λ us. list_any (λ v. eqb v u) us ≡ false) p.was new)
     (subst (λ us. IsLaidOut order us m.blocks (all_laid m.caches) m.bytes) p.was (laid_out order m w))))
@@ -142,25 +143,25 @@ unfolding is_busy
 not_busy order slot m e = subst (Each (λ b. b.first / 2 ^ order ≢ slot)) (taken_laid m)
     (each_weaker (λ b. overlaps (slot_block order slot) b ≡ false) (λ b. b.first / 2 ^ order ≢ slot) (not_in_slot order slot) (taken_blocks m) (none_any (overlaps (slot_block order slot)) (taken_blocks m) e))
 
-pub slot_gone_kept : (order slot : ℕ) (m : Machine) → IsWellFormed order m → is_busy order m slot ≡ false → IsWellFormed order (after_take_back order slot m)
+pub slot_gone_kept : {limit : ℕ} (order slot : ℕ) (m : Machine) → IsWellFormed limit order m → is_busy order m slot ≡ false → IsWellFormed limit order (after_take_back order slot m)
 unfolding after_take_back
 slot_gone_kept order slot m w e =
     let slabs : List Block = map laid_block (all_laid m.caches) in
     let apart : Each (λ b. b.first / 2 ^ order ≢ slot) (m.blocks ++ slabs) = not_busy order slot m e in
     well_formed order (after_take_back order slot m)
     (subst (RisesFrom 0) (map-id (filter (λ v. not (eqb v slot)) m.slots)) (filter_rises (λ v. v) (λ v. not (eqb v slot)) 0 m.slots (subst (RisesFrom 0) (sym (map-id m.slots)) w.slots_rise)))
-    w.blocks_rise w.caches_rise w.caches
+    w.blocks_rise w.caches_rise w.numbered w.caches
     (slot_gone order m.slots slot m.blocks (all_laid m.caches) m.bytes (each_left (λ b. b.first / 2 ^ order ≢ slot) m.blocks slabs apart)
     (each_unmap (λ b. b.first / 2 ^ order ≢ slot) laid_block (all_laid m.caches) (each_right (λ b. b.first / 2 ^ order ≢ slot) m.blocks slabs apart)) (laid_out order m w))
 
 abbrev pub done : Unit {0}
 done = tt
 
-pub take_back_kept : (order slot : ℕ) (m : Machine) → IsWellFormed order m → IsWellFormed order (take_back_step order slot m).machine
+pub take_back_kept : {limit : ℕ} (order slot : ℕ) (m : Machine) → IsWellFormed limit order m → IsWellFormed limit order (take_back_step order slot m).machine
 unfolding take_back_step
-take_back_kept order slot m w = either (IsWellFormed order) (not (holds m slot)) (refuse TakeBackRefusal.NoSlot m) _ w (go (is_busy order m slot) refl)
+take_back_kept {limit} order slot m w = either (IsWellFormed limit order) (not (holds m slot)) (refuse TakeBackRefusal.NoSlot m) _ w (go (is_busy order m slot) refl)
   where
-    go : (b : Bool) → is_busy order m slot ≡ b → IsWellFormed order (if b then refuse TakeBackRefusal.SlotBusy m else record { answer = Ok done; machine = after_take_back order slot m }).machine
+    go : (b : Bool) → is_busy order m slot ≡ b → IsWellFormed limit order (if b then refuse TakeBackRefusal.SlotBusy m else record { answer = Ok done; machine = after_take_back order slot m }).machine
     go true e = w
     go false e = slot_gone_kept order slot m w e
 
@@ -172,47 +173,54 @@ created_laid number size align pattern m =
     let p : PutIn (λ x. x.number) c m.caches = put_in (λ x. x.number) c m.caches in
     ap all_laid p.is ∙ (laid_without p.before p.later c refl ∙ ap all_laid (sym p.was))
 
-new_kept : (order number size align : ℕ) (pattern : List ℕ) (m : Machine) → IsWellFormed order m → is_size size ≡ true → is_alignment align ≡ true → is_pattern pattern ≡ true
-    → Each (λ x. x ≢ number) (map (λ c. c.number) m.caches) → IsWellFormed order (created number size align pattern m)
+new_kept : {limit : ℕ} (order number size align : ℕ) (pattern : List ℕ) (m : Machine) → IsWellFormed limit order m → is_size size ≡ true → is_alignment align ≡ true → is_pattern pattern ≡ true
+    → number < limit → Each (λ x. x ≢ number) (map (λ c. c.number) m.caches) → IsWellFormed limit order (created number size align pattern m)
 unfolding layout_of
-new_kept order number size align pattern m w sized aligned patterned missing =
+new_kept {limit} order number size align pattern m w sized aligned patterned below missing =
     let c : Cache = record { number = number; size = size; align = align; pattern = pattern; made = 0; slabs = [] } in
     let p : PutIn (λ x. x.number) c m.caches = put_in (λ x. x.number) c m.caches in
     let is : IsCache c = record { sized = sized; aligned = aligned; patterned = patterned; counted = omega arith; slabs_rise = tt; slabs_cut = tt } in
     well_formed order (created number size align pattern m) w.slots_rise w.blocks_rise
     (put_rises (λ x. x.number) 0 c m.caches w.caches_rise (omega arith) (each_unmap (λ x. x ≢ number) (λ x. x.number) m.caches missing))
+    (subst (Each (Numbered limit)) (sym p.is) (each_put (Numbered limit) p.before p.later c (subst (Each (Numbered limit)) p.was w.numbered) below))
     (subst (Each IsCache) (sym p.is) (each_put IsCache p.before p.later c (subst (Each IsCache) p.was w.caches) is))
     (subst (λ ls. IsLaidOut order m.slots m.blocks ls m.bytes) (ap all_laid p.was ∙ (sym (laid_without p.before p.later c refl) ∙ ap all_laid (sym p.is))) (laid_out order m w))
 
-pub cache_kept : (limit order size align : ℕ) (pattern : List ℕ) (m : Machine) → is_pattern pattern ≡ true → IsWellFormed order m → IsWellFormed order (cache_step limit size align pattern m).machine
+pub cache_kept : (limit order size align : ℕ) (pattern : List ℕ) (m : Machine) → is_pattern pattern ≡ true → IsWellFormed limit order m → IsWellFormed limit order (cache_step limit size align pattern m).machine
 unfolding cache_step create_step next_number
 cache_kept limit order size align pattern m patterned w = go (is_size size) refl (is_alignment align) refl
   where
-    made : is_size size ≡ true → is_alignment align ≡ true → IsWellFormed order (created (next_number m) size align pattern m)
-    made sized aligned = new_kept order (next_number m) size align pattern m w sized aligned patterned (least_is_missing 0 (map (λ c. c.number) m.caches) w.caches_rise)
+    made : is_size size ≡ true → is_alignment align ≡ true → next_number m < limit → IsWellFormed limit order (created (next_number m) size align pattern m)
+    made sized aligned below = new_kept order (next_number m) size align pattern m w sized aligned patterned below (least_is_missing 0 (map (λ c. c.number) m.caches) w.caches_rise)
 
     go : (a : Bool) → is_size size ≡ a → (b : Bool) → is_alignment align ≡ b
-        → IsWellFormed order (if not a then refuse CacheRefusal.BadSize m else if not b then refuse CacheRefusal.BadAlign m
+        → IsWellFormed limit order (if not a then refuse CacheRefusal.BadSize m else if not b then refuse CacheRefusal.BadAlign m
         else cache_answer (create_step limit size align pattern m)).machine
     go false e b f = w
     go true e false f = w
-    go true e true f = either (IsWellFormed order) (leb limit (next_number m)) (record { answer = None; machine = m }) (record { answer = Some (next_number m); machine = created (next_number m) size align pattern m }) w (made e f)
+    go true e true f = numbered (leb limit (next_number m)) refl
+      where
+        numbered : (b : Bool) → leb limit (next_number m) ≡ b
+            → IsWellFormed limit order (if◌then◌else◌ {A = Step (Option ℕ)} b (record { answer = None; machine = m }) (record { answer = Some (next_number m); machine = created (next_number m) size align pattern m })).machine
+        numbered true above = w
+        numbered false below = made e f (leb-false limit (next_number m) below)
 
 -- the slabs of one cache given back
-gone_kept : (order : ℕ) (c : Cache) (m : Machine) → IsWellFormed order m → IsIn c m.caches → IsWellFormed order (destroyed c m)
+gone_kept : {limit : ℕ} (order : ℕ) (c : Cache) (m : Machine) → IsWellFormed limit order m → IsIn c m.caches → IsWellFormed limit order (destroyed c m)
 unfolding destroyed
-gone_kept order c m w i =
+gone_kept {limit} order c m w i =
     let f : Found (λ x. x.number) c m.caches = found (λ x. x.number) 0 c m.caches w.caches_rise i in
     well_formed order (destroyed c m) w.slots_rise w.blocks_rise
-    (filter_rises (λ x. x.number) (λ x. not (eqb x.number c.number)) 0 m.caches w.caches_rise) (each_filter IsCache (λ x. not (eqb x.number c.number)) m.caches w.caches)
+    (filter_rises (λ x. x.number) (λ x. not (eqb x.number c.number)) 0 m.caches w.caches_rise)
+    (each_filter (Numbered limit) (λ x. not (eqb x.number c.number)) m.caches w.numbered) (each_filter IsCache (λ x. not (eqb x.number c.number)) m.caches w.caches)
     (subst (λ ls. IsLaidOut order m.slots m.blocks ls (destroyed c m).bytes) (filter_laid (λ n. not (eqb n c.number)) m.caches)
     (subst (λ bs. IsLaidOut order m.slots m.blocks (filter (λ l. not (eqb l.number c.number)) (all_laid m.caches)) (zeroed bs m.bytes)) (ap (λ ls. map laid_block ls) (laid_of c m.caches f) ∙ sym (slab_blocks_laid c))
     (given_back order m.slots m.blocks (λ l. eqb l.number c.number) (all_laid m.caches) m.bytes (laid_out order m w))))
 
-pub destroy_kept : (order number : ℕ) (m : Machine) → IsWellFormed order m → IsWellFormed order (destroy_step number m).machine
+pub destroy_kept : {limit : ℕ} (order number : ℕ) (m : Machine) → IsWellFormed limit order m → IsWellFormed limit order (destroy_step number m).machine
 unfolding destroy_step
-destroy_kept order number m w = go (cache_of m number) refl
+destroy_kept {limit} order number m w = go (cache_of m number) refl
   where
-    go : (o : Option Cache) → cache_of m number ≡ o → IsWellFormed order (destroy_of m o).machine
+    go : (o : Option Cache) → cache_of m number ≡ o → IsWellFormed limit order (destroy_of m o).machine
     go None e = w
-    go (Some c) e = either (IsWellFormed order) (list_any (λ s. not (is_empty s)) c.slabs) (refuse DestroyRefusal.CacheInUse m) _ w (gone_kept order c m w (find_in (λ x. eqb x.number number) c m.caches e).0)
+    go (Some c) e = either (IsWellFormed limit order) (list_any (λ s. not (is_empty s)) c.slabs) (refuse DestroyRefusal.CacheInUse m) _ w (gone_kept order c m w (find_in (λ x. eqb x.number number) c m.caches e).0)

@@ -222,7 +222,7 @@ unfolding reaped
 reaped_slots m = refl
 
 pub room_is_promised : RoomIsPromised
-room_is_promised order k m w room = go (choice order m k) refl
+room_is_promised limit order k m w room = go (choice order m k) refl
   where
     left : (first : ℕ) × (choice order (reaped m) k ≡ Some first)
     left = room_chosen order k (reaped m) (subst (RisesFrom 0) (sym (reaped_slots m)) w.slots_rise) room.of_slot
@@ -234,8 +234,8 @@ room_is_promised order k m w room = go (choice order m k) refl
 
 pub alloc_is_promised : AllocIsPromised
 unfolding alloc_step
-alloc_is_promised order k m w room =
-    let is = room_is_promised order k m w room in (
+alloc_is_promised limit order k m w room =
+    let is = room_is_promised limit order k m w room in (
       is.0,
       ap (λ t. (if t then refuse AllocRefusal.BadOrder m else alloc_at k (by_need order k m) (choice_by_need order k m)).answer) (le-ltb order k room.of_slot)
           ∙ ap (λ o. (alloc_at k (by_need order k m) o).answer) is.1,
@@ -243,12 +243,12 @@ alloc_is_promised order k m w room =
 
 pub take_is_promised : TakeIsPromised
 unfolding take_step
-take_is_promised order number m c w is room = go (slab_to_use (find is_partial c.slabs) (find is_empty c.slabs)) refl
+take_is_promised limit order number m c w is room = go (slab_to_use (find is_partial c.slabs) (find is_empty c.slabs)) refl
   where
     go : (o : Option Slab) → slab_to_use (find is_partial c.slabs) (find is_empty c.slabs) ≡ o → (place : ℕ) × ((take_of order m (cache_of m number)).answer ≡ Ok place)
     go (Some s) used = (_, ap (λ c. (take_of order m c).answer) is ∙ ap (λ s. (take_from order c m s).answer) used)
     go None unused =
-        let first = room_is_promised order (layout c).order m w room in (
+        let first = room_is_promised limit order (layout c).order m w room in (
           _,
           ap (λ c. (take_of order m c).answer) is ∙ (ap (λ s. (take_from order c m s).answer) unused
               ∙ ap (λ o. (take_new c (by_need order (layout c).order m) o).answer) first.1),

@@ -22,7 +22,7 @@ unfolding grown
 grown_blocks first c m = refl
 
 pub growth_takes : GrowthTakes
-growth_takes order first c m w in_c e f =
+growth_takes limit order first c m w in_c e f =
     let b : Block = block first (layout c).order in
     let g : IsGrown first c m = grown_is order first c m w (contains_in m.caches c in_c) in
     let before : List Block = m.blocks ++ map laid_block g.xs in
@@ -84,7 +84,7 @@ taken_gone q (b ∷ bs) ls f (apart, rest) = go (eqb b.first f) refl (taken_gone
 
 pub reap_releases : ReapReleases
 unfolding reaped
-reap_releases order m w f =
+reap_releases limit order m w f =
     ap (λ bs. order_in bs f) (taken_laid (reaped m) ∙ ap (λ ls. m.blocks ++ map laid_block ls) (sym (kept_laid m.caches)))
     ∙ (taken_gone is_empty_laid m.blocks (all_laid m.caches) f (subst AreApart (taken_laid m) w.apart)
     ∙ (ap (λ bs. unless_gone (order_in bs f) (order_in (m.blocks ++ map laid_block (all_laid m.caches)) f)) (sym (gone_laid m.caches))

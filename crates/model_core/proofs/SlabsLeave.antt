@@ -15,7 +15,7 @@ use Rattle.model_core.specs.Operations.{refuse, alloc_at, alloc_step, free_at, f
 use Rattle.model_core.specs.CacheOperations.{created, next_number, create_step, cache_step, take_new, take_from, take_of, take_step, give_object, give_of, give_step, destroy_of, destroy_step, reap_step}
 use Rattle.model_core.specs.Runs.{Alloc, Free, Write, Create, Take, Give, Destroy, Reap, Grant, TakeBack, Reset, after}
 use Rattle.model_core.specs.WellFormed.{in_slab, IsWellFormed}
-use Rattle.model_core.specs.Laws.{SlabsLeaveZeroes}
+use Rattle.model_core.specs.ByteLaws.{SlabsLeaveZeroes}
 use Rattle.model_core.proofs.Lists.{IsIn, find_in, Found, found, any_append, any_map, any_split}
 use Rattle.model_core.proofs.ByNeed.{by_need_keeps}
 use Rattle.model_core.proofs.Laid.{Laid, laid, all_laid, laid_block, in_laid, in_slab_laid}
@@ -37,7 +37,7 @@ Left place m = in_slab m place ≡ false → m.bytes place ≡ Some 0
 still_left : (place : ℕ) (m : Machine) → Still place m → Left place m
 still_left place m h e = absurd (false≢true (sym e ∙ h))
 
-flagged_same : (order place : ℕ) (c : Cache) (s : Slab) (i : ℕ) (b : Bool) (m : Machine) → IsWellFormed order m → IsIn c m.caches → IsIn s c.slabs
+pub flagged_same : {limit : ℕ} (order place : ℕ) (c : Cache) (s : Slab) (i : ℕ) (b : Bool) (m : Machine) → IsWellFormed limit order m → IsIn c m.caches → IsIn s c.slabs
     → in_slab (with_cache (with_slab (with_live i b s) c) m) place ≡ in_slab m place
 flagged_same order place c s i b m w in_c in_s =
     let f : IsFlagged c s i b m = flagged order c s i b m w in_c in_s in
@@ -47,12 +47,12 @@ flagged_same order place c s i b m w in_c in_s =
     ∙ (sym (any_append (in_laid place) f.xs (laid c s ∷ f.ys))
     ∙ (ap (λ ls. list_any (in_laid place) ls) (sym f.was) ∙ sym (in_slab_laid m place)))))
 
-left_flagged : (order place : ℕ) (c : Cache) (s : Slab) (i : ℕ) (b : Bool) (m : Machine) → IsWellFormed order m → IsIn c m.caches → IsIn s c.slabs
+left_flagged : {limit : ℕ} (order place : ℕ) (c : Cache) (s : Slab) (i : ℕ) (b : Bool) (m : Machine) → IsWellFormed limit order m → IsIn c m.caches → IsIn s c.slabs
     → Left place m → Left place (with_cache (with_slab (with_live i b s) c) m)
 left_flagged order place c s i b m w in_c in_s h e = h (sym (flagged_same order place c s i b m w in_c in_s) ∙ e)
 
 -- a place outside slabs is not in the new one
-left_grown : (order place first : ℕ) (c : Cache) (m : Machine) → IsWellFormed order m → IsIn c m.caches → Left place m → Left place (grown first c m)
+left_grown : {limit : ℕ} (order place first : ℕ) (c : Cache) (m : Machine) → IsWellFormed limit order m → IsIn c m.caches → Left place m → Left place (grown first c m)
 left_grown order place first c m w in_c h e =
     let g : IsGrown first c m = grown_is order first c m w in_c in
     let new : Laid = laid c (new_slab c first) in
@@ -70,7 +70,7 @@ left_kept place q ls bytes h e = ap (λ b. if b then Some 0 else bytes place) (a
     gone true e = refl
     gone false e = e
 
-left_destroyed : (order place : ℕ) (c : Cache) (m : Machine) → IsWellFormed order m → IsIn c m.caches → Still place m → Left place (destroyed c m)
+left_destroyed : {limit : ℕ} (order place : ℕ) (c : Cache) (m : Machine) → IsWellFormed limit order m → IsIn c m.caches → Still place m → Left place (destroyed c m)
 unfolding destroyed
 left_destroyed order place c m w in_c h e =
     let f : Found (λ x. x.number) c m.caches = found (λ x. x.number) 0 c m.caches w.caches_rise in_c in
@@ -119,11 +119,11 @@ still_create limit size align place pattern m h =
     (either (Still place) (leb limit (next_number m)) (record { answer = None; machine = m }) (record { answer = Some (next_number m); machine = created (next_number m) size align pattern m }) h
     (in_slab_laid (created (next_number m) size align pattern m) place ∙ (ap (λ ls. list_any (in_laid place) ls) (created_laid (next_number m) size align pattern m) ∙ (sym (in_slab_laid m place) ∙ h)))))
 
-left_take : (order number place : ℕ) (m : Machine) → IsWellFormed order m → Still place m → Left place (take_step order number m).machine
+left_take : {limit : ℕ} (order number place : ℕ) (m : Machine) → IsWellFormed limit order m → Still place m → Left place (take_step order number m).machine
 unfolding take_step
-left_take order number place m w h = go (cache_of m number) refl
+left_take {limit} order number place m w h = go (cache_of m number) refl
   where
-    new : (c : Cache) (n : Machine) → IsWellFormed order n → IsIn c n.caches → Left place n → (o : Option ℕ) → choice order n (layout c).order ≡ o → Left place (take_new c n o).machine
+    new : (c : Cache) (n : Machine) → IsWellFormed limit order n → IsIn c n.caches → Left place n → (o : Option ℕ) → choice order n (layout c).order ≡ o → Left place (take_new c n o).machine
     new c n w in_c h None e = h
     new c n w in_c h (Some first) e =
         let g : IsGrown first c n = grown_is order first c n w in_c in
@@ -141,7 +141,7 @@ left_take order number place m w h = go (cache_of m number) refl
     go None e = still_left place m h
     go (Some c) e = slab c (find_in (λ x. eqb x.number number) c m.caches e).0 (slab_to_use (find is_partial c.slabs) (find is_empty c.slabs)) refl
 
-still_give : (order number begin place : ℕ) (m : Machine) → IsWellFormed order m → Still place m → Still place (give_step number begin m).machine
+still_give : {limit : ℕ} (order number begin place : ℕ) (m : Machine) → IsWellFormed limit order m → Still place m → Still place (give_step number begin m).machine
 unfolding give_step
 still_give order number begin place m w h = go (cache_of m number) refl
   where
@@ -153,7 +153,7 @@ still_give order number begin place m w h = go (cache_of m number) refl
     go None e = h
     go (Some c) e = object c (find_in (λ x. eqb x.number number) c m.caches e).0 (find (λ x. eqb x.place begin) (live_objects c)) refl
 
-left_destroy : (order number place : ℕ) (m : Machine) → IsWellFormed order m → Still place m → Left place (destroy_step number m).machine
+left_destroy : {limit : ℕ} (order number place : ℕ) (m : Machine) → IsWellFormed limit order m → Still place m → Left place (destroy_step number m).machine
 unfolding destroy_step
 left_destroy order number place m w h = go (cache_of m number) refl
   where

@@ -31,7 +31,7 @@ order_in_is (b ∷ bs) f k e = go (eqb b.first f) refl e (order_in_is bs f k)
     go false is e ih = inr (ih e)
 
 pub taken_sound : TakenSound
-taken_sound order m w = record {
+taken_sound limit order m w = record {
   placed = λ f k e. each_in (IsPlaced order m) (block f k) (taken_blocks m) w.placed (order_in_is (taken_blocks m) f k e);
   apart = λ f k g j x e d in_f in_g. ap (λ b. b.first) (one_holder (λ b. b) (taken_blocks m) (block f k) (block g j) x
       (subst AreApart (sym (map-id (taken_blocks m))) w.apart) (order_in_is (taken_blocks m) f k e) (order_in_is (taken_blocks m) g j d) in_f in_g);
@@ -53,9 +53,9 @@ with_block_takes b m h f =
 
 pub alloc_takes : AllocTakes
 unfolding alloc_step
-alloc_takes order k first m w e = go (ltb order k) (by_need order k m) (by_need_kept order k m w) (choice order (by_need order k m) k) refl e
+alloc_takes limit order k first m w e = go (ltb order k) (by_need order k m) (by_need_kept order k m w) (choice order (by_need order k m) k) refl e
   where
-    go : (t : Bool) (n : Machine) → IsWellFormed order n → (o : Option ℕ) → choice order n k ≡ o → (if t then refuse AllocRefusal.BadOrder m else alloc_at k n o).answer ≡ Ok first
+    go : (t : Bool) (n : Machine) → IsWellFormed limit order n → (o : Option ℕ) → choice order n k ≡ o → (if t then refuse AllocRefusal.BadOrder m else alloc_at k n o).answer ≡ Ok first
         → (f : ℕ) → taken_in (if t then refuse AllocRefusal.BadOrder m else alloc_at k n o).machine f ≡ with_taken (taken_in n) first k f
     go true n w o c e f = absurd (cc)
     go false n w None c e f = absurd (cc)
@@ -86,7 +86,7 @@ order_in_filter first (x ∷ xs) ys h f = go (eqb x.first first) refl (eqb x.fir
 
 pub free_releases : FreeReleases
 unfolding free_step
-free_releases order first k m w e = go (order_in m.blocks first) refl e
+free_releases limit order first k m w e = go (order_in m.blocks first) refl e
   where
     go : (o : Option ℕ) → order_in m.blocks first ≡ o → (free_at first m o).answer ≡ Some k → (f : ℕ) → taken_in (free_at first m o).machine f ≡ without_taken (taken_in m) first f
     go None is e f = absurd (cc)

@@ -21,7 +21,7 @@ keeps_well_formed limit order Grant m can w = grant_kept order m w
 keeps_well_formed limit order (TakeBack slot) m can w = take_back_kept order slot m w
 keeps_well_formed limit order Reset m can w = empty_kept order
 
-pub run_kept : (limit order : ℕ) (operations : List Operation) (m : Machine) → ArePossible operations → IsWellFormed order m → IsWellFormed order (run limit order operations m)
+pub run_kept : (limit order : ℕ) (operations : List Operation) (m : Machine) → ArePossible operations → IsWellFormed limit order m → IsWellFormed limit order (run limit order operations m)
 run_kept limit order [] m can w = w
 run_kept limit order (operation ∷ operations) m (first, rest) w = run_kept limit order operations (after limit order operation m) rest (keeps_well_formed limit order operation m first w)
 

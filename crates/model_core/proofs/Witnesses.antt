@@ -1,127 +1,182 @@
--- For each law a run of a few operations in which its premises hold and it says something: slots of 8 frames.
-use Rattle.std.proofs.Common.{◌≡◌, ◌<◌, ◌≤◌, true, false, List, [], ◌∷◌, Some, None, replicate, ap, refl, arith}
+-- For each law of the machine an instance: its premises, met by a machine of a few operations. All have slots of order 3, of 8
+-- frames.
+use Rattle.std.proofs.Common.{◌≡◌, ℕ, ◌<◌, ◌/◌, Bool, true, false, List, [], ◌∷◌, ◌++◌, Some, None, Ok, refl, arith}
+use Rattle.std.specs.Prelude.{◌==◌, ◌||◌, if◌then◌else◌}
+use Rattle.std.proofs.lemmas.Bool.{eqb-true}
 use Rattle.model_core.specs.declared.limits.TheConstants.{MOST_CACHES}
-use Rattle.model_core.specs.Blocks.{block, IsAligned}
-use Rattle.model_core.specs.Layouts.{layout_of, IsLayout}
-use Rattle.model_core.specs.Machine.{Slab, Cache, Machine, empty_machine, holds, taken_blocks, taken_in, choice}
-use Rattle.model_core.specs.Slabs.{fresh_byte, grown_cache, grown, slab_to_use, reaped, by_need}
-use Rattle.model_core.specs.Reach.{in_reach}
-use Rattle.model_core.specs.Operations.{alloc_step, free_step, next_slot, after_grant}
-use Rattle.model_core.specs.CacheOperations.{create_step, cache_step, next_number, take_step, give_step, reap_step}
-use Rattle.model_core.specs.Runs.{Operation, Alloc, Create, Take, Give, Reap, Grant, after, run}
+use Rattle.model_core.specs.declared.refusals.AllocRefusal.{AllocRefusal}
+use Rattle.model_core.specs.declared.refusals.TakeRefusal.{TakeRefusal}
+use Rattle.model_core.specs.Blocks.{block, HasFrame, IsAligned, Taken, IsTaken, IsSound}
+use Rattle.model_core.specs.Layouts.{layout_of, IsLayout, LayoutsFit}
+use Rattle.model_core.specs.Machine.{Cache, Machine, empty_machine, holds, taken_blocks, taken_in, choice}
+use Rattle.model_core.specs.Slabs.{new_slab, grown_cache, grown, slab_to_use, reaped, by_need, choice_by_need}
+use Rattle.model_core.specs.Operations.{refuse, with_block, alloc_step, free_step, next_slot, after_grant}
+use Rattle.model_core.specs.CacheOperations.{create_step, cache_step, next_number, hand_out, take_step, give_step}
+use Rattle.model_core.specs.Runs.{Operation, Alloc, Create, Take, Give, Grant, ArePossible, after, run}
 use Rattle.model_core.specs.WellFormed.{IsApart, IsWellFormed}
-use Rattle.model_core.specs.Laws.{Object, IsObject, HasByte}
-use Rattle.model_core.proofs.Layouts.{layouts_fit}
+use Rattle.model_core.specs.Laws.{ChoiceIsUntaken, ChoicesMeet, AllocReaps, TakeReaps, RefusalsStay, KeepsWellFormed, RunsWellFormed, TakenApart, TakenSound, AllocTakes, FreeReleases, GrowthTakes, ReapReleases}
+use Rattle.model_core.specs.Room.{IsAmple, RoomIsPromised, AllocIsPromised, TakeIsPromised}
+use Rattle.model_core.proofs.Choosing.{choice_is_found}
 use Rattle.model_core.proofs.WellFormedRuns.{runs_well_formed}
-use Rattle.model_core.proofs.ObjectsApart.{taken_apart, objects_apart, records_free}
-use Rattle.model_core.proofs.TakenSteps.{taken_sound, alloc_takes, free_releases}
-use Rattle.model_core.proofs.ConstructedRuns.{constructed_first}
-use Rattle.model_core.proofs.BytesStay.{writes_alone}
-use Rattle.model_core.proofs.SlabsLeave.{slabs_leave_zeroes}
 
--- a layout with several colour offsets
-a_layout : IsLayout 200 8 (layout_of 200 8)
-a_layout = layouts_fit 200 8 refl refl
+abbrev pub left_by : List Operation → Machine
+left_by operations = run MOST_CACHES 3 operations empty_machine
 
--- A page block beside a slab whose first object is live
+pub well_formed_left : (operations : List Operation) → ArePossible operations → IsWellFormed MOST_CACHES 3 (left_by operations)
+well_formed_left operations can = runs_well_formed MOST_CACHES 3 operations can
 
-abbrev slab_and_page : List Operation
+-- Frame 0 is a slab with a live object, frame 1 a page block.
+
+abbrev pub slab_and_page : List Operation
 slab_and_page = Grant ∷ Create 100 8 (90 ∷ []) ∷ Take 0 ∷ Alloc 0 ∷ []
 
-abbrev machine : Machine
-machine = run MOST_CACHES 3 slab_and_page empty_machine
+abbrev pub machine : Machine
+machine = left_by slab_and_page
 
-is_well_formed : IsWellFormed 3 machine
-is_well_formed = runs_well_formed MOST_CACHES 3 slab_and_page (tt, (refl, (tt, (tt, tt))))
+pub is_well_formed : IsWellFormed MOST_CACHES 3 machine
+is_well_formed = well_formed_left slab_and_page (tt, (refl, (tt, (tt, tt))))
 
-two_taken : taken_blocks machine ≡ block 1 0 ∷ block 0 0 ∷ []
+-- Frame 0 is an empty slab; there are caches whose slabs have order 3 and order 2 too, without a slab.
+
+abbrev pub slab_given_back : List Operation
+slab_given_back = Grant ∷ Create 100 8 (90 ∷ []) ∷ Take 0 ∷ Give 0 0 ∷ Create 2736 8 (7 ∷ []) ∷ Create 3000 8 (8 ∷ []) ∷ []
+
+abbrev pub emptied : Machine
+emptied = left_by slab_given_back
+
+pub emptied_well_formed : IsWellFormed MOST_CACHES 3 emptied
+emptied_well_formed = well_formed_left slab_given_back (tt, (refl, (tt, (tt, (refl, (refl, tt))))))
+
+-- .. and with its object live
+abbrev pub crowded : Machine
+crowded = left_by (slab_given_back ++ Take 0 ∷ [])
+
+pub crowded_well_formed : IsWellFormed MOST_CACHES 3 crowded
+crowded_well_formed = well_formed_left (slab_given_back ++ Take 0 ∷ []) (tt, (refl, (tt, (tt, (refl, (refl, (tt, tt)))))))
+
+abbrev cache_of_order_3 : Cache
+cache_of_order_3 = record { number = 1; size = 2736; align = 8; pattern = 7 ∷ []; made = 0; slabs = [] }
+
+abbrev cache_of_order_2 : Cache
+cache_of_order_2 = record { number = 2; size = 3000; align = 8; pattern = 8 ∷ []; made = 0; slabs = [] }
+
+-- a layout with several colour offsets
+LayoutsFit-met : LayoutsFit → IsLayout 200 8 (layout_of 200 8)
+LayoutsFit-met law = law 200 8 refl refl
+
+ChoiceIsUntaken-met : ChoiceIsUntaken
+    → IsAligned 3 (block 2 1) × ((x : ℕ) → HasFrame (block 2 1) x → (holds machine (x / 8) ≡ true) × (IsTaken (taken_in machine) x → ⊥))
 unfolding layout_of alloc_step cache_step create_step next_number take_step grown_cache grown slab_to_use by_need reaped choice taken_blocks empty_machine next_slot after_grant
-two_taken = refl
+ChoiceIsUntaken-met law = law 3 1 2 machine refl
 
--- the blocks of 1 frame at 1 and at 0
-they_are_apart : IsApart (block 1 0) (block 0 0)
+-- another account of what the machine holds and has taken
+abbrev frames_0_and_1 : Taken
+frames_0_and_1 f = if 1 == f then Some 0 else if 0 == f then Some 0 else None
+
+abbrev slot_0 : ℕ → Bool
+slot_0 u = 0 == u
+
+slot_0_below : (u : ℕ) → slot_0 u ≡ true → u < 1
+slot_0_below u e = omega (arith, eqb-true 0 u e)
+
+same_slots : (u : ℕ) → holds machine u ≡ slot_0 u
 unfolding layout_of alloc_step cache_step create_step next_number take_step grown_cache grown slab_to_use by_need reaped choice taken_blocks empty_machine next_slot after_grant
-they_are_apart = taken_apart 3 machine is_well_formed 0 1 (block 0 0) (omega arith) (omega arith)
+same_slots u = or_false (0 == u)
+  where
+    or_false : (b : Bool) → (b || false) ≡ b
+    or_false true = refl
+    or_false false = refl
 
--- the next block is apart from both
-a_choice : choice 3 machine 1 ≡ Some 2
+same_taken : (f : ℕ) → taken_in machine f ≡ frames_0_and_1 f
 unfolding layout_of alloc_step cache_step create_step next_number take_step grown_cache grown slab_to_use by_need reaped choice taken_blocks empty_machine next_slot after_grant
-a_choice = refl
+same_taken f = refl
 
--- the slab's block is aligned and lies in a held slot
-it_is_placed : IsAligned 3 (block 0 0) × (holds machine 0 ≡ true)
+ChoicesMeet-met : ChoicesMeet → (choice 3 machine 1 ≡ Some 2) × (choice 3 machine 3 ≡ None)
+ChoicesMeet-met law = (
+  (law 3 1 slot_0 frames_0_and_1 machine same_slots same_taken).0 2 1 (choice_is_found 3 slot_0 frames_0_and_1 1 1 slot_0_below),
+  (law 3 3 slot_0 frames_0_and_1 machine same_slots same_taken).1 (choice_is_found 3 slot_0 frames_0_and_1 1 3 slot_0_below),
+)
+
+-- Reaping by need
+
+AllocReaps-met : AllocReaps
+    → (alloc_step 3 2 emptied ≡ record { answer = Ok 4; machine = with_block (block 4 2) emptied })
+    × (alloc_step 3 3 emptied ≡ record { answer = Ok 0; machine = with_block (block 0 3) (reaped emptied) })
+    × (alloc_step 3 3 crowded ≡ refuse AllocRefusal.NoFrames crowded)
+unfolding layout_of cache_step create_step next_number take_step give_step grown_cache grown slab_to_use by_need reaped choice taken_blocks empty_machine next_slot after_grant
+AllocReaps-met law = (
+  (law 3 2 emptied (omega arith)).found 4 refl,
+  (law 3 3 emptied (omega arith)).reaps 0 refl refl,
+  (law 3 3 crowded (omega arith)).stays refl refl,
+)
+
+TakeReaps-met : TakeReaps
+    → (take_step 3 2 emptied ≡ hand_out (grown_cache 4 cache_of_order_2) (new_slab cache_of_order_2 4) (grown 4 cache_of_order_2 emptied))
+    × (take_step 3 1 emptied ≡ hand_out (grown_cache 0 cache_of_order_3) (new_slab cache_of_order_3 0) (grown 0 cache_of_order_3 (reaped emptied)))
+    × (take_step 3 1 crowded ≡ refuse TakeRefusal.NoFrames crowded)
+unfolding layout_of cache_step create_step next_number take_step give_step grown_cache grown slab_to_use by_need reaped choice taken_blocks empty_machine next_slot after_grant
+TakeReaps-met law = (
+  (law 3 2 emptied cache_of_order_2 refl refl).found 4 refl,
+  (law 3 1 emptied cache_of_order_3 refl refl).reaps 0 refl refl,
+  (law 3 1 crowded cache_of_order_3 refl refl).stays refl refl,
+)
+
+RefusalsStay-met : RefusalsStay → ((alloc_step 3 3 crowded).machine ≡ crowded) × ((take_step 3 1 crowded).machine ≡ crowded)
+unfolding layout_of alloc_step cache_step create_step next_number take_step give_step grown_cache grown slab_to_use by_need reaped choice taken_blocks empty_machine next_slot after_grant
+RefusalsStay-met law = ((law 3 3 crowded).0, (law 3 1 crowded).1)
+
+-- Well formed machines
+
+KeepsWellFormed-met : KeepsWellFormed → IsWellFormed MOST_CACHES 3 (after MOST_CACHES 3 (Create 64 16 (1 ∷ 2 ∷ [])) machine)
+KeepsWellFormed-met law = law MOST_CACHES 3 (Create 64 16 (1 ∷ 2 ∷ [])) machine refl is_well_formed
+
+RunsWellFormed-met : RunsWellFormed → IsWellFormed MOST_CACHES 3 machine
+RunsWellFormed-met law = law MOST_CACHES 3 slab_and_page (tt, (refl, (tt, (tt, tt))))
+
+-- Taken blocks: the page block at frame 1, the slab at frame 0
+
+TakenApart-met : TakenApart → IsApart (block 1 0) (block 0 0)
 unfolding layout_of alloc_step cache_step create_step next_number take_step grown_cache grown slab_to_use by_need reaped choice taken_blocks empty_machine next_slot after_grant
-it_is_placed = (taken_sound 3 machine is_well_formed).placed 0 0 refl
+TakenApart-met law = law MOST_CACHES 3 machine is_well_formed 0 1 (block 0 0) (omega arith) (omega arith)
 
--- one more block is taken, then one fewer
-one_more : taken_in (alloc_step 3 1 machine).machine 2 ≡ Some 1
-unfolding layout_of alloc_step cache_step create_step next_number take_step grown_cache grown slab_to_use by_need reaped choice taken_blocks empty_machine next_slot after_grant
-one_more = alloc_takes 3 1 2 machine is_well_formed refl 2
+TakenSound-met : TakenSound → IsSound 3 (holds machine) (taken_in machine)
+TakenSound-met law = law MOST_CACHES 3 machine is_well_formed
 
-one_fewer : taken_in (free_step 1 machine).machine 1 ≡ None
+-- a block that is found, and one that is found once the slab is given back
+AllocTakes-met : AllocTakes → (taken_in (alloc_step 3 1 machine).machine 2 ≡ Some 1) × (taken_in (alloc_step 3 3 emptied).machine 0 ≡ Some 3)
+unfolding layout_of alloc_step cache_step create_step next_number take_step give_step grown_cache grown slab_to_use by_need reaped choice taken_blocks empty_machine next_slot after_grant
+AllocTakes-met law = (law MOST_CACHES 3 1 2 machine is_well_formed refl 2, law MOST_CACHES 3 3 0 emptied emptied_well_formed refl 0)
+
+FreeReleases-met : FreeReleases → (taken_in (free_step 1 machine).machine 1 ≡ None) × (taken_in (free_step 1 machine).machine 0 ≡ Some 0)
 unfolding layout_of alloc_step free_step cache_step create_step next_number take_step grown_cache grown slab_to_use by_need reaped choice taken_blocks empty_machine next_slot after_grant
-one_fewer = free_releases 3 1 0 machine is_well_formed refl 1
+FreeReleases-met law = (law MOST_CACHES 3 1 0 machine is_well_formed refl 1, law MOST_CACHES 3 1 0 machine is_well_formed refl 0)
 
--- what lies between two objects has no byte
-slack : machine.bytes 100 ≡ None
-unfolding layout_of alloc_step cache_step create_step next_number take_step grown_cache grown slab_to_use fresh_byte by_need reaped choice taken_blocks empty_machine next_slot after_grant
-slack = refl
+GrowthTakes-met : GrowthTakes → (taken_in (grown 4 cache_of_order_2 emptied) 4 ≡ Some 2) × (taken_in (grown 4 cache_of_order_2 emptied) 0 ≡ Some 0)
+unfolding layout_of cache_step create_step next_number take_step give_step grown_cache grown slab_to_use by_need reaped choice taken_blocks empty_machine next_slot after_grant
+GrowthTakes-met law = (
+  law MOST_CACHES 3 4 cache_of_order_2 emptied emptied_well_formed (2, omega arith, refl) refl 4,
+  law MOST_CACHES 3 4 cache_of_order_2 emptied emptied_well_formed (2, omega arith, refl) refl 0,
+)
 
--- The second object of the slab, which no take has answered
+ReapReleases-met : ReapReleases → (taken_in emptied 0 ≡ Some 0) × (taken_in (reaped emptied) 0 ≡ None) × (taken_in (reaped machine) 0 ≡ Some 0)
+unfolding layout_of alloc_step cache_step create_step next_number take_step give_step grown_cache grown slab_to_use by_need reaped choice taken_blocks empty_machine next_slot after_grant
+ReapReleases-met law = (refl, law MOST_CACHES 3 emptied emptied_well_formed 0, law MOST_CACHES 3 machine is_well_formed 0)
 
-abbrev the_slab : Slab
-the_slab = record { first = 0; colour = 0; live = true ∷ replicate 38 false }
+-- Room
 
-abbrev the_cache : Cache
-the_cache = record { number = 0; size = 100; align = 8; pattern = 90 ∷ []; made = 1; slabs = the_slab ∷ [] }
+-- two frames are taken, so the slot has room for a block of order 1: it has four of them
+RoomIsPromised-met : RoomIsPromised → (first : ℕ) × (choice_by_need 3 1 machine ≡ Some first)
+unfolding layout_of alloc_step cache_step create_step next_number take_step grown_cache grown slab_to_use by_need reaped choice taken_blocks empty_machine next_slot after_grant
+RoomIsPromised-met law = law MOST_CACHES 3 1 machine is_well_formed (record { of_slot = omega arith; fewer = omega arith })
 
-abbrev second_object : Object
-second_object = record { cache = the_cache; slab = the_slab; index = 1 }
+-- the frame of an empty slab is not counted
+all_of_slot : IsAmple 3 3 emptied
+unfolding layout_of cache_step create_step next_number take_step give_step grown_cache grown slab_to_use by_need reaped choice taken_blocks empty_machine next_slot after_grant
+all_of_slot = record { of_slot = omega arith; fewer = omega arith }
 
-it_is_there : IsObject machine second_object
-unfolding layout_of alloc_step cache_step create_step next_number take_step grown_cache grown slab_to_use fresh_byte by_need reaped choice taken_blocks empty_machine next_slot after_grant
-it_is_there = record { cache_in = (0, omega arith, refl); slab_in = (0, omega arith, refl); index_in = omega arith }
+AllocIsPromised-met : AllocIsPromised → (first : ℕ) × ((alloc_step 3 3 emptied).answer ≡ Ok first)
+AllocIsPromised-met law = law MOST_CACHES 3 3 emptied emptied_well_formed all_of_slot
 
-its_bytes : HasByte second_object 203
-unfolding layout_of
-its_bytes = (omega arith, omega arith)
-
-abbrev first_object : Object
-first_object = record { cache = the_cache; slab = the_slab; index = 0 }
-
-it_is_there_too : IsObject machine first_object
-unfolding layout_of alloc_step cache_step create_step next_number take_step grown_cache grown slab_to_use fresh_byte by_need reaped choice taken_blocks empty_machine next_slot after_grant
-it_is_there_too = record { cache_in = (0, omega arith, refl); slab_in = (0, omega arith, refl); index_in = omega arith }
-
-not_the_first : HasByte first_object 203 → ⊥
-not_the_first h = let one : first_object ≡ second_object = objects_apart 3 machine is_well_formed first_object second_object it_is_there_too it_is_there 203 h its_bytes in
-    absurd (omega (arith, ap (λ o. o.index) one))
-
-below_the_record : (0 ≤ 203) × (203 < 4064)
-unfolding layout_of
-below_the_record = records_free 3 machine is_well_formed second_object it_is_there refl 203 its_bytes
-
-it_is_constructed : machine.bytes 110 ≡ Some 90
-unfolding layout_of alloc_step cache_step create_step next_number take_step grown_cache grown slab_to_use fresh_byte by_need reaped choice taken_blocks empty_machine next_slot after_grant
-it_is_constructed = constructed_first MOST_CACHES 3 (Grant ∷ Create 100 8 (90 ∷ []) ∷ []) (Take 0 ∷ Alloc 0 ∷ []) second_object 6 (tt, (refl, (tt, (tt, tt)))) refl ((λ e. absurd (cc)), ((λ e. absurd (cc)), tt)) it_is_there (omega arith)
-
--- the first object's first byte stays, though a slab of another cache is made
-abbrev two_caches : List Operation
-two_caches = Grant ∷ Create 100 8 (90 ∷ []) ∷ Take 0 ∷ Create 3000 8 (7 ∷ []) ∷ []
-
-a_slab_is_made : taken_blocks (after MOST_CACHES 3 (Take 1) (run MOST_CACHES 3 two_caches empty_machine)) ≡ block 0 0 ∷ block 4 2 ∷ []
-unfolding layout_of cache_step create_step next_number take_step grown_cache grown slab_to_use by_need reaped choice taken_blocks empty_machine next_slot after_grant
-a_slab_is_made = refl
-
-it_stays : (after MOST_CACHES 3 (Take 1) (run MOST_CACHES 3 two_caches empty_machine)).bytes 0 ≡ (run MOST_CACHES 3 two_caches empty_machine).bytes 0
-unfolding layout_of cache_step create_step next_number take_step grown_cache grown slab_to_use fresh_byte by_need reaped choice taken_blocks empty_machine next_slot after_grant in_reach
-it_stays = writes_alone MOST_CACHES 3 (Take 1) (run MOST_CACHES 3 two_caches empty_machine) 0 (runs_well_formed MOST_CACHES 3 two_caches (tt, (refl, (tt, (refl, tt))))) refl refl refl
-
--- The slab given back
-
-abbrev given : List Operation
-given = Grant ∷ Create 100 8 (90 ∷ []) ∷ Take 0 ∷ Give 0 0 ∷ []
-
-it_is_zero : (after MOST_CACHES 3 Reap (run MOST_CACHES 3 given empty_machine)).bytes 110 ≡ Some 0
-unfolding layout_of alloc_step cache_step create_step next_number take_step grown_cache grown slab_to_use fresh_byte by_need choice taken_blocks empty_machine next_slot after_grant give_step reap_step reaped
-it_is_zero = slabs_leave_zeroes MOST_CACHES 3 Reap (run MOST_CACHES 3 given empty_machine) 110 (runs_well_formed MOST_CACHES 3 given (tt, (refl, (tt, (tt, tt))))) refl refl refl
+TakeIsPromised-met : TakeIsPromised → (place : ℕ) × ((take_step 3 1 emptied).answer ≡ Ok place)
+unfolding layout_of cache_step create_step next_number take_step give_step grown_cache grown slab_to_use by_need reaped choice taken_blocks empty_machine next_slot after_grant
+TakeIsPromised-met law = law MOST_CACHES 3 1 emptied cache_of_order_3 emptied_well_formed refl all_of_slot

@@ -1,17 +1,17 @@
 -- The laws of the machine. Each is the contract of a function of the module `laws`.
-use Rattle.std.specs.Prelude.{◌≡◌, ℕ, ◌+◌, ◌*◌, ◌/◌, ◌^◌, ◌<◌, ◌≤◌, Bool, true, false, List, [], ◌∷◌, ◌++◌, length, Option, Some, None, Ok, OnErr, is_some, if◌then◌else◌, find, flat_map, ◌≢◌, Contains, AllPairs, nat_le, nat_lt, ◌&&◌, ⊤}
+use Rattle.std.specs.Prelude.{◌≡◌, ℕ, ◌+◌, ◌*◌, ◌/◌, ◌^◌, ◌<◌, ◌≤◌, Bool, true, false, List, [], ◌∷◌, ◌++◌, Option, Some, None, Ok, OnErr, option_map, option_and_then, is_some, if◌then◌else◌, find, flat_map, Contains, AllPairs, ◌==◌}
+use Rattle.std.specs.Option.{option_map_or}
+use Rattle.std.specs.Result.{result_ok}
 use Rattle.model_core.specs.declared.refusals.AllocRefusal.{AllocRefusal}
 use Rattle.model_core.specs.declared.refusals.TakeRefusal.{TakeRefusal}
-use Rattle.model_core.specs.Blocks.{block, HasFrame, IsAligned, Taken, with_taken, without_taken, IsTaken, IsChoice, IsWithout, IsSound}
+use Rattle.model_core.specs.Blocks.{Block, block, HasFrame, IsAligned, Taken, with_taken, without_taken, IsTaken, IsChoice, IsWithout, IsSound}
 use Rattle.model_core.specs.Layouts.{is_small, object_place, pattern_byte}
-use Rattle.model_core.specs.Machine.{Slab, Cache, Machine, empty_machine, holds, slot_of, layout, taken_blocks, order_in, taken_in, choice}
-use Rattle.model_core.specs.Slabs.{is_partial, is_empty, cache_of, new_slab, grown_cache, grown, slab_to_use, empty_blocks, reaped, by_need}
-use Rattle.model_core.specs.Reach.{in_reach}
+use Rattle.model_core.specs.Machine.{Slab, Cache, Machine, empty_machine, holds, in_block, layout, taken_blocks, order_in, taken_in, choice}
+use Rattle.model_core.specs.Slabs.{is_partial, is_empty, cache_of, new_slab, grown_cache, grown, slab_to_use, empty_blocks, reaped, by_need, choice_by_need}
 use Rattle.model_core.specs.Operations.{Step, refuse, with_block, alloc_step, free_step}
 use Rattle.model_core.specs.CacheOperations.{hand_out, take_step}
-use Rattle.std.specs.Result.{result_ok}
 use Rattle.model_core.specs.Runs.{Operation, Alloc, Free, Write, Create, Take, Give, Destroy, Reap, Grant, TakeBack, Reset, IsPossible, ArePossible, after, run}
-use Rattle.model_core.specs.WellFormed.{IsApart, in_slab, IsWellFormed}
+use Rattle.model_core.specs.WellFormed.{IsApart, IsWellFormed}
 
 -- the block that a request gets is aligned, and all its frames lie in held slots and are not taken
 abbrev pub ChoiceIsUntaken : Type 0
@@ -51,38 +51,41 @@ RefusalsStay = (order n : ℕ) (m : Machine)
 
 -- each operation that can be asked for keeps a machine well formed ..
 abbrev pub KeepsWellFormed : Type 0
-KeepsWellFormed = (limit order : ℕ) (operation : Operation) (m : Machine) → IsPossible operation → IsWellFormed order m → IsWellFormed order (after limit order operation m)
+KeepsWellFormed = (limit order : ℕ) (operation : Operation) (m : Machine) → IsPossible operation
+    → IsWellFormed limit order m → IsWellFormed limit order (after limit order operation m)
 
 -- .. so every machine that a list of them leaves is
 abbrev pub RunsWellFormed : Type 0
-RunsWellFormed = (limit order : ℕ) (operations : List Operation) → ArePossible operations → IsWellFormed order (run limit order operations empty_machine)
+RunsWellFormed = (limit order : ℕ) (operations : List Operation) → ArePossible operations
+    → IsWellFormed limit order (run limit order operations empty_machine)
 
 -- no two taken blocks share a frame
 abbrev pub TakenApart : Type 0
-TakenApart = (order : ℕ) (m : Machine) → IsWellFormed order m → AllPairs IsApart (taken_blocks m)
+TakenApart = (limit order : ℕ) (m : Machine) → IsWellFormed limit order m → AllPairs IsApart (taken_blocks m)
 
 -- the taken blocks of a well formed machine are aligned, in held slots and apart, as the laws of blocks want them
 abbrev pub TakenSound : Type 0
-TakenSound = (order : ℕ) (m : Machine) → IsWellFormed order m → IsSound order (holds m) (taken_in m)
+TakenSound = (limit order : ℕ) (m : Machine) → IsWellFormed limit order m → IsSound order (holds m) (taken_in m)
 
 -- a page block that is taken is one more taken block, after what is given back by need ..
 abbrev pub AllocTakes : Type 0
-AllocTakes = (order k first : ℕ) (m : Machine) → IsWellFormed order m → (alloc_step order k m).answer ≡ Ok first
+AllocTakes = (limit order k first : ℕ) (m : Machine) → IsWellFormed limit order m → (alloc_step order k m).answer ≡ Ok first
     → (f : ℕ) → taken_in (alloc_step order k m).machine f ≡ with_taken (taken_in (by_need order k m)) first k f
 
 -- .. one that is released is one fewer ..
 abbrev pub FreeReleases : Type 0
-FreeReleases = (order first k : ℕ) (m : Machine) → IsWellFormed order m → (free_step first m).answer ≡ Some k
+FreeReleases = (limit order first k : ℕ) (m : Machine) → IsWellFormed limit order m → (free_step first m).answer ≡ Some k
     → (f : ℕ) → taken_in (free_step first m).machine f ≡ without_taken (taken_in m) first f
 
 -- .. the block of a slab that is made is one more ..
 abbrev pub GrowthTakes : Type 0
-GrowthTakes = (order first : ℕ) (c : Cache) (m : Machine) → IsWellFormed order m → Contains m.caches c → choice order m (layout c).order ≡ Some first
+GrowthTakes = (limit order first : ℕ) (c : Cache) (m : Machine) → IsWellFormed limit order m
+    → Contains m.caches c → choice order m (layout c).order ≡ Some first
     → (f : ℕ) → taken_in (grown first c m) f ≡ with_taken (taken_in m) first (layout c).order f
 
 -- .. and those of the empty slabs that are given back are fewer
 abbrev pub ReapReleases : Type 0
-ReapReleases = (order : ℕ) (m : Machine) → IsWellFormed order m
+ReapReleases = (limit order : ℕ) (m : Machine) → IsWellFormed limit order m
     → (f : ℕ) → taken_in (reaped m) f ≡ (if is_some (order_in (flat_map empty_blocks m.caches) f) then None else taken_in m f)
 
 -- an object, live or not
@@ -107,12 +110,13 @@ HasByte object place = (place_of object ≤ place) × (place < place_of object +
 
 -- two objects that share a byte are one
 abbrev pub ObjectsApart : Type 0
-ObjectsApart = (order : ℕ) (m : Machine) → IsWellFormed order m → (a b : Object) → IsObject m a → IsObject m b
+ObjectsApart = (limit order : ℕ) (m : Machine) → IsWellFormed limit order m → (a b : Object) → IsObject m a → IsObject m b
     → (place : ℕ) → HasByte a place → HasByte b place → a ≡ b
 
 -- the objects of a small slab lie in its frame, below the last 32 bytes
 abbrev pub RecordsFree : Type 0
-RecordsFree = (order : ℕ) (m : Machine) → IsWellFormed order m → (object : Object) → IsObject m object → is_small (layout object.cache).chunk ≡ true
+RecordsFree = (limit order : ℕ) (m : Machine) → IsWellFormed limit order m → (object : Object) → IsObject m object
+    → is_small (layout object.cache).chunk ≡ true
     → (place : ℕ) → HasByte object place → (4096 * object.slab.first ≤ place) × (place < 4096 * object.slab.first + 4064)
 
 -- the place that a take answers
@@ -129,47 +133,54 @@ taken_place order Grant m = None
 taken_place order (TakeBack slot) m = None
 taken_place order Reset m = None
 
--- no take of the list answers this place
-abbrev pub NeverTaken : ℕ → ℕ → ℕ → List Operation → Machine → Type 0
-NeverTaken limit order place [] m = ⊤
-NeverTaken limit order place (operation ∷ operations) m =
-    (taken_place order operation m ≢ Some place) × NeverTaken limit order place operations (after limit order operation m)
+-- the block of the slab that the cache makes for a take: it makes one where none of its slabs is partial or empty and a block is
+-- found by need
+abbrev pub block_of_growth : ℕ → Machine → Cache → Option Block
+block_of_growth order m c =
+    if is_some (slab_to_use (find is_partial c.slabs) (find is_empty c.slabs)) then None
+    else option_map (λ first. block first (layout c).order) (choice_by_need order (layout c).order m)
 
--- Since a time at which the place was in no slab (so since before its slab was made) no take has answered it: an
--- object that begins there reads as its cache's pattern. So it does when it is first handed out.
+-- the block of the slab that an operation makes, if it makes one
+abbrev pub made_block : ℕ → Operation → Machine → Option Block
+made_block order (Alloc k) m = None
+made_block order (Free first) m = None
+made_block order (Write place new) m = None
+made_block order (Create size align pattern) m = None
+made_block order (Take number) m = option_and_then (block_of_growth order m) (cache_of m number)
+made_block order (Give number place) m = None
+made_block order (Destroy number) m = None
+made_block order Reap m = None
+made_block order Grant m = None
+made_block order (TakeBack slot) m = None
+made_block order Reset m = None
+
+-- the operation makes a slab that has the place
+abbrev pub makes_slab_at : ℕ → Operation → Machine → ℕ → Bool
+makes_slab_at order operation m place = option_map_or (in_block place) (made_block order operation m) false
+
+-- it hands out the object that begins at the place
+abbrev pub hands_out : ℕ → Operation → Machine → ℕ → Bool
+hands_out order operation m place = option_map_or (λ p. p == place) (taken_place order operation m) false
+
+-- How often the object that begins at a place has been handed out since its slab was made: n times before the operations, which
+-- begin at the machine m. Where they make a slab that has the place the count begins anew, each take that answers the place adds
+-- one.
+abbrev pub hand_outs : ℕ → ℕ → ℕ → List Operation → Machine → ℕ → ℕ
+hand_outs limit order place [] m n = n
+hand_outs limit order place (operation ∷ operations) m n = hand_outs limit order place operations (after limit order operation m)
+    ((if makes_slab_at order operation m place then 0 else n) + (if hands_out order operation m place then 1 else 0))
+
+-- An object that was not handed out since its slab was made reads as its cache's pattern, whatever was done ..
 abbrev pub ConstructedFirst : Type 0
-ConstructedFirst = (limit order : ℕ) (before since : List Operation) (object : Object) (j : ℕ) → ArePossible (before ++ since)
-    → in_slab (run limit order before empty_machine) (place_of object) ≡ false
-    → NeverTaken limit order (place_of object) since (run limit order before empty_machine)
-    → IsObject (run limit order (before ++ since) empty_machine) object → j < object.cache.size
-    → (run limit order (before ++ since) empty_machine).bytes (place_of object + j) ≡ Some (pattern_byte object.cache.pattern j)
+ConstructedFirst = (limit order : ℕ) (operations : List Operation) (object : Object) (j : ℕ) → ArePossible operations
+    → let m = run limit order operations empty_machine in IsObject m object → j < object.cache.size
+    → hand_outs limit order (place_of object) operations empty_machine 0 ≡ 0
+    → m.bytes (place_of object + j) ≡ Some (pattern_byte object.cache.pattern j)
 
--- a place whose slab is given back reads as zero
-abbrev pub SlabsLeaveZeroes : Type 0
-SlabsLeaveZeroes = (limit order : ℕ) (operation : Operation) (m : Machine) (place : ℕ) → IsWellFormed order m
-    → in_slab m place ≡ true → in_slab (after limit order operation m) place ≡ false → holds (after limit order operation m) (slot_of order place) ≡ true
-    → (after limit order operation m).bytes place ≡ Some 0
-
--- a page block that is released keeps its bytes
-abbrev pub ReleasedBytesStay : Type 0
-ReleasedBytesStay = (first : ℕ) (m : Machine) → (free_step first m).machine.bytes ≡ m.bytes
-
--- the operation writes this place
-abbrev pub writes : Operation → ℕ → Bool
-writes (Alloc k) place = false
-writes (Free first) place = false
-writes (Write begin new) place = nat_le begin place && nat_lt place (begin + length new)
-writes (Create size align pattern) place = false
-writes (Take number) place = false
-writes (Give number begin) place = false
-writes (Destroy number) place = false
-writes Reap place = false
-writes Grant place = false
-writes (TakeBack slot) place = false
-writes Reset place = false
-
--- what is in reach before and after an operation, in a page block or in a live object, is changed by a write to it alone
-abbrev pub WritesAlone : Type 0
-WritesAlone = (limit order : ℕ) (operation : Operation) (m : Machine) (place : ℕ) → IsWellFormed order m
-    → in_reach m place 1 ≡ true → in_reach (after limit order operation m) place 1 ≡ true → writes operation place ≡ false
-    → (after limit order operation m).bytes place ≡ m.bytes place
+-- .. and so does one that a take has just handed out for the first time, that of a growth included.
+abbrev pub ConstructedWhenTaken : Type 0
+ConstructedWhenTaken = (limit order number : ℕ) (operations : List Operation) (object : Object) (j : ℕ) → ArePossible operations
+    → let step = take_step order number (run limit order operations empty_machine) in step.answer ≡ Ok (place_of object)
+    → IsObject step.machine object → j < object.cache.size
+    → hand_outs limit order (place_of object) (operations ++ Take number ∷ []) empty_machine 0 ≡ 1
+    → step.machine.bytes (place_of object + j) ≡ Some (pattern_byte object.cache.pattern j)

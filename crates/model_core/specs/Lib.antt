@@ -12,6 +12,7 @@ pub mod CacheOperations
 pub mod Runs
 pub mod WellFormed
 pub mod Laws
+pub mod ByteLaws
 pub mod Owners
 pub mod Reports
 pub mod Room

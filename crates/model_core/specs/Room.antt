@@ -15,13 +15,15 @@ pub record IsAmple (order k : ℕ) (m : Machine) : Type 0 where
 
 -- then a request for a block of order k gets one, whatever was done before ..
 abbrev pub RoomIsPromised : Type 0
-RoomIsPromised = (order k : ℕ) (m : Machine) → IsWellFormed order m → IsAmple order k m → (first : ℕ) × (choice_by_need order k m ≡ Some first)
+RoomIsPromised = (limit order k : ℕ) (m : Machine) → IsWellFormed limit order m → IsAmple order k m
+    → (first : ℕ) × (choice_by_need order k m ≡ Some first)
 
 -- .. so a page block is never refused ..
 abbrev pub AllocIsPromised : Type 0
-AllocIsPromised = (order k : ℕ) (m : Machine) → IsWellFormed order m → IsAmple order k m → (first : ℕ) × ((alloc_step order k m).answer ≡ Ok first)
+AllocIsPromised = (limit order k : ℕ) (m : Machine) → IsWellFormed limit order m → IsAmple order k m
+    → (first : ℕ) × ((alloc_step order k m).answer ≡ Ok first)
 
 -- .. nor an object of a cache whose slabs have this order
 abbrev pub TakeIsPromised : Type 0
-TakeIsPromised = (order number : ℕ) (m : Machine) (c : Cache) → IsWellFormed order m → cache_of m number ≡ Some c → IsAmple order (layout c).order m
-    → (place : ℕ) × ((take_step order number m).answer ≡ Ok place)
+TakeIsPromised = (limit order number : ℕ) (m : Machine) (c : Cache) → IsWellFormed limit order m → cache_of m number ≡ Some c
+    → IsAmple order (layout c).order m → (place : ℕ) × ((take_step order number m).answer ≡ Ok place)

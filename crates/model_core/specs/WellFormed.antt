@@ -52,10 +52,12 @@ in_cache place c = list_any (in_object_of place c) c.slabs
 abbrev pub is_mapped : ℕ → Machine → ℕ → Bool
 is_mapped order m place = (holds m (slot_of order place) && not (in_slab m place)) || list_any (in_cache place) m.caches
 
-pub record IsWellFormed (order : ℕ) (m : Machine) : Type 0 where
+-- `limit` is on the number of caches, slots have 2 ^ order frames
+pub record IsWellFormed (limit order : ℕ) (m : Machine) : Type 0 where
   pub slots_rise : RisesFrom 0 m.slots
   pub blocks_rise : RisesFrom 0 (map (λ b. b.first) m.blocks)
   pub caches_rise : RisesFrom 0 (map (λ c. c.number) m.caches)
+  pub numbered : AllByRecursion (λ c. c.number < limit) m.caches
   pub caches : AllByRecursion IsCache m.caches
   pub placed : AllByRecursion (IsPlaced order m) (taken_blocks m)
   pub apart : AreApart (taken_blocks m)

@@ -2,7 +2,8 @@
 
 ghost use Rattle.model_core.specs.Layouts.{LayoutsFit};
 ghost use Rattle.model_core.specs.Room.{RoomIsPromised, AllocIsPromised, TakeIsPromised};
-ghost use Rattle.model_core.specs.Laws.{ChoiceIsUntaken, ChoicesMeet, AllocReaps, TakeReaps, RefusalsStay, KeepsWellFormed, RunsWellFormed, TakenApart, TakenSound, AllocTakes, FreeReleases, GrowthTakes, ReapReleases, ObjectsApart, RecordsFree, ConstructedFirst, WritesAlone, SlabsLeaveZeroes, ReleasedBytesStay};
+ghost use Rattle.model_core.specs.Laws.{ChoiceIsUntaken, ChoicesMeet, AllocReaps, TakeReaps, RefusalsStay, KeepsWellFormed, RunsWellFormed, TakenApart, TakenSound, AllocTakes, FreeReleases, GrowthTakes, ReapReleases, ObjectsApart, RecordsFree, ConstructedFirst, ConstructedWhenTaken};
+ghost use Rattle.model_core.specs.ByteLaws.{AllocKeeps, FreeKeeps, TakeKeeps, GiveKeeps, BytesStay, RunsKeepBytes, WritesAlone, SlabsLeaveZeroes};
 
 /// For each size and alignment the layout fits at each of its colour offsets.
 pub fn layouts_fit()
@@ -52,18 +53,27 @@ pub fn objects_apart()
     ensures records { RecordsFree }
 {}
 
-/// An object that no take has answered since its slab was made reads as its cache's pattern, whatever was done between:
-/// so it is in constructed state when it is first handed out (Bonwick).
+/// An object that was not handed out since its slab was made reads as its cache's pattern, whatever was done between; so does
+/// one that a take has just handed out for the first time, that of the take that makes the slab included: it is handed out
+/// in constructed state (Bonwick).
 pub fn constructed_first()
-    ensures { ConstructedFirst }
+    ensures untaken { ConstructedFirst }
+    ensures taken { ConstructedWhenTaken }
 {}
 
-/// Of what is in reach only a write changes a byte; a slab that is given back leaves zeroes; a page block that is released
-/// keeps its bytes.
+/// No byte is changed by taking a page block where one is found at once, by releasing one, by taking an object out of a slab
+/// that stands, or by giving one back. A place that is not written, at which no slab is made or given back and whose slot stays
+/// keeps its byte, over whole runs too: so an object and a page block come back as they were left. What is in reach is changed by
+/// writes alone. A slab that is given back leaves zeroes.
 pub fn bytes_stay()
+    ensures alloc { AllocKeeps }
+    ensures free { FreeKeeps }
+    ensures take { TakeKeeps }
+    ensures give { GiveKeeps }
+    ensures step { BytesStay }
+    ensures run { RunsKeepBytes }
     ensures writes { WritesAlone }
     ensures slabs { SlabsLeaveZeroes }
-    ensures blocks { ReleasedBytesStay }
 {}
 
 /// Where fewer frames are taken, empty slabs not counted, than the held slots have aligned blocks of some order, a block of

@@ -8,5 +8,6 @@ pub mod MoreCaches
 pub mod Asked
 pub mod Reached
 pub mod ReachedObjects
+mod WitnessesConstructed
 pub mod ReachedRoom
 pub mod Rows

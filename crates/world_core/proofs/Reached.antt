@@ -20,11 +20,11 @@ use Rattle.world_core.proofs.Operations.{entries_are_operations}
 
 pub reached_well_formed : ReachedWellFormed
 reached_well_formed limit order entries asked =
-    subst (IsWellFormed order) (sym (entries_are_operations limit order entries empty_machine))
+    subst (IsWellFormed limit order) (sym (entries_are_operations limit order entries empty_machine))
     (runs_well_formed limit order (flat_map operations_in entries) asked)
 
 pub reached_sound : ReachedSound
-reached_sound limit order entries asked = taken_sound order (reached_machine limit order entries) (reached_well_formed limit order entries asked)
+reached_sound limit order entries asked = taken_sound limit order (reached_machine limit order entries) (reached_well_formed limit order entries asked)
 
 pub reached_free_once : ReachedFreeOnce
 reached_free_once limit order x entries =
@@ -105,7 +105,7 @@ reached_splits limit order k first entries asked e =
     let n : Machine = by_need order k m in
     let from = chosen_from order k first n (alloc_chooses order k first m e) in
     let taken : taken_in (alloc_step order k m).machine ≡ with_taken (taken_in n) first k =
-    λ i f. alloc_takes order k first m (reached_well_formed limit order entries asked) e f i in
+    λ i f. alloc_takes limit order k first m (reached_well_formed limit order entries asked) e f i in
     (from.0, from.1, λ b. by_account order _ _ _ _ b (alloc_holds order k m) taken (splits order (holds n) (taken_in n) first from.0 k from.1.0 from.1.1 b))
 
 pub reached_joins : ReachedJoins
@@ -113,5 +113,5 @@ reached_joins limit order first k entries asked e =
     let m : Machine = reached_machine limit order entries in
     let joined = joins order (holds m) (taken_in m) first k (reached_sound limit order entries asked) (free_taken first k m e) in
     let taken : taken_in (free_step first m).machine ≡ without_taken (taken_in m) first =
-    λ i f. free_releases order first k m (reached_well_formed limit order entries asked) e f i in
+    λ i f. free_releases limit order first k m (reached_well_formed limit order entries asked) e f i in
     (joined.0, joined.1, λ b. by_account order _ _ _ _ b (free_holds first m) taken (joined.2 b))

@@ -21,13 +21,13 @@ use Rattle.world_core.proofs.Runs.{own_run}
 pub reached_room : ReachedRoom
 unfolding command_step
 reached_room limit order k entries asked room =
-    let is = alloc_is_promised order k (reached_machine limit order entries) (reached_well_formed limit order entries asked) room in
+    let is = alloc_is_promised limit order k (reached_machine limit order entries) (reached_well_formed limit order entries asked) room in
     (is.0, ap alloc_body is.1)
 
 pub reached_object_room : ReachedObjectRoom
 unfolding command_step
 reached_object_room limit order number entries c asked cache room =
-    let is = take_is_promised order number (reached_machine limit order entries) c (reached_well_formed limit order entries asked) cache room in
+    let is = take_is_promised limit order number (reached_machine limit order entries) c (reached_well_formed limit order entries asked) cache room in
     (is.0, ap take_body is.1)
 
 some_same : (m n : Machine) → Some m ≡ Some n → m ≡ n

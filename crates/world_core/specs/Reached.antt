@@ -1,5 +1,5 @@
 -- The machines that private runs leave, and what the model's laws say of them.
-use Rattle.std.specs.Prelude.{◌≡◌, ◌↔◌, ℕ, ◌+◌, ◌*◌, ◌/◌, ◌^◌, ◌<◌, ◌≤◌, true, false, List, [], ◌∷◌, ◌++◌, Some, Ok, slice_get, Contains}
+use Rattle.std.specs.Prelude.{◌≡◌, ◌↔◌, ℕ, ◌+◌, ◌*◌, ◌/◌, ◌^◌, ◌<◌, ◌≤◌, true, List, [], ◌∷◌, ◌++◌, Some, Ok, slice_get}
 use Rattle.std.specs.List.{flat_map}
 use Rattle.model_core.specs.Blocks.{Block, block, HasFrame, IsTaken, IsFree, IsChoice, IsSound}
 use Rattle.model_core.specs.BlockLaws.{IsFreeOnceSplit, JoinsTo, IsFreeOnceJoined}
@@ -8,8 +8,8 @@ use Rattle.model_core.specs.Machine.{Cache, Machine, empty_machine, holds, taken
 use Rattle.model_core.specs.Slabs.{cache_of, by_need}
 use Rattle.model_core.specs.Operations.{alloc_step, free_step}
 use Rattle.model_core.specs.Runs.{Operation, ArePossible, run}
-use Rattle.model_core.specs.WellFormed.{in_slab, IsWellFormed}
-use Rattle.model_core.specs.Laws.{Object, IsObject, place_of, HasByte}
+use Rattle.model_core.specs.WellFormed.{IsWellFormed}
+use Rattle.model_core.specs.Laws.{Object, IsObject, place_of, HasByte, hand_outs}
 use Rattle.model_core.specs.Room.{IsAmple}
 use Rattle.words_core.specs.declared.event.Event.TheVariants as On
 use Rattle.words_core.specs.declared.event.Command.TheVariants as Asked
@@ -59,7 +59,8 @@ OwnListsAreAsked = (limit order superblocks tenants t : ℕ) (trace : List ℕ) 
 
 -- The machine that is left is well formed ..
 abbrev pub ReachedWellFormed : Type 0
-ReachedWellFormed = (limit order : ℕ) (entries : List Entry) → AreAsked entries → IsWellFormed order (reached_machine limit order entries)
+ReachedWellFormed = (limit order : ℕ) (entries : List Entry) → AreAsked entries
+    → IsWellFormed limit order (reached_machine limit order entries)
 
 -- .. so its taken blocks, page blocks and the blocks of slabs, are aligned, in held slots and apart
 abbrev pub ReachedSound : Type 0
@@ -103,14 +104,20 @@ ReachedRecordsFree = (limit order : ℕ) (entries : List Entry) → AreAsked ent
     (object : Object) → IsObject m object → is_small (layout object.cache).chunk ≡ true
     → (place : ℕ) → HasByte object place → (4096 * object.slab.first ≤ place) × (place < 4096 * object.slab.first + 4064)
 
--- Where no slab had the object's first place, and no reply since was that object, it reads as its cache's pattern: so it
--- does when it is first handed out.
+-- An object that was not handed out since its slab was made reads as its cache's pattern ..
 abbrev pub ReachedConstructed : Type 0
-ReachedConstructed = (limit order : ℕ) (before since : List Entry) (object : Object) (j : ℕ) → AreAsked (before ++ since)
-    → in_slab (reached_machine limit order before) (place_of object) ≡ false
-    → (Contains (private_run limit order since (reached_machine limit order before)).replies (Say.Object (place_of object)) → ⊥)
-    → IsObject (reached_machine limit order (before ++ since)) object → j < object.cache.size
-    → (reached_machine limit order (before ++ since)).bytes (place_of object + j) ≡ Some (pattern_byte object.cache.pattern j)
+ReachedConstructed = (limit order : ℕ) (entries : List Entry) (object : Object) (j : ℕ) → AreAsked entries
+    → let m = reached_machine limit order entries in IsObject m object → j < object.cache.size
+    → hand_outs limit order (place_of object) (flat_map operations_in entries) empty_machine 0 ≡ 0
+    → m.bytes (place_of object + j) ≡ Some (pattern_byte object.cache.pattern j)
+
+-- .. and so does one that a `take` answers for the first time since then.
+abbrev pub ReachedConstructedWhenTaken : Type 0
+ReachedConstructedWhenTaken = (limit order number : ℕ) (entries : List Entry) (object : Object) (j : ℕ) → AreAsked entries
+    → let step = command_step limit order (Asked.Take number) (reached_machine limit order entries) in
+    step.answer ≡ Say.Object (place_of object) → IsObject step.machine object → j < object.cache.size
+    → hand_outs limit order (place_of object) (flat_map operations_in entries ++ Operation.Take number ∷ []) empty_machine 0 ≡ 1
+    → step.machine.bytes (place_of object + j) ≡ Some (pattern_byte object.cache.pattern j)
 
 -- Where it holds more aligned blocks of an order than it has taken frames outside empty slabs, a block of that order is
 -- never refused ..

@@ -1,7 +1,7 @@
 //! The laws of whole runs. Each is the contract of a function that does nothing: a caller has the law by the call.
 
 ghost use Rattle.world_core.specs.Laws.{OwnRun, MoreCaches, OwnLines, SameReplies, SameTexts, SameLines, AllShown, OwnShown, OwnLinesShown, EndedAllButTail, EndedLinesStay, ShownStays};
-ghost use Rattle.world_core.specs.Reached.{EntriesAreOperations, OwnListsAreAsked, ReachedWellFormed, ReachedSound, ReachedFreeOnce, ReachedSplits, ReachedJoins, ReachedApart, ReachedRecordsFree, ReachedConstructed, ReachedRoom, ReachedObjectRoom, NobodyStarves};
+ghost use Rattle.world_core.specs.Reached.{EntriesAreOperations, OwnListsAreAsked, ReachedWellFormed, ReachedSound, ReachedFreeOnce, ReachedSplits, ReachedJoins, ReachedApart, ReachedRecordsFree, ReachedConstructed, ReachedConstructedWhenTaken, ReachedRoom, ReachedObjectRoom, NobodyStarves};
 
 /// In every run of the world, from its opening, a tenant is told exactly what its private machine
 /// answers to its own commands, grants, take-backs and resets, and is left with that machine.
@@ -68,12 +68,13 @@ pub fn reached_machines()
     ensures joins { ReachedJoins }
 {}
 
-/// The objects of the machine that a private run leaves share no byte and keep clear of control records; one that no reply
-/// has told since its slab was made is in constructed state.
+/// The objects of the machine that a private run leaves share no byte and keep clear of control records; one that was not
+/// handed out since its slab was made is in constructed state, and so is one that a `take` answers for the first time.
 pub fn reached_objects()
     ensures apart { ReachedApart }
     ensures records { ReachedRecordsFree }
     ensures constructed { ReachedConstructed }
+    ensures taken { ReachedConstructedWhenTaken }
 {}
 
 /// A tenant that holds more aligned blocks of some order than it has taken frames outside empty slabs is refused neither a

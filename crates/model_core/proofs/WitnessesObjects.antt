@@ -1,0 +1,208 @@
+-- For each law of objects and bytes an instance: its premises, met by a machine of a few operations. All have slots of order 3,
+-- of 8 frames.
+use Rattle.std.proofs.Common.{◌≡◌, ℕ, ◌+◌, ◌*◌, ◌<◌, ◌≤◌, Bool, true, false, List, [], ◌∷◌, ◌++◌, map, Some, replicate, refl, sym, ap, ◌∙◌, arith}
+use Rattle.model_core.specs.declared.limits.TheConstants.{MOST_CACHES}
+use Rattle.model_core.specs.Layouts.{layout_of}
+use Rattle.model_core.specs.Machine.{Slab, Cache, Machine, empty_machine, holds, slot_of, taken_blocks, choice}
+use Rattle.model_core.specs.Slabs.{fresh_byte, grown_cache, grown, slab_to_use, reaped, by_need}
+use Rattle.model_core.specs.Reach.{in_reach}
+use Rattle.model_core.specs.Operations.{alloc_step, free_step, write_step, next_slot, after_grant}
+use Rattle.model_core.specs.CacheOperations.{create_step, cache_step, next_number, take_step, give_step, reap_step}
+use Rattle.model_core.specs.Runs.{Operation, Alloc, Free, Write, Create, Take, Give, Reap, Grant, IsPossible, ArePossible, after, run}
+use Rattle.model_core.specs.WellFormed.{in_slab, IsWellFormed}
+use Rattle.model_core.specs.Laws.{makes_slab_at, Object, IsObject, HasByte, ObjectsApart, RecordsFree, hand_outs, ConstructedFirst, ConstructedWhenTaken}
+use Rattle.model_core.specs.ByteLaws.{AllocKeeps, FreeKeeps, TakeKeeps, GiveKeeps, writes, IsLeftAlone, BytesStay, AllLeaveAlone, RunsKeepBytes, WritesAlone, SlabsLeaveZeroes}
+use Rattle.model_core.proofs.Lists.{each_append, each_map, each_true}
+use Rattle.model_core.proofs.Witnesses.{left_by, well_formed_left, slab_and_page, machine, is_well_formed, emptied, emptied_well_formed, crowded, crowded_well_formed}
+
+-- The first two objects of the slab at frame 0: the first is live, the second was never handed out.
+
+abbrev the_slab : Slab
+the_slab = record { first = 0; colour = 0; live = true ∷ replicate 38 false }
+
+abbrev the_cache : Cache
+the_cache = record { number = 0; size = 100; align = 8; pattern = 90 ∷ []; made = 1; slabs = the_slab ∷ [] }
+
+abbrev first_object : Object
+first_object = record { cache = the_cache; slab = the_slab; index = 0 }
+
+abbrev second_object : Object
+second_object = record { cache = the_cache; slab = the_slab; index = 1 }
+
+first_is_there : IsObject machine first_object
+unfolding layout_of alloc_step cache_step create_step next_number take_step grown_cache grown slab_to_use fresh_byte by_need reaped choice taken_blocks empty_machine next_slot after_grant
+first_is_there = record { cache_in = (0, omega arith, refl); slab_in = (0, omega arith, refl); index_in = omega arith }
+
+second_is_there : IsObject machine second_object
+unfolding layout_of alloc_step cache_step create_step next_number take_step grown_cache grown slab_to_use fresh_byte by_need reaped choice taken_blocks empty_machine next_slot after_grant
+second_is_there = record { cache_in = (0, omega arith, refl); slab_in = (0, omega arith, refl); index_in = omega arith }
+
+its_byte : HasByte second_object 203
+unfolding layout_of
+its_byte = (omega arith, omega arith)
+
+ObjectsApart-met : ObjectsApart → HasByte first_object 203 → ⊥
+ObjectsApart-met law h =
+    let one : first_object ≡ second_object = law MOST_CACHES 3 machine is_well_formed first_object second_object first_is_there second_is_there 203 h its_byte in
+    absurd (omega (arith, ap (λ o. o.index) one))
+
+RecordsFree-met : RecordsFree → (0 ≤ 203) × (203 < 4064)
+unfolding layout_of
+RecordsFree-met law = law MOST_CACHES 3 machine is_well_formed second_object second_is_there refl 203 its_byte
+
+-- A slab that is made anew on the frame of an empty slab, which is given back by need in the same step: all objects of the first
+-- cache are handed out, one of them is written, and all are given back before the second cache makes a slab.
+
+abbrev sixteen : List ℕ
+sixteen = 0 ∷ 1 ∷ 2 ∷ 3 ∷ 4 ∷ 5 ∷ 6 ∷ 7 ∷ 8 ∷ 9 ∷ 10 ∷ 11 ∷ 12 ∷ 13 ∷ 14 ∷ 15 ∷ []
+
+abbrev then_given : List Operation
+then_given = Write 2048 (99 ∷ []) ∷ map (λ i. Give 0 (2048 * i)) sixteen ++ (Create 2048 8 (22 ∷ []) ∷ [])
+
+abbrev eight_slabs : List Operation
+eight_slabs = Grant ∷ Create 2048 8 (11 ∷ []) ∷ map (λ i. Take 0) sixteen ++ then_given
+
+can_be_asked : ArePossible eight_slabs
+can_be_asked = (
+  tt,
+  (
+    refl,
+    each_append IsPossible (map (λ i. Take 0) sixteen) then_given (each_map IsPossible (λ i. Take 0) sixteen (each_true (λ i. IsPossible (Take 0)) (λ i. tt) sixteen)) (
+      tt,
+      each_append IsPossible (map (λ i. Give 0 (2048 * i)) sixteen) (Create 2048 8 (22 ∷ []) ∷ []) (each_map IsPossible (λ i. Give 0 (2048 * i)) sixteen (each_true (λ i. IsPossible (Give 0 (2048 * i))) (λ i. tt) sixteen))
+          (refl, tt),
+    ),
+  ),
+)
+
+abbrev anew : Machine
+anew = left_by eight_slabs
+
+-- the slab of the second cache, once its first object is handed out, and once its second is
+abbrev new_slab_with : Bool → Slab
+new_slab_with second = record { first = 0; colour = 0; live = true ∷ second ∷ [] }
+
+abbrev new_cache_with : Bool → Cache
+new_cache_with second = record { number = 1; size = 2048; align = 8; pattern = 22 ∷ []; made = 0; slabs = new_slab_with second ∷ [] }
+
+abbrev object_anew : Bool → ℕ → Object
+object_anew second index = record { cache = new_cache_with second; slab = new_slab_with second; index = index }
+
+-- before the slab is made anew the object at place 2048 has been handed out once
+handed_out_before : hand_outs MOST_CACHES 3 2048 eight_slabs empty_machine 0 ≡ 1
+unfolding layout_of cache_step create_step next_number take_step give_step write_step in_reach grown_cache grown slab_to_use fresh_byte by_need reaped choice taken_blocks empty_machine next_slot after_grant
+handed_out_before = refl
+
+-- .. and a byte of it that was written reads so
+written_before : anew.bytes 2048 ≡ Some 99
+unfolding layout_of cache_step create_step next_number take_step give_step write_step in_reach grown_cache grown slab_to_use fresh_byte by_need reaped choice taken_blocks empty_machine next_slot after_grant
+written_before = refl
+
+-- once its slab is made it has not been handed out since, and reads as the new pattern
+ConstructedFirst-met : ConstructedFirst → (left_by (eight_slabs ++ Take 1 ∷ [])).bytes (2048 + 0) ≡ Some 22
+unfolding layout_of cache_step create_step next_number take_step give_step write_step in_reach grown_cache grown slab_to_use fresh_byte by_need reaped choice taken_blocks empty_machine next_slot after_grant
+ConstructedFirst-met law = law MOST_CACHES 3 (eight_slabs ++ Take 1 ∷ []) (object_anew false 1) 0 (each_append IsPossible eight_slabs (Take 1 ∷ []) can_be_asked (tt, tt))
+    (record { cache_in = (1, omega arith, refl); slab_in = (0, omega arith, refl); index_in = omega arith }) (omega arith) refl
+
+-- so do the object that the take answers which makes the slab, and the one that the next take answers
+ConstructedWhenTaken-met : ConstructedWhenTaken
+    → ((take_step 3 1 anew).machine.bytes (0 + 5) ≡ Some 22) × ((take_step 3 1 (left_by (eight_slabs ++ Take 1 ∷ []))).machine.bytes (2048 + 0) ≡ Some 22)
+unfolding layout_of cache_step create_step next_number take_step give_step write_step in_reach grown_cache grown slab_to_use fresh_byte by_need reaped choice taken_blocks empty_machine next_slot after_grant
+ConstructedWhenTaken-met law = (
+  law MOST_CACHES 3 1 eight_slabs (object_anew false 0) 5 can_be_asked refl
+      (record { cache_in = (1, omega arith, refl); slab_in = (0, omega arith, refl); index_in = omega arith }) (omega arith) refl,
+  law MOST_CACHES 3 1 (eight_slabs ++ Take 1 ∷ []) (object_anew true 1) 0 (each_append IsPossible eight_slabs (Take 1 ∷ []) can_be_asked (tt, tt)) refl
+      (record { cache_in = (1, omega arith, refl); slab_in = (0, omega arith, refl); index_in = omega arith }) (omega arith) refl,
+)
+
+-- Bytes
+
+AllocKeeps-met : AllocKeeps → (alloc_step 3 1 machine).machine.bytes ≡ machine.bytes
+unfolding layout_of alloc_step cache_step create_step next_number take_step grown_cache grown slab_to_use by_need reaped choice taken_blocks empty_machine next_slot after_grant
+AllocKeeps-met law = law 3 1 2 machine refl
+
+FreeKeeps-met : FreeKeeps → (free_step 1 machine).machine.bytes ≡ machine.bytes
+FreeKeeps-met law = law 1 machine
+
+-- the slab of the first cache stands, with an object that is not live
+TakeKeeps-met : TakeKeeps → (take_step 3 0 machine).machine.bytes ≡ machine.bytes
+unfolding layout_of alloc_step cache_step create_step next_number take_step grown_cache grown slab_to_use by_need reaped choice taken_blocks empty_machine next_slot after_grant
+TakeKeeps-met law = law 3 0 machine refl
+
+GiveKeeps-met : GiveKeeps → (give_step 0 0 machine).machine.bytes ≡ machine.bytes
+GiveKeeps-met law = law 0 0 machine
+
+-- a place of a held slot is left alone where it is in a slab before and after, or before and after in none
+left_alone : (operation : Operation) (m : Machine) (place : ℕ) (slab : Bool) → writes operation place ≡ false → makes_slab_at 3 operation m place ≡ false
+    → in_slab m place ≡ slab → in_slab (after MOST_CACHES 3 operation m) place ≡ slab
+    → holds m (slot_of 3 place) ≡ true → holds (after MOST_CACHES 3 operation m) (slot_of 3 place) ≡ true → IsLeftAlone MOST_CACHES 3 operation m place
+left_alone operation m place slab unwritten unmade before later held_before held_later =
+    record { unwritten = unwritten; unmade = unmade; same_slab = later ∙ sym before; same_slot = held_later ∙ sym held_before }
+
+-- a slab is made at frame 4, and the empty one at frame 0 keeps its bytes
+BytesStay-met : BytesStay → (after MOST_CACHES 3 (Take 2) emptied).bytes 3 ≡ emptied.bytes 3
+unfolding layout_of cache_step create_step next_number take_step give_step grown_cache grown slab_to_use fresh_byte by_need reaped choice taken_blocks empty_machine next_slot after_grant
+BytesStay-met law = law MOST_CACHES 3 (Take 2) emptied 3 emptied_well_formed (left_alone (Take 2) emptied 3 true refl refl refl refl refl refl)
+
+-- a byte of a live object and one of a page block are written
+abbrev both_written : List Operation
+both_written = slab_and_page ++ (Write 3 (77 ∷ []) ∷ Write 4099 (78 ∷ []) ∷ [])
+
+abbrev written : Machine
+written = left_by both_written
+
+written_well_formed : IsWellFormed MOST_CACHES 3 written
+written_well_formed = well_formed_left both_written (tt, (refl, (tt, (tt, (tt, (tt, tt))))))
+
+-- .. and both are handed out again after they were given back
+abbrev back_and_forth : List Operation
+back_and_forth = Give 0 0 ∷ Free 1 ∷ Take 0 ∷ Alloc 0 ∷ []
+
+object_left_alone : AllLeaveAlone MOST_CACHES 3 back_and_forth written 3
+unfolding layout_of alloc_step free_step cache_step create_step next_number take_step give_step write_step in_reach grown_cache grown slab_to_use fresh_byte by_need reaped choice taken_blocks empty_machine next_slot after_grant
+object_left_alone = (
+  left_alone (Give 0 0) written 3 true refl refl refl refl refl refl,
+  (
+    left_alone (Free 1) (run MOST_CACHES 3 (Give 0 0 ∷ []) written) 3 true refl refl refl refl refl refl,
+    (
+      left_alone (Take 0) (run MOST_CACHES 3 (Give 0 0 ∷ Free 1 ∷ []) written) 3 true refl refl refl refl refl refl,
+      (left_alone (Alloc 0) (run MOST_CACHES 3 (Give 0 0 ∷ Free 1 ∷ Take 0 ∷ []) written) 3 true refl refl refl refl refl refl, tt),
+    ),
+  ),
+)
+
+page_left_alone : AllLeaveAlone MOST_CACHES 3 back_and_forth written 4099
+unfolding layout_of alloc_step free_step cache_step create_step next_number take_step give_step write_step in_reach grown_cache grown slab_to_use fresh_byte by_need reaped choice taken_blocks empty_machine next_slot after_grant
+page_left_alone = (
+  left_alone (Give 0 0) written 4099 false refl refl refl refl refl refl,
+  (
+    left_alone (Free 1) (run MOST_CACHES 3 (Give 0 0 ∷ []) written) 4099 false refl refl refl refl refl refl,
+    (
+      left_alone (Take 0) (run MOST_CACHES 3 (Give 0 0 ∷ Free 1 ∷ []) written) 4099 false refl refl refl refl refl refl,
+      (left_alone (Alloc 0) (run MOST_CACHES 3 (Give 0 0 ∷ Free 1 ∷ Take 0 ∷ []) written) 4099 false refl refl refl refl refl refl, tt),
+    ),
+  ),
+)
+
+written_3 : written.bytes 3 ≡ Some 77
+unfolding layout_of alloc_step free_step cache_step create_step next_number take_step give_step write_step in_reach grown_cache grown slab_to_use fresh_byte by_need reaped choice taken_blocks empty_machine next_slot after_grant
+written_3 = refl
+
+written_4099 : written.bytes 4099 ≡ Some 78
+unfolding layout_of alloc_step free_step cache_step create_step next_number take_step give_step write_step in_reach grown_cache grown slab_to_use fresh_byte by_need reaped choice taken_blocks empty_machine next_slot after_grant
+written_4099 = refl
+
+RunsKeepBytes-met : RunsKeepBytes → ((run MOST_CACHES 3 back_and_forth written).bytes 3 ≡ Some 77) × ((run MOST_CACHES 3 back_and_forth written).bytes 4099 ≡ Some 78)
+RunsKeepBytes-met law = (
+  law MOST_CACHES 3 back_and_forth written 3 (tt, (tt, (tt, (tt, tt)))) written_well_formed object_left_alone ∙ written_3,
+  law MOST_CACHES 3 back_and_forth written 4099 (tt, (tt, (tt, (tt, tt)))) written_well_formed page_left_alone ∙ written_4099,
+)
+
+-- a slab of another cache is made, and the first object, which is live, keeps its bytes
+WritesAlone-met : WritesAlone → (after MOST_CACHES 3 (Take 2) crowded).bytes 3 ≡ crowded.bytes 3
+unfolding layout_of cache_step create_step next_number take_step give_step in_reach grown_cache grown slab_to_use fresh_byte by_need reaped choice taken_blocks empty_machine next_slot after_grant
+WritesAlone-met law = law MOST_CACHES 3 (Take 2) crowded 3 crowded_well_formed refl refl refl
+
+SlabsLeaveZeroes-met : SlabsLeaveZeroes → (after MOST_CACHES 3 Reap emptied).bytes 110 ≡ Some 0
+unfolding layout_of cache_step create_step next_number take_step give_step reap_step grown_cache grown slab_to_use fresh_byte by_need reaped choice taken_blocks empty_machine next_slot after_grant
+SlabsLeaveZeroes-met law = law MOST_CACHES 3 Reap emptied 110 emptied_well_formed refl refl refl

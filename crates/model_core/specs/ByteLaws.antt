@@ -1,0 +1,79 @@
+-- The laws of bytes: what changes the byte at a place, and what leaves it.
+use Rattle.std.specs.Prelude.{◌≡◌, ℕ, ◌+◌, Bool, true, false, List, [], ◌∷◌, length, Some, None, nat_le, nat_lt, ◌&&◌, ⊤}
+use Rattle.model_core.specs.Machine.{Machine, holds, slot_of, choice}
+use Rattle.model_core.specs.Reach.{in_reach}
+use Rattle.model_core.specs.Operations.{alloc_step, free_step}
+use Rattle.model_core.specs.CacheOperations.{take_step, give_step}
+use Rattle.model_core.specs.Runs.{Operation, Alloc, Free, Write, Create, Take, Give, Destroy, Reap, Grant, TakeBack, Reset, ArePossible, after, run}
+use Rattle.model_core.specs.WellFormed.{in_slab, IsWellFormed}
+use Rattle.model_core.specs.Laws.{made_block, makes_slab_at}
+
+-- a page block that is taken where one is found at once changes no byte ..
+abbrev pub AllocKeeps : Type 0
+AllocKeeps = (order k first : ℕ) (m : Machine) → choice order m k ≡ Some first → (alloc_step order k m).machine.bytes ≡ m.bytes
+
+-- .. nor does one that is released ..
+abbrev pub FreeKeeps : Type 0
+FreeKeeps = (first : ℕ) (m : Machine) → (free_step first m).machine.bytes ≡ m.bytes
+
+-- .. nor an object that is taken out of a slab that stands ..
+abbrev pub TakeKeeps : Type 0
+TakeKeeps = (order number : ℕ) (m : Machine) → made_block order (Take number) m ≡ None
+    → (take_step order number m).machine.bytes ≡ m.bytes
+
+-- .. nor one that is given back
+abbrev pub GiveKeeps : Type 0
+GiveKeeps = (number place : ℕ) (m : Machine) → (give_step number place m).machine.bytes ≡ m.bytes
+
+-- the operation writes this place
+abbrev pub writes : Operation → ℕ → Bool
+writes (Alloc k) place = false
+writes (Free first) place = false
+writes (Write begin new) place = nat_le begin place && nat_lt place (begin + length new)
+writes (Create size align pattern) place = false
+writes (Take number) place = false
+writes (Give number begin) place = false
+writes (Destroy number) place = false
+writes Reap place = false
+writes Grant place = false
+writes (TakeBack slot) place = false
+writes Reset place = false
+
+-- The operation leaves the place alone: it does not write it, no slab is made or given back there, and its slot neither comes
+-- nor goes.
+pub record IsLeftAlone (limit order : ℕ) (operation : Operation) (m : Machine) (place : ℕ) : Type 0 where
+  pub unwritten : writes operation place ≡ false
+  pub unmade : makes_slab_at order operation m place ≡ false
+  pub same_slab : in_slab (after limit order operation m) place ≡ in_slab m place
+  pub same_slot : holds (after limit order operation m) (slot_of order place) ≡ holds m (slot_of order place)
+
+-- then the byte there stays, live or not, in reach or not ..
+abbrev pub BytesStay : Type 0
+BytesStay = (limit order : ℕ) (operation : Operation) (m : Machine) (place : ℕ) → IsWellFormed limit order m
+    → IsLeftAlone limit order operation m place → (after limit order operation m).bytes place ≡ m.bytes place
+
+-- each of the operations, one after the other, leaves the place alone
+abbrev pub AllLeaveAlone : ℕ → ℕ → List Operation → Machine → ℕ → Type 0
+AllLeaveAlone limit order [] m place = ⊤
+AllLeaveAlone limit order (operation ∷ operations) m place =
+    IsLeftAlone limit order operation m place × AllLeaveAlone limit order operations (after limit order operation m) place
+
+-- .. and so over whole runs: an object is handed out again as it was left when it was given back, and a page block is taken as
+-- it was left when it was released.
+abbrev pub RunsKeepBytes : Type 0
+RunsKeepBytes = (limit order : ℕ) (operations : List Operation) (m : Machine) (place : ℕ) → ArePossible operations
+    → IsWellFormed limit order m → AllLeaveAlone limit order operations m place
+    → (run limit order operations m).bytes place ≡ m.bytes place
+
+-- what is in reach before and after an operation, in a page block or in a live object, is changed by a write to it alone
+abbrev pub WritesAlone : Type 0
+WritesAlone = (limit order : ℕ) (operation : Operation) (m : Machine) (place : ℕ) → IsWellFormed limit order m
+    → in_reach m place 1 ≡ true → in_reach (after limit order operation m) place 1 ≡ true → writes operation place ≡ false
+    → (after limit order operation m).bytes place ≡ m.bytes place
+
+-- a place whose slab is given back reads as zero
+abbrev pub SlabsLeaveZeroes : Type 0
+SlabsLeaveZeroes = (limit order : ℕ) (operation : Operation) (m : Machine) (place : ℕ) → IsWellFormed limit order m
+    → in_slab m place ≡ true → in_slab (after limit order operation m) place ≡ false
+    → holds (after limit order operation m) (slot_of order place) ≡ true
+    → (after limit order operation m).bytes place ≡ Some 0
