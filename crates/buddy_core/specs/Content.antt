@@ -1,7 +1,7 @@
 -- What the buddy system holds, tenant by tenant: slots with the superblocks under them, and taken
 -- blocks. Free blocks are not part of it: they follow from the held slots and the taken blocks.
 use Rattle.std.specs.Prelude.{ℕ, ◌≡◌, ◌*◌, ◌^◌, ◌<◌, ◌≤◌, ◌==◌, Bool, false, Option, Some, None, is_some, List, [], length, replicate, slice_index_or, slice_set, count_by}
-use Rattle.model_core.specs.Blocks.{Taken, with_taken, without_taken, block, IsSound}
+use Rattle.model_core.specs.Blocks.{Taken, block, IsSound}
 use Rattle.model_core.specs.Choice.{is_free, count_below}
 use Rattle.model_core.specs.declared.limits.TheConstants.{MOST_ORDER, MOST_SUPERBLOCKS, MOST_TENANTS}
 
@@ -91,11 +91,3 @@ pub record BuddyLaws (c : Content) : Type 0 where
   pub sound : (t : ℕ) → t < length c.tenants → IsSoundHolding c.top (holding_of t c)
   -- no superblock stands under two slots
   pub apart : (t u v w m : ℕ) → superblock_at (holding_of t c) u ≡ Some m → superblock_at (holding_of v c) w ≡ Some m → (t ≡ v) × (u ≡ w)
-
--- a block more in a tenant's table is a block more among its taken blocks
-abbrev pub WithBlockTakes : Type 0
-WithBlockTakes = (h : Holding) (f k : ℕ) → f < length h.taken → taken_of (with_block f k h) ≡ with_taken (taken_of h) f k
-
--- a block less in the table is a block less among the taken blocks
-abbrev pub WithoutBlockFrees : Type 0
-WithoutBlockFrees = (h : Holding) (f : ℕ) → taken_of (without_block f h) ≡ without_taken (taken_of h) f

@@ -13,7 +13,7 @@
 ghost use Rattle.std.specs.Prelude.{◌≡◌, ℕ, ◌+◌, ◌*◌, ◌/◌, ◌^◌, ◌<◌, ◌≤◌, Some, None, List, length, slice_index, MatchOption, IfOk, OnOk, OnErr, IfNone, IfSome, OnSome, IsSome};
 ghost use Rattle.model_core.specs.declared.limits.TheConstants.{MOST_ORDER, MOST_SUPERBLOCKS, MOST_TENANTS};
 ghost use Rattle.model_core.specs.Blocks.{Block, block, HasFrame, IsTaken, HasTaken, slot_block, IsChoice, IsWithout};
-ghost use Rattle.buddy_core.specs.Content.{Content, opening, nothing_held, holding_of, with_holding, superblock_at, is_held, taken_of, with_block, without_block, with_slot, without_slot, BuddyLaws, free_blocks, taken_blocks, held_slots, WithBlockTakes, WithoutBlockFrees};
+ghost use Rattle.buddy_core.specs.Content.{Content, opening, nothing_held, holding_of, with_holding, superblock_at, is_held, taken_of, with_block, without_block, with_slot, without_slot, BuddyLaws, free_blocks, taken_blocks, held_slots};
 ghost use Rattle.buddy_core.specs.Table.{IsTable};
 
 mod find;
@@ -269,9 +269,3 @@ impl Buddy {
         self.superblocks[m as usize].words()
     }
 }
-
-/// A law: a tenant's table of taken blocks changes as its taken blocks do.
-pub fn taken_follows()
-    ensures reserve { WithBlockTakes }
-    ensures release { WithoutBlockFrees }
-{}

@@ -1,5 +1,5 @@
 -- A superblock without owner is given to a tenant.
-use Rattle.std.proofs.Common.{◌≡◌, ℕ, ◌<◌, ◌≤◌, false, Some, None, is_none, position, length, slice_get, slice_set, refl, sym, ap, ◌∙◌, subst, arith}
+use Rattle.std.proofs.Common.{◌≡◌, ℕ, ◌<◌, ◌≤◌, false, Some, None, is_none, position, length, slice_get, slice_set, refl, sym, ap, ◌∙◌, arith}
 use Rattle.std.proofs.lemmas.List.Quantifiers.{position-Some}
 use Rattle.model_core.specs.Machine.{Machine}
 use Rattle.model_core.specs.Operations.{next_slot, after_grant}
@@ -19,10 +19,10 @@ use Rattle.words_core.specs.declared.reply.Refusal.TheVariants.{NoTenant, PoolEm
 use Rattle.world_core.specs.Limits.{cache_limit}
 use Rattle.world_core.specs.World.{World, WorldStep, grant_step, world_step}
 use Rattle.kernel_core.specs.Parts.{Parts, PartsAgree, mark_after}
-use Rattle.kernel_core.specs.Shows.{ShowsMachine, Shows}
+use Rattle.kernel_core.specs.Shows.{Shows}
 use Rattle.kernel_core.specs.Steps.{Steps}
 use Rattle.kernel_core.proofs.Marks.{marks_kept, marks_replaced}
-use Rattle.kernel_core.proofs.Worlds.{get_past, get_within, same_sizes, steps_changed, steps_answered}
+use Rattle.kernel_core.proofs.Worlds.{get_past, get_within, steps_changed, steps_answered}
 use Rattle.kernel_core.proofs.Changing.{changed, agree_changed, same_order, has_row, unnamed}
 use Rattle.kernel_core.proofs.Owners.{was_none}
 

@@ -10,6 +10,7 @@ pub mod Resetting
 pub mod Moving
 pub mod Opening
 pub mod OneWorld
+pub mod Witnesses
 pub mod Records
 pub mod ReportOrders
 pub mod ReportFigures

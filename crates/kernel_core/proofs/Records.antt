@@ -1,15 +1,12 @@
 -- The control records in the kernel's memory.
-use Rattle.std.proofs.Common.{◌≡◌, ℕ, ◌+◌, ◌*◌, ◌/◌, ◌%◌, ◌^◌, ◌<◌, true, false, Some, slice_index, slice_index_or, sym, ap, ◌∙◌, subst}
+use Rattle.std.proofs.Common.{◌≡◌, ℕ, ◌+◌, ◌*◌, ◌/◌, ◌%◌, ◌^◌, true, slice_index, sym, ap, ◌∙◌, subst}
 use Rattle.model_core.specs.Layouts.{is_small}
-use Rattle.model_core.specs.Machine.{Slab, Cache, Machine, layout}
-use Rattle.model_core.specs.Slabs.{cache_of, slab_of}
 use Rattle.slab_laws.specs.Records.{is_set}
 use Rattle.slab_laws.proofs.Facts.{under_is, superblock_of_node, frame_of_node, slab_of_machine}
 use Rattle.part_laws.specs.Pages.{record_at}
 use Rattle.part_laws.proofs.PageRecords as pages
 use Rattle.kernel_core.specs.Parts.{Parts, PartsAgree, superblock_at, superblock_bytes}
-use Rattle.kernel_core.specs.Shows.{ShowsMachine}
-use Rattle.kernel_core.specs.Records.{HasRecord, RecordsStand}
+use Rattle.kernel_core.specs.Records.{RecordsStand}
 use Rattle.kernel_core.proofs.Changing.{same_order}
 
 -- byte i of the record in frame f, whose superblock this is

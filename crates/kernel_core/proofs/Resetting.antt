@@ -1,6 +1,6 @@
 -- All that a tenant has is taken from it; and who owns each superblock.
 use Rattle.model_core.specs.declared.owner.Owner.{Owner}
-use Rattle.std.proofs.Common.{◌≡◌, ℕ, ◌<◌, ◌≤◌, Option, Some, List, length, map, count_by, slice_get, slice_set, refl, sym, ap, ◌∙◌, subst, arith}
+use Rattle.std.proofs.Common.{◌≡◌, ℕ, ◌<◌, ◌≤◌, Option, Some, List, length, map, count_by, slice_get, slice_set, refl, sym, ap, ◌∙◌, arith}
 use Rattle.std.proofs.Math.ListN.{length-map}
 use Rattle.model_core.specs.Machine.{Machine, empty_machine}
 use Rattle.model_core.specs.Owners.{is_of}
@@ -8,7 +8,7 @@ use Rattle.space_core.specs.Content as spaces
 use Rattle.buddy_core.specs.Content as buddies
 use Rattle.slab_tables.specs.Content as tables
 use Rattle.slab_tables.specs.Changes.{IsReset}
-use Rattle.part_laws.specs.Slots.{HoldTogether, HasGivenUp, ChangesFor}
+use Rattle.part_laws.specs.Slots.{HoldTogether, ChangesFor}
 use Rattle.part_laws.proofs.SlotEmptied.{emptied_shows}
 use Rattle.words_core.specs.declared.event.Event.TheVariants as On
 use Rattle.words_core.specs.declared.event.AdminCommand.TheVariants as Do
@@ -22,7 +22,7 @@ use Rattle.kernel_core.specs.Parts.{Parts, PartsAgree}
 use Rattle.kernel_core.specs.GivenUp.{GivesUp}
 use Rattle.kernel_core.specs.Shows.{Shows}
 use Rattle.kernel_core.specs.Steps.{Steps}
-use Rattle.kernel_core.proofs.Worlds.{get_past, get_within, steps_changed, steps_answered}
+use Rattle.kernel_core.proofs.Worlds.{get_past, steps_changed, steps_answered}
 use Rattle.kernel_core.proofs.Changing.{changed, agree_changed, has_row, unnamed}
 
 -- tenant t has given up all its superblocks, this many, and has no cache any more

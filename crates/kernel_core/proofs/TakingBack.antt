@@ -1,6 +1,6 @@
 -- A superblock is taken back from a tenant.
 use Rattle.model_core.specs.declared.owner.Owner.{Owner}
-use Rattle.std.proofs.Common.{◌≡◌, ℕ, ◌<◌, ◌≤◌, true, false, Option, Some, None, is_some, Result, Ok, Err, List, length, map, slice_get, slice_set, refl, sym, ap, ◌∙◌, subst, arith}
+use Rattle.std.proofs.Common.{◌≡◌, ℕ, ◌<◌, ◌≤◌, true, false, Option, Some, None, is_some, Result, Ok, Err, List, length, map, slice_get, slice_set, refl, sym, ap, ◌∙◌, arith}
 use Rattle.std.specs.List.{position_or_len}
 use Rattle.std.proofs.lemmas.Bool.{false_from_ne_true}
 use Rattle.model_core.specs.Blocks.{slot_block, HasTaken}
@@ -23,7 +23,7 @@ use Rattle.words_core.specs.declared.reply.Refusal.TheVariants.{NoTenant, NoSlot
 use Rattle.world_core.specs.Limits.{cache_limit}
 use Rattle.world_core.specs.World.{World, WorldStep, given_up, taken_back, slot_step, world_step}
 use Rattle.kernel_core.specs.Parts.{Parts, PartsAgree, mark_after, superblock_at}
-use Rattle.kernel_core.specs.Shows.{ShowsMachine, Shows}
+use Rattle.kernel_core.specs.Shows.{Shows}
 use Rattle.kernel_core.specs.Steps.{Steps}
 use Rattle.kernel_core.proofs.Marks.{marks_kept, marks_replaced}
 use Rattle.kernel_core.proofs.Worlds.{get_past, get_within, steps_changed, steps_answered}

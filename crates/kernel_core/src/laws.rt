@@ -4,11 +4,14 @@
 ghost use Rattle.kernel_core.specs.Shows.{OneWorld};
 
 pub use model_core::block_laws::splits_and_joins;
-pub use model_core::laws::{constructed_first, objects_apart, stays_well_formed, taken_is_sound};
+pub use model_core::laws::{
+    bytes_stay, constructed_first, objects_apart, reaps_by_need, room_is_promised,
+    stays_well_formed, taken_is_sound,
+};
 pub use words_core::one_case;
 pub use world_core::laws::{
-    entries_are_operations, non_interference, own_lines, own_run, own_shown, reached_machines,
-    shown_stays,
+    entries_are_operations, more_caches, nobody_starves, non_interference, own_lines,
+    own_lists_are_asked, own_run, own_shown, reached_machines, reached_objects, shown_stays,
 };
 
 /// A kernel shows one world at most: what `step` says of each world that the kernel shows, it says

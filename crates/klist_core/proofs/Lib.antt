@@ -9,3 +9,4 @@ pub mod OneList
 pub mod Walks
 pub mod Calls
 pub mod Fresh
+pub mod Witnesses

@@ -3,3 +3,4 @@ pub mod Fits
 pub mod Bytes
 pub mod Orders
 pub mod Repeating
+pub mod Witnesses

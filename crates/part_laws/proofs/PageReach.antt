@@ -1,6 +1,6 @@
 -- Which ranges are in reach.
 use Rattle.std.proofs.Common.{◌≡◌, ℕ, ◌+◌, ◌<◌, ◌≤◌, Bool, true, false, eqb, Some, refl, sym, ap, ◌∙◌, inl, inr, ⊎_elim, length, arith}
-use Rattle.std.specs.Prelude.{nat_lt, nat_le, ◌||◌, ◌&&◌}
+use Rattle.std.specs.Prelude.{nat_lt, nat_le, ◌||◌}
 use Rattle.std.specs.List.{list_any}
 use Rattle.std.proofs.lemmas.Bool.{lt-ltb, ltb-true, le-leb, leb-true, and_parts, and_from, or_cases, or_left, or_right}
 use Rattle.model_core.specs.Layouts.{object_place}
@@ -20,7 +20,7 @@ use Rattle.slab_laws.proofs.Flags.{length_flags, flag_at}
 use Rattle.slab_laws.proofs.Members.{in_flat_map}
 use Rattle.slab_laws.proofs.Objects.{object_of, live_object, object_kept}
 use Rattle.slab_laws.specs.Objects.{HasRange}
-use Rattle.part_laws.specs.Pages.{IsInReach, ReachMeets, ObjectsMeet}
+use Rattle.part_laws.specs.Pages.{IsInReach, ReachMeets}
 use Rattle.part_laws.proofs.PageBlocks.{page_tells, page_from}
 
 module _ (r : spaces.Content) (b : buddies.Content) (s : Content) (t place len : ℕ) (m : Machine) (st : IsSteady r b s t) (h : ShowsMachine r b s t m) where
@@ -69,14 +69,6 @@ module _ (r : spaces.Content) (b : buddies.Content) (s : Content) (t place len :
       any_in (within_objects place len) x m.caches (find_in (λ z. eqb z.number g.number) x m.caches there.there.cached).0
       (any_in (within_object x place len) (object_of x y o.index) (live_objects x) object within)
 
-  objects_tell : (nat_lt 0 len && list_any (within_objects place len) m.caches) ≡ true → (o : Found) × HasRange r s t place len o
-  objects_tell e =
-      let both = and_parts (nat_lt 0 len) (list_any (within_objects place len) m.caches) e in
-      object_tells (ltb-true 0 len both.0) both.1
-
-  objects_from : (o : Found) × HasRange r s t place len o → (nat_lt 0 len && list_any (within_objects place len) m.caches) ≡ true
-  objects_from g = and_from (nat_lt 0 len) (list_any (within_objects place len) m.caches) (lt-ltb 0 len g.1.some) (object_from g.0 g.1)
-
   reach_tells : in_reach m place len ≡ true → IsInReach r b s t place len
   unfolding in_reach
   reach_tells e =
@@ -99,6 +91,3 @@ module _ (r : spaces.Content) (b : buddies.Content) (s : Content) (t place len :
 
 pub reach_meets : ReachMeets
 reach_meets r b s t place len m st h = (reach_tells r b s t place len m st h, reach_from r b s t place len m st h)
-
-pub objects_meet : ObjectsMeet
-objects_meet r b s t place len m st h = (objects_tell r b s t place len m st h, objects_from r b s t place len m st h)

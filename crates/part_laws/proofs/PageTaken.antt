@@ -1,31 +1,17 @@
--- A page block taken, and one released.
-use Rattle.std.proofs.Common.{◌≡◌, ◌≢◌, ℕ, Bool, true, false, cond, Some, None, refl, sym, ap, ◌∙◌, get_or-set_other}
+-- A page block released.
+use Rattle.std.proofs.Common.{◌≡◌, ◌≢◌, ℕ, Bool, true, false, cond, None, refl, sym, ap, ◌∙◌, get_or-set_other}
 use Rattle.std.specs.Prelude.{Option, not, ◌==◌}
 use Rattle.std.proofs.lemmas.Bool.{false≢true}
 use Rattle.model_core.proofs.Lists.{filter_rises}
 use Rattle.buddy_core.specs.Content as buddies
 use Rattle.buddy_core.specs.Content.{Holding, holding_of, taken_of, with_block, without_block}
 use Rattle.slab_laws.specs.Shows.{node_of, has_slab}
-use Rattle.part_laws.specs.Pages.{released, reserved, ReservedAgrees, ReleasedShows, ReleasedAgrees}
+use Rattle.part_laws.specs.Pages.{released, ReleasedShows, ReleasedAgrees}
 use Rattle.part_laws.proofs.PageLists.{order_less}
 use Rattle.part_laws.proofs.PageHoldings.{own_changed, set_none, agree_held, spares_held}
 
-own_reserved : (t f k : ℕ) (c : buddies.Content) → holding_of t (reserved t f k c) ≡ with_block f k (holding_of t c)
-own_reserved t f k c = own_changed t (with_block f k) c refl
-
 own_released : (t f : ℕ) (c : buddies.Content) → holding_of t (released t f c) ≡ without_block f (holding_of t c)
 own_released t f c = own_changed t (without_block f) c refl
-
-pub reserved_agrees : ReservedAgrees
-reserved_agrees r b s t f k a untaken = (
-  agree_held r b s t a (with_block f k (holding_of t b)) (own_reserved t f k b) refl stays,
-  spares_held r b s t a (with_block f k (holding_of t b)) (own_reserved t f k b) refl stays,
-)
-  where
-    stays : (g : ℕ) → has_slab s (node_of s.top r.slots t g) ≡ true → taken_of (holding_of t b) g ≢ None
-        → taken_of (with_block f k (holding_of t b)) g ≡ taken_of (holding_of t b) g
-    stays g has taken =
-        get_or-set_other (holding_of t b).taken f g (Some k) None (λ same. taken (ap (taken_of (holding_of t b)) same ∙ untaken))
 
 past_none : (has gone : Bool) (o : Option ℕ) → cond gone None (cond has None o) ≡ cond has None (cond gone None o)
 past_none true true o = refl

@@ -1,12 +1,12 @@
 -- The laws of page blocks, of reach, and of bytes read and written; and that the parts show one machine at most.
-use Rattle.std.specs.Prelude.{◌≡◌, ◌↔◌, ◌⊎◌, ℕ, ◌+◌, ◌*◌, ◌/◌, ◌%◌, ◌^◌, ◌<◌, ◌≤◌, true, false, nat_lt, ◌&&◌, List, Some, None, IsSome, length, filter_map, slice_index, slice_index_or}
-use Rattle.std.specs.List.{list_any, range_with_len}
+use Rattle.std.specs.Prelude.{◌≡◌, ◌↔◌, ◌⊎◌, ℕ, ◌+◌, ◌*◌, ◌/◌, ◌%◌, ◌^◌, ◌<◌, ◌≤◌, true, false, List, Some, IsSome, length, filter_map, slice_index, slice_index_or}
+use Rattle.std.specs.List.{range_with_len}
 use Rattle.model_core.specs.Blocks.{block, HasFrame, IsTaken}
 use Rattle.model_core.specs.Layouts.{is_small}
 use Rattle.model_core.specs.Machine.{Slab, Cache, Machine}
 use Rattle.model_core.specs.Slabs.{cache_of, slab_of}
 use Rattle.model_core.specs.Operations.{without_block, written}
-use Rattle.model_core.specs.Reach.{within_objects, in_reach}
+use Rattle.model_core.specs.Reach.{in_reach}
 use Rattle.space_core.specs.Content as spaces
 use Rattle.space_core.specs.Windows.{home_of, with_window, byte_at}
 use Rattle.space_core.specs.Laws.{IsRead, SpaceLaws}
@@ -20,18 +20,9 @@ use Rattle.slab_laws.specs.Steady.{IsSteady}
 use Rattle.slab_laws.specs.Changes.{Found}
 use Rattle.slab_laws.specs.Objects.{HasRange}
 
--- the buddy systems with a block of order k of tenant t at frame f taken
-abbrev pub reserved : ℕ → ℕ → ℕ → buddies.Content → buddies.Content
-reserved t f k b = buddies.with_holding t (buddies.with_block f k (buddies.holding_of t b)) b
-
--- .. and with the taken block at frame f released
+-- the buddy systems with the taken block of tenant t at frame f released
 abbrev pub released : ℕ → ℕ → buddies.Content → buddies.Content
 released t f b = buddies.with_holding t (buddies.without_block f (buddies.holding_of t b)) b
-
--- a block taken at a frame where none was: the parts agree as before, and others keep everything
-abbrev pub ReservedAgrees : Type 0
-ReservedAgrees = (r : spaces.Content) (b : buddies.Content) (s : Content) (t f k : ℕ)
-    → Agree r b s → buddies.taken_of (buddies.holding_of t b) f ≡ None → Agree r (reserved t f k b) s × Spares t r r b (reserved t f k b) s s
 
 -- a block released is the page block less in the machine
 abbrev pub ReleasedShows : Type 0
@@ -61,12 +52,6 @@ pub record IsInReach (r : spaces.Content) (b : buddies.Content) (s : Content) (t
 abbrev pub ReachMeets : Type 0
 ReachMeets = (r : spaces.Content) (b : buddies.Content) (s : Content) (t place len : ℕ) (m : Machine)
     → IsSteady r b s t → ShowsMachine r b s t m → (in_reach m place len ≡ true) ↔ IsInReach r b s t place len
-
--- a live object has the range exactly where one of the machine has it
-abbrev pub ObjectsMeet : Type 0
-ObjectsMeet = (r : spaces.Content) (b : buddies.Content) (s : Content) (t place len : ℕ) (m : Machine)
-    → IsSteady r b s t → ShowsMachine r b s t m
-    → ((nat_lt 0 len && list_any (within_objects place len) m.caches) ≡ true) ↔ ((o : Found) × HasRange r s t place len o)
 
 -- the taken block that has the first frame of a range tells whether the range lies inside a page block ..
 abbrev pub BlockTells : Type 0

@@ -98,9 +98,3 @@ abbrev pub OpeningShows : Type 0
 OpeningShows = (order superblocks tenants : ℕ)
     → IsOpening (spaces.empty_space (4096 * 2 ^ order) superblocks tenants) (buddies.opening order superblocks tenants)
     (opening order superblocks tenants)
-
--- what is done for tenant t leaves every other tenant's machine as it was
-abbrev pub TenantAlone : Type 0
-TenantAlone = (r r' : spaces.Content) (b b' : buddies.Content) (s s' : Content) (t : ℕ)
-    → ((u : ℕ) → u ≢ t → Keeps r r' b b' s s' u)
-    → (u : ℕ) → u ≢ t → (m : Machine) → ShowsMachine r b s u m → ShowsMachine r' b' s' u m

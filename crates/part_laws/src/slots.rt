@@ -1,25 +1,15 @@
 //! What becomes of the parts where a tenant's slots change.
 
-ghost use Rattle.part_laws.specs.Slots.{GrantedShows, NextMeets, TakenBackShows, BusyMeets, UnownedIsSpare, NodesWithin, MovedShows, EmptiedShows, OpeningShows, TenantAlone};
+ghost use Rattle.part_laws.specs.Slots.{GrantedShows, TakenBackShows, UnownedIsSpare, NodesWithin, MovedShows, EmptiedShows, OpeningShows};
 
 /// A superblock without owner put under a free slot is a superblock granted to the machine.
 pub fn granted_shows()
     ensures { GrantedShows }
 {}
 
-/// The least slot that a tenant does not hold is the next slot of its machine.
-pub fn next_meets()
-    ensures { NextMeets }
-{}
-
 /// A superblock taken from under a slot without taken frames is a slot taken back from the machine.
 pub fn taken_back_shows()
     ensures { TakenBackShows }
-{}
-
-/// A slot has a taken frame exactly where it is busy in the machine.
-pub fn busy_meets()
-    ensures { BusyMeets }
 {}
 
 /// A superblock without owner stands under no slot, and no slab begins on it.
@@ -45,9 +35,4 @@ pub fn emptied_shows()
 /// The parts agree at first, and every tenant has the empty machine.
 pub fn opening_shows()
     ensures { OpeningShows }
-{}
-
-/// Whoever keeps everything is shown the same machine.
-pub fn tenant_alone()
-    ensures { TenantAlone }
 {}

@@ -1,3 +1,4 @@
 mod SlotSteps
 pub mod TextLemmas
 pub mod CallLemmas
+mod Witnesses

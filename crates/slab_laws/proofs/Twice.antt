@@ -10,7 +10,6 @@ use Rattle.slab_tables.specs.Content.{Content}
 use Rattle.slab_laws.specs.Shows.{node_of, has_slab, is_inside, IsSlab}
 use Rattle.slab_laws.specs.Steady.{IsSteady}
 use Rattle.slab_laws.specs.Changes.{IsReturned}
-use Rattle.slab_laws.specs.Laws.{ReturnedTwice}
 use Rattle.slab_laws.proofs.Facts.{is_not, one_first}
 use Rattle.slab_laws.proofs.Returned.{node_same, has_now, slab_was, slab_stays}
 
@@ -72,6 +71,3 @@ module _ (r r' r'' : spaces.Content) (b b' b'' : buddies.Content) (s s' s'' : Co
         k'.bytes place (λ c f n cache p goes. out c f n cache (was c f n cache p).0 (or_right (gone f) (gone' f) goes))
         ∙ k.bytes place (λ c f n cache q goes. out c f n cache q (or_left (gone f) (gone' f) goes));
   }
-
-pub returned_twice : ReturnedTwice
-returned_twice r r' r'' b b' b'' s s' s'' t gone gone' st k k' = twice r r' r'' b b' b'' s s' s'' t gone gone' st k k'

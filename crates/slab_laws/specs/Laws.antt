@@ -1,5 +1,5 @@
 -- The laws of the object layer: what the changes of the parts are to the private machine that they show.
-use Rattle.std.specs.Prelude.{◌≡◌, ◌↔◌, ℕ, ◌<◌, ◌≤◌, ◌||◌, ◌==◌, Bool, true, false, if◌then◌else◌, Some, None, Ok, is_some, map, filter, find, length}
+use Rattle.std.specs.Prelude.{◌≡◌, ◌↔◌, ℕ, ◌<◌, ◌≤◌, ◌==◌, Bool, true, false, if◌then◌else◌, Some, None, Ok, is_some, map, filter, find, length}
 use Rattle.model_core.specs.Blocks.{block, HasFrame, with_taken}
 use Rattle.model_core.specs.Layouts.{IsLayout}
 use Rattle.model_core.specs.Machine.{Slab, Cache, Machine, taken_in, choice}
@@ -38,12 +38,6 @@ MarkedShows = (r r' : spaces.Content) (b : buddies.Content) (s s' : Content) (t 
 abbrev pub ReturnedShows : Type 0
 ReturnedShows = (r r' : spaces.Content) (b b' : buddies.Content) (s s' : Content) (t : ℕ) (gone : ℕ → Bool) (m : Machine)
     → IsReturned r r' b b' s s' t gone → IsSteady r b s t → ShowsMachine r b s t m → ShowsMachine r' b' s' t (returned gone m)
-
--- slabs given back, and then more
-abbrev pub ReturnedTwice : Type 0
-ReturnedTwice = (r r' r'' : spaces.Content) (b b' b'' : buddies.Content) (s s' s'' : Content) (t : ℕ) (gone gone' : ℕ → Bool)
-    → IsSteady r b s t → IsReturned r r' b b' s s' t gone → IsReturned r' r'' b' b'' s' s'' t gone'
-    → IsReturned r r'' b b'' s s'' t (λ f. gone f || gone' f)
 
 -- exactly the empty slabs given back are the machine reaped
 abbrev pub ReapedShows : Type 0

@@ -2,7 +2,7 @@ mod TableLemmas
 mod Mapping
 mod Banks
 mod Stored
-mod Empty
+pub mod Empty
 mod Mapped
 mod Changed
 mod Vacancy

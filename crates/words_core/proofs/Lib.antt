@@ -3,3 +3,4 @@ mod LineLemmas
 mod ReportLemmas
 pub mod TextLemmas
 mod WordLemmas
+mod Witnesses

@@ -8,3 +8,4 @@ pub mod ReportTexts
 pub mod Texts
 pub mod Answers
 pub mod Examples
+pub mod Laws

@@ -11,3 +11,5 @@ pub mod ReachedObjects
 mod WitnessesConstructed
 pub mod ReachedRoom
 pub mod Rows
+pub mod Witnesses
+pub mod WitnessesReached

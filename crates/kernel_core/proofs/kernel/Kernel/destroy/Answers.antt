@@ -1,10 +1,8 @@
-use Rattle.std.proofs.Common.{◌≡◌, sym, ap, ◌∙◌, subst}
-use Rattle.words_core.specs.declared.reply.Body.{Body}
+use Rattle.std.proofs.Common.{◌≡◌, sym, ap, ◌∙◌}
 use Rattle.words_core.specs.declared.reply.Body.TheVariants.{Destroyed}
-use Rattle.words_core.specs.declared.event.Command.TheVariants as Command
 use Rattle.model_core.specs.declared.refusals.DestroyRefusal.TheVariants.{NoCache, CacheInUse}
 use Rattle.world_core.specs.PrivateStep.{destroy_body}
-use Rattle.kernel_core.specs.Steps.{StepsMachine, body_of}
+use Rattle.kernel_core.specs.Steps.{body_of}
 use Rattle.kernel_core.proofs.CacheSteps.{by_refusal, destroyed}
 use Rattle.kernel_core.proofs.kernel.Kernel.destroy.Goals as goal
 use Rattle.kernel_core.proofs.kernel.Kernel.destroy.Goals.{in-Ok, in-Err-NoCache, in-Err-CacheInUse}

@@ -1,6 +1,5 @@
-use Rattle.std.proofs.Common.{◌≡◌, Some, Err, sym, ap, ◌∙◌, subst}
-use Rattle.kernel_core.specs.Parts.{parts_of}
-use Rattle.kernel_core.proofs.CacheSteps.{HasLayout, IsCreate, has_layout, cache_bad_size, cache_bad_align, create_agrees, created, cache_told, told_cache}
+use Rattle.std.proofs.Common.{Err, sym, ap, ◌∙◌}
+use Rattle.kernel_core.proofs.CacheSteps.{has_layout, cache_bad_size, cache_bad_align, create_agrees, created, cache_told, told_cache}
 use Rattle.kernel_core.proofs.kernel.Kernel.make_cache.Goals as goal
 
 pub returns-in-Err-BadSize : goal.returns-in-Err-BadSize

@@ -1,10 +1,8 @@
-use Rattle.std.proofs.Common.{◌≡◌, sym, ap, ◌∙◌, subst}
-use Rattle.words_core.specs.declared.reply.Body.{Body}
+use Rattle.std.proofs.Common.{◌≡◌, sym, ap, ◌∙◌}
 use Rattle.words_core.specs.declared.reply.Body.TheVariants.{Object}
-use Rattle.words_core.specs.declared.event.Command.TheVariants as Command
 use Rattle.model_core.specs.declared.refusals.TakeRefusal.TheVariants.{NoCache, NoFrames}
 use Rattle.world_core.specs.PrivateStep.{take_body}
-use Rattle.kernel_core.specs.Steps.{StepsMachine, body_of}
+use Rattle.kernel_core.specs.Steps.{body_of}
 use Rattle.kernel_core.proofs.CacheSteps.{by_refusal, taken}
 use Rattle.kernel_core.proofs.kernel.Kernel.take.Goals as goal
 use Rattle.kernel_core.proofs.kernel.Kernel.take.Goals.{in-Ok, in-Err-NoCache, in-Err-NoFrames}

@@ -1,0 +1,26 @@
+-- For each law an instance of its premises, and what it says there.
+use Rattle.std.proofs.Common.{◌≡◌, ℕ, ◌≤◌, refl, arith}
+use Rattle.model_core.specs.Layouts.{LayoutsFit, IsLayout, layout_of}
+use Rattle.layout_core.specs.Cut.{cut}
+use Rattle.layout_core.specs.Objects.{Holds}
+use Rattle.layout_core.specs.Laws.{IsLeastOrder, EverySizeHasAnOrder, ObjectsApart, FewObjects}
+
+LayoutsFit-met : LayoutsFit → IsLayout 200 8 (layout_of 200 8)
+LayoutsFit-met law = law 200 8 refl refl
+
+-- four frames leave less than an eighth unused, one and two do not
+EverySizeHasAnOrder-met : EverySizeHasAnOrder → IsLeastOrder 3000 2
+unfolding layout_of
+EverySizeHasAnOrder-met law = law 3000 8 refl refl
+
+-- the last byte of the second object
+it_holds : Holds (cut 100 8) 0 203 1 1
+unfolding layout_of
+it_holds = record { object = omega arith; some = omega arith; from = omega arith; to = omega arith }
+
+ObjectsApart-met : ObjectsApart → ◌≡◌ {A = ℕ} 1 1
+ObjectsApart-met law = law 100 8 0 203 1 1 refl refl it_holds it_holds
+
+FewObjects-met : FewObjects → (254 ≤ 254) × (5 ≤ 16)
+unfolding layout_of
+FewObjects-met law = ((law 16 8 refl refl).0 refl, (law 3000 8 refl refl).1 refl)

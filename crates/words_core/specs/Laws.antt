@@ -1,0 +1,15 @@
+-- The law of lines.
+use Rattle.std.specs.Prelude.{◌≡◌, ℕ, List, Option, Result}
+use Rattle.words_core.specs.declared.event.Event.{Event}
+use Rattle.words_core.specs.declared.event.LineFault.{LineFault}
+use Rattle.words_core.specs.Cases.{Case}
+use Rattle.words_core.specs.Grammar.{reading_of}
+
+-- each line is in a case, in which it says what it reads as
+abbrev pub EachLineHasACase : Type 0
+EachLineHasACase = (line : List ℕ) → (number : ℕ) × Case number line (reading_of line)
+
+-- it is in no other, and says nothing else
+abbrev pub NoLineHasTwo : Type 0
+NoLineHasTwo = (line : List ℕ) (number other : ℕ) (reading second : Result (Option Event) LineFault)
+    → Case number line reading → Case other line second → (other ≡ number) × (second ≡ reading)

@@ -1,0 +1,138 @@
+-- For each law of reached machines an instance of its premises, met by computation: slots of 8 frames.
+use Rattle.std.proofs.Common.{◌≡◌, ℕ, ◌<◌, ◌≤◌, false, List, [], ◌∷◌, Some, Ok, replicate, refl, arith}
+use Rattle.std.specs.Prelude.{codes, slice_get}
+use Rattle.hex.proofs.OnLiterals.{hex_on_literals}
+use Rattle.model_core.specs.Blocks.{Block, block, HasFrame, IsTaken, IsChoice, IsSound}
+use Rattle.model_core.specs.BlockLaws.{JoinsTo}
+use Rattle.model_core.specs.Layouts.{layout_of}
+use Rattle.model_core.specs.Machine.{Slab, Cache, Machine, empty_machine, holds, taken_blocks, taken_in, choice, layout}
+use Rattle.model_core.specs.Slabs.{fresh_byte, grown_cache, grown, slab_to_use, reaped, by_need}
+use Rattle.model_core.specs.Operations.{alloc_step, free_step, next_slot, after_grant}
+use Rattle.model_core.specs.CacheOperations.{next_number, create_step, cache_step, take_step, give_step}
+use Rattle.model_core.specs.Runs.{Operation, run}
+use Rattle.model_core.specs.WellFormed.{IsWellFormed}
+use Rattle.model_core.specs.Laws.{Object, IsObject, HasByte}
+use Rattle.model_core.specs.Room.{IsAmple}
+use Rattle.model_core.proofs.Bridge.{available_tells}
+use Rattle.words_core.specs.declared.event.Event.TheVariants as On
+use Rattle.words_core.specs.declared.event.Command.TheVariants as Asked
+use Rattle.words_core.specs.declared.reply.Addressee.TheVariants as To
+use Rattle.words_core.specs.declared.reply.Body.TheVariants as Say
+use Rattle.words_core.specs.Words.{words_of}
+use Rattle.words_core.specs.Grammar.{event_of, judged, reading_of}
+use Rattle.words_core.specs.Cutting.{lines_of_trace}
+use Rattle.world_core.specs.PrivateStep.{Entry, Ask, Grant, command_step, private_step}
+use Rattle.world_core.specs.World.{World, opening_world, answer, grant_step, tenant_step, world_step, world_after}
+use Rattle.world_core.specs.Output.{events_of}
+use Rattle.world_core.specs.Laws.{opening_history}
+use Rattle.world_core.specs.Reached.{reached_machine, AreAsked, EntriesAreOperations, OwnListsAreAsked, IsFreeIn, ReachedWellFormed, ReachedSound, ReachedFreeOnce, ReachedSplits, ReachedJoins, ReachedApart, ReachedRecordsFree, ReachedRoom, ReachedObjectRoom, NobodyStarves}
+
+-- A slot granted, a cache, an object of it taken and given back: one slab, which is empty
+
+abbrev trace : List ℕ
+trace = codes "admin grant 0\n1 alloc 0\n0 cache 64 8 00\n0 take 0\n0 give 0 0\n"
+
+abbrev entries : List Entry
+entries = Grant ∷ Ask (Asked.Cache 64 8 (record { items = 0 ∷ [] })) ∷ Ask (Asked.Take 0) ∷ Ask (Asked.Give 0 0) ∷ []
+
+abbrev machine : Machine
+machine = reached_machine 32 3 entries
+
+are_asked : AreAsked entries
+are_asked = (tt, (refl, (tt, (tt, tt))))
+
+EntriesAreOperations-met : EntriesAreOperations →
+    machine ≡ run 32 3 (Operation.Grant ∷ Operation.Create 64 8 (0 ∷ []) ∷ Operation.Take 0 ∷ Operation.Give 0 0 ∷ []) empty_machine
+EntriesAreOperations-met law = law 32 3 entries empty_machine
+
+OwnListsAreAsked-met : OwnListsAreAsked → AreAsked entries
+unfolding opening_history opening_world world_step grant_step tenant_step answer reading_of words_of judged event_of hex_on_literals command_step alloc_step free_step cache_step create_step next_number take_step give_step grown_cache grown slab_to_use fresh_byte by_need reaped choice taken_blocks empty_machine next_slot after_grant layout_of private_step
+OwnListsAreAsked-met law = law 32 3 2 2 0 trace
+
+ReachedWellFormed-met : ReachedWellFormed → IsWellFormed 32 3 machine
+ReachedWellFormed-met law = law 32 3 entries are_asked
+
+ReachedSound-met : ReachedSound → IsSound 3 (holds machine) (taken_in machine)
+ReachedSound-met law = law 32 3 entries are_asked
+
+-- Frame 0 is taken: frame 1 lies in one free block, of order 0
+
+abbrev one_block : List Entry
+one_block = Grant ∷ Ask (Asked.Alloc 0) ∷ []
+
+untaken : IsTaken (taken_in (reached_machine 32 3 one_block)) 1 → ⊥
+unfolding command_step alloc_step free_step by_need reaped choice taken_blocks empty_machine next_slot after_grant private_step
+untaken = (available_tells 3 (holds (reached_machine 32 3 one_block)) (taken_in (reached_machine 32 3 one_block)) 1 refl).1
+
+ReachedFreeOnce-met : ReachedFreeOnce → (b : Block) × IsFreeIn 3 (reached_machine 32 3 one_block) b × HasFrame b 1
+unfolding command_step alloc_step free_step by_need reaped choice taken_blocks empty_machine next_slot after_grant private_step
+ReachedFreeOnce-met law = let once = law 32 3 1 one_block refl untaken in (once.0, once.1, once.2)
+
+answered : (alloc_step 3 0 (reached_machine 32 3 one_block)).answer ≡ Ok 1
+unfolding command_step alloc_step free_step by_need reaped choice taken_blocks empty_machine next_slot after_grant private_step
+answered = refl
+
+-- one more block of a frame splits what is chosen, of some order j
+ReachedSplits-met : ReachedSplits → let m = by_need 3 0 (reached_machine 32 3 one_block) in (j : ℕ) × IsChoice 3 (holds m) (taken_in m) 0 (block 1 j)
+ReachedSplits-met law = let splits = law 32 3 0 1 one_block (tt, (tt, tt)) answered in (splits.0, splits.1)
+
+-- the block released is joined up to some order j
+ReachedJoins-met : ReachedJoins → (j : ℕ) × JoinsTo 3 (holds (reached_machine 32 3 one_block)) (taken_in (reached_machine 32 3 one_block)) 0 0 j
+unfolding command_step alloc_step free_step by_need reaped choice taken_blocks empty_machine next_slot after_grant private_step
+ReachedJoins-met law = let joins = law 32 3 0 0 one_block (tt, (tt, tt)) refl in (joins.0, joins.1)
+
+-- The second object of the slab
+
+abbrev the_slab : Slab
+the_slab = record { first = 0; colour = 0; live = replicate 63 false }
+
+abbrev the_cache : Cache
+the_cache = record { number = 0; size = 64; align = 8; pattern = 0 ∷ []; made = 1; slabs = the_slab ∷ [] }
+
+abbrev object : Object
+object = record { cache = the_cache; slab = the_slab; index = 1 }
+
+it_is_there : IsObject machine object
+unfolding command_step alloc_step free_step cache_step create_step next_number take_step give_step grown_cache grown slab_to_use fresh_byte by_need reaped choice taken_blocks empty_machine next_slot after_grant layout_of private_step
+it_is_there = record { cache_in = (0, omega arith, refl); slab_in = (0, omega arith, refl); index_in = omega arith }
+
+its_byte : HasByte object 100
+unfolding layout_of
+its_byte = (omega arith, omega arith)
+
+ReachedApart-met : ReachedApart → object ≡ object
+ReachedApart-met law = law 32 3 entries are_asked object object it_is_there it_is_there 100 its_byte its_byte
+
+ReachedRecordsFree-met : ReachedRecordsFree → (0 ≤ 100) × (100 < 4064)
+unfolding layout_of
+ReachedRecordsFree-met law = law 32 3 entries are_asked object it_is_there refl 100 its_byte
+
+-- Its slab is empty, so the whole slot is there for a block ..
+
+is_ample : IsAmple 3 3 machine
+unfolding command_step alloc_step free_step cache_step create_step next_number take_step give_step grown_cache grown slab_to_use fresh_byte by_need reaped choice taken_blocks empty_machine next_slot after_grant layout_of private_step
+is_ample = record { of_slot = omega arith; fewer = omega arith }
+
+ReachedRoom-met : ReachedRoom → (first : ℕ) × ((command_step 32 3 (Asked.Alloc 3) machine).answer ≡ Say.Frame first)
+ReachedRoom-met law = law 32 3 3 entries are_asked is_ample
+
+-- .. and all its frames for slabs of the cache
+is_ample_for_slabs : IsAmple 3 (layout the_cache).order machine
+unfolding command_step alloc_step free_step cache_step create_step next_number take_step give_step grown_cache grown slab_to_use fresh_byte by_need reaped choice taken_blocks empty_machine next_slot after_grant layout_of private_step
+is_ample_for_slabs = record { of_slot = omega arith; fewer = omega arith }
+
+ReachedObjectRoom-met : ReachedObjectRoom → (place : ℕ) × ((command_step 32 3 (Asked.Take 0) machine).answer ≡ Say.Object place)
+unfolding command_step alloc_step free_step cache_step create_step next_number take_step give_step grown_cache grown slab_to_use fresh_byte by_need reaped choice taken_blocks empty_machine next_slot after_grant layout_of private_step
+ReachedObjectRoom-met law = law 32 3 0 entries the_cache are_asked refl is_ample_for_slabs
+
+-- the world of two tenants after the trace
+abbrev world : World
+world = world_after 32 3 (opening_world 2 2) (events_of (lines_of_trace trace))
+
+its_machine : slice_get world.machines 0 ≡ Some machine
+unfolding opening_history opening_world world_step grant_step tenant_step answer reading_of words_of judged event_of hex_on_literals command_step alloc_step free_step cache_step create_step next_number take_step give_step grown_cache grown slab_to_use fresh_byte by_need reaped choice taken_blocks empty_machine next_slot after_grant layout_of private_step
+its_machine = refl
+
+NobodyStarves-met : NobodyStarves →
+    (first : ℕ) × ((world_step 32 3 (On.Tenant 0 (Asked.Alloc 3)) world).reply ≡ record { addressee = To.Tenant 0; body = Say.Frame first })
+NobodyStarves-met law = law 32 3 2 2 0 3 trace machine (omega arith) its_machine is_ample
