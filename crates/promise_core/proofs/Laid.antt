@@ -1,0 +1,406 @@
+-- What is live lies apart and in held slots, by induction over the exchanges.
+use Rattle.std.proofs.Common.{◌≡◌, ℕ, ◌+◌, ◌*◌, ◌/◌, ◌^◌, ◌<◌, ◌≤◌, Bool, true, false, not, List, [], ◌∷◌, ◌++◌, map, length, Option, Some, None, Result, Ok, Err, is_none, slice_get, refl, ap, sym, subst, ◌∙◌, ◌⊎◌, inl, inr, arith}
+use Rattle.std.specs.Prelude.{if◌then◌else◌, filter, find, flat_map, nat_lt, ◌==◌}
+use Rattle.std.specs.Option.{option_map_or}
+use Rattle.std.proofs.Math.Nat.{div-mul-le_self, lt-div-mul-add}
+use Rattle.std.proofs.lemmas.Nat.{pow_pos}
+use Rattle.std.proofs.lemmas.Bool.{eq-eqb, ne_eqb, eqb-true, false≢true, or_cases, and_from, and_parts, leb-true, lt-ltb, not-true, not-false}
+use Rattle.model_core.specs.Blocks.{Block, block, HasFrame, IsAligned, slot_block}
+use Rattle.model_core.specs.Machine.{put_rising}
+use Rattle.model_core.specs.Operations.{overlaps}
+use Rattle.model_core.proofs.Lists.{IsIn, find_in, filter_in, in_filter, some_any, any_in}
+use Rattle.model_core.proofs.ObjectsApart.{contains_in}
+use Rattle.words_core.specs.declared.event.Event.{Event}
+use Rattle.words_core.specs.declared.event.Event.TheVariants as On
+use Rattle.words_core.specs.declared.event.AdminCommand.TheVariants as Do
+use Rattle.words_core.specs.declared.event.Command.TheVariants as Asked
+use Rattle.words_core.specs.declared.reply.Body.{Body}
+use Rattle.words_core.specs.declared.reply.Body.TheVariants as Say
+use Rattle.words_core.specs.declared.reply.Refusal.{Refusal}
+use Rattle.words_core.specs.declared.reply.Reply.{Reply}
+use Rattle.world_core.specs.World.{Exchange}
+use Rattle.promise_core.specs.declared.promise.Promise.{Promise}
+use Rattle.promise_core.specs.Holdings.{ToldCache, Holdings, holds, cache_of, with_live, slab_at, taken_blocks, is_vacant, can_stand, is_busy, live_beside, can_be_taken}
+use Rattle.promise_core.specs.State.{State, Known, opening_state, opening, state_after}
+use Rattle.promise_core.specs.Promises.{first_due, due, refusals, blocks, objects, layout, named, allowed, all_allowed}
+use Rattle.promise_core.specs.Laws.{Uses, LiveApart}
+use Rattle.promise_core.proofs.Allowed.{ok_same, allowed_is}
+use Rattle.promise_core.proofs.Confined.{in_put, in_map, replicated, some_state, states_at}
+
+-- Lists
+
+put_keeps : {X : Type 0} (key : X → ℕ) (x y : X) (ys : List X) → IsIn y ys → IsIn y (put_rising key x ys)
+put_keeps key x y [] i = elim i [ ]
+put_keeps {X} key x y (z ∷ zs) i = go (nat_lt (key x) (key z)) i (put_keeps key x y zs)
+  where
+    go : (b : Bool) → IsIn y (z ∷ zs) → (IsIn y zs → IsIn y (put_rising key x zs)) → IsIn y (if b then x ∷ (z ∷ zs) else z ∷ put_rising key x zs)
+    go true j ih = inr j
+    go false (inl e) ih = inl e
+    go false (inr j) ih = inr (ih j)
+
+in_left : {X : Type 0} (x : X) (xs ys : List X) → IsIn x xs → IsIn x (xs ++ ys)
+in_left x [] ys i = elim i [ ]
+in_left x (z ∷ zs) ys (inl e) = inl e
+in_left x (z ∷ zs) ys (inr i) = inr (in_left x zs ys i)
+
+in_right : {X : Type 0} (x : X) (xs ys : List X) → IsIn x ys → IsIn x (xs ++ ys)
+in_right x [] ys i = i
+in_right x (z ∷ zs) ys i = inr (in_right x zs ys i)
+
+mapped_in : {X Y : Type 0} (f : X → Y) (x : X) (xs : List X) → IsIn x xs → IsIn (f x) (map f xs)
+mapped_in f x [] i = elim i [ ]
+mapped_in f x (z ∷ zs) (inl e) = inl (ap f e)
+mapped_in f x (z ∷ zs) (inr i) = inr (mapped_in f x zs i)
+
+in_flat : {X Y : Type 0} (f : X → List Y) (x : X) (y : Y) (xs : List X) → IsIn x xs → IsIn y (f x) → IsIn y (flat_map f xs)
+in_flat f x y [] i j = elim i [ ]
+in_flat f x y (z ∷ zs) (inl e) j = in_left y (f z) (flat_map f zs) (subst (λ v. IsIn y (f v)) (sym e) j)
+in_flat f x y (z ∷ zs) (inr i) j = in_right y (f z) (flat_map f zs) (in_flat f x y zs i j)
+
+none_found : {X : Type 0} (p : X → Bool) (x : X) (xs : List X) → find p xs ≡ None → IsIn x xs → p x ≡ false
+none_found p x [] e i = elim i [ ]
+none_found {X} p x (y ∷ ys) e i = go (p y) refl e i (none_found p x ys)
+  where
+    go : (b : Bool) → p y ≡ b → ◌≡◌ {A = Option X} (if b then Some y else find p ys) None → IsIn x (y ∷ ys) → (find p ys ≡ None → IsIn x ys → p x ≡ false) → p x ≡ false
+    go true is e j ih = absurd (cc)
+    go false is e (inl same) ih = subst (λ z. p z ≡ false) same is
+    go false is e (inr j) ih = ih e j
+
+is_none_of : {X : Type 0} (o : Option X) → is_none o ≡ true → o ≡ None
+is_none_of None e = refl
+is_none_of (Some x) e = absurd (false≢true e)
+
+-- What has frames, and that it lies apart
+
+abbrev Used : Holdings → Option ℕ → Block → Type 0
+Used h None b = IsIn b h.pages
+Used h (Some n) b = (c : ToldCache) × (p : ℕ) × IsIn c h.caches × IsIn p c.live × (c.number ≡ n) × (b ≡ slab_at c p)
+
+abbrev HaveOwnNumbers : Holdings → Type 0
+HaveOwnNumbers h = (c d : ToldCache) → IsIn c h.caches → IsIn d h.caches → c.number ≡ d.number → c ≡ d
+
+pub record IsLaid (order : ℕ) (h : Holdings) : Type 0 where
+  pub placed : (by : Option ℕ) (b : Block) → Used h by b → IsAligned order b × (holds h (b.first / 2 ^ order) ≡ true)
+  pub apart : (by other : Option ℕ) (a b : Block) (x : ℕ) → Used h by a → Used h other b → HasFrame a x → HasFrame b x → (by ≡ other) × (a ≡ b)
+  pub numbers : HaveOwnNumbers h
+
+-- nothing more has frames, and what has them is in slots that are still held
+fewer : (order : ℕ) (h h' : Holdings) → IsLaid order h → ((by : Option ℕ) (b : Block) → Used h' by b → Used h by b)
+    → ((by : Option ℕ) (b : Block) → Used h' by b → holds h (b.first / 2 ^ order) ≡ true → holds h' (b.first / 2 ^ order) ≡ true) → HaveOwnNumbers h' → IsLaid order h'
+fewer order h h' l used held numbers = record {
+  placed = λ by b u. let p = l.placed by b (used by b u) in (p.0, held by b u p.1);
+  apart = λ by other a b x ua ub. l.apart by other a b x (used by a ua) (used other b ub);
+  numbers = numbers;
+}
+
+-- one block more, that shares no frame with another
+more : (order : ℕ) (h h' : Holdings) (new : Option ℕ) (n : Block) → IsLaid order h
+    → ((by : Option ℕ) (b : Block) → Used h' by b → Used h by b ⊎ ((by ≡ new) × (b ≡ n)))
+    → ((u : ℕ) → holds h u ≡ true → holds h' u ≡ true) → IsAligned order n → holds h (n.first / 2 ^ order) ≡ true
+    → ((by : Option ℕ) (b : Block) (x : ℕ) → Used h by b → HasFrame b x → HasFrame n x → ⊥) → HaveOwnNumbers h' → IsLaid order h'
+more order h h' new n l used held aligned here vacant numbers = record {
+  placed = λ by b u. elim (used by b u) [
+    | inl old ↦ let p = l.placed by b old in (p.0, held _ p.1)
+    | inr (e, is) ↦ subst (λ y. IsAligned order y × (holds h' (y.first / 2 ^ order) ≡ true)) (sym is) (aligned, held _ here)
+  ];
+  apart = λ by other a b x ua ub ha hb. elim (used by a ua) [
+    | inl old ↦ elim (used other b ub) [
+      | inl old' ↦ l.apart by other a b x old old' ha hb
+      | inr (e, is) ↦ absurd (vacant by a x old ha (subst (λ y. HasFrame y x) is hb))
+    ]
+    | inr (e, is) ↦ elim (used other b ub) [
+      | inl old ↦ absurd (vacant other b x old hb (subst (λ y. HasFrame y x) is ha))
+      | inr (e', is') ↦ (e ∙ sym e', is ∙ sym is')
+    ]
+  ];
+  numbers = numbers;
+}
+
+used_taken : (h : Holdings) (by : Option ℕ) (b : Block) → Used h by b → IsIn b (taken_blocks h)
+unfolding taken_blocks
+used_taken h None b i = in_left b h.pages _ i
+used_taken h (Some n) b (c, p, i, j, e, is) = in_right b h.pages _
+    (in_flat (λ d. map (slab_at d) d.live) c b h.caches i (subst (λ y. IsIn y (map (slab_at c) c.live)) (sym is) (mapped_in (slab_at c) p c.live j)))
+
+overlap_from : (a b : Block) (x : ℕ) → HasFrame a x → HasFrame b x → overlaps a b ≡ true
+overlap_from a b x (a_low, a_high) (b_low, b_high) =
+    and_from _ _ (lt-ltb a.first (b.first + 2 ^ b.order) (omega arith)) (lt-ltb b.first (a.first + 2 ^ a.order) (omega arith))
+
+-- what shares a frame with a vacant block is not used
+vacant_apart : (h : Holdings) (n : Block) → is_vacant h n ≡ true → (by : Option ℕ) (b : Block) (x : ℕ) → Used h by b → HasFrame b x → HasFrame n x → ⊥
+vacant_apart h n e by b x u hb hn =
+    false≢true (sym (not-true _ e) ∙ any_in (overlaps n) b (taken_blocks h) (used_taken h by b u) (overlap_from n b x hn hb))
+
+record CanStand (order : ℕ) (h : Holdings) (b : Block) : Type 0 where
+  aligned : IsAligned order b
+  held : holds h (b.first / 2 ^ order) ≡ true
+  vacant : is_vacant h b ≡ true
+
+can_stand_is : (order : ℕ) (h : Holdings) (b : Block) → can_stand order h b ≡ true → CanStand order h b
+unfolding can_stand
+can_stand_is order h b e = let p = and_parts _ _ e in let q = and_parts _ _ p.0 in let r = and_parts _ _ p.1 in
+    record { aligned = (leb-true b.order order q.0, eqb-true _ 0 q.1); held = r.0; vacant = r.1 }
+
+-- Live objects changed
+
+live_number : (b : Bool) (c : ToldCache) (live : List ℕ) → (if b then record c { live = live } else c).number ≡ c.number
+live_number true c live = refl
+live_number false c live = refl
+
+live_numbers : (h : Holdings) (number : ℕ) (change : List ℕ → List ℕ) → HaveOwnNumbers h → HaveOwnNumbers (with_live number change h)
+live_numbers h number change own c d i j e =
+    let x : (y : ToldCache) × IsIn y h.caches × ((if y.number == number then record y { live = change y.live } else y) ≡ c) = in_map _ c h.caches i in
+    let z : (y : ToldCache) × IsIn y h.caches × ((if y.number == number then record y { live = change y.live } else y) ≡ d) = in_map _ d h.caches j in
+    let same : x.0 ≡ z.0 = own x.0 z.0 x.1 z.1 (sym (live_number (x.0.number == number) x.0 (change x.0.live)) ∙ ap (λ y. y.number) x.2
+    ∙ e ∙ ap (λ y. y.number) (sym z.2) ∙ live_number (z.0.number == number) z.0 (change z.0.live)) in
+    sym x.2 ∙ ap (λ (y : ToldCache). if y.number == number then record y { live = change y.live } else y) same ∙ z.2
+
+-- what has frames then: what had them, or the slab of an object of that cache after the change
+abbrev Changed : Holdings → ℕ → (List ℕ → List ℕ) → Option ℕ → Block → Type 0
+Changed h number change by b = (c : ToldCache) × (p : ℕ) × IsIn c h.caches × (c.number ≡ number) × IsIn p (change c.live) × (by ≡ Some number) × (b ≡ slab_at c p)
+
+live_used : (h : Holdings) (number : ℕ) (change : List ℕ → List ℕ) (by : Option ℕ) (b : Block) → Used (with_live number change h) by b
+    → Used h by b ⊎ Changed h number change by b
+live_used h number change None b i = inl i
+live_used h number change (Some n) b (c, p, i, j, e, is) =
+    let x : (y : ToldCache) × IsIn y h.caches × ((if y.number == number then record y { live = change y.live } else y) ≡ c) = in_map _ c h.caches i in
+    go x.0 x.1 (x.0.number == number) refl x.2
+  where
+    go : (y : ToldCache) → IsIn y h.caches → (test : Bool) → (y.number == number) ≡ test → (if test then record y { live = change y.live } else y) ≡ c
+        → Used h (Some n) b ⊎ Changed h number change (Some n) b
+    go y m true t same = let at : y.number ≡ number = eqb-true _ _ t in
+        inr (y, p, m, at, subst (λ z. IsIn p z.live) (sym same) j, ap Some (sym e ∙ ap (λ z. z.number) (sym same) ∙ at), is ∙ ap (λ z. slab_at z p) (sym same))
+    go y m false t same = inl (y, p, m, subst (λ z. IsIn p z.live) (sym same) j, ap (λ z. z.number) same ∙ e, is ∙ ap (λ z. slab_at z p) (sym same))
+
+-- Each step
+
+alloc_laid : (order : ℕ) (h : Holdings) (b : Block) → IsLaid order h → can_stand order h b ≡ true
+    → IsLaid order (record h { pages = put_rising (λ x. x.first) b h.pages })
+alloc_laid order h b l e = let c = can_stand_is order h b e in
+    more order h (record h { pages = put_rising (λ x. x.first) b h.pages }) None b l used (λ u held. held) c.aligned c.held (vacant_apart h b c.vacant) l.numbers
+  where
+    used : (by : Option ℕ) (y : Block) → Used (record h { pages = put_rising (λ x. x.first) b h.pages }) by y → Used h by y ⊎ ((by ≡ None) × (y ≡ b))
+    used None y i = elim (in_put (λ x. x.first) b y h.pages i) [ inl same ↦ inr (refl, sym same) | inr old ↦ inl old ]
+    used (Some n) y u = inl u
+
+some_in : (xs : List ℕ) → nat_lt 0 (length xs) ≡ true → (x : ℕ) × IsIn x xs
+some_in [] e = absurd (false≢true e)
+some_in (x ∷ xs) e = (x, inl refl)
+
+take_laid : (order number place : ℕ) (h : Holdings) (c : ToldCache) → IsLaid order h → cache_of h number ≡ Some c → can_be_taken order h c place ≡ true
+    → IsLaid order (with_live number (put_rising (λ p. p) place) h)
+unfolding can_be_taken
+take_laid order number place h c l e can = elim (or_cases _ _ (and_parts _ _ (and_parts _ _ can).0).1) [
+  | inl some ↦
+      let q : (x : ℕ) × IsIn x (live_beside c place) = some_in (live_beside c place) some in
+      let at = filter_in (λ p. (slab_at c p).first == (slab_at c place).first) q.0 c.live q.1 in
+      let same : slab_at c q.0 ≡ slab_at c place = ap (λ f. block f c.order) (eqb-true _ _ at.1) in
+      let there : Used h (Some number) (slab_at c place) = (c, q.0, found.0, at.0, is_number, sym same) in
+      fewer order h after l (λ by b u. elim (used by b u) [
+        | inl old ↦ old
+        | inr (is_by, is) ↦ subst (λ o. Used h o b) (sym is_by) (subst (Used h (Some number)) (sym is) there)
+      ]) (λ by b u held. held) (live_numbers h number (put_rising (λ p. p) place) l.numbers)
+  | inr stands ↦ let s = can_stand_is order h (slab_at c place) stands in
+      more order h after (Some number) (slab_at c place) l used (λ u held. held) s.aligned s.held (vacant_apart h (slab_at c place) s.vacant)
+      (live_numbers h number (put_rising (λ p. p) place) l.numbers)
+]
+  where
+    after : Holdings
+    after = with_live number (put_rising (λ p. p) place) h
+
+    found : IsIn c h.caches × ((c.number == number) ≡ true)
+    found = find_in (λ y. y.number == number) c h.caches e
+
+    is_number : c.number ≡ number
+    is_number = eqb-true _ _ found.1
+
+    used : (by : Option ℕ) (b : Block) → Used (with_live number (put_rising (λ p. p) place) h) by b → Used h by b ⊎ ((by ≡ Some number) × (b ≡ slab_at c place))
+    used by b u = elim (live_used h number (put_rising (λ p. p) place) by b u) [
+      | inl old ↦ inl old
+      | inr (d, p, m, num, j, is_by, is) ↦ let one : d ≡ c = l.numbers d c m found.0 (num ∙ sym is_number) in
+          elim (in_put (λ x. x) place p d.live j) [
+            | inl same ↦ inr (is_by, is ∙ ap (λ z. slab_at z p) one ∙ ap (slab_at c) (sym same))
+            | inr old ↦ inl (subst (λ o. Used h o b) (sym is_by) (d, p, m, old, num, is))
+          ]
+    ]
+
+give_laid : (order number place : ℕ) (h : Holdings) → IsLaid order h → IsLaid order (with_live number (filter (λ p. not (p == place))) h)
+give_laid order number place h l = fewer order h (with_live number (filter (λ p. not (p == place))) h) l (λ by b u.
+    elim (live_used h number (filter (λ p. not (p == place))) by b u) [
+      | inl old ↦ old
+      | inr (d, p, m, num, j, is_by, is) ↦
+          subst (λ o. Used h o b) (sym is_by) (d, p, m, (filter_in (λ p. not (p == place)) p d.live j).0, num, is)
+    ]) (λ by b u held. held) (live_numbers h number (filter (λ p. not (p == place))) l.numbers)
+
+free_laid : (order first : ℕ) (h : Holdings) → IsLaid order h → IsLaid order (record h { pages = filter (λ x. not (x.first == first)) h.pages })
+free_laid order first h l = fewer order h (record h { pages = filter (λ x. not (x.first == first)) h.pages }) l used (λ by b u held. held) l.numbers
+  where
+    used : (by : Option ℕ) (b : Block) → Used (record h { pages = filter (λ x. not (x.first == first)) h.pages }) by b → Used h by b
+    used None b i = (filter_in (λ x. not (x.first == first)) b h.pages i).0
+    used (Some n) b u = u
+
+destroy_laid : (order number : ℕ) (h : Holdings) → IsLaid order h → IsLaid order (record h { caches = filter (λ c. not (c.number == number)) h.caches })
+destroy_laid order number h l = fewer order h (record h { caches = filter (λ c. not (c.number == number)) h.caches }) l used (λ by b u held. held)
+    (λ c d i j e. l.numbers c d (filter_in _ c h.caches i).0 (filter_in _ d h.caches j).0 e)
+  where
+    used : (by : Option ℕ) (b : Block) → Used (record h { caches = filter (λ c. not (c.number == number)) h.caches }) by b → Used h by b
+    used None b i = i
+    used (Some n) b (c, p, i, j, e, is) = (c, p, (filter_in (λ c. not (c.number == number)) c h.caches i).0, j, e, is)
+
+cache_laid : (order : ℕ) (h : Holdings) (new : ToldCache) → new.live ≡ [] → IsLaid order h → is_none (cache_of h new.number) ≡ true
+    → IsLaid order (record h { caches = put_rising (λ x. x.number) new h.caches })
+cache_laid order h new empty l none = fewer order h (record h { caches = put_rising (λ x. x.number) new h.caches }) l used (λ by b u held. held) numbers
+  where
+    other : (c : ToldCache) → IsIn c h.caches → c.number ≡ new.number → ⊥
+    other c i e = false≢true (sym (none_found (λ y. y.number == new.number) c h.caches (is_none_of _ none) i) ∙ eq-eqb _ _ e)
+
+    numbers : HaveOwnNumbers (record h { caches = put_rising (λ x. x.number) new h.caches })
+    numbers c d i j e = elim (in_put (λ x. x.number) new c h.caches i) [
+      | inl c_new ↦ elim (in_put (λ x. x.number) new d h.caches j) [
+        | inl d_new ↦ sym c_new ∙ d_new
+        | inr d_old ↦ absurd (other d d_old (sym e ∙ ap (λ y. y.number) (sym c_new)))
+      ]
+      | inr c_old ↦ elim (in_put (λ x. x.number) new d h.caches j) [
+        | inl d_new ↦ absurd (other c c_old (e ∙ ap (λ y. y.number) (sym d_new)))
+        | inr d_old ↦ l.numbers c d c_old d_old e
+      ]
+    ]
+
+    used : (by : Option ℕ) (b : Block) → Used (record h { caches = put_rising (λ x. x.number) new h.caches }) by b → Used h by b
+    used None b i = i
+    used (Some n) b (c, p, i, j, e, is) = elim (in_put (λ x. x.number) new c h.caches i) [
+      | inl c_new ↦ elim (subst (IsIn p) empty (subst (λ y. IsIn p y.live) (sym c_new) j)) [ ]
+      | inr old ↦ (c, p, old, j, e, is)
+    ]
+
+grant_laid : (order u : ℕ) (h : Holdings) → IsLaid order h → IsLaid order (record h { slots = put_rising (λ v. v) u h.slots })
+grant_laid order u h l = fewer order h (record h { slots = put_rising (λ v. v) u h.slots }) l same_used held l.numbers
+  where
+    same_used : (by : Option ℕ) (b : Block) → Used (record h { slots = put_rising (λ v. v) u h.slots }) by b → Used h by b
+    same_used None b i = i
+    same_used (Some n) b i = i
+
+    held : (by : Option ℕ) (b : Block) → Used (record h { slots = put_rising (λ v. v) u h.slots }) by b → holds h (b.first / 2 ^ order) ≡ true
+        → holds (record h { slots = put_rising (λ v. v) u h.slots }) (b.first / 2 ^ order) ≡ true
+    held by b i e = let v : (x : ℕ) × IsIn x h.slots × ((x == b.first / 2 ^ order) ≡ true) = some_any _ h.slots e in
+        any_in _ v.0 (put_rising (λ v. v) u h.slots) (put_keeps (λ v. v) u v.0 h.slots v.1) v.2
+
+in_slot_overlaps : (order slot : ℕ) (b : Block) → b.first / 2 ^ order ≡ slot → overlaps (slot_block order slot) b ≡ true
+in_slot_overlaps order slot b same = and_from _ _
+    (lt-ltb (slot * 2 ^ order) (b.first + 2 ^ b.order) (omega (arith, low, pow_pos b.order))) (lt-ltb b.first (slot * 2 ^ order + 2 ^ order) high)
+  where
+    low : slot * 2 ^ order ≤ b.first
+    low = subst (λ n. n * 2 ^ order ≤ b.first) same (div-mul-le_self b.first (2 ^ order))
+
+    high : b.first < slot * 2 ^ order + 2 ^ order
+    high = subst (λ n. b.first < n * 2 ^ order + 2 ^ order) same (lt-div-mul-add (pow_pos order))
+
+take_back_laid : (order u : ℕ) (h : Holdings) → is_busy order h u ≡ false → IsLaid order h → IsLaid order (record h { slots = filter (λ v. not (v == u)) h.slots })
+take_back_laid order u h idle l = fewer order h (record h { slots = filter (λ v. not (v == u)) h.slots }) l same_used held l.numbers
+  where
+    same_used : (by : Option ℕ) (b : Block) → Used (record h { slots = filter (λ v. not (v == u)) h.slots }) by b → Used h by b
+    same_used None b i = i
+    same_used (Some n) b i = i
+
+    outside : (by : Option ℕ) (b : Block) → Used h by b → b.first / 2 ^ order ≡ u → ⊥
+    outside by b i e = false≢true (sym (not-true _ (not-false _ idle)) ∙ any_in (overlaps (slot_block order u)) b (taken_blocks h) (used_taken h by b i)
+        (in_slot_overlaps order u b e))
+
+    held : (by : Option ℕ) (b : Block) → Used (record h { slots = filter (λ v. not (v == u)) h.slots }) by b → holds h (b.first / 2 ^ order) ≡ true
+        → holds (record h { slots = filter (λ v. not (v == u)) h.slots }) (b.first / 2 ^ order) ≡ true
+    held by b i e = let v : (x : ℕ) × IsIn x h.slots × ((x == b.first / 2 ^ order) ≡ true) = some_any _ h.slots e in
+        any_in _ v.0 (filter (λ v. not (v == u)) h.slots) (in_filter (λ v. not (v == u)) v.0 h.slots v.1
+        (ap not (ne_eqb v.0 u (λ is. outside by b (same_used by b i) (sym (eqb-true v.0 (b.first / 2 ^ order) v.2) ∙ is))))) v.2
+
+second_none : (a b : Bool) (r q : Refusal) → is_none (first_due ((a, r) ∷ (b, q) ∷ [])) ≡ true → b ≡ false
+second_none true b r q e = absurd (false≢true e)
+second_none false true r q e = absurd (false≢true e)
+second_none false false r q e = refl
+
+value_of : {X : Type 0} (f : X → Bool) (o : Option X) → option_map_or f o false ≡ true → (x : X) × (o ≡ Some x) × (f x ≡ true)
+value_of f None e = absurd (false≢true e)
+value_of f (Some x) e = (x, refl, e)
+
+nothing_laid : (order : ℕ) → IsLaid order opening_state.has
+unfolding opening_state
+nothing_laid order = record { placed = placed; apart = apart; numbers = λ c d i j e. elim i [ ] }
+  where
+    placed : (by : Option ℕ) (b : Block) → Used (record { slots = []; pages = []; caches = [] }) by b
+        → IsAligned order b × (holds (record { slots = []; pages = []; caches = [] }) (b.first / 2 ^ order) ≡ true)
+    placed None b i = elim i [ ]
+    placed (Some n) b (c, p, i, j, e, is) = elim i [ ]
+
+    apart : (by other : Option ℕ) (a b : Block) (x : ℕ) → Used (record { slots = []; pages = []; caches = [] }) by a
+        → Used (record { slots = []; pages = []; caches = [] }) other b → HasFrame a x → HasFrame b x → (by ≡ other) × (a ≡ b)
+    apart None other a b x i u ha hb = elim i [ ]
+    apart (Some n) other a b x (c, p, i, j, e, is) u ha hb = elim i [ ]
+
+step : (w : Known) (event : Event) (body : Body) (s s' : State) → state_after w.order event body s ≡ Some s' → refusals event body w s ≡ true
+    → blocks event body w s ≡ true → objects event body w s ≡ true → layout event body w s ≡ true → IsLaid w.order s.has → IsLaid w.order s'.has
+unfolding state_after due
+step w event (Say.Refused r) s s' e f b o c l = subst (λ y. IsLaid w.order y.has) (some_state e) l
+step w (On.Tenant i (Asked.Alloc k)) (Say.Frame first) s s' e f b o c l = subst (λ y. IsLaid w.order y.has) (some_state e) (alloc_laid w.order s.has (block first k) l b)
+step w (On.Tenant i (Asked.Free first)) (Say.Freed k) s s' e f b o c l = subst (λ y. IsLaid w.order y.has) (some_state e) (free_laid w.order first s.has l)
+step w (On.Tenant i (Asked.Read begin len)) (Say.Bytes told) s s' e f b o c l = subst (λ y. IsLaid w.order y.has) (some_state e) l
+step w (On.Tenant i (Asked.Write begin new)) (Say.Written count) s s' e f b o c l = subst (λ y. IsLaid w.order y.has) (some_state e) l
+step w (On.Tenant i (Asked.Cache size align pattern)) (Say.Cache number chunk q n colours) s s' e f b o c l = subst (λ y. IsLaid w.order y.has) (some_state e)
+    (cache_laid w.order s.has (record { number = number; size = size; align = align; pattern = pattern.items; chunk = chunk; order = q; count = n; live = [] }) refl l
+    (and_parts _ _ (and_parts _ _ c).0).1)
+step w (On.Tenant i (Asked.Destroy number)) (Say.Destroyed frames) s s' e f b o c l = subst (λ y. IsLaid w.order y.has) (some_state e) (destroy_laid w.order number s.has l)
+step w (On.Tenant i (Asked.Take number)) (Say.Object place) s s' e f b o c l = let v = value_of _ (cache_of s.has number) o in
+    subst (λ y. IsLaid w.order y.has) (some_state e) (take_laid w.order number place s.has v.0 l v.1 v.2)
+step w (On.Tenant i (Asked.Give number place)) Say.Given s s' e f b o c l = subst (λ y. IsLaid w.order y.has) (some_state e) (give_laid w.order number place s.has l)
+step w (On.Tenant i Asked.Reap) (Say.Reaped frames) s s' e f b o c l = subst (λ y. IsLaid w.order y.has) (some_state e) l
+step w (On.Tenant i Asked.Report) (Say.Report r) s s' e f b o c l = subst (λ y. IsLaid w.order y.has) (some_state e) l
+step w (On.Admin (Do.Grant i)) (Say.Granted told u superblock) s s' e f b o c l = subst (λ y. IsLaid w.order y.has) (some_state e) (grant_laid w.order u s.has l)
+step w (On.Admin (Do.TakeBack i u)) (Say.TakenBack superblock) s s' e f b o c l = subst (λ y. IsLaid w.order y.has) (some_state e)
+    (take_back_laid w.order u s.has (second_none (not (holds s.has u)) (is_busy w.order s.has u) Refusal.NoSlot Refusal.SlotBusy f) l)
+step w (On.Admin (Do.Reset i)) (Say.WasReset told superblocks) s s' e f b o c l = subst (λ y. IsLaid w.order y.has) (some_state e) (nothing_laid w.order)
+step w (On.Admin (Do.Move i u)) (Say.Moved told slot superblock) s s' e f b o c l = subst (λ y. IsLaid w.order y.has) (some_state e) l
+step w (On.Admin Do.Pool) (Say.Owners owners) s s' e f b o c l = subst (λ y. IsLaid w.order y.has) (some_state e) l
+step w event body s s' e f b o c l = absurd (cc)
+
+-- Whole runs
+
+abbrev AllLaid : ℕ → Known → Type 0
+AllLaid order w = (w.order ≡ order) × ((t : ℕ) (s : State) → slice_get w.states t ≡ Some s → IsLaid order s.has)
+
+allowed_laid : (order : ℕ) (event : Event) (reply : Reply) (w v : Known) → allowed event reply w ≡ Ok v → AllLaid order w → AllLaid order v
+allowed_laid order event reply w v e (o, l) = elim (allowed_is event reply w v e) [
+  | inl none ↦ subst (AllLaid order) (sym none.is) (o, l)
+  | inr a ↦ (
+    ap (λ k. k.order) a.is ∙ o,
+    λ t x h. elim (states_at t (named event) w.states a.after x (subst (λ k. slice_get k.states t ≡ Some x) a.is h)) [
+      | inl (same, is) ↦ subst (λ y. IsLaid order y.has) (sym is) (subst (λ k. IsLaid k a.after.has) o
+          (step w event reply.body a.state a.after a.next a.refusals a.blocks a.objects a.layout (subst (λ k. IsLaid k a.state.has) (sym o)
+          (l t a.state (subst (λ n. option_map_or (slice_get w.states) n (Some opening_state) ≡ Some a.state) same a.here)))))
+      | inr (other, was) ↦ l t x was
+    ],
+  )
+]
+
+run : (order : ℕ) (es : List Exchange) (w v : Known) → all_allowed es (Ok w) ≡ Ok v → AllLaid order w → AllLaid order v
+run order [] w v e l = subst (AllLaid order) (sym (ok_same e)) l
+run order (x ∷ xs) w v e l = go (allowed x.event x.reply w) refl e (λ u r m. run order xs u v r m)
+  where
+    go : (r : Result Known Promise) → allowed x.event x.reply w ≡ r → all_allowed xs r ≡ Ok v
+        → ((u : Known) → all_allowed xs (Ok u) ≡ Ok v → AllLaid order u → AllLaid order v) → AllLaid order v
+    go (Err promise) is r rest = absurd (cc)
+    go (Ok u) is r rest = rest u r (allowed_laid order x.event x.reply w u is l)
+
+opening_laid : (limit order superblocks tenants : ℕ) → AllLaid order (opening limit order superblocks tenants)
+unfolding opening
+opening_laid limit order superblocks tenants =
+    (refl, λ t s h. subst (λ y. IsLaid order y.has) (sym (replicated tenants t opening_state s h)) (nothing_laid order))
+
+used_of : (h : Holdings) (by : Option ℕ) (b : Block) → Uses h by b → Used h by b
+used_of h None b i = contains_in h.pages b i
+used_of h (Some n) b (c, p, i, j, e, is) = (c, p, contains_in h.caches c i, contains_in c.live p j, e, is)
+
+pub live_apart : LiveApart
+live_apart limit order superblocks tenants t es w s e h =
+    let l = (run order es (opening limit order superblocks tenants) w e (opening_laid limit order superblocks tenants)).1 t s h in
+    record {
+      placed = λ by b u. l.placed by b (used_of s.has by b u);
+      apart = λ by other a b x ua ub. l.apart by other a b x (used_of s.has by a ua) (used_of s.has other b ub);
+    }

@@ -1,0 +1,6 @@
+pub mod Allowed
+pub mod Explained
+pub mod Confined
+pub mod Laid
+pub mod Examples
+pub mod Witnesses

@@ -1,0 +1,47 @@
+-- For each law a run in which its premises hold and it says something.
+use Rattle.std.proofs.Common.{◌≡◌, ℕ, true, false, [], ◌∷◌, Option, Some, None, Result, Ok, Err, slice_get, unwrap_or, refl, arith}
+use Rattle.model_core.specs.Blocks.{block, HasFrame}
+use Rattle.words_core.specs.declared.event.Event.TheVariants as On
+use Rattle.words_core.specs.declared.event.Command.TheVariants as Asked
+use Rattle.words_core.specs.declared.reply.Addressee.TheVariants as To
+use Rattle.words_core.specs.declared.reply.Body.TheVariants as Say
+use Rattle.promise_core.specs.declared.promise.Promise.{Promise}
+use Rattle.promise_core.specs.Holdings.{ToldCache, taken_blocks, can_stand, vacant_blocks, can_be_taken}
+use Rattle.promise_core.specs.Bytes.{holder_of}
+use Rattle.promise_core.specs.State.{State, Known, opening_state, opening, state_after, owners_after}
+use Rattle.promise_core.specs.Promises.{due, allowed, all_allowed}
+use Rattle.promise_core.specs.Laws.{LiveApart, is_own, Confined}
+use Rattle.promise_core.proofs.Examples.{begun}
+
+abbrev known_of : Result Known Promise → Known
+known_of (Ok w) = w
+known_of (Err promise) = opening 32 3 3 2
+
+abbrev known : Known
+known = known_of (all_allowed begun (Ok (opening 32 3 3 2)))
+
+-- A page block beside the slab of an object
+
+abbrev the_state : State
+the_state = unwrap_or (slice_get known.states 0) opening_state
+
+abbrev the_cache : ToldCache
+the_cache = record { number = 0; size = 2000; align = 8; pattern = 90 ∷ []; chunk = 2000; order = 0; count = 2; live = 0 ∷ [] }
+
+none_is_some : {n : ℕ} → ◌≡◌ {A = Option ℕ} None (Some n) → ⊥
+none_is_some e = absurd (cc)
+
+LiveApart-met : LiveApart → (x : ℕ) → HasFrame (block 2 1) x → HasFrame (block 0 0) x → ⊥
+unfolding opening opening_state taken_blocks can_stand vacant_blocks can_be_taken holder_of state_after owners_after due allowed
+LiveApart-met law x page slab = none_is_some ((law 32 3 3 2 0 begun known the_state refl refl).apart None (Some 0) (block 2 1) (block 0 0) x
+    (0, omega arith, refl) (the_cache, 0, (0, omega arith, refl), (0, omega arith, refl), refl, refl) page slab).0
+
+-- the second of the bytes that were written, in a page block
+Confined-met : Confined → is_own 3 0 8193 2 begun ≡ true
+unfolding opening opening_state taken_blocks can_stand vacant_blocks can_be_taken holder_of state_after owners_after due allowed
+Confined-met law = law 32 3 3 2 0 8192 3 1 2 begun (To.Tenant 0) (record { items = 1 ∷ 2 ∷ 0 ∷ [] }) known
+    (known_of (allowed (On.Tenant 0 (Asked.Read 8192 3)) (record { addressee = To.Tenant 0; body = Say.Bytes (record { items = 1 ∷ 2 ∷ 0 ∷ [] }) }) known)) refl refl refl
+
+-- no other byte is its own there
+not_own : is_own 3 0 8193 3 begun ≡ false
+not_own = refl

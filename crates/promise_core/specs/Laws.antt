@@ -1,0 +1,72 @@
+-- What follows from the promises alone, for every program that keeps them.
+use Rattle.std.specs.Prelude.{◌≡◌, ℕ, ◌+◌, ◌-◌, ◌/◌, ◌^◌, Bool, true, false, not, List, [], ◌∷◌, length, Contains, Option, Some, None, Ok, slice_get, slice_index, nat_le, nat_lt, ◌&&◌, ◌||◌, ◌==◌}
+use Rattle.std.specs.List.{list_any}
+use Rattle.arrayvec.specs.ArrayVec.{ArrayVec}
+use Rattle.model_core.specs.Blocks.{Block, HasFrame, IsAligned}
+use Rattle.model_core.specs.Machine.{slot_of}
+use Rattle.words_core.specs.declared.event.Event.{Event}
+use Rattle.words_core.specs.declared.event.Event.TheVariants as On
+use Rattle.words_core.specs.declared.event.AdminCommand.TheVariants as Do
+use Rattle.words_core.specs.declared.event.Command.TheVariants as Asked
+use Rattle.words_core.specs.declared.reply.Addressee.{Addressee}
+use Rattle.words_core.specs.declared.reply.Body.{Body}
+use Rattle.words_core.specs.declared.reply.Body.TheVariants as Say
+use Rattle.world_core.specs.World.{Exchange}
+use Rattle.promise_core.specs.Holdings.{ToldCache, Holdings, holds, slab_at}
+use Rattle.promise_core.specs.State.{State, Known, opening}
+use Rattle.promise_core.specs.Promises.{allowed, all_allowed}
+
+-- the tenant asks for a cache whose pattern has the byte
+abbrev pub gives_pattern : ℕ → ℕ → Event → Bool
+gives_pattern t byte (On.Tenant named (Asked.Cache size align pattern)) = named == t && list_any (λ b. b == byte) pattern.items
+gives_pattern t byte event = false
+
+-- the tenant writes the byte at the place
+abbrev pub writes : ℕ → ℕ → ℕ → Event → Body → Bool
+writes t place byte (On.Tenant named (Asked.Write begin new)) (Say.Written n) =
+    named == t && ((nat_le begin place && nat_lt place (begin + length new.items))
+    && slice_index new.items (place - begin) == byte)
+writes t place byte event body = false
+
+-- the slot of the place is granted to the tenant; slots have 2 ^ order frames
+abbrev pub grants_slot : ℕ → ℕ → ℕ → Event → Body → Bool
+grants_slot order t place (On.Admin (Do.Grant named)) (Say.Granted told u superblock) = named == t && slot_of order place == u
+grants_slot order t place event body = false
+
+-- the byte is of a pattern that the tenant gave, in these exchanges or before
+abbrev pub was_given : ℕ → ℕ → Bool → List Exchange → Bool
+was_given t byte before [] = before
+was_given t byte before (e ∷ es) = was_given t byte (before || gives_pattern t byte e.event) es
+
+-- the tenant wrote the byte at the place, in these exchanges or before, and the slot was not granted since
+abbrev pub was_written : ℕ → ℕ → ℕ → ℕ → Bool → List Exchange → Bool
+was_written order t place byte before [] = before
+was_written order t place byte before (e ∷ es) = was_written order t place byte
+    (writes t place byte e.event e.reply.body || (before && not (grants_slot order t place e.event e.reply.body))) es
+
+-- the byte is zero, or one of a pattern that the tenant gave, or one that it wrote at the place since its slot was granted
+abbrev pub is_own : ℕ → ℕ → ℕ → ℕ → List Exchange → Bool
+is_own order t place byte es = byte == 0 || (was_given t byte false es || was_written order t place byte false es)
+
+-- Whatever was asked and answered before, if each reply was allowed, an allowed reply to a read tells the tenant its own bytes.
+abbrev pub Confined : Type 0
+Confined = (limit order superblocks tenants t begin len j byte : ℕ) (es : List Exchange) (addressee : Addressee) (told : ArrayVec ℕ) (w v : Known)
+    → all_allowed es (Ok (opening limit order superblocks tenants)) ≡ Ok w
+    → allowed (On.Tenant t (Asked.Read begin len)) (record { addressee = addressee; body = Say.Bytes told }) w ≡ Ok v
+    → slice_get told.items j ≡ Some byte → is_own order t (begin + j) byte es ≡ true
+
+-- what has frames: page blocks, by None, and the slabs of live objects, by the number of their cache
+abbrev pub Uses : Holdings → Option ℕ → Block → Type 0
+Uses h None b = Contains h.pages b
+Uses h (Some number) b = (c : ToldCache) × (place : ℕ) × Contains h.caches c × Contains c.live place × (c.number ≡ number) × (b ≡ slab_at c place)
+
+-- these are aligned and in held slots, and two of them that share a frame are one; slots have 2 ^ order frames
+pub record LiesApart (order : ℕ) (h : Holdings) : Type 0 where
+  pub placed : (by : Option ℕ) (b : Block) → Uses h by b → IsAligned order b × (holds h (b.first / 2 ^ order) ≡ true)
+  pub apart : (by other : Option ℕ) (a b : Block) (x : ℕ) → Uses h by a → Uses h other b → HasFrame a x → HasFrame b x
+      → (by ≡ other) × (a ≡ b)
+
+-- what is live is so for every tenant, whatever was asked and answered, if each reply was allowed
+abbrev pub LiveApart : Type 0
+LiveApart = (limit order superblocks tenants t : ℕ) (es : List Exchange) (w : Known) (s : State)
+    → all_allowed es (Ok (opening limit order superblocks tenants)) ≡ Ok w → slice_get w.states t ≡ Some s → LiesApart order s.has

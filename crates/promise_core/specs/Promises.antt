@@ -1,0 +1,247 @@
+-- The promises: a test of an event, its reply, what is known before and the state of the tenant that the event names.
+use Rattle.std.specs.Prelude.{ℕ, ◌+◌, ◌-◌, ◌*◌, ◌%◌, ◌^◌, Bool, true, false, not, List, [], ◌∷◌, map, filter, drop, length, Option, Some, None, Result, Ok, Err, is_some, is_none, slice_get, slice_index, slice_set, unwrap_or, count_by, sum_by, nat_le, nat_lt, if◌then◌else◌, ◌&&◌, ◌||◌, ◌==◌}
+use Rattle.std.specs.List.{list_any, list_all, zip, range_with_len}
+use Rattle.std.specs.Option.{option_map_or, option_eq}
+use Rattle.model_core.specs.Blocks.{block}
+use Rattle.model_core.specs.Layouts.{is_size, is_alignment}
+use Rattle.model_core.specs.Machine.{order_in}
+use Rattle.model_core.specs.Owners.{is_of, is_owner}
+use Rattle.model_core.specs.Reports.{greatest, split_share}
+use Rattle.model_core.specs.declared.limits.TheConstants.{MOST_BYTES}
+use Rattle.model_core.specs.declared.owner.Owner.{Owner}
+use Rattle.model_core.specs.declared.report.CacheRow.{CacheRow}
+use Rattle.words_core.specs.Texts.{number_of_refusal}
+use Rattle.words_core.specs.declared.event.Event.{Event}
+use Rattle.words_core.specs.declared.event.Event.TheVariants as On
+use Rattle.words_core.specs.declared.event.AdminCommand.TheVariants as Do
+use Rattle.words_core.specs.declared.event.Command.TheVariants as Asked
+use Rattle.words_core.specs.declared.report.Report.{Report}
+use Rattle.words_core.specs.declared.reply.Addressee.{Addressee}
+use Rattle.words_core.specs.declared.reply.Addressee.TheVariants as To
+use Rattle.words_core.specs.declared.reply.Body.{Body}
+use Rattle.words_core.specs.declared.reply.Body.TheVariants as Say
+use Rattle.words_core.specs.declared.reply.Refusal.{Refusal}
+use Rattle.words_core.specs.declared.reply.Reply.{Reply}
+use Rattle.world_core.specs.World.{Exchange}
+use Rattle.promise_core.specs.declared.promise.Promise.{Promise}
+use Rattle.promise_core.specs.Holdings.{ToldCache, Holdings, holds, cache_of, can_stand, vacant_blocks, has_room, is_busy, live_beside, is_full, can_be_taken}
+use Rattle.promise_core.specs.Bytes.{may_all_be, holder_of}
+use Rattle.promise_core.specs.State.{State, Known, opening_state, is_in_use, state_after, owners_after}
+
+-- whom a reply to the event is for, which names a tenant that exists or not
+abbrev pub is_for : Event → Bool → Addressee → Bool
+is_for (On.Tenant t command) true (To.Tenant named) = named == t
+is_for (On.Tenant t command) false To.Nobody = true
+is_for (On.Admin command) exists To.Admin = true
+is_for event exists addressee = false
+
+-- the reply is for whom it has to be, and one to such an event
+abbrev pub form : Event → Reply → Known → State → Bool
+form event reply w s = is_for event true reply.addressee && is_some (state_after w.order event reply.body s)
+
+-- the first refusal whose test passes
+abbrev pub first_due : List (Bool × Refusal) → Option Refusal
+first_due [] = None
+first_due ((stands, refusal) ∷ tests) = if stands then Some refusal else first_due tests
+
+-- the refusal that has to come
+unfoldable pub due : Event → Known → State → Option Refusal
+due (On.Tenant t (Asked.Alloc k)) w s = first_due ((nat_lt w.order k, Refusal.BadOrder) ∷ [])
+due (On.Tenant t (Asked.Free f)) w s = first_due ((is_none (order_in s.has.pages f), Refusal.NotABlock) ∷ [])
+due (On.Tenant t (Asked.Read place len)) w s = first_due (
+    (not (nat_le 1 len && nat_le len MOST_BYTES), Refusal.BadLength) ∷ (is_none (holder_of s.has place len), Refusal.OutOfReach)
+    ∷ [])
+due (On.Tenant t (Asked.Write place bytes)) w s =
+    first_due ((is_none (holder_of s.has place (length bytes.items)), Refusal.OutOfReach) ∷ [])
+due (On.Tenant t (Asked.Cache size align pattern)) w s = first_due ((not (is_size size), Refusal.BadSize)
+    ∷ (not (is_alignment align), Refusal.BadAlign) ∷ (nat_le w.limit (length s.has.caches), Refusal.NoCacheSlot) ∷ [])
+due (On.Tenant t (Asked.Destroy number)) w s = let cache = cache_of s.has number in
+    first_due ((is_none cache, Refusal.NoCache) ∷ (is_in_use cache, Refusal.CacheInUse) ∷ [])
+due (On.Tenant t (Asked.Take number)) w s = first_due ((is_none (cache_of s.has number), Refusal.NoCache) ∷ [])
+due (On.Tenant t (Asked.Give number place)) w s = let cache = cache_of s.has number in first_due ((is_none cache, Refusal.NoCache)
+    ∷ (not (option_map_or (λ c. list_any (λ p. p == place) c.live) cache false), Refusal.NotAnObject) ∷ [])
+due (On.Admin (Do.Grant t)) w s = first_due ((list_all is_some w.owners, Refusal.PoolEmpty) ∷ [])
+due (On.Admin (Do.TakeBack t u)) w s =
+    first_due ((not (holds s.has u), Refusal.NoSlot) ∷ (is_busy w.order s.has u, Refusal.SlotBusy) ∷ [])
+due (On.Admin (Do.Move t u)) w s =
+    first_due ((not (holds s.has u), Refusal.NoSlot) ∷ (list_all is_some w.owners, Refusal.PoolEmpty) ∷ [])
+due event w s = None
+
+abbrev pub is_one : Refusal → Refusal → Bool
+is_one a b = number_of_refusal a == number_of_refusal b
+
+-- the refusal that is due comes; where none is, that there are no frames, or that a slot is busy, may be said, or an answer comes
+abbrev pub refusals : Event → Body → Known → State → Bool
+refusals event (Say.Refused refusal) w s =
+    option_map_or (is_one refusal) (due event w s) (is_one refusal Refusal.NoFrames || is_one refusal Refusal.SlotBusy)
+refusals event body w s = is_none (due event w s)
+
+-- all objects in the cache's slabs are live, and there is no room for another slab
+abbrev pub is_used_up : ℕ → Holdings → ToldCache → Bool
+is_used_up order h c = list_all (is_full c) c.live && not (has_room order h c.order)
+
+-- there are no frames where there is no room
+abbrev pub room : Event → Body → Known → State → Bool
+room (On.Tenant t (Asked.Alloc k)) (Say.Refused Refusal.NoFrames) w s = not (has_room w.order s.has k)
+room (On.Tenant t (Asked.Take number)) (Say.Refused Refusal.NoFrames) w s =
+    option_map_or (is_used_up w.order s.has) (cache_of s.has number) false
+room event (Say.Refused Refusal.NoFrames) w s = false
+room event body w s = true
+
+-- a slot is busy where a frame of it is taken, or a slab without live objects may stand
+abbrev pub busy : Event → Body → Known → State → Bool
+busy (On.Admin (Do.TakeBack t u)) (Say.Refused Refusal.SlotBusy) w s =
+    is_busy w.order s.has u || list_any (λ c. s.hides c.number) s.has.caches
+busy event (Say.Refused Refusal.SlotBusy) w s = false
+busy event body w s = true
+
+abbrev pub blocks : Event → Body → Known → State → Bool
+blocks (On.Tenant t (Asked.Alloc k)) (Say.Frame f) w s = can_stand w.order s.has (block f k)
+blocks event body w s = true
+
+abbrev pub objects : Event → Body → Known → State → Bool
+objects (On.Tenant t (Asked.Take number)) (Say.Object place) w s =
+    option_map_or (λ c. can_be_taken w.order s.has c place) (cache_of s.has number) false
+objects event body w s = true
+
+-- a new cache has a number of its own, and its objects fit into a slab at each of its colours
+abbrev pub layout : Event → Body → Known → State → Bool
+layout (On.Tenant t (Asked.Cache size align pattern)) (Say.Cache number chunk q n colours) w s =
+    (nat_lt number w.limit && is_none (cache_of s.has number)) && ((nat_le size chunk && (chunk % align == 0 && nat_le q w.order))
+    && ((nat_le 1 n && nat_le 1 colours) && nat_le (align * (colours - 1) + n * chunk) (4096 * 2 ^ q)))
+layout event body w s = true
+
+-- no more frames than are not taken, out of slabs of these caches that may stand
+abbrev pub can_come_back : ℕ → List ToldCache → ℕ → State → Bool
+can_come_back order caches frames s = frames == 0 || (nat_le frames (length (vacant_blocks order s.has 0))
+    && list_any (λ c. s.hides c.number && frames % 2 ^ c.order == 0) caches)
+
+abbrev pub gives : Event → Body → Known → State → Bool
+gives (On.Tenant t (Asked.Free f)) (Say.Freed k) w s = option_eq (λ i j. i == j) (order_in s.has.pages f) (Some k)
+gives (On.Tenant t (Asked.Destroy number)) (Say.Destroyed frames) w s =
+    can_come_back w.order (filter (λ c. c.number == number) s.has.caches) frames s
+gives (On.Tenant t Asked.Reap) (Say.Reaped frames) w s = can_come_back w.order s.has.caches frames s
+gives event body w s = true
+
+abbrev pub has_owner : (Option Owner → Bool) → ℕ → Known → Bool
+has_owner test superblock w = option_map_or test (slice_get w.owners superblock) false
+
+-- what comes is nobody's before, what goes is the tenant's, and the pool is told as it is
+abbrev pub owners : Event → Body → Known → State → Bool
+owners (On.Admin (Do.Grant t)) (Say.Granted named u superblock) w s = (named == t && has_owner is_none superblock w)
+    && (not (holds s.has u) && nat_le ((u + 1) * 2 ^ w.order * 4096) (2 ^ 32))
+owners (On.Admin (Do.TakeBack t u)) (Say.TakenBack superblock) w s = has_owner (is_owner t u) superblock w
+owners (On.Admin (Do.Reset t)) (Say.WasReset named superblocks) w s = named == t && superblocks == count_by (is_of t) w.owners
+owners (On.Admin (Do.Move t u)) (Say.Moved named slot superblock) w s =
+    (named == t && slot == u) && has_owner is_none superblock w
+owners (On.Admin Do.Pool) (Say.Owners told) w s = length told.items == length w.owners
+    && list_all (λ p. option_eq (λ x y. x.tenant == y.tenant && x.slot == y.slot) p.0 p.1) (zip told.items w.owners)
+owners event body w s = true
+
+-- each byte that is read may be there, and all are read, or written
+abbrev pub bytes : Event → Body → Known → State → Bool
+bytes (On.Tenant t (Asked.Read place len)) (Say.Bytes told) w s = length told.items == len
+    && option_map_or (λ holder. may_all_be s.has s.cells holder place told.items) (holder_of s.has place len) false
+bytes (On.Tenant t (Asked.Write place new)) (Say.Written n) w s = length new.items == n
+bytes event body w s = true
+
+-- how many frames these numbers of blocks have, the first of them of order 0
+abbrev pub frames_in : List ℕ → ℕ
+frames_in [] = 0
+frames_in (n ∷ ns) = n + 2 * frames_in ns
+
+-- how many slabs have a live object and pass the test, which is of the first one
+abbrev pub count_slabs : (ℕ → Bool) → ToldCache → ℕ
+count_slabs test c = length (filter (λ p. slice_index (live_beside c p) 0 == p && test p) c.live)
+
+abbrev pub is_row : (ℕ → Bool) → ToldCache × CacheRow → Bool
+is_row hides (c, row) = ((row.cache == c.number && row.live == length c.live) && (row.empty == 0 || hides c.number))
+    && (row.full == count_slabs (is_full c) c && row.partial == count_slabs (λ p. not (is_full c p)) c)
+
+-- how many blocks of order k are taken
+abbrev pub taken_count : Holdings → List CacheRow → ℕ → ℕ
+taken_count h rows k = length (filter (λ b. b.order == k) h.pages)
+    + sum_by (λ p. if p.0.order == k then p.1.full + p.1.partial + p.1.empty else 0) (zip h.caches rows)
+
+-- there are a row of each order and of each cache; the figures are those of the state, and the free blocks such as there can be
+abbrev pub report : Event → Body → Known → State → Bool
+report (On.Tenant t Asked.Report) (Say.Report r) w s =
+    let orders = range_with_len 0 (w.order + 1) in
+    let free = map (λ row. row.free) r.orders.items in
+    let taken = map (λ row. row.taken) r.orders.items in
+    list_all (λ holds. holds) ((length free == w.order + 1) ∷ (length r.caches.items == length s.has.caches)
+    ∷ (r.frames == length s.has.slots * 2 ^ w.order) ∷ (r.live + r.free == r.frames) ∷ (r.free == frames_in free)
+    ∷ (r.live == frames_in taken)
+    ∷ option_eq (λ i j. i == j) r.top (greatest (slice_index free) (w.order + 1)) ∷ (r.split == split_share r.free r.top)
+    ∷ list_all (is_row s.hides) (zip s.has.caches r.caches.items)
+    ∷ list_all (λ k. slice_index taken k == taken_count s.has r.caches.items k) orders
+    ∷ list_all (λ k. nat_le (frames_in (drop k free)) (length (vacant_blocks w.order s.has k))) orders ∷ [])
+report event body w s = true
+
+-- how many frames the empty slabs have that a report told of the caches that pass
+abbrev pub empty_frames : (ℕ → Bool) → Holdings → Report → ℕ
+empty_frames test h r = sum_by (λ p. if test p.0.number then p.1.empty * 2 ^ p.0.order else 0) (zip h.caches r.caches.items)
+
+-- as long as a report has to stand, what comes back is what it told, and a new one tells the same
+-- (of free blocks and empty slabs; the rest is the state's)
+abbrev pub still : Event → Body → Known → State → Bool
+still (On.Tenant t (Asked.Destroy number)) (Say.Destroyed frames) w s =
+    option_map_or (λ r. frames == empty_frames (λ n. n == number) s.has r) s.told true
+still (On.Tenant t Asked.Reap) (Say.Reaped frames) w s =
+    option_map_or (λ r. frames == empty_frames (λ n. true) s.has r) s.told true
+still (On.Tenant t Asked.Report) (Say.Report r) w s =
+    option_map_or (λ q. list_all (λ p. p.0.free == p.1.free) (zip q.orders.items r.orders.items)
+    && list_all (λ p. p.0.empty == p.1.empty) (zip q.caches.items r.caches.items)) s.told true
+still event body w s = true
+
+-- The step
+
+-- the tenant that an event names, be there such a tenant or not
+abbrev pub named : Event → Option ℕ
+named (On.Tenant t command) = Some t
+named (On.Admin (Do.Grant t)) = Some t
+named (On.Admin (Do.TakeBack t u)) = Some t
+named (On.Admin (Do.Reset t)) = Some t
+named (On.Admin (Do.Move t u)) = Some t
+named (On.Admin Do.Pool) = None
+
+-- what is known after an event that names this tenant, now in state s
+abbrev pub known_after : Event → Body → Known → State → Known
+known_after event body w s = record w {
+  owners = owners_after event body w.owners;
+  states = option_map_or (λ t. slice_set w.states t s) (named event) w.states;
+}
+
+-- the first promise that is not kept, or what is known after
+abbrev pub verdict : List (Promise × Bool) → Known → Result Known Promise
+verdict [] after = Ok after
+verdict ((promise, kept) ∷ rest) after = if kept then verdict rest after else Err promise
+
+-- each promise, and whether the reply keeps it
+abbrev pub kept : Event → Reply → Known → State → List (Promise × Bool)
+kept event reply w s = let body = reply.body in
+    (Promise.Form, form event reply w s) ∷ (Promise.Refusals, refusals event body w s) ∷ (Promise.Room, room event body w s)
+    ∷ (Promise.Busy, busy event body w s) ∷ (Promise.Blocks, blocks event body w s) ∷ (Promise.Objects, objects event body w s)
+    ∷ (Promise.Layout, layout event body w s) ∷ (Promise.Gives, gives event body w s) ∷ (Promise.Owners, owners event body w s)
+    ∷ (Promise.Bytes, bytes event body w s) ∷ (Promise.Report, report event body w s) ∷ (Promise.Still, still event body w s) ∷ []
+
+abbrev pub is_no_tenant : Body → Bool
+is_no_tenant (Say.Refused refusal) = is_one refusal Refusal.NoTenant
+is_no_tenant body = false
+
+-- a tenant that does not exist is said not to
+abbrev pub judged : Event → Reply → Known → Option State → Result Known Promise
+judged event reply w None =
+    verdict ((Promise.Form, is_for event false reply.addressee) ∷ (Promise.Refusals, is_no_tenant reply.body) ∷ []) w
+judged event reply w (Some s) =
+    verdict (kept event reply w s) (known_after event reply.body w (unwrap_or (state_after w.order event reply.body s) s))
+
+-- What is known after the event and its reply, if the reply is allowed; else the first promise that it breaks.
+unfoldable pub allowed : Event → Reply → Known → Result Known Promise
+allowed event reply w = judged event reply w (option_map_or (slice_get w.states) (named event) (Some opening_state))
+
+-- what is known after these events with their replies, or the first promise that one of them breaks
+abbrev pub all_allowed : List Exchange → Result Known Promise → Result Known Promise
+all_allowed exchanges (Err promise) = Err promise
+all_allowed [] (Ok w) = Ok w
+all_allowed (e ∷ es) (Ok w) = all_allowed es (allowed e.event e.reply w)

@@ -1,0 +1,130 @@
+-- What is known after the events and replies so far, and what one more makes of it.
+use Rattle.std.specs.Prelude.{ℕ, Bool, false, not, List, [], map, filter, length, Option, Some, None, slice_set, replicate, nat_lt, ◌&&◌, ◌||◌, ◌==◌}
+use Rattle.std.specs.List.{list_any}
+use Rattle.std.specs.Option.{option_map_or}
+use Rattle.model_core.specs.Blocks.{block}
+use Rattle.model_core.specs.Machine.{in_block, slot_of, put_rising}
+use Rattle.model_core.specs.Owners.{owned_by, is_of, is_owner}
+use Rattle.model_core.specs.declared.owner.Owner.{Owner}
+use Rattle.words_core.specs.declared.event.Event.{Event}
+use Rattle.words_core.specs.declared.event.Event.TheVariants as On
+use Rattle.words_core.specs.declared.event.AdminCommand.TheVariants as Do
+use Rattle.words_core.specs.declared.event.Command.TheVariants as Asked
+use Rattle.words_core.specs.declared.report.Report.{Report}
+use Rattle.words_core.specs.declared.reply.Body.{Body}
+use Rattle.words_core.specs.declared.reply.Body.TheVariants as Say
+use Rattle.world_core.specs.World.{given_up}
+use Rattle.promise_core.specs.Holdings.{ToldCache, Holdings, cache_of, with_live, slab_at, are_apart}
+use Rattle.promise_core.specs.Bytes.{Holder, is_object, is_same, Cells, with_bytes, doubted, without, holder_of}
+
+-- of a tenant
+pub record State : Type 0 where
+  pub has : Holdings
+  pub cells : Cells
+  -- the caches of which a slab without live objects may stand
+  pub hides : ℕ → Bool
+  -- the last report, while it has to stand
+  pub told : Option Report
+
+unfoldable pub opening_state : State
+opening_state =
+    record { has = record { slots = []; pages = []; caches = [] }; cells = λ place. None; hides = λ n. false; told = None }
+
+-- by superblock the tenant and the slot that own it, by tenant its state; limit on its caches, slots have 2 ^ order frames
+pub record Known : Type 0 where
+  pub limit : ℕ
+  pub order : ℕ
+  pub owners : List (Option Owner)
+  pub states : List State
+
+unfoldable pub opening : ℕ → ℕ → ℕ → ℕ → Known
+opening limit order superblocks tenants =
+    record { limit = limit; order = order; owners = replicate superblocks None; states = replicate tenants opening_state }
+
+-- a cache has a live object
+abbrev pub is_in_use : Option ToldCache → Bool
+is_in_use cache = option_map_or (λ c. nat_lt 0 (length c.live)) cache false
+
+abbrev pub with_range : ℕ → List ℕ → State → Option Holder → State
+with_range place bytes s holder = record s { cells = option_map_or (λ x. with_bytes x place bytes s.cells) holder s.cells }
+
+-- an object taken at `first` has its slab to itself and to others of its cache: what else was left there is gone
+abbrev pub with_object : ℕ → Option ToldCache → Cells → Cells
+with_object first cache cells = option_map_or (λ c. without (λ place holder. in_block place (slab_at c first)
+    && not (is_object (λ n p. n == c.number && (p == first || are_apart c first p)) holder)) cells) cache cells
+
+-- the object is in no slab that has a live one
+abbrev pub is_in_no_slab : Holdings → ℕ → ℕ → Bool
+is_in_no_slab h n p = not (list_any (λ c. c.number == n && list_any (λ q. in_block p (slab_at c q)) c.live) h.caches)
+
+-- The state after a reply to an event, None where it answers no such event. After a refusal it is as before. Slots have
+-- 2 ^ order frames.
+unfoldable pub state_after : ℕ → Event → Body → State → Option State
+state_after order event (Say.Refused refusal) s = Some s
+state_after order (On.Tenant t (Asked.Alloc k)) (Say.Frame f) s = let b = block f k in Some (record s {
+  has = record s.has { pages = put_rising (λ x. x.first) b s.has.pages };
+  cells = without (λ place holder. in_block place b && not (is_same Holder.Page holder)) s.cells;
+  told = None;
+})
+state_after order (On.Tenant t (Asked.Free f)) (Say.Freed k) s = Some (record s {
+  has = record s.has { pages = filter (λ x. not (x.first == f)) s.has.pages };
+  cells = doubted (λ place holder. in_block place (block f k) && is_same Holder.Page holder) s.cells;
+  told = None;
+})
+state_after order (On.Tenant t (Asked.Read place len)) (Say.Bytes bytes) s =
+    Some (with_range place bytes.items s (holder_of s.has place len))
+state_after order (On.Tenant t (Asked.Write place bytes)) (Say.Written n) s =
+    Some (with_range place bytes.items s (holder_of s.has place n))
+state_after order (On.Tenant t (Asked.Cache size align pattern)) (Say.Cache number chunk q n colours) s =
+    let c : ToldCache = record {
+      number = number;
+      size = size;
+      align = align;
+      pattern = pattern.items;
+      chunk = chunk;
+      order = q;
+      count = n;
+      live = [];
+    } in
+    Some (record s { has = record s.has { caches = put_rising (λ x. x.number) c s.has.caches }; told = None })
+state_after order (On.Tenant t (Asked.Destroy number)) (Say.Destroyed frames) s = Some (record {
+  has = record s.has { caches = filter (λ c. not (c.number == number)) s.has.caches };
+  cells = without (λ place. is_object (λ n p. n == number)) s.cells;
+  hides = λ n. not (n == number) && s.hides n;
+  told = None;
+})
+state_after order (On.Tenant t (Asked.Take number)) (Say.Object place) s = Some (record {
+  has = with_live number (put_rising (λ p. p) place) s.has;
+  cells = with_object place (cache_of s.has number) s.cells;
+  hides = λ n. n == number || s.hides n;
+  told = None;
+})
+state_after order (On.Tenant t (Asked.Give number place)) Say.Given s = Some (record s {
+  has = with_live number (filter (λ p. not (p == place))) s.has;
+  cells = doubted (λ p. is_same (Holder.Object number place)) s.cells;
+  told = None;
+})
+state_after order (On.Tenant t Asked.Reap) (Say.Reaped frames) s =
+    let cells = without (λ place. is_object (is_in_no_slab s.has)) s.cells in
+    Some (record s { cells = cells; hides = λ n. is_in_use (cache_of s.has n); told = None })
+state_after order (On.Tenant t Asked.Report) (Say.Report r) s = Some (record s { told = Some r })
+state_after order (On.Admin (Do.Grant t)) (Say.Granted named u superblock) s = Some (record s {
+  has = record s.has { slots = put_rising (λ v. v) u s.has.slots };
+  cells = without (λ place holder. slot_of order place == u) s.cells;
+  told = None;
+})
+state_after order (On.Admin (Do.TakeBack t u)) (Say.TakenBack superblock) s =
+    Some (record s { has = record s.has { slots = filter (λ v. not (v == u)) s.has.slots }; told = None })
+state_after order (On.Admin (Do.Reset t)) (Say.WasReset named superblocks) s = Some opening_state
+state_after order (On.Admin (Do.Move t u)) (Say.Moved named slot superblock) s = Some s
+state_after order (On.Admin Do.Pool) (Say.Owners owners) s = Some s
+state_after order event body s = None
+
+-- the owners after it
+unfoldable pub owners_after : Event → Body → List (Option Owner) → List (Option Owner)
+owners_after (On.Admin (Do.Grant t)) (Say.Granted named u superblock) owners = slice_set owners superblock (Some (owned_by t u))
+owners_after (On.Admin (Do.TakeBack t u)) (Say.TakenBack superblock) owners = map (given_up (is_owner t u)) owners
+owners_after (On.Admin (Do.Reset t)) (Say.WasReset named superblocks) owners = map (given_up (is_of t)) owners
+owners_after (On.Admin (Do.Move t u)) (Say.Moved named slot superblock) owners =
+    slice_set (map (given_up (is_owner t u)) owners) superblock (Some (owned_by t u))
+owners_after event body owners = owners

@@ -1,0 +1,15 @@
+//! What follows from the promises alone. Each law is the contract of a function that does nothing: a caller has the law by the
+//! call, for every program whose replies keep the promises.
+
+ghost use Rattle.promise_core.specs.Laws.{LiveApart, Confined};
+
+/// The page blocks of a tenant and the slabs of its live objects are aligned, lie in slots that it holds, and share no frame.
+pub fn live_apart()
+    ensures { LiveApart }
+{}
+
+/// Each byte that a tenant is told is zero, or a byte of a pattern that it gave, or one that it wrote itself at that place
+/// since the slot was granted: by no reply that is allowed is it told another tenant's byte, nor its own of before.
+pub fn confined()
+    ensures { Confined }
+{}
