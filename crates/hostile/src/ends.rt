@@ -1,10 +1,10 @@
 //! Ends that fail, and replies that go out before the trace is asked for more.
 
-ghost use Rattle.std.specs.Prelude.{◌≡◌, false};
+ghost use Rattle.std.specs.Prelude.{◌≡◌, false, IfOk};
 
 use crate::ending::line_end;
 use kernel_core::Kernel;
-use replay_core::{Feed, ReaderFeed, ReplayError, Tally, WriterDrain, replay};
+use replay_core::{Drain, Feed, ReaderFeed, ReplayError, Tally, WriterDrain, replay};
 use rows::MACHINE;
 use rows::pieces::{in_pieces, taking};
 use std::alloc::Global;
@@ -201,13 +201,33 @@ impl Write for LogWriter<'_> {
 /// How many reads, writes and flushes are good.
 type Good = (u32, u32, u32);
 
-/// A replay between such ends, and whether the flush at its end was good.
-fn between(
+/// The room of a drain, in bytes: none, less than a reply, less than two, and more than are written.
+const ROOMS_HELD: [usize; 4] = [0, 16, 64, 4096];
+
+/// A drain that holds so many bytes; with 0, one that holds none.
+fn drain_into<'a>(
     alloc: Global,
-    trace: &[u8],
-    log: &Log,
-    good: Good,
-) -> Result<(Result<Tally, ReplayError>, bool), Fail> {
+    room: usize,
+    writer: LogWriter<'a>,
+) -> Result<WriterDrain<LogWriter<'a>>, Fail>
+    ensures { IfOk result (λ drain. ⟦<WriterDrain<LogWriter<'a>> as Drain>⟧.has_failed drain ≡ false) }
+{
+    if room == 0 {
+        return Ok(WriterDrain::new(writer));
+    }
+    Ok(WriterDrain::holding(writer, Vec::with_capacity(alloc, room)?))
+}
+
+/// How a replay ended, whether the flush at its end was good, and how many bytes were then not written.
+#[derive(Drop)]
+struct Told {
+    ran: Result<Tally, ReplayError>,
+    flushed: bool,
+    unwritten: usize,
+}
+
+/// A replay between such ends.
+fn between(alloc: Global, trace: &[u8], room: usize, log: &Log, good: Good) -> Result<Told, Fail> {
     let (good_reads, good_writes, good_flushes) = good;
     let mut kernel = Kernel::boot(alloc, MACHINE)?;
     let mut feed = ReaderFeed::new(LineReader {
@@ -215,38 +235,74 @@ fn between(
         good_reads,
         log,
     });
-    let mut drain = WriterDrain::new(LogWriter {
-        good_writes,
-        good_flushes,
-        log,
-    });
+    let mut drain = drain_into(
+        alloc,
+        room,
+        LogWriter {
+            good_writes,
+            good_flushes,
+            log,
+        },
+    )?;
     let ran = replay(&mut kernel, &mut feed, &mut drain, None);
     let flushed = ran.is_ok() && drain.flush().is_ok();
-    Ok((ran, flushed))
+    Ok(Told {
+        ran,
+        flushed,
+        unwritten: drain.unwritten(),
+    })
 }
 
-/// Good reads, writes and flushes, how the replay ends then, what is told, and whether the flush at its end was good.
-const STAYING: [(Good, End, u64, u128, bool); 9] = [
-    ((ALL, ALL, ALL), End::Done, 3, 66, true),
-    ((0, ALL, ALL), End::FeedFails, 0, 0, false),
-    ((2, ALL, ALL), End::FeedFails, 2, 48, false),
-    ((3, ALL, ALL), End::FeedFails, 3, 66, false),
-    ((ALL, 0, ALL), End::DrainFails, 1, 0, false),
-    ((ALL, 1, ALL), End::DrainFails, 2, 37, false),
-    ((ALL, ALL, 0), End::DrainFails, 2, 37, false),
-    ((ALL, ALL, 2), End::Done, 3, 66, false),
-    ((ALL, ALL, 3), End::Done, 3, 66, false),
+/// How a replay ends, what is told, whether the flush at its end was good, and how many bytes were not written.
+type Ending = (End, u64, u128, bool, usize);
+
+/// Good reads, writes and flushes, and the ending of a drain that holds none, 16, 64 and 4,096 bytes. With 16 the second of the
+/// three replies is held until it is sent, with more each.
+const STAYING: [(Good, [Ending; 4]); 9] = [
+    ((ALL, ALL, ALL), [(End::Done, 3, 66, true, 0); 4]),
+    ((0, ALL, ALL), [(End::FeedFails, 0, 0, false, 0); 4]),
+    ((2, ALL, ALL), [(End::FeedFails, 2, 48, false, 0); 4]),
+    ((3, ALL, ALL), [(End::FeedFails, 3, 66, false, 0); 4]),
+    (
+        (ALL, 0, ALL),
+        [
+            (End::DrainFails, 1, 0, false, 0),
+            (End::DrainFails, 1, 0, false, 0),
+            (End::DrainFails, 2, 37, false, 37),
+            (End::DrainFails, 2, 37, false, 37),
+        ],
+    ),
+    (
+        (ALL, 1, ALL),
+        [
+            (End::DrainFails, 2, 37, false, 0),
+            (End::DrainFails, 3, 48, false, 11),
+            (End::DrainFails, 3, 48, false, 11),
+            (End::DrainFails, 3, 48, false, 11),
+        ],
+    ),
+    ((ALL, ALL, 0), [(End::DrainFails, 2, 37, false, 0); 4]),
+    ((ALL, ALL, 2), [(End::Done, 3, 66, false, 0); 4]),
+    ((ALL, ALL, 3), [(End::Done, 3, 66, false, 0); 4]),
 ];
 
-/// A failed read, a write that took nothing and a failed flush are not tried again. A flush that failed on the way is
-/// told by the next push, or by the flush at the end.
+/// A failed read, a write that took nothing and a failed flush are not tried again, though they would be good. One that failed
+/// while the drain sent is told by the next push, or by the flush at the end.
 #[test]
 fn failures_stay(rt: HostRuntime) -> Result<(), Fail> {
-    for (good, end, lines, written, flushed) in STAYING {
-        let (ran, was_flushed) = between(rt.alloc(), TRACE, &no_calls(), good)?;
-        let fits = is_ended(ran, end, lines, written) && was_flushed == flushed;
-        let (good_reads, good_writes, good_flushes) = good;
-        assert!(rt; fits, "{good_reads} {good_writes} {good_flushes}");
+    for (good, endings) in STAYING {
+        for (room, ending) in ROOMS_HELD.into_iter().zip(endings) {
+            let (end, lines, written, flushed, unwritten) = ending;
+            let told = between(rt.alloc(), TRACE, room, &no_calls(), good)?;
+            let fits = is_ended(told.ran, end, lines, written)
+                && told.flushed == flushed
+                && told.unwritten == unwritten;
+            let (good_reads, good_writes, good_flushes) = good;
+            assert!(rt;
+                fits,
+                "{good_reads} {good_writes} {good_flushes}, room for {room} bytes"
+            );
+        }
     }
     Ok(())
 }
@@ -263,12 +319,14 @@ const CALLS: [(&[u8], u32, u32); 4] = [
 #[test]
 fn answers_at_once(rt: HostRuntime) -> Result<(), Fail> {
     for (trace, writes, flushes) in CALLS {
-        let log = no_calls();
-        let (ran, flushed) = between(rt.alloc(), trace, &log, (ALL, ALL, ALL))?;
-        assert!(rt; ran.is_ok() && flushed);
-        assert!(rt; !log.late.get());
-        assert!(rt; log.writes.get() == writes);
-        assert!(rt; log.flushes.get() == flushes);
+        for room in ROOMS_HELD {
+            let log = no_calls();
+            let told = between(rt.alloc(), trace, room, &log, (ALL, ALL, ALL))?;
+            assert!(rt; told.ran.is_ok() && told.flushed);
+            assert!(rt; !log.late.get());
+            assert!(rt; log.writes.get() == writes);
+            assert!(rt; log.flushes.get() == flushes);
+        }
     }
     Ok(())
 }

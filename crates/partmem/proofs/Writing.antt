@@ -1,7 +1,8 @@
 -- From the answer of a replay on a new machine to the outcome of a run.
-use Rattle.std.proofs.Common.{◌≡◌, ℕ, Bool, true, false, inl, inr, List, [], ◌∷◌, ◌++◌, Option, Some, None, Result, Ok, Err, is_ok, OnOk, IfSome, refl, ap, sym, subst, ◌∙◌, append_assoc}
-use Rattle.std.specs.Io.KnownBytes.{Appends, Consumes, Keeps, IsAtEnd}
-use Rattle.std.proofs.lemmas.List.{append-nil}
+use Rattle.std.proofs.Common.{◌≡◌, ℕ, ◌-◌, Bool, true, false, not, inl, inr, List, [], ◌∷◌, ◌++◌, length, take, Option, Some, None, Result, Ok, Err, OnOk, IfSome, refl, ap, sym, subst, ◌∙◌, append_assoc, arith}
+use Rattle.std.specs.Io.KnownBytes.{Appends, Consumes, Keeps, IsAtEnd, append_known}
+use Rattle.std.proofs.Math.Seq.{take-length}
+use Rattle.std.proofs.lemmas.List.{append-nil, length-take-le}
 use Rattle.words_core.specs.Cutting.{lines_of_trace}
 use Rattle.kernel_core.specs.declared.kernel.Config.{Config}
 use Rattle.world_core.specs.Limits.{cache_limit}
@@ -9,19 +10,18 @@ use Rattle.world_core.specs.Output.{shown_lines, ended_lines, lines_for, with_li
 use Rattle.world_core.specs.Laws.{private_lines, ShownStays}
 use Rattle.kernel_core.specs.Parts.{Parts, opening_parts}
 use Rattle.kernel_core.specs.Shows.{Shows}
-use Rattle.kernel_core.proofs.Worlds.{false_is}
 use Rattle.world_core.specs.World.{World, opening_world}
 use Rattle.world_core.proofs.Showing.{shown_first}
 use Rattle.replay_core.specs.declared.replaying.Tally.{Tally}
 use Rattle.replay_core.specs.declared.replaying.ReplayError.{ReplayError}
 use Rattle.replay_core.specs.declared.replaying.ReplayError.TheVariants as Failed
-use Rattle.replay_core.specs.Runs.{HasCome, IsCutShort, Replays, IsDone, NamesFailed, HasOwnLines}
+use Rattle.replay_core.specs.Runs.{Counts, HasCome, IsCutShort, Replays, IsDone, NamesFailed, HasOwnLines}
 use Rattle.replay_core.proofs.RunLemmas.{shown_more}
 use Rattle.partmem.specs.declared.settings.Settings.{Settings}
 use Rattle.partmem.specs.declared.outcome.Outcome.{Outcome}
 use Rattle.partmem.specs.declared.outcome.Outcome.TheVariants.{Unwritable, NoMemory}
-use Rattle.partmem.specs.Outcome.{outcome_of, tally_of}
-use Rattle.partmem.specs.Run.{replies_to, IsPrivate, IsBeginning, Answers, EndsAs, IsGiven, IsOfTrace, Tallies}
+use Rattle.partmem.specs.Outcome.{outcome_of, tally_of, without_unwritten}
+use Rattle.partmem.specs.Run.{replies_to, IsPrivate, IsBeginning, Answers, EndsAs, HasReached, IsGiven, IsOfTrace, Tallies}
 
 -- the kernel shows the opening world of the settings
 pub record IsNew (s : Settings) (k : Parts) : Type 0 where
@@ -113,37 +113,73 @@ unwritten stays s k k' ended given taken replayed new ran done =
     subst (λ trace. IsBeginning taken (replies_to s (lines_of_trace trace))) (append-nil given)
     (begins stays s k k' ended given [] taken replayed new ran done (λ _. refl))
 
--- the outcome of the replay
-pub answers : ShownStays → (s : Settings) (k k' : Parts) (ended : Bool) (given taken : List ℕ) (replayed : Result Tally ReplayError) → IsNew s k
+-- the outcome of the run
+pub answers : ShownStays → (s : Settings) (k k' : Parts) (ended : Bool) (given taken : List ℕ) (replayed : Result Tally ReplayError) (unsent flushed : Bool) → IsNew s k
     → Replays ended s.only k k' given taken replayed → IsDone replayed ended → OnOk replayed (HasOwnLines s.only k given taken)
-    → Answers s (outcome_of replayed) given taken
-answers stays s k k' ended given taken (Ok tally) new ran done own = (
+    → Answers s (outcome_of replayed unsent flushed) given taken
+answers stays s k k' ended given taken (Ok tally) unsent true new ran done own = (
   ran.shown _ new.shows ∙ at_order s k (lines_of_trace given) new,
   private_at s.config s.only k given taken new.order new.shows own,
 )
-answers stays s k k' ended given taken (Err (Failed.Feed tally)) new ran done own = ran.shown _ new.shows ∙ at_order s k (ended_lines given) new
-answers stays s k k' ended given taken (Err (Failed.Drain tally)) new ran done own = unwritten stays s k k' ended given taken (Err (Failed.Drain tally)) new ran done
+answers stays s k k' ended given taken (Ok tally) unsent false new ran done own = unwritten stays s k k' ended given taken (Ok tally) new ran done
+answers stays s k k' ended given taken (Err (Failed.Feed tally)) true flushed new ran done own = unwritten stays s k k' ended given taken (Err (Failed.Feed tally)) new ran done
+answers stays s k k' ended given taken (Err (Failed.Feed tally)) false flushed new ran done own = ran.shown _ new.shows ∙ at_order s k (ended_lines given) new
+answers stays s k k' ended given taken (Err (Failed.Drain tally)) unsent flushed new ran done own = unwritten stays s k k' ended given taken (Err (Failed.Drain tally)) new ran done
 
--- what the replay counted, when its replies could not be written
-pub unwritten_tally : (only : Option ℕ) (k k' : Parts) (ended : Bool) (given taken : List ℕ) (replayed : Result Tally ReplayError)
-    → Replays ended only k k' given taken replayed → IsDone replayed ended → Tallies Unwritable (tally_of replayed) ended given taken
-unwritten_tally only k k' ended given taken (Ok tally) ran done = (lines_of_trace given, inr (done, refl), ran.counted)
-unwritten_tally only k k' ended given taken (Err (Failed.Feed tally)) ran done = (ended_lines given, inl ([], sym (append-nil _)), ran.counted)
-unwritten_tally only k k' ended given taken (Err (Failed.Drain tally)) ran done = (ran.0 ++ ran.1 ∷ [], ran.2, ran.3.counted)
+-- a beginning of what was counted is counted by its length
+counted : (tally : Tally) (lines : List (List ℕ)) (taken : List ℕ) (unwritten : ℕ) → Counts tally lines taken
+    → Counts (without_unwritten tally unwritten) lines (take (length taken - unwritten) taken)
+counted tally lines taken unwritten counts =
+    let size : length (take (length taken - unwritten) taken) ≡ length taken - unwritten = length-take-le (length taken - unwritten) taken (omega arith) in
+    record { lines = counts.lines; events = counts.events; faults = counts.faults; written = ap (λ n. n - unwritten) counts.written ∙ sym size }
 
--- and by its outcome
-pub tallied : (only : Option ℕ) (k k' : Parts) (ended : Bool) (given taken : List ℕ) (replayed : Result Tally ReplayError)
-    → Replays ended only k k' given taken replayed → IsDone replayed ended → Tallies (outcome_of replayed) (tally_of replayed) ended given taken
-tallied only k k' ended given taken (Ok tally) ran done = ran.counted
-tallied only k k' ended given taken (Err (Failed.Feed tally)) ran done = ran.counted
-tallied only k k' ended given taken (Err (Failed.Drain tally)) ran done = unwritten_tally only k k' ended given taken (Err (Failed.Drain tally)) ran done
+-- what the run counted, whatever its outcome
+pub tallied : (only : Option ℕ) (k k' : Parts) (ended : Bool) (given taken : List ℕ) (replayed : Result Tally ReplayError) (unsent flushed : Bool) (unwritten : ℕ)
+    → Replays ended only k k' given taken replayed → IsDone replayed ended
+    → Tallies (outcome_of replayed unsent flushed) (without_unwritten (tally_of replayed) unwritten) ended given (take (length taken - unwritten) taken)
+tallied only k k' ended given taken (Ok tally) unsent true unwritten ran done = counted _ _ taken unwritten ran.counted
+tallied only k k' ended given taken (Ok tally) unsent false unwritten ran done = (lines_of_trace given, inr (done, refl), counted _ _ taken unwritten ran.counted)
+tallied only k k' ended given taken (Err (Failed.Feed tally)) true flushed unwritten ran done =
+    (ended_lines given, inl ([], sym (append-nil _)), counted _ _ taken unwritten ran.counted)
+tallied only k k' ended given taken (Err (Failed.Feed tally)) false flushed unwritten ran done = counted _ _ taken unwritten ran.counted
+tallied only k k' ended given taken (Err (Failed.Drain tally)) unsent flushed unwritten ran done =
+    (ran.0 ++ ran.1 ∷ [], ran.2, counted _ _ taken unwritten ran.3.counted)
 
--- which end had failed, where the drain had not before it was flushed, and of a trace that is done not then either
-pub ends : (replayed : Result Tally ReplayError) (ended unread failed unflushed : Bool) → IsDone replayed ended → NamesFailed replayed unread failed
-    → failed ≡ false → (is_ok replayed ≡ true → unflushed ≡ false) → EndsAs (outcome_of replayed) ended unread unflushed
-ends (Ok tally) ended unread failed unflushed done named fine kept = (done, named.0, kept refl)
-ends (Err (Failed.Feed tally)) ended unread failed unflushed done named fine kept = named.0
-ends (Err (Failed.Drain tally)) ended unread failed unflushed done named fine kept = absurd (false_is failed fine named.1)
+-- a drain that holds nothing has handed on all
+all_reached : (before writer : Option (List ℕ)) (held taken : List ℕ) → held ≡ [] → Appends before (append_known writer held) taken
+    → (take (length taken - length held) taken ≡ taken) × Appends before writer taken
+all_reached before writer held taken none appended =
+    let whole : length taken - length held ≡ length taken = omega (arith, ap length none) in (
+      ap (λ n. take n taken) whole ∙ take-length taken,
+      subst (λ known. Appends before known taken) (append_known-nil writer) (subst (λ bytes. Appends before (append_known writer bytes) taken) none appended),
+    )
+  where
+    append_known-nil : (known : Option (List ℕ)) → append_known known [] ≡ known
+    append_known-nil None = refl
+    append_known-nil (Some xs) = ap (λ bytes. Some bytes) (append-nil xs)
+
+-- how much of what was taken went on, where a flush that was good left nothing behind
+pub reached : (replayed : Result Tally ReplayError) (unsent flushed failed : Bool) (before writer : Option (List ℕ)) (held taken : List ℕ)
+    → failed ≡ not flushed → (flushed ≡ true → held ≡ []) → Appends before (append_known writer held) taken
+    → HasReached (outcome_of replayed unsent flushed) failed before writer held taken (take (length taken - length held) taken)
+reached (Ok tally) unsent true failed before writer held taken same none appended = all_reached before writer held taken (none refl) appended
+reached (Ok tally) unsent false failed before writer held taken same none appended = (appended, refl)
+reached (Err (Failed.Feed tally)) true flushed failed before writer held taken same none appended = (appended, refl)
+reached (Err (Failed.Feed tally)) false true false before writer held taken same none appended = all_reached before writer held taken (none refl) appended
+reached (Err (Failed.Feed tally)) false true true before writer held taken same none appended = (appended, refl)
+reached (Err (Failed.Feed tally)) false false true before writer held taken same none appended = (appended, refl)
+reached (Err (Failed.Feed tally)) false false false before writer held taken same none appended = absurd cc
+reached (Err (Failed.Drain tally)) unsent flushed failed before writer held taken same none appended = (appended, refl)
+
+-- which end had failed
+pub ends : (replayed : Result Tally ReplayError) (ended unread undrained unsent flushed : Bool) → IsDone replayed ended → NamesFailed replayed unread undrained
+    → (unsent ≡ true → flushed ≡ false) → (undrained ≡ true → flushed ≡ false)
+    → EndsAs (outcome_of replayed unsent flushed) ended unread (not flushed) unsent
+ends (Ok tally) ended unread undrained unsent true done named stopped fine = (done, named.0, refl)
+ends (Ok tally) ended unread undrained unsent false done named stopped fine = (refl, λ failed. absurd cc)
+ends (Err (Failed.Feed tally)) ended unread undrained true flushed done named stopped fine = (ap not (stopped refl), λ _. refl)
+ends (Err (Failed.Feed tally)) ended unread undrained false flushed done named stopped fine = (named.0, refl)
+ends (Err (Failed.Drain tally)) ended unread undrained unsent flushed done named stopped fine = (ap not (fine named.1), λ failed. absurd cc)
 
 -- before the first line
 pub nothing_of : (s : Settings) (known : Option (List ℕ)) → IfSome known (λ trace. IsOfTrace s NoMemory trace [] [])
@@ -151,11 +187,13 @@ nothing_of s None = tt
 nothing_of s (Some trace) = record { part = (trace, refl); begins = (replies_to s (lines_of_trace trace), refl) }
 
 -- a trace is done only at its end
-pub given_so_far : (replayed : Result Tally ReplayError) (ended : Bool) (given more : List ℕ) → IsDone replayed ended → (ended ≡ true → more ≡ [])
-    → IsGiven (outcome_of replayed) (given ++ more) given
-given_so_far (Ok tally) ended given more done over = ap (λ bytes. given ++ bytes) (over done) ∙ append-nil given
-given_so_far (Err (Failed.Feed tally)) ended given more done over = (more, refl)
-given_so_far (Err (Failed.Drain tally)) ended given more done over = (more, refl)
+pub given_so_far : (replayed : Result Tally ReplayError) (unsent flushed ended : Bool) (given more : List ℕ) → IsDone replayed ended → (ended ≡ true → more ≡ [])
+    → IsGiven (outcome_of replayed unsent flushed) (given ++ more) given
+given_so_far (Ok tally) unsent true ended given more done over = ap (λ bytes. given ++ bytes) (over done) ∙ append-nil given
+given_so_far (Ok tally) unsent false ended given more done over = (more, refl)
+given_so_far (Err (Failed.Feed tally)) true flushed ended given more done over = (more, refl)
+given_so_far (Err (Failed.Feed tally)) false flushed ended given more done over = (more, refl)
+given_so_far (Err (Failed.Drain tally)) unsent flushed ended given more done over = (more, refl)
 
 -- a fact of all that goes on from what was given is one of the trace
 pub of_trace : (P : List ℕ → Type 0) (known left : Option (List ℕ)) (ended : Bool) (given : List ℕ) → Consumes known left given → (ended ≡ true → IsAtEnd left)

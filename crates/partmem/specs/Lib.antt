@@ -1,2 +1,4 @@
+pub mod CommandLine
 pub mod Outcome
 pub mod Run
+pub mod Settings

@@ -1,5 +1,5 @@
 -- What is told of how a run ended.
-use Rattle.std.specs.Prelude.{◌≡◌, ◌≢◌, ℕ, List, Option, Some, None, Result, Ok, Err, codes}
+use Rattle.std.specs.Prelude.{◌≡◌, ◌≢◌, ◌⊎◌, ℕ, ◌-◌, Bool, true, false, List, Option, Some, None, Result, Ok, Err, codes}
 use Rattle.clap.specs.declared.error.kind.ErrorKind.{ErrorKind}
 use Rattle.clap.specs.declared.error.kind.ErrorKind.TheVariants.{DisplayHelp, DisplayVersion, OutOfMemory}
 use Rattle.partmem.specs.declared.outcome.Outcome.{Outcome}
@@ -31,17 +31,23 @@ text_of (BadLine text) = None
 text_of BadOnly = Some (codes "partmem: --only names no tenant")
 text_of NoMemory = Some (codes "partmem: not enough memory")
 
--- the failure of an end decides
-abbrev pub outcome_of : Result Tally ReplayError → Outcome
-outcome_of (Ok tally) = Done
-outcome_of (Err (Failed.Feed tally)) = Unreadable
-outcome_of (Err (Failed.Drain tally)) = Unwritable
+-- the first failure decides: a send that failed came before a feed that failed, and a flush comes after it
+abbrev pub outcome_of : Result Tally ReplayError → (unsent flushed : Bool) → Outcome
+outcome_of (Ok tally) unsent true = Done
+outcome_of (Ok tally) unsent false = Unwritable
+outcome_of (Err (Failed.Feed tally)) true flushed = Unwritable
+outcome_of (Err (Failed.Feed tally)) false flushed = Unreadable
+outcome_of (Err (Failed.Drain tally)) unsent flushed = Unwritable
 
 -- what had been done when the replay answered so
 abbrev pub tally_of : Result Tally ReplayError → Tally
 tally_of (Ok tally) = tally
 tally_of (Err (Failed.Feed tally)) = tally
 tally_of (Err (Failed.Drain tally)) = tally
+
+-- the same where so many of the bytes were not written
+abbrev pub without_unwritten : Tally → ℕ → Tally
+without_unwritten tally unwritten = record { lines = tally.lines; events = tally.events; faults = tally.faults; written = tally.written - unwritten }
 
 -- nothing was done
 abbrev pub no_tally : Tally
@@ -83,3 +89,18 @@ IsToldAs kind Unwritable = ⊥
 IsToldAs kind (BadLine text) = (kind ≢ DisplayHelp) × (kind ≢ DisplayVersion) × (kind ≢ OutOfMemory)
 IsToldAs kind BadOnly = ⊥
 IsToldAs kind NoMemory = Unit {0}
+
+-- help, or the version
+abbrev pub IsHelp : Outcome → Type 0
+IsHelp Done = ⊥
+IsHelp (Help text) = Unit {0}
+IsHelp (Version text) = Unit {0}
+IsHelp Unreadable = ⊥
+IsHelp Unwritable = ⊥
+IsHelp (BadLine text) = ⊥
+IsHelp BadOnly = ⊥
+IsHelp NoMemory = ⊥
+
+-- what an outcome becomes when it is told: itself, or help that could not be written
+abbrev pub IsAfterTelling : Outcome → Outcome → Type 0
+IsAfterTelling outcome told = (told ≡ outcome) ⊎ (IsHelp outcome × (told ≡ Unwritable))

@@ -1,5 +1,6 @@
 -- What a run of the program writes.
-use Rattle.std.specs.Prelude.{◌≡◌, ℕ, ◌<◌, Bool, true, false, List, [], ◌++◌, Option, Some, None}
+use Rattle.std.specs.Prelude.{◌≡◌, ℕ, ◌-◌, ◌<◌, Bool, true, false, List, [], ◌++◌, length, take, Option, Some, None}
+use Rattle.std.specs.Io.KnownBytes.{Appends, append_known}
 use Rattle.words_core.specs.Cutting.{lines_of_trace}
 use Rattle.kernel_core.specs.declared.kernel.Config.{Config}
 use Rattle.world_core.specs.Limits.{cache_limit}
@@ -40,27 +41,45 @@ Answers s (Version text) given written = ⊥
 Answers s (BadLine text) given written = ⊥
 Answers s BadOnly given written = ⊥
 
--- what is counted when the run ended so: the lines that were run, and what was written
-abbrev pub Tallies : Outcome → Tally → Bool → List ℕ → List ℕ → Type 0
-Tallies Done tally ended given written = Counts tally (lines_of_trace given) written
-Tallies Unreadable tally ended given written = Counts tally (ended_lines given) written
-Tallies Unwritable tally ended given written = (lines : List (List ℕ)) × HasCome ended given lines × Counts tally lines written
-Tallies NoMemory tally ended given written = tally ≡ no_tally
-Tallies (Help text) tally ended given written = ⊥
-Tallies (Version text) tally ended given written = ⊥
-Tallies (BadLine text) tally ended given written = ⊥
-Tallies BadOnly tally ended given written = ⊥
+-- What was held back is the end of it: the writer took the rest, and nothing else.
+abbrev pub IsHeldBack : (before writer : Option (List ℕ)) → (held written sent : List ℕ) → Type 0
+IsHeldBack before writer held written sent = Appends before (append_known writer held) written × (sent ≡ take (length written - length held) written)
 
--- which end had failed when the run ended so; a trace is done only at its end
-abbrev pub EndsAs : Outcome → Bool → Bool → Bool → Type 0
-EndsAs Done ended unread unwritten = (ended ≡ true) × (unread ≡ false) × (unwritten ≡ false)
-EndsAs Unreadable ended unread unwritten = unread ≡ true
-EndsAs Unwritable ended unread unwritten = (unread ≡ false) × (unwritten ≡ true)
-EndsAs NoMemory ended unread unwritten = (unread ≡ false) × (unwritten ≡ false)
-EndsAs (Help text) ended unread unwritten = ⊥
-EndsAs (Version text) ended unread unwritten = ⊥
-EndsAs (BadLine text) ended unread unwritten = ⊥
-EndsAs BadOnly ended unread unwritten = ⊥
+-- Of what was written for a run that ended so, the writer took this: all of it, or what is not held back by a drain that has
+-- failed. Before it the writer had, or the drain held, what the drain had taken before.
+abbrev pub HasReached : Outcome → (failed : Bool) → (before writer : Option (List ℕ)) → (held written sent : List ℕ) → Type 0
+HasReached Done failed before writer held written sent = (sent ≡ written) × Appends before writer written
+HasReached Unreadable false before writer held written sent = (sent ≡ written) × Appends before writer written
+HasReached Unreadable true before writer held written sent = IsHeldBack before writer held written sent
+HasReached Unwritable failed before writer held written sent = IsHeldBack before writer held written sent
+HasReached NoMemory failed before writer held written sent = sent ≡ []
+HasReached (Help text) failed before writer held written sent = ⊥
+HasReached (Version text) failed before writer held written sent = ⊥
+HasReached (BadLine text) failed before writer held written sent = ⊥
+HasReached BadOnly failed before writer held written sent = ⊥
+
+-- what is counted when the run ended so: the lines that were run, and what the writer took
+abbrev pub Tallies : Outcome → Tally → Bool → List ℕ → List ℕ → Type 0
+Tallies Done tally ended given sent = Counts tally (lines_of_trace given) sent
+Tallies Unreadable tally ended given sent = Counts tally (ended_lines given) sent
+Tallies Unwritable tally ended given sent = (lines : List (List ℕ)) × HasCome ended given lines × Counts tally lines sent
+Tallies NoMemory tally ended given sent = tally ≡ no_tally
+Tallies (Help text) tally ended given sent = ⊥
+Tallies (Version text) tally ended given sent = ⊥
+Tallies (BadLine text) tally ended given sent = ⊥
+Tallies BadOnly tally ended given sent = ⊥
+
+-- Which end had failed when the run ended so; a trace is done only at its end. Where both had, a send failed before the feed did,
+-- or the feed before the last flush.
+abbrev pub EndsAs : Outcome → (ended unread unwritten unsent : Bool) → Type 0
+EndsAs Done ended unread unwritten unsent = (ended ≡ true) × (unread ≡ false) × (unwritten ≡ false)
+EndsAs Unreadable ended unread unwritten unsent = (unread ≡ true) × (unsent ≡ false)
+EndsAs Unwritable ended unread unwritten unsent = (unwritten ≡ true) × (unread ≡ true → unsent ≡ true)
+EndsAs NoMemory ended unread unwritten unsent = (unread ≡ false) × (unwritten ≡ false)
+EndsAs (Help text) ended unread unwritten unsent = ⊥
+EndsAs (Version text) ended unread unwritten unsent = ⊥
+EndsAs (BadLine text) ended unread unwritten unsent = ⊥
+EndsAs BadOnly ended unread unwritten unsent = ⊥
 
 -- how much of the trace was given when the run ended so: a beginning, and all of it where it is done
 abbrev pub IsGiven : Outcome → List ℕ → List ℕ → Type 0

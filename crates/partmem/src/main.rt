@@ -6,8 +6,8 @@
 //! |---|---|---|
 //! | 0 | the trace is done, refused commands and faulty lines answered in it; or `--help` or `--version` | nothing |
 //! | 1 | FILE cannot be opened, or the trace cannot be read to its end | `partmem: trace could not be read` |
-//! | 1 | the replies cannot be written or flushed | `partmem: replies could not be written` |
-//! | 2 | the command line is faulty, or a number is out of its range | what is wrong with it |
+//! | 1 | the replies, help or the version cannot be written or flushed | `partmem: replies could not be written` |
+//! | 2 | the command line is faulty or no UTF-8, or a number is out of its range | what is wrong with it |
 //! | 2 | `--only` is not below the number of tenants | `partmem: --only names no tenant` |
 //! | 3 | there is not enough memory | `partmem: not enough memory` |
 //!
@@ -17,7 +17,7 @@
 
 ghost use Rattle.std.specs.Prelude.{◌≡◌, ◌≤◌, true, IfErr, IfOk, OnErr};
 ghost use Rattle.kernel_core.specs.Booting.{is_bootable};
-ghost use Rattle.partmem.specs.Outcome.{IsOfRun, IsRefusal, ended_at_once, status_of};
+ghost use Rattle.partmem.specs.Outcome.{IsAfterTelling, IsOfRun, IsRefusal, ended_at_once, status_of};
 
 mod outcome;
 mod run;
@@ -48,7 +48,8 @@ fn main(rt: HostRuntime) -> ExitCode {
         }
         Err(outcome) => outcome,
     };
-    tell(&rt, &outcome);
+    let outcome = tell_help(&rt, outcome);
+    tell_failure(&rt, &outcome);
     ExitCode::from(outcome.status())
 }
 
@@ -134,10 +135,23 @@ fn tell_tally(rt: &impl Eprint, tally: &Tally) {
     );
 }
 
-/// Tells the outcome: help and the version on standard output, a refusal on standard error.
-fn tell(rt: &(impl Print + Eprint), outcome: &Outcome) {
-    let _unheard = match outcome {
+/// Writes help or the version, where that is the outcome, and answers how the program ends then.
+fn tell_help(rt: &impl Print, outcome: Outcome) -> Outcome
+    ensures { IsAfterTelling outcome result }
+{
+    let written = match &outcome {
         Outcome::Help(text) | Outcome::Version(text) => print!(rt; "{text}"),
+        _ => Ok(()),
+    };
+    match written {
+        Ok(()) => outcome,
+        Err(_) => Outcome::Unwritable,
+    }
+}
+
+/// Tells on standard error what went wrong, if anything did.
+fn tell_failure(rt: &impl Eprint, outcome: &Outcome) {
+    let _unheard = match outcome {
         Outcome::BadLine(text) => eprint!(rt; "{text}"),
         other => match other.text() {
             Some(text) => eprintln!(rt; "{text}"),

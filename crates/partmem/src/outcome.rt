@@ -1,7 +1,7 @@
 //! How a run can end, and what is told of it.
 
 ghost use Rattle.std.specs.Prelude.{◌≡◌, option_map};
-ghost use Rattle.partmem.specs.Outcome.{status_of, text_of, outcome_of, tally_of, ended_at_once};
+ghost use Rattle.partmem.specs.Outcome.{status_of, text_of, outcome_of, tally_of, without_unwritten, ended_at_once};
 
 use replay_core::{ReplayError, Tally};
 
@@ -16,7 +16,7 @@ pub enum Outcome {
     Version(String),
     /// The trace could not be opened or read.
     Unreadable,
-    /// The replies could not be written.
+    /// The replies, or help, could not be written.
     Unwritable,
     /// The command line is faulty: what is wrong with it.
     BadLine(String),
@@ -74,24 +74,26 @@ impl Ended {
     }
 }
 
-/// How a run ends whose replay answered so and whose replies were flushed.
-pub fn outcome_of(replayed: &Result<Tally, ReplayError>) -> Outcome
-    ensures { result ≡ outcome_of replayed.now }
+/// How a run ends whose replay answered so: a send had failed by then, and the replies were flushed.
+pub fn outcome_of(replayed: &Result<Tally, ReplayError>, unsent: bool, flushed: bool) -> Outcome
+    ensures { result ≡ outcome_of replayed.now unsent flushed }
 {
     match replayed {
-        Ok(_) => Outcome::Done,
-        Err(ReplayError::Feed(_)) => Outcome::Unreadable,
-        Err(ReplayError::Drain(_)) => Outcome::Unwritable,
+        Ok(_) if flushed => Outcome::Done,
+        Err(ReplayError::Feed(_)) if !unsent => Outcome::Unreadable,
+        _ => Outcome::Unwritable,
     }
 }
 
-/// What had been done when a replay answered so.
-pub fn tally_of(replayed: &Result<Tally, ReplayError>) -> Tally
-    ensures { result ≡ tally_of replayed.now }
+/// What had been done when a replay answered so and so many of the bytes were not written.
+pub fn tally_of(replayed: &Result<Tally, ReplayError>, unwritten: usize) -> Tally
+    ensures { result ≡ without_unwritten (tally_of replayed.now) unwritten }
 {
-    match replayed {
-        Ok(tally) => *tally,
-        Err(ReplayError::Feed(tally)) => *tally,
-        Err(ReplayError::Drain(tally)) => *tally,
+    let tally = match replayed {
+        Ok(tally) | Err(ReplayError::Feed(tally) | ReplayError::Drain(tally)) => tally,
+    };
+    Tally {
+        written: tally.written.saturating_sub(unwritten as u128),
+        ..*tally
     }
 }

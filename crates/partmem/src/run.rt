@@ -1,9 +1,9 @@
 //! A trace on a new machine.
 
-ghost use Rattle.std.specs.Prelude.{◌≡◌, ◌≤◌, ℕ, true, false, List, length, IfSome};
-ghost use Rattle.std.specs.Io.KnownBytes.{Appends, Consumes};
+ghost use Rattle.std.specs.Prelude.{◌≡◌, ◌≤◌, ℕ, true, false, not, List, [], length, IfSome};
+ghost use Rattle.std.specs.Io.KnownBytes.{Appends, Consumes, Keeps};
 ghost use Rattle.kernel_core.specs.Booting.{is_bootable};
-ghost use Rattle.partmem.specs.Run.{Answers, EndsAs, IsOfTrace, Tallies};
+ghost use Rattle.partmem.specs.Run.{Answers, EndsAs, HasReached, IsOfTrace, Tallies};
 
 use crate::outcome::{Ended, Outcome, outcome_of, tally_of};
 use crate::settings::Settings;
@@ -24,16 +24,18 @@ pub fn run<F: Feed, W: Write>(
     requires bootable { is_bootable settings.now.config ≡ true }
     requires feed_fine { F.has_failed feed.old ≡ false }
     requires drain_fine { ⟦<WriterDrain<W> as Drain>⟧.has_failed drain.old ≡ false }
-    // What was given of the trace, what was written, and what the tally counts of them.
-    ensures ran { (given : List ℕ) × (written : List ℕ)
+    // What was given of the trace, what was written, how much of that the writer took, and what the tally counts of them.
+    ensures ran { (given : List ℕ) × (written : List ℕ) × (sent : List ℕ)
         × Consumes (F.remaining feed.old) (F.remaining feed.new) given
         × Appends (⟦<WriterDrain<W> as Drain>⟧.contents drain.old) (⟦<WriterDrain<W> as Drain>⟧.contents drain.new) written
+        × HasReached result.outcome (⟦<WriterDrain<W> as Drain>⟧.has_failed drain.new) (⟦<WriterDrain<W> as Drain>⟧.contents drain.old)
+        (W.contents drain.new.writer) (⟦<WriterDrain<W> as Drain>⟧.held_back drain.new) written sent
         × Answers settings.now result.outcome given written
-        × Tallies result.outcome result.tally (F.has_ended feed.new) given written
+        × Tallies result.outcome result.tally (F.has_ended feed.new) given sent
         × (length given ≤ F.room_left feed.old)
         × IfSome (F.remaining feed.old) (λ trace. IsOfTrace settings.now result.outcome trace given written) }
     ensures ended { EndsAs result.outcome (F.has_ended feed.new) (F.has_failed feed.new)
-        (⟦<WriterDrain<W> as Drain>⟧.has_failed drain.new) }
+        (⟦<WriterDrain<W> as Drain>⟧.has_failed drain.new) (⟦<WriterDrain<W> as Drain>⟧.has_failed_to_send drain.new) }
 {
     laws::shown_stays();
     let mut kernel = match Kernel::boot(alloc, settings.config) {
@@ -44,21 +46,22 @@ pub fn run<F: Feed, W: Write>(
     let replayed = replay(&mut kernel, feed, drain, settings.only);
     // The system takes all memory back at once when the process ends, sooner than piece by piece.
     mem::forget(kernel);
-    let tally = tally_of(&replayed);
-    if drain.failed() {
-        return Ended {
-            outcome: Outcome::Unwritable,
-            tally,
-        };
-    }
-    if drain.flush().is_err() && replayed.is_ok() {
-        return Ended {
-            outcome: Outcome::Unwritable,
-            tally,
-        };
-    }
+    let flushed = flush(drain);
     Ended {
-        outcome: outcome_of(&replayed),
-        tally,
+        outcome: outcome_of(&replayed, drain.send_failed(), flushed),
+        tally: tally_of(&replayed, drain.unwritten()),
     }
+}
+
+/// Flushes a drain that has not failed; answers whether the writer then has all that the drain took.
+fn flush<W: Write>(drain: &mut WriterDrain<W>) -> bool
+    ensures bytes { Keeps (⟦<WriterDrain<W> as Drain>⟧.contents drain.old) (⟦<WriterDrain<W> as Drain>⟧.contents drain.new) }
+    ensures empty { result ≡ true → ⟦<WriterDrain<W> as Drain>⟧.held_back drain.new ≡ [] }
+    ensures failed { ⟦<WriterDrain<W> as Drain>⟧.has_failed drain.new ≡ not result }
+    ensures stopped { ⟦<WriterDrain<W> as Drain>⟧.has_failed_to_send drain.old ≡ true → result ≡ false }
+    ensures sends { ⟦<WriterDrain<W> as Drain>⟧.has_failed_to_send drain.new ≡ ⟦<WriterDrain<W> as Drain>⟧.has_failed_to_send drain.old }
+    // A drain that had failed has not been touched.
+    ensures fine { ⟦<WriterDrain<W> as Drain>⟧.has_failed drain.old ≡ true → result ≡ false }
+{
+    !drain.failed() && drain.flush().is_ok()
 }

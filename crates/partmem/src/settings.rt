@@ -1,9 +1,11 @@
 //! The command line.
 
-ghost use Rattle.std.specs.Prelude.{◌≡◌, ◌≢◌, ◌<◌, ◌≤◌, true, IfErr, IfOk, IfSome, codes};
-ghost use Rattle.clap.specs.Words.{found_of, kind_of, one_text};
+ghost use Rattle.std.specs.Prelude.{◌≡◌, ◌≢◌, ◌<◌, ◌≤◌, true, false, IfErr, IfOk, IfSome, codes, map};
+ghost use Rattle.clap.specs.Words.{app_of, first_value, found_of, kind_of, one_text, rule_of};
 ghost use Rattle.kernel_core.specs.Booting.{is_bootable};
+ghost use Rattle.partmem.specs.CommandLine.{IsAskedBy, command_line, named_rule};
 ghost use Rattle.partmem.specs.Outcome.{IsRefusal, IsToldAs, status_of};
+ghost use Rattle.partmem.specs.Settings.{Asks, Writes};
 
 use crate::outcome::Outcome;
 use clap::error::ErrorKind;
@@ -33,12 +35,14 @@ Lines of a trace, and the replies:
   T give C PLACE          T> given
   T reap                  T> reaped F
   T report                T> frames .., then a line for each order and each cache
-A refused command is answered T> refused NUMBER NAME, a faulty line !> fault NAME.
-Blank lines and those that begin with # have no reply.
+A refused command is answered T> refused NUMBER NAME, the administrator's admin> refused
+NUMBER NAME, and one of a number that is no tenant !> refused 12 NoTenant. A faulty line is
+answered !> fault NAME: any line of more than 255 bytes, a comment too, is !> fault Long.
+Other comments, which begin with #, and blank lines have no reply.
 
 Exit status:
   0  the trace is done; or --help or --version
-  1  the trace could not be read, or the replies could not be written
+  1  the trace could not be read, or the replies or this help could not be written
   2  the command line is faulty
   3  there is not enough memory
 
@@ -64,6 +68,8 @@ pub struct Settings {
 pub fn read_words<'a>(alloc: Global, words: &'a [&'a str]) -> Result<Settings, Outcome>
     ensures config { IfOk result (λ settings. is_bootable settings.config ≡ true) }
     ensures only { IfOk result (λ settings. IfSome settings.only (λ tenant. tenant < settings.config.tenants)) }
+    // Which word stands under which name is as clap's model says.
+    ensures asked { IfOk result (IsAskedBy (map (λ word. word.now) words.entry.now)) }
     ensures refused { IfErr result IsRefusal }
 {
     let Ok(command) = command(alloc) else {
@@ -76,21 +82,33 @@ pub fn read_words<'a>(alloc: Global, words: &'a [&'a str]) -> Result<Settings, O
 }
 
 /// The arguments that there are, with their ranges.
-fn command<'a>(alloc: Global) -> Result<Command<'a>, AllocError> {
+fn command<'a>(alloc: Global) -> Result<Command<'a>, AllocError>
+    ensures { IfOk result (λ command. app_of command ≡ command_line) }
+{
     let order = number(
         alloc,
         "order",
         "S",
         "A superblock has 2^S frames of 4096 bytes: 3 to 8",
+    )
+    .value_parser(value_parser!(u32).range(i64::from(LEAST_ORDER)..=i64::from(MOST_ORDER)));
+    let superblocks = number(
+        alloc,
+        "superblocks",
+        "N",
+        "How many there are: 1 to 256",
+    ).value_parser(value_parser!(u32).range(1..=i64::from(MOST_SUPERBLOCKS)));
+    let tenants = number(alloc, "tenants", "T", "How many share the machine: 1 to 64").value_parser(
+        value_parser!(u32).range(1..=i64::from(MOST_TENANTS)),
     );
-    let superblocks = number(alloc, "superblocks", "N", "How many there are: 1 to 256");
-    let tenants = number(alloc, "tenants", "T", "How many share the machine: 1 to 64");
     let only = number(
         alloc,
         "only",
         "T",
         "Writes the lines of this tenant alone, a number below the tenants",
-    );
+    )
+    .value_parser(value_parser!(u32))
+    .required(false);
     let tally = Arg::new(alloc, "tally")
         .long("tally")
         .help("Tells what was done, in one line on standard error")
@@ -103,18 +121,19 @@ fn command<'a>(alloc: Global) -> Result<Command<'a>, AllocError> {
         .about("Runs a trace on a machine that tenants share, and writes its replies")
         .after_help(AFTER_HELP)
         .no_binary_name(true)
-        .arg(order.value_parser(value_parser!(u32).range(
-            i64::from(LEAST_ORDER)..=i64::from(MOST_ORDER),
-        )))?
-        .arg(superblocks.value_parser(value_parser!(u32).range(1..=i64::from(MOST_SUPERBLOCKS))))?
-        .arg(tenants.value_parser(value_parser!(u32).range(1..=i64::from(MOST_TENANTS))))?
-        .arg(only.value_parser(value_parser!(u32)).required(false))?
+        .arg(order)?
+        .arg(superblocks)?
+        .arg(tenants)?
+        .arg(only)?
         .arg(tally)?
         .arg(file)
 }
 
 /// A required argument `--name NUMBER`.
-fn number<'a>(alloc: Global, name: &'a str, value: &'a str, help: &'a str) -> Arg<'a> {
+fn number<'a>(alloc: Global, name: &'a str, value: &'a str, help: &'a str) -> Arg<'a>
+    ensures rule { rule_of result ≡ named_rule name.entry.now }
+    ensures local { result.global ≡ false }
+{
     Arg::new(alloc, name)
         .long(name)
         .value_name(value)
@@ -128,6 +147,7 @@ fn settings_of(alloc: Global, matches: &ArgMatches<'_>) -> Result<Settings, Outc
     ensures config { IfOk result (λ settings. is_bootable settings.config ≡ true) }
     ensures only { IfOk result (λ settings. IfSome settings.only (λ tenant. tenant < settings.config.tenants)) }
     ensures refused { IfErr result IsRefusal }
+    ensures asked { IfOk result (Asks (one_text (found_of matches.now)) (first_value (found_of matches.now))) }
     ensures given { result ≡ Err Outcome.BadOnly → one_text (found_of matches.now) (codes "only") ≢ None }
 {
     let config = Config {
@@ -163,7 +183,8 @@ fn settings_of(alloc: Global, matches: &ArgMatches<'_>) -> Result<Settings, Outc
 
 /// The value of a required argument; 0, which no range has, where it is missing.
 fn number_of(matches: &ArgMatches<'_>, name: &str) -> u32
-    ensures { one_text (found_of matches.now) name.now ≡ None → result ≡ 0 }
+    ensures missing { one_text (found_of matches.now) name.now ≡ None → result ≡ 0 }
+    ensures value { 0 < result → Writes (one_text (found_of matches.now) name.now) result }
 {
     matches.get_one::<u32>(name).unwrap_or(0)
 }

@@ -67,6 +67,13 @@ impl Held {
         &self.bytes[..self.len]
     }
 
+    /// How many there are.
+    pub fn len(&self) -> usize
+        ensures { result ≡ length self.now }
+    {
+        self.len
+    }
+
     /// There are none.
     pub fn is_empty(&self) -> bool
         ensures { result ≡ (length self.now == 0) }

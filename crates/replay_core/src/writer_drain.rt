@@ -1,4 +1,4 @@
-ghost use Rattle.std.specs.Prelude.{◌≡◌, ℕ, ◌<◌, ◌≤◌, false, [], length, take, OnOk, IfOk, is_err, vec_len};
+ghost use Rattle.std.specs.Prelude.{◌≡◌, ℕ, ◌<◌, ◌≤◌, true, false, [], length, take, OnOk, IfOk, is_err, vec_len};
 ghost use Rattle.std.specs.Io.KnownBytes.{Appends, Keeps, WriteAppends, append_known};
 ghost use Rattle.replay_core.specs.Held.{held_bytes};
 
@@ -21,7 +21,7 @@ pub struct WriterDrain<W> {
     held: Option<Held>,
     // Bytes were written since the last flush.
     unsent: bool,
-    // A write or a flush has failed while it sent, and no call has told it.
+    // A write or a flush has failed while it sent.
     send_failed: bool,
     failed: bool,
 }
@@ -30,7 +30,9 @@ impl<W: Write> WriterDrain<W> {
     /// A drain into this writer that holds nothing: each push is one write.
     pub fn new(writer: W) -> Self
         ensures contents { ⟦<WriterDrain<W> as Drain>⟧.contents result ≡ W.contents writer }
+        ensures empty { ⟦<WriterDrain<W> as Drain>⟧.held_back result ≡ [] }
         ensures fine { ⟦<WriterDrain<W> as Drain>⟧.has_failed result ≡ false }
+        ensures sends { ⟦<WriterDrain<W> as Drain>⟧.has_failed_to_send result ≡ false }
     {
         WriterDrain {
             writer,
@@ -45,7 +47,9 @@ impl<W: Write> WriterDrain<W> {
     pub fn holding(writer: W, room: Vec<u8>) -> Self
         requires { vec_len room ≡ 0 }
         ensures contents { ⟦<WriterDrain<W> as Drain>⟧.contents result ≡ W.contents writer }
+        ensures empty { ⟦<WriterDrain<W> as Drain>⟧.held_back result ≡ [] }
         ensures fine { ⟦<WriterDrain<W> as Drain>⟧.has_failed result ≡ false }
+        ensures sends { ⟦<WriterDrain<W> as Drain>⟧.has_failed_to_send result ≡ false }
     {
         WriterDrain {
             writer,
@@ -63,7 +67,11 @@ impl<W: Write> WriterDrain<W> {
         ensures bytes { Keeps (⟦<WriterDrain<W> as Drain>⟧.contents self.old) (⟦<WriterDrain<W> as Drain>⟧.contents self.new) }
         // The writer itself then has all that was taken.
         ensures written { OnOk result (Keeps (⟦<WriterDrain<W> as Drain>⟧.contents self.old) (W.contents self.new.writer)) }
+        ensures empty { OnOk result (⟦<WriterDrain<W> as Drain>⟧.held_back self.new ≡ []) }
         ensures failed { ⟦<WriterDrain<W> as Drain>⟧.has_failed self.new ≡ is_err result }
+        ensures stopped { ⟦<WriterDrain<W> as Drain>⟧.has_failed_to_send self.old ≡ true
+            → (is_err result ≡ true) × (⟦<WriterDrain<W> as Drain>⟧.held_back self.new ≡ ⟦<WriterDrain<W> as Drain>⟧.held_back self.old) }
+        ensures sends { ⟦<WriterDrain<W> as Drain>⟧.has_failed_to_send self.new ≡ ⟦<WriterDrain<W> as Drain>⟧.has_failed_to_send self.old }
     {
         if self.send_failed || self.write_held().is_err() || self.writer.flush().is_err() {
             self.failed = true;
@@ -71,6 +79,23 @@ impl<W: Write> WriterDrain<W> {
         }
         self.unsent = false;
         Ok(())
+    }
+
+    /// How many of the bytes that it took the writer has not taken.
+    pub fn unwritten(&self) -> usize
+        ensures { result ≡ length (⟦<WriterDrain<W> as Drain>⟧.held_back self.now) }
+    {
+        match &self.held {
+            Some(held) => held.len(),
+            None => 0,
+        }
+    }
+
+    /// A send has failed.
+    pub fn send_failed(&self) -> bool
+        ensures { result ≡ ⟦<WriterDrain<W> as Drain>⟧.has_failed_to_send self.now }
+    {
+        self.send_failed
     }
 
     /// Takes bytes for which there was no room: what is held is written first.
@@ -82,6 +107,9 @@ impl<W: Write> WriterDrain<W> {
         ensures count { IfOk result (λ n. (0 < n) × (n ≤ length bytes.now)) }
         ensures bytes { WriteAppends (⟦<WriterDrain<W> as Drain>⟧.contents self.old) (⟦<WriterDrain<W> as Drain>⟧.contents self.new) result bytes.now }
         ensures failed { ⟦<WriterDrain<W> as Drain>⟧.has_failed self.new ≡ is_err result }
+        ensures stopped { ⟦<WriterDrain<W> as Drain>⟧.has_failed_to_send self.old ≡ true
+            → (is_err result ≡ true) × (⟦<WriterDrain<W> as Drain>⟧.held_back self.new ≡ ⟦<WriterDrain<W> as Drain>⟧.held_back self.old) }
+        ensures sends { ⟦<WriterDrain<W> as Drain>⟧.has_failed_to_send self.new ≡ ⟦<WriterDrain<W> as Drain>⟧.has_failed_to_send self.old }
     {
         if self.send_failed || self.write_held().is_err() {
             self.failed = true;
@@ -102,6 +130,7 @@ impl<W: Write> WriterDrain<W> {
         ensures count { IfOk result (λ n. (0 < n) × (n ≤ length bytes.now)) }
         ensures bytes { WriteAppends (⟦<WriterDrain<W> as Drain>⟧.contents self.old) (⟦<WriterDrain<W> as Drain>⟧.contents self.new) result bytes.now }
         ensures failed { ⟦<WriterDrain<W> as Drain>⟧.has_failed self.new ≡ is_err result }
+        ensures sends { ⟦<WriterDrain<W> as Drain>⟧.has_failed_to_send self.new ≡ ⟦<WriterDrain<W> as Drain>⟧.has_failed_to_send self.old }
     {
         match self.writer.write(bytes) {
             Ok(count) if count > 0 => {
@@ -118,6 +147,7 @@ impl<W: Write> WriterDrain<W> {
     /// Writes what is held, and flushes the writer if bytes were written since it last was.
     fn send_held(&mut self) -> Result<(), Stopped>
         ensures bytes { Keeps (⟦<WriterDrain<W> as Drain>⟧.contents self.old) (⟦<WriterDrain<W> as Drain>⟧.contents self.new) }
+        ensures empty { OnOk result (⟦<WriterDrain<W> as Drain>⟧.held_back self.new ≡ []) }
         ensures failed { ⟦<WriterDrain<W> as Drain>⟧.has_failed self.new ≡ ⟦<WriterDrain<W> as Drain>⟧.has_failed self.old }
     {
         self.write_held()?;
@@ -133,6 +163,7 @@ impl<W: Write> WriterDrain<W> {
         ensures bytes { Keeps (⟦<WriterDrain<W> as Drain>⟧.contents self.old) (⟦<WriterDrain<W> as Drain>⟧.contents self.new) }
         ensures empty { OnOk result (held_bytes self.new.held ≡ []) }
         ensures failed { ⟦<WriterDrain<W> as Drain>⟧.has_failed self.new ≡ ⟦<WriterDrain<W> as Drain>⟧.has_failed self.old }
+        ensures sends { ⟦<WriterDrain<W> as Drain>⟧.has_failed_to_send self.new ≡ ⟦<WriterDrain<W> as Drain>⟧.has_failed_to_send self.old }
     {
         let Some(held) = &mut self.held else {
             return Ok(());
@@ -151,7 +182,11 @@ impl<W: Write> WriterDrain<W> {
 impl<W: Write> Drain for WriterDrain<W> {
     ghost contents = { λ s. append_known (W.contents s.writer) (held_bytes s.held) };
 
+    ghost held_back = { λ s. held_bytes s.held };
+
     ghost has_failed = { λ s. s.failed };
+
+    ghost has_failed_to_send = { λ s. s.send_failed };
 
     #[inline(always)]
     fn push(&mut self, bytes: &[u8]) -> Result<usize, Stopped> {
@@ -175,7 +210,18 @@ impl<W: Write> Drain for WriterDrain<W> {
         }
     }
 
-    fn send(&mut self) {
+    fn send(&mut self)
+        ensures bytes { Keeps (⟦<WriterDrain<W> as Drain>⟧.contents self.old) (⟦<WriterDrain<W> as Drain>⟧.contents self.new) }
+        ensures failed { ⟦<WriterDrain<W> as Drain>⟧.has_failed self.new ≡ ⟦<WriterDrain<W> as Drain>⟧.has_failed self.old }
+        ensures stopped { ⟦<WriterDrain<W> as Drain>⟧.has_failed self.old ≡ true
+            → ⟦<WriterDrain<W> as Drain>⟧.held_back self.new ≡ ⟦<WriterDrain<W> as Drain>⟧.held_back self.old }
+        ensures sends { ⟦<WriterDrain<W> as Drain>⟧.has_failed_to_send self.old ≡ true
+            → (⟦<WriterDrain<W> as Drain>⟧.has_failed_to_send self.new ≡ true)
+            × (⟦<WriterDrain<W> as Drain>⟧.held_back self.new ≡ ⟦<WriterDrain<W> as Drain>⟧.held_back self.old) }
+        // Then the writer has all that was taken.
+        ensures sent { ⟦<WriterDrain<W> as Drain>⟧.has_failed self.old ≡ false → ⟦<WriterDrain<W> as Drain>⟧.has_failed_to_send self.new ≡ false
+            → ⟦<WriterDrain<W> as Drain>⟧.held_back self.new ≡ [] }
+    {
         if !self.failed && !self.send_failed {
             self.send_failed = self.send_held().is_err();
         }
