@@ -1,0 +1,184 @@
+-- A give keeps the promises.
+use Rattle.std.proofs.Common.{◌≡◌, ℕ, ◌+◌, ◌<◌, Bool, true, false, not, ◌&&◌, ◌||◌, cond, eqb, List, [], ◌∷◌, map, Option, Some, None, refl, sym, ap, ◌∙◌, subst, ◌⊎◌, inl, inr}
+use Rattle.std.specs.Prelude.{option_map, find, filter, Contains}
+use Rattle.std.specs.List.{list_any}
+use Rattle.std.proofs.lemmas.List.{map-id}
+use Rattle.std.proofs.lemmas.Bool.{eqb-true, eqb-false, eq-eqb, ne_eqb, false≢true, cases_eq, not-true, not_from_false, and_from, both_ways}
+use Rattle.model_core.specs.Layouts.{object_place, pattern_byte}
+use Rattle.model_core.specs.Machine.{Slab, Cache, Machine, layout}
+use Rattle.model_core.specs.Slabs.{LiveObject, live_objects, cache_of, with_cache, with_slab, with_live}
+use Rattle.model_core.specs.CacheOperations.{give_object, give_of, give_step}
+use Rattle.model_core.specs.WellFormed.{RisesFrom, IsCache, IsWellFormed}
+use Rattle.model_core.specs.Laws.{Object, place_of}
+use Rattle.model_core.proofs.Lists.{IsIn, each_in, find_in, in_filter, filter_in, filter_rises, any_map, any_in}
+use Rattle.model_core.proofs.ObjectsApart.{contains_in, one_key}
+use Rattle.model_core.proofs.CacheSteps.{live_kept}
+use Rattle.model_core.proofs.SlabsLeave.{flagged_same}
+use Rattle.model_core.proofs.Objects.{IsLive, live_is}
+use Rattle.words_core.specs.declared.event.Command.TheVariants as Asked
+use Rattle.words_core.specs.declared.reply.Body.TheVariants as Say
+use Rattle.world_core.specs.PrivateStep.{command_step, give_body}
+use Rattle.promise_core.specs.Holdings.{with_live as with_live_told}
+use Rattle.promise_core.specs.Bytes.{Holder, Cell, is_same, may_be, doubted}
+use Rattle.promise_core.specs.State.{State, state_after}
+use Rattle.promise_core.specs.Promises.{due}
+use Rattle.promise_kept.specs.Meets.{told_cache, holdings_of, is_live, Meets, IsKeptBy, IsKept}
+use Rattle.promise_kept.proofs.Live.{in_contains, IsSlab, slabs_of, same_members, live_rises, IsLivePlace, live_place, place_listed}
+use Rattle.promise_kept.proofs.Flag.{replaced_is, replaced_one, replaced_other, live_after, live_other, WasObject, was_object, caches_told}
+use Rattle.promise_kept.proofs.Known.{seen, seen_is, cache_seen, IsLiveIn, live_told, told_live, doubt_may, WasSure, doubt_sure}
+
+abbrev gone : ℕ → List ℕ → List ℕ
+gone place ps = filter (λ p. not (eqb p place)) ps
+
+gone_rises : (place n : ℕ) (ps : List ℕ) → RisesFrom n ps → RisesFrom n (gone place ps)
+gone_rises place n ps r = subst (RisesFrom n) (map-id (gone place ps)) (filter_rises (λ p. p) (λ p. not (eqb p place)) n ps (subst (RisesFrom n) (sym (map-id ps)) r))
+
+-- the object of the cache that begins at the place is given back
+module _ (limit order place : ℕ) (c : Cache) (o : LiveObject) (m : Machine) (s : State) (w : IsWellFormed limit order m) (h : Meets order s m) (in_c : IsIn c m.caches) (l : IsLive c o) (at : o.place ≡ place) where
+  lt : o.index < (layout c).count
+  lt = let k : IsSlab c o.slab = each_in (IsSlab c) o.slab c.slabs (slabs_of c (each_in IsCache c m.caches w.caches in_c)) l.slab_in in subst (λ n. o.index < n) k.count l.index_in
+
+  here : object_place (layout c) o.slab.first o.slab.colour o.index ≡ place
+  here = sym l.at ∙ at
+
+  abbrev d : Cache
+  d = with_slab (with_live o.index false o.slab) c
+
+  abbrev n : Machine
+  n = with_cache (with_slab (with_live o.index false o.slab) c) m
+
+  d_in : IsIn d n.caches
+  d_in = replaced_one (λ x. x.number) d c m.caches in_c refl
+
+  other : (u : ℕ) → IsLivePlace c u → (u ≡ place → ⊥) → IsLivePlace d u
+  other u p ne = live_other limit order c o.slab o.index false m w in_c l.slab_in lt u p (λ e. ne (e ∙ here))
+
+  left : gone place (map (λ x. x.place) (live_objects c)) ≡ map (λ x. x.place) (live_objects d)
+  left = same_members 0 (gone place (map (λ x. x.place) (live_objects c))) (map (λ x. x.place) (live_objects d))
+      (gone_rises place 0 (map (λ x. x.place) (live_objects c)) (live_rises order c m w in_c))
+      (live_rises order d n (live_kept order c o.slab o.index false m w in_c l.slab_in) d_in) there back
+    where
+      there : (u : ℕ) → IsIn u (gone place (map (λ x. x.place) (live_objects c))) → IsIn u (map (λ x. x.place) (live_objects d))
+      there u i =
+          let f : IsIn u (map (λ x. x.place) (live_objects c)) × (not (eqb u place) ≡ true) = filter_in (λ p. not (eqb p place)) u (map (λ x. x.place) (live_objects c)) i in
+          place_listed d u (other u (live_place c u f.0) (eqb-false u place (not-true (eqb u place) f.1)))
+
+      back : (u : ℕ) → IsIn u (map (λ x. x.place) (live_objects d)) → IsIn u (gone place (map (λ x. x.place) (live_objects c)))
+      back u i = go (live_after limit order c o.slab o.index false m w in_c l.slab_in lt u (live_place d u i))
+        where
+          go : ((false ≡ true) × (u ≡ object_place (layout c) o.slab.first o.slab.colour o.index)) ⊎ (IsLivePlace c u × (u ≡ object_place (layout c) o.slab.first o.slab.colour o.index → ⊥))
+              → IsIn u (gone place (map (λ x. x.place) (live_objects c)))
+          go (inl e) = absurd (false≢true e.0)
+          go (inr e) = in_filter (λ p. not (eqb p place)) u (map (λ x. x.place) (live_objects c)) (place_listed c u e.0) (not_from_false (eqb u place) (ne_eqb u place (λ k. e.1 (k ∙ sym here))))
+
+  still_live : (p : ℕ) (holder : Holder) → is_live (holdings_of m) holder p ≡ true → is_same (Holder.Object c.number place) holder ≡ false → is_live (holdings_of n) holder p ≡ true
+  unfolding holdings_of
+  still_live p Holder.Page e differs = e
+  still_live p (Holder.Object number first) e differs = told_live n number first p (go (live_told m number first p e))
+    where
+      go : IsLiveIn number first m.caches → IsLiveIn number first n.caches
+      go k = by (cases_eq k.cache.number c.number)
+        where
+          by : (k.cache.number ≡ c.number) ⊎ (k.cache.number ≡ c.number → ⊥) → IsLiveIn number first n.caches
+          by (inl e) =
+              let same : k.cache ≡ c = one_key (λ x. x.number) 0 m.caches k.cache c w.caches_rise k.cache_in in_c e in
+              record {
+                cache = d;
+                cache_in = d_in;
+                number_is = sym e ∙ k.number_is;
+                place = other first (subst (λ x. IsLivePlace x first) same k.place)
+                    (λ f. both_ways (eqb number c.number && eqb first place) differs
+                    (and_from (eqb number c.number) (eqb first place) (eq-eqb number c.number (sym k.number_is ∙ e)) (eq-eqb first place f)));
+              }
+          by (inr ne) = record {
+            cache = k.cache;
+            cache_in = replaced_other (λ x. x.number) d k.cache m.caches k.cache_in (ne_eqb k.cache.number c.number ne);
+            number_is = k.number_is;
+            place = k.place;
+          }
+
+  after : State
+  after = record s { has = holdings_of n; cells = doubted (λ p. is_same (Holder.Object c.number place)) s.cells; told = None }
+
+  meets : Meets order after n
+  unfolding after
+  meets = record {
+    has = refl;
+    hides = λ x slab i j. go_hides x slab (contains_in n.caches x i) j;
+    lives = λ p cell e sure. go_lives p cell sure (doubt_sure (λ p. is_same (Holder.Object c.number place)) s.cells p cell e sure);
+    page_bytes = λ p byte out is. doubt_may Holder.Page 0 byte p (λ p. is_same (Holder.Object c.number place)) s.cells
+        (h.page_bytes p byte (sym (flagged_same order p c o.slab o.index false m w in_c l.slab_in) ∙ out) is);
+    object_bytes = λ x j byte i below is. go_bytes x j byte below is (was_object limit order c o.slab o.index false m w in_c l.slab_in lt x i);
+    empty_told = λ r e. absurd (cc);
+    free_told = λ r e. absurd (cc);
+  }
+    where
+      go_hides : (x : Cache) (slab : Slab) → IsIn x n.caches → Contains x.slabs slab → s.hides x.number ≡ true
+      go_hides x slab i j = go (replaced_is (λ y. y.number) d x m.caches i)
+        where
+          go : (d ≡ x) ⊎ (IsIn x m.caches × (eqb x.number c.number ≡ false)) → s.hides x.number ≡ true
+          go (inl e) = ap (λ (y : Cache). s.hides y.number) (sym e) ∙ h.hides c o.slab (in_contains c m.caches in_c) (in_contains o.slab c.slabs l.slab_in)
+          go (inr k) = h.hides x slab (in_contains x m.caches k.0) j
+
+      go_lives : (p : ℕ) (cell : Cell) → cell.sure ≡ true → WasSure (λ p. is_same (Holder.Object c.number place)) s.cells p cell → is_live (holdings_of n) cell.holder p ≡ true
+      go_lives p cell sure k = subst (λ x. is_live (holdings_of n) x p ≡ true) k.holder (still_live p k.was.holder (ap (λ x. is_live x k.was.holder p) (sym h.has) ∙ h.lives p k.was k.is k.sure) k.passes)
+
+      go_bytes : (x : Object) (j byte : ℕ) → j < x.cache.size → m.bytes (place_of x + j) ≡ Some byte → WasObject m x
+          → may_be (Holder.Object x.cache.number (place_of x)) (pattern_byte x.cache.pattern j) (doubted (λ p. is_same (Holder.Object c.number place)) s.cells (place_of x + j)) byte ≡ true
+      go_bytes x j byte below is k = doubt_may (Holder.Object x.cache.number (place_of x)) (pattern_byte x.cache.pattern j) byte (place_of x + j) (λ p. is_same (Holder.Object c.number place)) s.cells
+          (subst (λ number. may_be (Holder.Object number (place_of x)) (pattern_byte x.cache.pattern j) (s.cells (place_of x + j)) byte ≡ true) k.number
+          (subst (λ pattern. may_be (Holder.Object k.was.cache.number (place_of x)) (pattern_byte pattern j) (s.cells (place_of x + j)) byte ≡ true) k.pattern
+          (subst (λ p. may_be (Holder.Object k.was.cache.number p) (pattern_byte k.was.cache.pattern j) (s.cells (p + j)) byte ≡ true) k.place
+          (h.object_bytes k.was j byte k.object (subst (λ size. j < size) (sym k.size) below) (ap (λ p. m.bytes (p + j)) k.place ∙ is)))))
+
+  has_after : with_live_told c.number (gone place) (holdings_of m) ≡ holdings_of n
+  unfolding holdings_of
+  has_after = ap (λ cs. record { slots = m.slots; pages = m.blocks; caches = cs })
+      (caches_told c.number (gone place) c d m.caches refl (λ x i e. one_key (λ y. y.number) 0 m.caches x c w.caches_rise i in_c e)
+      (ap (λ ps. record (told_cache c) { live = ps }) left))
+
+  given : cache_of m c.number ≡ Some c → list_any (λ p. eqb p place) (map (λ x. x.place) (live_objects c)) ≡ true → IsKeptBy limit order (Asked.Give c.number place) (seen m s) Say.Given n
+  unfolding holdings_of due state_after after
+  given e f = record {
+    allowed = λ t owners states. rw (eq-eqb t t refl) (rw (cache_seen c.number m.caches ∙ ap (option_map told_cache) e) (rw f refl));
+    meets = λ t. (record after { has = with_live_told c.number (gone place) (holdings_of m) }, refl, subst (λ x. Meets order (record after { has = x }) n) (sym has_after) meets);
+  }
+
+none_any : {X : Type 0} (p : X → Bool) (xs : List X) → find p xs ≡ None → list_any p xs ≡ false
+none_any p [] e = refl
+none_any {X} p (x ∷ xs) e = go (p x) e (none_any p xs)
+  where
+    go : (b : Bool) → cond b (Some x) (find p xs) ≡ None → (find p xs ≡ None → list_any p xs ≡ false) → (b || list_any p xs) ≡ false
+    go true e rest = absurd (cc)
+    go false e rest = rest e
+
+give_seen : (limit order number place : ℕ) (m : Machine) (s : State) → IsWellFormed limit order m → Meets order s m → Meets order (seen m s) m → IsKept limit order (Asked.Give number place) m (seen m s)
+unfolding command_step give_step holdings_of due state_after
+give_seen limit order number place m s w h k = go (cache_of m number) refl
+  where
+    object : (c : Cache) → cache_of m number ≡ Some c → (o : Option LiveObject) → find (λ x. eqb x.place place) (live_objects c) ≡ o
+        → IsKeptBy limit order (Asked.Give number place) (seen m s) (give_body (give_object c m o).answer) (give_object c m o).machine
+    object c e None f = record {
+      allowed = λ t owners states. rw (eq-eqb t t refl) (rw (cache_seen number m.caches ∙ ap (option_map told_cache) e)
+          (rw (any_map (λ p. eqb p place) (λ x. x.place) (live_objects c) ∙ none_any (λ x. eqb x.place place) (live_objects c) f) refl));
+      meets = λ t. (seen m s, refl, k);
+    }
+    object c e (Some o) f =
+        let in_c : IsIn c m.caches × (eqb c.number number ≡ true) = find_in (λ x. eqb x.number number) c m.caches e in
+        let in_o : IsIn o (live_objects c) × (eqb o.place place ≡ true) = find_in (λ x. eqb x.place place) o (live_objects c) f in
+        let same : c.number ≡ number = eqb-true c.number number in_c.1 in
+        subst (λ i. IsKeptBy limit order (Asked.Give i place) (seen m s) Say.Given (with_cache (with_slab (with_live o.index false o.slab) c) m)) same
+        (given limit order place c o m s w h in_c.0 (live_is c o in_o.0) (eqb-true o.place place in_o.1) (subst (λ i. cache_of m i ≡ Some c) (sym same) e)
+        (any_map (λ p. eqb p place) (λ x. x.place) (live_objects c) ∙ any_in (λ x. eqb x.place place) o (live_objects c) in_o.0 in_o.1))
+
+    go : (o : Option Cache) → cache_of m number ≡ o → IsKeptBy limit order (Asked.Give number place) (seen m s) (give_body (give_of place m o).answer) (give_of place m o).machine
+    go None e = record {
+      allowed = λ t owners states. rw (eq-eqb t t refl) (rw (cache_seen number m.caches ∙ ap (option_map told_cache) e) refl);
+      meets = λ t. (seen m s, refl, k);
+    }
+    go (Some c) e = object c e (find (λ x. eqb x.place place) (live_objects c)) refl
+
+pub give_kept : (limit order number place : ℕ) (m : Machine) (s : State) → IsWellFormed limit order m → Meets order s m → IsKept limit order (Asked.Give number place) m s
+give_kept limit order number place m s w h =
+    let e : seen m s ≡ s = seen_is m s h.has in
+    subst (IsKept limit order (Asked.Give number place) m) e (give_seen limit order number place m s w h (subst (λ x. Meets order x m) (sym e) h))

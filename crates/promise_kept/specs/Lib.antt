@@ -1,0 +1,3 @@
+pub mod Meets
+pub mod Laws
+pub mod ObjectLaws

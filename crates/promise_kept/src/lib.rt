@@ -1,0 +1,5 @@
+//! That the private machine, and so the kernel, keeps the promises.
+#![tactic(auto)]
+
+pub mod laws;
+pub mod object_laws;
