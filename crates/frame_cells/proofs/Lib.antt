@@ -1,1 +1,4 @@
 pub mod Cells
+pub mod Even
+pub mod Filling
+pub mod Splits

@@ -6,6 +6,15 @@ use Rattle.model_core.specs.Slabs.{cache_of, slab_of, is_full, is_partial, is_em
 use Rattle.frame_cells.specs.declared.cell.Cell.{Cell}
 use Rattle.frame_cells.specs.declared.cell.Cell.TheVariants.{NotHeld, Free, Page, Full, Partial, Empty}
 
+-- where a kind stands among all kinds
+abbrev pub rank_of : Cell → ℕ
+rank_of Page = 0
+rank_of Full = 1
+rank_of Partial = 2
+rank_of Empty = 3
+rank_of Free = 4
+rank_of NotHeld = 5
+
 -- frame f lies in a slab that passes the test
 pub record IsInSlab (m : Machine) (f : ℕ) (test : Slab → Bool) : Type 0 where
   pub number : ℕ

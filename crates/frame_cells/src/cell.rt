@@ -6,7 +6,7 @@ ghost use Rattle.klist_core.specs.Places.{place_at};
 ghost use Rattle.slab_laws.specs.Shows.{node_of, has_slab};
 ghost use Rattle.kernel_core.specs.Parts.{superblock_at};
 ghost use Rattle.kernel_core.specs.Shows.{ShowsMachine};
-ghost use Rattle.frame_cells.specs.Cells.{IsCell, IsSlabCell};
+ghost use Rattle.frame_cells.specs.Cells.{rank_of, IsCell, IsSlabCell};
 
 use kernel_core::Kernel;
 
@@ -43,7 +43,8 @@ impl Cell {
 
     /// Where it stands among all kinds.
     pub fn rank(self) -> usize
-        ensures { result < KINDS }
+        ensures value { result ≡ rank_of self }
+        ensures within { result < KINDS }
     {
         match self {
             Cell::Page => 0,
@@ -52,6 +53,21 @@ impl Cell {
             Cell::Empty => 3,
             Cell::Free => 4,
             Cell::NotHeld => 5,
+        }
+    }
+
+    /// The kind that stands there among all kinds.
+    pub fn of_rank(rank: usize) -> Cell
+        requires { rank < KINDS }
+        ensures { rank_of result ≡ rank }
+    {
+        match rank {
+            0 => Cell::Page,
+            1 => Cell::Full,
+            2 => Cell::Partial,
+            3 => Cell::Empty,
+            4 => Cell::Free,
+            _ => Cell::NotHeld,
         }
     }
 }

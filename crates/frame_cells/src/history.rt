@@ -1,12 +1,13 @@
 //! What a machine was like over the lines of a trace.
 
-ghost use Rattle.std.specs.Prelude.{◌≡◌, ◌+◌, ◌<◌, ◌≤◌, IfOk, length, vec_len};
+ghost use Rattle.std.specs.Prelude.{◌≡◌, ℕ, ◌+◌, ◌*◌, ◌/◌, ◌%◌, ◌^◌, ◌<◌, ◌≤◌, ◌⊎◌, IfOk, Option, Some, length, slice_get, vec_len};
+ghost use Rattle.model_core.specs.declared.limits.TheConstants.{MOST_ORDER, MOST_TENANTS};
 
-use crate::cell::{Cell, cell_of};
+use crate::cell::Cell;
+use crate::showing::{show_sheets, show_splits};
 use kernel_core::Kernel;
 use model_core::owner::Owner;
 use std::alloc::{AllocError, Global};
-use words_core::Body;
 
 /// A history should be given room for at most so many columns, so that what is kept of them is never more than the machine's own memory.
 pub const MOST_COLUMNS: u32 = 4096;
@@ -49,17 +50,27 @@ pub struct History {
     width: u32,
     /// How many lines have been run.
     lines: u32,
+    ghost small: { order ≤ MOST_ORDER },
+    ghost few: { tenants ≤ MOST_TENANTS },
     ghost some: { 0 < width },
     ghost within: { kept ≤ vec_len columns },
 }
 
 impl History {
+    ghost use Rattle.frame_cells.specs.declared.history.Column.{Column};
+    ghost use Rattle.frame_cells.specs.Columns.{IsColumnAfter};
+    ghost use Rattle.frame_cells.specs.Histories.{order_of, tenants_of, columns_of, room_of, width_of, lines_of, SameSizes, IsEven};
+
     /// No line has been run yet; there is room for so many columns.
     pub fn new(alloc: Global, kernel: &Kernel, room: u32) -> Result<History, AllocError>
-        ensures room { IfOk result (λ history. vec_len history.columns ≡ room) }
-        ensures lines { IfOk result (λ history. history.lines ≡ 0) }
-        ensures width { IfOk result (λ history. history.width ≡ 1) }
+        ensures order { IfOk result (λ history. order_of history ≡ kernel.now.order) }
+        ensures tenants { IfOk result (λ history. tenants_of history ≡ kernel.now.tenants) }
+        ensures room { IfOk result (λ history. room_of history ≡ room) }
+        ensures lines { IfOk result (λ history. lines_of history ≡ 0) }
+        ensures width { IfOk result (λ history. width_of history ≡ 1) }
+        ensures even { IfOk result (λ history. IsEven (columns_of history) (width_of history) (lines_of history)) }
     {
+        kernel.parts_agree();
         let mut columns = Vec::with_capacity(alloc, room as usize)?;
         for _column in 0..room {
             columns.push(Column::new(alloc, kernel)?)?;
@@ -76,7 +87,10 @@ impl History {
     }
 
     /// A superblock of the machine has `2^order` frames.
-    pub fn order(&self) -> u32 {
+    pub fn order(&self) -> u32
+        ensures value { result ≡ order_of self.now }
+        ensures small { result ≤ 8 }
+    {
         self.order
     }
 
@@ -86,28 +100,31 @@ impl History {
     }
 
     /// How many tenants share the machine.
-    pub fn tenants(&self) -> u32 {
+    pub fn tenants(&self) -> u32
+        ensures value { result ≡ tenants_of self.now }
+        ensures few { result ≤ 64 }
+    {
         self.tenants
     }
 
     /// How many columns there is room for.
     pub fn room(&self) -> usize
-        ensures { result ≡ vec_len self.now.columns }
+        ensures { result ≡ room_of self.now }
     {
         self.columns.len()
     }
 
     /// The columns in use.
     pub fn columns(&self) -> &[Column]
-        ensures all { length result.now ≡ self.now.kept }
-        ensures fit { length result.now ≤ vec_len self.now.columns }
+        ensures all { result.now ≡ columns_of self.now }
+        ensures fit { length result.now ≤ room_of self.now }
     {
         &self.columns[..self.kept]
     }
 
     /// How many lines a column stands for; the last one may stand for fewer.
     pub fn width(&self) -> u32
-        ensures value { result ≡ self.now.width }
+        ensures value { result ≡ width_of self.now }
         ensures some { 0 < result }
     {
         self.width
@@ -115,34 +132,56 @@ impl History {
 
     /// How many lines have been run.
     pub fn lines(&self) -> u32
-        ensures { result ≡ self.now.lines }
+        ensures { result ≡ lines_of self.now }
     {
         self.lines
     }
 
     /// One more line has been run, and the kernel stands after it.
     pub fn add_line(&mut self, kernel: &Kernel)
-        ensures counted { self.old.lines < u32.MAX → self.new.lines ≡ self.old.lines + 1 }
-        ensures room { vec_len self.new.columns ≡ vec_len self.old.columns }
-        ensures width { self.old.width ≤ self.new.width }
+        ensures counted { lines_of self.old < u32.MAX → lines_of self.new ≡ lines_of self.old + 1 }
+        ensures sizes { SameSizes self.old self.new }
+        ensures width { width_of self.old ≤ width_of self.new }
+        ensures full { (width_of self.new ≡ width_of self.old) ⊎ (length (columns_of self.old) ≡ room_of self.old) }
+        ensures even { lines_of self.old < 2 ^ 30 → IsEven (columns_of self.old) (width_of self.old) (lines_of self.old)
+            → IsEven (columns_of self.new) (width_of self.new) (lines_of self.new) }
+        ensures shown { (i : ℕ) (column : Column) → slice_get (columns_of self.new) i ≡ Some column
+            → ((k : ℕ) × (slice_get (columns_of self.old) k ≡ Some column)) ⊎ IsColumnAfter kernel.now (lines_of self.new) column }
     {
-        self.lines = self.lines.saturating_add(1);
-        if self.lines % self.width != 0 {
-            return;
-        }
-        if self.kept >= self.columns.len() {
-            self.halve();
-        }
-        if self.lines % self.width == 0 {
+        let line = self.lines.saturating_add(1);
+        self.make_room(line);
+        self.lines = line;
+        if line % self.width == 0 {
             self.keep(kernel);
+        }
+    }
+
+    /// Where this line, the next one, is to have a column and all are used, every second one is given up.
+    fn make_room(&mut self, line: u32)
+        ensures lines { lines_of self.new ≡ lines_of self.old }
+        ensures sizes { SameSizes self.old self.new }
+        ensures width { width_of self.old ≤ width_of self.new }
+        ensures full { (width_of self.new ≡ width_of self.old) ⊎ (length (columns_of self.old) ≡ room_of self.old) }
+        ensures shown { (i : ℕ) (column : Column) → slice_get (columns_of self.new) i ≡ Some column
+            → (k : ℕ) × (slice_get (columns_of self.old) k ≡ Some column) }
+        ensures even { line ≡ lines_of self.old + 1 → line ≤ 2 ^ 30 → IsEven (columns_of self.old) (width_of self.old) (lines_of self.old)
+            → IsEven (columns_of self.new) (width_of self.new) (lines_of self.new) }
+        ensures due { line ≡ lines_of self.old + 1 → IsEven (columns_of self.old) (width_of self.old) (lines_of self.old)
+            → line ≤ 2 ^ 30 → line % width_of self.new ≡ 0 → length (columns_of self.new) < room_of self.new }
+    {
+        if line % self.width == 0 && self.kept >= self.columns.len() {
+            self.halve();
         }
     }
 
     /// The trace has ended: the lines that have no column yet get one.
     pub fn end(&mut self, kernel: &Kernel)
-        ensures lines { self.new.lines ≡ self.old.lines }
-        ensures room { vec_len self.new.columns ≡ vec_len self.old.columns }
-        ensures width { self.old.width ≤ self.new.width }
+        ensures lines { lines_of self.new ≡ lines_of self.old }
+        ensures sizes { SameSizes self.old self.new }
+        ensures width { width_of self.old ≤ width_of self.new }
+        ensures full { (width_of self.new ≡ width_of self.old) ⊎ (length (columns_of self.old) ≡ room_of self.old) }
+        ensures shown { (i : ℕ) (column : Column) → slice_get (columns_of self.new) i ≡ Some column
+            → ((k : ℕ) × (slice_get (columns_of self.old) k ≡ Some column)) ⊎ IsColumnAfter kernel.now (lines_of self.new) column }
     {
         if self.lines % self.width == 0 {
             return;
@@ -153,12 +192,16 @@ impl History {
         self.keep(kernel);
     }
 
-    /// Keeps what the kernel is like now.
+    /// Keeps what the kernel is like now, in the next column.
     fn keep(&mut self, kernel: &Kernel)
-        ensures lines { self.new.lines ≡ self.old.lines }
-        ensures room { vec_len self.new.columns ≡ vec_len self.old.columns }
-        ensures width { self.new.width ≡ self.old.width }
-        ensures one { self.old.kept < vec_len self.old.columns → self.new.kept ≡ self.old.kept + 1 }
+        ensures lines { lines_of self.new ≡ lines_of self.old }
+        ensures sizes { SameSizes self.old self.new }
+        ensures width { width_of self.new ≡ width_of self.old }
+        ensures one { length (columns_of self.old) < room_of self.old → length (columns_of self.new) ≡ length (columns_of self.old) + 1 }
+        ensures none { room_of self.old ≤ length (columns_of self.old) → columns_of self.new ≡ columns_of self.old }
+        ensures before { (i : ℕ) → i < length (columns_of self.old) → slice_get (columns_of self.new) i ≡ slice_get (columns_of self.old) i }
+        ensures last { (column : Column) → length (columns_of self.old) < room_of self.old
+            → slice_get (columns_of self.new) (length (columns_of self.old)) ≡ Some column → IsColumnAfter kernel.now (lines_of self.old) column }
     {
         if let Some(column) = self.columns.get_mut(self.kept) {
             column.show(kernel, self.lines);
@@ -168,15 +211,17 @@ impl History {
 
     /// Gives up every second column, the first one first: what is left stands for twice as many lines.
     fn halve(&mut self)
-        ensures lines { self.new.lines ≡ self.old.lines }
-        ensures room { vec_len self.new.columns ≡ vec_len self.old.columns }
-        ensures width { self.old.width ≤ self.new.width }
+        ensures lines { lines_of self.new ≡ lines_of self.old }
+        ensures sizes { SameSizes self.old self.new }
+        ensures width { width_of self.old < 2 ^ 31 → width_of self.new ≡ 2 * width_of self.old }
+        ensures wider { width_of self.old ≤ width_of self.new }
+        ensures half { length (columns_of self.new) ≡ length (columns_of self.old) / 2 }
+        ensures second { (i : ℕ) → i < length (columns_of self.new)
+            → slice_get (columns_of self.new) i ≡ slice_get (columns_of self.old) (2 * i + 1) }
     {
         let half = self.kept / 2;
         for i in 0..half {
-            if 2 * i + 1 < self.columns.len() {
-                self.columns.swap(i, 2 * i + 1);
-            }
+            self.columns.swap(i, 2 * i + 1);
         }
         self.kept = half;
         self.width = self.width.saturating_mul(2);
@@ -184,6 +229,8 @@ impl History {
 }
 
 impl Column {
+    ghost use Rattle.frame_cells.specs.Columns.{IsColumnAfter};
+
     /// Room for what a machine is like.
     fn new(alloc: Global, kernel: &Kernel) -> Result<Column, AllocError> {
         kernel.parts_agree();
@@ -203,45 +250,10 @@ impl Column {
 
     /// Shows what the kernel is like now, after so many lines.
     fn show(&mut self, kernel: &Kernel, line: u32)
-        ensures { self.new.line ≡ line }
+        ensures { IsColumnAfter kernel.now line self.new }
     {
         self.line = line;
-        for (sheet, owner) in self.sheets.iter_mut().zip(kernel.space().owners()) {
-            sheet.show(kernel, *owner);
-        }
-        let mut t = 0u32;
-        for split in self.splits.iter_mut() {
-            *split = split_of(kernel, t);
-            t = t.saturating_add(1);
-        }
-    }
-}
-
-impl Sheet {
-    /// Shows what the frames of this owner are now.
-    fn show(&mut self, kernel: &Kernel, owner: Option<Owner>)
-        ensures { self.new.owner ≡ owner }
-    {
-        self.owner = owner;
-        let Some(Owner { tenant, slot }) = owner else {
-            return;
-        };
-        if u32::from(tenant) >= kernel.tenants() {
-            return;
-        }
-        kernel.parts_agree();
-        let mut frame = u32::from(slot) << kernel.order();
-        for cell in self.cells.iter_mut() {
-            *cell = cell_of(kernel, tenant, frame);
-            frame = frame.saturating_add(1);
-        }
-    }
-}
-
-/// The share of tenant `t`'s free frames outside one greatest free block, in thousandths, as a report tells it.
-fn split_of(kernel: &Kernel, t: u32) -> u32 {
-    match kernel.report(t).body {
-        Body::Report(report) => report.split,
-        _ => 0,
+        show_sheets(&mut self.sheets, kernel);
+        show_splits(&mut self.splits, kernel);
     }
 }

@@ -4,9 +4,9 @@
 //!
 //! | Exit status | When | Standard error |
 //! |---|---|---|
-//! | 0 | the trace is done, and its picture written; or `--help` | nothing |
+//! | 0 | the trace is done, and its picture written; or `--help`, `--version` | nothing |
 //! | 1 | FILE cannot be opened, or the trace cannot be read to its end | `framemap: trace could not be read` |
-//! | 1 | the picture cannot be written or flushed | `framemap: picture could not be written` |
+//! | 1 | the picture, the help or the version cannot be written or flushed | `framemap: picture could not be written` |
 //! | 2 | the command line is faulty, or a number is out of its range | what is wrong with it |
 //! | 2 | `--only` is not below the number of tenants | `framemap: --only names no tenant` |
 //! | 3 | there is not enough memory | `framemap: not enough memory` |
@@ -14,7 +14,7 @@
 
 ghost use Rattle.std.specs.Prelude.{◌≡◌, ◌≤◌, true, IfErr, IfOk, OnErr};
 ghost use Rattle.kernel_core.specs.Booting.{is_bootable};
-ghost use Rattle.framemap.specs.Outcome.{IsOfRun, IsRefusal, status_of};
+ghost use Rattle.framemap.specs.Outcome.{IsHandedOut, IsOfRun, IsRefusal, status_of};
 
 mod lines;
 mod outcome;
@@ -27,7 +27,7 @@ use settings::{Settings, bad_line, read_words};
 use std::alloc::Global;
 use std::env;
 use std::fs::File;
-use std::io::{self, BufReader, BufWriter, ErrorKind, Read};
+use std::io::{self, BufReader, BufWriter, ErrorKind, Read, Write};
 use std::process::ExitCode;
 use std::rt::{Env, Files};
 
@@ -37,7 +37,7 @@ const BUFFER_BYTES: usize = 65_536;
 fn main(rt: HostRuntime) -> ExitCode {
     let outcome = match read_command_line(&rt) {
         Ok(settings) => run_from(&rt, &settings),
-        Err(outcome) => outcome,
+        Err(outcome) => hand_out(&mut io::writer(&rt), outcome),
     };
     tell(&rt, &outcome);
     ExitCode::from(outcome.status())
@@ -108,10 +108,29 @@ fn run_opened<R: Read + Drop>(
     run(alloc, settings, &mut reader, &mut writer)
 }
 
-/// Tells the outcome: help on standard output, a refusal on standard error.
-fn tell(rt: &(impl Print + Eprint), outcome: &Outcome) {
+/// Writes the text of help or of the version; where it can't be written and flushed, the outcome is another.
+fn hand_out<W: Write>(out: &mut W, outcome: Outcome) -> Outcome
+    ensures { IsHandedOut outcome result }
+{
+    let written = match &outcome {
+        Outcome::Help(text) | Outcome::Version(text) => write_out(out, text.as_str()),
+        _ => return outcome,
+    };
+    match written {
+        Ok(()) => outcome,
+        Err(_) => Outcome::Unwritable,
+    }
+}
+
+/// Writes a text, and flushes.
+fn write_out<W: Write>(out: &mut W, text: &str) -> io::Result<()> {
+    out.write_all(text.as_bytes())?;
+    out.flush()
+}
+
+/// Tells on standard error what went wrong, if anything did.
+fn tell(rt: &impl Eprint, outcome: &Outcome) {
     let _unheard = match outcome {
-        Outcome::Help(text) => print!(rt; "{text}"),
         Outcome::BadLine(text) => eprint!(rt; "{text}"),
         other => match other.text() {
             Some(text) => eprintln!(rt; "{text}"),

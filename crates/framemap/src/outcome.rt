@@ -10,6 +10,8 @@ pub enum Outcome {
     Done,
     /// `--help` was asked for: the text of it.
     Help(String),
+    /// `--version` was asked for: the text of it.
+    Version(String),
     /// The trace could not be opened or read.
     Unreadable,
     /// The picture could not be written.
@@ -28,7 +30,7 @@ impl Outcome {
         ensures { result ≡ status_of self.now }
     {
         match self {
-            Outcome::Done | Outcome::Help(_) => 0,
+            Outcome::Done | Outcome::Help(_) | Outcome::Version(_) => 0,
             Outcome::Unreadable | Outcome::Unwritable => 1,
             Outcome::BadLine(_) | Outcome::BadOnly => 2,
             Outcome::NoMemory => 3,
@@ -44,7 +46,7 @@ impl Outcome {
             Outcome::Unwritable => Some("framemap: picture could not be written"),
             Outcome::BadOnly => Some("framemap: --only names no tenant"),
             Outcome::NoMemory => Some("framemap: not enough memory"),
-            Outcome::Done | Outcome::Help(_) | Outcome::BadLine(_) => None,
+            Outcome::Done | Outcome::Help(_) | Outcome::Version(_) | Outcome::BadLine(_) => None,
         }
     }
 }

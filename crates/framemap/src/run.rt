@@ -13,8 +13,8 @@ use std::alloc::Global;
 use std::io::{self, BufRead, ErrorKind, Write};
 use words_core::Event;
 
-/// The lines that a trace has at most: 2^30.
-const MOST_LINES: u32 = 1 << 30;
+/// A trace has fewer lines than this, 2^30.
+const LINES_ABOVE: u32 = 1 << 30;
 
 /// Room for a line.
 const LINE_BYTES: usize = 512;
@@ -58,7 +58,7 @@ fn watch<R: BufRead>(
     line: &mut Vec<u8>,
     history: &mut History,
 ) -> io::Result<()> {
-    for _ in 0..MOST_LINES {
+    for _ in 0..LINES_ABOVE {
         match next_line(reader, line)? {
             Next::End => {
                 history.end(kernel);

@@ -16,6 +16,9 @@ use std::alloc::{AllocError, Global};
 /// How many columns a picture has at most where the command line doesn't say.
 const DEFAULT_COLUMNS: u32 = 600;
 
+/// What `--version` tells.
+const VERSION: &str = "1.0.0";
+
 /// What a command line asks for.
 #[derive(Debug, Drop)]
 pub struct Settings {
@@ -31,7 +34,7 @@ pub struct Settings {
 
 /// Reads the words of a command line, without the program's name.
 ///
-/// Refused with `Help`, `BadLine`, `BadOnly` (the command line is otherwise in order) or `NoMemory`.
+/// Refused with `Help`, `Version`, `BadLine`, `BadOnly` (the command line is otherwise in order) or `NoMemory`.
 pub fn read_words<'a>(alloc: Global, words: &'a [&'a str]) -> Result<Settings, Outcome>
     ensures config { IfOk result (λ settings. is_bootable settings.config ≡ true) }
     ensures only { IfOk result (λ settings. IfSome settings.only (λ tenant. tenant < settings.config.tenants)) }
@@ -62,6 +65,7 @@ fn command<'a>(alloc: Global) -> Result<Command<'a>, AllocError> {
         .help("The trace [default: standard input]")
         .action(ArgAction::Set);
     Command::new(alloc, "framemap")
+        .version(VERSION)
         .about("Runs a trace on a machine that tenants share, and draws what became of its frames")
         .no_binary_name(true)
         .arg(order.value_parser(value_parser!(u32).range(
@@ -156,6 +160,7 @@ fn refusal(alloc: Global, error: &Error) -> Outcome
     match error.kind() {
         ErrorKind::OutOfMemory => Outcome::NoMemory,
         ErrorKind::DisplayHelp => Outcome::Help(text),
+        ErrorKind::DisplayVersion => Outcome::Version(text),
         _ => Outcome::BadLine(text),
     }
 }

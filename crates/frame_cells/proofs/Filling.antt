@@ -1,0 +1,48 @@
+-- A list that is filled from its first element on.
+use Rattle.std.proofs.Common.{◌≡◌, ◌≢◌, ℕ, ◌+◌, ◌<◌, ◌≤◌, List, Some, length, get_or, slice_get, slice_set, subst, sym, ◌∙◌, arith, ◌⊎◌, inl, inr}
+use Rattle.std.proofs.lemmas.Bool.{cases_order}
+use Rattle.std.proofs.lemmas.Option.{slice_get_within, slice_get-get_or, get_or_from_slice_get}
+use Rattle.std.proofs.lemmas.List.{get_or-set_same, get_or-set_other}
+use Rattle.std.proofs.Math.ListN.{length-set}
+
+-- what holds of the elements before i, and of the new one at i, holds of all up to it
+pub more_filled : {X : Type 0} (P : ℕ → X → Type 0) (xs : List X) (i : ℕ) (v : X) → i < length xs
+    → ((k : ℕ) (x : X) → k < i → slice_get xs k ≡ Some x → P k x) → P i v
+    → (k : ℕ) (x : X) → k < i + 1 → slice_get (slice_set xs i v) k ≡ Some x → P k x
+more_filled {X} P xs i v within before here k x less is = go (cases_order k i)
+  where
+    there : k < length (slice_set xs i v)
+    there = slice_get_within (slice_set xs i v) k x is
+
+    at : get_or (slice_set xs i v) k x ≡ x
+    at = get_or_from_slice_get (slice_set xs i v) k x x is
+
+    go : (k ≡ i) ⊎ ((k < i) ⊎ (i < k)) → P k x
+    go (inl e) =
+        let same : v ≡ x = sym (get_or-set_same xs i v x within) ∙ subst (λ j. get_or (slice_set xs i v) j x ≡ x) e at in
+        subst (λ j. P j x) (sym e) (subst (P i) same here)
+    go (inr (inl below)) =
+        let other : k ≢ i = omega arith in
+        let e : get_or xs k x ≡ x = sym (get_or-set_other xs i k v x other) ∙ at in
+        before k x below (subst (λ y. slice_get xs k ≡ Some y) e (slice_get-get_or xs k x (omega (arith, there, length-set {A = X}))))
+    go (inr (inr above)) = absurd (omega arith)
+
+-- where one element may be added behind the others, each is an old one or the new one
+pub old_or_new : {X : Type 0} (P : X → Type 0) (old new : List X) (room : ℕ) → (length old < room → length new ≡ length old + 1)
+    → (room ≤ length old → new ≡ old) → ((i : ℕ) → i < length old → slice_get new i ≡ slice_get old i)
+    → ((x : X) → length old < room → slice_get new (length old) ≡ Some x → P x)
+    → (i : ℕ) (x : X) → slice_get new i ≡ Some x → ((k : ℕ) × (slice_get old k ≡ Some x)) ⊎ P x
+old_or_new {X} P old new room one none before last i x there = go (cases_order (length old) room)
+  where
+    kept : room ≤ length old → ((k : ℕ) × (slice_get old k ≡ Some x)) ⊎ P x
+    kept full = inl (i, subst (λ xs. slice_get xs i ≡ Some x) (none full) there)
+
+    among : length old < room → (i ≡ length old) ⊎ ((i < length old) ⊎ (length old < i)) → ((k : ℕ) × (slice_get old k ≡ Some x)) ⊎ P x
+    among free (inl e) = inr (last x free (subst (λ j. slice_get new j ≡ Some x) e there))
+    among free (inr (inl below)) = inl (i, sym (before i below) ∙ there)
+    among free (inr (inr above)) = absurd (omega (arith, slice_get_within new i x there, one free))
+
+    go : (length old ≡ room) ⊎ ((length old < room) ⊎ (room < length old)) → ((k : ℕ) × (slice_get old k ≡ Some x)) ⊎ P x
+    go (inl e) = kept (omega arith)
+    go (inr (inl free)) = among free (cases_order i (length old))
+    go (inr (inr above)) = kept (omega arith)

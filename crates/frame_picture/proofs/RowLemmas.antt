@@ -1,0 +1,75 @@
+-- The kind of a row: its cells, sheet by sheet, and their counts.
+use Rattle.std.proofs.Common.{◌≡◌, ◌≢◌, ℕ, ◌+◌, ◌-◌, ◌*◌, ◌^◌, ◌<◌, ◌≤◌, ◌==◌, ◌⊎◌, inl, inr, cond, Bool, true, false, List, [], ◌∷◌, ◌++◌, Some, length, count_by, get_or, set, take, slice_index_or, slice_set, ap, subst, sym, ◌∙◌, refl, append_assoc, arith}
+use Rattle.std.proofs.lemmas.Bool.{cases_order, eq-eqb}
+use Rattle.std.proofs.lemmas.Bool.Decides.{eqb_tells}
+use Rattle.std.proofs.lemmas.List.{take_more, get_or-set_same, get_or-set_other}
+use Rattle.model_core.specs.declared.owner.Owner.{Owner}
+use Rattle.frame_cells.specs.declared.cell.Cell.{Cell}
+use Rattle.frame_cells.specs.declared.history.Sheet.{Sheet}
+use Rattle.frame_cells.specs.Cells.{rank_of}
+use Rattle.frame_picture.specs.Rows.{cells_between, owned_cells, cells_in, row_cells, kind_count, IsMostCommon}
+
+-- the cells of a slot that the tenant holds
+pub owned : (order t first end : ℕ) (owner : Owner) (cells : List Cell) → owner.tenant ≡ t
+    → owned_cells order t first end (Some owner) cells ≡ cells_between (owner.slot * 2 ^ order) first end cells
+owned order t first end owner cells mine =
+    ap (λ b. cond b (cells_between (owner.slot * 2 ^ order) first end cells) []) (eq-eqb owner.tenant t mine)
+
+row_cells-append : (order t first end : ℕ) (xs ys : List Sheet)
+    → row_cells order t first end (xs ++ ys) ≡ row_cells order t first end xs ++ row_cells order t first end ys
+row_cells-append order t first end [] ys = refl
+row_cells-append order t first end (x ∷ xs) ys =
+    ap (λ cells. cells_in order t first end x ++ cells) (row_cells-append order t first end xs ys)
+    ∙ sym (append_assoc (cells_in order t first end x) (row_cells order t first end xs) (row_cells order t first end ys))
+
+append_none : (xs : List Cell) → xs ++ [] ≡ xs
+append_none [] = refl
+append_none (x ∷ xs) = ap (λ ys. x ∷ ys) (append_none xs)
+
+-- with one more sheet
+pub row_cells_more : (order t first end : ℕ) (sheets : List Sheet) (i : ℕ) (sheet : Sheet) → i < length sheets → sheet ≡ get_or sheets i sheet
+    → row_cells order t first end (take (i + 1) sheets) ≡ row_cells order t first end (take i sheets) ++ cells_in order t first end sheet
+row_cells_more order t first end sheets i sheet within is =
+    ap (row_cells order t first end) (take_more sheets i sheet within)
+    ∙ row_cells-append order t first end (take i sheets) (get_or sheets i sheet ∷ [])
+    ∙ ap (λ x. row_cells order t first end (take i sheets) ++ (cells_in order t first end x ++ [])) (sym is)
+    ∙ ap (λ cells. row_cells order t first end (take i sheets) ++ cells) (append_none (cells_in order t first end sheet))
+
+-- the counts of the cells, to the last of which the frames are added that have none
+pub counted : (counts : List ℕ) (cells : List Cell) (frames v : ℕ) → length counts ≡ 6
+    → ((k : ℕ) → k < 6 → get_or counts k 0 ≡ count_by (λ cell. rank_of cell == k) cells)
+    → v ≡ get_or counts 5 0 + (frames - length cells)
+    → (k : ℕ) → k < 6 → get_or (set counts 5 v) k 0 ≡ kind_count cells frames k
+counted counts cells frames v six each is k less = go (eqb_tells k 5)
+  where
+    total : Bool → ℕ
+    total b = count_by (λ cell. rank_of cell == k) cells + cond b (frames - length cells) 0
+
+    go : ((k == 5 ≡ true) × (k ≡ 5)) ⊎ ((k == 5 ≡ false) × (k ≢ 5)) → get_or (set counts 5 v) k 0 ≡ kind_count cells frames k
+    go (inl (five, e)) =
+        ap (λ j. get_or (set counts 5 v) j 0) e ∙ get_or-set_same counts 5 v 0 (omega arith) ∙ is
+        ∙ ap (λ j. get_or counts j 0 + (frames - length cells)) (sym e) ∙ ap (λ n. n + (frames - length cells)) (each k less)
+        ∙ ap total (sym five)
+    go (inr (another, other)) =
+        let same : get_or (set counts 5 v) k 0 ≡ get_or counts k 0 = get_or-set_other counts 5 k v 0 other in
+        let none : count_by (λ cell. rank_of cell == k) cells ≡ count_by (λ cell. rank_of cell == k) cells + 0 = omega arith in
+        same ∙ each k less ∙ none ∙ ap total (sym another)
+
+-- where the greatest count stands
+pub most_common : (counts : List ℕ) (count : ℕ → ℕ) (at : ℕ) → ((k : ℕ) → k < 6 → get_or counts k 0 ≡ count k) → at < 6
+    → ((k : ℕ) → k < 6 → get_or counts k 0 ≤ get_or counts at 0) → ((k : ℕ) → k < at → get_or counts k 0 < get_or counts at 0)
+    → (rank : ℕ) → rank ≡ at → IsMostCommon count rank
+most_common counts count at each within greatest first rank is = subst (IsMostCommon count) (sym is) (record {
+  greatest = λ k less. omega (arith, greatest k less, each k less, each at within);
+  first = λ k less. let six : k < 6 = omega arith in omega (arith, first k less, each k six, each at within);
+})
+
+-- what holds of the elements before i, and of the new one at i, holds of all up to it
+pub more_set : {X : Type 0} (d : X) (P : ℕ → X → Type 0) (xs : List X) (i : ℕ) (v : X) → i < length xs
+    → ((k : ℕ) → k < i → P k (slice_index_or xs k d)) → P i v → (k : ℕ) → k < i + 1 → P k (slice_index_or (slice_set xs i v) k d)
+more_set {X} d P xs i v within before here k less = go (cases_order k i)
+  where
+    go : (k ≡ i) ⊎ ((k < i) ⊎ (i < k)) → P k (slice_index_or (slice_set xs i v) k d)
+    go (inl e) = subst (λ j. P j (slice_index_or (slice_set xs i v) j d)) (sym e) (subst (P i) (sym (get_or-set_same xs i v d within)) here)
+    go (inr (inl below)) = let other : k ≢ i = omega arith in subst (P k) (sym (get_or-set_other xs i k v d other)) (before k below)
+    go (inr (inr above)) = absurd (omega arith)

@@ -1,0 +1,47 @@
+use Rattle.std.proofs.Common.{◌≡◌, ℕ, ◌+◌, ◌-◌, ◌^◌, ◌<◌, ◌≤◌, ◌==◌, List, length, get_or, set, count_by, ap, ◌∙◌, arith}
+use Rattle.std.proofs.lemmas.List.Sums.{count_by-le-length}
+use Rattle.std.proofs.Math.ListN.{length-set}
+use Rattle.frame_cells.specs.declared.cell.Cell.{Cell}
+use Rattle.frame_cells.specs.Cells.{rank_of}
+use Rattle.frame_picture.specs.Rows.{row_cells, first_of, end_of, kind_count}
+use Rattle.frame_picture.proofs.RowLemmas.{counted, most_common}
+use Rattle.frame_picture.proofs.rows.row_kind.Goals as goal
+
+pub returns : goal.returns
+returns c = λ shown. record {
+  most = λ short.
+      let order : ℕ = c.args.grid.order in
+      let first : ℕ = first_of c.args.grid c.args.row in
+      let end : ℕ = end_of c.args.grid c.args.row in
+      let frames : ℕ = end - first in
+      let cells : List Cell = row_cells order c.args.t first end c.args.column.now.sheets.items in
+      let counts : List ℕ = c.count_kinds-shown.result.0 in
+      let given : List Cell = row_cells order c.args.t c.frames_of-frames.result.start c.frames_of-frames.result.end c.deref.result.now in
+      let same : given ≡ cells =
+      ap (λ f. row_cells order c.args.t f c.frames_of-frames.result.end c.deref.result.now) c.frames_of-frames.ensures.start
+      ∙ ap (λ e. row_cells order c.args.t first e c.deref.result.now) c.frames_of-frames.ensures.end
+      ∙ ap (row_cells order c.args.t first end) c.deref.ensures.value in
+      let long : length given ≡ length cells = ap length same in
+      let few : length given < 2 ^ 64 = omega (arith, short, long) in
+      let each : (k : ℕ) → k < 6 → get_or counts k 0 ≡ count_by (λ cell. rank_of cell == k) cells =
+      λ k less. c.count_kinds-shown.ensures.kinds k less few ∙ ap (count_by (λ (cell : Cell). rank_of cell == k)) same in
+      let all : c.count_kinds-shown.result.1 ≡ length cells = c.count_kinds-shown.ensures.all few ∙ long in
+      let place : c.rank-not_held.result ≡ 5 = c.rank-not_held.ensures.value in
+      let read : get_or counts c.rank-not_held.result 0 ≡ get_or counts 5 0 = ap (λ j. get_or counts j 0) place in
+      let five : get_or counts 5 0 ≡ count_by (λ cell. rank_of cell == 5) cells = each 5 (omega arith) in
+      let bound : count_by (λ cell. rank_of cell == 5) cells ≤ length cells = count_by-le-length _ cells in
+      let rest : c.saturating_sub.result ≡ frames - length cells =
+      omega (arith, c.saturating_sub.ensures, c.frames_of-frames.ensures.start, c.frames_of-frames.ensures.end, all) in
+      let small : frames < 2 ^ 32 = omega (arith, c.frames_of-frames.ensures.end, c.frames_of-frames.type_inv) in
+      let value : c.saturating_add.result ≡ get_or counts 5 0 + (frames - length cells) =
+      omega (arith, c.saturating_add.ensures, read, five, bound, rest, short, small) in
+      let told : (k : ℕ) → k < 6 → get_or (set counts 5 c.saturating_add.result) k 0 ≡ kind_count cells frames k =
+      counted counts cells frames c.saturating_add.result c.count_kinds-shown.ensures.long each value in
+      let after : (k : ℕ) → k < 6 → get_or (set counts c.rank-not_held.result c.saturating_add.result) k 0 ≡ kind_count cells frames k =
+      λ k less. ap (λ j. get_or (set counts j c.saturating_add.result) k 0) place ∙ told k less in
+      most_common (set counts c.rank-not_held.result c.saturating_add.result) (kind_count cells frames) c.greatest_at.result after
+      c.greatest_at.ensures.within
+      (λ k less. c.greatest_at.ensures.greatest k
+      (omega (arith, less, length-set counts c.rank-not_held.result c.saturating_add.result, c.count_kinds-shown.ensures.long)))
+      c.greatest_at.ensures.first (rank_of c.of_rank.result) c.of_rank.ensures;
+}

@@ -1,0 +1,37 @@
+-- Equal rows of cells, as rectangles. A run is how many rows from one on have the kind, where the row below hasn't it.
+use Rattle.std.specs.Prelude.{◌≡◌, ◌≢◌, ℕ, zero, suc, false, ◌+◌, ◌-◌, ◌<◌, ◌≤◌, ◌==◌, ◌⊎◌, Bool, if◌then◌else◌, List, [], take, drop, slice_index_or}
+use Rattle.std.specs.List.{prefix_len}
+use Rattle.frame_cells.specs.declared.cell.Cell.{Cell}
+use Rattle.frame_cells.specs.declared.cell.Cell.TheVariants.{NotHeld}
+use Rattle.frame_cells.specs.Cells.{rank_of}
+use Rattle.frame_picture.specs.declared.rectangles.Rectangle.{Rectangle}
+
+abbrev pub is_kind : Cell → Cell → Bool
+is_kind kind cell = rank_of cell == rank_of kind
+
+-- the kind is that of the row below this one
+abbrev pub goes_on : Cell → List Cell → ℕ → Bool
+goes_on kind cells zero = false
+goes_on kind cells (suc below) = is_kind kind (slice_index_or cells below NotHeld)
+
+-- the run of a kind that begins at a row; 0 where none begins
+abbrev pub run_at : Cell → List Cell → ℕ → ℕ
+run_at kind cells row = if goes_on kind cells row then 0 else prefix_len (is_kind kind) (drop row cells)
+
+-- the run at a row in a column of which so many rows are shown
+abbrev pub run_in : List (List Cell) → Cell → ℕ → ℕ → ℕ → ℕ
+run_in columns kind rows row column = run_at kind (take rows (slice_index_or columns column [])) row
+
+-- The rectangle ends before column `end`: the runs at its row are equal in its columns, and not in those beside it. There are so
+-- many columns.
+pub record IsRectangle (runs : ℕ → ℕ) (columns end : ℕ) (r : Rectangle) : Type 0 where
+  pub ends : r.column + r.columns ≡ end
+  pub wide : 0 < r.columns
+  pub high : 0 < r.rows
+  pub same : (j : ℕ) → r.column ≤ j → j < end → runs j ≡ r.rows
+  pub left : 0 < r.column → runs (r.column - 1) ≢ r.rows
+  pub right : end < columns → runs end ≢ r.rows
+
+-- no rectangle ends before column `end`: no run begins at the row in the column before, or the same one in both
+abbrev pub GoesOn : (ℕ → ℕ) → ℕ → ℕ → Type 0
+GoesOn runs columns end = (runs (end - 1) ≡ 0) ⊎ ((end < columns) × (runs end ≡ runs (end - 1)))

@@ -1,0 +1,86 @@
+//! Equal cells as rectangles: a run of rows of one kind that is the same in the columns beside.
+
+ghost use Rattle.std.specs.Prelude.{◌≡◌, ◌≢◌, ℕ, ◌+◌, ◌-◌, ◌<◌, ◌≤◌, length, drop, MatchOption, IfSome};
+ghost use Rattle.std.specs.List.{prefix_len};
+ghost use Rattle.frame_picture.specs.Rectangles.{is_kind, run_at, run_in, IsRectangle, GoesOn};
+
+use crate::rows::MOST_ROWS;
+use frame_cells::cell::Cell;
+
+/// A rectangle of cells of one kind.
+#[derive(Clone, Copy, Debug, PartialEq, Eq)]
+pub struct Rectangle {
+    /// Its first column.
+    pub column: usize,
+    /// Its lowest row.
+    pub row: usize,
+    /// How many columns it has.
+    pub columns: usize,
+    /// How many rows it has.
+    pub rows: usize,
+}
+
+/// The rectangle of a kind that begins in a row and ends before column `end`, if there is one: its run of rows is the same in
+/// all its columns, and not in those beside it.
+pub fn rectangle_at(
+    columns: &[[Cell; MOST_ROWS]],
+    kind: Cell,
+    rows: usize,
+    row: usize,
+    end: usize,
+) -> Option<Rectangle>
+    requires some { 0 < end }
+    requires within { end ≤ length columns.now }
+    requires few { rows ≤ MOST_ROWS }
+    requires shown { row < rows }
+    ensures row { IfSome result (λ r. r.row ≡ row) }
+    ensures rectangle { MatchOption result (GoesOn (run_in columns.now kind rows row) (length columns.now) end)
+        (λ r. IsRectangle (run_in columns.now kind rows row) (length columns.now) end r) }
+{
+    let run = run_in(columns, kind, rows, row, end - 1);
+    if run == 0 || (end < columns.len() && run_in(columns, kind, rows, row, end) == run) {
+        return None;
+    }
+    let mut column = end - 1;
+    while column > 0 && run_in(columns, kind, rows, row, column - 1) == run {
+        column -= 1;
+    }
+    Some(Rectangle {
+        column,
+        row,
+        columns: end - column,
+        rows: run,
+    })
+}
+
+/// How many rows from this one on are of the kind in a column, where the row below isn't; 0 elsewhere.
+fn run_in(
+    columns: &[[Cell; MOST_ROWS]],
+    kind: Cell,
+    rows: usize,
+    row: usize,
+    column: usize,
+) -> usize
+    requires within { column < length columns.now }
+    requires few { rows ≤ MOST_ROWS }
+    requires shown { row < rows }
+    ensures { result ≡ run_in columns.now kind rows row column }
+{
+    run_at(kind, &columns[column][..rows], row)
+}
+
+/// How many cells from this row on are of the kind, where the one below isn't; 0 elsewhere.
+fn run_at(kind: Cell, cells: &[Cell], row: usize) -> usize
+    requires { row < length cells.now }
+    ensures { result ≡ run_at kind cells.now row }
+{
+    if row > 0 && cells[row - 1].rank() == kind.rank() {
+        return 0;
+    }
+    for at in row..cells.len() {
+        if cells[at].rank() != kind.rank() {
+            return at - row;
+        }
+    }
+    cells.len() - row
+}
