@@ -144,7 +144,7 @@ module _ (limit order place : ℕ) (c : Cache) (o : LiveObject) (m : Machine) (s
     meets = λ t. (record after { has = with_live_told c.number (gone place) (holdings_of m) }, refl, subst (λ x. Meets order (record after { has = x }) n) (sym has_after) meets);
   }
 
-none_any : {X : Type 0} (p : X → Bool) (xs : List X) → find p xs ≡ None → list_any p xs ≡ false
+pub none_any : {X : Type 0} (p : X → Bool) (xs : List X) → find p xs ≡ None → list_any p xs ≡ false
 none_any p [] e = refl
 none_any {X} p (x ∷ xs) e = go (p x) e (none_any p xs)
   where

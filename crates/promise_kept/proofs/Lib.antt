@@ -16,4 +16,10 @@ pub mod Counts
 pub mod Frames
 pub mod Reap
 pub mod Destroy
+pub mod TakePlaces
+pub mod Beside
+pub mod Handed
+pub mod Take
+pub mod Growth
+pub mod Taking
 pub mod Witnesses

@@ -110,7 +110,7 @@ live_low c s n k (flag ∷ flags) h = go flag (live_low c s (n + 1) k flags (λ 
     go true rest = (h n (omega arith), rest)
     go false rest = rest
 
-slabs_rise : (c : Cache) (ss : List Slab) (n low : ℕ) → Each (IsSlab c) ss → RisesFrom n (map (λ s. s.first) ss) → AreApart (map (slab_block c) ss) → Each (λ s. low ≤ 4096 * s.first) ss
+pub slabs_rise : (c : Cache) (ss : List Slab) (n low : ℕ) → Each (IsSlab c) ss → RisesFrom n (map (λ s. s.first) ss) → AreApart (map (slab_block c) ss) → Each (λ s. low ≤ 4096 * s.first) ss
     → RisesFrom low (map (λ o. o.place) (flat_map (live_in c) ss))
 slabs_rise c [] n low h r a b = tt
 slabs_rise c (s ∷ ss) n low (k, h) (l, r) (a, rest) (b, bs) =

@@ -53,7 +53,7 @@ range_in x a (suc n) (inr i) = let rest = range_in x (a + 1) n i in (omega (arit
 
 -- Blocks
 
-overlap_shares : (a b : Block) → overlaps a b ≡ true → IsApart a b → ⊥
+pub overlap_shares : (a b : Block) → overlaps a b ≡ true → IsApart a b → ⊥
 overlap_shares a b e apart =
     let p = and_parts (ltb a.first (b.first + 2 ^ b.order)) (ltb b.first (a.first + 2 ^ a.order)) e in
     let low : a.first < b.first + 2 ^ b.order = ltb-true a.first (b.first + 2 ^ b.order) p.0 in
@@ -66,7 +66,7 @@ shared_overlaps a b x in_a in_b = and_from (ltb a.first (b.first + 2 ^ b.order))
     (lt-ltb a.first (b.first + 2 ^ b.order) (omega (arith, in_a.0, in_b.1))) (lt-ltb b.first (a.first + 2 ^ a.order) (omega (arith, in_b.0, in_a.1)))
 
 -- the block around a frame of an aligned one is that one
-around_is : (b : Block) (x : ℕ) → b.first % 2 ^ b.order ≡ 0 → HasFrame b x → around x b.order ≡ b
+pub around_is : (b : Block) (x : ℕ) → b.first % 2 ^ b.order ≡ 0 → HasFrame b x → around x b.order ≡ b
 around_is b x aligned has = ap (λ f. block f b.order)
     (ap (λ n. n * 2 ^ b.order) (sym (number_is b.order x) ∙ number_of_frame b.first b.order x aligned has) ∙ first_is b.first b.order aligned)
 

@@ -7,7 +7,7 @@ use Rattle.words_core.specs.declared.event.Command.TheVariants as Asked
 use Rattle.promise_core.specs.State.{opening_state}
 use Rattle.promise_kept.specs.Meets.{holdings_of, Meets, IsKept}
 use Rattle.promise_kept.specs.Laws.{AllocIsKept, FreeIsKept, WriteIsKept, ReadIsKept, CacheIsKept}
-use Rattle.promise_kept.specs.ObjectLaws.{GiveIsKept, DestroyIsKept, ReapIsKept}
+use Rattle.promise_kept.specs.ObjectLaws.{TakeIsKept, GiveIsKept, DestroyIsKept, ReapIsKept}
 
 formed : IsWellFormed 32 3 empty_machine
 formed = empty_kept 3
@@ -38,6 +38,9 @@ ReadIsKept-met law = law 32 3 0 1 empty_machine opening_state formed nothing_met
 
 CacheIsKept-met : CacheIsKept → IsKept 32 3 (Asked.Cache 64 8 (record { items = 0 ∷ [] })) empty_machine opening_state
 CacheIsKept-met law = law 32 3 64 8 (record { items = 0 ∷ [] }) empty_machine opening_state formed nothing_met (omega arith)
+
+TakeIsKept-met : TakeIsKept → IsKept 32 3 (Asked.Take 0) empty_machine opening_state
+TakeIsKept-met law = law 32 3 0 empty_machine opening_state formed nothing_met (omega arith)
 
 GiveIsKept-met : GiveIsKept → IsKept 32 3 (Asked.Give 0 0) empty_machine opening_state
 GiveIsKept-met law = law 32 3 0 0 empty_machine opening_state formed nothing_met

@@ -1,11 +1,16 @@
 -- That the private machine keeps the promises where objects are concerned. Each is the contract of a function of the module
 -- `object_laws`.
-use Rattle.std.specs.Prelude.{ℕ}
+use Rattle.std.specs.Prelude.{ℕ, ◌≤◌}
 use Rattle.model_core.specs.Machine.{Machine}
 use Rattle.model_core.specs.WellFormed.{IsWellFormed}
 use Rattle.words_core.specs.declared.event.Command.TheVariants as Asked
 use Rattle.promise_core.specs.State.{State}
 use Rattle.promise_kept.specs.Meets.{Meets, IsKept}
+
+-- an object taken, where a slot has room for the largest slab
+abbrev pub TakeIsKept : Type 0
+TakeIsKept = (limit order number : ℕ) (m : Machine) (s : State) → IsWellFormed limit order m → Meets order s m → 3 ≤ order
+    → IsKept limit order (Asked.Take number) m s
 
 -- an object given back
 abbrev pub GiveIsKept : Type 0

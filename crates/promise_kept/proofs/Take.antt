@@ -1,0 +1,198 @@
+-- An object that is not live is handed out: every promise is kept.
+use Rattle.std.proofs.Common.{◌≡◌, ℕ, ◌+◌, ◌/◌, ◌<◌, Bool, true, false, not, ◌&&◌, ◌||◌, eqb, [], ◌∷◌, get_or, Option, Some, None, refl, sym, ap, ◌∙◌, subst, ◌⊎◌, inl, inr}
+use Rattle.std.specs.Prelude.{find, is_none, option_map, Contains}
+use Rattle.std.specs.List.{list_all}
+use Rattle.std.specs.Option.{option_map_or}
+use Rattle.std.proofs.lemmas.Bool.{eq-eqb, eqb-true, ne_eqb, false≢true, cases_eq, and_from, or_left, or_right}
+use Rattle.model_core.specs.Layouts.{object_place, pattern_byte}
+use Rattle.model_core.specs.Machine.{Slab, Cache, Machine, in_block, layout, slab_block, put_rising}
+use Rattle.model_core.specs.Slabs.{cache_of, with_cache, with_slab, with_live}
+use Rattle.model_core.specs.WellFormed.{IsWellFormed, in_slab}
+use Rattle.model_core.specs.Laws.{Object, IsObject, place_of}
+use Rattle.model_core.proofs.Lists.{IsIn, each_in, find_in, none_any as none_of, any_in}
+use Rattle.model_core.proofs.Apart.{in_block-true, one_holder}
+use Rattle.model_core.proofs.Laid.{laid, all_laid, laid_layout, laid_block, in_laid, laid_out, in_slab_laid}
+use Rattle.model_core.proofs.CacheSteps.{in_all_laid}
+use Rattle.model_core.proofs.ObjectsApart.{contains_in, one_key}
+use Rattle.model_core.proofs.SlabsLeave.{flagged_same}
+use Rattle.words_core.specs.declared.event.Event.TheVariants as On
+use Rattle.words_core.specs.declared.event.Command.TheVariants as Asked
+use Rattle.words_core.specs.declared.reply.Addressee.TheVariants as To
+use Rattle.words_core.specs.declared.reply.Body.TheVariants as Say
+use Rattle.words_core.specs.declared.reply.Refusal.{Refusal}
+use Rattle.promise_core.specs.Holdings.{ToldCache, slab_at, are_apart, can_be_taken, cache_of as cache_told, with_live as with_live_told}
+use Rattle.promise_core.specs.Bytes.{Holder, is_object, may_be, without}
+use Rattle.promise_core.specs.State.{State, state_after, with_object}
+use Rattle.promise_core.specs.Promises.{due, first_due}
+use Rattle.promise_kept.specs.Meets.{told_cache, holdings_of, is_live, Meets, IsKeptBy}
+use Rattle.promise_kept.proofs.Cells.{all_kept, formed, without_some, without_may}
+use Rattle.promise_kept.proofs.Reaped.{object_in_slab}
+use Rattle.promise_kept.proofs.Live.{in_contains, IsLivePlace}
+use Rattle.promise_kept.proofs.Flag.{replaced_is, replaced_one, replaced_other, IsOne, one_place, live_other, WasObject, was_object, caches_told}
+use Rattle.promise_kept.proofs.Known.{seen, cache_seen, IsLiveIn, live_told, told_live}
+use Rattle.promise_kept.proofs.Give.{none_any}
+use Rattle.promise_kept.proofs.TakePlaces.{place_put}
+use Rattle.promise_kept.proofs.Beside.{is_slab, slab_here}
+use Rattle.promise_kept.proofs.Handed.{two_apart, can_take}
+
+-- a slab of the cache with this number may stand empty, and no report has to stand
+abbrev pub hidden : ℕ → State → State
+hidden number s = record s { hides = λ n. eqb n number || s.hides n; told = None }
+
+-- a cache is found by its number
+pub cache_found : {limit : ℕ} (order : ℕ) (c : Cache) (m : Machine) → IsWellFormed limit order m → IsIn c m.caches → cache_of m c.number ≡ Some c
+cache_found order c m w i = go (find (λ x. eqb x.number c.number) m.caches) refl
+  where
+    go : (o : Option Cache) → find (λ x. eqb x.number c.number) m.caches ≡ o → find (λ x. eqb x.number c.number) m.caches ≡ Some c
+    go None e = absurd (false≢true (sym (none_any (λ x. eqb x.number c.number) m.caches e) ∙ any_in (λ x. eqb x.number c.number) c m.caches i (eq-eqb c.number c.number refl)))
+    go (Some x) e =
+        let f : IsIn x m.caches × (eqb x.number c.number ≡ true) = find_in (λ x. eqb x.number c.number) x m.caches e in
+        e ∙ ap (λ y. Some y) (one_key (λ y. y.number) 0 m.caches x c w.caches_rise f.0 i (eqb-true x.number c.number f.1))
+
+-- the cells of the slab's bytes that are no object's of the cache, beside the one taken
+abbrev left_beside : ToldCache → ℕ → ℕ → Holder → Bool
+left_beside c first place holder = in_block place (slab_at c first) && not (is_object (λ n p. eqb n c.number && (eqb p first || are_apart c first p)) holder)
+
+module _ {limit : ℕ} (order : ℕ) (c : Cache) (s : Slab) (i : ℕ) (m : Machine) (st : State) (w : IsWellFormed limit order m) (h : Meets order (hidden c.number st) m)
+    (in_c : IsIn c m.caches) (in_s : IsIn s c.slabs) (lt : i < (layout c).count) (dead : get_or s.live i false ≡ false) where
+  abbrev place : ℕ
+  place = object_place (layout c) s.first s.colour i
+
+  abbrev d : Cache
+  d = with_slab (with_live i true s) c
+
+  abbrev n : Machine
+  n = with_cache (with_slab (with_live i true s) c) m
+
+  d_in : IsIn d n.caches
+  d_in = replaced_one (λ x. x.number) d c m.caches in_c refl
+
+  not_live : IsLivePlace c place → ⊥
+  not_live l =
+      let one : IsOne l.slab s l.index i = one_place order c m w in_c l.slab s l.index i l.slab_in in_s (subst (λ k. l.index < k) (is_slab order c m w in_c l.slab l.slab_in).count l.index_in) lt (sym l.at) in
+      false≢true (sym dead ∙ (ap (λ t. get_or t.live i false) (sym one.slab) ∙ (ap (λ k. get_or l.slab.live k false) (sym one.index) ∙ l.live)))
+
+  still_live : (p : ℕ) (holder : Holder) → is_live (holdings_of m) holder p ≡ true → is_live (holdings_of n) holder p ≡ true
+  unfolding holdings_of
+  still_live p Holder.Page e = e
+  still_live p (Holder.Object number first) e = told_live n number first p (go (live_told m number first p e))
+    where
+      go : IsLiveIn number first m.caches → IsLiveIn number first n.caches
+      go k = by (cases_eq k.cache.number c.number)
+        where
+          by : (k.cache.number ≡ c.number) ⊎ (k.cache.number ≡ c.number → ⊥) → IsLiveIn number first n.caches
+          by (inl e) =
+              let same : k.cache ≡ c = one_key (λ x. x.number) 0 m.caches k.cache c w.caches_rise k.cache_in in_c e in
+              let was : IsLivePlace c first = subst (λ x. IsLivePlace x first) same k.place in
+              record {
+                cache = d;
+                cache_in = d_in;
+                number_is = sym e ∙ k.number_is;
+                place = live_other limit order c s i true m w in_c in_s lt first was (λ f. not_live (subst (IsLivePlace c) f was));
+              }
+          by (inr ne) = record {
+            cache = k.cache;
+            cache_in = replaced_other (λ x. x.number) d k.cache m.caches k.cache_in (ne_eqb k.cache.number c.number ne);
+            number_is = k.number_is;
+            place = k.place;
+          }
+
+  -- the cells of what is in other slabs, or an object of this one, are left
+  page_left : (p : ℕ) → in_slab m p ≡ false → left_beside (told_cache c) place p Holder.Page ≡ false
+  page_left p out = ap (λ b. b && true) (ap (in_block p) (slab_here order c m w in_c s i in_s lt)
+      ∙ each_in (λ k. in_laid p k ≡ false) (laid c s) (all_laid m.caches) (none_of (in_laid p) (all_laid m.caches) (sym (in_slab_laid m p) ∙ out)) (in_all_laid c s m.caches in_c in_s))
+
+  object_left : (o : Object) (j : ℕ) → IsObject m o → j < o.cache.size → left_beside (told_cache c) place (place_of o + j) (Holder.Object o.cache.number (place_of o)) ≡ false
+  object_left o j is byte_in = ap (λ b. in_block (place_of o + j) b && not (of_slab)) (slab_here order c m w in_c s i in_s lt) ∙ go (in_block (place_of o + j) (slab_block c s)) refl
+    where
+      of_slab : Bool
+      of_slab = eqb o.cache.number c.number && (eqb (place_of o) place || are_apart (told_cache c) place (place_of o))
+
+      go : (b : Bool) → in_block (place_of o + j) (slab_block c s) ≡ b → (b && not of_slab) ≡ false
+      go false e = refl
+      go true e =
+          let in_o : IsIn o.cache m.caches = contains_in m.caches o.cache is.cache_in in
+          let in_t : IsIn o.slab o.cache.slabs = contains_in o.cache.slabs o.slab is.slab_in in
+          let there : in_laid (place_of o + j) (laid o.cache o.slab) ≡ true = object_in_slab order m o.cache o.slab o.index j w in_o in_t is.index_in byte_in in
+          let one : laid o.cache o.slab ≡ laid c s = one_holder laid_block (all_laid m.caches) (laid o.cache o.slab) (laid c s) ((place_of o + j) / 4096) (laid_out order m w).apart_slabs
+          (in_all_laid o.cache o.slab m.caches in_o in_t) (in_all_laid c s m.caches in_c in_s) (in_block-true (place_of o + j) (laid_block (laid o.cache o.slab)) there) (in_block-true (place_of o + j) (slab_block c s) e) in
+          let at : place_of o ≡ object_place (layout c) s.first s.colour o.index = ap (λ k. object_place (laid_layout k) k.first k.colour o.index) one in
+          ap not (and_from (eqb o.cache.number c.number) (eqb (place_of o) place || are_apart (told_cache c) place (place_of o)) (eq-eqb o.cache.number c.number (ap (λ k. k.number) one)) (by at (cases_eq o.index i)))
+        where
+          by : place_of o ≡ object_place (layout c) s.first s.colour o.index → (o.index ≡ i) ⊎ (o.index ≡ i → ⊥) → (eqb (place_of o) place || are_apart (told_cache c) place (place_of o)) ≡ true
+          by at (inl same) = or_left (eqb (place_of o) place) (are_apart (told_cache c) place (place_of o)) (eq-eqb (place_of o) place (at ∙ ap (λ k. object_place (layout c) s.first s.colour k) same))
+          by at (inr differ) = or_right (eqb (place_of o) place) (are_apart (told_cache c) place (place_of o)) (ap (are_apart (told_cache c) place) at ∙ two_apart order c s m w in_c in_s i o.index differ)
+
+  abbrev after : State
+  after = record {
+    has = holdings_of n;
+    cells = without (left_beside (told_cache c) place) st.cells;
+    hides = λ k. eqb k c.number || st.hides k;
+    told = None;
+  }
+
+  meets : Meets order after n
+  meets = record {
+    has = refl;
+    hides = λ x slab k j. go_hides x slab (contains_in n.caches x k) j;
+    lives = λ p cell e sure. let was = without_some (left_beside (told_cache c) place) st.cells p cell e in
+        still_live p cell.holder (ap (λ x. is_live x cell.holder p) (sym h.has) ∙ h.lives p cell was.0 sure);
+    page_bytes = λ p byte out is. let outside : in_slab m p ≡ false = sym (flagged_same order p c s i true m w in_c in_s) ∙ out in
+        without_may (left_beside (told_cache c) place) st.cells Holder.Page p 0 byte (page_left p outside) (h.page_bytes p byte outside is);
+    object_bytes = λ x j byte k below is. go_bytes x j byte below is (was_object limit order c s i true m w in_c in_s lt x k);
+    empty_told = λ r e. absurd (cc);
+    free_told = λ r e. absurd (cc);
+  }
+    where
+      go_hides : (x : Cache) (slab : Slab) → IsIn x n.caches → Contains x.slabs slab → (eqb x.number c.number || st.hides x.number) ≡ true
+      go_hides x slab k j = go (replaced_is (λ y. y.number) d x m.caches k)
+        where
+          go : (d ≡ x) ⊎ (IsIn x m.caches × (eqb x.number c.number ≡ false)) → (eqb x.number c.number || st.hides x.number) ≡ true
+          go (inl e) = or_left (eqb x.number c.number) (st.hides x.number) (eq-eqb x.number c.number (ap (λ (y : Cache). y.number) (sym e)))
+          go (inr l) = h.hides x slab (in_contains x m.caches l.0) j
+
+      go_bytes : (x : Object) (j byte : ℕ) → j < x.cache.size → m.bytes (place_of x + j) ≡ Some byte → WasObject m x
+          → may_be (Holder.Object x.cache.number (place_of x)) (pattern_byte x.cache.pattern j) (without (left_beside (told_cache c) place) st.cells (place_of x + j)) byte ≡ true
+      go_bytes x j byte below is k =
+          subst (λ number. may_be (Holder.Object number (place_of x)) (pattern_byte x.cache.pattern j) (without (left_beside (told_cache c) place) st.cells (place_of x + j)) byte ≡ true) k.number
+          (subst (λ pattern. may_be (Holder.Object k.was.cache.number (place_of x)) (pattern_byte pattern j) (without (left_beside (told_cache c) place) st.cells (place_of x + j)) byte ≡ true) k.pattern
+          (subst (λ p. may_be (Holder.Object k.was.cache.number p) (pattern_byte k.was.cache.pattern j) (without (left_beside (told_cache c) place) st.cells (p + j)) byte ≡ true) k.place
+          (let small : j < k.was.cache.size = subst (λ size. j < size) (sym k.size) below in
+          without_may (left_beside (told_cache c) place) st.cells (Holder.Object k.was.cache.number (place_of k.was)) (place_of k.was + j) (pattern_byte k.was.cache.pattern j) byte
+          (object_left k.was j k.object small) (h.object_bytes k.was j byte k.object small (ap (λ p. m.bytes (p + j)) k.place ∙ is)))))
+
+  has_after : with_live_told c.number (put_rising (λ p. p) place) (holdings_of m) ≡ holdings_of n
+  unfolding holdings_of
+  has_after = ap (λ cs. record { slots = m.slots; pages = m.blocks; caches = cs })
+      (caches_told c.number (put_rising (λ p. p) place) c d m.caches refl (λ x k e. one_key (λ y. y.number) 0 m.caches x c w.caches_rise k in_c e)
+      (ap (λ ps. record (told_cache c) { live = ps }) (place_put order c s i m w in_c in_s lt not_live)))
+
+  told_here : cache_told (holdings_of m) c.number ≡ Some (told_cache c)
+  unfolding holdings_of
+  told_here = cache_seen c.number m.caches ∙ ap (option_map told_cache) (cache_found order c m w in_c)
+
+  -- what the promises say of the state after
+  abbrev said : State
+  said = record {
+    has = with_live_told c.number (put_rising (λ p. p) place) (holdings_of m);
+    cells = with_object place (cache_told (holdings_of m) c.number) st.cells;
+    hides = λ k. eqb k c.number || st.hides k;
+    told = None;
+  }
+
+  said_meets : Meets order said n
+  said_meets = subst (λ x. Meets order (record after { has = x; cells = with_object place (cache_told (holdings_of m) c.number) st.cells }) n) (sym has_after)
+      (subst (λ o. Meets order (record after { cells = with_object place o st.cells }) n) (sym told_here) meets)
+
+  pub handed : list_all (λ live. live) s.live ≡ false → IsKeptBy limit order (Asked.Take c.number) (seen m st) (Say.Object place) n
+  unfolding due state_after
+  handed some = record {
+    allowed = λ t owners states. all_kept (On.Tenant t (Asked.Take c.number)) (record { addressee = To.Tenant t; body = Say.Object place })
+        (record { limit = limit; order = order; owners = owners; states = states }) (seen m st)
+        (formed t (Some said) refl)
+        (ap (λ o. is_none (first_due ((is_none o, Refusal.NoCache) ∷ []))) told_here)
+        refl refl refl
+        (ap (λ o. option_map_or (λ x. can_be_taken order (holdings_of m) x place) o false) told_here ∙ can_take order c s m w in_c in_s i lt dead some)
+        refl refl refl refl refl refl;
+    meets = λ t. (said, refl, said_meets);
+  }

@@ -1,0 +1,5 @@
+use Rattle.promise_kept.proofs.Taking.{take_kept}
+use Rattle.promise_kept.proofs.object_laws.take_is_kept.Goals as goal
+
+pub returns : goal.returns
+returns c = take_kept
