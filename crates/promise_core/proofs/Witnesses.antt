@@ -10,7 +10,7 @@ use Rattle.promise_core.specs.Holdings.{ToldCache, taken_blocks, can_stand, vaca
 use Rattle.promise_core.specs.Bytes.{holder_of}
 use Rattle.promise_core.specs.State.{State, Known, opening_state, opening, state_after, owners_after}
 use Rattle.promise_core.specs.Promises.{due, allowed, all_allowed}
-use Rattle.promise_core.specs.Laws.{LiveApart, is_own, Confined}
+use Rattle.promise_core.specs.Laws.{LiveApart, is_own, Confined, may_tell, RefusedForCause}
 use Rattle.promise_core.proofs.Examples.{begun}
 
 abbrev known_of : Result Known Promise → Known
@@ -45,3 +45,8 @@ Confined-met law = law 32 3 3 2 0 8192 3 1 2 begun (To.Tenant 0) (record { items
 -- no other byte is its own there
 not_own : is_own 3 0 8193 3 begun ≡ false
 not_own = refl
+
+-- in the run's state a frame can be answered, and no want of frames
+RefusedForCause-met : RefusedForCause → (f : ℕ) × (may_tell known 0 (Asked.Alloc 0) (Say.Frame f) ≡ true)
+unfolding opening opening_state taken_blocks can_stand vacant_blocks can_be_taken holder_of state_after owners_after due allowed
+RefusedForCause-met law = (law known the_state 0 0 refl (omega arith)).answered refl

@@ -1,16 +1,19 @@
 -- What follows from the promises alone, for every program that keeps them.
-use Rattle.std.specs.Prelude.{◌≡◌, ℕ, ◌+◌, ◌-◌, ◌/◌, ◌^◌, Bool, true, false, not, List, [], ◌∷◌, length, Contains, Option, Some, None, Ok, slice_get, slice_index, nat_le, nat_lt, ◌&&◌, ◌||◌, ◌==◌}
+use Rattle.std.specs.Prelude.{◌≡◌, ◌≤◌, is_ok, ℕ, ◌+◌, ◌-◌, ◌/◌, ◌^◌, Bool, true, false, not, List, [], ◌∷◌, length, Contains, Option, Some, None, Ok, slice_get, slice_index, nat_le, nat_lt, ◌&&◌, ◌||◌, ◌==◌}
 use Rattle.std.specs.List.{list_any}
 use Rattle.arrayvec.specs.ArrayVec.{ArrayVec}
 use Rattle.model_core.specs.Blocks.{Block, HasFrame, IsAligned}
 use Rattle.model_core.specs.Machine.{slot_of}
+use Rattle.words_core.specs.declared.event.Command.{Command}
 use Rattle.words_core.specs.declared.event.Event.{Event}
 use Rattle.words_core.specs.declared.event.Event.TheVariants as On
 use Rattle.words_core.specs.declared.event.AdminCommand.TheVariants as Do
 use Rattle.words_core.specs.declared.event.Command.TheVariants as Asked
 use Rattle.words_core.specs.declared.reply.Addressee.{Addressee}
+use Rattle.words_core.specs.declared.reply.Addressee.TheVariants as To
 use Rattle.words_core.specs.declared.reply.Body.{Body}
 use Rattle.words_core.specs.declared.reply.Body.TheVariants as Say
+use Rattle.words_core.specs.declared.reply.Refusal.{Refusal}
 use Rattle.world_core.specs.World.{Exchange}
 use Rattle.promise_core.specs.Holdings.{ToldCache, Holdings, holds, slab_at}
 use Rattle.promise_core.specs.State.{State, Known, opening}
@@ -70,3 +73,18 @@ pub record LiesApart (order : ℕ) (h : Holdings) : Type 0 where
 abbrev pub LiveApart : Type 0
 LiveApart = (limit order superblocks tenants t : ℕ) (es : List Exchange) (w : Known) (s : State)
     → all_allowed es (Ok (opening limit order superblocks tenants)) ≡ Ok w → slice_get w.states t ≡ Some s → LiesApart order s.has
+
+-- the tenant can be told this
+abbrev pub may_tell : Known → ℕ → Command → Body → Bool
+may_tell w t command body = is_ok (allowed (On.Tenant t command) (record { addressee = To.Tenant t; body = body }) w)
+
+-- a frame can be answered to a request for a block, unless it can be refused for want of frames, and never both
+pub record IsRefusedForCause (w : Known) (t k : ℕ) : Type 0 where
+  pub answered : may_tell w t (Asked.Alloc k) (Say.Refused Refusal.NoFrames) ≡ false
+      → (f : ℕ) × (may_tell w t (Asked.Alloc k) (Say.Frame f) ≡ true)
+  pub refused : (f : ℕ) → may_tell w t (Asked.Alloc k) (Say.Refused Refusal.NoFrames) ≡ true
+      → may_tell w t (Asked.Alloc k) (Say.Frame f) ≡ false
+
+-- so it is for every order up to that of a slot, in whatever state
+abbrev pub RefusedForCause : Type 0
+RefusedForCause = (w : Known) (s : State) (t k : ℕ) → slice_get w.states t ≡ Some s → k ≤ w.order → IsRefusedForCause w t k

@@ -1,7 +1,7 @@
 //! What follows from the promises alone. Each law is the contract of a function that does nothing: a caller has the law by the
 //! call, for every program whose replies keep the promises.
 
-ghost use Rattle.promise_core.specs.Laws.{LiveApart, Confined};
+ghost use Rattle.promise_core.specs.Laws.{LiveApart, Confined, RefusedForCause};
 
 /// The page blocks of a tenant and the slabs of its live objects are aligned, lie in slots that it holds, and share no frame.
 pub fn live_apart()
@@ -12,4 +12,10 @@ pub fn live_apart()
 /// since the slot was granted: by no reply that is allowed is it told another tenant's byte, nor its own of before.
 pub fn confined()
     ensures { Confined }
+{}
+
+/// To a request for a block of at most a slot's order a frame can be answered, unless it can be refused for want of frames, and
+/// never both: whatever was done before, the request has an allowed reply.
+pub fn refused_for_cause()
+    ensures { RefusedForCause }
 {}

@@ -35,8 +35,8 @@ use Rattle.world_core.specs.PrivateStep.{cache_body, command_step}
 use Rattle.promise_core.specs.Holdings.{cache_of}
 use Rattle.promise_core.specs.Promises.{due}
 use Rattle.promise_kept.specs.Meets.{IsKeptBy, IsKept}
+use Rattle.promise_kept.proofs.Stand.{in_contains}
 use Rattle.promise_kept.proofs.Cells.{all_kept, formed}
-use Rattle.promise_kept.proofs.Reaped.{in_contains}
 
 -- The least number that no cache has
 
@@ -133,12 +133,12 @@ module _ (limit order size align : ℕ) (pattern : ArrayVec ℕ) (m : Machine) (
   cache_meets = record {
     has = ap (λ (x : Holdings). record x { caches = put_rising (λ (y : ToldCache). y.number) (told_cache new) x.caches }) h.has
         ∙ ap (λ cs. record (holdings_of m) { caches = cs }) (sym (new_told new m.caches));
-    hides = λ c t in_c in_t. h.hides c t (in_contains m.caches c (old c t (contains_in _ c in_c) (contains_in c.slabs t in_t))) in_t;
+    hides = λ c t in_c in_t. h.hides c t (in_contains c m.caches (old c t (contains_in _ c in_c) (contains_in c.slabs t in_t))) in_t;
     lives = λ place cell e sure. cells_live cell.holder place (h.lives place cell e sure);
     page_bytes = λ place byte out there. h.page_bytes place byte
         (in_slab_laid m place ∙ (ap (λ ls. list_any (in_laid place) ls) (sym (created_laid (next_number m) size align pattern.items m)) ∙ (sym (in_slab_laid (created (next_number m) size align pattern.items m) place) ∙ out))) there;
     object_bytes = λ o j byte i byte_in there. h.object_bytes o j byte (record {
-      cache_in = in_contains m.caches o.cache (old o.cache o.slab (contains_in _ o.cache i.cache_in) (contains_in o.cache.slabs o.slab i.slab_in));
+      cache_in = in_contains o.cache m.caches (old o.cache o.slab (contains_in _ o.cache i.cache_in) (contains_in o.cache.slabs o.slab i.slab_in));
       slab_in = i.slab_in;
       index_in = i.index_in;
     }) byte_in there;

@@ -1,10 +1,10 @@
 -- The frames of empty slabs: they are seen as vacant, and a report tells them.
-use Rattle.std.proofs.Common.{◌≡◌, ℕ, zero, suc, ◌+◌, ◌-◌, ◌*◌, ◌/◌, ◌^◌, ◌<◌, ◌≤◌, Bool, true, false, not, ◌&&◌, eqb, ltb, leb, List, [], ◌∷◌, map, length, refl, sym, ap, ◌∙◌, subst, ◌⊎◌, inl, inr, ⊎_elim, arith}
+use Rattle.std.proofs.Common.{◌≡◌, ℕ, zero, suc, ◌+◌, ◌-◌, ◌*◌, ◌/◌, ◌^◌, ◌<◌, ◌≤◌, Bool, true, false, not, ◌&&◌, eqb, ltb, leb, List, [], ◌∷◌, map, length, refl, sym, ap, ◌∙◌, subst, ◌⊎◌, inl, inr, arith}
 use Rattle.std.specs.Prelude.{filter, flat_map}
 use Rattle.std.specs.List.{list_any, range_with_len}
 use Rattle.std.proofs.Math.Nat.{mul-div_cancel, div-mul-le_self, lt-div-mul-add}
 use Rattle.std.proofs.lemmas.Nat.{pow_pos}
-use Rattle.std.proofs.lemmas.Bool.{false≢true, and_parts, and_from, leb-true, ltb-true, le-leb, lt-ltb, eqb-true, eq-eqb, ne_eqb, cases_eq, false_from_ne_true, not_from_false}
+use Rattle.std.proofs.lemmas.Bool.{false≢true, and_parts, and_from, leb-true, ltb-true, le-leb, lt-ltb, eqb-true, eq-eqb, ne_eqb, false_from_ne_true, not_from_false}
 use Rattle.std.proofs.lemmas.List.{length-map}
 use Rattle.std.proofs.lemmas.List.Filters.{length-filter_both}
 use Rattle.model_core.specs.Blocks.{Block, block, HasFrame}
@@ -23,6 +23,7 @@ use Rattle.model_core.proofs.PageSteps.{reaped_kept}
 use Rattle.model_core.proofs.CacheSteps.{in_map}
 use Rattle.model_core.proofs.Objects.{in_append, IsPageByte, page_apart}
 use Rattle.promise_core.specs.Holdings.{taken_blocks, is_vacant, blocks_of_slot, vacant_blocks}
+pub use Rattle.promise_core.proofs.Causes.{in_row}
 use Rattle.promise_kept.specs.Meets.{holdings_of}
 use Rattle.promise_kept.proofs.Seen.{holdings_reaped}
 use Rattle.promise_kept.proofs.Stand.{in_flat, map_in, taken_seen}
@@ -59,10 +60,6 @@ blocks_fit (b ∷ bs) ys (first, apart) all =
     each_in (IsApart b) d bs first i x (leb-true b.first x p.0, ltb-true x (b.first + 2 ^ b.order) p.1) has)))) in
     let both : length (filter (in_frames b) ys) + length (filter (λ x. not (in_frames b x)) ys) ≡ length ys = length-filter_both (in_frames b) (λ x. not (in_frames b x)) (λ x. refl) ys in
     omega (arith, one, rest, both)
-
-in_row : (x a n : ℕ) → a ≤ x → x < a + n → IsIn x (range_with_len a n)
-in_row x a zero low high = absurd (omega arith)
-in_row x a (suc n) low high = ⊎_elim (λ same. inl same) (λ other. inr (in_row x (a + 1) n (omega arith) (omega arith))) (cases_eq a x)
 
 -- The frames of empty slabs
 

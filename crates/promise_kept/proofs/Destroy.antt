@@ -30,10 +30,10 @@ use Rattle.promise_core.specs.State.{State, state_after}
 use Rattle.promise_core.specs.Promises.{due, can_come_back, empty_frames}
 use Rattle.promise_kept.specs.Meets.{told_cache, holdings_of, is_live, Meets, IsKeptBy, IsKept}
 use Rattle.promise_kept.proofs.Seen.{none_live}
-use Rattle.promise_kept.proofs.Stand.{in_flat, one_live}
+use Rattle.promise_kept.proofs.Stand.{in_flat, one_live, in_contains}
 use Rattle.promise_kept.proofs.Cells.{without_some, without_may, fresh_may}
 use Rattle.promise_kept.proofs.Reaped.{slab_no_page, object_in_slab}
-use Rattle.promise_kept.proofs.Live.{in_contains, apart_in}
+use Rattle.promise_kept.proofs.Live.{apart_in}
 use Rattle.promise_kept.proofs.Known.{seen, seen_is, cache_seen, IsLiveIn, live_told, told_live}
 use Rattle.promise_kept.proofs.Counts.{empty_vacant}
 use Rattle.promise_kept.proofs.Frames.{frames_divide, empty_of, told_frames}

@@ -14,7 +14,8 @@ use Rattle.model_core.proofs.Lists.{IsIn, each_in}
 use Rattle.model_core.proofs.ObjectsApart.{contains_in, one_key, objects_apart}
 use Rattle.promise_core.specs.Holdings.{ToldCache}
 use Rattle.promise_kept.specs.Meets.{told_cache}
-use Rattle.promise_kept.proofs.Live.{in_contains, IsSlab, slabs_of, IsLivePlace}
+use Rattle.promise_kept.proofs.Stand.{in_contains}
+use Rattle.promise_kept.proofs.Live.{IsSlab, slabs_of, IsLivePlace}
 
 -- One element replaced
 

@@ -19,13 +19,15 @@ use Rattle.words_core.specs.declared.event.Command.TheVariants as Asked
 use Rattle.words_core.specs.declared.reply.Body.TheVariants as Say
 use Rattle.world_core.specs.PrivateStep.{command_step, give_body}
 use Rattle.promise_core.specs.Holdings.{with_live as with_live_told}
-use Rattle.promise_core.specs.Bytes.{Holder, Cell, is_same, may_be, doubted}
+use Rattle.promise_core.specs.Bytes.{Holder, is_same, may_be, doubted}
 use Rattle.promise_core.specs.State.{State, state_after}
 use Rattle.promise_core.specs.Promises.{due}
 use Rattle.promise_kept.specs.Meets.{told_cache, holdings_of, is_live, Meets, IsKeptBy, IsKept}
-use Rattle.promise_kept.proofs.Live.{in_contains, IsSlab, slabs_of, same_members, live_rises, IsLivePlace, live_place, place_listed}
+use Rattle.promise_kept.proofs.Stand.{in_contains}
+use Rattle.promise_kept.proofs.Live.{IsSlab, slabs_of, same_members, live_rises, IsLivePlace, live_place, place_listed}
 use Rattle.promise_kept.proofs.Flag.{replaced_is, replaced_one, replaced_other, live_after, live_other, WasObject, was_object, caches_told}
-use Rattle.promise_kept.proofs.Known.{seen, seen_is, cache_seen, IsLiveIn, live_told, told_live, doubt_may, WasSure, doubt_sure}
+use Rattle.promise_kept.proofs.Cells.{doubt_may, doubt_lives}
+use Rattle.promise_kept.proofs.Known.{seen, seen_is, cache_seen, IsLiveIn, live_told, told_live}
 
 abbrev gone : ℕ → List ℕ → List ℕ
 gone place ps = filter (λ p. not (eqb p place)) ps
@@ -105,8 +107,9 @@ module _ (limit order place : ℕ) (c : Cache) (o : LiveObject) (m : Machine) (s
   meets = record {
     has = refl;
     hides = λ x slab i j. go_hides x slab (contains_in n.caches x i) j;
-    lives = λ p cell e sure. go_lives p cell sure (doubt_sure (λ p. is_same (Holder.Object c.number place)) s.cells p cell e sure);
-    page_bytes = λ p byte out is. doubt_may Holder.Page 0 byte p (λ p. is_same (Holder.Object c.number place)) s.cells
+    lives = λ p cell e sure. let k = doubt_lives (λ p. is_same (Holder.Object c.number place)) s.cells p cell e sure in
+        still_live p cell.holder (subst (λ x. is_live (holdings_of m) x p ≡ true) k.3 (ap (λ x. is_live x k.0.holder p) (sym h.has) ∙ h.lives p k.0 k.1 k.2)) k.4;
+    page_bytes = λ p byte out is. doubt_may (λ p. is_same (Holder.Object c.number place)) s.cells Holder.Page p 0 byte
         (h.page_bytes p byte (sym (flagged_same order p c o.slab o.index false m w in_c l.slab_in) ∙ out) is);
     object_bytes = λ x j byte i below is. go_bytes x j byte below is (was_object limit order c o.slab o.index false m w in_c l.slab_in lt x i);
     empty_told = λ r e. absurd (cc);
@@ -120,12 +123,9 @@ module _ (limit order place : ℕ) (c : Cache) (o : LiveObject) (m : Machine) (s
           go (inl e) = ap (λ (y : Cache). s.hides y.number) (sym e) ∙ h.hides c o.slab (in_contains c m.caches in_c) (in_contains o.slab c.slabs l.slab_in)
           go (inr k) = h.hides x slab (in_contains x m.caches k.0) j
 
-      go_lives : (p : ℕ) (cell : Cell) → cell.sure ≡ true → WasSure (λ p. is_same (Holder.Object c.number place)) s.cells p cell → is_live (holdings_of n) cell.holder p ≡ true
-      go_lives p cell sure k = subst (λ x. is_live (holdings_of n) x p ≡ true) k.holder (still_live p k.was.holder (ap (λ x. is_live x k.was.holder p) (sym h.has) ∙ h.lives p k.was k.is k.sure) k.passes)
-
       go_bytes : (x : Object) (j byte : ℕ) → j < x.cache.size → m.bytes (place_of x + j) ≡ Some byte → WasObject m x
           → may_be (Holder.Object x.cache.number (place_of x)) (pattern_byte x.cache.pattern j) (doubted (λ p. is_same (Holder.Object c.number place)) s.cells (place_of x + j)) byte ≡ true
-      go_bytes x j byte below is k = doubt_may (Holder.Object x.cache.number (place_of x)) (pattern_byte x.cache.pattern j) byte (place_of x + j) (λ p. is_same (Holder.Object c.number place)) s.cells
+      go_bytes x j byte below is k = doubt_may (λ p. is_same (Holder.Object c.number place)) s.cells (Holder.Object x.cache.number (place_of x)) (place_of x + j) (pattern_byte x.cache.pattern j) byte
           (subst (λ number. may_be (Holder.Object number (place_of x)) (pattern_byte x.cache.pattern j) (s.cells (place_of x + j)) byte ≡ true) k.number
           (subst (λ pattern. may_be (Holder.Object k.was.cache.number (place_of x)) (pattern_byte pattern j) (s.cells (place_of x + j)) byte ≡ true) k.pattern
           (subst (λ p. may_be (Holder.Object k.was.cache.number p) (pattern_byte k.was.cache.pattern j) (s.cells (p + j)) byte ≡ true) k.place

@@ -21,10 +21,11 @@ use Rattle.model_core.proofs.Constructed.{IsFresh, AllFresh, grown_byte, fresh_g
 use Rattle.promise_core.specs.Bytes.{Holder, may_be}
 use Rattle.promise_core.specs.State.{State}
 use Rattle.promise_kept.specs.Meets.{told_cache, holdings_of, is_live, Meets}
+use Rattle.promise_kept.proofs.Stand.{in_contains}
 use Rattle.promise_kept.proofs.Seen.{none_live}
 use Rattle.promise_kept.proofs.Cells.{fresh_may}
 use Rattle.promise_kept.proofs.Reaped.{untold, object_in_slab}
-use Rattle.promise_kept.proofs.Live.{in_contains, IsLivePlace}
+use Rattle.promise_kept.proofs.Live.{IsLivePlace}
 use Rattle.promise_kept.proofs.Flag.{replaced_is}
 use Rattle.promise_kept.proofs.TakePlaces.{put_has}
 use Rattle.promise_kept.proofs.Known.{IsLiveIn, live_told}

@@ -21,8 +21,8 @@ use Rattle.model_core.proofs.CacheSteps.{in_map, in_all_laid}
 use Rattle.model_core.proofs.Objects.{in_append}
 use Rattle.promise_core.specs.Holdings.{ToldCache, Holdings, slab_at, taken_blocks, can_stand, are_apart, is_grid, can_be_taken}
 use Rattle.promise_kept.specs.Meets.{told_cache, holdings_of}
-use Rattle.promise_kept.proofs.Stand.{flat_in, overlap_shares}
-use Rattle.promise_kept.proofs.Live.{map_in, IsLivePlace, live_place}
+use Rattle.promise_kept.proofs.Stand.{flat_in, overlap_shares, map_in}
+use Rattle.promise_kept.proofs.Live.{IsLivePlace, live_place}
 use Rattle.promise_kept.proofs.Beside.{places_in, less_count, some_count, IsBeside, beside_at, is_slab, slab_here, slab_of_live, beside_is}
 
 pub all_from : {X : Type 0} (p : X → Bool) (xs : List X) → ((x : X) → IsIn x xs → p x ≡ true) → list_all p xs ≡ true

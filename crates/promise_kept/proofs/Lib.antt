@@ -22,4 +22,12 @@ pub mod Handed
 pub mod Take
 pub mod Growth
 pub mod Taking
+pub mod Below
+pub mod Figures
+pub mod Rows
+pub mod Report
+pub mod Owning
+pub mod SlotsMeet
+pub mod World
+pub mod WorldSteps
 pub mod Witnesses

@@ -1,6 +1,6 @@
 -- Live objects by their first places: they rise, and each is that of a live flag.
 use Rattle.std.proofs.Common.{◌≡◌, ℕ, zero, suc, ◌+◌, ◌*◌, ◌^◌, ◌<◌, ◌≤◌, Bool, true, false, eqb, List, [], ◌∷◌, ◌++◌, map, length, get_or, refl, sym, ap, ◌∙◌, subst, ◌⊎◌, inl, inr, arith}
-use Rattle.std.specs.Prelude.{flat_map, Contains}
+use Rattle.std.specs.Prelude.{flat_map}
 use Rattle.std.specs.List.{AllByRecursion as Each}
 use Rattle.std.proofs.lemmas.Bool.{eqb-true, eq-eqb, false_from_ne_true, both_ways, cases_lt}
 use Rattle.std.proofs.lemmas.Nat.{row_fits}
@@ -14,18 +14,9 @@ use Rattle.model_core.proofs.Rising.{has, same_rising}
 use Rattle.model_core.proofs.Apart.{apart_parts, has_first}
 use Rattle.model_core.proofs.CacheSteps.{in_left, in_right}
 use Rattle.model_core.proofs.Objects.{IsLive, live_is}
+use Rattle.promise_kept.proofs.Stand.{map_in}
 
 -- Lists
-
-pub in_contains : {X : Type 0} (x : X) (xs : List X) → IsIn x xs → Contains xs x
-in_contains x [] i = elim i [ ]
-in_contains x (y ∷ ys) (inl e) = (0, omega arith, e)
-in_contains x (y ∷ ys) (inr i) = let c : Contains ys x = in_contains x ys i in (suc c.0, omega (arith, c.1), c.2)
-
-pub map_in : {X Y : Type 0} (f : X → Y) (y : Y) (xs : List X) → IsIn y (map f xs) → (x : X) × IsIn x xs × (f x ≡ y)
-map_in f y [] i = elim i [ ]
-map_in f y (x ∷ xs) (inl e) = (x, inl refl, e)
-map_in {X} f y (x ∷ xs) (inr i) = let r : (z : X) × IsIn z xs × (f z ≡ y) = map_in f y xs i in (r.0, inr r.1, r.2)
 
 in_has : (u : ℕ) (xs : List ℕ) → IsIn u xs → has u xs ≡ true
 in_has u xs i = any_in (λ v. eqb v u) u xs i (eq-eqb u u refl)

@@ -23,9 +23,9 @@ use Rattle.promise_core.specs.Holdings.{ToldCache}
 use Rattle.promise_core.specs.Bytes.{Holder, is_same, Cell, may_be, with_bytes, object_with, holder_of}
 use Rattle.promise_core.specs.State.{State}
 use Rattle.promise_kept.specs.Meets.{told_cache, holdings_of, is_live, Meets}
-use Rattle.promise_kept.proofs.Stand.{map_in}
+use Rattle.promise_kept.proofs.Stand.{map_in, in_contains}
 use Rattle.promise_kept.proofs.Cells.{is_same_refl}
-use Rattle.promise_kept.proofs.Reaped.{in_contains, slab_no_page, object_in_slab}
+use Rattle.promise_kept.proofs.Reaped.{slab_no_page, object_in_slab}
 
 pub within_is : (place len begin size : ℕ) → is_within place len begin size ≡ true → (begin ≤ place) × (place + len ≤ begin + size)
 within_is place len begin size e =
@@ -75,7 +75,7 @@ holder_is order m place len holder w e = go (ltb 0 len) (list_any (within_block 
         let first : r.first ≡ place_of o = sym lo.2 ∙ l.at in
         let number : r.cache.number ≡ d.0.number = ap (λ (x : ToldCache). x.number) (sym d.2) in
         let size : r.cache.size ≡ d.0.size = ap (λ (x : ToldCache). x.size) (sym d.2) in
-        object o (record { cache_in = in_contains m.caches d.0 d.1; slab_in = in_contains d.0.slabs lo.0.slab l.slab_in; index_in = subst (λ n. lo.0.index < n) cut.count l.index_in })
+        object o (record { cache_in = in_contains d.0 m.caches d.1; slab_in = in_contains lo.0.slab d.0.slabs l.slab_in; index_in = subst (λ n. lo.0.index < n) cut.count l.index_in })
         (r.is ∙ (ap (λ n. Holder.Object n r.first) number ∙ ap (λ p. Holder.Object d.0.number p) first))
         (ap (λ n. is_within place len (place_of o) n) (sym size) ∙ (ap (λ p. is_within place len p r.cache.size) (sym first) ∙ r.within))
         (ap (λ x. is_live (holdings_of m) x place) r.is

@@ -25,13 +25,12 @@ use Rattle.promise_core.specs.Bytes.{Holder, is_object, without}
 use Rattle.promise_core.specs.State.{State, is_in_use, is_in_no_slab, state_after}
 use Rattle.promise_core.specs.Promises.{due, can_come_back, empty_frames}
 use Rattle.promise_kept.specs.Meets.{told_cache, holdings_of, Meets, IsKept}
-use Rattle.promise_kept.proofs.Stand.{map_in, in_flat, one_live, slab_seen}
+use Rattle.promise_kept.proofs.Stand.{map_in, in_flat, one_live, slab_seen, in_contains}
 use Rattle.promise_kept.proofs.Cells.{all_kept, without_some, without_may}
 use Rattle.promise_kept.proofs.Reaped.{untold, meets_reaped, object_in_slab}
 use Rattle.promise_kept.proofs.Known.{seen, seen_is, cache_seen}
 use Rattle.promise_kept.proofs.Counts.{empty_vacant, empty_apart}
 use Rattle.promise_kept.proofs.Frames.{IsLeast, least_order, frames_divide, told_frames}
-use Rattle.promise_kept.proofs.Live.{in_contains}
 
 -- the one element that passes is found
 pub find_one : {X : Type 0} (p : X → Bool) (x : X) (xs : List X) → IsIn x xs → p x ≡ true → ((y : X) → IsIn y xs → p y ≡ true → y ≡ x) → find p xs ≡ Some x

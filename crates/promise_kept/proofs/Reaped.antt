@@ -1,5 +1,5 @@
 -- What is known of a machine is so once all its empty slabs are given back, but for what a report told.
-use Rattle.std.proofs.Common.{◌≡◌, ℕ, suc, ◌+◌, ◌<◌, Bool, true, false, not, ◌||◌, List, [], ◌∷◌, map, Some, None, refl, sym, ap, ◌∙◌, subst, inl, inr, arith}
+use Rattle.std.proofs.Common.{◌≡◌, ℕ, ◌+◌, ◌<◌, Bool, true, false, not, ◌||◌, List, [], ◌∷◌, map, Some, None, refl, sym, ap, ◌∙◌, subst, inl, inr}
 use Rattle.std.specs.Prelude.{if◌then◌else◌, filter, flat_map, Contains}
 use Rattle.std.specs.List.{list_any}
 use Rattle.std.proofs.lemmas.Bool.{false≢true, false_from_ne_true, or_left}
@@ -20,13 +20,8 @@ use Rattle.promise_core.specs.Bytes.{Holder, may_be}
 use Rattle.promise_core.specs.State.{State}
 use Rattle.promise_kept.specs.Meets.{holdings_of, is_live, Meets}
 use Rattle.promise_kept.proofs.Seen.{holdings_reaped}
-use Rattle.promise_kept.proofs.Stand.{map_in}
+use Rattle.promise_kept.proofs.Stand.{map_in, in_contains}
 use Rattle.promise_kept.proofs.Cells.{fresh_may}
-
-pub in_contains : {X : Type 0} (xs : List X) (x : X) → IsIn x xs → Contains xs x
-in_contains [] x i = elim i [ ]
-in_contains (y ∷ xs) x (inl e) = (0, omega arith, e)
-in_contains (y ∷ xs) x (inr i) = let c = in_contains xs x i in (suc c.0, omega (arith, c.1), c.2)
 
 -- no report has to stand
 abbrev pub untold : State → State
@@ -96,7 +91,7 @@ module _ {limit : ℕ} (order : ℕ) (s : State) (m : Machine) (w : IsWellFormed
       let same : (reaped m).bytes (place_of o + j) ≡ m.bytes (place_of o + j) =
       ap (λ b. if b then Some 0 else m.bytes (place_of o + j)) (ap (λ bs. list_any (in_block (place_of o + j)) bs) (gone_laid m.caches)
       ∙ not_gone is_empty_laid (all_laid m.caches) (place_of o + j) k (laid_out order m w).apart_slabs kept (object_in_slab order m c t i j w in_c f.0 index_in byte_in)) in
-      h.object_bytes o j byte (record { cache_in = in_contains m.caches c in_c; slab_in = in_contains c.slabs t f.0; index_in = index_in }) byte_in (sym same ∙ is)
+      h.object_bytes o j byte (record { cache_in = in_contains c m.caches in_c; slab_in = in_contains t c.slabs f.0; index_in = index_in }) byte_in (sym same ∙ is)
     where
       in_reaped : (cs : List Cache) (d : Cache) → IsIn d cs → IsIn (without_empty d) (map without_empty cs)
       in_reaped [] d i = elim i [ ]
@@ -109,7 +104,7 @@ module _ {limit : ℕ} (order : ℕ) (s : State) (m : Machine) (w : IsWellFormed
       let d = map_in without_empty c m.caches (contains_in (map without_empty m.caches) c in_c) in
       let kept : IsIn t (without_empty d.0).slabs = subst (λ x. IsIn t x.slabs) (sym d.2) (contains_in c.slabs t in_t) in
       subst (λ x. s.hides x.number ≡ true) d.2
-      (h.hides d.0 t (in_contains m.caches d.0 d.1) (in_contains d.0.slabs t (filter_in (λ x. not (is_empty x)) t d.0.slabs kept).0))
+      (h.hides d.0 t (in_contains d.0 m.caches d.1) (in_contains t d.0.slabs (filter_in (λ x. not (is_empty x)) t d.0.slabs kept).0))
 
   object_at : (o : Object) (j byte : ℕ) → IsObject (reaped m) o → j < o.cache.size → (reaped m).bytes (place_of o + j) ≡ Some byte
       → may_be (Holder.Object o.cache.number (place_of o)) (pattern_byte o.cache.pattern j) (s.cells (place_of o + j)) byte ≡ true

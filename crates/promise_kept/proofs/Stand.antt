@@ -1,6 +1,6 @@
 -- The taken blocks that are seen of a machine, and what can stand beside them.
-use Rattle.std.proofs.Common.{◌≡◌, ℕ, zero, suc, ◌+◌, ◌-◌, ◌*◌, ◌/◌, ◌%◌, ◌^◌, ◌<◌, ◌≤◌, Bool, true, false, not, eqb, ltb, List, [], ◌∷◌, ◌++◌, map, length, Option, Some, None, refl, sym, ap, ◌∙◌, subst, inl, inr, ⊎_elim, arith}
-use Rattle.std.specs.Prelude.{if◌then◌else◌, filter, flat_map, is_some, option_map}
+use Rattle.std.proofs.Common.{◌≡◌, ℕ, suc, ◌+◌, ◌-◌, ◌*◌, ◌/◌, ◌%◌, ◌^◌, ◌<◌, ◌≤◌, Bool, true, false, not, eqb, ltb, List, [], ◌∷◌, ◌++◌, map, length, Option, Some, None, refl, sym, ap, ◌∙◌, subst, inl, inr, ⊎_elim, arith}
+use Rattle.std.specs.Prelude.{if◌then◌else◌, filter, flat_map, is_some, option_map, Contains}
 use Rattle.std.specs.List.{list_any, range_with_len, AllByRecursion as Each}
 use Rattle.std.proofs.Math.Nat.{div-div-eq-div-mul, div-eq_of_lt-le, mul-div_cancel}
 use Rattle.std.proofs.lemmas.Nat.{pow_pos, pow-add}
@@ -24,32 +24,21 @@ use Rattle.model_core.proofs.ByNeed.{by_need_keeps, by_need_none, by_need_reaps}
 use Rattle.model_core.proofs.PageSteps.{by_need_kept}
 use Rattle.model_core.proofs.Vacant.{IsVacant, some_choice}
 use Rattle.promise_core.specs.Holdings.{slab_at, taken_blocks, is_vacant, can_stand, blocks_of_slot, vacant_blocks, has_room}
+pub use Rattle.promise_core.proofs.Causes.{flat_in, in_flat, range_in}
 use Rattle.promise_kept.specs.Meets.{told_cache, holdings_of}
 use Rattle.promise_kept.proofs.Seen.{holdings_reaped}
 
 -- Lists
-
-pub flat_in : {X Y : Type 0} (f : X → List Y) (y : Y) (xs : List X) → IsIn y (flat_map f xs) → (x : X) × IsIn x xs × IsIn y (f x)
-flat_in f y [] i = elim i [ ]
-flat_in {X} f y (x ∷ xs) i = elim (in_append y (f x) (flat_map f xs) i) [
-  | inl j ↦ (x, inl refl, j)
-  | inr j ↦ let t : (z : X) × IsIn z xs × IsIn y (f z) = flat_in f y xs j in (t.0, inr t.1, t.2)
-]
-
-pub in_flat : {X Y : Type 0} (f : X → List Y) (y : Y) (x : X) (xs : List X) → IsIn x xs → IsIn y (f x) → IsIn y (flat_map f xs)
-in_flat f y x [] i j = elim i [ ]
-in_flat f y x (z ∷ xs) (inl e) j = in_left y (f z) (flat_map f xs) (subst (λ v. IsIn y (f v)) (sym e) j)
-in_flat f y x (z ∷ xs) (inr i) j = in_right y (f z) (flat_map f xs) (in_flat f y x xs i j)
 
 pub map_in : {X Y : Type 0} (f : X → Y) (y : Y) (xs : List X) → IsIn y (map f xs) → (x : X) × IsIn x xs × (f x ≡ y)
 map_in f y [] i = elim i [ ]
 map_in f y (x ∷ xs) (inl e) = (x, inl refl, e)
 map_in {X} f y (x ∷ xs) (inr i) = let t : (z : X) × IsIn z xs × (f z ≡ y) = map_in f y xs i in (t.0, inr t.1, t.2)
 
-range_in : (x a n : ℕ) → IsIn x (range_with_len a n) → (a ≤ x) × (x < a + n)
-range_in x a zero i = elim i [ ]
-range_in x a (suc n) (inl same) = (omega arith, omega arith)
-range_in x a (suc n) (inr i) = let rest = range_in x (a + 1) n i in (omega (arith, rest.0), omega (arith, rest.1))
+pub in_contains : {X : Type 0} (x : X) (xs : List X) → IsIn x xs → Contains xs x
+in_contains x [] i = elim i [ ]
+in_contains x (y ∷ ys) (inl e) = (0, omega arith, e)
+in_contains x (y ∷ ys) (inr i) = let c : Contains ys x = in_contains x ys i in (suc c.0, omega (arith, c.1), c.2)
 
 -- Blocks
 

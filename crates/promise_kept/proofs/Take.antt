@@ -25,9 +25,10 @@ use Rattle.promise_core.specs.Bytes.{Holder, is_object, may_be, without}
 use Rattle.promise_core.specs.State.{State, state_after, with_object}
 use Rattle.promise_core.specs.Promises.{due, first_due}
 use Rattle.promise_kept.specs.Meets.{told_cache, holdings_of, is_live, Meets, IsKeptBy}
+use Rattle.promise_kept.proofs.Stand.{in_contains}
 use Rattle.promise_kept.proofs.Cells.{all_kept, formed, without_some, without_may}
 use Rattle.promise_kept.proofs.Reaped.{object_in_slab}
-use Rattle.promise_kept.proofs.Live.{in_contains, IsLivePlace}
+use Rattle.promise_kept.proofs.Live.{IsLivePlace}
 use Rattle.promise_kept.proofs.Flag.{replaced_is, replaced_one, replaced_other, IsOne, one_place, live_other, WasObject, was_object, caches_told}
 use Rattle.promise_kept.proofs.Known.{seen, cache_seen, IsLiveIn, live_told, told_live}
 use Rattle.promise_kept.proofs.Give.{none_any}

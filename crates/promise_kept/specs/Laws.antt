@@ -27,3 +27,7 @@ ReadIsKept = (limit order place len : ℕ) (m : Machine) (s : State) → IsWellF
 abbrev pub CacheIsKept : Type 0
 CacheIsKept = (limit order size align : ℕ) (pattern : ArrayVec ℕ) (m : Machine) (s : State) → IsWellFormed limit order m → Meets order s m → 3 ≤ order
     → IsKept limit order (Asked.Cache size align pattern) m s
+
+-- a report, which changes nothing
+abbrev pub ReportIsKept : Type 0
+ReportIsKept = (limit order : ℕ) (m : Machine) (s : State) → IsWellFormed limit order m → Meets order s m → IsKept limit order Asked.Report m s

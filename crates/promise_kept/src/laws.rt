@@ -1,7 +1,7 @@
 //! What the private machine answers keeps each promise, a command at a time, and what is known after is so of the machine after.
 //! Each is the contract of a function that does nothing: a caller has the law by the call.
 
-ghost use Rattle.promise_kept.specs.Laws.{AllocIsKept, FreeIsKept, WriteIsKept, ReadIsKept, CacheIsKept};
+ghost use Rattle.promise_kept.specs.Laws.{AllocIsKept, FreeIsKept, WriteIsKept, ReadIsKept, CacheIsKept, ReportIsKept};
 
 /// A page block taken, with empty slabs given back by need.
 pub fn alloc_is_kept()
@@ -26,4 +26,9 @@ pub fn read_is_kept()
 /// A cache made, where slots have at least 8 frames, as many as the largest slab.
 pub fn cache_is_kept()
     ensures { CacheIsKept }
+{}
+
+/// A report, of frames, free blocks and caches.
+pub fn report_is_kept()
+    ensures { ReportIsKept }
 {}

@@ -3,3 +3,4 @@
 
 pub mod laws;
 pub mod object_laws;
+pub mod world_laws;

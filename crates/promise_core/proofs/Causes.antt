@@ -1,0 +1,149 @@
+-- A block is refused for want of frames just where none can stand.
+use Rattle.std.proofs.Common.{◌≡◌, ℕ, zero, suc, ◌+◌, ◌-◌, ◌*◌, ◌/◌, ◌%◌, ◌^◌, ◌<◌, ◌≤◌, Bool, true, false, not, ◌&&◌, eqb, ltb, leb, List, [], ◌∷◌, length, Some, Err, slice_get, refl, sym, ap, ◌∙◌, subst, inl, inr, ⊎_elim, arith}
+use Rattle.std.specs.Prelude.{if◌then◌else◌, flat_map, is_ok, is_none}
+use Rattle.std.specs.List.{list_all, range_with_len}
+use Rattle.std.specs.Option.{option_map_or}
+use Rattle.std.proofs.Math.Nat.{div-div-eq-div-mul, div-eq_of_lt-le, mul-div_cancel, div-mul-le_self, lt-div-mul-add}
+use Rattle.std.proofs.lemmas.Nat.{pow_pos, pow-add, div-add-mod'}
+use Rattle.std.proofs.lemmas.Bool.{false≢true, and_parts, and_from, le-leb, le-ltb, lt-ltb, eqb-true, eq-eqb, cases_eq, false_from_ne_true, not-false}
+use Rattle.model_core.specs.Blocks.{Block, block}
+use Rattle.model_core.proofs.Lists.{IsIn, filter_in, in_filter, some_any, any_in}
+use Rattle.model_core.proofs.Bridge.{aligned_first}
+use Rattle.model_core.proofs.Objects.{in_append}
+use Rattle.model_core.proofs.CacheSteps.{in_left, in_right, in_map}
+use Rattle.words_core.specs.declared.event.Event.TheVariants as On
+use Rattle.words_core.specs.declared.event.Command.TheVariants as Asked
+use Rattle.words_core.specs.declared.reply.Addressee.TheVariants as To
+use Rattle.words_core.specs.declared.reply.Body.{Body}
+use Rattle.words_core.specs.declared.reply.Body.TheVariants as Say
+use Rattle.words_core.specs.declared.reply.Refusal.{Refusal}
+use Rattle.promise_core.specs.declared.promise.Promise.{Promise}
+use Rattle.promise_core.specs.Holdings.{Holdings, holds, is_vacant, can_stand, blocks_of_slot, vacant_blocks, has_room}
+use Rattle.promise_core.specs.State.{State, Known, state_after}
+use Rattle.promise_core.specs.Promises.{first_due, is_one, due, verdict, kept, judged, allowed}
+use Rattle.promise_core.specs.Laws.{may_tell, RefusedForCause}
+use Rattle.promise_core.proofs.Confined as told
+
+-- Lists
+
+pub flat_in : {X Y : Type 0} (f : X → List Y) (y : Y) (xs : List X) → IsIn y (flat_map f xs) → (x : X) × IsIn x xs × IsIn y (f x)
+flat_in f y [] i = elim i [ ]
+flat_in {X} f y (x ∷ xs) i = elim (in_append y (f x) (flat_map f xs) i) [
+  | inl j ↦ (x, inl refl, j)
+  | inr j ↦ let t : (z : X) × IsIn z xs × IsIn y (f z) = flat_in f y xs j in (t.0, inr t.1, t.2)
+]
+
+pub in_flat : {X Y : Type 0} (f : X → List Y) (y : Y) (x : X) (xs : List X) → IsIn x xs → IsIn y (f x) → IsIn y (flat_map f xs)
+in_flat f y x [] i j = elim i [ ]
+in_flat f y x (z ∷ xs) (inl e) j = in_left y (f z) (flat_map f xs) (subst (λ v. IsIn y (f v)) (sym e) j)
+in_flat f y x (z ∷ xs) (inr i) j = in_right y (f z) (flat_map f xs) (in_flat f y x xs i j)
+
+pub range_in : (x a n : ℕ) → IsIn x (range_with_len a n) → (a ≤ x) × (x < a + n)
+range_in x a zero i = elim i [ ]
+range_in x a (suc n) (inl same) = (omega arith, omega arith)
+range_in x a (suc n) (inr i) = let rest = range_in x (a + 1) n i in (omega (arith, rest.0), omega (arith, rest.1))
+
+pub in_row : (x a n : ℕ) → a ≤ x → x < a + n → IsIn x (range_with_len a n)
+in_row x a zero low high = absurd (omega arith)
+in_row x a (suc n) low high = ⊎_elim (λ same. inl same) (λ other. inr (in_row x (a + 1) n (omega arith) (omega arith))) (cases_eq a x)
+
+listed_some : {X : Type 0} (x : X) (xs : List X) → IsIn x xs → ltb 0 (length xs) ≡ true
+listed_some x [] i = elim i [ ]
+listed_some x (y ∷ xs) i = lt-ltb 0 (length (y ∷ xs)) (omega arith)
+
+some_listed : {X : Type 0} (xs : List X) → ltb 0 (length xs) ≡ true → (x : X) × IsIn x xs
+some_listed [] e = absurd (false≢true e)
+some_listed (x ∷ xs) e = (x, inl refl)
+
+-- Blocks of slots
+
+module _ (order k : ℕ) (of_slot : k ≤ order) (h : Holdings) where
+  abbrev share : ℕ
+  share = 2 ^ (order - k)
+
+  -- the slot of an aligned block, by its number
+  slot_of_number : (q : ℕ) → q * 2 ^ k / 2 ^ order ≡ q / share
+  slot_of_number q =
+      let size : 2 ^ order ≡ 2 ^ k * share = ap (λ n. 2 ^ n) (omega (arith, of_slot)) ∙ pow-add 2 k (order - k) in
+      ap (λ n. q * 2 ^ k / n) size ∙ (sym (div-div-eq-div-mul (q * 2 ^ k) (2 ^ k) share) ∙ ap (λ n. n / share) (mul-div_cancel q (pow_pos k)))
+
+  stands_vacant : (f : ℕ) → can_stand order h (block f k) ≡ true → has_room order h k ≡ true
+  unfolding can_stand vacant_blocks
+  stands_vacant f e =
+      let parts = and_parts (leb k order && eqb (f % 2 ^ k) 0) (holds h (f / 2 ^ order) && is_vacant h (block f k)) e in
+      let aligned : f % 2 ^ k ≡ 0 = eqb-true (f % 2 ^ k) 0 (and_parts (leb k order) (eqb (f % 2 ^ k) 0) parts.0).1 in
+      let there = and_parts (holds h (f / 2 ^ order)) (is_vacant h (block f k)) parts.1 in
+      let q : ℕ = f / 2 ^ k in
+      let is : q * 2 ^ k ≡ f = omega (arith, aligned, div-add-mod' f (2 ^ k)) in
+      let u : (v : ℕ) × IsIn v h.slots × (eqb v (f / 2 ^ order) ≡ true) = some_any (λ v. eqb v (f / 2 ^ order)) h.slots there.0 in
+      let slot : u.0 ≡ q / share = eqb-true u.0 (f / 2 ^ order) u.2 ∙ (ap (λ n. n / 2 ^ order) (sym is) ∙ slot_of_number q) in
+      let low : q / share * share ≤ q = div-mul-le_self q share in
+      let high : q < q / share * share + share = lt-div-mul-add (pow_pos (order - k)) in
+      listed_some (block f k) (vacant_blocks order h k) (in_filter (is_vacant h) (block f k) (flat_map (blocks_of_slot order k) h.slots)
+      (in_flat (blocks_of_slot order k) (block f k) u.0 h.slots u.1 (subst (λ x. IsIn (block x k) (blocks_of_slot order k u.0)) is
+      (in_map (λ i. block (i * 2 ^ k) k) q (range_with_len (u.0 * share) share)
+      (in_row q (u.0 * share) share (subst (λ v. v * share ≤ q) (sym slot) low) (subst (λ v. q < v * share + share) (sym slot) high)))))
+      there.1)
+
+  vacant_stands : has_room order h k ≡ true → (f : ℕ) × (can_stand order h (block f k) ≡ true)
+  unfolding can_stand vacant_blocks
+  vacant_stands e =
+      let b : (b : Block) × IsIn b (vacant_blocks order h k) = some_listed (vacant_blocks order h k) e in
+      let v = filter_in (is_vacant h) b.0 (flat_map (blocks_of_slot order k) h.slots) b.1 in
+      let u = flat_in (blocks_of_slot order k) b.0 h.slots v.0 in
+      let q = told.in_map (λ i. block (i * 2 ^ k) k) b.0 (range_with_len (u.0 * share) share) u.2 in
+      let r = range_in q.0 (u.0 * share) share q.1 in
+      let slot : q.0 / share ≡ u.0 = div-eq_of_lt-le share r.0 (omega (arith, r.1)) in (
+        q.0 * 2 ^ k,
+        and_from (leb k order && eqb (q.0 * 2 ^ k % 2 ^ k) 0) (holds h (q.0 * 2 ^ k / 2 ^ order) && is_vacant h (block (q.0 * 2 ^ k) k))
+            (and_from (leb k order) (eqb (q.0 * 2 ^ k % 2 ^ k) 0) (le-leb k order of_slot) (eq-eqb (q.0 * 2 ^ k % 2 ^ k) 0 (aligned_first q.0 k)))
+            (and_from (holds h (q.0 * 2 ^ k / 2 ^ order)) (is_vacant h (block (q.0 * 2 ^ k) k))
+            (any_in (λ x. eqb x (q.0 * 2 ^ k / 2 ^ order)) u.0 h.slots u.1 (eq-eqb u.0 (q.0 * 2 ^ k / 2 ^ order) (sym (slot_of_number q.0 ∙ slot))))
+            (ap (is_vacant h) q.2 ∙ v.1)),
+      )
+
+-- Verdicts
+
+ok_all : (ps : List (Promise × Bool)) (after : Known) → is_ok (verdict ps after) ≡ list_all (λ p. p.1) ps
+ok_all [] after = refl
+ok_all ((promise, b) ∷ ps) after = go b (ok_all ps after)
+  where
+    go : (b : Bool) → is_ok (verdict ps after) ≡ list_all (λ p. p.1) ps → is_ok (if b then verdict ps after else Err promise) ≡ (b && list_all (λ p. p.1) ps)
+    go true e = e
+    go false e = refl
+
+and_true : (a : Bool) → (a && true) ≡ a
+and_true true = refl
+and_true false = refl
+
+module _ (w : Known) (s : State) (t k : ℕ) (is : slice_get w.states t ≡ Some s) (of_slot : k ≤ w.order) where
+  tells_as : (body : Body) → may_tell w t (Asked.Alloc k) body ≡ list_all (λ p. p.1) (kept (On.Tenant t (Asked.Alloc k)) (record { addressee = To.Tenant t; body = body }) w s)
+  unfolding allowed
+  tells_as body = ap (λ o. is_ok (judged (On.Tenant t (Asked.Alloc k)) (record { addressee = To.Tenant t; body = body }) w o)) is
+      ∙ ok_all (kept (On.Tenant t (Asked.Alloc k)) (record { addressee = To.Tenant t; body = body }) w s) _
+
+  refusal_is : may_tell w t (Asked.Alloc k) (Say.Refused Refusal.NoFrames) ≡ not (has_room w.order s.has k)
+  unfolding due state_after
+  refusal_is = tells_as (Say.Refused Refusal.NoFrames)
+      ∙ (ap (λ b. (b && true) && (option_map_or (is_one Refusal.NoFrames) (first_due ((ltb w.order k, Refusal.BadOrder) ∷ [])) true && (not (has_room w.order s.has k) && true))) (eq-eqb t t refl)
+      ∙ (ap (λ b. option_map_or (is_one Refusal.NoFrames) (first_due ((b, Refusal.BadOrder) ∷ [])) true && (not (has_room w.order s.has k) && true)) (le-ltb w.order k of_slot)
+      ∙ and_true (not (has_room w.order s.has k))))
+
+  frame_is : (f : ℕ) → may_tell w t (Asked.Alloc k) (Say.Frame f) ≡ can_stand w.order s.has (block f k)
+  unfolding due state_after
+  frame_is f = tells_as (Say.Frame f)
+      ∙ (ap (λ b. (b && true) && (is_none (first_due ((ltb w.order k, Refusal.BadOrder) ∷ [])) && (can_stand w.order s.has (block f k) && true))) (eq-eqb t t refl)
+      ∙ (ap (λ b. is_none (first_due ((b, Refusal.BadOrder) ∷ [])) && (can_stand w.order s.has (block f k) && true)) (le-ltb w.order k of_slot)
+      ∙ and_true (can_stand w.order s.has (block f k))))
+
+pub refused_for_cause : RefusedForCause
+refused_for_cause w s t k is of_slot = record {
+  answered = λ e. let f = vacant_stands w.order k of_slot s.has (not-false (has_room w.order s.has k) (sym (refusal_is w s t k is of_slot) ∙ e)) in
+      (f.0, frame_is w s t k is of_slot f.0 ∙ f.1);
+  refused = λ f e. frame_is w s t k is of_slot f ∙ false_from_ne_true (can_stand w.order s.has (block f k))
+      (λ stands. both (has_room w.order s.has k) (sym (refusal_is w s t k is of_slot) ∙ e) (stands_vacant w.order k of_slot s.has f stands));
+}
+  where
+    both : (b : Bool) → not b ≡ true → b ≡ true → ⊥
+    both true e on = false≢true e
+    both false e on = false≢true on

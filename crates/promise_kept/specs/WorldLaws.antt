@@ -1,0 +1,71 @@
+-- That the world of the definitions keeps the promises, an event at a time, and over all events. Each is the contract of a
+-- function of the module `world_laws`.
+use Rattle.std.specs.Prelude.{◌≡◌, ℕ, ◌*◌, ◌^◌, ◌≤◌, List, length, Some, Ok, ⊤}
+use Rattle.std.specs.List.{AllByRecursion}
+use Rattle.model_core.specs.Runs.{ArePossible}
+use Rattle.words_core.specs.declared.event.Event.{Event}
+use Rattle.words_core.specs.declared.event.Event.TheVariants as On
+use Rattle.words_core.specs.declared.event.AdminCommand.TheVariants as Do
+use Rattle.words_core.specs.Cutting.{lines_of_trace}
+use Rattle.world_core.specs.PrivateStep.{Entry}
+use Rattle.world_core.specs.World.{World, opening_world, world_step, world_after}
+use Rattle.world_core.specs.Output.{events_of}
+use Rattle.world_core.specs.Laws.{opening_history}
+use Rattle.world_core.specs.Reached.{operations_in}
+use Rattle.promise_core.specs.State.{Known, opening}
+use Rattle.promise_core.specs.Promises.{named, allowed, all_allowed}
+use Rattle.promise_kept.specs.MeetsWorld.{MeetsWorld, IsEventKept}
+
+-- a superblock granted, or refused where none is free
+abbrev pub GrantIsKept : Type 0
+GrantIsKept = (limit order t : ℕ) → IsEventKept limit order (On.Admin (Do.Grant t))
+
+-- a slot taken back, where it is held and not busy
+abbrev pub TakeBackIsKept : Type 0
+TakeBackIsKept = (limit order t slot : ℕ) → IsEventKept limit order (On.Admin (Do.TakeBack t slot))
+
+-- all slots of a tenant given up
+abbrev pub ResetIsKept : Type 0
+ResetIsKept = (limit order t : ℕ) → IsEventKept limit order (On.Admin (Do.Reset t))
+
+-- a slot moved to another superblock
+abbrev pub MoveIsKept : Type 0
+MoveIsKept = (limit order t slot : ℕ) → IsEventKept limit order (On.Admin (Do.Move t slot))
+
+-- the table of owners
+abbrev pub PoolIsKept : Type 0
+PoolIsKept = (limit order : ℕ) → IsEventKept limit order (On.Admin Do.Pool)
+
+-- the event can be asked for: a cache is made with a pattern of 1 to 16 bytes
+abbrev pub CanBeAsked : Event → Type 0
+CanBeAsked (On.Tenant t command) = ArePossible (operations_in (Entry.Ask command))
+CanBeAsked (On.Admin command) = ⊤
+
+-- Any event, so a tenant's command too; slots have at least 8 frames, as many as the largest slab.
+abbrev pub EventIsKept : Type 0
+EventIsKept = (limit order : ℕ) (event : Event) → 3 ≤ order → CanBeAsked event → IsEventKept limit order event
+
+-- What names a tenant that there is not is said so, and changes neither the world nor what is known.
+abbrev pub StrangerChangesNothing : Type 0
+StrangerChangesNothing = (limit order t : ℕ) (event : Event) (k : Known) (w : World) → MeetsWorld limit order k w
+    → named event ≡ Some t → length w.machines ≤ t
+    → (allowed event (world_step limit order event w).reply k ≡ Ok k) × ((world_step limit order event w).world ≡ w)
+
+-- what is known at the end of a run from the opening world, each of whose replies is allowed
+pub record IsKeptRun (limit order superblocks tenants : ℕ) (events : List Event) : Type 0 where
+  pub after : Known
+  pub are_allowed : all_allowed (opening_history limit order superblocks tenants events)
+      (Ok (opening limit order superblocks tenants)) ≡ Ok after
+  pub meets : MeetsWorld limit order after (world_after limit order (opening_world superblocks tenants) events)
+
+-- From the opening world on every reply is allowed, to all that can be asked, where RAM has at most 2 ^ 32 places ..
+abbrev pub KeepsPromises : Type 0
+KeepsPromises = (limit order superblocks tenants : ℕ) (events : List Event)
+    → 3 ≤ order → superblocks * 2 ^ order * 4096 ≤ 2 ^ 32 → AllByRecursion CanBeAsked events
+    → IsKeptRun limit order superblocks tenants events
+
+-- .. and whatever the trace.
+abbrev pub TraceKeepsPromises : Type 0
+TraceKeepsPromises = (limit order superblocks tenants : ℕ) (trace : List ℕ)
+    → 3 ≤ order → superblocks * 2 ^ order * 4096 ≤ 2 ^ 32
+    → IsKeptRun limit order superblocks tenants (events_of (lines_of_trace trace))
