@@ -1,4 +1,4 @@
-"""Writes each worked trace of crates/rows that runs on the small machine with all lines to FOLDER/NAME-NN, and what it must
+"""Writes each worked trace of crates/traces that runs on the small machine with all lines to FOLDER/NAME-NN, and what it must
 write to FOLDER/NAME-NN.stdout."""
 import codecs
 import os
@@ -6,7 +6,7 @@ import re
 import sys
 
 for name in ("lines", "pages", "slots", "caches", "reaping", "moves"):
-    source = open(f"crates/rows/src/{name}.rt", encoding="utf-8").read()
+    source = open(f"crates/traces/src/tables/{name}.rt", encoding="utf-8").read()
     rows = re.findall(r'trace: b"((?:[^"\\]|\\.)*)",\s*output: b"((?:[^"\\]|\\.)*)"', source, re.S)
     assert len(rows) == int(re.search(r"ROWS: \[Row; (\d+)\]", source).group(1))
     for number, row in enumerate(rows):

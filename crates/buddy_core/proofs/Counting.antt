@@ -1,17 +1,20 @@
 -- How the number of free blocks of one order changes when a block is taken out of the available frames.
 use Rattle.std.proofs.Common.{◌≡◌, ◌⊎◌, inl, inr, refl, sym, ◌∙◌, ap, subst, ℕ, zero, suc, ◌+◌, ◌*◌, ◌/◌, ◌%◌, ◌^◌, ◌<◌, ◌≤◌, Bool, true, false, arith}
-use Rattle.std.proofs.lemmas.Bool.{cases_lt, cases_eq, cases_Bool, both_ways, false_from_ne_true}
+use Rattle.std.specs.Prelude.{slice_index}
+use Rattle.std.proofs.lemmas.Bool.{cases_lt, cases_eq, cases_order, cases_Bool, both_ways, false_from_ne_true}
 use Rattle.std.proofs.lemmas.Nat.{pow_pos, le-div}
 use Rattle.model_core.specs.Blocks.{block, around, buddy, Taken, IsFree}
 use Rattle.model_core.specs.Choice.{is_free, is_available, count_below}
 use Rattle.model_core.specs.Numbered.{number_at, is_clear, IsOpen}
 use Rattle.model_core.proofs.Halves.{one_open, same_above, clear_at}
 use Rattle.model_core.proofs.TakeOut.{TakesOut, IsOtherHalf, open_after, open_stays, open_half}
-use Rattle.model_core.proofs.Bridge.{free_is_open, open_is_free, same_first, aligned_first, number_around, same_slot}
+use Rattle.model_core.proofs.BlocksByNumber.{free_is_open, open_is_free, same_first, aligned_first, number_around, same_slot}
 use Rattle.model_core.proofs.FreeBlocks.{same_bool}
 use Rattle.model_core.proofs.Joining.{buddy_is_half, buddy_aligned, only_buddy}
 use Rattle.model_core.proofs.Choosing.{free_is_tested}
 use Rattle.model_core.proofs.Counting.{bit, count_same}
+use Rattle.buddy_core.specs.Stored.{StoredTenant}
+use Rattle.buddy_core.specs.Counts.{IsTakenOut}
 
 pub count_one : (p r : ℕ → Bool) (n x : ℕ) → x < n → p x ≡ false → r x ≡ true → ((f : ℕ) → f < n → (f ≡ x → ⊥) → p f ≡ r f) → count_below r n ≡ count_below p n + 1
 count_one p r zero x lt off on same = absurd (omega arith)
@@ -173,3 +176,18 @@ module _ (top : ℕ) (held held' : ℕ → Bool) (taken taken' : Taken) (f k j s
 
   pub half_counts : (i : ℕ) → k ≤ i → i < j → 0 < count_below (small i) (slots * 2 ^ top)
   half_counts i up lt = omega (arith, count_half i up lt)
+
+  -- a tenant's counts of free blocks move as the free blocks do
+  pub free_balance : (whole part : StoredTenant) → IsTakenOut k j whole part → (i : ℕ)
+      → slice_index part.free i + count_below (large i) (slots * 2 ^ top) ≡ slice_index whole.free i + count_below (small i) (slots * 2 ^ top)
+  free_balance whole part counts i = go (cases_order i j) (cases_lt i k)
+    where
+      go : (i ≡ j) ⊎ ((i < j) ⊎ (j < i)) → (i < k) ⊎ (k ≤ i) → slice_index part.free i + count_below (large i) (slots * 2 ^ top) ≡ slice_index whole.free i + count_below (small i) (slots * 2 ^ top)
+      go (inr (inr above)) _ = let moved = counts.others i (inr above) in let same = count_kept i (inr above) in omega arith
+      go (inr (inl below)) (inl low) = let moved = counts.others i (inl low) in let same = count_kept i (inl low) in omega arith
+      go (inr (inl below)) (inr up) = let moved = counts.halves i up below in let half = count_half i up below in omega arith
+      go (inl e) _ =
+          let moved = counts.split in
+          let split = count_split in
+          let here : slice_index part.free j + count_below (large j) (slots * 2 ^ top) ≡ slice_index whole.free j + count_below (small j) (slots * 2 ^ top) = omega arith in
+          subst (λ n. slice_index part.free n + count_below (large n) (slots * 2 ^ top) ≡ slice_index whole.free n + count_below (small n) (slots * 2 ^ top)) (sym e) here

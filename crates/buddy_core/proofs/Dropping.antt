@@ -10,14 +10,14 @@ use Rattle.model_core.specs.Blocks.{block, slot_block, Taken, IsTaken, HasTaken,
 use Rattle.model_core.specs.Choice.{is_available, is_free, count_below}
 use Rattle.model_core.specs.Numbered.{is_clear}
 use Rattle.model_core.proofs.Halves.{clear_at, clear_fails}
-use Rattle.model_core.proofs.Bridge.{number_is, number_first, aligned_first, number_of_frame, frame_of_number, available_tells, unavailable_tells}
+use Rattle.model_core.proofs.BlocksByNumber.{number_is, number_first, aligned_first, number_of_frame, frame_of_number, available_tells, unavailable_tells}
 use Rattle.model_core.proofs.FreeBlocks.{has_first}
 use Rattle.model_core.proofs.Joining.{take_back_stays_sound}
 use Rattle.buddy_core.specs.Tree.{Shows}
-use Rattle.buddy_core.specs.Stored.{Sheet, Row, blank_sheet, sheet_of, row_of, slot_of, held_by, order_under, taken_by, holding_shown}
-use Rattle.buddy_core.specs.Kept.{IsKept, IsRowKept, HasSheetSizes, available_in}
-use Rattle.buddy_core.proofs.Change.{IsChange}
-use Rattle.buddy_core.proofs.RootBits.{slot_within}
+use Rattle.buddy_core.specs.Stored.{StoredSuperblock, StoredTenant, bare_superblock, superblock_of, stored_tenant, superblock_at, held_by, order_under, taken_by, holding_shown}
+use Rattle.buddy_core.specs.Kept.{IsKept, IsTenantKept, available_in}
+use Rattle.buddy_core.proofs.TenantChanged.{IsChange}
+use Rattle.buddy_core.proofs.ContentShown.{slot_within}
 use Rattle.buddy_core.proofs.Counting.{count_kept, count_split}
 use Rattle.buddy_core.proofs.TreeNumbers.{number_whole}
 use Rattle.buddy_core.proofs.TreeOrders.{orders_clear, orders_whole}
@@ -55,54 +55,54 @@ module _ (top : ℕ) (held : ℕ → Bool) (taken : Taken) (u : ℕ) (words : Li
           aligned_zero : (k : ℕ) → 0 % 2 ^ k ≡ 0
           aligned_zero k = let e : 0 * 2 ^ k ≡ 0 = omega arith in ap (λ n. n % 2 ^ k) (sym e) ∙ aligned_first 0 k
 
-module _ (top : ℕ) (sheets : List Sheet) (rows : List Row) (kept : IsKept top sheets rows) (t : ℕ) (tenant : t < length rows) (slot m : ℕ)
-    (here : slot_of (row_of t rows) slot ≡ Some m) (none_taken : HasTaken (taken_by top sheets (row_of t rows)) (slot_block top slot) → ⊥) where
-  -- the row afterwards
-  abbrev pub dropped : Row
-  dropped = record (row_of t rows) { slots = set (row_of t rows).slots slot None; free = set (row_of t rows).free top (slice_index (row_of t rows).free top - 1) }
+module _ (top : ℕ) (superblocks : List StoredSuperblock) (tenants : List StoredTenant) (kept : IsKept top superblocks tenants) (t : ℕ) (listed : t < length tenants) (slot m : ℕ)
+    (here : superblock_at (stored_tenant t tenants) slot ≡ Some m) (none_taken : HasTaken (taken_by top superblocks (stored_tenant t tenants)) (slot_block top slot) → ⊥) where
+  -- the tenant afterwards
+  abbrev pub dropped : StoredTenant
+  dropped = record (stored_tenant t tenants) { slots = set (stored_tenant t tenants).slots slot None; free = set (stored_tenant t tenants).free top (slice_index (stored_tenant t tenants).free top - 1) }
 
   abbrev taken : Taken
-  taken = taken_by top sheets (row_of t rows)
+  taken = taken_by top superblocks (stored_tenant t tenants)
 
-  mine : IsRowKept top sheets (row_of t rows)
-  mine = kept.each t tenant
+  mine : IsTenantKept top superblocks (stored_tenant t tenants)
+  mine = kept.each t listed
 
-  slot_in : slot < length (row_of t rows).slots
-  slot_in = slot_within (row_of t rows).slots slot m here
+  slot_in : slot < length (stored_tenant t tenants).slots
+  slot_in = slot_within (stored_tenant t tenants).slots slot m here
 
-  pub m_lt : m < length sheets
+  pub m_lt : m < length superblocks
   m_lt = mine.within slot m here
 
-  slot_here : slot_of dropped slot ≡ None
-  slot_here = get_or-set_same (row_of t rows).slots slot None None slot_in
+  slot_here : superblock_at dropped slot ≡ None
+  slot_here = get_or-set_same (stored_tenant t tenants).slots slot None None slot_in
 
-  slot_other : (v : ℕ) → (v ≡ slot → ⊥) → slot_of dropped v ≡ slot_of (row_of t rows) v
-  slot_other v ne = get_or-set_other (row_of t rows).slots slot v None None ne
+  slot_other : (v : ℕ) → (v ≡ slot → ⊥) → superblock_at dropped v ≡ superblock_at (stored_tenant t tenants) v
+  slot_other v ne = get_or-set_other (stored_tenant t tenants).slots slot v None None ne
 
   frame_in : (x : ℕ) → x / 2 ^ top ≡ slot → HasFrame (slot_block top slot) x
   frame_in x e = frame_of_number (slot * 2 ^ top) top x (aligned_first slot top) (number_is top x ∙ e ∙ sym (number_first slot top))
 
-  untaken : (x : ℕ) → x / 2 ^ top ≡ slot → IsTaken (taken_by top sheets (row_of t rows)) x → ⊥
+  untaken : (x : ℕ) → x / 2 ^ top ≡ slot → IsTaken (taken_by top superblocks (stored_tenant t tenants)) x → ⊥
   untaken x e is = none_taken (x, frame_in x e, is)
 
-  begins_none : (g : ℕ) → g / 2 ^ top ≡ slot → (o : Option ℕ) → taken_by top sheets (row_of t rows) g ≡ o → o ≡ None
+  begins_none : (g : ℕ) → g / 2 ^ top ≡ slot → (o : Option ℕ) → taken_by top superblocks (stored_tenant t tenants) g ≡ o → o ≡ None
   begins_none g e None at = refl
   begins_none g e (Some k) at = absurd (untaken g e (g, k, at, has_first g k))
 
-  step : IsSlotStep top sheets (row_of t rows) m slot (blank_sheet top) dropped
+  step : IsSlotStep top superblocks (stored_tenant t tenants) m slot (bare_superblock top) dropped
   step = record {
     inside = slot_in;
-    size = length-set (row_of t rows).slots slot None;
+    size = length-set (stored_tenant t tenants).slots slot None;
     others = slot_other;
     apart = λ v ne at. ne (kept.apart t v t slot m at here).1;
     none_before = λ g e. begins_none g e _ refl;
-    none_after = λ g e. ap (λ o. order_under (set sheets m (blank_sheet top)) o (g % 2 ^ top)) (ap (slot_of dropped) e ∙ slot_here);
+    none_after = λ g e. ap (λ o. order_under (set superblocks m (bare_superblock top)) o (g % 2 ^ top)) (ap (superblock_at dropped) e ∙ slot_here);
   }
 
-  held_other : (v : ℕ) → (v ≡ slot → ⊥) → held_by dropped v ≡ held_by (row_of t rows) v
+  held_other : (v : ℕ) → (v ≡ slot → ⊥) → held_by dropped v ≡ held_by (stored_tenant t tenants) v
   held_other v ne = ap is_some (slot_other v ne)
 
-  one : IsOneMore top (held_by (row_of t rows)) (held_by dropped) (taken_by top sheets (row_of t rows)) slot
+  one : IsOneMore top (held_by (stored_tenant t tenants)) (held_by dropped) (taken_by top superblocks (stored_tenant t tenants)) slot
   one = record {
     on = ap is_some here;
     off = ap is_some slot_here;
@@ -110,80 +110,80 @@ module _ (top : ℕ) (sheets : List Sheet) (rows : List Row) (kept : IsKept top 
     untaken = untaken;
   }
 
-  slot_lt : slot < length sheets
+  slot_lt : slot < length superblocks
   slot_lt = subst (λ n. slot < n) mine.sizes.slots slot_in
 
-  first_slot : slot * 2 ^ top / 2 ^ top < length sheets
-  first_slot = subst (λ n. n < length sheets) (sym (mul-div_cancel slot (pow_pos top))) slot_lt
+  first_slot : slot * 2 ^ top / 2 ^ top < length superblocks
+  first_slot = subst (λ n. n < length superblocks) (sym (mul-div_cancel slot (pow_pos top))) slot_lt
 
-  change_at : count_below (λ f. is_free top (held_by (row_of t rows)) (taken_by top sheets (row_of t rows)) (block f top)) (length sheets * 2 ^ top)
-      ≡ count_below (λ f. is_free top (held_by dropped) (taken_by top sheets (row_of t rows)) (block f top)) (length sheets * 2 ^ top) + 1
-  change_at = count_split top (held_by (row_of t rows)) (held_by dropped) (taken_by top sheets (row_of t rows)) (taken_by top sheets (row_of t rows)) (slot * 2 ^ top) top top (length sheets)
-      (slot_out top (held_by (row_of t rows)) (held_by dropped) (taken_by top sheets (row_of t rows)) slot one) first_slot
+  change_at : count_below (λ f. is_free top (held_by (stored_tenant t tenants)) (taken_by top superblocks (stored_tenant t tenants)) (block f top)) (length superblocks * 2 ^ top)
+      ≡ count_below (λ f. is_free top (held_by dropped) (taken_by top superblocks (stored_tenant t tenants)) (block f top)) (length superblocks * 2 ^ top) + 1
+  change_at = count_split top (held_by (stored_tenant t tenants)) (held_by dropped) (taken_by top superblocks (stored_tenant t tenants)) (taken_by top superblocks (stored_tenant t tenants)) (slot * 2 ^ top) top top (length superblocks)
+      (slot_out top (held_by (stored_tenant t tenants)) (held_by dropped) (taken_by top superblocks (stored_tenant t tenants)) slot one) first_slot
 
-  pub some_free : 0 < slice_index (row_of t rows).free top
+  pub some_free : 0 < slice_index (stored_tenant t tenants).free top
   some_free = let was = mine.free top (omega arith) in let change = change_at in omega arith
 
   counted : (k : ℕ) → k ≤ top → (k ≡ top) ⊎ (k ≡ top → ⊥)
-      → slice_index (set (row_of t rows).free top (slice_index (row_of t rows).free top - 1)) k ≡ count_below (λ f. is_free top (held_by dropped) (taken_by top sheets (row_of t rows)) (block f k)) (length sheets * 2 ^ top)
+      → slice_index (set (stored_tenant t tenants).free top (slice_index (stored_tenant t tenants).free top - 1)) k ≡ count_below (λ f. is_free top (held_by dropped) (taken_by top superblocks (stored_tenant t tenants)) (block f k)) (length superblocks * 2 ^ top)
   counted k le (inl e) =
       let size = mine.sizes.free in
-      let written = ap (λ n. get_or (set (row_of t rows).free top (slice_index (row_of t rows).free top - 1)) n 0) e ∙ get_or-set_same (row_of t rows).free top (slice_index (row_of t rows).free top - 1) 0 (omega arith) in
+      let written = ap (λ n. get_or (set (stored_tenant t tenants).free top (slice_index (stored_tenant t tenants).free top - 1)) n 0) e ∙ get_or-set_same (stored_tenant t tenants).free top (slice_index (stored_tenant t tenants).free top - 1) 0 (omega arith) in
       let was = mine.free top (omega arith) in
       let change = change_at in
-      let same = ap (λ n. count_below (λ f. is_free top (held_by dropped) (taken_by top sheets (row_of t rows)) (block f n)) (length sheets * 2 ^ top)) e in
-      written ∙ (let now : slice_index (row_of t rows).free top - 1 ≡ count_below (λ f. is_free top (held_by dropped) (taken_by top sheets (row_of t rows)) (block f top)) (length sheets * 2 ^ top) = omega arith in now) ∙ sym same
+      let same = ap (λ n. count_below (λ f. is_free top (held_by dropped) (taken_by top superblocks (stored_tenant t tenants)) (block f n)) (length superblocks * 2 ^ top)) e in
+      written ∙ (let now : slice_index (stored_tenant t tenants).free top - 1 ≡ count_below (λ f. is_free top (held_by dropped) (taken_by top superblocks (stored_tenant t tenants)) (block f top)) (length superblocks * 2 ^ top) = omega arith in now) ∙ sym same
   counted k le (inr ne) =
-      get_or-set_other (row_of t rows).free top k (slice_index (row_of t rows).free top - 1) 0 ne
+      get_or-set_other (stored_tenant t tenants).free top k (slice_index (stored_tenant t tenants).free top - 1) 0 ne
       ∙ mine.free k le
-      ∙ sym (count_kept top (held_by (row_of t rows)) (held_by dropped) (taken_by top sheets (row_of t rows)) (taken_by top sheets (row_of t rows)) (slot * 2 ^ top) top top (length sheets)
-      (slot_out top (held_by (row_of t rows)) (held_by dropped) (taken_by top sheets (row_of t rows)) slot one) first_slot k (inl (omega arith)))
+      ∙ sym (count_kept top (held_by (stored_tenant t tenants)) (held_by dropped) (taken_by top superblocks (stored_tenant t tenants)) (taken_by top superblocks (stored_tenant t tenants)) (slot * 2 ^ top) top top (length superblocks)
+      (slot_out top (held_by (stored_tenant t tenants)) (held_by dropped) (taken_by top superblocks (stored_tenant t tenants)) slot one) first_slot k (inl (omega arith)))
 
-  shown : (v i : ℕ) → slot_of dropped v ≡ Some i → (v ≡ slot) ⊎ (v ≡ slot → ⊥) → Shows top (available_in top (set sheets m (blank_sheet top)) dropped v) (sheet_of i (set sheets m (blank_sheet top))).words
-  shown v i at (inl e) = absurd (none-some i (sym (ap (slot_of dropped) e ∙ slot_here) ∙ at))
+  shown : (v i : ℕ) → superblock_at dropped v ≡ Some i → (v ≡ slot) ⊎ (v ≡ slot → ⊥) → Shows top (available_in top (set superblocks m (bare_superblock top)) dropped v) (superblock_of i (set superblocks m (bare_superblock top))).tree.words
+  shown v i at (inl e) = absurd (none-some i (sym (ap (superblock_at dropped) e ∙ slot_here) ∙ at))
   shown v i at (inr ne) =
       let was = sym (slot_other v ne) ∙ at in
-      shows_other top sheets (row_of t rows) m slot (blank_sheet top) dropped step held_other v i ne was (mine.shows v i was)
+      shows_other top superblocks (stored_tenant t tenants) m slot (bare_superblock top) dropped step held_other v i ne was (mine.shows v i was)
 
-  within : (v i : ℕ) → slot_of dropped v ≡ Some i → (v ≡ slot) ⊎ (v ≡ slot → ⊥) → i < length sheets
-  within v i at (inl e) = absurd (none-some i (sym (ap (slot_of dropped) e ∙ slot_here) ∙ at))
+  within : (v i : ℕ) → superblock_at dropped v ≡ Some i → (v ≡ slot) ⊎ (v ≡ slot → ⊥) → i < length superblocks
+  within v i at (inl e) = absurd (none-some i (sym (ap (superblock_at dropped) e ∙ slot_here) ∙ at))
   within v i at (inr ne) = mine.within v i (sym (slot_other v ne) ∙ at)
 
-  fewer : (u : ℕ) → held_by (row_of t rows) u ≡ true → (u ≡ slot) ⊎ (u ≡ slot → ⊥) → (held_by dropped u ≡ true) ⊎ (HasTaken (taken_by top sheets (row_of t rows)) (slot_block top u) → ⊥)
-  fewer u e (inl same) = inr (subst (λ n. HasTaken (taken_by top sheets (row_of t rows)) (slot_block top n) → ⊥) (sym same) none_taken)
+  fewer : (u : ℕ) → held_by (stored_tenant t tenants) u ≡ true → (u ≡ slot) ⊎ (u ≡ slot → ⊥) → (held_by dropped u ≡ true) ⊎ (HasTaken (taken_by top superblocks (stored_tenant t tenants)) (slot_block top u) → ⊥)
+  fewer u e (inl same) = inr (subst (λ n. HasTaken (taken_by top superblocks (stored_tenant t tenants)) (slot_block top n) → ⊥) (sym same) none_taken)
   fewer u e (inr ne) = inl (held_other u ne ∙ e)
 
-  row_kept : IsRowKept top (set sheets m (blank_sheet top)) dropped
-  row_kept = record {
+  tenant_kept : IsTenantKept top (set superblocks m (bare_superblock top)) dropped
+  tenant_kept = record {
     sizes = record {
-      slots = length-set (row_of t rows).slots slot None ∙ mine.sizes.slots ∙ sym (length-set sheets m (blank_sheet top));
-      free = length-set (row_of t rows).free top (slice_index (row_of t rows).free top - 1) ∙ mine.sizes.free;
+      slots = length-set (stored_tenant t tenants).slots slot None ∙ mine.sizes.slots ∙ sym (length-set superblocks m (bare_superblock top));
+      free = length-set (stored_tenant t tenants).free top (slice_index (stored_tenant t tenants).free top - 1) ∙ mine.sizes.free;
       taken = mine.sizes.taken;
     };
-    within = λ v i at. subst (λ n. i < n) (sym (length-set sheets m (blank_sheet top))) (within v i at (cases_eq v slot));
-    sound = subst (λ (T : Taken). IsSound top (held_by dropped) T) (sym (taken_same top sheets (row_of t rows) m slot (blank_sheet top) dropped step))
-        (take_back_stays_sound top (held_by (row_of t rows)) (held_by dropped) (taken_by top sheets (row_of t rows)) mine.sound (λ u e. fewer u e (cases_eq u slot)));
+    within = λ v i at. subst (λ n. i < n) (sym (length-set superblocks m (bare_superblock top))) (within v i at (cases_eq v slot));
+    sound = subst (λ (T : Taken). IsSound top (held_by dropped) T) (sym (taken_same top superblocks (stored_tenant t tenants) m slot (bare_superblock top) dropped step))
+        (take_back_stays_sound top (held_by (stored_tenant t tenants)) (held_by dropped) (taken_by top superblocks (stored_tenant t tenants)) mine.sound (λ u e. fewer u e (cases_eq u slot)));
     shows = λ v i at. shown v i at (cases_eq v slot);
     free = λ k le. counted k le (cases_eq k top)
-        ∙ ap (λ (T : Taken). count_below (λ f. is_free top (held_by dropped) T (block f k)) (length sheets * 2 ^ top)) (sym (taken_same top sheets (row_of t rows) m slot (blank_sheet top) dropped step))
-        ∙ ap (λ n. count_below (λ f. is_free top (held_by dropped) (taken_by top (set sheets m (blank_sheet top)) dropped) (block f k)) (n * 2 ^ top)) (sym (length-set sheets m (blank_sheet top)));
-    taken = λ k le. mine.taken k le ∙ sym (taken_blocks_same top sheets (row_of t rows) m slot (blank_sheet top) dropped step k);
+        ∙ ap (λ (T : Taken). count_below (λ f. is_free top (held_by dropped) T (block f k)) (length superblocks * 2 ^ top)) (sym (taken_same top superblocks (stored_tenant t tenants) m slot (bare_superblock top) dropped step))
+        ∙ ap (λ n. count_below (λ f. is_free top (held_by dropped) (taken_by top (set superblocks m (bare_superblock top)) dropped) (block f k)) (n * 2 ^ top)) (sym (length-set superblocks m (bare_superblock top)));
+    taken = λ k le. mine.taken k le ∙ sym (taken_blocks_same top superblocks (stored_tenant t tenants) m slot (bare_superblock top) dropped step k);
   }
 
-  was : (u i : ℕ) → slot_of dropped u ≡ Some i → (u ≡ slot) ⊎ (u ≡ slot → ⊥) → slot_of (row_of t rows) u ≡ Some i
-  was u i at (inl e) = absurd (none-some i (sym (ap (slot_of dropped) e ∙ slot_here) ∙ at))
+  was : (u i : ℕ) → superblock_at dropped u ≡ Some i → (u ≡ slot) ⊎ (u ≡ slot → ⊥) → superblock_at (stored_tenant t tenants) u ≡ Some i
+  was u i at (inl e) = absurd (none-some i (sym (ap (superblock_at dropped) e ∙ slot_here) ∙ at))
   was u i at (inr ne) = sym (slot_other u ne) ∙ at
 
-  has : (u i : ℕ) → slot_of (row_of t rows) u ≡ Some i → (i ≡ m → ⊥) → (u ≡ slot) ⊎ (u ≡ slot → ⊥) → (w : ℕ) × (slot_of dropped w ≡ Some i)
-  has u i at ne (inl e) = absurd (ne (same_Some i m (sym at ∙ ap (slot_of (row_of t rows)) e ∙ here)))
+  has : (u i : ℕ) → superblock_at (stored_tenant t tenants) u ≡ Some i → (i ≡ m → ⊥) → (u ≡ slot) ⊎ (u ≡ slot → ⊥) → (w : ℕ) × (superblock_at dropped w ≡ Some i)
+  has u i at ne (inl e) = absurd (ne (same_Some i m (sym at ∙ ap (superblock_at (stored_tenant t tenants)) e ∙ here)))
   has u i at ne (inr off) = (u, slot_other u off ∙ at)
 
-  pub drop_change : HasSheetSizes top (blank_sheet top) → IsChange top sheets rows t m (blank_sheet top) dropped
-  drop_change sizes = record {
-    tenant = tenant;
+  pub drop_change : IsChange top superblocks tenants t m (bare_superblock top) dropped
+  drop_change = record {
+    listed = listed;
     superblock = m_lt;
-    sizes = sizes;
-    kept = row_kept;
+    order = refl;
+    kept = tenant_kept;
     others = λ v w ne at. ne (kept.apart v w t slot m at here).0;
     own = λ u w i a b. (kept.apart t u t w i (was u i a (cases_eq u slot)) (was w i b (cases_eq w slot))).1;
     had = λ u i at ne. (u, was u i at (cases_eq u slot));
@@ -191,5 +191,5 @@ module _ (top : ℕ) (sheets : List Sheet) (rows : List Row) (kept : IsKept top 
     left = λ gone. refl;
   }
 
-  pub drop_holding : holding_shown top (set sheets m (blank_sheet top)) dropped ≡ record (holding_shown top sheets (row_of t rows)) { slots = set (row_of t rows).slots slot None }
-  drop_holding = holding_same top sheets (row_of t rows) m slot (blank_sheet top) dropped step
+  pub drop_holding : holding_shown top (set superblocks m (bare_superblock top)) dropped ≡ record (holding_shown top superblocks (stored_tenant t tenants)) { slots = set (stored_tenant t tenants).slots slot None }
+  drop_holding = holding_same top superblocks (stored_tenant t tenants) m slot (bare_superblock top) dropped step

@@ -4,7 +4,7 @@ use Rattle.std.proofs.lemmas.List.{get_or-set_same, get_or-set_other, get_or_pas
 use Rattle.std.proofs.lemmas.Bool.{cases_eq, cases_lt}
 use Rattle.model_core.specs.Blocks.{with_taken, without_taken}
 use Rattle.buddy_core.specs.Content.{Holding, Content, holding_of, with_holding, taken_of, with_block, without_block}
-use Rattle.buddy_core.proofs.Steps.{changed_here, changed_other}
+use Rattle.buddy_core.proofs.BlockSteps.{changed_here, changed_other}
 
 pub own_holding : (t : ℕ) (h : Holding) (c : Content) → t < length c.tenants → holding_of t (with_holding t h c) ≡ h
 own_holding t h c here = get_or-set_same c.tenants t h _ here

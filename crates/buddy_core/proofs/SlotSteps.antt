@@ -9,13 +9,13 @@ use Rattle.model_core.specs.Choice.{is_available}
 use Rattle.model_core.specs.Numbered.{number_at}
 use Rattle.model_core.proofs.Halves.{clear_from}
 use Rattle.model_core.proofs.TakeOut.{TakesOut}
-use Rattle.model_core.proofs.Bridge.{number_is, number_first, available_is, available_tells, number_of_frame, same_slot}
+use Rattle.model_core.proofs.BlocksByNumber.{number_is, number_first, available_is, available_tells, number_of_frame, same_slot}
 use Rattle.model_core.proofs.FreeBlocks.{same_bool}
-use Rattle.buddy_core.specs.Content.{Holding, taken_blocks}
+use Rattle.buddy_core.specs.Content.{Holding, taken_block_count}
 use Rattle.buddy_core.specs.Tree.{Shows}
-use Rattle.buddy_core.specs.Stored.{Sheet, Row, sheet_of, slot_of, held_by, order_under, taken_by, holding_shown}
+use Rattle.buddy_core.specs.Stored.{StoredSuperblock, StoredTenant, superblock_of, superblock_at, held_by, order_under, taken_by, holding_shown}
 use Rattle.buddy_core.specs.Kept.{available_in}
-use Rattle.buddy_core.proofs.Shown.{bare_of}
+use Rattle.buddy_core.proofs.ContentShown.{bare_of}
 use Rattle.buddy_core.proofs.TreeSlots.{shows_same}
 
 -- `more` holds slot u too, and nothing is taken there
@@ -46,61 +46,61 @@ module _ (top : ℕ) (more fewer : ℕ → Bool) (taken : Taken) (u : ℕ) (one 
   }
 
 -- the slots of one tenant, with superblock m under slot u and without
-pub record IsSlotStep (top : ℕ) (sheets : List Sheet) (row : Row) (m u : ℕ) (s : Sheet) (row' : Row) : Type 0 where
-  pub inside : u < length row.slots
-  pub size : length row'.slots ≡ length row.slots
-  pub others : (v : ℕ) → (v ≡ u → ⊥) → slot_of row' v ≡ slot_of row v
-  pub apart : (v : ℕ) → (v ≡ u → ⊥) → slot_of row v ≡ Some m → ⊥
+pub record IsSlotStep (top : ℕ) (superblocks : List StoredSuperblock) (tenant : StoredTenant) (m u : ℕ) (s : StoredSuperblock) (tenant' : StoredTenant) : Type 0 where
+  pub inside : u < length tenant.slots
+  pub size : length tenant'.slots ≡ length tenant.slots
+  pub others : (v : ℕ) → (v ≡ u → ⊥) → superblock_at tenant' v ≡ superblock_at tenant v
+  pub apart : (v : ℕ) → (v ≡ u → ⊥) → superblock_at tenant v ≡ Some m → ⊥
   -- nothing begins in the slot, before and after
-  pub none_before : (g : ℕ) → g / 2 ^ top ≡ u → taken_by top sheets row g ≡ None
-  pub none_after : (g : ℕ) → g / 2 ^ top ≡ u → taken_by top (set sheets m s) row' g ≡ None
+  pub none_before : (g : ℕ) → g / 2 ^ top ≡ u → taken_by top superblocks tenant g ≡ None
+  pub none_after : (g : ℕ) → g / 2 ^ top ≡ u → taken_by top (set superblocks m s) tenant' g ≡ None
 
-module _ (top : ℕ) (sheets : List Sheet) (row : Row) (m u : ℕ) (s : Sheet) (row' : Row) (step : IsSlotStep top sheets row m u s row') where
-  found : (g : ℕ) → (g / 2 ^ top ≡ u) ⊎ (g / 2 ^ top ≡ u → ⊥) → taken_by top (set sheets m s) row' g ≡ taken_by top sheets row g
+module _ (top : ℕ) (superblocks : List StoredSuperblock) (tenant : StoredTenant) (m u : ℕ) (s : StoredSuperblock) (tenant' : StoredTenant) (step : IsSlotStep top superblocks tenant m u s tenant') where
+  found : (g : ℕ) → (g / 2 ^ top ≡ u) ⊎ (g / 2 ^ top ≡ u → ⊥) → taken_by top (set superblocks m s) tenant' g ≡ taken_by top superblocks tenant g
   found g (inl e) = step.none_after g e ∙ sym (step.none_before g e)
-  found g (inr ne) = ap (λ o. order_under (set sheets m s) o (g % 2 ^ top)) (step.others (g / 2 ^ top) ne) ∙ go (slot_of row (g / 2 ^ top)) refl
+  found g (inr ne) = ap (λ o. order_under (set superblocks m s) o (g % 2 ^ top)) (step.others (g / 2 ^ top) ne) ∙ go (superblock_at tenant (g / 2 ^ top)) refl
     where
-      go : (o : Option ℕ) → slot_of row (g / 2 ^ top) ≡ o → order_under (set sheets m s) (slot_of row (g / 2 ^ top)) (g % 2 ^ top) ≡ order_under sheets (slot_of row (g / 2 ^ top)) (g % 2 ^ top)
-      go None e = ap (λ o. order_under (set sheets m s) o (g % 2 ^ top)) e ∙ sym (ap (λ o. order_under sheets o (g % 2 ^ top)) e)
+      go : (o : Option ℕ) → superblock_at tenant (g / 2 ^ top) ≡ o → order_under (set superblocks m s) (superblock_at tenant (g / 2 ^ top)) (g % 2 ^ top) ≡ order_under superblocks (superblock_at tenant (g / 2 ^ top)) (g % 2 ^ top)
+      go None e = ap (λ o. order_under (set superblocks m s) o (g % 2 ^ top)) e ∙ sym (ap (λ o. order_under superblocks o (g % 2 ^ top)) e)
       go (Some i) e =
-          ap (λ o. order_under (set sheets m s) o (g % 2 ^ top)) e
-          ∙ ap (λ (z : Sheet). get_or z.orders (g % 2 ^ top) None) (get_or-set_other sheets m i s bare_of (λ same. step.apart (g / 2 ^ top) ne (e ∙ ap Some same)))
-          ∙ sym (ap (λ o. order_under sheets o (g % 2 ^ top)) e)
+          ap (λ o. order_under (set superblocks m s) o (g % 2 ^ top)) e
+          ∙ ap (λ (z : StoredSuperblock). get_or z.orders (g % 2 ^ top) None) (get_or-set_other superblocks m i s bare_of (λ same. step.apart (g / 2 ^ top) ne (e ∙ ap Some same)))
+          ∙ sym (ap (λ o. order_under superblocks o (g % 2 ^ top)) e)
 
   -- no taken block comes or goes
-  pub taken_same : taken_by top (set sheets m s) row' ≡ taken_by top sheets row
+  pub taken_same : taken_by top (set superblocks m s) tenant' ≡ taken_by top superblocks tenant
   taken_same = λ i g. found g (cases_eq (g / 2 ^ top) u) i
 
-  pub holding_same : holding_shown top (set sheets m s) row' ≡ record (holding_shown top sheets row) { slots = row'.slots }
+  pub holding_same : holding_shown top (set superblocks m s) tenant' ≡ record (holding_shown top superblocks tenant) { slots = tenant'.slots }
   holding_same =
-      ap (λ (taken : Taken). held_from (map taken (range_with_len 0 (length row'.slots * 2 ^ top)))) taken_same
-      ∙ ap (λ n. held_from (map (taken_by top sheets row) (range_with_len 0 (n * 2 ^ top)))) step.size
+      ap (λ (taken : Taken). held_from (map taken (range_with_len 0 (length tenant'.slots * 2 ^ top)))) taken_same
+      ∙ ap (λ n. held_from (map (taken_by top superblocks tenant) (range_with_len 0 (n * 2 ^ top)))) step.size
     where
       held_from : List (Option ℕ) → Holding
-      held_from b = record { slots = row'.slots; taken = b }
+      held_from b = record { slots = tenant'.slots; taken = b }
 
-  pub taken_blocks_same : (k : ℕ) → taken_blocks k (holding_shown top (set sheets m s) row') ≡ taken_blocks k (holding_shown top sheets row)
-  taken_blocks_same k = ap (taken_blocks k) holding_same
+  pub taken_blocks_same : (k : ℕ) → taken_block_count k (holding_shown top (set superblocks m s) tenant') ≡ taken_block_count k (holding_shown top superblocks tenant)
+  taken_blocks_same k = ap (taken_block_count k) holding_same
 
   -- an untouched slot shows what it showed
-  module _ (same_held : (v : ℕ) → (v ≡ u → ⊥) → held_by row' v ≡ held_by row v) where
-    pub shows_other : (v i : ℕ) → (v ≡ u → ⊥) → slot_of row v ≡ Some i → Shows top (available_in top sheets row v) (sheet_of i sheets).words
-        → Shows top (available_in top (set sheets m s) row' v) (sheet_of i (set sheets m s)).words
+  module _ (same_held : (v : ℕ) → (v ≡ u → ⊥) → held_by tenant' v ≡ held_by tenant v) where
+    pub shows_other : (v i : ℕ) → (v ≡ u → ⊥) → superblock_at tenant v ≡ Some i → Shows top (available_in top superblocks tenant v) (superblock_of i superblocks).tree.words
+        → Shows top (available_in top (set superblocks m s) tenant' v) (superblock_of i (set superblocks m s)).tree.words
     shows_other v i ne at shows =
-        subst (λ (T : Taken). Shows top (λ y. is_available top (held_by row') T (v * 2 ^ top + y)) (sheet_of i (set sheets m s)).words) (sym taken_same)
-        (subst (λ (z : Sheet). Shows top (λ y. is_available top (held_by row') (taken_by top sheets row) (v * 2 ^ top + y)) z.words)
-        (sym (get_or-set_other sheets m i s bare_of (λ same. step.apart v ne (at ∙ ap Some same))))
-        (shows_same _ _ top (sheet_of i sheets).words shows agree))
+        subst (λ (T : Taken). Shows top (λ y. is_available top (held_by tenant') T (v * 2 ^ top + y)) (superblock_of i (set superblocks m s)).tree.words) (sym taken_same)
+        (subst (λ (z : StoredSuperblock). Shows top (λ y. is_available top (held_by tenant') (taken_by top superblocks tenant) (v * 2 ^ top + y)) z.tree.words)
+        (sym (get_or-set_other superblocks m i s bare_of (λ same. step.apart v ne (at ∙ ap Some same))))
+        (shows_same _ _ top (superblock_of i superblocks).tree.words shows agree))
       where
-        agree : (y : ℕ) → y < 2 ^ top → is_available top (held_by row) (taken_by top sheets row) (v * 2 ^ top + y) ≡ is_available top (held_by row') (taken_by top sheets row) (v * 2 ^ top + y)
+        agree : (y : ℕ) → y < 2 ^ top → is_available top (held_by tenant) (taken_by top superblocks tenant) (v * 2 ^ top + y) ≡ is_available top (held_by tenant') (taken_by top superblocks tenant) (v * 2 ^ top + y)
         agree y lt =
             let slot = div-mul-add v (2 ^ top) y lt in
             let held_same = same_held v ne in
             same_bool _ _
-            (λ e. let both = available_tells top (held_by row) (taken_by top sheets row) (v * 2 ^ top + y) e in
-            available_is top (held_by row') (taken_by top sheets row) (v * 2 ^ top + y) (ap (held_by row') slot ∙ held_same ∙ ap (held_by row) (sym slot) ∙ both.0) both.1)
-            (λ e. let both = available_tells top (held_by row') (taken_by top sheets row) (v * 2 ^ top + y) e in
-            available_is top (held_by row) (taken_by top sheets row) (v * 2 ^ top + y) (ap (held_by row) slot ∙ sym held_same ∙ ap (held_by row') (sym slot) ∙ both.0) both.1)
+            (λ e. let both = available_tells top (held_by tenant) (taken_by top superblocks tenant) (v * 2 ^ top + y) e in
+            available_is top (held_by tenant') (taken_by top superblocks tenant) (v * 2 ^ top + y) (ap (held_by tenant') slot ∙ held_same ∙ ap (held_by tenant) (sym slot) ∙ both.0) both.1)
+            (λ e. let both = available_tells top (held_by tenant') (taken_by top superblocks tenant) (v * 2 ^ top + y) e in
+            available_is top (held_by tenant) (taken_by top superblocks tenant) (v * 2 ^ top + y) (ap (held_by tenant) slot ∙ sym held_same ∙ ap (held_by tenant') (sym slot) ∙ both.0) both.1)
 
 -- a taken block of a sound tenant with a frame in a slot begins there
 pub begins_in : (top : ℕ) (held : ℕ → Bool) (taken : Taken) → IsSound top held taken → (x u : ℕ) → x / 2 ^ top ≡ u → IsTaken taken x → (g k : ℕ) × (g / 2 ^ top ≡ u) × (taken g ≡ Some k) × (held u ≡ true)

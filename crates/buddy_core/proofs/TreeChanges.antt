@@ -2,16 +2,21 @@
 use Rattle.std.proofs.Common.{◌≡◌, ℕ, zero, suc, ◌+◌, ◌-◌, ◌*◌, ◌/◌, ◌^◌, ◌<◌, ◌≤◌, Bool, true, false, cond, List, length, get_or, set, length-set, ◌⊎◌, inl, inr, refl, sym, ap, ap₂, subst, ◌∙◌, arith}
 use Rattle.std.specs.Prelude.{bit_or}
 use Rattle.std.proofs.lemmas.Bool.{and_from, both_ways, cases_eq, cases_lt, cond-true, cond-false, false_from_ne_true}
-use Rattle.std.proofs.lemmas.List.{set-get_or}
+use Rattle.std.proofs.lemmas.List.{set-get_or, get_or-replicate, length-replicate}
 use Rattle.std.proofs.lemmas.Nat.{pow_pos}
 use Rattle.std.proofs.Math.Nat.{pow-suc}
 use Rattle.model_core.specs.Numbered.{number_at, is_clear, IsOpen}
+use Rattle.buddy_core.specs.Stored.{bare_tree}
 use Rattle.buddy_core.specs.Tree.{orders, word, word_at, Shows, IsWith, IsLess, Mended, IsConfined}
 use Rattle.model_core.proofs.Halves.{clear_same, clear_from}
 use Rattle.buddy_core.proofs.TreeNumbers.{halves, number_above, number_below, half_clear, inside_clear, frame_not_clear}
 use Rattle.buddy_core.proofs.TreeOrders.{orders_clear, orders_halves, orders_none, orders_same, orders_whole, word_whole, word_inside}
 use Rattle.buddy_core.proofs.TreeNodes.{node_stored, word_at-set_same, word_at-set_other, far_whole, far_half}
 use Rattle.buddy_core.proofs.TreeMends.{Climbs, inside_with, around_with, away, climbs, climbs_split, climbs_join, shows_mended}
+
+-- a bare tree has a word for each node
+pub bare_size : (top : ℕ) → length (bare_tree top).words + 1 ≡ 2 ^ (top + 1)
+bare_size top = let size = length-replicate {A = ℕ} (2 ^ (top + 1) - 1) 0 in let some = pow_pos (top + 1) in omega arith
 
 -- inside a block that is taken whole, or strictly inside one that is free whole, all words are 0
 zero_either : (b : Bool) (n : ℕ) → n ≡ 0 → cond b 0 n ≡ 0
@@ -238,15 +243,6 @@ release_confined top order joined f small large le less free = record {
   after = λ i up lt. split_up large top joined i f free up lt;
 }
 
--- the other half of a block that is made available, by its word
-other_word : (top order k f d : ℕ) (small large : ℕ → Bool) (words : List ℕ) → f < 2 ^ top → d + suc k ≡ top → order ≤ k → IsLess small large order f
-    → Mended top k f small large words → (r : ℕ) → r + number_at k f ≡ 4 * number_at (suc k) f + 1 → word_at words (suc d) r ≡ orders large k r
-other_word top order k f d small large words b s le less m r pair =
-    let p = number_at (suc k) f in
-    let below : p < 2 ^ d = number_below d (suc k) f (subst (λ j. f < 2 ^ j) (sym s) b) in
-    halves_stand top k f d small large words s (agree_above small large order (k - order) k f (omega arith) less.kept) m
-    (frame_not_clear small (suc k) f (less.gone f refl)) r (omega arith) (omega (arith, pow-suc 2 d))
-
 changed_clear : (top k f d : ℕ) (small large : ℕ → Bool) (words : List ℕ) → f < 2 ^ top → length words + 1 ≡ 2 ^ (top + 1) → d + k ≡ top
     → (n : ℕ) → n ≡ 2 ^ d + number_at k f → Mended top k f small large (set words (n - 1) (2 ^ k)) → is_clear large k (number_at k f) ≡ true
 changed_clear top k f d small large words b size s n node m =
@@ -255,82 +251,69 @@ changed_clear top k f d small large words b size s n node m =
     orders_whole large k (number_at k f) (sym (word_changed top k f d small large _ b s m)
     ∙ word_at-set_same words (n - 1) (2 ^ k) d (number_at k f) (omega (arith, pow_pos d)) (omega (arith, pow_pos d)))
 
--- with a buddy that is one free block it is one free block, and the words inside are 0
-pub release_join : (top order k f d : ℕ) (small large : ℕ → Bool) (words : List ℕ) → f < 2 ^ top → length words + 1 ≡ 2 ^ (top + 1) → d + suc k ≡ top
-    → order ≤ k → IsLess small large order f → (m r : ℕ) → m ≡ 2 ^ suc d + number_at k f → r + number_at k f ≡ 4 * number_at (suc k) f + 1
-    → Mended top k f small large (set words (m - 1) (2 ^ k)) → (i n : ℕ) → i + 1 ≡ 2 ^ suc d + r → get_or words i 0 ≡ 2 ^ k → n ≡ 2 ^ d + number_at (suc k) f
-    → Mended top (suc k) f small large (set (set (set words i 0) (m - 1) 0) (n - 1) (2 ^ suc k))
-release_join top order k f d small large words b size s le less m r there pair mended i n here free node =
-    let p = number_at (suc k) f in
-    let below : p < 2 ^ d = number_below d (suc k) f (subst (λ j. f < 2 ^ j) (sym s) b) in
-    let stored = node_stored top (suc d) k (2 * p + 1) words size (omega arith) (omega (arith, pow-suc 2 d)) in
-    let some = pow_pos d in
-    let other : orders large k r ≡ 2 ^ k
-    = sym (other_word top order k f d small large _ b s le less mended r pair)
-    ∙ word_at-set_other words (m - 1) (2 ^ k) (suc d) r (λ x. omega arith) ∙ ap (λ j. get_or words j 0) (let e : 2 ^ suc d + r - 1 ≡ i = omega arith in e) ∙ free in
-    let clear = both (halves p (number_at k f) refl) (changed_clear top k f (suc d) small large words b size (omega arith) m there mended) (orders_whole large k r other) in
-    climbs top k f d small large (set words (m - 1) (2 ^ k)) _ s (agree_above small large order (k - order) k f (omega arith) less.kept) mended
-    (climbs_join d k p (number_at k f) r n i (m - 1) (2 ^ k) large words node below (omega (arith, pow-suc 2 d)) refl pair here (omega arith) clear)
-  where
-    both : (number_at k f ≡ 2 * number_at (suc k) f) ⊎ (number_at k f ≡ 2 * number_at (suc k) f + 1) → is_clear large k (number_at k f) ≡ true → is_clear large k r ≡ true
-        → is_clear large (suc k) (number_at (suc k) f) ≡ true
-    both (inl low) a c = and_from _ _ (subst (λ j. is_clear large k j ≡ true) low a) (subst (λ j. is_clear large k j ≡ true) (let e : r ≡ 2 * number_at (suc k) f + 1 = omega arith in e) c)
-    both (inr high) a c = and_from _ _ (subst (λ j. is_clear large k j ≡ true) (let e : r ≡ 2 * number_at (suc k) f = omega arith in e) c) (subst (λ j. is_clear large k j ≡ true) high a)
+-- one step up from node m of the block of order k, which is made available; r is the number of its other half, whose word stands at i
+module _ (top order k f d : ℕ) (small large : ℕ → Bool) (words : List ℕ) (b : f < 2 ^ top) (size : length words + 1 ≡ 2 ^ (top + 1)) (s : d + suc k ≡ top)
+    (le : order ≤ k) (less : IsLess small large order f) (m r : ℕ) (there : m ≡ 2 ^ suc d + number_at k f) (pair : r + number_at k f ≡ 4 * number_at (suc k) f + 1)
+    (mended : Mended top k f small large (set words (m - 1) (2 ^ k))) (i : ℕ) (here : i + 1 ≡ 2 ^ suc d + r) where
+  below : number_at (suc k) f < 2 ^ d
+  below = number_below d (suc k) f (subst (λ j. f < 2 ^ j) (sym s) b)
 
--- with another it is a free block of its own
-pub release_open : (top order k f d : ℕ) (small large : ℕ → Bool) (words : List ℕ) → f < 2 ^ top → length words + 1 ≡ 2 ^ (top + 1) → d + suc k ≡ top
-    → order ≤ k → IsLess small large order f → (m r : ℕ) → m ≡ 2 ^ suc d + number_at k f → r + number_at k f ≡ 4 * number_at (suc k) f + 1
-    → Mended top k f small large (set words (m - 1) (2 ^ k)) → (i : ℕ) → i + 1 ≡ 2 ^ suc d + r → (get_or words i 0 ≡ 2 ^ k → ⊥)
-    → IsOpen large top k (number_at k f)
-release_open top order k f d small large words b size s le less m r there pair mended i here ne =
-    let p = number_at (suc k) f in
-    let some = pow_pos d in (
-      omega arith,
-      changed_clear top k f (suc d) small large words b size (omega arith) m there mended,
-      inr (false_from_ne_true _ (λ t. ne
-          (ap (λ j. get_or words j 0) (let e : i ≡ 2 ^ suc d + r - 1 = omega arith in e)
-          ∙ sym (word_at-set_other words (m - 1) (2 ^ k) (suc d) r (λ x. omega arith))
-          ∙ other_word top order k f d small large _ b s le less mended r pair
-          ∙ orders_clear large k r (half_clear large k p r t (omega arith))))),
-    )
+  agree : (x : ℕ) → (IsWith k f x → ⊥) → small x ≡ large x
+  agree = agree_above small large order (k - order) k f (omega arith) less.kept
+
+  -- the word of the other half
+  other_word : get_or words i 0 ≡ orders large k r
+  other_word =
+      let lt = below in
+      ap (λ j. get_or words j 0) (let e : i ≡ 2 ^ suc d + r - 1 = omega arith in e)
+      ∙ sym (word_at-set_other words (m - 1) (2 ^ k) (suc d) r (λ x. omega (arith, pow_pos d)))
+      ∙ halves_stand top k f d small large _ s agree mended (frame_not_clear small (suc k) f (less.gone f refl)) r (omega arith) (omega (arith, pow-suc 2 d))
+
+  clear_here : is_clear large k (number_at k f) ≡ true
+  clear_here = changed_clear top k f (suc d) small large words b size (omega arith) m there mended
+
+  -- with a buddy that is one free block it is one free block, and the words inside are 0
+  pub release_join : (n : ℕ) → get_or words i 0 ≡ 2 ^ k → n ≡ 2 ^ d + number_at (suc k) f
+      → Mended top (suc k) f small large (set (set (set words i 0) (m - 1) 0) (n - 1) (2 ^ suc k))
+  release_join n free node =
+      let lt = below in
+      let stored = node_stored top (suc d) k (2 * number_at (suc k) f + 1) words size (omega arith) (omega (arith, pow-suc 2 d)) in
+      let some = pow_pos d in
+      climbs top k f d small large (set words (m - 1) (2 ^ k)) _ s agree mended
+      (climbs_join d k (number_at (suc k) f) (number_at k f) r n i (m - 1) (2 ^ k) large words node below (omega (arith, pow-suc 2 d)) refl pair here (omega arith)
+      (both (halves (number_at (suc k) f) (number_at k f) refl) clear_here (orders_whole large k r (sym other_word ∙ free))))
+    where
+      both : (number_at k f ≡ 2 * number_at (suc k) f) ⊎ (number_at k f ≡ 2 * number_at (suc k) f + 1) → is_clear large k (number_at k f) ≡ true → is_clear large k r ≡ true
+          → is_clear large (suc k) (number_at (suc k) f) ≡ true
+      both (inl low) a c = and_from _ _ (subst (λ j. is_clear large k j ≡ true) low a) (subst (λ j. is_clear large k j ≡ true) (let e : r ≡ 2 * number_at (suc k) f + 1 = omega arith in e) c)
+      both (inr high) a c = and_from _ _ (subst (λ j. is_clear large k j ≡ true) (let e : r ≡ 2 * number_at (suc k) f = omega arith in e) c) (subst (λ j. is_clear large k j ≡ true) high a)
+
+  -- with another it is a free block of its own
+  pub release_open : (get_or words i 0 ≡ 2 ^ k → ⊥) → IsOpen large top k (number_at k f)
+  release_open ne =
+      (omega arith, clear_here, inr (false_from_ne_true _ (λ t. ne (other_word ∙ orders_clear large k r (half_clear large k (number_at (suc k) f) r t (omega arith))))))
 
 pub release_whole : (top f : ℕ) (small large : ℕ → Bool) (words : List ℕ) → f < 2 ^ top → length words + 1 ≡ 2 ^ (top + 1)
     → (m : ℕ) → m ≡ 2 ^ 0 + number_at top f → Mended top top f small large (set words (m - 1) (2 ^ top)) → IsOpen large top top (number_at top f)
 release_whole top f small large words b size m there mended =
     (omega arith, changed_clear top top f 0 small large words b size (omega arith) m there mended, inl refl)
 
--- where the node of the block at one order stands, and its parent
-pub record Stands (top k f d node : ℕ) (words : List ℕ) : Type 0 where
-  pub inside : 1 < node
-  pub parent : node / 2 ≡ 2 ^ d + number_at (suc k) f
-  pub halves : 2 * (node / 2) < length words
-  pub other : (r : ℕ) → r + node ≡ 4 * (node / 2) + 1 → r ≡ 2 ^ suc d + (4 * number_at (suc k) f + 1 - number_at k f)
-
-pub stands : (top k f d node : ℕ) (words : List ℕ) → f < 2 ^ top → length words + 1 ≡ 2 ^ (top + 1) → d + suc k ≡ top
-    → node ≡ 2 ^ suc d + number_at k f → Stands top k f d node words
-stands top k f d node words b size s e =
-    let p = number_at (suc k) f in
-    let small : p < 2 ^ d = number_below d (suc k) f (subst (λ j. f < 2 ^ j) (sym s) b) in
-    let high = node_stored top (suc d) k (2 * p + 1) words size (omega arith) (omega (arith, pow-suc 2 d)) in
-    record {
-      inside = omega (arith, pow-suc 2 d, pow_pos d);
-      parent = omega (arith, pow-suc 2 d);
-      halves = omega (arith, pow-suc 2 d);
-      other = λ r h. omega (arith, pow-suc 2 d);
-    }
-
--- a table of zeros shows a superblock of which no frame is available
-pub shows_none : (top : ℕ) (words : List ℕ) → length words + 1 ≡ 2 ^ (top + 1) → ((i : ℕ) → i < length words → get_or words i 0 ≡ 0) → Shows top (λ _. false) words
-shows_none top words size zeros = record {
+-- the words of a bare tree show a superblock of which no frame is available
+pub shows_none : (top : ℕ) → Shows top (λ _. false) (bare_tree top).words
+shows_none top = record {
   size = size;
   each = λ d k q s b.
-      let stored = node_stored top d k q words size s b in
-      zeros (2 ^ d + q - 1) (omega (arith, pow_pos d)) ∙ sym (zero_either _ _ (orders_none (λ _. false) k q (λ x h. refl)));
+      let stored = node_stored top d k q (bare_tree top).words size s b in
+      get_or-replicate (2 ^ (top + 1) - 1) (2 ^ d + q - 1) 0 0 (omega (arith, length-replicate {A = ℕ} (2 ^ (top + 1) - 1) 0, pow_pos d))
+      ∙ sym (zero_either _ _ (orders_none (λ _. false) k q (λ x h. refl)));
 }
+  where
+    size : length (bare_tree top).words + 1 ≡ 2 ^ (top + 1)
+    size = bare_size top
 
 -- with the first word set it shows a superblock of which every frame is
-pub shows_all : (top : ℕ) (words : List ℕ) → Shows top (λ _. false) words → (n : ℕ) → n ≡ 2 ^ top → Shows top (λ _. true) (set words 0 n)
-shows_all top words shows n e =
+pub shows_all : (top : ℕ) (words : List ℕ) (n : ℕ) → words ≡ (bare_tree top).words → n ≡ 2 ^ top → Shows top (λ _. true) (set words 0 n)
+shows_all top words n bare e =
     let some = pow_pos top in
     let len : length (set words 0 n) ≡ length words = length-set words 0 n in
     let size = shows.size in
@@ -339,6 +322,9 @@ shows_all top words shows n e =
       each = λ d k q s b. go d k q s b;
     }
   where
+    shows : Shows top (λ _. false) words
+    shows = subst (λ (ws : List ℕ). Shows top (λ _. false) ws) (sym bare) (shows_none top)
+
     go : (d k q : ℕ) → d + k ≡ top → q < 2 ^ d → word_at (set words 0 n) d q ≡ word (λ _. true) top k q
     go zero k q s b =
         let whole : k ≡ top = omega arith in

@@ -1,10 +1,12 @@
 -- The stored words by depth and number of the block, and what a write to one leaves.
-use Rattle.std.proofs.Common.{◌≡◌, ℕ, suc, ◌+◌, ◌-◌, ◌*◌, ◌/◌, ◌^◌, ◌<◌, ◌≤◌, List, length, get_or, set, inl, inr, ap, subst, ◌∙◌, arith}
+use Rattle.std.proofs.Common.{◌≡◌, ℕ, suc, ◌+◌, ◌-◌, ◌*◌, ◌/◌, ◌^◌, ◌<◌, ◌≤◌, ◌++◌, List, length, take, get_or, set, inl, inr, ap, subst, ◌∙◌, arith}
 use Rattle.std.proofs.lemmas.Bool.{cases_order}
 use Rattle.std.proofs.lemmas.Nat.{pow_pos}
 use Rattle.std.proofs.lemmas.List.{get_or-set_same, get_or-set_other}
 use Rattle.std.proofs.Math.Nat.{pow-suc}
 use Rattle.std.proofs.Math.Pow.{pow_mono}
+use Rattle.std.proofs.Math.Seq.{take-append_seam}
+use Rattle.buddy_core.specs.Stored.{StoredTree, IsTree}
 use Rattle.buddy_core.specs.Tree.{word_at}
 
 -- a node at a depth has a number of its own
@@ -49,3 +51,11 @@ far_whole d p n e q s b h off t = let both = node_apart e d q p h b (omega arith
 pub far_half : (d p r n e q : ℕ) → n ≡ 2 ^ suc d + r → r / 2 ≡ p → p < 2 ^ d → q < 2 ^ e → (e ≡ suc d → q / 2 ≡ p → ⊥) → 2 ^ e + q ≡ n → ⊥
 far_half d p r n e q s a b h off t =
     let both = node_apart e (suc d) q r h (half_small d p r a b) (omega arith) in off both.0 (ap (λ i. i / 2) both.1 ∙ a)
+
+-- a tree of the program is one whatever is known of its value
+pub tree_is : (order : ℕ) (words : List ℕ) (tree : StoredTree) → record { order = order; words = words } ≡ tree → IsTree order words → IsTree tree.order tree.words
+tree_is order words tree e is = subst (λ (t : StoredTree). IsTree t.order t.words) e is
+
+-- what a slice of the whole list leaves in it
+pub written_back : (words rest : List ℕ) (len : ℕ) → len ≡ length words → take len (words ++ rest) ≡ words
+written_back words rest len e = ap (λ n. take n (words ++ rest)) e ∙ take-append_seam words rest

@@ -5,7 +5,7 @@ use Rattle.std.proofs.lemmas.Nat.{shr_below, div_below, pow_pos}
 use Rattle.std.proofs.Math.Nat.{pow-suc}
 use Rattle.model_core.specs.Numbered.{number_at, is_clear}
 use Rattle.model_core.proofs.Halves.{clear_at}
-use Rattle.model_core.proofs.Bridge.{number_is}
+use Rattle.model_core.proofs.BlocksByNumber.{number_is}
 
 -- a number is one of the two that halve to its half
 pub halves : (p q : ℕ) → q / 2 ≡ p → (q ≡ 2 * p) ⊎ (q ≡ 2 * p + 1)

@@ -8,7 +8,7 @@ use Rattle.std.proofs.Math.Nat.{pow-suc}
 use Rattle.std.proofs.Math.Pow.{pow_mono}
 use Rattle.model_core.specs.Numbered.{number_at, is_clear, IsOpen}
 use Rattle.buddy_core.specs.Tree.{orders, Shows, HasOpen, IsLeast}
-use Rattle.model_core.proofs.Bridge.{number_is}
+use Rattle.model_core.proofs.BlocksByNumber.{number_is}
 use Rattle.buddy_core.proofs.TreeOrders.{orders_clear, orders_halves, bit_apart, either_bit, orders_tell, orders_told, word_whole, word_inside}
 use Rattle.buddy_core.proofs.TreeNodes.{low_node}
 
@@ -160,3 +160,7 @@ reached_first top j d words e =
       depth = omega arith;
       leads = λ ok shows root. subst (λ i. Leads ok top j i 0) (let whole : top ≡ top - 0 = omega arith in whole) (leads_first ok top j words shows root);
     })
+
+-- the last step down is at the order looked for
+pub reached_last : (top j level n : ℕ) (words : List ℕ) → level ≡ top → Reached top j (level - j) n words → Reached top j (top - j) n words
+reached_last top j level n words e way = subst (λ i. Reached top j (i - j) n words) e way

@@ -3,32 +3,19 @@ use Rattle.std.proofs.Common.{◌≡◌, ℕ, suc, ◌+◌, ◌-◌, ◌*◌, �
 use Rattle.std.specs.Prelude.{bit_or}
 use Rattle.std.proofs.lemmas.Nat.{pow_pos}
 use Rattle.std.proofs.Math.Nat.{pow-suc}
-use Rattle.std.proofs.Math.Pow.{pow_mono}
 use Rattle.model_core.specs.Numbered.{number_at, IsOpen}
-use Rattle.buddy_core.specs.Tree.{word_at, Shows, IsLess, Mended, IsConfined}
+use Rattle.buddy_core.specs.Tree.{word_at, Shows, IsLess, Mended, IsConfined, IsNode}
 use Rattle.buddy_core.proofs.TreeNumbers.{number_below}
-use Rattle.buddy_core.proofs.TreeNodes.{node_stored}
+use Rattle.buddy_core.proofs.TreeNodes.{node_below}
 use Rattle.buddy_core.proofs.TreeChanges.{confined_up, climb_step, climb_stop, reserve_split, release_join, release_open}
 
--- where the node of the block of order k around frame f is stored
-pub record IsPlaced (top k f node : ℕ) (words : List ℕ) : Type 0 where
-  pub size : length words + 1 ≡ 2 ^ (top + 1)
-  pub few : length words < 512
-  pub at : (d : ℕ) → d + k ≡ top → node ≡ 2 ^ d + number_at k f
-  pub some : 0 < node
-  pub stored : node ≤ length words
-  pub inner : k < top → 1 < node
-  pub half : k < top → 2 * (node / 2) < length words
-
-pub placed : (top k f node : ℕ) (words : List ℕ) → top ≤ 8 → k ≤ top → f < 2 ^ top → length words + 1 ≡ 2 ^ (top + 1) → node ≡ 2 ^ (top - k) + number_at k f
-    → IsPlaced top k f node words
-placed top k f node words small le b size e =
+-- the node of a block of the superblock
+pub node_is : (top k f node : ℕ) → k ≤ top → f < 2 ^ top → node ≡ 2 ^ (top - k) + number_at k f → IsNode top k f node
+node_is top k f node le b e =
+    let below = number_below (top - k) k f (subst (λ j. f < 2 ^ j) (let s : top ≡ top - k + k = omega arith in s) b) in
+    let stored = node_below top (top - k) k (number_at k f) (omega arith) below in
     let some = pow_pos (top - k) in
-    let stored = node_stored top (top - k) k (number_at k f) words size (omega arith) (number_below (top - k) k f (subst (λ j. f < 2 ^ j) (let s : top ≡ top - k + k = omega arith in s) b)) in
-    let few = pow_mono {i = top + 1} {j = 9} (omega arith) in
     record {
-      size = size;
-      few = omega arith;
       at = λ d s. subst (λ j. node ≡ 2 ^ j + number_at k f) (let t : top - k ≡ d = omega arith in t) e;
       some = omega arith;
       stored = omega arith;
@@ -36,15 +23,15 @@ placed top k f node words small le b size e =
       half = λ lt. (deep lt).1;
     }
   where
-    deep : k < top → (1 < node) × (2 * (node / 2) < length words)
+    deep : k < top → (1 < node) × (2 * (node / 2) + 1 < 2 ^ (top + 1))
     deep lt =
         let d = top - suc k in
         let is : node ≡ 2 ^ suc d + number_at k f = subst (λ j. node ≡ 2 ^ j + number_at k f) (let t : top - k ≡ suc d = omega arith in t) e in
         let below : number_at (suc k) f < 2 ^ d = number_below d (suc k) f (subst (λ j. f < 2 ^ j) (let s : top ≡ d + suc k = omega arith in s) b) in
-        let high = node_stored top (suc d) k (2 * number_at (suc k) f + 1) words size (omega arith) (omega (arith, pow-suc 2 d)) in
+        let high = node_below top (suc d) k (2 * number_at (suc k) f + 1) (omega arith) (omega (arith, pow-suc 2 d)) in
         (omega (arith, pow-suc 2 d, pow_pos d), omega (arith, pow-suc 2 d))
 
-module _ (top k f node : ℕ) (words : List ℕ) (small : top ≤ 8) (b : f < 2 ^ top) (lt : k < top) (at : IsPlaced top k f node words) where
+module _ (top k f node : ℕ) (b : f < 2 ^ top) (lt : k < top) (at : IsNode top k f node) where
   depth : ℕ
   depth = top - suc k
 
@@ -58,17 +45,15 @@ module _ (top k f node : ℕ) (words : List ℕ) (small : top ≤ 8) (b : f < 2 
   up : node / 2 ≡ 2 ^ depth + number_at (suc k) f
   up = let e = is in omega (arith, pow-suc 2 depth)
 
-  -- after the step, whatever was written
-  pub placed_up : (after : List ℕ) → length after ≡ length words → IsPlaced top (k + 1) f (node / 2) after
-  placed_up after len =
-      let size = at.size in
-      placed top (k + 1) f (node / 2) after small (omega arith) b (omega arith)
+  -- the node of the block around it
+  pub node_up : IsNode top (k + 1) f (node / 2)
+  node_up = node_is top (k + 1) f (node / 2) (omega arith) b
       (subst (λ j. node / 2 ≡ 2 ^ (top - j) + number_at j f) (sym (add-one k)) (subst (λ j. node / 2 ≡ 2 ^ j + number_at (suc k) f) (let e : depth ≡ top - suc k = (let d = deep in omega arith) in e) up))
 
   rise : (old new : ℕ → Bool) (after : List ℕ) → Mended top (suc k) f old new after → Mended top (k + 1) f old new after
   rise old new after m = subst (λ i. Mended top i f old new after) (sym (add-one k)) m
 
-  module _ (other : ℕ) (pair : other + node ≡ 4 * (node / 2) + 1) where
+  module _ (words : List ℕ) (size : length words + 1 ≡ 2 ^ (top + 1)) (other : ℕ) (pair : other + node ≡ 4 * (node / 2) + 1) where
     -- the number of the other half
     half : ℕ
     half = 4 * number_at (suc k) f + 1 - number_at k f
@@ -87,13 +72,13 @@ module _ (top k f node : ℕ) (words : List ℕ) (small : top ≤ 8) (b : f < 2 
     pub step_climb : (old new : ℕ → Bool) (v : ℕ) → v ≡ bit_or (get_or words (node - 1) 0) (get_or words (other - 1) 0) → Mended top k f old new words × IsConfined top k f old new
         → Mended top (k + 1) f old new (set words (node / 2 - 1) v) × IsConfined top (k + 1) f old new
     step_climb old new v e (m, c) = (
-      rise old new (set words (node / 2 - 1) v) (climb_step top k f depth old new words b at.size deep c m (node / 2) half v up half_pair (both_words v e)),
+      rise old new (set words (node / 2 - 1) v) (climb_step top k f depth old new words b size deep c m (node / 2) half v up half_pair (both_words v e)),
       subst (λ i. IsConfined top i f old new) (sym (add-one k)) (confined_up top k f old new c),
     )
 
     pub step_stop : (old new : ℕ → Bool) (v : ℕ) → v ≡ bit_or (get_or words (node - 1) 0) (get_or words (other - 1) 0) → Mended top k f old new words × IsConfined top k f old new
         → get_or words (node / 2 - 1) 0 ≡ v → Shows top new words
-    step_stop old new v e (m, c) stay = climb_stop top k f depth old new words b at.size deep c m (node / 2) half v up half_pair (both_words v e) stay
+    step_stop old new v e (m, c) stay = climb_stop top k f depth old new words b size deep c m (node / 2) half v up half_pair (both_words v e) stay
 
     pub step_split : (order from : ℕ) (large small : ℕ → Bool) → order ≤ k → k < from → IsOpen large top from (number_at from f) → IsLess small large order f
         → (one v : ℕ) → one ≡ 2 ^ k → v ≡ bit_or (get_or words (node - 1) 0) one → Mended top k f large small words
@@ -102,7 +87,7 @@ module _ (top k f node : ℕ) (words : List ℕ) (small : top ≤ 8) (b : f < 2 
         let place = half_at in
         rise large small (set (set words (other - 1) one) (node / 2 - 1) v)
         (subst (λ n. Mended top (suc k) f large small (set (set words (other - 1) n) (node / 2 - 1) v)) (sym shift)
-        (reserve_split top order from k f depth large small words b at.size deep le less free below m (node / 2) half up half_pair (other - 1) v (omega (arith, pow_pos depth))
+        (reserve_split top order from k f depth large small words b size deep le less free below m (node / 2) half up half_pair (other - 1) v (omega (arith, pow_pos depth))
         (e ∙ ap₂ (λ i j. bit_or (get_or words (i - 1) 0) j) is shift)))
 
     pub step_join : (order : ℕ) (small large : ℕ → Bool) → order ≤ k → IsLess small large order f → (one : ℕ) → one ≡ 2 ^ k → get_or words (other - 1) 0 ≡ one
@@ -110,10 +95,10 @@ module _ (top k f node : ℕ) (words : List ℕ) (small : top ≤ 8) (b : f < 2 
     step_join order small large le less one shift free m =
         let place = half_at in
         subst (λ i. Mended top i f small large (set (set (set words (other - 1) 0) (node - 1) 0) (node / 2 - 1) (2 ^ i))) (sym (add-one k))
-        (release_join top order k f depth small large words b at.size deep le less node half is half_pair m (other - 1) (node / 2) (omega (arith, pow_pos depth)) (free ∙ shift) up)
+        (release_join top order k f depth small large words b size deep le less node half is half_pair m (other - 1) (omega (arith, pow_pos depth)) (node / 2) (free ∙ shift) up)
 
     pub step_open : (order : ℕ) (small large : ℕ → Bool) → order ≤ k → IsLess small large order f → (one : ℕ) → one ≡ 2 ^ k → (get_or words (other - 1) 0 ≡ one → ⊥)
         → Mended top k f small large (set words (node - 1) (2 ^ k)) → IsOpen large top k (number_at k f)
     step_open order small large le less one shift ne m =
         let place = half_at in
-        release_open top order k f depth small large words b at.size deep le less node half is half_pair m (other - 1) (omega (arith, pow_pos depth)) (λ e. ne (e ∙ sym shift))
+        release_open top order k f depth small large words b size deep le less node half is half_pair m (other - 1) (omega (arith, pow_pos depth)) (λ e. ne (e ∙ sym shift))

@@ -21,8 +21,8 @@ abbrev pub nothing_held : ℕ → ℕ → Holding
 nothing_held top superblocks = record { slots = replicate superblocks None; taken = replicate (superblocks * 2 ^ top) None }
 
 -- no tenant holds anything
-abbrev pub opening : ℕ → ℕ → ℕ → Content
-opening top superblocks tenants =
+abbrev pub empty_buddy : ℕ → ℕ → ℕ → Content
+empty_buddy top superblocks tenants =
     record { top = top; superblocks = superblocks; tenants = replicate tenants (nothing_held top superblocks) }
 
 abbrev pub no_tenant : Holding
@@ -63,16 +63,16 @@ abbrev pub IsSoundHolding : ℕ → Holding → Type 0
 IsSoundHolding top h = IsSound top (is_held h) (taken_of h)
 
 -- how many free blocks of order k there are
-abbrev pub free_blocks : ℕ → ℕ → ℕ → Holding → ℕ
-free_blocks top superblocks k h = count_below (λ f. is_free top (is_held h) (taken_of h) (block f k)) (superblocks * 2 ^ top)
+abbrev pub free_block_count : ℕ → ℕ → ℕ → Holding → ℕ
+free_block_count top superblocks k h = count_below (λ f. is_free top (is_held h) (taken_of h) (block f k)) (superblocks * 2 ^ top)
 
 abbrev pub has_order : ℕ → Option ℕ → Bool
 has_order k None = false
 has_order k (Some j) = j == k
 
 -- how many taken blocks of order k there are
-abbrev pub taken_blocks : ℕ → Holding → ℕ
-taken_blocks k h = count_by (has_order k) h.taken
+abbrev pub taken_block_count : ℕ → Holding → ℕ
+taken_block_count k h = count_by (has_order k) h.taken
 
 abbrev pub held_slots : Holding → ℕ
 held_slots h = count_by is_some h.slots

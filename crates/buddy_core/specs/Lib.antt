@@ -4,3 +4,4 @@ pub mod Tree
 pub mod Stored
 pub mod Kept
 pub mod Roots
+pub mod Counts

@@ -1,54 +1,69 @@
 -- What is stored of each superblock and of each tenant, and what a tenant holds by it.
-use Rattle.std.specs.Prelude.{ℕ, ◌+◌, ◌-◌, ◌*◌, ◌/◌, ◌%◌, ◌^◌, Bool, Option, Some, None, is_some, List, [], length, map, replicate, slice_index_or}
+use Rattle.std.specs.Prelude.{◌≡◌, ℕ, ◌+◌, ◌-◌, ◌*◌, ◌/◌, ◌%◌, ◌^◌, ◌≤◌, Bool, Option, Some, None, is_some, List, [], length, map, replicate, slice_index_or}
 use Rattle.std.specs.List.{range_with_len}
 use Rattle.model_core.specs.Blocks.{Taken}
+use Rattle.model_core.specs.declared.limits.TheConstants.{MOST_ORDER}
 use Rattle.buddy_core.specs.Content.{Holding, Content}
 
--- a superblock: the words of its tree of orders, and at each of its frames the order of the taken block that begins there
-pub record Sheet : Type 0 where
+-- the tree of orders of a superblock of 2 ^ order frames, a word for each node
+pub record StoredTree : Type 0 where
+  pub order : ℕ
   pub words : List ℕ
+
+-- a tree has as many words as nodes
+pub record IsTree (order : ℕ) (words : List ℕ) : Type 0 where
+  pub small : order ≤ MOST_ORDER
+  pub size : length words + 1 ≡ 2 ^ (order + 1)
+
+-- a superblock: its tree, and at each of its frames the order of the taken block that begins there
+pub record StoredSuperblock : Type 0 where
+  pub tree : StoredTree
   pub orders : List (Option ℕ)
 
 -- a tenant: the superblock under each slot, and by order how many free and how many taken blocks it has
-pub record Row : Type 0 where
+pub record StoredTenant : Type 0 where
   pub slots : List (Option ℕ)
   pub free : List ℕ
   pub taken : List ℕ
 
+-- no frame is available
+abbrev pub bare_tree : ℕ → StoredTree
+bare_tree order = record { order = order; words = replicate (2 ^ (order + 1) - 1) 0 }
+
 -- a superblock under no slot
-abbrev pub blank_sheet : ℕ → Sheet
-blank_sheet top = record { words = replicate (2 ^ (top + 1) - 1) 0; orders = replicate (2 ^ top) None }
+abbrev pub bare_superblock : ℕ → StoredSuperblock
+bare_superblock top = record { tree = bare_tree top; orders = replicate (2 ^ top) None }
 
 -- a tenant that holds nothing
-abbrev pub blank_row : ℕ → ℕ → Row
-blank_row top superblocks = record { slots = replicate superblocks None; free = replicate (top + 1) 0; taken = replicate (top + 1) 0 }
+abbrev pub bare_tenant : ℕ → ℕ → StoredTenant
+bare_tenant top superblocks = record { slots = replicate superblocks None; free = replicate (top + 1) 0; taken = replicate (top + 1) 0 }
 
-abbrev pub sheet_of : ℕ → List Sheet → Sheet
-sheet_of m sheets = slice_index_or sheets m (record { words = []; orders = [] })
+abbrev pub superblock_of : ℕ → List StoredSuperblock → StoredSuperblock
+superblock_of m superblocks = slice_index_or superblocks m (record { tree = record { order = 0; words = [] }; orders = [] })
 
-abbrev pub row_of : ℕ → List Row → Row
-row_of t rows = slice_index_or rows t (record { slots = []; free = []; taken = [] })
+abbrev pub stored_tenant : ℕ → List StoredTenant → StoredTenant
+stored_tenant t tenants = slice_index_or tenants t (record { slots = []; free = []; taken = [] })
 
 -- the superblock under a slot
-abbrev pub slot_of : Row → ℕ → Option ℕ
-slot_of row u = slice_index_or row.slots u None
+abbrev pub superblock_at : StoredTenant → ℕ → Option ℕ
+superblock_at tenant u = slice_index_or tenant.slots u None
 
-abbrev pub held_by : Row → ℕ → Bool
-held_by row u = is_some (slot_of row u)
+abbrev pub held_by : StoredTenant → ℕ → Bool
+held_by tenant u = is_some (superblock_at tenant u)
 
 -- the order of the taken block that begins at frame x of the superblock under a slot
-abbrev pub order_under : List Sheet → Option ℕ → ℕ → Option ℕ
-order_under sheets None x = None
-order_under sheets (Some m) x = slice_index_or (sheet_of m sheets).orders x None
+abbrev pub order_under : List StoredSuperblock → Option ℕ → ℕ → Option ℕ
+order_under superblocks None x = None
+order_under superblocks (Some m) x = slice_index_or (superblock_of m superblocks).orders x None
 
 -- the order of the taken block that begins at a frame of the tenant
-abbrev pub taken_by : ℕ → List Sheet → Row → Taken
-taken_by top sheets row f = order_under sheets (slot_of row (f / 2 ^ top)) (f % 2 ^ top)
+abbrev pub taken_by : ℕ → List StoredSuperblock → StoredTenant → Taken
+taken_by top superblocks tenant f = order_under superblocks (superblock_at tenant (f / 2 ^ top)) (f % 2 ^ top)
 
-abbrev pub holding_shown : ℕ → List Sheet → Row → Holding
-holding_shown top sheets row =
-    record { slots = row.slots; taken = map (taken_by top sheets row) (range_with_len 0 (length row.slots * 2 ^ top)) }
+abbrev pub holding_shown : ℕ → List StoredSuperblock → StoredTenant → Holding
+holding_shown top superblocks tenant =
+    record { slots = tenant.slots; taken = map (taken_by top superblocks tenant) (range_with_len 0 (length tenant.slots * 2 ^ top)) }
 
-abbrev pub content_shown : ℕ → List Sheet → List Row → Content
-content_shown top sheets rows =
-    record { top = top; superblocks = length sheets; tenants = map (holding_shown top sheets) rows }
+abbrev pub content_shown : ℕ → List StoredSuperblock → List StoredTenant → Content
+content_shown top superblocks tenants =
+    record { top = top; superblocks = length superblocks; tenants = map (holding_shown top superblocks) tenants }

@@ -23,6 +23,14 @@ pub record Shows (top : ℕ) (ok : ℕ → Bool) (words : List ℕ) : Type 0 whe
   pub size : length words + 1 ≡ 2 ^ (top + 1)
   pub each : (d k q : ℕ) → d + k ≡ top → q < 2 ^ d → word_at words d q ≡ word ok top k q
 
+-- which node that of the block of order k around frame f is: it is stored, and so is its other half
+pub record IsNode (top k f node : ℕ) : Type 0 where
+  pub at : (d : ℕ) → d + k ≡ top → node ≡ 2 ^ d + number_at k f
+  pub some : 0 < node
+  pub stored : node < 2 ^ (top + 1)
+  pub inner : k < top → 1 < node
+  pub half : k < top → 2 * (node / 2) + 1 < 2 ^ (top + 1)
+
 -- frame x lies in the block of order k around frame f
 abbrev pub IsWith : ℕ → ℕ → ℕ → Type 0
 IsWith k f x = number_at k x ≡ number_at k f

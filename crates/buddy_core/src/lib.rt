@@ -13,7 +13,7 @@
 ghost use Rattle.std.specs.Prelude.{◌≡◌, ℕ, ◌+◌, ◌*◌, ◌/◌, ◌^◌, ◌<◌, ◌≤◌, Some, None, List, length, slice_index, MatchOption, IfOk, OnOk, OnErr, IfNone, IfSome, OnSome, IsSome};
 ghost use Rattle.model_core.specs.declared.limits.TheConstants.{MOST_ORDER, MOST_SUPERBLOCKS, MOST_TENANTS};
 ghost use Rattle.model_core.specs.Blocks.{Block, block, HasFrame, IsTaken, HasTaken, slot_block, IsChoice, IsWithout};
-ghost use Rattle.buddy_core.specs.Content.{Content, opening, nothing_held, holding_of, with_holding, superblock_at, is_held, taken_of, with_block, without_block, with_slot, without_slot, BuddyLaws, free_blocks, taken_blocks, held_slots};
+ghost use Rattle.buddy_core.specs.Content.{Content, empty_buddy, nothing_held, holding_of, with_holding, superblock_at, is_held, taken_of, with_block, without_block, with_slot, without_slot, BuddyLaws, free_block_count, taken_block_count, held_slots};
 ghost use Rattle.buddy_core.specs.Table.{IsTable};
 
 mod find;
@@ -57,20 +57,20 @@ impl Buddy {
         requires order { order ≤ MOST_ORDER }
         requires superblocks { superblocks ≤ MOST_SUPERBLOCKS }
         requires tenants { tenants ≤ MOST_TENANTS }
-        ensures { IfOk result (λ b. b ≡ opening order superblocks tenants) }
+        ensures { IfOk result (λ b. b ≡ empty_buddy order superblocks tenants) }
     {
-        let mut rows = Vec::new(alloc);
+        let mut all_tenants = Vec::new(alloc);
         for _tenant in 0..tenants {
-            rows.push(Tenant::new(alloc, order, superblocks)?)?;
+            all_tenants.push(Tenant::new(alloc, order, superblocks)?)?;
         }
-        let mut sheets = Vec::new(alloc);
+        let mut all_superblocks = Vec::new(alloc);
         for _superblock in 0..superblocks {
-            sheets.push(Superblock::new(alloc, order)?)?;
+            all_superblocks.push(Superblock::new(alloc, order)?)?;
         }
         Ok(Buddy {
             order,
-            superblocks: sheets,
-            tenants: rows,
+            superblocks: all_superblocks,
+            tenants: all_tenants,
         })
     }
 
@@ -113,7 +113,7 @@ impl Buddy {
         ensures { self.new ≡ with_holding t (with_slot slot m (holding_of t self.old)) self.old }
     {
         let order = self.order;
-        self.superblocks[m as usize].fill(order);
+        self.superblocks[m as usize].fill();
         self.tenants[t as usize].add_slot(slot, m, order);
     }
 
@@ -128,9 +128,9 @@ impl Buddy {
     {
         let order = self.order;
         let m = self.tenants[t as usize]
-            .superblock(u32::from(slot))
+            .superblock_at(u32::from(slot))
             .unwrap();
-        if self.superblocks[m as usize].root() != 1 << order {
+        if self.superblocks[m as usize].tree().root() != 1 << order {
             return Err(SlotBusy);
         }
         self.superblocks[m as usize].clear();
@@ -148,7 +148,7 @@ impl Buddy {
         ensures { self.new ≡ with_holding t (with_slot slot m (holding_of t self.old)) self.old }
     {
         let tenant = &mut self.tenants[t as usize];
-        let old = tenant.superblock(u32::from(slot)).unwrap();
+        let old = tenant.superblock_at(u32::from(slot)).unwrap();
         tenant.move_slot(slot, m);
         self.superblocks.swap(old as usize, m as usize);
     }
@@ -160,7 +160,7 @@ impl Buddy {
     {
         let slots = self.superblocks.len();
         for slot in 0..slots {
-            if let Some(m) = self.tenants[t as usize].superblock(slot as u32) {
+            if let Some(m) = self.tenants[t as usize].superblock_at(slot as u32) {
                 self.superblocks[m as usize].clear();
             }
         }
@@ -181,13 +181,12 @@ impl Buddy {
             × (IsChoice self.old.top (is_held (holding_of t self.old)) (taken_of (holding_of t self.old)) k (block f j)
             × (self.new ≡ with_holding t (with_block f k (holding_of t self.old)) self.old))) }
     {
-        let place = find::find(&self.superblocks, &self.tenants[t as usize], k)?;
-        let order = self.order;
-        let superblock = &mut self.superblocks[place.superblock as usize];
-        let first = superblock.search(order, place.order);
-        superblock.reserve_at(order, first, place.order, k);
-        self.tenants[t as usize].count_reserved(place.order, k);
-        Some((u32::from(place.slot) << order) + first)
+        let source = find::find(&self.superblocks, &self.tenants[t as usize], k)?;
+        let superblock = &mut self.superblocks[source.superblock as usize];
+        let first = superblock.tree().search(source.order);
+        superblock.reserve_at(first, source.order, k);
+        self.tenants[t as usize].count_reserved(source.order, k);
+        Some((u32::from(source.slot) << self.order) + first)
     }
 
     /// The order of the taken block of tenant `t` that begins at `frame`, which is free now, joined at
@@ -198,12 +197,10 @@ impl Buddy {
         ensures refused { IfNone result (self.new ≡ self.old) }
         ensures done { OnSome result (self.new ≡ with_holding t (without_block frame (holding_of t self.old)) self.old) }
     {
-        let k = self.live_order(t, frame)?;
-        let order = self.order;
-        let m = self.tenants[t as usize].superblock(frame >> order).unwrap();
-        let first = frame % (1 << order);
-        let superblock = &mut self.superblocks[m as usize];
-        let joined = superblock.release_at(order, first, k);
+        let m = self.tenants[t as usize].superblock_at(frame >> self.order)?;
+        let first = frame % (1 << self.order);
+        let k = self.superblocks[m as usize].order_at(first)?;
+        let joined = self.superblocks[m as usize].release_at(first, k);
         self.tenants[t as usize].count_released(k, joined);
         Some(k)
     }
@@ -213,7 +210,7 @@ impl Buddy {
         requires { t < length self.now.tenants }
         ensures { result ≡ taken_of (holding_of t self.now) frame }
     {
-        let m = self.tenants[t as usize].superblock(frame >> self.order)?;
+        let m = self.tenants[t as usize].superblock_at(frame >> self.order)?;
         self.superblocks[m as usize].order_at(frame % (1 << self.order))
     }
 
@@ -237,7 +234,7 @@ impl Buddy {
     pub fn free_count(&self, t: u8, k: u8) -> u32
         requires tenant { t < length self.now.tenants }
         requires order { k ≤ self.now.top }
-        ensures { result ≡ free_blocks self.now.top self.now.superblocks k (holding_of t self.now) }
+        ensures { result ≡ free_block_count self.now.top self.now.superblocks k (holding_of t self.now) }
     {
         self.tenants[t as usize].free_count(k)
     }
@@ -246,7 +243,7 @@ impl Buddy {
     pub fn taken_count(&self, t: u8, k: u8) -> u32
         requires tenant { t < length self.now.tenants }
         requires order { k ≤ self.now.top }
-        ensures { result ≡ taken_blocks k (holding_of t self.now) }
+        ensures { result ≡ taken_block_count k (holding_of t self.now) }
     {
         self.tenants[t as usize].taken_count(k)
     }
@@ -266,6 +263,6 @@ impl Buddy {
         requires { m < self.now.superblocks }
         ensures { IsTable self.now m result.now }
     {
-        self.superblocks[m as usize].words()
+        self.superblocks[m as usize].tree().words()
     }
 }

@@ -1,130 +1,108 @@
 //! What is stored of one superblock.
 
-ghost use Rattle.std.specs.Prelude.{◌≡◌, ℕ, ◌+◌, ◌-◌, ◌*◌, ◌^◌, ◌<◌, ◌≤◌, Some, None, List, replicate, length, slice_index, slice_index_or, slice_set, IfOk};
+ghost use Rattle.std.specs.Prelude.{◌≡◌, ℕ, ◌^◌, ◌<◌, ◌≤◌, Some, None, length, slice_index_or, slice_set, IfOk};
 ghost use Rattle.std.specs.Prelude.{Bool, true};
-ghost use Rattle.std.specs.Int.{bit_at};
 ghost use Rattle.model_core.specs.declared.limits.TheConstants.{MOST_ORDER};
 ghost use Rattle.model_core.specs.Numbered.{number_at, IsOpen};
-ghost use Rattle.buddy_core.specs.Stored.{blank_sheet};
-ghost use Rattle.buddy_core.specs.Tree.{Shows, IsLess, IsLeast};
+ghost use Rattle.buddy_core.specs.Stored.{bare_superblock};
+ghost use Rattle.buddy_core.specs.Tree.{Shows, IsLess};
 
-use crate::tree;
+use crate::tree::Tree;
 use std::alloc::{AllocError, Global};
 use std::marker::Model;
 
-/// The tree of orders of one superblock, and the orders of its taken blocks.
+/// The tree of orders of one superblock, and at each of its frames the order of the taken block that begins there.
 #[derive(Debug, Drop)]
 pub struct Superblock {
-    words: Vec<u16>,
+    tree: Tree,
     orders: Vec<Option<u8>>,
 }
 
 impl Model for Superblock {
-    ghost use Rattle.buddy_core.specs.Stored.{Sheet};
+    ghost use Rattle.std.specs.Prelude.{◌≡◌, ◌^◌, length};
+    ghost use Rattle.buddy_core.specs.Stored.{StoredSuperblock};
 
-    ghost Value = { Sheet };
+    ghost Value = { StoredSuperblock };
 
-    ghost view = { λ a. record { words = a.words.items; orders = a.orders.items } };
+    ghost view = { λ a. record { tree = a.tree; orders = a.orders.items } };
+
+    ghost invariant = { λ a. length a.orders.items ≡ 2 ^ a.tree.order };
 }
 
 impl Superblock {
-    /// A superblock of `order` under no slot.
+    /// A superblock of `2^order` frames under no slot.
     pub fn new(alloc: Global, order: u8) -> Result<Superblock, AllocError>
         requires { order ≤ MOST_ORDER }
-        ensures { IfOk result (λ s. s ≡ blank_sheet order) }
+        ensures { IfOk result (λ s. s ≡ bare_superblock order) }
     {
-        let words = vec![in alloc; 0; (2 << order) - 1]?;
+        let tree = Tree::new(alloc, order)?;
         let orders = vec![in alloc; None; 1 << order]?;
-        Ok(Superblock { words, orders })
+        Ok(Superblock { tree, orders })
     }
 
-    /// The words of the tree.
-    pub fn words(&self) -> &[u16]
-        ensures { result.now ≡ self.now.words }
+    /// The tree of orders.
+    pub fn tree(&self) -> &Tree
+        ensures { result.now ≡ self.now.tree }
     {
-        &self.words
-    }
-
-    /// The word of the whole superblock.
-    pub fn root(&self) -> u16
-        requires { 0 < length self.now.words }
-        ensures { result ≡ slice_index self.now.words 0 }
-    {
-        self.words[0]
+        &self.tree
     }
 
     /// The order of the taken block that begins at `frame` of the superblock.
     pub fn order_at(&self, frame: u32) -> Option<u8>
-        requires { frame < length self.now.orders }
+        requires { frame < 2 ^ self.now.tree.order }
         ensures { result ≡ slice_index_or self.now.orders frame None }
     {
         self.orders[frame as usize]
     }
 
-    /// The first frame of the free block of `order` with the least first frame.
-    pub fn search(&self, top: u8, order: u8) -> u32
-        requires small { top ≤ MOST_ORDER }
-        requires order { order ≤ top }
-        requires size { length self.now.words + 1 ≡ 2 ^ (top + 1) }
-        ensures within { result < 2 ^ top }
-        ensures found { (ok : ℕ → Bool) → Shows top ok self.now.words
-            → bit_at (slice_index self.now.words 0) order ≡ 1
-            → (number_at order result * 2 ^ order ≡ result) × IsLeast ok top order (number_at order result) }
-    {
-        tree::search(&self.words, top, order)
-    }
-
     /// Takes the block of `order` that begins at `first` out of the free block of order `from` around it.
-    pub fn reserve_at(&mut self, top: u8, first: u32, from: u8, order: u8)
-        requires small { top ≤ MOST_ORDER }
+    pub fn reserve_at(&mut self, first: u32, from: u8, order: u8)
         requires order { order ≤ from }
-        requires from { from ≤ top }
-        requires first { first < 2 ^ top }
-        requires words { length self.old.words + 1 ≡ 2 ^ (top + 1) }
-        requires orders { length self.old.orders ≡ 2 ^ top }
+        requires from { from ≤ self.old.tree.order }
+        requires first { first < 2 ^ self.old.tree.order }
+        ensures order { self.new.tree.order ≡ self.old.tree.order }
+        ensures inside { first < length self.old.orders }
         ensures orders { self.new.orders ≡ slice_set self.old.orders first (Some order) }
-        ensures words { (large small : ℕ → Bool) → Shows top large self.old.words
-            → IsOpen large top from (number_at from first) → IsLess small large order first
-            → Shows top small self.new.words }
+        ensures words { (large small : ℕ → Bool) → Shows self.old.tree.order large self.old.tree.words
+            → IsOpen large self.old.tree.order from (number_at from first) → IsLess small large order first
+            → Shows self.old.tree.order small self.new.tree.words }
     {
-        tree::reserve_at(&mut self.words, top, first, from, order);
+        self.tree.reserve_at(first, from, order);
         self.orders[first as usize] = Some(order);
     }
 
     /// Makes the taken block of `order` that begins at `first` free, joined with its buddies. The order of the free block
     /// that this gives.
-    pub fn release_at(&mut self, top: u8, first: u32, order: u8) -> u8
-        requires small { top ≤ MOST_ORDER }
-        requires order { order ≤ top }
-        requires first { first < 2 ^ top }
-        requires words { length self.old.words + 1 ≡ 2 ^ (top + 1) }
-        requires orders { length self.old.orders ≡ 2 ^ top }
+    pub fn release_at(&mut self, first: u32, order: u8) -> u8
+        requires order { order ≤ self.old.tree.order }
+        requires first { first < 2 ^ self.old.tree.order }
+        ensures order { self.new.tree.order ≡ self.old.tree.order }
+        ensures inside { first < length self.old.orders }
         ensures orders { self.new.orders ≡ slice_set self.old.orders first None }
-        ensures words { (small large : ℕ → Bool) → Shows top small self.old.words
-            → IsLess small large order first → Shows top large self.new.words }
-        ensures joined { (small large : ℕ → Bool) → Shows top small self.old.words → IsLess small large order first
-            → (order ≤ result) × IsOpen large top result (number_at result first) }
+        ensures words { (small large : ℕ → Bool) → Shows self.old.tree.order small self.old.tree.words
+            → IsLess small large order first → Shows self.old.tree.order large self.new.tree.words }
+        ensures joined { (small large : ℕ → Bool) → Shows self.old.tree.order small self.old.tree.words
+            → IsLess small large order first
+            → (order ≤ result) × IsOpen large self.old.tree.order result (number_at result first) }
     {
         self.orders[first as usize] = None;
-        tree::release_at(&mut self.words, top, first, order)
+        self.tree.release_at(first, order)
     }
 
     /// Makes the whole superblock one free block.
-    pub fn fill(&mut self, top: u8)
-        requires small { top ≤ MOST_ORDER }
-        requires size { length self.old.words + 1 ≡ 2 ^ (top + 1) }
-        ensures words { Shows top (λ _. true) self.new.words }
+    pub fn fill(&mut self)
+        ensures order { self.new.tree.order ≡ self.old.tree.order }
+        ensures words { Shows self.old.tree.order (λ _. true) self.new.tree.words }
         ensures orders { self.new.orders ≡ self.old.orders }
     {
-        tree::fill(&mut self.words, top);
+        self.tree.fill();
     }
 
     /// No frame is available, and no block is taken.
     pub fn clear(&mut self)
-        ensures words { self.new.words ≡ replicate (length self.old.words) 0 }
-        ensures orders { self.new.orders ≡ replicate (length self.old.orders) None }
+        ensures { self.new ≡ bare_superblock self.old.tree.order }
     {
-        self.words.fill(0);
+        self.tree.clear();
         self.orders.fill(None);
     }
 }

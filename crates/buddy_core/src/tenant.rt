@@ -1,9 +1,9 @@
 //! What is stored of one tenant.
 
-ghost use Rattle.std.specs.Prelude.{◌≡◌, ◌⊎◌, ℕ, replicate, count_by, is_some, ◌+◌, ◌-◌, ◌^◌, ◌<◌, ◌≤◌, Some, None, List, length, slice_index, slice_index_or, slice_set, IfOk, IsSome, MatchOption};
-ghost use Rattle.model_core.specs.declared.limits.TheConstants.{MOST_ORDER};
-ghost use Rattle.buddy_core.specs.Stored.{blank_row};
-ghost use Rattle.buddy_core.specs.Roots.{slot_in};
+ghost use Rattle.std.specs.Prelude.{◌≡◌, ℕ, replicate, count_by, is_some, ◌+◌, ◌-◌, ◌^◌, ◌<◌, ◌≤◌, Some, None, List, length, slice_index, slice_index_or, slice_set, IfOk, IsSome, MatchOption};
+ghost use Rattle.model_core.specs.declared.limits.TheConstants.{MOST_ORDER, MOST_SUPERBLOCKS};
+ghost use Rattle.buddy_core.specs.Stored.{bare_tenant};
+ghost use Rattle.buddy_core.specs.Counts.{HasRoomForCounts, IsTakenOut};
 
 use std::alloc::{AllocError, Global};
 use std::marker::Model;
@@ -19,22 +19,23 @@ pub struct Tenant {
 }
 
 impl Model for Tenant {
-    ghost use Rattle.buddy_core.specs.Stored.{Row};
+    ghost use Rattle.buddy_core.specs.Stored.{StoredTenant};
 
-    ghost Value = { Row };
+    ghost Value = { StoredTenant };
 
     ghost view = { λ a. record { slots = a.slots.items; free = a.free.items; taken = a.taken.items } };
 
-    ghost use Rattle.buddy_core.specs.Roots.{IsEnd};
+    ghost use Rattle.buddy_core.specs.Roots.{IsStoredTenant};
 
-    ghost invariant = { λ a. IsEnd a.slots.items a.end };
+    ghost invariant = { λ a. IsStoredTenant a.slots.items a.end a.free.items a.taken.items };
 }
 
 impl Tenant {
     /// A tenant that holds nothing.
     pub fn new(alloc: Global, order: u8, superblocks: u16) -> Result<Tenant, AllocError>
-        requires { order ≤ MOST_ORDER }
-        ensures { IfOk result (λ t. t ≡ blank_row order superblocks) }
+        requires order { order ≤ MOST_ORDER }
+        requires superblocks { superblocks ≤ MOST_SUPERBLOCKS }
+        ensures { IfOk result (λ t. t ≡ bare_tenant order superblocks) }
     {
         let slots = vec![in alloc; None; superblocks as usize]?;
         let free = vec![in alloc; 0; order as usize + 1]?;
@@ -49,14 +50,14 @@ impl Tenant {
 
     /// The superblock under each slot, without slots at the end that hold none.
     pub fn held(&self) -> &[Option<u16>]
-        ensures same { (u : ℕ) → slot_in result.now u ≡ slot_in self.now.slots u }
-        ensures few { length result.now ≤ length self.now.slots }
+        ensures same { (u : ℕ) → slice_index_or result.now u None ≡ slice_index_or self.now.slots u None }
+        ensures few { length result.now ≤ MOST_SUPERBLOCKS }
     {
         &self.slots[..self.end]
     }
 
     /// The superblock under `slot`; `None` also past the last slot.
-    pub fn superblock(&self, slot: u32) -> Option<u16>
+    pub fn superblock_at(&self, slot: u32) -> Option<u16>
         ensures { result ≡ slice_index_or self.now.slots slot None }
     {
         self.slots.get(slot as usize).copied().flatten()
@@ -72,9 +73,8 @@ impl Tenant {
 
     /// The least order of at least `k` of which the tenant has a free block.
     pub fn least_free(&self, k: u8) -> Option<u8>
-        requires { length self.now.free ≤ 16 }
         ensures { MatchOption result ((j : ℕ) → k ≤ j → slice_index self.now.free j ≡ 0)
-            (λ j. (k ≤ j) × (j < length self.now.free) × (0 < slice_index self.now.free j)
+            (λ j. (k ≤ j) × (j ≤ MOST_ORDER) × (0 < slice_index self.now.free j)
             × ((i : ℕ) → k ≤ i → i < j → slice_index self.now.free i ≡ 0)) }
     {
         for order in k..self.free.len() as u8 {
@@ -95,7 +95,6 @@ impl Tenant {
 
     /// How many slots the tenant holds.
     pub fn held_slots(&self) -> u32
-        requires { length self.now.slots < 2 ^ 32 }
         ensures { result ≡ count_by is_some self.now.slots }
     {
         self.slots.iter().filter(|slot| slot.is_some()).count() as u32
@@ -118,7 +117,7 @@ impl Tenant {
 
     /// Puts another superblock under a slot that has one, with the same free and taken blocks.
     pub fn move_slot(&mut self, slot: u16, superblock: u16)
-        requires { IsSome (slot_in self.old.slots slot) }
+        requires { IsSome (slice_index_or self.old.slots slot None) }
         ensures { self.new ≡ record self.old { slots = slice_set self.old.slots slot (Some superblock) } }
     {
         self.slots[slot as usize] = Some(superblock);
@@ -141,17 +140,10 @@ impl Tenant {
     /// Counts a block of `order` taken out of a free block of order `from`, whose other parts are free.
     pub fn count_reserved(&mut self, from: u8, order: u8)
         requires order { order ≤ from }
-        requires free { from < length self.old.free }
-        requires taken { from < length self.old.taken }
-        requires some { 0 < slice_index self.old.free from }
-        requires free_room { (i : ℕ) → slice_index self.old.free i + 1 < 2 ^ 32 }
-        requires taken_room { slice_index self.old.taken order + 1 < 2 ^ 32 }
-        ensures slots { self.new.slots ≡ self.old.slots }
-        ensures taken { self.new.taken ≡ slice_set self.old.taken order (slice_index self.old.taken order + 1) }
-        ensures size { length self.new.free ≡ length self.old.free }
-        ensures split { slice_index self.new.free from + 1 ≡ slice_index self.old.free from }
-        ensures halves { (i : ℕ) → order ≤ i → i < from → slice_index self.new.free i ≡ slice_index self.old.free i + 1 }
-        ensures others { (i : ℕ) → (i < order) ⊎ (from < i) → slice_index self.new.free i ≡ slice_index self.old.free i }
+        requires from { from < length self.old.free }
+        requires free { 0 < slice_index self.old.free from }
+        requires room { HasRoomForCounts self.old }
+        ensures { IsTakenOut order from self.old self.new }
     {
         self.taken[order as usize] += 1;
         self.free[from as usize] -= 1;
@@ -163,17 +155,11 @@ impl Tenant {
     /// Counts a taken block of `order` joined with its buddies to a free block of order `to`.
     pub fn count_released(&mut self, order: u8, to: u8)
         requires order { order ≤ to }
-        requires free { to < length self.old.free }
-        requires taken { to < length self.old.taken }
-        requires some { 0 < slice_index self.old.taken order }
+        requires to { to < length self.old.free }
+        requires taken { 0 < slice_index self.old.taken order }
         requires buddies { (i : ℕ) → order ≤ i → i < to → 0 < slice_index self.old.free i }
-        requires room { slice_index self.old.free to + 1 < 2 ^ 32 }
-        ensures slots { self.new.slots ≡ self.old.slots }
-        ensures taken { self.new.taken ≡ slice_set self.old.taken order (slice_index self.old.taken order - 1) }
-        ensures size { length self.new.free ≡ length self.old.free }
-        ensures joined { slice_index self.new.free to ≡ slice_index self.old.free to + 1 }
-        ensures buddies { (i : ℕ) → order ≤ i → i < to → slice_index self.new.free i + 1 ≡ slice_index self.old.free i }
-        ensures others { (i : ℕ) → (i < order) ⊎ (to < i) → slice_index self.new.free i ≡ slice_index self.old.free i }
+        requires room { HasRoomForCounts self.old }
+        ensures { IsTakenOut order to self.new self.old }
     {
         self.taken[order as usize] -= 1;
         for level in order..to {

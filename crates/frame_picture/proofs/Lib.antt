@@ -1,1 +1,5 @@
+pub mod Cells
+pub mod Even
+pub mod Filling
 pub mod RowLemmas
+pub mod Splits

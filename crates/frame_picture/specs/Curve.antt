@@ -1,6 +1,6 @@
 -- The curve of a tenant: what it is at a column.
 use Rattle.std.specs.Prelude.{ℕ, zero, suc, List, slice_get, slice_index_or, Option, Some, None}
-use Rattle.frame_cells.specs.declared.history.Column.{Column}
+use Rattle.frame_picture.specs.declared.history.Column.{Column}
 
 -- the share that a column has of tenant t; 0 where there is none
 abbrev pub split_in : ℕ → Option Column → ℕ

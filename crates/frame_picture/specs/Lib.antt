@@ -1,3 +1,6 @@
-pub mod Rows
-pub mod Rectangles
+pub mod Cells
+pub mod Columns
 pub mod Curve
+pub mod Histories
+pub mod Rectangles
+pub mod Rows

@@ -1,22 +1,22 @@
 -- Equal rows of cells, as rectangles. A run is how many rows from one on have the kind, where the row below hasn't it.
 use Rattle.std.specs.Prelude.{◌≡◌, ◌≢◌, ℕ, zero, suc, false, ◌+◌, ◌-◌, ◌<◌, ◌≤◌, ◌==◌, ◌⊎◌, Bool, if◌then◌else◌, List, [], take, drop, slice_index_or}
 use Rattle.std.specs.List.{prefix_len}
-use Rattle.frame_cells.specs.declared.cell.Cell.{Cell}
-use Rattle.frame_cells.specs.declared.cell.Cell.TheVariants.{NotHeld}
-use Rattle.frame_cells.specs.Cells.{rank_of}
+use Rattle.frame_picture.specs.declared.cell.Cell.{Cell}
+use Rattle.frame_picture.specs.declared.cell.Cell.TheVariants.{NotHeld}
+use Rattle.frame_picture.specs.Cells.{rank_of}
 use Rattle.frame_picture.specs.declared.rectangles.Rectangle.{Rectangle}
 
-abbrev pub is_kind : Cell → Cell → Bool
-is_kind kind cell = rank_of cell == rank_of kind
+abbrev pub is_cell_kind : Cell → Cell → Bool
+is_cell_kind kind cell = rank_of cell == rank_of kind
 
 -- the kind is that of the row below this one
 abbrev pub goes_on : Cell → List Cell → ℕ → Bool
 goes_on kind cells zero = false
-goes_on kind cells (suc below) = is_kind kind (slice_index_or cells below NotHeld)
+goes_on kind cells (suc below) = is_cell_kind kind (slice_index_or cells below NotHeld)
 
 -- the run of a kind that begins at a row; 0 where none begins
 abbrev pub run_at : Cell → List Cell → ℕ → ℕ
-run_at kind cells row = if goes_on kind cells row then 0 else prefix_len (is_kind kind) (drop row cells)
+run_at kind cells row = if goes_on kind cells row then 0 else prefix_len (is_cell_kind kind) (drop row cells)
 
 -- the run at a row in a column of which so many rows are shown
 abbrev pub run_in : List (List Cell) → Cell → ℕ → ℕ → ℕ → ℕ

@@ -1,11 +1,11 @@
 -- The kind of a row of a tenant's band in a column.
 use Rattle.std.specs.Prelude.{ℕ, ◌+◌, ◌-◌, ◌*◌, ◌^◌, ◌<◌, ◌≤◌, ◌==◌, min, if◌then◌else◌, List, [], ◌∷◌, ◌++◌, Option, Some, None, length, count_by, slice_range}
 use Rattle.model_core.specs.declared.owner.Owner.{Owner}
-use Rattle.frame_cells.specs.declared.cell.Cell.{Cell}
-use Rattle.frame_cells.specs.declared.cell.Cell.TheVariants.{NotHeld}
-use Rattle.frame_cells.specs.declared.history.Sheet.{Sheet}
-use Rattle.frame_cells.specs.declared.history.Column.{Column}
-use Rattle.frame_cells.specs.Cells.{rank_of}
+use Rattle.frame_picture.specs.declared.cell.Cell.{Cell}
+use Rattle.frame_picture.specs.declared.cell.Cell.TheVariants.{NotHeld}
+use Rattle.frame_picture.specs.declared.history.Sheet.{Sheet}
+use Rattle.frame_picture.specs.declared.history.Column.{Column}
+use Rattle.frame_picture.specs.Cells.{rank_of}
 use Rattle.frame_picture.specs.declared.grid.Grid.{Grid}
 
 -- of the cells of a slot that begins at frame base, those of the frames from first on and below end

@@ -3,7 +3,7 @@
 ghost use Rattle.std.specs.Prelude.{◌≡◌, ◌≢◌, ◌<◌, length, MatchOption};
 ghost use Rattle.frame_picture.specs.Curve.{split_at, split_before};
 
-use frame_cells::history::Column;
+use crate::history::Column;
 
 /// What the curve of tenant `t` is over a column, in thousandths.
 pub fn split_at(columns: &[Column], t: u8, column: usize) -> u32

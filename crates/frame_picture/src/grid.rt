@@ -3,11 +3,11 @@
 ghost use Rattle.std.specs.Prelude.{◌≡◌, ℕ, ◌+◌, ◌*◌, ◌^◌, ◌<◌, ◌≤◌, min, Some, slice_get, MatchOption};
 ghost use Rattle.std.specs.Int.{div_ceil};
 ghost use Rattle.model_core.specs.declared.owner.Owner.{Owner};
-ghost use Rattle.frame_cells.specs.declared.history.Column.{Column};
-ghost use Rattle.frame_cells.specs.declared.history.Sheet.{Sheet};
-ghost use Rattle.frame_cells.specs.Histories.{columns_of};
+ghost use Rattle.frame_picture.specs.declared.history.Column.{Column};
+ghost use Rattle.frame_picture.specs.declared.history.Sheet.{Sheet};
+ghost use Rattle.frame_picture.specs.Histories.{columns_of};
 
-use frame_cells::history::{Column, History, Sheet};
+use crate::history::{Column, History, Sheet};
 use std::ops::Range;
 
 /// A line is drawn below at most so many slots.

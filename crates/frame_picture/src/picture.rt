@@ -1,16 +1,16 @@
 //! The picture of a trace, in SVG.
 
 ghost use Rattle.std.specs.Prelude.{◌≡◌, ℕ, ◌+◌, ◌<◌, IfOk, IfSome, IfNone, slice_get, slice_index_or, List, Some, vec_len};
-ghost use Rattle.frame_cells.specs.declared.cell.Cell.{Cell};
-ghost use Rattle.frame_cells.specs.declared.history.Column.{Column};
-ghost use Rattle.frame_cells.specs.Histories.{columns_of, room_of, tenants_of};
+ghost use Rattle.frame_picture.specs.declared.cell.Cell.{Cell};
+ghost use Rattle.frame_picture.specs.declared.history.Column.{Column};
+ghost use Rattle.frame_picture.specs.Histories.{columns_of, room_of, tenants_of};
 ghost use Rattle.frame_picture.specs.Rows.{IsRowKind};
 
+use crate::cell::Cell;
 use crate::grid::Grid;
+use crate::history::{Column, History};
 use crate::rows::{MOST_ROWS, set_rows};
 use crate::svg::{HEAD, band_height, draw_band, draw_head, draw_opening};
-use frame_cells::cell::Cell;
-use frame_cells::history::{Column, History};
 use std::alloc::{AllocError, Global};
 use std::io::{self, Write};
 use std::ops::Range;

@@ -2,10 +2,10 @@
 
 ghost use Rattle.std.specs.Prelude.{◌≡◌, ◌≢◌, ℕ, ◌+◌, ◌-◌, ◌<◌, ◌≤◌, length, drop, MatchOption, IfSome};
 ghost use Rattle.std.specs.List.{prefix_len};
-ghost use Rattle.frame_picture.specs.Rectangles.{is_kind, run_at, run_in, IsRectangle, GoesOn};
+ghost use Rattle.frame_picture.specs.Rectangles.{is_cell_kind, run_at, run_in, IsRectangle, GoesOn};
 
+use crate::cell::Cell;
 use crate::rows::MOST_ROWS;
-use frame_cells::cell::Cell;
 
 /// A rectangle of cells of one kind.
 #[derive(Clone, Copy, Debug, PartialEq, Eq)]

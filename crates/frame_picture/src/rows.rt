@@ -1,12 +1,12 @@
 //! The kind of each row in a column.
 
 ghost use Rattle.std.specs.Prelude.{◌≡◌, ℕ, ◌+◌, ◌^◌, ◌<◌, ◌≤◌, ◌==◌, length, count_by, slice_index, slice_index_or, EachIndex};
-ghost use Rattle.frame_cells.specs.Cells.{rank_of};
+ghost use Rattle.frame_picture.specs.Cells.{rank_of};
 ghost use Rattle.frame_picture.specs.Rows.{cells_in, row_cells, kind_count, IsMostCommon, IsRowKind};
 
+use crate::cell::{Cell, KINDS};
 use crate::grid::Grid;
-use frame_cells::cell::{Cell, KINDS};
-use frame_cells::history::{Column, Sheet};
+use crate::history::{Column, Sheet};
 
 /// A band has at most this many rows.
 pub const MOST_ROWS: usize = 256;

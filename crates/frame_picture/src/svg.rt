@@ -2,12 +2,12 @@
 
 ghost use Rattle.std.specs.Prelude.{◌<◌, ◌≤◌, length};
 
+use crate::cell::Cell;
 use crate::curve::turn_at;
 use crate::grid::{Grid, MOST_SLOT_LINES};
+use crate::history::{Column, History, MOST_COLUMNS};
 use crate::rectangles::{Rectangle, rectangle_at};
 use crate::rows::MOST_ROWS;
-use frame_cells::cell::Cell;
-use frame_cells::history::{Column, History, MOST_COLUMNS};
 use std::fmt;
 use std::io::{self, Write};
 

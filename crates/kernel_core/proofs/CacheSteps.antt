@@ -16,8 +16,8 @@ use Rattle.layout_core.specs.declared.layout.LayoutRefusal.TheVariants as cuttin
 use Rattle.space_core.specs.Content as spaces
 use Rattle.buddy_core.specs.Content as buddies
 use Rattle.slab_tables.specs.Content as tables
-use Rattle.slab_laws.specs.Shows.{Agree}
-use Rattle.slab_laws.specs.Keeps as keeping
+use Rattle.parts_laws.specs.Shows.{Agree}
+use Rattle.parts_laws.specs.Keeps as keeping
 use Rattle.words_core.specs.declared.event.Command.{Command}
 use Rattle.words_core.specs.declared.event.Command.TheVariants as Asked
 use Rattle.words_core.specs.declared.reply.Body.{Body}

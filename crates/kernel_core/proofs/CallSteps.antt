@@ -5,8 +5,8 @@ use Rattle.space_core.specs.Content as spaces
 use Rattle.space_core.specs.Laws.{SpareStays}
 use Rattle.buddy_core.specs.Content as buddies
 use Rattle.slab_tables.specs.Content as tables
-use Rattle.slab_laws.specs.Shows.{Agree}
-use Rattle.slab_laws.specs.Keeps.{Spares}
+use Rattle.parts_laws.specs.Shows.{Agree}
+use Rattle.parts_laws.specs.Keeps.{Spares}
 use Rattle.model_core.specs.declared.limits.TheConstants.{MOST_ORDER, MOST_SUPERBLOCKS, MOST_TENANTS}
 use Rattle.model_core.specs.Machine.{Machine}
 use Rattle.model_core.specs.Operations.{Step}

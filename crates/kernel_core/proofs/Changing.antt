@@ -6,8 +6,8 @@ use Rattle.space_core.specs.Content as spaces
 use Rattle.space_core.specs.Laws.{SpaceLaws}
 use Rattle.buddy_core.specs.Content as buddies
 use Rattle.slab_tables.specs.Content as tables
-use Rattle.slab_laws.specs.Shows.{Agree}
-use Rattle.part_laws.specs.Slots.{HoldTogether}
+use Rattle.parts_laws.specs.Shows.{Agree}
+use Rattle.parts_laws.specs.Slots.{HoldTogether}
 use Rattle.kernel_core.specs.Parts.{Parts, PartsAgree}
 use Rattle.kernel_core.proofs.Worlds.{false_is}
 
@@ -38,10 +38,6 @@ same_order k agree = sym agree.agree.order ∙ agree.top
 -- each tenant has its row in the memory's mapping
 pub has_row : (k : Parts) (t : ℕ) → PartsAgree k → t < k.tenants → t < length k.space.slots
 has_row k t agree less = omega (arith, less, agree.agree.rows, agree.holdings)
-
--- there are as many superblocks in the memory as in the machine
-pub same_superblocks : (k : Parts) → PartsAgree k → length k.space.owners ≡ k.superblocks
-same_superblocks k agree = agree.agree.superblocks ∙ agree.sheets
 
 -- a tenant that is not named is another one
 pub unnamed : (t u : ℕ) → (t == u) ≡ false → u ≢ t

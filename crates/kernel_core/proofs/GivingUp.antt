@@ -1,19 +1,19 @@
 -- The superblocks of one tenant are taken back, one after the other.
 use Rattle.model_core.specs.declared.owner.Owner.{Owner}
 use Rattle.std.proofs.Common.{◌≡◌, ◌≢◌, ℕ, ◌+◌, ◌<◌, ◌≤◌, nat_lt, true, false, if◌then◌else◌, Option, Some, None, length, map, take, count_by, slice_index_or, slice_set, refl, sym, ap, ◌∙◌, ⊎_elim, arith}
-use Rattle.std.proofs.lemmas.Bool.{cases_eq, cases_lt, eq-eqb, lt-ltb}
+use Rattle.std.proofs.lemmas.Bool.{cases_eq, cases_lt, eq-eqb, lt-ltb, ne_eqb}
 use Rattle.std.proofs.lemmas.List.{length-set, get_or-set_same, get_or-set_other, get_or-map, get_or_default, get_or_past, same_lists}
 use Rattle.std.proofs.lemmas.List.Sums.{count_by_more_yes, count_by_more_no}
 use Rattle.std.proofs.Math.ListN.{length-map}
 use Rattle.std.proofs.Math.Seq.{take-length}
 use Rattle.space_core.specs.Content.{Content, IsSpace, superblock_at, owner_at, mark_at}
-use Rattle.space_core.specs.Changes.{taken_back}
+use Rattle.space_core.specs.Changes.{with_take_back}
 use Rattle.space_core.specs.Laws.{IsSameFor, OthersStay}
 use Rattle.model_core.specs.Owners.{owned_by, is_of}
 use Rattle.world_core.specs.World.{given_up}
 use Rattle.kernel_core.specs.Parts.{mark_after, MarksFollow}
 use Rattle.kernel_core.specs.GivenUp.{GivesUp}
-use Rattle.kernel_core.proofs.Rising.{is_same, is_other, not_less, some_none}
+use Rattle.kernel_core.proofs.Rising.{is_same, not_less, some_none}
 use Rattle.kernel_core.proofs.Marks.{marks_replaced}
 
 pub same_after : (u : ℕ) (a b c : Content) → IsSameFor u a b → IsSameFor u b c → IsSameFor u a c
@@ -45,34 +45,9 @@ next_less n m other = ⊎_elim
     (λ le. not_less n (m + 1) (omega (arith, other)) ∙ sym (not_less n m le))
     (cases_lt n m)
 
--- the next one is another's, or no one's
-pub giving_passes : (old now : Content) (t m told : ℕ) → IsGivingUp old now t m told → m < length old.owners → is_of t (owner_at now.owners m) ≡ false
-    → IsGivingUp old now t (m + 1) told
-giving_passes old now t m told g below unlike =
-    let was : is_of t (owner_at old.owners m) ≡ false = ap (is_of t) (sym (still old now t m told g)) ∙ unlike in
-    record {
-      small = omega (arith, g.small);
-      count = g.count ∙ sym (count_by_more_no (is_of t) old.owners m None below was);
-      unit = g.unit;
-      rows = g.rows;
-      long = g.long;
-      banks = g.banks;
-      marks = g.marks;
-      owners = λ n. ⊎_elim
-          (λ same.
-          let here : nat_lt n (m + 1) ≡ true = lt-ltb n (m + 1) (omega arith) in
-          ap (λ i. owner_at now.owners i) same ∙ still old now t m told g
-          ∙ sym (ap (λ b. if b then None else owner_at old.owners m) was)
-          ∙ ap (λ i. given_up (is_of t) (owner_at old.owners i)) (sym same)
-          ∙ sym (ap (λ b. if b then given_up (is_of t) (owner_at old.owners n) else owner_at old.owners n) here))
-          (λ other. g.owners n ∙ ap (λ b. if b then given_up (is_of t) (owner_at old.owners n) else owner_at old.owners n) (sym (next_less n m other)))
-          (cases_eq n m);
-      others = g.others;
-    }
-
 -- the next one is the tenant's, and taken back
 pub giving_takes : (old now : Content) (t slot m told : ℕ) → IsGivingUp old now t m told → IsSpace now → OthersStay now → m < length old.owners → owner_at now.owners m ≡ Some (owned_by t slot)
-    → IsGivingUp old (taken_back now t slot m) t (m + 1) (told + 1)
+    → IsGivingUp old (with_take_back now t slot m) t (m + 1) (told + 1)
 giving_takes old now t slot m told g space stay below own =
     let own_before : owner_at old.owners m ≡ Some (owned_by t slot) = sym (still old now t m told g) ∙ own in
     let was : is_of t (owner_at old.owners m) ≡ true = ap (is_of t) own_before ∙ is_same t in
@@ -96,7 +71,7 @@ giving_takes old now t slot m told g space stay below own =
           (λ other. get_or-set_other now.owners m n None None other
           ∙ g.owners n ∙ ap (λ b. if b then given_up (is_of t) (owner_at old.owners n) else owner_at old.owners n) (sym (next_less n m other)))
           (cases_eq n m);
-      others = λ u other. same_after u old now (taken_back now t slot m) (g.others u other) (stay.take_back t slot m u other);
+      others = λ u other. same_after u old now (with_take_back now t slot m) (g.others u other) (stay.take_back t slot m u other);
     }
 
 -- no owner is the tenant after the giving up
@@ -105,7 +80,7 @@ never_own t slot None is = some_none (sym is)
 never_own t slot (Some o) is = ⊎_elim
     (λ same. some_none (sym (sym (ap (λ b. if b then None else Some o) (eq-eqb o.tenant t same)) ∙ is)))
     (λ other.
-    let told : Some o ≡ Some (owned_by t slot) = sym (ap (λ b. if b then None else Some o) (is_other o.tenant t other)) ∙ is in
+    let told : Some o ≡ Some (owned_by t slot) = sym (ap (λ b. if b then None else Some o) (ne_eqb o.tenant t other)) ∙ is in
     other (tenant_of o (owned_by t slot) told))
     (cases_eq o.tenant t)
   where

@@ -5,11 +5,11 @@ use Rattle.model_core.specs.Machine.{Machine}
 use Rattle.model_core.specs.Operations.{next_slot, after_grant}
 use Rattle.model_core.specs.Owners.{owned_by}
 use Rattle.space_core.specs.Content.{IsSpace, owner_at, mark_at}
-use Rattle.space_core.specs.Changes.{IsLeastSlot, granted}
+use Rattle.space_core.specs.Changes.{IsLeastSlot, with_grant}
 use Rattle.buddy_core.specs.Content as buddies
-use Rattle.part_laws.specs.Slots.{HoldTogether, ChangesFor}
-use Rattle.part_laws.proofs.SlotGranted.{granted_shows}
-use Rattle.part_laws.proofs.SlotNext.{next_meets}
+use Rattle.parts_laws.specs.Slots.{HoldTogether, ChangesFor}
+use Rattle.parts_laws.proofs.SlotGranted.{granted_shows}
+use Rattle.parts_laws.proofs.SlotNext.{next_meets}
 use Rattle.words_core.specs.declared.event.Event.TheVariants as On
 use Rattle.words_core.specs.declared.event.AdminCommand.TheVariants as Do
 use Rattle.words_core.specs.declared.reply.Reply.{Reply}
@@ -30,7 +30,7 @@ use Rattle.kernel_core.proofs.Owners.{was_none}
 pub record IsGrantable (k : Parts) (t u m : ℕ) : Type 0 where
   pub agree : PartsAgree k
   pub together : HoldTogether k.space k.buddy k.slabs
-  pub space_after : IsSpace (granted k.space t u m)
+  pub space_after : IsSpace (with_grant k.space t u m)
   pub tenant : t < k.tenants
   pub free : position is_none k.space.owners ≡ Some m
   pub least : IsLeastSlot k.space.slots t u
@@ -39,18 +39,18 @@ pub record IsGrantable (k : Parts) (t u m : ℕ) : Type 0 where
 
 -- the parts afterwards
 abbrev pub after : ℕ → ℕ → ℕ → Parts → Parts
-after t u m k = changed k (granted k.space t u m) t (buddies.with_slot u m (buddies.holding_of t k.buddy)) k.slabs
+after t u m k = changed k (with_grant k.space t u m) t (buddies.with_slot u m (buddies.holding_of t k.buddy)) k.slabs
 
 pub unowned : (k : Parts) (t u m : ℕ) → IsGrantable k t u m → owner_at k.space.owners m ≡ None
 unowned k t u m g = was_none (owner_at k.space.owners m) (position-Some is_none k.space.owners m None g.free).1
 
 changes : (k : Parts) (t u m : ℕ) → IsGrantable k t u m
-    → ChangesFor t k.space (granted k.space t u m) k.buddy (after t u m k).buddy k.slabs k.slabs (after_grant k.slabs.top)
+    → ChangesFor t k.space (with_grant k.space t u m) k.buddy (after t u m k).buddy k.slabs k.slabs (after_grant k.slabs.top)
 changes k t u m g =
     granted_shows k.space k.buddy k.slabs t u m g.together (has_row k t g.agree g.tenant) g.least g.slot_below g.below (unowned k t u m g)
 
 pub agree_granted : (k : Parts) (t u m : ℕ) → IsGrantable k t u m → PartsAgree (after t u m k)
-agree_granted k t u m g = agree_changed k (granted k.space t u m) t _ k.slabs g.agree g.space_after (changes k t u m g).agree
+agree_granted k t u m g = agree_changed k (with_grant k.space t u m) t _ k.slabs g.agree g.space_after (changes k t u m g).agree
 
 -- the reply to a grant
 abbrev pub granted_reply : ℕ → ℕ → ℕ → Reply

@@ -1,17 +1,17 @@
--- A slot is moved to a superblock without owner.
+-- A slot is with_move to a superblock without owner.
 use Rattle.std.proofs.Common.{◌≡◌, ℕ, zero, suc, ◌<◌, ◌≤◌, true, false, Option, Some, None, is_some, is_none, List, [], ◌∷◌, length, map, position, slice_get, slice_set, refl, sym, ap, ◌∙◌, arith}
 use Rattle.std.proofs.lemmas.List.{length-set}
 use Rattle.std.proofs.lemmas.List.Quantifiers.{position-Some}
 use Rattle.model_core.specs.Machine.{Machine, holds}
 use Rattle.model_core.specs.Owners.{owned_by, is_owner}
 use Rattle.space_core.specs.Content.{Content, IsSpace, owner_at, mark_at}
-use Rattle.space_core.specs.Changes.{moved}
+use Rattle.space_core.specs.Changes.{with_move}
 use Rattle.buddy_core.specs.Content as buddies
 use Rattle.slab_tables.specs.Content as tables
 use Rattle.slab_tables.specs.Changes.{IsMoved}
-use Rattle.part_laws.specs.Slots.{HoldTogether, IsSpare, ChangesFor}
-use Rattle.part_laws.proofs.SlotBare.{unowned_is_spare}
-use Rattle.part_laws.proofs.SlotMoved.{moved_shows}
+use Rattle.parts_laws.specs.Slots.{HoldTogether, IsSpare, ChangesFor}
+use Rattle.parts_laws.proofs.SlotBare.{unowned_is_spare}
+use Rattle.parts_laws.proofs.SlotMoved.{moved_shows}
 use Rattle.words_core.specs.declared.event.Event.TheVariants as On
 use Rattle.words_core.specs.declared.event.AdminCommand.TheVariants as Do
 use Rattle.words_core.specs.declared.reply.Reply.{Reply}
@@ -32,7 +32,7 @@ use Rattle.kernel_core.proofs.Owners.{was_none, is_under, given_up_one}
 pub record IsMovable (k : Parts) (s : tables.Content) (t u from to : ℕ) : Type 0 where
   pub agree : PartsAgree k
   pub together : HoldTogether k.space k.buddy k.slabs
-  pub space_after : IsSpace (moved k.space t u from to)
+  pub space_after : IsSpace (with_move k.space t u from to)
   pub tenant : t < k.tenants
   pub here : superblock_at k t u ≡ Some from
   pub below : from < length k.space.owners
@@ -46,18 +46,18 @@ to_spare k to holds free = unowned_is_spare k.space k.buddy k.slabs to holds (wa
 
 -- the parts afterwards
 abbrev pub after : ℕ → ℕ → ℕ → ℕ → tables.Content → Parts → Parts
-after t u from to s k = changed k (moved k.space t u from to) t (buddies.with_slot u to (buddies.holding_of t k.buddy)) s
+after t u from to s k = changed k (with_move k.space t u from to) t (buddies.with_slot u to (buddies.holding_of t k.buddy)) s
 
 pub unowned : (k : Parts) (s : tables.Content) (t u from to : ℕ) → IsMovable k s t u from to → owner_at k.space.owners to ≡ None
 unowned k s t u from to g = was_none (owner_at k.space.owners to) (position-Some is_none k.space.owners to None g.free).1
 
 changes : (k : Parts) (s : tables.Content) (t u from to : ℕ) → IsMovable k s t u from to
-    → ChangesFor t k.space (moved k.space t u from to) k.buddy (after t u from to s k).buddy k.slabs s (λ m. m)
+    → ChangesFor t k.space (with_move k.space t u from to) k.buddy (after t u from to s k).buddy k.slabs s (λ m. m)
 changes k s t u from to g =
     (moved_shows k.space k.buddy k.slabs s t u from to g.together (has_row k t g.agree g.tenant) g.here g.to_below (unowned k s t u from to g) g.slabs).1
 
 pub agree_moved : (k : Parts) (s : tables.Content) (t u from to : ℕ) → IsMovable k s t u from to → PartsAgree (after t u from to s k)
-agree_moved k s t u from to g = agree_changed k (moved k.space t u from to) t _ s g.agree g.space_after (changes k s t u from to g).agree
+agree_moved k s t u from to g = agree_changed k (with_move k.space t u from to) t _ s g.agree g.space_after (changes k s t u from to g).agree
 
 -- the reply
 abbrev pub moved_reply : ℕ → ℕ → ℕ → Reply
@@ -73,7 +73,7 @@ set_here (y ∷ ys) (suc i) x here = ap (λ zs. y ∷ zs) (set_here ys i x here)
 moved_is : (k : Parts) (s : tables.Content) (w : World) (t u from to : ℕ) (x : Machine) → IsMovable k s t u from to → Shows k w → slice_get w.machines t ≡ Some x
     → holds x u ≡ true
     → world_step cache_limit k.order (On.Admin (Do.Move t u)) w
-    ≡ record { reply = moved_reply t u to; world = record { owners = (moved k.space t u from to).owners; machines = slice_set w.machines t x } }
+    ≡ record { reply = moved_reply t u to; world = record { owners = (with_move k.space t u from to).owners; machines = slice_set w.machines t x } }
 unfolding world_step move_step
 moved_is k s w t u from to x g shown here held =
     ap (λ o. move_step t u w o (position is_none w.owners)) here
@@ -82,7 +82,7 @@ moved_is k s w t u from to x g shown here held =
     ∙ ap (λ os. record { reply = moved_reply t u to; world = record { owners = slice_set (map (given_up (is_owner t u)) os) to (Some (owned_by t u)); machines = w.machines } }) shown.owners
     ∙ ap (λ os. record { reply = moved_reply t u to; world = record { owners = slice_set os to (Some (owned_by t u)); machines = w.machines } })
     (sym (given_up_one k.space t u from (is_under k.space t u from g.agree.space g.below g.here)))
-    ∙ ap (λ ms. record { reply = moved_reply t u to; world = record { owners = (moved k.space t u from to).owners; machines = ms } }) (sym (set_here w.machines t x here))
+    ∙ ap (λ ms. record { reply = moved_reply t u to; world = record { owners = (with_move k.space t u from to).owners; machines = ms } }) (sym (set_here w.machines t x here))
   where
     step : holds x u ≡ true → move_step t u w (Some x) (Some to) ≡ moved_to t u w (Some to)
     step is = rw is refl

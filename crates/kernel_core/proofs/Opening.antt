@@ -2,12 +2,12 @@
 use Rattle.std.proofs.Common.{◌≡◌, ℕ, ◌*◌, ◌^◌, ◌<◌, ◌≤◌, ◌&&◌, nat_le, true, Some, refl, sym, ◌∙◌, subst, arith}
 use Rattle.std.proofs.lemmas.Bool.{and_parts, leb-true}
 use Rattle.std.proofs.lemmas.List.{length-replicate}
-use Rattle.std.proofs.lemmas.Option.{slice_get_within}
+use Rattle.std.proofs.lemmas.Option.{slice_get_within, same_Some}
 use Rattle.std.specs.Prelude.{replicate}
 use Rattle.model_core.specs.Machine.{empty_machine}
 use Rattle.model_core.specs.declared.limits.TheConstants.{LEAST_ORDER, MOST_ORDER, MOST_SUPERBLOCKS, MOST_TENANTS}
 use Rattle.space_core.specs.Content as spaces
-use Rattle.part_laws.proofs.SlotEmpty.{opening_shows}
+use Rattle.parts_laws.proofs.SlotEmpty.{opening_shows}
 use Rattle.world_core.specs.World.{opening_world}
 use Rattle.world_core.proofs.MachineLists.{slice_get-replicate}
 use Rattle.kernel_core.specs.declared.kernel.Config.{Config}
@@ -39,9 +39,6 @@ opening_agrees order superblocks tenants small few many space = record {
   agree = (opening_shows order superblocks tenants).agree;
 }
 
-some_same : {A : Type 0} (x y : A) → Some x ≡ Some y → x ≡ y
-some_same x y e = cc
-
 pub opening_world_shown : (order superblocks tenants : ℕ) → order ≤ MOST_ORDER → superblocks ≤ MOST_SUPERBLOCKS → tenants ≤ MOST_TENANTS
     → spaces.IsSpace (spaces.empty_space (4096 * 2 ^ order) superblocks tenants) → Shows (opening_parts order superblocks tenants) (opening_world superblocks tenants)
 unfolding opening_parts opening_world
@@ -51,6 +48,6 @@ opening_world_shown order superblocks tenants small few many space = record {
   tenants = length-replicate tenants empty_machine;
   machines = λ t m here.
       let within : t < tenants = omega (arith, slice_get_within (replicate tenants empty_machine) t m here, length-replicate tenants empty_machine) in
-      let is : empty_machine ≡ m = some_same empty_machine m (sym (slice_get-replicate tenants t empty_machine within) ∙ here) in
+      let is : empty_machine ≡ m = same_Some empty_machine m (sym (slice_get-replicate tenants t empty_machine within) ∙ here) in
       subst (λ x. ShowsMachine (opening_parts order superblocks tenants) t x) is ((opening_shows order superblocks tenants).shows t);
 }

@@ -7,6 +7,7 @@ use Rattle.std.proofs.lemmas.List.{length-set, get_or-set_same, get_or-set_other
 use Rattle.std.proofs.lemmas.List.Sums.{position_or_len_is}
 use Rattle.std.proofs.lemmas.List.Quantifiers.{position-Some}
 use Rattle.std.proofs.Math.ListN.{length-map}
+use Rattle.std.proofs.lemmas.Option.{same_Some}
 use Rattle.space_core.specs.Content as spaces
 use Rattle.space_core.specs.Content.{IsSpace, owner_at}
 use Rattle.model_core.specs.Owners.{owned_by, is_owner}
@@ -16,13 +17,6 @@ use Rattle.kernel_core.proofs.Rising.{is_same}
 pub was_none : (o : Option Owner) → is_none o ≡ true → o ≡ None
 was_none None _ = refl
 was_none (Some o) fails = absurd (false≢true fails)
-
--- the first superblock without owner has none
-pub unowned_at : (owners : List (Option Owner)) (m : ℕ) → position is_none owners ≡ Some m → owner_at owners m ≡ None
-unowned_at owners m free = was_none (owner_at owners m) (position-Some is_none owners m None free).1
-
-pub same_some : {A : Type 0} (x y : A) → Some x ≡ Some y → x ≡ y
-same_some x y e = cc
 
 -- an owner is one tenant with one slot
 pub owner_is : (t u : ℕ) (o : Option Owner) → is_owner t u o ≡ true → o ≡ Some (owned_by t u)
@@ -47,7 +41,7 @@ is_under s t u m space within here = record {
   within = within;
   owner = (space.agree t u m).0 here;
   only = λ n other. false_from_ne_true (is_owner t u (owner_at s.owners n)) (λ owns.
-      other (same_some n m (sym ((space.agree t u n).1 (owner_is t u (owner_at s.owners n) owns)) ∙ here)));
+      other (same_Some n m (sym ((space.agree t u n).1 (owner_is t u (owner_at s.owners n) owns)) ∙ here)));
 }
 
 -- its number is found by its owner

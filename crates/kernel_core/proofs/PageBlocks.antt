@@ -7,9 +7,9 @@ use Rattle.model_core.specs.Operations.{alloc_at, alloc_step, free_step, without
 use Rattle.space_core.specs.Content as spaces
 use Rattle.buddy_core.specs.Content as buddies
 use Rattle.slab_tables.specs.Content as tables
-use Rattle.slab_laws.specs.Shows.{node_of, has_slab}
-use Rattle.part_laws.specs.Pages.{released}
-use Rattle.part_laws.proofs.PageTaken.{released_shows, released_agrees}
+use Rattle.parts_laws.specs.Shows.{node_of, has_slab}
+use Rattle.parts_laws.specs.Pages.{released}
+use Rattle.parts_laws.proofs.PageTaken.{released_shows, released_agrees}
 use Rattle.words_core.specs.declared.event.Command.TheVariants.{Alloc, Free}
 use Rattle.words_core.specs.declared.reply.Body.TheVariants.{Frame, Freed, Refused}
 use Rattle.words_core.specs.declared.reply.Refusal.TheVariants.{BadOrder, NoFrames, NotABlock}

@@ -10,11 +10,11 @@ use Rattle.space_core.specs.Windows.{home_of, window_of, bytes_under}
 use Rattle.space_core.specs.Laws.{IsRead, SpaceLaws}
 use Rattle.buddy_core.specs.Content as buddies
 use Rattle.slab_tables.specs.Content as tables
-use Rattle.slab_laws.specs.Steady.{IsSteady}
-use Rattle.part_laws.specs.Pages.{IsInReach, stored}
-use Rattle.part_laws.proofs.PageReach.{reach_meets}
-use Rattle.part_laws.proofs.PageHolds.{reach_reads}
-use Rattle.part_laws.proofs.PageWritten.{written_shows, written_agrees}
+use Rattle.parts_laws.specs.Steady.{IsSteady}
+use Rattle.parts_laws.specs.Pages.{IsInReach, stored}
+use Rattle.parts_laws.proofs.PageReach.{reach_meets}
+use Rattle.parts_laws.proofs.PageHolds.{reach_reads}
+use Rattle.parts_laws.proofs.PageWritten.{written_shows, written_agrees}
 use Rattle.words_core.specs.declared.event.Command.TheVariants.{Read, Write}
 use Rattle.words_core.specs.declared.reply.Body.TheVariants.{Bytes, Written, Refused}
 use Rattle.words_core.specs.declared.reply.Refusal.TheVariants.{BadLength, OutOfReach}

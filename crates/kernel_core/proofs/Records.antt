@@ -1,10 +1,10 @@
 -- The control records in the kernel's memory.
 use Rattle.std.proofs.Common.{◌≡◌, ℕ, ◌+◌, ◌*◌, ◌/◌, ◌%◌, ◌^◌, true, slice_index, sym, ap, ◌∙◌, subst}
 use Rattle.model_core.specs.Layouts.{is_small}
-use Rattle.slab_laws.specs.Records.{is_set}
-use Rattle.slab_laws.proofs.Facts.{under_is, superblock_of_node, frame_of_node, slab_of_machine}
-use Rattle.part_laws.specs.Pages.{record_at}
-use Rattle.part_laws.proofs.PageRecords as pages
+use Rattle.parts_laws.specs.Records.{is_set}
+use Rattle.parts_laws.proofs.Facts.{under_is, superblock_of_node, frame_of_node, slab_of_machine}
+use Rattle.parts_laws.specs.Pages.{record_at}
+use Rattle.parts_laws.proofs.PageRecords as pages
 use Rattle.kernel_core.specs.Parts.{Parts, PartsAgree, superblock_at, superblock_bytes}
 use Rattle.kernel_core.specs.Records.{RecordsStand}
 use Rattle.kernel_core.proofs.Changing.{same_order}
@@ -27,6 +27,6 @@ records_stand k agree t c f m x y shown ex ey small =
       bits = λ i j low less.
           ap (λ order. is_set (slice_index (superblock_bytes k under.0) (4096 * (f % 2 ^ order) + 4064 + i)) j) (sym (same_order k agree))
           ∙ ap (λ b. is_set b j) (sym (place_is k f under.0 there.node i under.2))
-          ∙ pages.records_stand k.space k.buddy k.slabs t c f there.node there.kept m x y agree.agree shown there.slab
+          ∙ pages.record_meets k.space k.buddy k.slabs t c f there.node there.kept m x y agree.agree shown there.slab
           (subst (λ l. is_small l.chunk ≡ true) there.layout small) ex ey i j low less;
     }

@@ -4,9 +4,9 @@ use Rattle.std.proofs.lemmas.Bool.{eq-eqb, ne_eqb}
 use Rattle.model_core.specs.declared.report.OrderRow.{OrderRow}
 use Rattle.model_core.specs.declared.report.CacheRow.{CacheRow}
 use Rattle.model_core.specs.Machine.{Machine}
-use Rattle.model_core.specs.Reports.{frames_held, frames_taken, frames_free, greatest, greatest_free, free_count, split_share, order_rows, rows_of}
+use Rattle.model_core.specs.Reports.{frames_held, frames_taken, frames_free, greatest, greatest_free, free_count, split_share, order_rows, rows_of_caches}
 use Rattle.buddy_core.specs.Content as buddies
-use Rattle.part_laws.specs.Figures.{HasFigures, AreWithin}
+use Rattle.parts_laws.specs.Figures.{HasFigures, AreWithin}
 use Rattle.words_core.specs.declared.report.Report.{Report}
 use Rattle.world_core.specs.PrivateStep.{figures_of}
 
@@ -34,7 +34,7 @@ top_some order m free top e some is =
 -- figures that are those of the machine, one by one
 pub figures_are : (order : ℕ) (m : Machine) (frames live free : ℕ) (top : Option ℕ) (split : ℕ) (orders : List OrderRow) (caches : List CacheRow)
     → frames ≡ frames_held order m → live ≡ frames_taken m → free ≡ frames_free order m → top ≡ greatest_free order m
-    → split ≡ split_share free top → orders ≡ order_rows order m (order + 1) → caches ≡ rows_of m
+    → split ≡ split_share free top → orders ≡ order_rows order m (order + 1) → caches ≡ rows_of_caches m
     → ◌≡◌ {A = Report}
     (record { frames = frames; live = live; free = free; top = top; split = split; orders = record { items = orders }; caches = record { items = caches } })
     (figures_of order m)

@@ -6,8 +6,8 @@ use Rattle.model_core.specs.declared.report.OrderRow.{OrderRow}
 use Rattle.model_core.specs.Machine.{Machine}
 use Rattle.model_core.specs.Reports.{order_row, order_rows, greatest}
 use Rattle.buddy_core.specs.Content as buddies
-use Rattle.part_laws.specs.Figures.{AreWithin, frames_below}
-use Rattle.part_laws.proofs.FigureOrders.{frames_more}
+use Rattle.parts_laws.specs.Figures.{AreWithin, frames_below}
+use Rattle.parts_laws.proofs.FigureOrders.{frames_more}
 
 abbrev row : ℕ → ℕ → OrderRow
 row free taken = record { free = free; taken = taken }
@@ -30,12 +30,12 @@ greatest_none count k o e none =
 
 -- the frames of one more order fit
 pub live_more : (b : buddies.Content) (t k live taken : ℕ) → AreWithin b t → k < b.top + 1 → live ≡ frames_below (buddies.holding_of t b) k
-    → taken ≡ buddies.taken_blocks k (buddies.holding_of t b)
+    → taken ≡ buddies.taken_block_count k (buddies.holding_of t b)
     → (live + taken * 2 ^ k % 4294967296 ≡ frames_below (buddies.holding_of t b) (k + 1)) × (frames_below (buddies.holding_of t b) (k + 1) ≤ 65536)
 live_more b t k live taken w less e e' =
     let h = buddies.holding_of t b in
-    let more : frames_below h (k + 1) ≡ frames_below h k + buddies.taken_blocks k h * 2 ^ k = frames_more (λ j. buddies.taken_blocks j h) k in
-    let product : taken * 2 ^ k ≡ buddies.taken_blocks k h * 2 ^ k = ap (λ n. n * 2 ^ k) e' in
+    let more : frames_below h (k + 1) ≡ frames_below h k + buddies.taken_block_count k h * 2 ^ k = frames_more (λ j. buddies.taken_block_count j h) k in
+    let product : taken * 2 ^ k ≡ buddies.taken_block_count k h * 2 ^ k = ap (λ n. n * 2 ^ k) e' in
     let within = w.frames (k + 1) (omega arith) in
     let few = w.held in
     (omega arith, omega arith)

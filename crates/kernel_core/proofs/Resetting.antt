@@ -8,8 +8,8 @@ use Rattle.space_core.specs.Content as spaces
 use Rattle.buddy_core.specs.Content as buddies
 use Rattle.slab_tables.specs.Content as tables
 use Rattle.slab_tables.specs.Changes.{IsReset}
-use Rattle.part_laws.specs.Slots.{HoldTogether, ChangesFor}
-use Rattle.part_laws.proofs.SlotEmptied.{emptied_shows}
+use Rattle.parts_laws.specs.Slots.{HoldTogether, ChangesFor}
+use Rattle.parts_laws.proofs.SlotEmptied.{emptied_shows}
 use Rattle.words_core.specs.declared.event.Event.TheVariants as On
 use Rattle.words_core.specs.declared.event.AdminCommand.TheVariants as Do
 use Rattle.words_core.specs.declared.reply.Reply.{Reply}

@@ -1,7 +1,7 @@
 -- Lists that rise by key: what they have after one more is put into them, and that two with the same elements are one.
 use Rattle.std.proofs.Common.{◌≡◌, ◌≢◌, ℕ, ◌+◌, ◌<◌, ◌≤◌, ◌==◌, ◌||◌, not, ◌⊎◌, inl, inr, filter, nat_lt, Bool, true, false, if◌then◌else◌, Some, None, is_some, List, [], ◌∷◌, map, refl, sym, ap, ◌∙◌, subst, ⊎_elim, arith}
 use Rattle.std.specs.List.{list_any}
-use Rattle.std.proofs.lemmas.Bool.{false≢true, lt-ltb, ltb-true, eq-eqb, cases_eq, cases_lt, or_right, or_cases}
+use Rattle.std.proofs.lemmas.Bool.{false≢true, lt-ltb, ltb-true, eq-eqb, cases_eq, cases_lt, or_right, or_cases, ne_eqb}
 use Rattle.std.proofs.lemmas.Bool.Decides.{nat_tests}
 use Rattle.model_core.specs.Blocks.{Block, block}
 use Rattle.model_core.specs.Machine.{put_rising, least_missing, order_in}
@@ -10,9 +10,6 @@ use Rattle.model_core.proofs.Rising.{has, none_below, same_rising}
 
 pub is_same : (n : ℕ) → (n == n) ≡ true
 is_same n = eq-eqb n n refl
-
-pub is_other : (a b : ℕ) → a ≢ b → (a == b) ≡ false
-is_other a b other = grind (arith)
 
 pub not_less : (a b : ℕ) → b ≤ a → nat_lt a b ≡ false
 not_less a b le = grind (arith, nat_tests)
@@ -39,7 +36,7 @@ pub rises-put : {X : Type 0} (key : X → ℕ) (x : X) (n : ℕ) (xs : List X) �
 rises-put key x n [] rises low new = (low, tt)
 rises-put key x n (y ∷ ys) (first, rises) low new =
     let other : key y ≢ key x = λ same. false≢true (sym new ∙ ap (λ b. b || has (key x) (map key ys)) (eq-eqb (key y) (key x) same)) in
-    go (nat_lt (key x) (key y)) refl (λ above. rises-put key x (key y + 1) ys rises above (sym (ap (λ b. b || has (key x) (map key ys)) (is_other (key y) (key x) other)) ∙ new)) other
+    go (nat_lt (key x) (key y)) refl (λ above. rises-put key x (key y + 1) ys rises above (sym (ap (λ b. b || has (key x) (map key ys)) (ne_eqb (key y) (key x) other)) ∙ new)) other
   where
     go : (less : Bool) → nat_lt (key x) (key y) ≡ less → (key y + 1 ≤ key x → RisesFrom (key y + 1) (map key (put_rising key x ys))) → key y ≢ key x
         → RisesFrom n (map key (if less then x ∷ y ∷ ys else y ∷ put_rising key x ys))
@@ -54,18 +51,18 @@ least_missing_is n s [] rises low missing below =
     ⊎_elim (λ less. absurd (false≢true (below n (omega arith) less))) (λ le. omega arith) (cases_lt n s)
 least_missing_is n s (x ∷ xs) (first, rises) low missing below =
     let lacks : x ≢ s = λ same. false≢true (sym missing ∙ ap (λ b. b || has s xs) (eq-eqb x s same)) in
-    let missing_after : has s xs ≡ false = sym (ap (λ b. b || has s xs) (is_other x s lacks)) ∙ missing in
+    let missing_after : has s xs ≡ false = sym (ap (λ b. b || has s xs) (ne_eqb x s lacks)) ∙ missing in
     ⊎_elim
     (λ same.
     let higher : n + 1 ≤ s = omega (arith, lacks) in
     let rises_after : RisesFrom (n + 1) xs = subst (λ k. RisesFrom (k + 1) xs) same rises in
     ap (λ b. if b then least_missing (n + 1) xs else n) (eq-eqb x n same)
     ∙ least_missing_is (n + 1) s xs rises_after higher missing_after
-    (λ u above less. sym (ap (λ b. b || has u xs) (is_other x u (λ e. absurd (omega arith)))) ∙ below u (omega arith) less))
+    (λ u above less. sym (ap (λ b. b || has u xs) (ne_eqb x u (λ e. absurd (omega arith)))) ∙ below u (omega arith) less))
     (λ other.
     let above : n < x = omega arith in
     let absent : has n (x ∷ xs) ≡ false = none_below (n + 1) n (x ∷ xs) (omega arith, rises) (omega arith) in
-    ap (λ b. if b then least_missing (n + 1) xs else n) (is_other x n other)
+    ap (λ b. if b then least_missing (n + 1) xs else n) (ne_eqb x n other)
     ∙ ⊎_elim (λ less. absurd (false≢true (sym absent ∙ below n (omega arith) less))) (λ le. omega arith) (cases_lt n s))
     (cases_eq x n)
 
@@ -85,7 +82,7 @@ has-order_in (b ∷ bs) f = at_head (b.first == f) (has-order_in bs f)
 order_below : (n f : ℕ) (bs : List Block) → RisesFrom n (map (λ b. b.first) bs) → f < n → order_in bs f ≡ None
 order_below n f [] _ _ = refl
 order_below n f (b ∷ bs) (low, rises) below =
-    ap (λ t. if t then Some b.order else order_in bs f) (is_other b.first f (λ e. absurd (omega arith))) ∙ order_below (b.first + 1) f bs rises (omega arith)
+    ap (λ t. if t then Some b.order else order_in bs f) (ne_eqb b.first f (λ e. absurd (omega arith))) ∙ order_below (b.first + 1) f bs rises (omega arith)
 
 block_same : (b c : Block) → b.first ≡ c.first → b.order ≡ c.order → b ≡ c
 block_same b c firsts orders = ap (λ f. block f b.order) firsts ∙ ap (λ k. block c.first k) orders
@@ -97,8 +94,8 @@ orders_after b c bs cs f firsts rises rises' same =
     ⊎_elim
     (λ here. order_below (b.first + 1) f bs rises (omega arith) ∙ sym (order_below (c.first + 1) f cs rises' (omega (arith, firsts))))
     (λ other.
-    sym (ap (λ t. if t then Some b.order else order_in bs f) (is_other b.first f other)) ∙ same
-    ∙ ap (λ t. if t then Some c.order else order_in cs f) (is_other c.first f (λ e. other (firsts ∙ e))))
+    sym (ap (λ t. if t then Some b.order else order_in bs f) (ne_eqb b.first f other)) ∙ same
+    ∙ ap (λ t. if t then Some c.order else order_in cs f) (ne_eqb c.first f (λ e. other (firsts ∙ e))))
     (cases_eq b.first f)
 
 -- two rising lists of blocks that tell the same orders are one
@@ -138,20 +135,20 @@ order_in-filter first (b ∷ bs) f = at_head (cases_eq b.first first) (order_in-
         ∙ ⊎_elim
         (λ here. ap (λ t. if t then None else order_in bs f) (eq-eqb f first here) ∙ sym (ap (λ t. if t then None else order_in (b ∷ bs) f) (eq-eqb f first here)))
         (λ elsewhere.
-        ap (λ t. if t then None else order_in bs f) (is_other f first elsewhere)
-        ∙ sym (ap (λ t. if t then None else order_in (b ∷ bs) f) (is_other f first elsewhere)
-        ∙ ap (λ t. if t then Some b.order else order_in bs f) (is_other b.first f (λ e. elsewhere (sym e ∙ same)))))
+        ap (λ t. if t then None else order_in bs f) (ne_eqb f first elsewhere)
+        ∙ sym (ap (λ t. if t then None else order_in (b ∷ bs) f) (ne_eqb f first elsewhere)
+        ∙ ap (λ t. if t then Some b.order else order_in bs f) (ne_eqb b.first f (λ e. elsewhere (sym e ∙ same)))))
         (cases_eq f first)
     at_head (inr other) after =
-        ap (λ t. order_in (if not t then b ∷ rest else rest) f) (is_other b.first first other)
+        ap (λ t. order_in (if not t then b ∷ rest else rest) f) (ne_eqb b.first first other)
         ∙ ⊎_elim
         (λ here.
         ap (λ t. if t then Some b.order else order_in rest f) (eq-eqb b.first f here)
-        ∙ sym (ap (λ t. if t then None else order_in (b ∷ bs) f) (is_other f first (λ e. other (here ∙ e)))
+        ∙ sym (ap (λ t. if t then None else order_in (b ∷ bs) f) (ne_eqb f first (λ e. other (here ∙ e)))
         ∙ ap (λ t. if t then Some b.order else order_in bs f) (eq-eqb b.first f here)))
         (λ elsewhere.
-        ap (λ t. if t then Some b.order else order_in rest f) (is_other b.first f elsewhere) ∙ after
-        ∙ ap (λ o. if f == first then None else o) (sym (ap (λ t. if t then Some b.order else order_in bs f) (is_other b.first f elsewhere))))
+        ap (λ t. if t then Some b.order else order_in rest f) (ne_eqb b.first f elsewhere) ∙ after
+        ∙ ap (λ o. if f == first then None else o) (sym (ap (λ t. if t then Some b.order else order_in bs f) (ne_eqb b.first f elsewhere))))
         (cases_eq b.first f)
 
 -- a list of numbers less one of them
@@ -169,20 +166,20 @@ has-filter u (x ∷ xs) v = at_head (cases_eq x u) (has-filter u xs v)
         ∙ ⊎_elim
         (λ here. ap (λ t. if t then false else has v xs) (eq-eqb v u here) ∙ sym (ap (λ t. if t then false else has v (x ∷ xs)) (eq-eqb v u here)))
         (λ elsewhere.
-        ap (λ t. if t then false else has v xs) (is_other v u elsewhere)
-        ∙ sym (ap (λ t. if t then false else has v (x ∷ xs)) (is_other v u elsewhere)
-        ∙ ap (λ t. t || has v xs) (is_other x v (λ e. elsewhere (sym e ∙ same)))))
+        ap (λ t. if t then false else has v xs) (ne_eqb v u elsewhere)
+        ∙ sym (ap (λ t. if t then false else has v (x ∷ xs)) (ne_eqb v u elsewhere)
+        ∙ ap (λ t. t || has v xs) (ne_eqb x v (λ e. elsewhere (sym e ∙ same)))))
         (cases_eq v u)
     at_head (inr other) after =
-        ap (λ t. has v (if not t then x ∷ rest else rest)) (is_other x u other)
+        ap (λ t. has v (if not t then x ∷ rest else rest)) (ne_eqb x u other)
         ∙ ⊎_elim
         (λ here.
         ap (λ t. t || has v rest) (eq-eqb x v here)
-        ∙ sym (ap (λ t. if t then false else has v (x ∷ xs)) (is_other v u (λ e. other (here ∙ e)))
+        ∙ sym (ap (λ t. if t then false else has v (x ∷ xs)) (ne_eqb v u (λ e. other (here ∙ e)))
         ∙ ap (λ t. t || has v xs) (eq-eqb x v here)))
         (λ elsewhere.
-        ap (λ t. t || has v rest) (is_other x v elsewhere) ∙ after
-        ∙ ap (λ o. if v == u then false else o) (sym (ap (λ t. t || has v xs) (is_other x v elsewhere))))
+        ap (λ t. t || has v rest) (ne_eqb x v elsewhere) ∙ after
+        ∙ ap (λ o. if v == u then false else o) (sym (ap (λ t. t || has v xs) (ne_eqb x v elsewhere))))
         (cases_eq x v)
 
 -- a test that a block of a list passes
@@ -196,7 +193,7 @@ any_from p (b ∷ bs) f o is passes =
     ap (λ t. t || list_any p bs) (ap p (block_same b (block f o) here orders) ∙ passes))
     (λ other.
     or_right (p b) (list_any p bs)
-    (any_from p bs f o (sym (ap (λ t. if t then Some b.order else order_in bs f) (is_other b.first f other)) ∙ is) passes))
+    (any_from p bs f o (sym (ap (λ t. if t then Some b.order else order_in bs f) (ne_eqb b.first f other)) ∙ is) passes))
     (cases_eq b.first f)
 
 -- some block of a rising list passes a test
@@ -218,7 +215,7 @@ any_tells p n (b ∷ bs) (low, rises) found =
     record {
       first = there.first;
       order = there.order;
-      here = ap (λ t. if t then Some b.order else order_in bs there.first) (is_other b.first there.first other) ∙ there.here;
+      here = ap (λ t. if t then Some b.order else order_in bs there.first) (ne_eqb b.first there.first other) ∙ there.here;
       passes = there.passes;
     })
     (or_cases (p b) (list_any p bs) found)

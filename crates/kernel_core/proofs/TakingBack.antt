@@ -11,9 +11,9 @@ use Rattle.model_core.specs.Owners.{is_owner}
 use Rattle.space_core.specs.Content.{IsSpace, mark_at}
 use Rattle.space_core.specs.Changes as changes
 use Rattle.buddy_core.specs.Content as buddies
-use Rattle.part_laws.specs.Slots.{HoldTogether, ChangesFor}
-use Rattle.part_laws.proofs.SlotTaken.{taken_back_shows}
-use Rattle.part_laws.proofs.SlotBusy.{busy_meets}
+use Rattle.parts_laws.specs.Slots.{HoldTogether, ChangesFor}
+use Rattle.parts_laws.proofs.SlotTaken.{taken_back_shows}
+use Rattle.parts_laws.proofs.SlotBusy.{busy_meets}
 use Rattle.words_core.specs.declared.event.Event.TheVariants as On
 use Rattle.words_core.specs.declared.event.AdminCommand.TheVariants as Do
 use Rattle.words_core.specs.declared.reply.Reply.{Reply}
@@ -21,7 +21,7 @@ use Rattle.words_core.specs.declared.reply.Addressee.TheVariants as To
 use Rattle.words_core.specs.declared.reply.Body.TheVariants.{TakenBack, Refused}
 use Rattle.words_core.specs.declared.reply.Refusal.TheVariants.{NoTenant, NoSlot, SlotBusy}
 use Rattle.world_core.specs.Limits.{cache_limit}
-use Rattle.world_core.specs.World.{World, WorldStep, given_up, taken_back, slot_step, world_step}
+use Rattle.world_core.specs.World.{World, WorldStep, given_up, take_back_answered, slot_step, world_step}
 use Rattle.kernel_core.specs.Parts.{Parts, PartsAgree, mark_after, superblock_at}
 use Rattle.kernel_core.specs.Shows.{Shows}
 use Rattle.kernel_core.specs.Steps.{Steps}
@@ -38,7 +38,7 @@ IsBusy k t u = HasTaken (buddies.taken_of (buddies.holding_of t k.buddy)) (slot_
 pub record IsIdle (k : Parts) (t u m : ℕ) : Type 0 where
   pub agree : PartsAgree k
   pub together : HoldTogether k.space k.buddy k.slabs
-  pub space_after : IsSpace (changes.taken_back k.space t u m)
+  pub space_after : IsSpace (changes.with_take_back k.space t u m)
   pub tenant : t < k.tenants
   pub here : superblock_at k t u ≡ Some m
   pub below : m < length k.space.owners
@@ -46,14 +46,14 @@ pub record IsIdle (k : Parts) (t u m : ℕ) : Type 0 where
 
 -- the parts afterwards
 abbrev pub after : ℕ → ℕ → ℕ → Parts → Parts
-after t u m k = changed k (changes.taken_back k.space t u m) t (buddies.without_slot u (buddies.holding_of t k.buddy)) k.slabs
+after t u m k = changed k (changes.with_take_back k.space t u m) t (buddies.without_slot u (buddies.holding_of t k.buddy)) k.slabs
 
 changes_taken : (k : Parts) (t u m : ℕ) → IsIdle k t u m
-    → ChangesFor t k.space (changes.taken_back k.space t u m) k.buddy (after t u m k).buddy k.slabs k.slabs (after_take_back k.slabs.top u)
+    → ChangesFor t k.space (changes.with_take_back k.space t u m) k.buddy (after t u m k).buddy k.slabs k.slabs (after_take_back k.slabs.top u)
 changes_taken k t u m g = taken_back_shows k.space k.buddy k.slabs t u m g.together (has_row k t g.agree g.tenant) g.here g.idle
 
 pub agree_taken : (k : Parts) (t u m : ℕ) → IsIdle k t u m → PartsAgree (after t u m k)
-agree_taken k t u m g = agree_changed k (changes.taken_back k.space t u m) t _ k.slabs g.agree g.space_after (changes_taken k t u m g).agree
+agree_taken k t u m g = agree_changed k (changes.with_take_back k.space t u m) t _ k.slabs g.agree g.space_after (changes_taken k t u m g).agree
 
 -- What a take-back is to the machine and to the world
 
@@ -70,9 +70,9 @@ unfolding take_back_step
 done_is order u x held idle = rw held (rw idle refl)
 
 slot_is : (k : Parts) (w : World) (t u : ℕ) (x : Machine) (s : Step (Result (Unit {0}) TakeBackRefusal)) → slice_get w.machines t ≡ Some x
-    → take_back_step k.order u x ≡ s → world_step cache_limit k.order (On.Admin (Do.TakeBack t u)) w ≡ taken_back t u w s.machine s.answer
+    → take_back_step k.order u x ≡ s → world_step cache_limit k.order (On.Admin (Do.TakeBack t u)) w ≡ take_back_answered t u w s.machine s.answer
 unfolding world_step slot_step
-slot_is k w t u x s here is = ap (λ o. slot_step k.order t u w o) here ∙ ap (λ (r : Step (Result (Unit {0}) TakeBackRefusal)). taken_back t u w r.machine r.answer) is
+slot_is k w t u x s here is = ap (λ o. slot_step k.order t u w o) here ∙ ap (λ (r : Step (Result (Unit {0}) TakeBackRefusal)). take_back_answered t u w r.machine r.answer) is
 
 pub take_without_tenant : (k : Parts) (t u : ℕ) → k.tenants ≤ t → Steps k (On.Admin (Do.TakeBack t u)) k (record { addressee = To.Admin; body = Refused NoTenant })
 unfolding world_step slot_step

@@ -3,12 +3,13 @@ use Rattle.model_core.specs.declared.owner.Owner.{Owner}
 use Rattle.std.proofs.Common.{◌≡◌, ◌≢◌, ℕ, zero, suc, ◌<◌, ◌≤◌, ◌==◌, Bool, true, false, Option, Some, None, List, [], ◌∷◌, length, slice_get, slice_set, refl, sym, ap, ◌∙◌, subst, ⊎_elim, arith}
 use Rattle.std.proofs.lemmas.Bool.{cases_eq, eq-eqb}
 use Rattle.std.proofs.lemmas.List.{length-set}
+use Rattle.std.proofs.lemmas.Option.{same_Some}
 use Rattle.model_core.specs.Machine.{Machine}
 use Rattle.space_core.specs.Laws.{IsSameFor}
 use Rattle.space_core.specs.Content as spaces
 use Rattle.buddy_core.specs.Content as buddies
 use Rattle.slab_tables.specs.Content as tables
-use Rattle.slab_laws.proofs.Untouched.{kept_shows_same}
+use Rattle.parts_laws.proofs.Untouched.{kept_shows_same}
 use Rattle.words_core.specs.declared.event.Event.TheVariants as On
 use Rattle.words_core.specs.declared.event.Command.{Command}
 use Rattle.words_core.specs.declared.reply.Addressee.TheVariants as To
@@ -23,7 +24,7 @@ use Rattle.world_core.specs.PrivateStep.{command_step}
 use Rattle.world_core.specs.World.{World, WorldStep, answer, tenant_step, world_step}
 use Rattle.world_core.specs.OwnList.{is_refused}
 use Rattle.space_core.specs.Laws.{SpareStays}
-use Rattle.part_laws.specs.Slots.{ChangesFor}
+use Rattle.parts_laws.specs.Slots.{ChangesFor}
 use Rattle.kernel_core.specs.Parts.{Parts, PartsAgree, SameSizes, MarksFollow, parts_of, Keeps}
 use Rattle.kernel_core.specs.Shows.{ShowsMachine, Shows}
 use Rattle.kernel_core.specs.Steps.{is_named, Steps, StepsMachine}
@@ -39,9 +40,6 @@ pub get_within : {A : Type 0} (xs : List A) (i : ℕ) → i < length xs → (x :
 get_within [] i within = absurd (omega arith)
 get_within (x ∷ xs) zero within = (x, refl)
 get_within (x ∷ xs) (suc i) within = get_within xs i (omega arith)
-
-some_same : {A : Type 0} (x y : A) → Some x ≡ Some y → x ≡ y
-some_same x y e = cc
 
 pub false_is : (b : Bool) → b ≡ false → b ≡ true → ⊥
 false_is b isnt is = cc
@@ -60,10 +58,6 @@ agree_viewed k agree = subst PartsAgree (sym (same_parts k agree)) agree
 
 pub steps_viewed : (k k' : Parts) (event : Event) (reply : Reply) → PartsAgree k' → Steps k event k' reply → Steps k event (parts_of k'.space k'.buddy k'.slabs) reply
 steps_viewed k k' event reply agree steps = subst (λ (x : Parts). Steps k event x reply) (sym (same_parts k' agree)) steps
-
-pub machine_viewed : (k k' : Parts) (t : ℕ) (command : Command) (body : Body) → StepsMachine k t command k' body
-    → StepsMachine k t command (parts_of k'.space k'.buddy k'.slabs) body
-machine_viewed k k' t command body steps = subst (λ (x : Parts). StepsMachine k t command x body) (sym (same_parts k' steps.agree)) steps
 
 -- parts that stay keep all
 pub keeps_all : (k : Parts) (t : ℕ) → Keeps k k t
@@ -91,7 +85,7 @@ shows_changed k k' w t m m' owners shown agree same_tenants same_owners here sho
   machines = λ u n there. ⊎_elim
       (λ same.
       let now = sym (slice_get-set_same w.machines t m m' here) ∙ ap (λ v. slice_get (slice_set w.machines t m') v) (sym same) ∙ there in
-      subst (λ v. ShowsMachine k' v n) (sym same) (subst (λ x. ShowsMachine k' t x) (some_same m' n now) shown'))
+      subst (λ v. ShowsMachine k' v n) (sym same) (subst (λ x. ShowsMachine k' t x) (same_Some m' n now) shown'))
       (λ other.
       let before = sym (slice_get-set_other w.machines t u m' (λ e. other (sym e))) ∙ there in
       keeps_shows k k' u n (keeps u other) (shown.machines u n before))

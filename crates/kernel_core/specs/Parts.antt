@@ -4,9 +4,9 @@ use Rattle.model_core.specs.declared.owner.Owner.{Owner}
 use Rattle.space_core.specs.Content as spaces
 use Rattle.buddy_core.specs.Content as buddies
 use Rattle.slab_tables.specs.Content as tables
-use Rattle.slab_laws.specs.Shows.{Agree}
-use Rattle.slab_laws.specs.Keeps as keeping
-use Rattle.model_core.specs.declared.limits.TheConstants.{MOST_ORDER, MOST_SUPERBLOCKS, MOST_TENANTS}
+use Rattle.parts_laws.specs.Shows.{Agree}
+use Rattle.parts_laws.specs.Keeps as keeping
+use Rattle.model_core.specs.declared.limits.TheConstants.{FRAME_BYTES, MOST_ORDER, MOST_SUPERBLOCKS, MOST_TENANTS}
 
 pub record Parts : Type 0 where
   -- a superblock has 2 ^ order frames of 4096 bytes
@@ -55,9 +55,9 @@ opening_parts order superblocks tenants = record {
   order = order;
   superblocks = superblocks;
   tenants = tenants;
-  space = spaces.empty_space (4096 * 2 ^ order) superblocks tenants;
-  buddy = buddies.opening order superblocks tenants;
-  slabs = tables.opening order superblocks tenants;
+  space = spaces.empty_space (FRAME_BYTES * 2 ^ order) superblocks tenants;
+  buddy = buddies.empty_buddy order superblocks tenants;
+  slabs = tables.empty_tables order superblocks tenants;
 }
 
 -- the sizes are as they were

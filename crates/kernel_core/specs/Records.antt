@@ -1,9 +1,10 @@
 -- Control records inside the frames.
 use Rattle.std.specs.Prelude.{◌≡◌, ℕ, ◌+◌, ◌*◌, ◌/◌, ◌%◌, ◌^◌, ◌<◌, true, false, Some, slice_index, slice_index_or}
+use Rattle.model_core.specs.declared.limits.TheConstants.{FRAME_BYTES, RECORD_OFFSET}
 use Rattle.model_core.specs.Layouts.{is_small}
 use Rattle.model_core.specs.Machine.{Slab, Cache, Machine, layout}
 use Rattle.model_core.specs.Slabs.{cache_of, slab_of}
-use Rattle.slab_laws.specs.Records.{is_set}
+use Rattle.parts_laws.specs.Records.{is_set}
 use Rattle.kernel_core.specs.Parts.{Parts, superblock_at, superblock_bytes}
 use Rattle.kernel_core.specs.Shows.{ShowsMachine}
 
@@ -13,7 +14,7 @@ pub record HasRecord (k : Parts) (t f : ℕ) (y : Slab) : Type 0 where
   pub superblock : ℕ
   pub under : superblock_at k t (f / 2 ^ k.order) ≡ Some superblock
   pub bits : (i j : ℕ) → i < 32 → j < 8
-      → is_set (slice_index (superblock_bytes k superblock) (4096 * (f % 2 ^ k.order) + 4064 + i)) j ≡ slice_index_or y.live (8 * i + j) false
+      → is_set (slice_index (superblock_bytes k superblock) (FRAME_BYTES * (f % 2 ^ k.order) + RECORD_OFFSET + i)) j ≡ slice_index_or y.live (8 * i + j) false
 
 -- the control record of every slab of small objects is the bitmap of its live objects
 abbrev pub RecordsStand : Parts → Type 0

@@ -1,7 +1,7 @@
 -- Which world the parts of a kernel show.
 use Rattle.std.specs.Prelude.{◌≡◌, ℕ, length, Some, slice_get}
 use Rattle.model_core.specs.Machine.{Machine}
-use Rattle.slab_laws.specs.Shows as showing
+use Rattle.parts_laws.specs.Shows as showing
 use Rattle.world_core.specs.World.{World}
 use Rattle.kernel_core.specs.Parts.{Parts, PartsAgree}
 

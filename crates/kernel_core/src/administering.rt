@@ -19,7 +19,7 @@ impl Kernel {
     {
         self.space.laws();
         self.buddy.laws();
-        self.slabs.facts();
+        self.slabs.laws();
         if tenant >= u32::from(self.buddy.tenants()) {
             return refused(Refusal::NoTenant);
         }
@@ -43,7 +43,7 @@ impl Kernel {
     {
         self.space.laws();
         self.buddy.laws();
-        self.slabs.facts();
+        self.slabs.laws();
         if tenant >= u32::from(self.buddy.tenants()) {
             return refused(Refusal::NoTenant);
         }
@@ -67,7 +67,7 @@ impl Kernel {
     {
         self.space.laws();
         self.buddy.laws();
-        self.slabs.facts();
+        self.slabs.laws();
         if tenant >= u32::from(self.buddy.tenants()) {
             return refused(Refusal::NoTenant);
         }
@@ -89,7 +89,7 @@ impl Kernel {
     {
         self.space.laws();
         self.buddy.laws();
-        self.slabs.facts();
+        self.slabs.laws();
         if tenant >= u32::from(self.buddy.tenants()) {
             return refused(Refusal::NoTenant);
         }

@@ -1,6 +1,7 @@
 //! The kernel: the memory of the machine with its pool, the buddy systems of all tenants over it, and their caches.
 
 ghost use Rattle.std.specs.Prelude.{◌≡◌, ◌≢◌, ◌↔◌, ℕ, ◌+◌, ◌*◌, ◌^◌, ◌<◌, ◌≤◌, length, IfOk, IsSome, true, false};
+ghost use Rattle.model_core.specs.declared.limits.TheConstants.{FRAME_BYTES};
 ghost use Rattle.world_core.specs.Limits.{cache_limit};
 ghost use Rattle.world_core.specs.World.{World, opening_world, world_step};
 
@@ -263,7 +264,7 @@ impl Kernel {
     pub fn machine_bytes(&self, superblock: u16) -> &[u8]
         requires { superblock < self.now.superblocks }
         ensures value { result.now ≡ superblock_bytes self.now superblock }
-        ensures len { length result.now ≡ 4096 * 2 ^ self.now.order }
+        ensures len { length result.now ≡ FRAME_BYTES * 2 ^ self.now.order }
     {
         self.space.machine_bytes(superblock)
     }

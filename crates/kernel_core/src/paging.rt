@@ -1,8 +1,8 @@
 //! A tenant's commands on page blocks and bytes.
 
 ghost use Rattle.std.specs.Prelude.{◌≡◌, ◌↔◌, true, ◌+◌, ◌*◌, ◌^◌, ◌<◌, ◌≤◌, length, IfOk, IsSome};
-ghost use Rattle.slab_laws.specs.Shows.{Agree};
-ghost use Rattle.part_laws.specs.Pages.{IsInReach};
+ghost use Rattle.parts_laws.specs.Shows.{Agree};
+ghost use Rattle.parts_laws.specs.Pages.{IsInReach};
 ghost use Rattle.space_core.specs.Windows.{home_of, with_window};
 ghost use Rattle.words_core.specs.declared.reply.Body.TheVariants.{Frame, Freed, Bytes, Written};
 ghost use Rattle.words_core.specs.declared.event.Command.TheVariants as Command;
@@ -11,10 +11,10 @@ ghost use Rattle.kernel_core.specs.Steps.{StepsMachine, body_of};
 use crate::Kernel;
 use arrayvec::ArrayVec;
 use buddy_core::Buddy;
-use model_core::limits::MOST_BYTES;
-use part_laws::pages::block_tells;
+use model_core::limits::{FRAME_BYTES, MOST_BYTES};
+use parts_laws::pages::block_tells;
 use slab_core::Slabs;
-use space_core::{FRAME_BYTES, Space};
+use space_core::Space;
 use words_core::Refusal;
 
 impl Kernel {
@@ -42,7 +42,7 @@ impl Kernel {
         ensures { StepsMachine self.old t (Command.Free frame) self.new (body_of Freed result) }
     {
         self.buddy.laws();
-        self.slabs.steady(&self.space, &self.buddy, t);
+        self.slabs.laws_with(&self.space, &self.buddy, t);
         if self.slabs.is_slab(&self.space, t, frame) {
             return Err(Refusal::NotABlock);
         }
@@ -57,7 +57,7 @@ impl Kernel {
         ensures few { IfOk result (λ bytes. length bytes.now ≤ MOST_BYTES) }
     {
         self.space.laws();
-        self.slabs.steady(&self.space, &self.buddy, t);
+        self.slabs.laws_with(&self.space, &self.buddy, t);
         if len < 1 || len > MOST_BYTES as u32 {
             return Err(Refusal::BadLength);
         }
@@ -79,8 +79,8 @@ impl Kernel {
         ensures count { IfOk result (λ count. count ≡ length bytes.now) }
     {
         self.space.laws();
-        self.slabs.facts();
-        self.slabs.steady(&self.space, &self.buddy, t);
+        self.slabs.laws();
+        self.slabs.laws_with(&self.space, &self.buddy, t);
         let len = bytes.len() as u32;
         if !is_in_reach(&self.space, &self.buddy, &self.slabs, t, place, len) {
             return Err(Refusal::OutOfReach);
@@ -97,7 +97,7 @@ fn is_in_reach(space: &Space, buddy: &Buddy, slabs: &Slabs, t: u8, place: u32, l
     requires agree { Agree space.now buddy.now slabs.now }
     ensures { (result ≡ true) ↔ IsInReach space.now buddy.now slabs.now t place len }
 {
-    slabs.steady(space, buddy, t);
+    slabs.laws_with(space, buddy, t);
     buddy.laws();
     block_tells();
     if len == 0 {

@@ -6,7 +6,7 @@ ghost use Rattle.words_core.specs.declared.event.Command.TheVariants as Command;
 ghost use Rattle.words_core.specs.declared.reply.Addressee.TheVariants as Addressee;
 ghost use Rattle.words_core.specs.declared.reply.Body.TheVariants.{Bytes, Written, Refused};
 ghost use Rattle.words_core.specs.declared.reply.Refusal.TheVariants.{NoTenant};
-ghost use Rattle.quick_core.specs.Quick.{command_of, body_of_told, reply_of_told};
+ghost use Rattle.quick_core.specs.Quick.{quick_command, body_of_told, reply_of_told};
 ghost use Rattle.kernel_core.specs.Steps.{Steps, StepsMachine, body_of};
 
 use crate::Kernel;
@@ -21,10 +21,10 @@ impl Kernel {
     #[inline(always)]
     pub fn ask_quick(&mut self, tenant: u32, command: Quick) -> Option<(u8, Told)>
         ensures { MatchOption result
-            (Steps self.old (Event.Tenant tenant (command_of command)) self.new
+            (Steps self.old (Event.Tenant tenant (quick_command command)) self.new
             (record { addressee = Addressee.Nobody; body = Refused NoTenant }))
             (λ answer. (answer.0 ≡ tenant)
-            × Steps self.old (Event.Tenant tenant (command_of command)) self.new (reply_of_told tenant answer.1)) }
+            × Steps self.old (Event.Tenant tenant (quick_command command)) self.new (reply_of_told tenant answer.1)) }
     {
         if tenant >= u32::from(self.buddy.tenants()) {
             return None;
@@ -92,7 +92,7 @@ impl Kernel {
     #[inline(always)]
     fn run_quick(&mut self, t: u8, command: Quick) -> Told
         requires { t < self.old.tenants }
-        ensures { StepsMachine self.old t (command_of command) self.new (body_of_told result) }
+        ensures { StepsMachine self.old t (quick_command command) self.new (body_of_told result) }
     {
         match command {
             Quick::Alloc { order } => match self.alloc(t, order) {

@@ -4,7 +4,7 @@ ghost use Rattle.std.specs.Prelude.{◌≡◌, ◌+◌, ◌<◌, ◌≤◌, leng
 ghost use Rattle.model_core.specs.Machine.{Machine};
 ghost use Rattle.model_core.specs.Reports.{free_count, greatest, order_rows, split_share as share};
 ghost use Rattle.buddy_core.specs.Content.{holding_of};
-ghost use Rattle.part_laws.specs.Figures.{HasFigures, frames_below};
+ghost use Rattle.parts_laws.specs.Figures.{HasFigures, frames_below};
 ghost use Rattle.world_core.specs.PrivateStep.{figures_of};
 ghost use Rattle.kernel_core.specs.Shows.{ShowsMachine};
 
@@ -13,7 +13,7 @@ use arrayvec::ArrayVec;
 use buddy_core::Buddy;
 use model_core::limits::MOST_ORDER;
 use model_core::report::OrderRow;
-use part_laws::figures::{figures_fit, figures_meet};
+use parts_laws::figures::{figures_fit, figures_meet};
 use words_core::{ORDERS, Report};
 
 /// What a tenant's blocks of all orders are, read once.
@@ -34,7 +34,7 @@ impl Kernel {
         ensures { (m : Machine) → ShowsMachine self.now t m → result ≡ figures_of self.now.order m }
     {
         self.buddy.laws();
-        self.slabs.steady(&self.space, &self.buddy, t);
+        self.slabs.laws_with(&self.space, &self.buddy, t);
         figures_meet();
         figures_fit();
         let blocks = orders_of(&self.buddy, t);

@@ -6,7 +6,7 @@ use Rattle.std.proofs.lemmas.List.{length-map, length-set, get_or_read}
 use Rattle.std.proofs.lemmas.List.Sums.{count_by-le-length}
 use Rattle.klist_core.specs.Places.{place_at, is_in}
 use Rattle.klist_core.specs.Links.{up, down, IsNearest, IsLinked, head_at, node_at, places_of, place_in}
-use Rattle.klist_core.specs.Raw.{place_of}
+use Rattle.klist_core.specs.Raw.{raw_place}
 use Rattle.klist_core.specs.declared.Head.{Head}
 use Rattle.klist_core.specs.declared.Node.{Node}
 use Rattle.klist_core.proofs.Tables.{count_inserted, count_removed}
@@ -51,7 +51,7 @@ removal_known heads nodes n x h t within got is = record {
     read = get_or_read nodes n x in_nodes got (node_at [] 0)
 
     place : place_at (places_of nodes) n ≡ Some (h, x.key)
-    place = get_or-map place_in nodes n (node_at [] 0) ∙ (ap place_in (sym read) ∙ ap (λ (o : Option ℕ). place_of o x.key) is)
+    place = get_or-map place_in nodes n (node_at [] 0) ∙ (ap place_in (sym read) ∙ ap (λ (o : Option ℕ). raw_place o x.key) is)
 
     in_heads : h < length heads
     in_heads = t.table.headed n h x.key place

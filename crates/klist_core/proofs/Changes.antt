@@ -2,7 +2,7 @@
 use Rattle.std.proofs.Common.{◌≡◌, ℕ, ◌+◌, ◌<◌, ◌≤◌, Option, Some, None, ap, sym, ◌∙◌, ◌⊎◌, inl, inr, arith}
 use Rattle.std.specs.Prelude.{◌≢◌}
 use Rattle.std.proofs.lemmas.Bool.{cases_lt, cases_eq}
-use Rattle.klist_core.specs.Links.{IsLeast, IsNearest}
+use Rattle.klist_core.specs.Links.{IsLeastFrom, IsNearest}
 
 -- `large` is `small` with node n in list h too, under a key k that list h of `small` does not have
 pub record IsPut (small large : ℕ → Option (ℕ × ℕ)) (h n k : ℕ) : Type 0 where
@@ -43,7 +43,7 @@ pub nearest_same : (rank : ℕ → ℕ) (old new : ℕ → Option (ℕ × ℕ)) 
     → IsNearest rank old g b o → IsNearest rank new g b o
 nearest_same rank old new g b None to back v = record { is = λ i k e. v.is i k (back i k e) }
 nearest_same rank old new g b (Some j) to back v =
-    let l : IsLeast rank old g b j v.is.0 = v.is.1 in
+    let l : IsLeastFrom rank old g b j v.is.0 = v.is.1 in
     record { is = (v.is.0, record { here = to j v.is.0 l.here; from = l.from; least = λ i k e le. l.least i k (back i k e) le }) }
 
 module _ (rank : ℕ → ℕ) (small large : ℕ → Option (ℕ × ℕ)) (h n k : ℕ) (p : IsPut small large h n k) where
@@ -63,7 +63,7 @@ module _ (rank : ℕ → ℕ) (small large : ℕ → Option (ℕ × ℕ)) (h n k
   kept_large b None (inr w) v = let u = v.is w.node w.key w.here in absurd (omega (arith, w.from))
   kept_large b (Some j) between v = record { is = (v.is.0, record { here = raised p j (h, v.is.0) l.here; from = l.from; least = least between }) }
     where
-      l : IsLeast rank small h b j v.is.0
+      l : IsLeastFrom rank small h b j v.is.0
       l = v.is.1
 
       least : (rank k < b) ⊎ IsBetween rank small h b (rank k) → (i k' : ℕ) → large i ≡ Some (h, k') → b ≤ rank k' → rank v.is.0 ≤ rank k'
@@ -77,7 +77,7 @@ module _ (rank : ℕ → ℕ) (small large : ℕ → Option (ℕ × ℕ)) (h n k
     | inr w ↦ let r = ap rank w.2 in absurd (elsewhere between r)
   ]
     where
-      l : IsLeast rank large h b j v.is.0
+      l : IsLeastFrom rank large h b j v.is.0
       l = v.is.1
 
       elsewhere : (rank k < b) ⊎ IsBetween rank small h b (rank k) → rank v.is.0 ≡ rank k → ⊥
@@ -105,5 +105,5 @@ module _ (rank : ℕ → ℕ) (small large : ℕ → Option (ℕ × ℕ)) (h n k
     | inr w ↦ let r = ap rank w.2 in absurd (omega (arith, l.from))
   ]
     where
-      l : IsLeast rank large h (rank k + 1) j v.is.0
+      l : IsLeastFrom rank large h (rank k + 1) j v.is.0
       l = v.is.1

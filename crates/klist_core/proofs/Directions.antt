@@ -2,7 +2,7 @@
 use Rattle.std.proofs.Common.{◌≡◌, ℕ, ◌+◌, ◌^◌, ◌<◌, ◌≤◌, Option, Some, None, ap, ◌∙◌, inl, inr, arith}
 use Rattle.std.specs.Prelude.{MatchOption, ◌≢◌}
 use Rattle.std.proofs.lemmas.Bool.{cases_lt, cases_eq}
-use Rattle.klist_core.specs.Links.{NoneFrom, IsLeast, IsNearest, IsAfter, up, down}
+use Rattle.klist_core.specs.Links.{NoneFrom, IsLeastFrom, IsNearest, IsAfter, up, down}
 
 -- keys of 32 bits rise by `rank` as they fall by `back`
 pub record IsDirection (rank back : ℕ → ℕ) : Type 0 where
@@ -45,7 +45,7 @@ last_below rank back place h k (Some j) d keyed small v = record { is = (v.is.0,
     kj : ℕ
     kj = v.is.0
 
-    l : IsLeast back place h (back k + 1) j kj
+    l : IsLeastFrom back place h (back k + 1) j kj
     l = v.is.1
 
     fits : kj < 2 ^ 32
@@ -69,7 +69,7 @@ across_none rank back place h k (Some j) d keyed small fresh after v = record { 
     kj : ℕ
     kj = v.is.0
 
-    l : IsLeast back place h 0 j kj
+    l : IsLeastFrom back place h 0 j kj
     l = v.is.1
 
     fits : kj < 2 ^ 32
@@ -85,7 +85,7 @@ across_none rank back place h k (Some j) d keyed small fresh after v = record { 
     ]
 
 across_some : (rank back : ℕ → ℕ) (place : ℕ → Option (ℕ × ℕ)) (h k i : ℕ) (o : Option ℕ) → IsDirection rank back → IsKeyed place h → k < 2 ^ 32 → ((i : ℕ) → place i ≢ Some (h, k))
-    → (ki : ℕ) → IsLeast rank place h (rank k + 1) i ki → IsNearest back place h (back ki + 1) o → IsNearest back place h (back k + 1) o
+    → (ki : ℕ) → IsLeastFrom rank place h (rank k + 1) i ki → IsNearest back place h (back ki + 1) o → IsNearest back place h (back k + 1) o
 across_some rank back place h k i None d keyed small fresh ki n v = record { is = below }
   where
     below : (j k' : ℕ) → place j ≡ Some (h, k') → back k' < back k + 1
@@ -102,7 +102,7 @@ across_some rank back place h k i (Some j) d keyed small fresh ki n v = record {
     kj : ℕ
     kj = v.is.0
 
-    l : IsLeast back place h (back ki + 1) j kj
+    l : IsLeastFrom back place h (back ki + 1) j kj
     l = v.is.1
 
     fits : kj < 2 ^ 32
@@ -131,5 +131,5 @@ pub across : (rank back : ℕ → ℕ) (place : ℕ → Option (ℕ × ℕ)) (h 
     → IsNearest rank place h (rank k + 1) o → MatchOption o (IsNearest back place h 0 r) (λ i. IsAfter back place i r) → IsNearest back place h (back k + 1) r
 across rank back place h k None r d keyed small fresh v w = across_none rank back place h k r d keyed small fresh v.is w
 across rank back place h k (Some i) r d keyed small fresh v w =
-    let l : IsLeast rank place h (rank k + 1) i v.is.0 = v.is.1 in
+    let l : IsLeastFrom rank place h (rank k + 1) i v.is.0 = v.is.1 in
     across_some rank back place h k i r d keyed small fresh v.is.0 l (w h v.is.0 l.here)

@@ -3,8 +3,8 @@ use Rattle.std.proofs.Common.{◌≡◌, ℕ, ◌+◌, ◌^◌, ◌<◌, List, O
 use Rattle.std.specs.Prelude.{◌≢◌, count_by}
 use Rattle.std.proofs.lemmas.Bool.{cases_eq}
 use Rattle.std.proofs.lemmas.List.{length-map}
-use Rattle.klist_core.specs.Places.{Placed, IsTable, place_at, is_in, removed}
-use Rattle.klist_core.specs.Links.{up, down, IsLeast, IsNearest, IsChain, IsLinked, free_node, head_at, node_at, places_of, place_in, shown}
+use Rattle.klist_core.specs.Places.{Placed, ArePlaces, place_at, is_in, removed}
+use Rattle.klist_core.specs.Links.{up, down, IsLeastFrom, IsNearest, IsChain, IsLinked, free_node, head_at, node_at, places_of, place_in, shown}
 use Rattle.klist_core.specs.declared.Head.{Head}
 use Rattle.klist_core.specs.declared.Node.{Node}
 use Rattle.klist_core.proofs.Directions.{IsKeyed, IsLastBelow, upwards, downwards, last_below}
@@ -17,7 +17,7 @@ use Rattle.klist_core.proofs.Rewired.{IsWithin, IsRewired}
 pub nearest_placed : (rank : ℕ → ℕ) (place : ℕ → Option (ℕ × ℕ)) (h b : ℕ) (o : Option ℕ) → IsNearest rank place h b o → (i : ℕ) → o ≡ Some i → (k : ℕ) × (place i ≡ Some (h, k))
 nearest_placed rank place h b None v i e = absurd (let f : ◌≡◌ {A = Option ℕ} None (Some i) = e in cc)
 nearest_placed rank place h b (Some j) v i e =
-    let l : IsLeast rank place h b j v.is.0 = v.is.1 in
+    let l : IsLeastFrom rank place h b j v.is.0 = v.is.1 in
     let same : j ≡ i = cc in (v.is.0, subst (λ x. place x ≡ Some (h, v.is.0)) same l.here)
 
 pub nearest_within : (rank : ℕ → ℕ) (places : List (Option (ℕ × ℕ))) (h b : ℕ) (o : Option ℕ) → IsNearest rank (place_at places) h b o → IsWithin o (length places)
@@ -59,7 +59,7 @@ pub linked_inserted : (heads heads' : List Head) (nodes nodes' : List Node) (h n
     → h < length heads → n < length nodes → k < 2 ^ 32 → place_at (places_of nodes) n ≡ None → ((i : ℕ) → place_at (places_of nodes) i ≢ Some (h, k))
     → IsNearest down (place_at (places_of nodes)) h (down k + 1) previous → IsNearest up (place_at (places_of nodes)) h (up k + 1) next → IsLinked heads' nodes'
 linked_inserted heads heads' nodes nodes' h n k previous next m t w more in_heads in_nodes fits free fresh before after = record {
-  table = subst IsTable (sym (shown_rewired heads heads' nodes nodes' h n _ previous next (Some n) (Some n) _ w)) (table_inserted old h n k t.table put in_heads fits);
+  table = subst ArePlaces (sym (shown_rewired heads heads' nodes nodes' h n _ previous next (Some n) (Some n) _ w)) (table_inserted old h n k t.table put in_heads fits);
   upwards = chain_rewired up large (places_of nodes') (length heads) (length heads') _ _ w.places w.heads_stay
       (chain_inserted up down upwards small (place_at large) (length heads) h n k put apart _ _ _ _ previous w.upwards
       (last_below up down small h k previous upwards apart.keyed fits before)
@@ -102,7 +102,7 @@ pub linked_removed : (heads heads' : List Head) (nodes nodes' : List Node) (h n 
     → IsRewired heads heads' nodes nodes' h n free_node x.previous x.next x.next x.previous m → m + 1 ≡ (head_at heads h).len
     → place_at (places_of nodes) n ≡ Some (h, k) → IsLinked heads' nodes'
 linked_removed heads heads' nodes nodes' h n k x m t read w less e = record {
-  table = subst IsTable (sym (shown_rewired heads heads' nodes nodes' h n _ previous next next previous _ w)) (table_removed old h n k t.table put);
+  table = subst ArePlaces (sym (shown_rewired heads heads' nodes nodes' h n _ previous next next previous _ w)) (table_removed old h n k t.table put);
   upwards = chain_rewired up small (places_of nodes') (length heads) (length heads') _ _ w.places w.heads_stay
       (chain_removed up down upwards (place_at small) large (length heads) h n k fits put apart _ _ _ _ previous next w.upwards
       (last_below_small up (place_at small) large h n k previous put (last_below up down large h k previous upwards keyed fits before)) after t.upwards);

@@ -3,10 +3,12 @@ use Rattle.std.proofs.Common.{◌≡◌, ℕ, suc, zero, ◌+◌, ◌<◌, ◌�
 use Rattle.std.specs.Prelude.{◌≢◌, count_by, if◌then◌else◌, not, slice_get}
 use Rattle.std.specs.List.{Contains}
 use Rattle.std.proofs.lemmas.Bool.{eq-eqb, eqb-true, eqb-false, ltb-true, ltb-false}
+use Rattle.std.proofs.lemmas.List.{length-map}
 use Rattle.std.proofs.lemmas.List.Sums.{sum_by-cons}
 use Rattle.model_core.specs.WellFormed.{RisesFrom}
 use Rattle.klist_core.specs.Places.{place_at, is_in}
 use Rattle.klist_core.specs.Lists.{put_by_key, with_node, list_from, list_of, without_node}
+use Rattle.klist_core.specs.Laws.{ListsCountPlaces}
 
 -- x is one of the elements
 abbrev pub IsAmong : {X : Type 0} → X → List X → Type 0
@@ -222,3 +224,7 @@ pub among_keys : (k i : ℕ) (qs : List (ℕ × ℕ)) → IsAmong (k, i) qs → 
 among_keys k i [] a = absurd a
 among_keys k i (q ∷ qs) (inl e) = inl (ap (λ (p : ℕ × ℕ). p.0) e)
 among_keys k i (q ∷ qs) (inr a) = inr (among_keys k i qs a)
+
+-- a list is as long as there are nodes in it
+pub lists_count_places : ListsCountPlaces
+lists_count_places places h = (length_list h 0 places, length-map (list_of places h) (λ p. p.0) ∙ length_list h 0 places)

@@ -1,7 +1,7 @@
 -- An insertion and a removal change one list by exactly one pair.
 use Rattle.std.proofs.Common.{◌≡◌, ℕ, List, Option, Some, None, ap, sym, ◌∙◌, inl, inr, arith}
 use Rattle.std.specs.Prelude.{◌≢◌}
-use Rattle.klist_core.specs.Places.{Placed, IsTable, place_at, inserted, removed}
+use Rattle.klist_core.specs.Places.{Placed, ArePlaces, place_at, inserted, removed}
 use Rattle.klist_core.specs.Lists.{list_of, put_by_key, without_node}
 use Rattle.klist_core.specs.Laws.{MayInsert}
 use Rattle.klist_core.proofs.Changes.{IsPut, raised, lowered, others_lowered}
@@ -58,13 +58,13 @@ module _ (small large : List (Option (ℕ × ℕ))) (h n k : ℕ) (p : IsPut (pl
         | inr v ↦ absurd (w.1 v.0)
       ]
 
-pub insertion : (s : Placed) (h i k : ℕ) → IsTable s → MayInsert s h i k
+pub insertion : (s : Placed) (h i k : ℕ) → ArePlaces s → MayInsert s h i k
     → (list_of (inserted s h i k).places h ≡ put_by_key (k, i) (list_of s.places h)) × ((g : ℕ) → g ≢ h → list_of (inserted s h i k).places g ≡ list_of s.places g)
 insertion s h i k t m =
     let p = put_by_insertion s.places h i k m.node m.free m.fresh in
     (one_more s.places (inserted s h i k).places h i k p t.apart, others_same s.places (inserted s h i k).places h i k p t.apart)
 
-pub removal : (s : Placed) (h i k : ℕ) → IsTable s → place_at s.places i ≡ Some (h, k)
+pub removal : (s : Placed) (h i k : ℕ) → ArePlaces s → place_at s.places i ≡ Some (h, k)
     → (list_of (removed s i).places h ≡ without_node i (list_of s.places h)) × ((g : ℕ) → g ≢ h → list_of (removed s i).places g ≡ list_of s.places g)
 removal s h i k t e =
     let p = put_by_removal s h i k t e in

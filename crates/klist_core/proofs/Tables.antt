@@ -5,7 +5,7 @@ use Rattle.std.proofs.lemmas.Bool.{cases_eq, eq-eqb, ne_eqb}
 use Rattle.std.proofs.lemmas.List.{length-set, get_or-set_same, get_or-set_other, get_or_past}
 use Rattle.std.proofs.lemmas.List.Sums.{sum_by-set}
 use Rattle.std.proofs.lemmas.Bool.{cases_lt, false≢true}
-use Rattle.klist_core.specs.Places.{Placed, place_at, is_in, IsTable, inserted, removed}
+use Rattle.klist_core.specs.Places.{Placed, place_at, is_in, ArePlaces, inserted, removed}
 use Rattle.klist_core.proofs.Changes.{IsPut, raised, lowered}
 use Rattle.klist_core.proofs.Chains.{IsApart}
 
@@ -22,7 +22,7 @@ put_by_insertion places h n k lt free fresh = record {
   fresh = fresh;
 }
 
-pub put_by_removal : (s : Placed) (h n k : ℕ) → IsTable s → place_at s.places n ≡ Some (h, k) → IsPut (place_at (set s.places n None)) (place_at s.places) h n k
+pub put_by_removal : (s : Placed) (h n k : ℕ) → ArePlaces s → place_at s.places n ≡ Some (h, k) → IsPut (place_at (set s.places n None)) (place_at s.places) h n k
 put_by_removal s h n k t e = record { free = gone; here = e; others = λ i ne. sym (kept i ne); fresh = fresh }
   where
     gone : place_at (set s.places n None) n ≡ None
@@ -37,7 +37,7 @@ put_by_removal s h n k t e = record { free = gone; here = e; others = λ i ne. s
       | inr ne ↦ ne (t.apart i n h k (sym (kept i ne) ∙ q) e)
     ]
 
-pub apart_of : (s : Placed) (h : ℕ) → IsTable s → IsApart (place_at s.places) h
+pub apart_of : (s : Placed) (h : ℕ) → ArePlaces s → IsApart (place_at s.places) h
 apart_of s h t = record { keyed = record { below = λ i k e. t.keyed i h k e }; apart = λ i j k. t.apart i j h k }
 
 -- with the node too no two nodes of a list have one key
@@ -51,7 +51,7 @@ apart_large {small} {large} {h} {n} {k} p apart i j g k' e f = elim (lowered p i
     clash : (x g k' : ℕ) → small x ≡ Some (g, k') → g ≡ h → k' ≡ k → ⊥
     clash x g k' e a b = p.fresh x (e ∙ (ap (λ (y : ℕ). Some (y, k')) a ∙ ap (λ (y : ℕ). Some (h, y)) b))
 
-pub table_inserted : (s : Placed) (h n k : ℕ) → IsTable s → IsPut (place_at s.places) (place_at (inserted s h n k).places) h n k → h < s.heads → k < 2 ^ 32 → IsTable (inserted s h n k)
+pub table_inserted : (s : Placed) (h n k : ℕ) → ArePlaces s → IsPut (place_at s.places) (place_at (inserted s h n k).places) h n k → h < s.heads → k < 2 ^ 32 → ArePlaces (inserted s h n k)
 table_inserted s h n k t p in_heads fits = record {
   few = t.few;
   small = omega (arith, length-set s.places n (Some (h, k)), t.small);
@@ -60,7 +60,7 @@ table_inserted s h n k t p in_heads fits = record {
   apart = apart_large p t.apart;
 }
 
-pub table_removed : (s : Placed) (h n k : ℕ) → IsTable s → IsPut (place_at (removed s n).places) (place_at s.places) h n k → IsTable (removed s n)
+pub table_removed : (s : Placed) (h n k : ℕ) → ArePlaces s → IsPut (place_at (removed s n).places) (place_at s.places) h n k → ArePlaces (removed s n)
 table_removed s h n k t p = record {
   few = t.few;
   small = omega (arith, length-set s.places n None, t.small);

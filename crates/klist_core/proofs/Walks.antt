@@ -1,7 +1,7 @@
 -- A walk along a list, in one direction, to the first node of a rank or more.
 use Rattle.std.proofs.Common.{◌≡◌, ℕ, ◌+◌, ◌-◌, ◌^◌, ◌<◌, ◌≤◌, Option, Some, None, IsSome, IfSome, is_some, ap, arith}
 use Rattle.std.specs.Prelude.{MatchOption}
-use Rattle.klist_core.specs.Links.{NoneFrom, IsLeast, IsNearest}
+use Rattle.klist_core.specs.Links.{NoneFrom, IsLeastFrom, IsNearest}
 
 -- node j has the key k in list h, and no node of the bound or more has a lesser rank
 pub record IsNotPast (rank : ℕ → ℕ) (place : ℕ → Option (ℕ × ℕ)) (h bound j k : ℕ) : Type 0 where
@@ -31,7 +31,7 @@ module _ (rank : ℕ → ℕ) (place : ℕ → Option (ℕ × ℕ)) (h bound : �
 
   pub way_gone_on : (j k : ℕ) (o : Option ℕ) → rank k < bound → IsNearest rank place h (rank k + 1) o → IsOnWay rank place h bound o
   way_gone_on j k None lt v = record { is = λ i k' e. let u = v.is i k' e in omega arith }
-  way_gone_on j k (Some i) lt v = let l : IsLeast rank place h (rank k + 1) i v.is.0 = v.is.1 in record { is = (v.is.0, record { here = l.here; least = λ x k' e le. l.least x k' e (omega arith) }) }
+  way_gone_on j k (Some i) lt v = let l : IsLeastFrom rank place h (rank k + 1) i v.is.0 = v.is.1 in record { is = (v.is.0, record { here = l.here; least = λ x k' e le. l.least x k' e (omega arith) }) }
 
   pub way_ended : (j : ℕ) (v : IsOnWay rank place h bound (Some j)) → bound ≤ rank v.is.0 → IsNearest rank place h bound (Some j)
   way_ended j v le = let p : IsNotPast rank place h bound j v.is.0 = v.is.1 in record { is = (v.is.0, record { here = p.here; from = le; least = p.least }) }
@@ -45,5 +45,5 @@ module _ (rank : ℕ → ℕ) (place : ℕ → Option (ℕ × ℕ)) (h bound : �
       rw p.here (omega arith)
   way_shortened j (Some i) v le n =
       let p : IsNotPast rank place h bound j v.is.0 = v.is.1 in
-      let l : IsLeast rank place h (rank v.is.0 + 1) i n.is.0 = n.is.1 in
+      let l : IsLeastFrom rank place h (rank v.is.0 + 1) i n.is.0 = n.is.1 in
       rw (p.here, l.here) (omega (arith, l.from))

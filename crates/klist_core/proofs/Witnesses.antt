@@ -3,7 +3,7 @@ use Rattle.std.proofs.Common.{◌≡◌, ℕ, zero, suc, ◌+◌, ◌*◌, ◌<�
 use Rattle.std.specs.Prelude.{count_by}
 use Rattle.std.specs.List.{Contains}
 use Rattle.model_core.specs.WellFormed.{RisesFrom}
-use Rattle.klist_core.specs.Places.{Placed, IsTable, place_at, is_in, inserted, removed}
+use Rattle.klist_core.specs.Places.{Placed, ArePlaces, place_at, is_in, inserted, removed}
 use Rattle.klist_core.specs.Lists.{list_of, keys_of}
 use Rattle.klist_core.specs.Laws.{ListsRise, ListsHoldPlaces, KeysHoldPlaces, ListsCountPlaces, MayInsert, InsertionChangesOneList, RemovalChangesOneList}
 
@@ -28,7 +28,7 @@ placed (suc (suc zero)) h k e =
     let list : 1 ≡ h = ap list_in e in let key : 7 ≡ k = ap key_in e in (omega arith, omega arith, omega arith)
 placed (suc (suc (suc i))) h k e = absurd (cc)
 
-is_table : IsTable table
+is_table : ArePlaces table
 is_table = record {
   few = omega arith;
   small = omega arith;

@@ -2,12 +2,12 @@
 use Rattle.std.specs.Prelude.{◌≡◌, ◌≢◌, ℕ, ◌<◌, List, Option, Some, None, length, count_by, ◌↔◌}
 use Rattle.std.specs.List.{Contains}
 use Rattle.model_core.specs.WellFormed.{RisesFrom}
-use Rattle.klist_core.specs.Places.{Placed, IsTable, place_at, is_in, inserted, removed}
+use Rattle.klist_core.specs.Places.{Placed, ArePlaces, place_at, is_in, inserted, removed}
 use Rattle.klist_core.specs.Lists.{list_of, keys_of, put_by_key, without_node}
 
 -- each list rises by key
 abbrev pub ListsRise : Type 0
-ListsRise = (s : Placed) (h : ℕ) → IsTable s → RisesFrom 0 (keys_of s.places h)
+ListsRise = (s : Placed) (h : ℕ) → ArePlaces s → RisesFrom 0 (keys_of s.places h)
 
 -- a list has exactly the pairs of the nodes that stand in it
 abbrev pub ListsHoldPlaces : Type 0
@@ -29,12 +29,12 @@ pub record MayInsert (s : Placed) (h i k : ℕ) : Type 0 where
 
 -- the named list gains the pair at its place by key, and every other list stays
 abbrev pub InsertionChangesOneList : Type 0
-InsertionChangesOneList = (s : Placed) (h i k : ℕ) → IsTable s → MayInsert s h i k
+InsertionChangesOneList = (s : Placed) (h i k : ℕ) → ArePlaces s → MayInsert s h i k
     → (list_of (inserted s h i k).places h ≡ put_by_key (k, i) (list_of s.places h))
     × ((g : ℕ) → g ≢ h → list_of (inserted s h i k).places g ≡ list_of s.places g)
 
 -- the list of the node loses its pair, and every other list stays
 abbrev pub RemovalChangesOneList : Type 0
-RemovalChangesOneList = (s : Placed) (h i k : ℕ) → IsTable s → place_at s.places i ≡ Some (h, k)
+RemovalChangesOneList = (s : Placed) (h i k : ℕ) → ArePlaces s → place_at s.places i ≡ Some (h, k)
     → (list_of (removed s i).places h ≡ without_node i (list_of s.places h))
     × ((g : ℕ) → g ≢ h → list_of (removed s i).places g ≡ list_of s.places g)

@@ -1,7 +1,7 @@
 -- What the links of a table say. A list has two directions, up and down the keys; what holds in one holds in the other.
 use Rattle.std.specs.Prelude.{◌≡◌, ◌≢◌, ℕ, ◌+◌, ◌-◌, ◌^◌, ◌<◌, ◌≤◌, Option, Some, None, List, length, map, slice_index_or, count_by, MatchOption}
-use Rattle.klist_core.specs.Places.{Placed, IsTable, place_at, is_in}
-use Rattle.klist_core.specs.Raw.{place_of}
+use Rattle.klist_core.specs.Places.{Placed, ArePlaces, place_at, is_in}
+use Rattle.klist_core.specs.Raw.{raw_place}
 use Rattle.klist_core.specs.declared.Head.{Head}
 use Rattle.klist_core.specs.declared.Node.{Node}
 
@@ -17,14 +17,14 @@ abbrev pub NoneFrom : (ℕ → ℕ) → (ℕ → Option (ℕ × ℕ)) → ℕ �
 NoneFrom rank place h bound = (i k : ℕ) → place i ≡ Some (h, k) → rank k < bound
 
 -- node j stands in list h under the key k, which has the least rank of bound or more
-pub record IsLeast (rank : ℕ → ℕ) (place : ℕ → Option (ℕ × ℕ)) (h bound j k : ℕ) : Type 0 where
+pub record IsLeastFrom (rank : ℕ → ℕ) (place : ℕ → Option (ℕ × ℕ)) (h bound j k : ℕ) : Type 0 where
   pub here : place j ≡ Some (h, k)
   pub from : bound ≤ rank k
   pub least : (i k' : ℕ) → place i ≡ Some (h, k') → bound ≤ rank k' → rank k ≤ rank k'
 
 -- o is the first node of list h, in this direction, with a rank of bound or more
 pub record IsNearest (rank : ℕ → ℕ) (place : ℕ → Option (ℕ × ℕ)) (h bound : ℕ) (o : Option ℕ) : Type 0 where
-  pub is : MatchOption o (NoneFrom rank place h bound) (λ j. (k : ℕ) × IsLeast rank place h bound j k)
+  pub is : MatchOption o (NoneFrom rank place h bound) (λ j. (k : ℕ) × IsLeastFrom rank place h bound j k)
 
 -- o is the node after node i in this direction
 abbrev pub IsAfter : (ℕ → ℕ) → (ℕ → Option (ℕ × ℕ)) → ℕ → Option ℕ → Type 0
@@ -51,7 +51,7 @@ node_at nodes i = slice_index_or nodes i free_node
 
 -- list and key of the node
 abbrev pub place_in : Node → Option (ℕ × ℕ)
-place_in n = place_of n.list n.key
+place_in n = raw_place n.list n.key
 
 abbrev pub places_of : List Node → List (Option (ℕ × ℕ))
 places_of nodes = map place_in nodes
@@ -62,7 +62,7 @@ shown heads nodes = record { heads = length heads; places = places_of nodes }
 
 -- the links of a table and its lengths are those of its lists
 pub record IsLinked (heads : List Head) (nodes : List Node) : Type 0 where
-  pub table : IsTable (shown heads nodes)
+  pub table : ArePlaces (shown heads nodes)
   pub upwards : IsChain up (place_at (places_of nodes)) (length heads) (λ h. (head_at heads h).first) (λ i. (node_at nodes i).next)
   pub downwards : IsChain down (place_at (places_of nodes)) (length heads) (λ h. (head_at heads h).last) (λ i. (node_at nodes i).previous)
   pub counted : (h : ℕ) → h < length heads → (head_at heads h).len ≡ count_by (is_in h) (places_of nodes)

@@ -15,7 +15,7 @@ is_in h None = false
 is_in h (Some p) = p.0 == h
 
 -- what holds of every table: its numbers fit 32 bits, and no two nodes of a list have one key
-pub record IsTable (s : Placed) : Type 0 where
+pub record ArePlaces (s : Placed) : Type 0 where
   pub few : s.heads < 2 ^ 32
   pub small : length s.places < 2 ^ 32
   pub headed : (i h k : ℕ) → place_at s.places i ≡ Some (h, k) → h < s.heads

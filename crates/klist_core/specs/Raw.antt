@@ -17,6 +17,6 @@ raw_stays raw = elim (cases_eq raw (2 ^ 32 - 1)) [
 ]
 
 -- list and key of a node from what its fields say
-abbrev pub place_of : Option ℕ → ℕ → Option (ℕ × ℕ)
-place_of None key = None
-place_of (Some list) key = Some (list, key)
+abbrev pub raw_place : Option ℕ → ℕ → Option (ℕ × ℕ)
+raw_place None key = None
+raw_place (Some list) key = Some (list, key)

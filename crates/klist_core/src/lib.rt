@@ -9,7 +9,7 @@
 
 ghost use Rattle.std.specs.Prelude.{◌≡◌, ◌≢◌, ℕ, ◌+◌, ◌-◌, ◌^◌, ◌<◌, ◌≤◌, ◌↔◌, Some, None, length, IsTrue, IsSome, IfSome, IfOk, MatchOption, slice_get, replicate, count_by};
 ghost use Rattle.std.specs.Option.{ForSome};
-ghost use Rattle.klist_core.specs.Places.{IsTable, IsEmpty, IsFirst, NoneAbove, IsNext, place_at, is_in, inserted, removed, replaced};
+ghost use Rattle.klist_core.specs.Places.{ArePlaces, IsEmpty, IsFirst, NoneAbove, IsNext, place_at, is_in, inserted, removed, replaced};
 ghost use Rattle.klist_core.specs.Lists.{list_of};
 ghost use Rattle.klist_core.specs.Links.{free_node, up, down, IsNearest, IsAfter, IsStart};
 ghost use Rattle.klist_core.specs.Writes.{heads_linked_after, heads_linked_before, nodes_linked_after, nodes_linked_before};
@@ -142,9 +142,9 @@ impl Lists {
         Ok(Lists { heads, nodes })
     }
 
-    /// What holds of every table, for callers whose proofs need it.
-    pub fn facts(&self)
-        ensures { IsTable self.now }
+    /// What holds of every table. The call does nothing.
+    pub fn laws(&self)
+        ensures { ArePlaces self.now }
     {
         let _heads = &self.heads;
     }
@@ -185,7 +185,7 @@ impl Lists {
         ensures head { result ≡ slice_get (list_of self.now.places head) 0 }
         ensures least { MatchOption result (IsEmpty self.now.places head) (λ p. IsFirst self.now.places head p.0 p.1) }
     {
-        self.facts();
+        self.laws();
         let node = self.first_of(head)?;
         Some((self.key_of(node), node))
     }
@@ -245,7 +245,7 @@ impl Lists {
         requires free { place_at self.old.places by ≡ None }
         ensures { self.new ≡ replaced self.old node by }
     {
-        self.facts();
+        self.laws();
         let Some((head, key)) = self.place_of(node) else {
             unreachable!()
         };
@@ -288,7 +288,7 @@ impl Lists {
         requires next { IsNearest up (place_at self.old.places) head (up key + 1) next }
         ensures { self.new ≡ inserted self.old head node key }
     {
-        self.facts();
+        self.laws();
         self.nodes[node as usize] = Node {
             list: Link::of(Some(head)),
             key,
@@ -330,7 +330,7 @@ impl Lists {
         ensures previous { IsNearest down (place_at self.now.places) head (down key + 1) result.0 }
         ensures next { IsNearest up (place_at self.now.places) head (up key + 1) result.1 }
     {
-        self.facts();
+        self.laws();
         let Some(from) = start else {
             return (None, None);
         };

@@ -4,7 +4,7 @@ use Rattle.std.proofs.Math.Nat.{mul-le-mul_right, pow-le-pow_right}
 use Rattle.model_core.proofs.Layouts.{layouts_fit}
 use Rattle.model_core.specs.Layouts.{IsFit, layout_of, chunk_of, slab_order, slab_room, is_size, is_alignment}
 use Rattle.layout_core.specs.Cut.{Cut, numbers_of}
-use Rattle.layout_core.specs.Inside.{IsCut}
+use Rattle.layout_core.specs.Inside.{AreLayoutFields}
 use Rattle.layout_core.specs.Objects.{IsColour}
 
 pub colour_fits : (l : Cut) (colour : ℕ) → is_size l.size ≡ true → is_alignment l.align ≡ true → IsColour l colour → IsFit (numbers_of l) colour
@@ -25,7 +25,7 @@ ends_within l colour chunk i sized aligned is same object =
 -- the fields of a layout are the numbers of its size and alignment
 pub is_cut : (size align chunk order room : ℕ) → is_size size ≡ true → is_alignment align ≡ true
     → chunk ≡ chunk_of size align → order ≡ slab_order chunk → room ≡ slab_room chunk
-    → IsCut size align chunk order (room / chunk) ((room - room / chunk * chunk) / align + 1)
+    → AreLayoutFields size align chunk order (room / chunk) ((room - room / chunk * chunk) / align + 1)
 unfolding layout_of
 is_cut size align chunk order room sized aligned same same_order same_room =
     let fits = layouts_fit size align sized aligned in

@@ -8,7 +8,7 @@ use borrow.Author.Count.{below_none}
 use Rattle.model_core.specs.Layouts.{chunk_of, slab_order, slab_room, is_size, is_small, is_thrifty, bytes_of_order}
 use Rattle.model_core.specs.Layouts.{layout_of}
 use Rattle.model_core.proofs.Layouts.{layouts_fit, chunk_is}
-use Rattle.layout_core.specs.Laws.{IsLeastOrder, EverySizeHasAnOrder, ObjectsApart, FewObjects}
+use Rattle.layout_core.specs.Laws.{IsLeastOrder, EverySizeHasAnOrder, OffsetsApart, FewObjects}
 use Rattle.layout_core.proofs.Objects.{holds_at}
 
 size_least : (size : ℕ) → is_size size ≡ true → 1 ≤ size
@@ -66,7 +66,7 @@ few_objects size align sized aligned =
     let chunk = chunk_is align aligned size (size_least size sized) (size_most size sized) in
     (few_small (chunk_of size align) chunk.least, few_large (chunk_of size align))
 
-pub objects_apart : ObjectsApart
+pub objects_apart : OffsetsApart
 objects_apart size align colour offset i j sized aligned a b =
     let fit = layouts_fit size align sized aligned in
     let at = holds_at _ (layout_of size align).chunk colour offset 1 i refl fit.chunked a in

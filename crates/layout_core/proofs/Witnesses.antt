@@ -3,7 +3,7 @@ use Rattle.std.proofs.Common.{◌≡◌, ℕ, ◌≤◌, refl, arith}
 use Rattle.model_core.specs.Layouts.{LayoutsFit, IsLayout, layout_of}
 use Rattle.layout_core.specs.Cut.{cut}
 use Rattle.layout_core.specs.Objects.{Holds}
-use Rattle.layout_core.specs.Laws.{IsLeastOrder, EverySizeHasAnOrder, ObjectsApart, FewObjects}
+use Rattle.layout_core.specs.Laws.{IsLeastOrder, EverySizeHasAnOrder, OffsetsApart, FewObjects}
 
 LayoutsFit-met : LayoutsFit → IsLayout 200 8 (layout_of 200 8)
 LayoutsFit-met law = law 200 8 refl refl
@@ -18,8 +18,8 @@ it_holds : Holds (cut 100 8) 0 203 1 1
 unfolding layout_of
 it_holds = record { object = omega arith; some = omega arith; from = omega arith; to = omega arith }
 
-ObjectsApart-met : ObjectsApart → ◌≡◌ {A = ℕ} 1 1
-ObjectsApart-met law = law 100 8 0 203 1 1 refl refl it_holds it_holds
+OffsetsApart-met : OffsetsApart → ◌≡◌ {A = ℕ} 1 1
+OffsetsApart-met law = law 100 8 0 203 1 1 refl refl it_holds it_holds
 
 FewObjects-met : FewObjects → (254 ≤ 254) × (5 ≤ 16)
 unfolding layout_of

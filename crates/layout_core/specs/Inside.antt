@@ -2,7 +2,7 @@ use Rattle.std.specs.Prelude.{◌≡◌, ℕ, ◌<◌, ◌≤◌, ◌++◌, List
 use Rattle.model_core.specs.Layouts.{is_size, is_alignment, layout_of}
 
 -- the fields of a `Layout` are the numbers of its size and alignment
-pub record IsCut (size align chunk order count colours : ℕ) : Type 0 where
+pub record AreLayoutFields (size align chunk order count colours : ℕ) : Type 0 where
   pub accepted_size : is_size size ≡ true
   pub accepted_align : is_alignment align ≡ true
   pub chunk_is : chunk ≡ (layout_of size align).chunk

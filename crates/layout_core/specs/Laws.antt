@@ -16,8 +16,8 @@ EverySizeHasAnOrder = (size align : ℕ) → is_size size ≡ true → is_alignm
     → IsLeastOrder (layout_of size align).chunk (layout_of size align).order
 
 -- a byte that two objects hold is one object's
-abbrev pub ObjectsApart : Type 0
-ObjectsApart = (size align colour offset i j : ℕ) → is_size size ≡ true → is_alignment align ≡ true
+abbrev pub OffsetsApart : Type 0
+OffsetsApart = (size align colour offset i j : ℕ) → is_size size ≡ true → is_alignment align ≡ true
     → Holds (cut size align) colour offset 1 i → Holds (cut size align) colour offset 1 j → i ≡ j
 
 abbrev pub FewObjects : Type 0

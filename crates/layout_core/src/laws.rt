@@ -1,6 +1,6 @@
 //! What holds of every layout. Each law is the contract of a function with an empty body: to call it is to cite it.
 ghost use Rattle.model_core.specs.Layouts.{LayoutsFit};
-ghost use Rattle.layout_core.specs.Laws.{EverySizeHasAnOrder, ObjectsApart, FewObjects};
+ghost use Rattle.layout_core.specs.Laws.{EverySizeHasAnOrder, OffsetsApart, FewObjects};
 
 /// At each colour offset of an accepted size and alignment at least one object fits, all objects begin at multiples of
 /// the alignment and end within the slab, and those of a small slab below the last 32 bytes of its frame.
@@ -16,7 +16,7 @@ pub fn every_size_has_an_order()
 
 /// The objects of a slab share no byte.
 pub fn objects_apart()
-    ensures { ObjectsApart }
+    ensures { OffsetsApart }
 {}
 
 /// A small slab has at most 254 objects, and a large one at most 16.

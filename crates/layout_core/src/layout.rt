@@ -4,6 +4,7 @@ ghost use Rattle.model_core.specs.Layouts.{chunk_of as model_chunk_of, is_thrift
 ghost use Rattle.layout_core.specs.Cut.{Cut, cut, numbers_of, layout_or_refusal};
 ghost use Rattle.layout_core.specs.Objects.{IsColour, Begins, Holds, IsOnly};
 
+use model_core::limits::{FRAME_BYTES, MOST_SIZE, RECORD_OFFSET};
 use std::marker::Model;
 
 /// Why a size and an alignment have no layout.
@@ -32,13 +33,13 @@ pub struct Layout {
 
 impl Model for Layout {
     ghost use Rattle.layout_core.specs.Cut.{Cut, numbers_of};
-    ghost use Rattle.layout_core.specs.Inside.{IsCut};
+    ghost use Rattle.layout_core.specs.Inside.{AreLayoutFields};
 
     ghost Value = { Cut };
 
     ghost view = { λ l. record { size = l.size; align = l.align } };
 
-    ghost invariant = { λ l. IsCut l.size l.align l.chunk l.order l.count l.colours };
+    ghost invariant = { λ l. AreLayoutFields l.size l.align l.chunk l.order l.count l.colours };
 
     ghost inverse = { λ l. record { size = l.size; align = l.align; chunk = (numbers_of l).chunk; order = (numbers_of l).order; count = (numbers_of l).count; colours = (numbers_of l).colours } };
 }
@@ -48,7 +49,7 @@ impl Layout {
     pub fn of(size: u32, align: u32) -> Result<Layout, LayoutRefusal>
         ensures { result ≡ layout_or_refusal size align }
     {
-        if size == 0 || size > 4096 {
+        if size == 0 || size > MOST_SIZE {
             return Err(LayoutRefusal::BadSize);
         }
         if !matches!(align, 8 | 16 | 32 | 64 | 128 | 256) {
@@ -118,16 +119,10 @@ impl Layout {
         self.chunk < SMALL
     }
 
-    /// A law that every layout lends its holder: at each colour offset the objects end within the slab, and below the
-    /// control record where that stands in the frame. The call does nothing.
-    pub fn fits(&self)
-        ensures { IsLayout self.now.size self.now.align (numbers_of self.now) }
-    {
-        let _ = &self.size;
-    }
-
-    /// A law that every layout lends its holder: its size and its alignment are accepted ones. The call does nothing.
-    pub fn accepted(&self)
+    /// The laws that every layout lends its holder: its size and its alignment are accepted ones, and at each colour offset
+    /// the objects end within the slab, and below the control record where that stands in the frame. The call does nothing.
+    pub fn laws(&self)
+        ensures fits { IsLayout self.now.size self.now.align (numbers_of self.now) }
         ensures size { is_size self.now.size ≡ true }
         ensures align { is_alignment self.now.align ≡ true }
     {
@@ -186,7 +181,7 @@ fn is_thrifty(chunk: u32, order: u8) -> bool
     requires order { order ≤ 3 }
     ensures { result ≡ model_is_thrifty chunk order }
 {
-    let bytes = 4096u32 << order;
+    let bytes = FRAME_BYTES << order;
     bytes % chunk <= bytes / 8
 }
 
@@ -213,5 +208,9 @@ fn slab_room(chunk: u32, order: u8) -> u32
     requires few { order ≤ 3 }
     ensures { result ≡ model_slab_room chunk }
 {
-    if chunk < SMALL { 4064 } else { 4096 << order }
+    if chunk < SMALL {
+        RECORD_OFFSET
+    } else {
+        FRAME_BYTES << order
+    }
 }

@@ -4,18 +4,24 @@ use Rattle.std.specs.Prelude.{filter}
 use Rattle.std.specs.List.{list_any, AllByRecursion as Each}
 use Rattle.std.proofs.lemmas.Nat.{pow_pos}
 use Rattle.std.proofs.lemmas.Bool.{and_parts, and_from, leb-true, ltb-true, le-leb, lt-ltb, false_from_ne_true, false≢true}
+use Rattle.model_core.specs.declared.limits.TheConstants.{FRAME_BYTES}
 use Rattle.model_core.specs.Blocks.{Block, HasFrame}
 use Rattle.model_core.specs.Machine.{in_block}
+use Rattle.model_core.specs.Operations.{overlaps}
 use Rattle.model_core.specs.WellFormed.{IsApart, AreApart}
 use Rattle.model_core.proofs.Lists.{IsIn, each_append, each_left, each_right, each_weaker, each_filter, each_in, each_map, each_unmap, any_none, some_any, filter_in}
 
-pub in_block-true : (place : ℕ) (b : Block) → in_block place b ≡ true → HasFrame b (place / 4096)
+pub in_block-true : (place : ℕ) (b : Block) → in_block place b ≡ true → HasFrame b (place / FRAME_BYTES)
 in_block-true place b e =
-    let p : (leb b.first (place / 4096) ≡ true) × (ltb (place / 4096) (b.first + 2 ^ b.order) ≡ true) = and_parts (leb b.first (place / 4096)) (ltb (place / 4096) (b.first + 2 ^ b.order)) e in
-    (leb-true b.first (place / 4096) p.0, ltb-true (place / 4096) (b.first + 2 ^ b.order) p.1)
+    let p : (leb b.first (place / FRAME_BYTES) ≡ true) × (ltb (place / FRAME_BYTES) (b.first + 2 ^ b.order) ≡ true) = and_parts (leb b.first (place / FRAME_BYTES)) (ltb (place / FRAME_BYTES) (b.first + 2 ^ b.order)) e in
+    (leb-true b.first (place / FRAME_BYTES) p.0, ltb-true (place / FRAME_BYTES) (b.first + 2 ^ b.order) p.1)
 
-pub in_block-from : (place : ℕ) (b : Block) → HasFrame b (place / 4096) → in_block place b ≡ true
-in_block-from place b (low, high) = and_from (leb b.first (place / 4096)) (ltb (place / 4096) (b.first + 2 ^ b.order)) (le-leb b.first (place / 4096) low) (lt-ltb (place / 4096) (b.first + 2 ^ b.order) high)
+pub in_block-from : (place : ℕ) (b : Block) → HasFrame b (place / FRAME_BYTES) → in_block place b ≡ true
+in_block-from place b (low, high) = and_from (leb b.first (place / FRAME_BYTES)) (ltb (place / FRAME_BYTES) (b.first + 2 ^ b.order)) (le-leb b.first (place / FRAME_BYTES) low) (lt-ltb (place / FRAME_BYTES) (b.first + 2 ^ b.order) high)
+
+pub overlap_from : (a b : Block) (x : ℕ) → HasFrame a x → HasFrame b x → overlaps a b ≡ true
+overlap_from a b x (a_low, a_high) (b_low, b_high) =
+    and_from _ _ (lt-ltb a.first (b.first + 2 ^ b.order) (omega arith)) (lt-ltb b.first (a.first + 2 ^ a.order) (omega arith))
 
 pub apart_turned : (a b : Block) → IsApart a b → IsApart b a
 apart_turned a b h x in_b in_a = h x in_a in_b
@@ -29,7 +35,7 @@ apart_first a b h e = h a.first (has_first a) (subst (λ x. HasFrame b x) (sym e
 
 -- a place in a block is in none apart from it
 pub apart_place : (place : ℕ) (a b : Block) → IsApart a b → in_block place a ≡ true → in_block place b ≡ false
-apart_place place a b h e = false_from_ne_true (in_block place b) (λ f. h (place / 4096) (in_block-true place a e) (in_block-true place b f))
+apart_place place a b h e = false_from_ne_true (in_block place b) (λ f. h (place / FRAME_BYTES) (in_block-true place a e) (in_block-true place b f))
 
 pub apart_any : (place : ℕ) (a : Block) (bs : List Block) → Each (IsApart a) bs → in_block place a ≡ true → list_any (in_block place) bs ≡ false
 apart_any place a bs h e = any_none (in_block place) bs (each_weaker (IsApart a) (λ b. in_block place b ≡ false) (λ b k. apart_place place a b k e) bs h)
@@ -83,5 +89,5 @@ pub one_side : {X : Type 0} (f : X → Block) (p : X → Bool) (xs : List X) (pl
 one_side {X} f p xs place h e = false_from_ne_true (list_any (λ x. in_block place (f x)) (filter (λ x. not (p x)) xs)) (λ k.
     let a : (x : X) × IsIn x (filter p xs) × (in_block place (f x) ≡ true) = some_any (λ x. in_block place (f x)) (filter p xs) e in
     let b : (x : X) × IsIn x (filter (λ x. not (p x)) xs) × (in_block place (f x) ≡ true) = some_any (λ x. in_block place (f x)) (filter (λ x. not (p x)) xs) k in
-    let same : a.0 ≡ b.0 = one_holder f xs a.0 b.0 (place / 4096) h (filter_in p a.0 xs a.1).0 (filter_in (λ x. not (p x)) b.0 xs b.1).0 (in_block-true place (f a.0) a.2) (in_block-true place (f b.0) b.2) in
+    let same : a.0 ≡ b.0 = one_holder f xs a.0 b.0 (place / FRAME_BYTES) h (filter_in p a.0 xs a.1).0 (filter_in (λ x. not (p x)) b.0 xs b.1).0 (in_block-true place (f a.0) a.2) (in_block-true place (f b.0) b.2) in
     false≢true (sym (ap not (filter_in p a.0 xs a.1).1) ∙ (ap (λ x. not (p x)) same ∙ (filter_in (λ x. not (p x)) b.0 xs b.1).1)))

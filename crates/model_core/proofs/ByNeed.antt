@@ -1,10 +1,10 @@
 -- Reaping by need: what serves a request is the machine itself, or what is left when all its empty slabs are given back.
-use Rattle.std.proofs.Common.{◌≡◌, ℕ, ◌≤◌, Bool, true, false, ltb, [], Option, Some, None, refl, sym, ap, ◌∙◌, arith}
-use Rattle.std.specs.Prelude.{if◌then◌else◌, OnErr, find, flat_map, map}
+use Rattle.std.proofs.Common.{◌≡◌, ℕ, ◌≤◌, Bool, true, false, ltb, Option, Some, None, refl, sym, ap, ◌∙◌, arith}
+use Rattle.std.specs.Prelude.{if◌then◌else◌, OnErr, find}
 use Rattle.std.proofs.lemmas.Bool.Decides.{nat_tests}
 use Rattle.model_core.specs.declared.refusals.AllocRefusal.{AllocRefusal}
 use Rattle.model_core.specs.Machine.{Slab, Cache, Machine, layout, choice}
-use Rattle.model_core.specs.Slabs.{cache_of, is_partial, is_empty, slab_to_use, zeroed, without_empty, empty_blocks, reaped, by_need, choice_by_need}
+use Rattle.model_core.specs.Slabs.{cache_of, is_partial, is_empty, slab_to_use, reaped, by_need, choice_by_need}
 use Rattle.model_core.specs.Operations.{refuse, alloc_at, alloc_step}
 use Rattle.model_core.specs.CacheOperations.{take_new, take_from, take_of, take_step}
 use Rattle.model_core.specs.Laws.{AllocReaps, TakeReaps, RefusalsStay}
@@ -39,16 +39,6 @@ by_need_none order k m none = go (choice order m k) refl (choice order (reaped m
     go None is None still = by_need_stays order k m is still
     go None is (Some first) found = let reaps : by_need order k m ≡ reaped m = by_need_reaps order k first m is found in
         let both : None ≡ Some first = sym none ∙ (ap (λ n. choice order n k) reaps ∙ found) in absurd (cc)
-
--- a machine without caches has nothing to give back
-pub reaped_alone : (m : Machine) → m.caches ≡ [] → reaped m ≡ m
-unfolding reaped
-reaped_alone m none =
-    ap (λ cs. record m { caches = map without_empty cs; bytes = zeroed (flat_map empty_blocks cs) m.bytes }) none
-    ∙ ap (λ cs. record m { caches = cs }) (sym none)
-
-pub by_need_alone : (order k : ℕ) (m : Machine) → m.caches ≡ [] → by_need order k m ≡ m
-by_need_alone order k m none = by_need_keeps (λ n. n ≡ m) order k m refl (reaped_alone m none)
 
 -- The steps
 

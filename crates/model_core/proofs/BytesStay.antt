@@ -1,14 +1,13 @@
 -- A place that an operation leaves alone keeps its byte.
 use Rattle.std.proofs.Common.{◌≡◌, ℕ, ◌+◌, ◌-◌, Bool, true, false, not, ◌&&◌, ◌||◌, eqb, ltb, leb, List, [], ◌∷◌, ◌++◌, map, length, Option, Some, None, Ok, refl, sym, ap, ◌∙◌}
 use Rattle.std.specs.Prelude.{if◌then◌else◌, filter, find, is_some, option_map, option_and_then, slice_get}
-use Rattle.std.specs.Option.{option_map_or}
 use Rattle.std.specs.List.{list_any}
 use Rattle.std.proofs.lemmas.Bool.{false≢true, eq-eqb, ne_eqb, not-true, false_from_ne_true}
 use Rattle.model_core.specs.declared.refusals.AllocRefusal.{AllocRefusal}
 use Rattle.model_core.specs.declared.refusals.CacheRefusal.{CacheRefusal}
 use Rattle.model_core.specs.declared.refusals.DestroyRefusal.{DestroyRefusal}
 use Rattle.model_core.specs.declared.refusals.TakeBackRefusal.{TakeBackRefusal}
-use Rattle.model_core.specs.Blocks.{Block, block}
+use Rattle.model_core.specs.Blocks.{block}
 use Rattle.model_core.specs.Layouts.{is_size, is_alignment}
 use Rattle.model_core.specs.Machine.{Slab, Cache, Machine, empty_machine, put_rising, holds, slot_of, in_block, layout, slab_block, choice, order_in}
 use Rattle.model_core.specs.Slabs.{LiveObject, live_objects, is_partial, is_empty, cache_of, new_slab, grown_cache, grown, slab_to_use, next_object, zeroed, reaped, by_need, choice_by_need, destroyed}
@@ -23,8 +22,8 @@ use Rattle.model_core.proofs.Lists.{IsIn, each_weaker, each_filtered, find_in, F
 use Rattle.model_core.proofs.ByNeed.{by_need_keeps, by_need_found, by_need_none}
 use Rattle.model_core.proofs.Apart.{one_side}
 use Rattle.model_core.proofs.Laid.{Laid, laid, all_laid, laid_block, in_laid, in_laid_object, in_slab_laid, IsLaidOut, laid_out}
-use Rattle.model_core.proofs.Kept.{any_put, no_object, slab_held}
-use Rattle.model_core.proofs.Split.{filter_laid, laid_of, slab_blocks_laid, is_empty_laid, kept_laid, gone_laid}
+use Rattle.model_core.proofs.MemoryKept.{any_put, no_object, slab_held}
+use Rattle.model_core.proofs.Split.{filter_laid, laid_of, slab_blocks_laid, is_empty_laid, kept_laid, gone_laid, Unmade}
 use Rattle.model_core.proofs.PageSteps.{either, done, by_need_kept}
 use Rattle.model_core.proofs.CacheSteps.{IsGrown, grown_is, grown_kept, stands_by_need}
 use Rattle.model_core.proofs.Constructed.{grown_byte, next_unheld}
@@ -138,9 +137,6 @@ grown_elsewhere order place first c m w in_c outside =
     ∙ (any_put (in_laid place) g.xs g.ys (laid c (new_slab c first))
     ∙ (ap (λ b. b || list_any (in_laid place) (g.xs ++ g.ys)) outside
     ∙ (ap (λ ls. list_any (in_laid place) ls) (sym g.was) ∙ sym (in_slab_laid m place)))))
-
-abbrev Unmade : ℕ → Option Block → Type 0
-Unmade place made = option_map_or (in_block place) made false ≡ false
 
 same_take : {limit : ℕ} (order number place : ℕ) (m : Machine) → IsWellFormed limit order m → Unmade place (option_and_then (block_of_growth order m) (cache_of m number)) → Same place m (take_step order number m).machine
 unfolding take_step

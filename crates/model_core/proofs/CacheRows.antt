@@ -14,7 +14,7 @@ use Rattle.model_core.specs.Reach.{in_reach}
 use Rattle.model_core.specs.Operations.{alloc_step, free_step, read_step, write_step, next_slot, after_grant, is_busy, take_back_step}
 use Rattle.model_core.specs.CacheOperations.{create_step, cache_step, next_number, take_step, give_step, destroy_step, reap_step}
 use Rattle.model_core.specs.Runs.{Operation, Alloc, Free, Write, Create, Take, Give, Destroy, Reap, Grant, TakeBack}
-use Rattle.model_core.proofs.Told.{number_of, numbers, machine_after}
+use Rattle.model_core.proofs.RowAnswers.{number_of, numbers, machine_after}
 
 -- twenty objects of 200 bytes fill a slab; the next slab's first object is 8 bytes, one colour, into its frame
 colours : numbers (Grant ∷ Create 200 8 (165 ∷ []) ∷ replicate 21 (Take 0))

@@ -4,6 +4,7 @@ use Rattle.std.specs.Prelude.{if◌then◌else◌, is_some, filter, find, slice_
 use Rattle.std.specs.List.{AllByRecursion as Each}
 use Rattle.std.proofs.Math.ListN.{length-set, length-replicate}
 use Rattle.std.proofs.Math.Nat.{mod-lt}
+use Rattle.model_core.specs.declared.limits.TheConstants.{FRAME_BYTES}
 use Rattle.model_core.specs.Blocks.{Block, block}
 use Rattle.model_core.specs.Layouts.{in_object}
 use Rattle.model_core.specs.Machine.{Slab, Cache, Machine, layout, choice}
@@ -11,30 +12,14 @@ use Rattle.model_core.specs.Slabs.{is_partial, is_empty, cache_of, with_cache, w
 use Rattle.model_core.specs.CacheOperations.{take_new, take_from, take_of, take_step}
 use Rattle.model_core.specs.WellFormed.{RisesFrom, IsApart, IsCut, IsCache, IsWellFormed}
 use Rattle.model_core.proofs.Layouts.{layouts_fit}
-use Rattle.model_core.proofs.Lists.{IsIn, each_left, each_right, each_put, each_less, each_middle, each_weaker, each_in, each_unmap, each_from, find_in, Found, found, found_replaced, PutIn, put_in, put_rises, map_append}
+use Rattle.model_core.proofs.Lists.{IsIn, each_left, each_right, each_put, each_less, each_middle, each_weaker, each_in, each_unmap, each_from, find_in, Found, found, found_replaced, PutIn, put_in, put_rises, map_append, in_left, in_right, in_map}
 use Rattle.model_core.proofs.ByNeed.{by_need_keeps}
 use Rattle.model_core.proofs.Apart.{apart_first}
 use Rattle.model_core.proofs.Chosen.{chosen_apart, chosen_placed}
 use Rattle.model_core.proofs.Laid.{Laid, laid, laid_in, all_laid, laid_block, IsLaidOut, taken_laid, laid_out, Numbered, well_formed}
-use Rattle.model_core.proofs.Kept.{with_flags, flags_set, slab_put}
+use Rattle.model_core.proofs.MemoryKept.{with_flags, flags_set, slab_put}
 use Rattle.model_core.proofs.Split.{in_middle, laid_parts}
 use Rattle.model_core.proofs.PageSteps.{by_need_kept}
-
--- Membership
-
-pub in_left : {X : Type 0} (x : X) (xs ys : List X) → IsIn x xs → IsIn x (xs ++ ys)
-in_left x [] ys i = elim i [ ]
-in_left x (z ∷ xs) ys (inl e) = inl e
-in_left x (z ∷ xs) ys (inr i) = inr (in_left x xs ys i)
-
-pub in_right : {X : Type 0} (x : X) (xs ys : List X) → IsIn x ys → IsIn x (xs ++ ys)
-in_right x [] ys i = i
-in_right x (z ∷ xs) ys i = inr (in_right x xs ys i)
-
-pub in_map : {X Y : Type 0} (f : X → Y) (x : X) (xs : List X) → IsIn x xs → IsIn (f x) (map f xs)
-in_map f x [] i = elim i [ ]
-in_map f x (z ∷ xs) (inl e) = inl (ap f e)
-in_map f x (z ∷ xs) (inr i) = inr (in_map f x xs i)
 
 pub in_all_laid : (c : Cache) (s : Slab) (cs : List Cache) → IsIn c cs → IsIn s c.slabs → IsIn (laid c s) (all_laid cs)
 in_all_laid c s [] i j = elim i [ ]
@@ -170,7 +155,7 @@ grown_kept {limit} order first c m w in_c e =
     (slab_put order m.slots m.blocks h.xs h.ys (laid c s) m.bytes (fresh_byte c s) (subst (λ ls. IsLaidOut order m.slots m.blocks ls m.bytes) h.was (laid_out order m w))
     (chosen_placed order (layout c).order first m e) (each_left (IsApart b) m.blocks slabs apart) (subst (λ ls. Each (IsApart b) (map laid_block ls)) h.was apart_slabs)
     (record { fit = layouts_fit c.size c.align is_c.sized is_c.aligned; count = count; colour_is = (c.made, refl) })
-    (λ place. fresh_some (in_object (layout c) c.size s.colour (place - 4096 * first)) _)))
+    (λ place. fresh_some (in_object (layout c) c.size s.colour (place - FRAME_BYTES * first)) _)))
 
 -- Objects taken
 

@@ -9,7 +9,7 @@ use Rattle.model_core.specs.Blocks.{Block, block, IsFree, IsChoice, IsWithout}
 use Rattle.model_core.specs.Numbered.{number_at, is_clear, IsOpen}
 use Rattle.model_core.specs.Choice.{found_or, least, is_available, is_free, first_free, first_order}
 use Rattle.model_core.specs.BlockLaws.{FreeIsTested, ChoiceIsFound, OneChoice}
-use Rattle.model_core.proofs.Bridge.{number_is, free_is_open, open_is_free}
+use Rattle.model_core.proofs.BlocksByNumber.{number_is, free_is_open, open_is_free}
 
 -- what the least number below n that passes is
 abbrev pub IsLeast : (ℕ → Bool) → ℕ → ℕ → Type 0

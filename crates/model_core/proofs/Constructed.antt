@@ -4,6 +4,7 @@ use Rattle.std.specs.Prelude.{if◌then◌else◌, filter, slice_set, slice_get}
 use Rattle.std.specs.List.{list_any, AllByRecursion as Each}
 use Rattle.std.proofs.lemmas.List.{length-replicate, get_or-set_same, get_or-set_other}
 use Rattle.std.proofs.lemmas.Bool.{cases_eq, and_parts, ltb-true, leb-true, ne_eqb, false≢true, false_from_ne_true}
+use Rattle.model_core.specs.declared.limits.TheConstants.{FRAME_BYTES}
 use Rattle.model_core.specs.Layouts.{object_place, in_object, pattern_byte}
 use Rattle.model_core.specs.Machine.{Slab, Cache, Machine, slot_of, layout, choice, in_block, slab_block, least_missing}
 use Rattle.model_core.specs.Slabs.{with_cache, with_slab, with_live, new_slab, fresh_byte, grown, zeroed, reaped, destroyed}
@@ -14,7 +15,7 @@ use Rattle.model_core.proofs.Layouts.{layouts_fit}
 use Rattle.model_core.proofs.Lists.{IsIn, each_right, each_put, each_less, each_middle, each_weaker, each_in, each_from, each_unmap, each_filter, any_in, any_map, none_any, any_none, filter_in, Found, found, least_is_missing}
 use Rattle.model_core.proofs.Apart.{apart_turned, in_block-true, apart_place, one_holder, one_side}
 use Rattle.model_core.proofs.Laid.{Laid, laid, all_laid, laid_layout, laid_block, in_laid, Placed, IsCutLaid, IsLaidOut, taken_laid, laid_out}
-use Rattle.model_core.proofs.Kept.{with_flags, frame_slot, place_held}
+use Rattle.model_core.proofs.MemoryKept.{with_flags, frame_slot, place_held}
 use Rattle.model_core.proofs.Chosen.{chosen_apart}
 use Rattle.model_core.proofs.Split.{filter_laid, laid_of, slab_blocks_laid, is_empty_laid, kept_laid, gone_laid}
 use Rattle.model_core.proofs.PageSteps.{not_busy}
@@ -72,8 +73,8 @@ dead_byte {limit} order m l i j p w in_ls b dead (inr h) =
     let in_k : IsIn k (all_laid m.caches) = in_all_laid h.cache h.slab m.caches h.cache_in h.slab_in in
     let cut : IsCutLaid k = each_in IsCutLaid k (all_laid m.caches) out.cut in_k in
     let there : IsByteOf k h.index h.byte p = byte_is_of k cut h.index h.byte p (live_byte m p h cut) in
-    let one : l ≡ k = one_holder laid_block (all_laid m.caches) l k (p / 4096) out.apart_slabs in_ls in_k (in_block-true p (laid_block l) here.in_slab) (in_block-true p (laid_block k) there.in_slab) in
-    let index : i ≡ h.index = sym here.index_is ∙ (ap (λ x. (p - 4096 * x.first - x.colour) / (laid_layout x).chunk) one ∙ there.index_is) in
+    let one : l ≡ k = one_holder laid_block (all_laid m.caches) l k (p / FRAME_BYTES) out.apart_slabs in_ls in_k (in_block-true p (laid_block l) here.in_slab) (in_block-true p (laid_block k) there.in_slab) in
+    let index : i ≡ h.index = sym here.index_is ∙ (ap (λ x. (p - FRAME_BYTES * x.first - x.colour) / (laid_layout x).chunk) one ∙ there.index_is) in
     false≢true (sym dead ∙ (ap (λ n. get_or l.live n false) index ∙ (ap (λ x. get_or x.live h.index false) one ∙ h.live)))
 
 pub fresh_written : {limit : ℕ} (order place begin : ℕ) (new : List ℕ) (m : Machine) → IsWellFormed limit order m → in_reach m begin (length new) ≡ true → AllFresh place m → AllFresh place (record m { bytes = written begin new m.bytes })
@@ -114,10 +115,10 @@ constructed_flagged order place c s i b m w in_c in_s h =
 
 -- Growth
 
-fresh_byte_is : (c : Cache) (s : Slab) (place : ℕ) → in_object (layout c) c.size s.colour (place - 4096 * s.first) ≡ true
-    → fresh_byte c s place ≡ Some (pattern_byte c.pattern ((place - 4096 * s.first - s.colour) % (layout c).chunk))
+fresh_byte_is : (c : Cache) (s : Slab) (place : ℕ) → in_object (layout c) c.size s.colour (place - FRAME_BYTES * s.first) ≡ true
+    → fresh_byte c s place ≡ Some (pattern_byte c.pattern ((place - FRAME_BYTES * s.first - s.colour) % (layout c).chunk))
 unfolding fresh_byte
-fresh_byte_is c s place e = ap (λ b. if b then Some (pattern_byte c.pattern ((place - 4096 * s.first - s.colour) % (layout c).chunk)) else None) e
+fresh_byte_is c s place e = ap (λ b. if b then Some (pattern_byte c.pattern ((place - FRAME_BYTES * s.first - s.colour) % (layout c).chunk)) else None) e
 
 all_false : (n i : ℕ) → get_or (replicate n false) i false ≡ false
 all_false zero i = refl
@@ -196,7 +197,7 @@ slab_slot order m l i j p w in_ls b =
     let out : IsLaidOut order m.slots m.blocks (all_laid m.caches) m.bytes = laid_out order m w in
     let placed : Placed order m.slots (laid_block l) = each_in (λ k. Placed order m.slots (laid_block k)) l (all_laid m.caches) out.placed_slabs in_ls in
     let here : in_laid p l ≡ true = (byte_is_of l (each_in IsCutLaid l (all_laid m.caches) out.cut in_ls) i j p b).in_slab in
-    (frame_slot order (p / 4096) (laid_block l) placed.0 (in_block-true p (laid_block l) here), place_held order m.slots p (laid_block l) placed here)
+    (frame_slot order (p / FRAME_BYTES) (laid_block l) placed.0 (in_block-true p (laid_block l) here), place_held order m.slots p (laid_block l) placed here)
 
 pub next_unheld : {limit : ℕ} (order : ℕ) (m : Machine) → IsWellFormed limit order m → list_any (λ v. eqb v (next_slot m)) m.slots ≡ false
 unfolding next_slot

@@ -11,9 +11,9 @@ use Rattle.model_core.specs.declared.refusals.CacheRefusal.{CacheRefusal}
 use Rattle.model_core.specs.declared.refusals.DestroyRefusal.{DestroyRefusal}
 use Rattle.model_core.specs.declared.refusals.TakeBackRefusal.{TakeBackRefusal}
 use Rattle.model_core.specs.declared.refusals.TakeRefusal.{TakeRefusal}
-use Rattle.model_core.specs.Blocks.{Block, block}
+use Rattle.model_core.specs.Blocks.{block}
 use Rattle.model_core.specs.Layouts.{is_size, is_alignment, pattern_byte}
-use Rattle.model_core.specs.Machine.{Slab, Cache, Machine, empty_machine, holds, in_block, layout, choice, order_in}
+use Rattle.model_core.specs.Machine.{Slab, Cache, Machine, empty_machine, holds, layout, choice, order_in}
 use Rattle.model_core.specs.Slabs.{LiveObject, live_objects, is_partial, is_empty, cache_of, new_slab, grown_cache, grown, slab_to_use, next_object, by_need, choice_by_need}
 use Rattle.model_core.specs.Reach.{in_reach}
 use Rattle.model_core.specs.Operations.{Step, refuse, alloc_at, alloc_step, free_at, free_step, written, write_step, is_busy, after_take_back, take_back_step}
@@ -30,6 +30,7 @@ use Rattle.model_core.proofs.Objects.{live_is}
 use Rattle.model_core.proofs.ObjectsApart.{IsLaidObject, laid_object}
 use Rattle.model_core.proofs.Constructed.{IsFresh, AllFresh, IsConstructed, AllConstructed, fresh_constructed, constructed_flagged, fresh_written, fresh_flagged, fresh_grown, fresh_destroyed, fresh_reaped, fresh_granted, fresh_taken_back}
 use Rattle.model_core.proofs.WellFormedRuns.{keeps_well_formed, runs_well_formed}
+use Rattle.model_core.proofs.Split.{Unmade}
 
 fresh_by_need : {limit : ℕ} (order place k : ℕ) (m : Machine) → IsWellFormed limit order m → AllFresh place m → AllFresh place (by_need order k m)
 fresh_by_need order place k m w h = by_need_keeps (AllFresh place) order k m h (fresh_reaped order place m w h)
@@ -81,10 +82,6 @@ leaves_handed order place c s m w in_c in_s h = (
   constructed_flagged order place c s (next_object s) true m w in_c in_s h,
   λ ne. fresh_flagged order place c s (next_object s) true m w in_c in_s (λ _ same. ne (ap Some same)) h,
 )
-
--- where no slab is made at the place
-abbrev Unmade : ℕ → Option Block → Type 0
-Unmade place made = option_map_or (in_block place) made false ≡ false
 
 leaves_take_from : {limit : ℕ} (order place : ℕ) (c : Cache) (m : Machine) → IsWellFormed limit order m → IsIn c m.caches → (o : Option Slab) → slab_to_use (find is_partial c.slabs) (find is_empty c.slabs) ≡ o
     → (Unmade place (if is_some o then None else option_map (λ first. block first (layout c).order) (choice_by_need order (layout c).order m)) → AllFresh place m)

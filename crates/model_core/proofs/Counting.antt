@@ -1,10 +1,10 @@
 -- How many numbers below a bound pass a test.
-use Rattle.std.proofs.Common.{◌≡◌, ◌⊎◌, inl, inr, refl, sym, ◌∙◌, ap, ℕ, zero, suc, ◌+◌, ◌*◌, ◌/◌, ◌^◌, ◌<◌, ◌≤◌, Bool, true, false, add-one, arith}
+use Rattle.std.proofs.Common.{◌≡◌, ◌⊎◌, inl, inr, refl, sym, ◌∙◌, ap, ℕ, zero, suc, ◌+◌, ◌*◌, ◌/◌, ◌^◌, ◌<◌, ◌≤◌, Bool, true, false, arith}
 use Rattle.std.specs.Prelude.{if◌then◌else◌}
 use Rattle.std.proofs.Math.Nat.{div-lt_iff_lt-mul}
 use Rattle.std.proofs.lemmas.Nat.{pow_pos}
 use Rattle.std.proofs.lemmas.Bool.{cases_lt, false_from_ne_true}
-use Rattle.model_core.specs.Blocks.{block, Taken, IsFree}
+use Rattle.model_core.specs.Blocks.{block, Taken}
 use Rattle.model_core.specs.Choice.{is_free, count_below, free_blocks}
 use Rattle.model_core.proofs.Choosing.{free_is_tested}
 
@@ -25,19 +25,6 @@ count_le p (suc n) = let before = count_le p n in let last = at_most_one (p n) i
     at_most_one true = omega arith
     at_most_one false = omega arith
 
--- one more number
-pub count_more : (p : ℕ → Bool) (n : ℕ) → p n ≡ true → count_below p (n + 1) ≡ count_below p n + 1
-count_more p n on =
-    let last : bit (p n) ≡ 1 = ap bit on in
-    let next : count_below p (n + 1) ≡ count_below p n + bit (p n) = ap (count_below p) (add-one n) in
-    omega arith
-
-pub count_as_before : (p : ℕ → Bool) (n : ℕ) → p n ≡ false → count_below p (n + 1) ≡ count_below p n
-count_as_before p n off =
-    let last : bit (p n) ≡ 0 = ap bit off in
-    let next : count_below p (n + 1) ≡ count_below p n + bit (p n) = ap (count_below p) (add-one n) in
-    omega arith
-
 -- numbers that do not pass add nothing
 pub count_past : (p : ℕ → Bool) (n m : ℕ) → n ≤ m → ((f : ℕ) → n ≤ f → p f ≡ false) → count_below p m ≡ count_below p n
 count_past p n zero le none = let same : n ≡ 0 = omega arith in ap (count_below p) (sym same)
@@ -57,16 +44,6 @@ count_either p n m past_n past_m = go (cases_lt n m)
     go : (n < m) ⊎ (m ≤ n) → count_below p n ≡ count_below p m
     go (inl below) = sym (count_past p n m (omega arith) past_n)
     go (inr above) = count_past p m n above past_m
-
--- one more block
-pub one_free : (top : ℕ) (held : ℕ → Bool) (taken : Taken) (k f : ℕ) → IsFree top held taken (block f k)
-    → count_below (λ g. is_free top held taken (block g k)) (f + 1) ≡ count_below (λ g. is_free top held taken (block g k)) f + 1
-one_free top held taken k f free = count_more (λ g. is_free top held taken (block g k)) f ((free_is_tested top held taken (block f k)).1 free)
-
-pub none_free : (top : ℕ) (held : ℕ → Bool) (taken : Taken) (k f : ℕ) → (IsFree top held taken (block f k) → ⊥)
-    → count_below (λ g. is_free top held taken (block g k)) (f + 1) ≡ count_below (λ g. is_free top held taken (block g k)) f
-none_free top held taken k f off = count_as_before (λ g. is_free top held taken (block g k)) f
-    (false_from_ne_true _ (λ e. off ((free_is_tested top held taken (block f k)).0 e)))
 
 -- no block past the held slots is free
 none_past : (top : ℕ) (held : ℕ → Bool) (taken : Taken) (slots k f : ℕ) → ((u : ℕ) → held u ≡ true → u < slots) → slots * 2 ^ top ≤ f → is_free top held taken (block f k) ≡ false

@@ -10,7 +10,7 @@ use Rattle.model_core.specs.Choice.{is_available}
 use Rattle.model_core.specs.BlockLaws.{EachFrameInOne, Splits, ReservedIsUntaken}
 use Rattle.model_core.proofs.Halves.{open_around, one_open, same_above}
 use Rattle.model_core.proofs.TakeOut.{TakesOut, IsOtherHalf, open_after, open_stays, open_half}
-use Rattle.model_core.proofs.Bridge.{number_is, first_is, same_first, number_first, aligned_first, number_around, aligned_below, number_of_frame, frame_of_number, same_slot, available_tells, available_is, taken_is_unavailable, free_is_open, open_is_free}
+use Rattle.model_core.proofs.BlocksByNumber.{number_is, first_is, same_first, number_first, aligned_first, number_around, aligned_below, number_of_frame, frame_of_number, same_slot, available_tells, available_is, taken_is_unavailable, free_is_open, open_is_free}
 
 -- aligned blocks of one order and one number are one
 pub same_block : (b c : Block) → b.first % 2 ^ b.order ≡ 0 → c.first % 2 ^ c.order ≡ 0 → b.order ≡ c.order → number_at b.order b.first ≡ number_at b.order c.first → b ≡ c

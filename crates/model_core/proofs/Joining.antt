@@ -9,7 +9,7 @@ use Rattle.model_core.specs.Choice.{is_available}
 use Rattle.model_core.specs.BlockLaws.{Joins, JoinsTo, ReserveStaysSound, ReleaseStaysSound, GrantStaysSound, TakeBackStaysSound}
 use Rattle.model_core.proofs.Halves.{halves, clear_from, clear_whole, open_around, open_is_greatest, one_open, same_above}
 use Rattle.model_core.proofs.TakeOut.{TakesOut, IsOtherHalf, open_after, open_stays, open_half}
-use Rattle.model_core.proofs.Bridge.{number_is, number_first, aligned_first, number_around, number_of_frame, frame_of_number, same_slot, available_tells, available_is, taken_is_unavailable, free_is_open, open_is_free}
+use Rattle.model_core.proofs.BlocksByNumber.{number_is, number_first, aligned_first, number_around, number_of_frame, frame_of_number, same_slot, available_tells, available_is, taken_is_unavailable, free_is_open, open_is_free}
 use Rattle.model_core.proofs.FreeBlocks.{same_block, same_bool, same_some, none_some, has_first, with_here, with_other, without_here, without_other, taken_after, released_taken, even_number, reserved_is_untaken}
 
 -- the number of the buddy of the block of order i around x

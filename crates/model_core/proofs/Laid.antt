@@ -2,6 +2,7 @@
 use Rattle.std.proofs.Common.{◌≡◌, ℕ, ◌-◌, ◌*◌, ◌/◌, ◌^◌, ◌<◌, Bool, true, not, ◌&&◌, ◌||◌, eqb, List, [], ◌∷◌, ◌++◌, map, length, Option, refl, sym, ap, ◌∙◌, subst}
 use Rattle.std.specs.Prelude.{flat_map, is_some}
 use Rattle.std.specs.List.{list_any, AllByRecursion as Each}
+use Rattle.model_core.specs.declared.limits.TheConstants.{FRAME_BYTES}
 use Rattle.model_core.specs.Blocks.{Block, block, IsAligned}
 use Rattle.model_core.specs.Layouts.{Layout, layout_of, colour_offset, in_object, IsLayout}
 use Rattle.model_core.specs.Machine.{Slab, Cache, Machine, slot_of, in_block, slab_block, slab_blocks, taken_blocks}
@@ -38,9 +39,9 @@ abbrev pub in_laid : ℕ → Laid → Bool
 in_laid place l = in_block place (laid_block l)
 
 abbrev pub in_laid_object : ℕ → Laid → Bool
-in_laid_object place l = in_laid place l && in_object (laid_layout l) l.size l.colour (place - 4096 * l.first)
+in_laid_object place l = in_laid place l && in_object (laid_layout l) l.size l.colour (place - FRAME_BYTES * l.first)
 
-map_laid : (c : Cache) (ss : List Slab) → map (slab_block c) ss ≡ map laid_block (map (laid c) ss)
+pub map_laid : (c : Cache) (ss : List Slab) → map (slab_block c) ss ≡ map laid_block (map (laid c) ss)
 map_laid c [] = refl
 map_laid c (s ∷ ss) = ap (λ bs. slab_block c s ∷ bs) (map_laid c ss)
 

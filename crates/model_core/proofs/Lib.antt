@@ -1,15 +1,13 @@
 pub mod BlockRows
 pub mod Halves
 pub mod TakeOut
-pub mod Bridge
+pub mod BlocksByNumber
 pub mod FreeBlocks
 pub mod Joining
 pub mod Choosing
 pub mod Counting
-pub mod SameFrames
-pub mod Marking
 mod LayoutRows
-mod Told
+mod RowAnswers
 mod PageRows
 mod CacheRows
 mod ReapingRows
@@ -21,7 +19,7 @@ pub mod Apart
 pub mod Chosen
 pub mod TakenSteps
 pub mod Laid
-pub mod Kept
+pub mod MemoryKept
 pub mod Split
 pub mod PageSteps
 pub mod CacheSteps

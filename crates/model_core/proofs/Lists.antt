@@ -103,6 +103,25 @@ pub each_from : {X : Type 0} (P : X → Type 0) (xs : List X) → ((x : X) → I
 each_from P [] f = tt
 each_from P (x ∷ xs) f = (f x (inl refl), each_from P xs (λ y i. f y (inr i)))
 
+pub in_left : {X : Type 0} (x : X) (xs ys : List X) → IsIn x xs → IsIn x (xs ++ ys)
+in_left x [] ys i = elim i [ ]
+in_left x (z ∷ xs) ys (inl e) = inl e
+in_left x (z ∷ xs) ys (inr i) = inr (in_left x xs ys i)
+
+pub in_right : {X : Type 0} (x : X) (xs ys : List X) → IsIn x ys → IsIn x (xs ++ ys)
+in_right x [] ys i = i
+in_right x (z ∷ xs) ys i = inr (in_right x xs ys i)
+
+pub in_map : {X Y : Type 0} (f : X → Y) (x : X) (xs : List X) → IsIn x xs → IsIn (f x) (map f xs)
+in_map f x [] i = elim i [ ]
+in_map f x (z ∷ xs) (inl e) = inl (ap f e)
+in_map f x (z ∷ xs) (inr i) = inr (in_map f x xs i)
+
+pub map_in : {X Y : Type 0} (f : X → Y) (y : Y) (xs : List X) → IsIn y (map f xs) → (x : X) × IsIn x xs × (f x ≡ y)
+map_in f y [] i = elim i [ ]
+map_in f y (x ∷ xs) (inl e) = (x, inl refl, e)
+map_in {X} f y (x ∷ xs) (inr i) = let t : (z : X) × IsIn z xs × (f z ≡ y) = map_in f y xs i in (t.0, inr t.1, t.2)
+
 pub filter_in : {X : Type 0} (p : X → Bool) (x : X) (xs : List X) → IsIn x (filter p xs) → IsIn x xs × (p x ≡ true)
 filter_in p x [] i = elim i [ ]
 filter_in {X} p x (y ∷ ys) i = go (p y) refl i (filter_in p x ys)

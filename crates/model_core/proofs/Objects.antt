@@ -4,6 +4,7 @@ use Rattle.std.specs.Prelude.{if◌then◌else◌, is_some, flat_map}
 use Rattle.std.specs.List.{list_any, AllByRecursion as Each}
 use Rattle.std.proofs.lemmas.Bool.{and_parts, and_from, or_cases, or_right, leb-true, le-leb, lt-ltb}
 use Rattle.std.proofs.lemmas.Nat.{row_fits, div-mul-add, mod-mul-add}
+use Rattle.model_core.specs.declared.limits.TheConstants.{FRAME_BYTES}
 use Rattle.model_core.specs.Blocks.{Block}
 use Rattle.model_core.specs.Layouts.{object_place, in_object, IsFit}
 use Rattle.model_core.specs.Machine.{Slab, Cache, Machine, slot_of, layout, in_block}
@@ -13,7 +14,7 @@ use Rattle.model_core.specs.WellFormed.{IsApart, IsWellFormed}
 use Rattle.model_core.proofs.Lists.{IsIn, each_in, each_unmap, some_any, any_in, any_none, each_weaker}
 use Rattle.model_core.proofs.Apart.{in_block-from, apart_place}
 use Rattle.model_core.proofs.Laid.{Laid, laid, all_laid, laid_layout, laid_block, in_laid, in_laid_object, IsCutLaid, IsLaidOut, laid_out}
-use Rattle.model_core.proofs.Kept.{place_held}
+use Rattle.model_core.proofs.MemoryKept.{place_held}
 use Rattle.model_core.proofs.CacheSteps.{in_all_laid}
 
 pub in_append : {X : Type 0} (x : X) (xs ys : List X) → IsIn x (xs ++ ys) → IsIn x xs ⊎ IsIn x ys
@@ -32,10 +33,10 @@ fit_of l c = subst (IsFit (laid_layout l)) (sym c.colour_is.1) (c.fit.fits c.col
 
 pub record IsByteOf (l : Laid) (i j place : ℕ) : Type 0 where
   pub in_slab : in_laid place l ≡ true
-  pub in_one : in_object (laid_layout l) l.size l.colour (place - 4096 * l.first) ≡ true
-  pub index_is : (place - 4096 * l.first - l.colour) / (laid_layout l).chunk ≡ i
-  pub byte_is : (place - 4096 * l.first - l.colour) % (laid_layout l).chunk ≡ j
-  pub below : place < 4096 * l.first + (laid_layout l).room
+  pub in_one : in_object (laid_layout l) l.size l.colour (place - FRAME_BYTES * l.first) ≡ true
+  pub index_is : (place - FRAME_BYTES * l.first - l.colour) / (laid_layout l).chunk ≡ i
+  pub byte_is : (place - FRAME_BYTES * l.first - l.colour) % (laid_layout l).chunk ≡ j
+  pub below : place < FRAME_BYTES * l.first + (laid_layout l).room
 
 pub byte_is_of : (l : Laid) → IsCutLaid l → (i j place : ℕ) → IsByte l i j place → IsByteOf l i j place
 byte_is_of l c i j place h =
@@ -43,18 +44,18 @@ byte_is_of l c i j place h =
     let chunk : ℕ = (laid_layout l).chunk in
     let in_chunk : j < chunk = omega (arith, h.byte_in, c.fit.chunked) in
     let fits : i * chunk + chunk ≤ (laid_layout l).count * chunk = row_fits i chunk (laid_layout l).count chunk h.index_in (omega arith) in
-    let rest : place - 4096 * l.first - l.colour ≡ i * chunk + j = omega (arith, h.at) in
-    let low : l.colour ≤ place - 4096 * l.first = omega (arith, h.at) in
-    let inside : place < 4096 * l.first + (laid_layout l).room = omega (arith, h.at, fits, fit.inside) in
-    let index : (place - 4096 * l.first - l.colour) / chunk ≡ i = ap (λ n. n / chunk) rest ∙ div-mul-add i chunk j in_chunk in
-    let byte : (place - 4096 * l.first - l.colour) % chunk ≡ j = ap (λ n. n % chunk) rest ∙ mod-mul-add i chunk j in_chunk in
-    let within : (laid_layout l).room ≤ 4096 * 2 ^ (laid_layout l).order = fit.within in
+    let rest : place - FRAME_BYTES * l.first - l.colour ≡ i * chunk + j = omega (arith, h.at) in
+    let low : l.colour ≤ place - FRAME_BYTES * l.first = omega (arith, h.at) in
+    let inside : place < FRAME_BYTES * l.first + (laid_layout l).room = omega (arith, h.at, fits, fit.inside) in
+    let index : (place - FRAME_BYTES * l.first - l.colour) / chunk ≡ i = ap (λ n. n / chunk) rest ∙ div-mul-add i chunk j in_chunk in
+    let byte : (place - FRAME_BYTES * l.first - l.colour) % chunk ≡ j = ap (λ n. n % chunk) rest ∙ mod-mul-add i chunk j in_chunk in
+    let within : (laid_layout l).room ≤ FRAME_BYTES * 2 ^ (laid_layout l).order = fit.within in
     record {
       in_slab = in_block-from place (laid_block l) (omega (arith, h.at), omega (arith, inside, within, h.at));
-      in_one = and_from (leb l.colour (place - 4096 * l.first)) _ (le-leb l.colour (place - 4096 * l.first) low)
-          (and_from (ltb ((place - 4096 * l.first - l.colour) / chunk) (laid_layout l).count) (ltb ((place - 4096 * l.first - l.colour) % chunk) l.size)
-          (lt-ltb ((place - 4096 * l.first - l.colour) / chunk) (laid_layout l).count (subst (λ n. n < (laid_layout l).count) (sym index) h.index_in))
-          (lt-ltb ((place - 4096 * l.first - l.colour) % chunk) l.size (subst (λ n. n < l.size) (sym byte) h.byte_in)));
+      in_one = and_from (leb l.colour (place - FRAME_BYTES * l.first)) _ (le-leb l.colour (place - FRAME_BYTES * l.first) low)
+          (and_from (ltb ((place - FRAME_BYTES * l.first - l.colour) / chunk) (laid_layout l).count) (ltb ((place - FRAME_BYTES * l.first - l.colour) % chunk) l.size)
+          (lt-ltb ((place - FRAME_BYTES * l.first - l.colour) / chunk) (laid_layout l).count (subst (λ n. n < (laid_layout l).count) (sym index) h.index_in))
+          (lt-ltb ((place - FRAME_BYTES * l.first - l.colour) % chunk) l.size (subst (λ n. n < l.size) (sym byte) h.byte_in)));
       index_is = index;
       byte_is = byte;
       below = inside;
@@ -146,7 +147,7 @@ unfolding in_reach
 reached m place len p e low high = elim (or_cases (list_any (within_block place len) m.blocks) (list_any (within_objects place len) m.caches) (and_parts (ltb 0 len) _ e).1) [
   | inl h ↦
       let b : (b : Block) × IsIn b m.blocks × (within_block place len b ≡ true) = some_any (within_block place len) m.blocks h in
-      let w : (4096 * b.0.first ≤ place) × (place + len ≤ 4096 * b.0.first + 4096 * 2 ^ b.0.order) = within_is place len (4096 * b.0.first) (4096 * 2 ^ b.0.order) b.2 in
+      let w : (FRAME_BYTES * b.0.first ≤ place) × (place + len ≤ FRAME_BYTES * b.0.first + FRAME_BYTES * 2 ^ b.0.order) = within_is place len (FRAME_BYTES * b.0.first) (FRAME_BYTES * 2 ^ b.0.order) b.2 in
       inl (record { page = b.0; page_in = b.1; in_page = in_block-from p b.0 (omega (arith, w.0), omega (arith, w.1)) })
   | inr h ↦
       let c : (c : Cache) × IsIn c m.caches × (within_objects place len c ≡ true) = some_any (within_objects place len) m.caches h in

@@ -2,6 +2,7 @@
 use Rattle.std.proofs.Common.{◌≡◌, ℕ, zero, suc, ◌+◌, ◌-◌, ◌*◌, ◌/◌, ◌<◌, ◌≤◌, List, [], ◌∷◌, map, length, get_or, sym, ap, ◌∙◌, subst, inl, inr, arith}
 use Rattle.std.specs.Prelude.{Contains, AllPairs}
 use Rattle.std.specs.List.{AllByRecursion as Each}
+use Rattle.model_core.specs.declared.limits.TheConstants.{FRAME_BYTES}
 use Rattle.model_core.specs.Blocks.{Block}
 use Rattle.model_core.specs.Layouts.{IsFit}
 use Rattle.model_core.specs.Machine.{Slab, Cache, Machine, layout, taken_blocks}
@@ -79,10 +80,10 @@ objects_apart limit order m w a b ha hb place in_a in_b =
     let l : Laid = laid b.cache b.slab in
     let p : IsByteOf k a.index (place - place_of a) place = byte_is_of k la.cut a.index (place - place_of a) place (byte_of a place la.index_in in_a) in
     let q : IsByteOf l b.index (place - place_of b) place = byte_is_of l lb.cut b.index (place - place_of b) place (byte_of b place lb.index_in in_b) in
-    let one : k ≡ l = one_holder laid_block (all_laid m.caches) k l (place / 4096) (laid_out order m w).apart_slabs la.laid_in lb.laid_in (in_block-true place (laid_block k) p.in_slab) (in_block-true place (laid_block l) q.in_slab) in
+    let one : k ≡ l = one_holder laid_block (all_laid m.caches) k l (place / FRAME_BYTES) (laid_out order m w).apart_slabs la.laid_in lb.laid_in (in_block-true place (laid_block k) p.in_slab) (in_block-true place (laid_block l) q.in_slab) in
     let caches : a.cache ≡ b.cache = one_key (λ c. c.number) 0 m.caches a.cache b.cache w.caches_rise la.cache_in lb.cache_in (ap (λ x. x.number) one) in
     let slabs : a.slab ≡ b.slab = one_key (λ s. s.first) 0 b.cache.slabs a.slab b.slab (each_in IsCache b.cache m.caches w.caches lb.cache_in).slabs_rise (subst (λ c. IsIn a.slab c.slabs) caches la.slab_in) lb.slab_in (ap (λ x. x.first) one) in
-    let index : a.index ≡ b.index = sym p.index_is ∙ (ap (λ x. (place - 4096 * x.first - x.colour) / (laid_layout x).chunk) one ∙ q.index_is) in
+    let index : a.index ≡ b.index = sym p.index_is ∙ (ap (λ x. (place - FRAME_BYTES * x.first - x.colour) / (laid_layout x).chunk) one ∙ q.index_is) in
     same_object a.cache b.cache a.slab b.slab a.index b.index caches slabs index
 
 pub records_free : RecordsFree

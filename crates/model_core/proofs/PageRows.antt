@@ -8,7 +8,7 @@ use Rattle.model_core.specs.Slabs.{reaped, by_need}
 use Rattle.model_core.specs.Reach.{in_reach}
 use Rattle.model_core.specs.Operations.{alloc_step, free_step, read_step, write_step, next_slot, after_grant, is_busy, after_take_back, take_back_step}
 use Rattle.model_core.specs.Runs.{Operation, Alloc, Free, Write, Grant, TakeBack, Reset}
-use Rattle.model_core.proofs.Told.{number_of, numbers, machine_after}
+use Rattle.model_core.proofs.RowAnswers.{number_of, numbers, machine_after}
 
 -- nothing can be taken of a machine without slots
 no_slots : (alloc_step 3 0 empty_machine).answer ≡ Err AllocRefusal.NoFrames

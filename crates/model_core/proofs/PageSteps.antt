@@ -22,7 +22,7 @@ use Rattle.model_core.proofs.ByNeed.{by_need_keeps}
 use Rattle.model_core.proofs.Apart.{apart_first}
 use Rattle.model_core.proofs.Chosen.{chosen_apart, chosen_placed}
 use Rattle.model_core.proofs.Laid.{all_laid, laid_block, IsLaidOut, taken_laid, laid_out, Numbered, well_formed}
-use Rattle.model_core.proofs.Kept.{block_put, blocks_filtered, given_back, slot_put, slot_gone}
+use Rattle.model_core.proofs.MemoryKept.{block_put, blocks_filtered, given_back, slot_put, slot_gone}
 use Rattle.model_core.proofs.Split.{laid_without, filter_laid, laid_of, is_empty_laid, kept_laid, gone_laid, slab_blocks_laid}
 
 -- what both outcomes of a test keep

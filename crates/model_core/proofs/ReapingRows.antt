@@ -10,7 +10,7 @@ use Rattle.model_core.specs.Operations.{refuse, alloc_step, read_step, next_slot
 use Rattle.model_core.specs.CacheOperations.{create_step, cache_step, next_number, take_step, give_step, reap_step}
 use Rattle.model_core.specs.Runs.{Operation, Alloc, Create, Take, Give, Reap, Grant}
 use Rattle.model_core.proofs.ByNeed.{alloc_reaps}
-use Rattle.model_core.proofs.Told.{number_of, numbers, machine_after}
+use Rattle.model_core.proofs.RowAnswers.{number_of, numbers, machine_after}
 
 -- a page block is refused while an object is live in its frames, and gets them once the object is given back
 abbrev object_in_the_way : List Operation

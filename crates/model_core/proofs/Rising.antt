@@ -4,9 +4,8 @@ use Rattle.std.specs.Prelude.{if◌then◌else◌}
 use Rattle.std.specs.List.{list_any, AllByRecursion as Each}
 use Rattle.std.proofs.lemmas.Bool.{cases_eq, cases_lt, eqb-true, eqb-false, eq-eqb, ne_eqb, or_left, false≢true}
 use Rattle.model_core.specs.Blocks.{Block, with_taken}
-use Rattle.model_core.specs.Machine.{put_rising, order_in}
+use Rattle.model_core.specs.Machine.{order_in}
 use Rattle.model_core.specs.WellFormed.{RisesFrom}
-use Rattle.model_core.proofs.Lists.{each_left, PutIn, put_in}
 
 -- u is one of the numbers
 abbrev pub has : ℕ → List ℕ → Bool
@@ -81,10 +80,3 @@ none_begins f (b ∷ bs) none = go (eqb b.first f) refl none (none_begins f bs)
     go : (t : Bool) → eqb b.first f ≡ t → (if t then Some b.order else order_in bs f) ≡ None → (order_in bs f ≡ None → Each (λ b. b.first ≢ f) bs) → Each (λ b. b.first ≢ f) (b ∷ bs)
     go true is none rest = absurd (cc)
     go false is none rest = (eqb-false b.first f is, rest none)
-
--- one more put in at its place
-pub order_in-put : (b : Block) (bs : List Block) (f : ℕ) → order_in bs b.first ≡ None → order_in (put_rising (λ x. x.first) b bs) f ≡ (if eqb f b.first then Some b.order else order_in bs f)
-order_in-put b bs f new =
-    let p : PutIn (λ x. x.first) b bs = put_in (λ x. x.first) b bs in
-    let others : Each (λ x. x.first ≢ b.first) p.before = each_left (λ x. x.first ≢ b.first) p.before p.later (subst (Each (λ x. x.first ≢ b.first)) p.was (none_begins b.first bs new)) in
-    ap (λ cs. order_in cs f) p.is ∙ (order_in-middle p.before p.later b others f ∙ ap (λ cs. with_taken (order_in cs) b.first b.order f) (sym p.was))

@@ -19,7 +19,7 @@ use Rattle.model_core.specs.ByteLaws.{SlabsLeaveZeroes}
 use Rattle.model_core.proofs.Lists.{IsIn, find_in, Found, found, any_append, any_map, any_split}
 use Rattle.model_core.proofs.ByNeed.{by_need_keeps}
 use Rattle.model_core.proofs.Laid.{Laid, laid, all_laid, laid_block, in_laid, in_slab_laid}
-use Rattle.model_core.proofs.Kept.{any_put, with_flags}
+use Rattle.model_core.proofs.MemoryKept.{any_put, with_flags}
 use Rattle.model_core.proofs.Split.{filter_laid, laid_of, slab_blocks_laid, is_empty_laid, kept_laid, gone_laid}
 use Rattle.model_core.proofs.PageSteps.{either, done, created_laid, by_need_kept}
 use Rattle.model_core.proofs.CacheSteps.{IsFlagged, flagged, IsGrown, grown_is, grown_kept, used_in, stands_by_need}

@@ -1,14 +1,16 @@
 -- Where a slab stands among all slabs of a machine, and what is left of them when some are given back.
 use Rattle.std.proofs.Common.{◌≡◌, ℕ, Bool, true, false, not, cond, eqb, List, [], ◌∷◌, ◌++◌, map, refl, sym, ap, ◌∙◌, append_assoc, inl, inr}
-use Rattle.std.specs.Prelude.{flat_map, filter}
+use Rattle.std.specs.Prelude.{flat_map, filter, Option}
+use Rattle.std.specs.Option.{option_map_or}
 use Rattle.std.specs.List.{list_any, AllByRecursion as Each}
 use Rattle.std.proofs.lemmas.Bool.{eq-eqb}
 use Rattle.std.proofs.lemmas.List.Concat.{flat_map-append}
 use Rattle.std.proofs.lemmas.List.Elements.{filter-append}
-use Rattle.model_core.specs.Machine.{Slab, Cache, slab_block}
+use Rattle.model_core.specs.Blocks.{Block}
+use Rattle.model_core.specs.Machine.{Slab, Cache, in_block, slab_block}
 use Rattle.model_core.specs.Slabs.{is_empty, without_empty, empty_blocks}
 use Rattle.model_core.proofs.Lists.{IsIn, Found, map_append}
-use Rattle.model_core.proofs.Laid.{Laid, laid, laid_in, all_laid, laid_block}
+use Rattle.model_core.proofs.Laid.{Laid, laid, laid_in, all_laid, laid_block, map_laid}
 
 pub in_middle : {X : Type 0} (xs ys : List X) (x : X) → IsIn x (xs ++ x ∷ ys)
 in_middle [] ys x = inl refl
@@ -88,17 +90,17 @@ kept_laid (c ∷ cs) = filter-append (λ l. not (is_empty_laid l)) (laid_in c) (
     ∙ (ap (λ ls. ls ++ filter (λ l. not (is_empty_laid l)) (all_laid cs)) (filter_map_swap (λ l. not (is_empty_laid l)) (laid c) c.slabs)
     ∙ ap (λ ls. laid_in (without_empty c) ++ ls) (kept_laid cs))
 
-map_blocks : (c : Cache) (ss : List Slab) → map (slab_block c) ss ≡ map laid_block (map (laid c) ss)
-map_blocks c [] = refl
-map_blocks c (s ∷ ss) = ap (λ bs. slab_block c s ∷ bs) (map_blocks c ss)
-
 pub slab_blocks_laid : (c : Cache) → map (slab_block c) c.slabs ≡ map laid_block (laid_in c)
-slab_blocks_laid c = map_blocks c c.slabs
+slab_blocks_laid c = map_laid c c.slabs
 
 pub gone_laid : (cs : List Cache) → flat_map empty_blocks cs ≡ map laid_block (filter is_empty_laid (all_laid cs))
 gone_laid [] = refl
 gone_laid (c ∷ cs) =
-    ap (λ bs. bs ++ flat_map empty_blocks cs) (map_blocks c (filter is_empty c.slabs) ∙ ap (λ ls. map laid_block ls) (sym (filter_map_swap is_empty_laid (laid c) c.slabs)))
+    ap (λ bs. bs ++ flat_map empty_blocks cs) (map_laid c (filter is_empty c.slabs) ∙ ap (λ ls. map laid_block ls) (sym (filter_map_swap is_empty_laid (laid c) c.slabs)))
     ∙ (ap (λ bs. map laid_block (filter is_empty_laid (laid_in c)) ++ bs) (gone_laid cs)
     ∙ (sym (map_append laid_block (filter is_empty_laid (laid_in c)) (filter is_empty_laid (all_laid cs)))
     ∙ ap (λ ls. map laid_block ls) (sym (filter-append is_empty_laid (laid_in c) (all_laid cs)))))
+
+-- a block that is made, if one is, does not have the place
+abbrev pub Unmade : ℕ → Option Block → Type 0
+Unmade place made = option_map_or (in_block place) made false ≡ false

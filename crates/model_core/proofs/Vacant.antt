@@ -5,7 +5,7 @@ use Rattle.std.proofs.lemmas.Bool.{cases_lt, false≢true}
 use Rattle.model_core.specs.Blocks.{Block, block, HasFrame, IsAligned, around, Taken, IsTaken, IsFree, IsChoice, IsWithout}
 use Rattle.model_core.specs.Numbered.{number_at}
 use Rattle.model_core.specs.Choice.{choose}
-use Rattle.model_core.proofs.Bridge.{number_around, number_of_frame, frame_of_number, aligned_first}
+use Rattle.model_core.proofs.BlocksByNumber.{number_around, number_of_frame, frame_of_number, aligned_first}
 use Rattle.model_core.proofs.Halves.{same_above}
 use Rattle.model_core.proofs.FreeBlocks.{has_first, each_frame_in_one, reserved_is_untaken}
 use Rattle.model_core.proofs.Choosing.{choice_is_found}

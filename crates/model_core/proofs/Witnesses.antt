@@ -12,17 +12,15 @@ use Rattle.model_core.specs.Machine.{Cache, Machine, empty_machine, holds, taken
 use Rattle.model_core.specs.Slabs.{new_slab, grown_cache, grown, slab_to_use, reaped, by_need, choice_by_need}
 use Rattle.model_core.specs.Operations.{refuse, with_block, alloc_step, free_step, next_slot, after_grant}
 use Rattle.model_core.specs.CacheOperations.{create_step, cache_step, next_number, hand_out, take_step, give_step}
-use Rattle.model_core.specs.Runs.{Operation, Alloc, Create, Take, Give, Grant, ArePossible, after, run}
+use Rattle.model_core.specs.Runs.{Operation, Alloc, Create, Take, Give, Grant, ArePossible, after}
 use Rattle.model_core.specs.WellFormed.{IsApart, IsWellFormed}
 use Rattle.model_core.specs.Laws.{ChoiceIsUntaken, ChoicesMeet, AllocReaps, TakeReaps, RefusalsStay, KeepsWellFormed, RunsWellFormed, TakenApart, TakenSound, AllocTakes, FreeReleases, GrowthTakes, ReapReleases}
 use Rattle.model_core.specs.Room.{IsAmple, RoomIsPromised, AllocIsPromised, TakeIsPromised}
 use Rattle.model_core.proofs.Choosing.{choice_is_found}
 use Rattle.model_core.proofs.WellFormedRuns.{runs_well_formed}
+use Rattle.model_core.proofs.RowAnswers.{machine_after}
 
-abbrev pub left_by : List Operation → Machine
-left_by operations = run MOST_CACHES 3 operations empty_machine
-
-pub well_formed_left : (operations : List Operation) → ArePossible operations → IsWellFormed MOST_CACHES 3 (left_by operations)
+pub well_formed_left : (operations : List Operation) → ArePossible operations → IsWellFormed MOST_CACHES 3 (machine_after operations)
 well_formed_left operations can = runs_well_formed MOST_CACHES 3 operations can
 
 -- Frame 0 is a slab with a live object, frame 1 a page block.
@@ -31,7 +29,7 @@ abbrev pub slab_and_page : List Operation
 slab_and_page = Grant ∷ Create 100 8 (90 ∷ []) ∷ Take 0 ∷ Alloc 0 ∷ []
 
 abbrev pub machine : Machine
-machine = left_by slab_and_page
+machine = machine_after slab_and_page
 
 pub is_well_formed : IsWellFormed MOST_CACHES 3 machine
 is_well_formed = well_formed_left slab_and_page (tt, (refl, (tt, (tt, tt))))
@@ -42,14 +40,14 @@ abbrev pub slab_given_back : List Operation
 slab_given_back = Grant ∷ Create 100 8 (90 ∷ []) ∷ Take 0 ∷ Give 0 0 ∷ Create 2736 8 (7 ∷ []) ∷ Create 3000 8 (8 ∷ []) ∷ []
 
 abbrev pub emptied : Machine
-emptied = left_by slab_given_back
+emptied = machine_after slab_given_back
 
 pub emptied_well_formed : IsWellFormed MOST_CACHES 3 emptied
 emptied_well_formed = well_formed_left slab_given_back (tt, (refl, (tt, (tt, (refl, (refl, tt))))))
 
 -- .. and with its object live
 abbrev pub crowded : Machine
-crowded = left_by (slab_given_back ++ Take 0 ∷ [])
+crowded = machine_after (slab_given_back ++ Take 0 ∷ [])
 
 pub crowded_well_formed : IsWellFormed MOST_CACHES 3 crowded
 crowded_well_formed = well_formed_left (slab_given_back ++ Take 0 ∷ []) (tt, (refl, (tt, (tt, (refl, (refl, (tt, tt)))))))

@@ -14,7 +14,8 @@ use Rattle.model_core.specs.Runs.{Alloc, Grant}
 use Rattle.model_core.proofs.Choosing.{free_is_tested, choice_is_found}
 use Rattle.model_core.proofs.Chosen.{held_below, choice_is_untaken}
 use Rattle.model_core.proofs.TakenSteps.{taken_sound}
-use Rattle.model_core.proofs.Witnesses.{left_by, well_formed_left, machine, is_well_formed}
+use Rattle.model_core.proofs.Witnesses.{well_formed_left, machine, is_well_formed}
+use Rattle.model_core.proofs.RowAnswers.{machine_after}
 
 -- Of slot 0 frame 0 is a slab and frame 1 a page block; blocks of order 1 at frame 2 and of order 2 at frame 4 are free.
 
@@ -77,7 +78,7 @@ GrantStaysSound-met law = law 3 held (λ u. (u == 1) || held u) taken sound (λ 
 -- Frame 0 alone is taken, in slot 0 of slots 0 and 1.
 
 abbrev one_frame : Machine
-one_frame = left_by (Grant ∷ Grant ∷ Alloc 0 ∷ [])
+one_frame = machine_after (Grant ∷ Grant ∷ Alloc 0 ∷ [])
 
 one_sound : IsSound 3 (holds one_frame) (taken_in one_frame)
 one_sound = taken_sound MOST_CACHES 3 one_frame (well_formed_left (Grant ∷ Grant ∷ Alloc 0 ∷ []) (tt, (tt, (tt, tt))))

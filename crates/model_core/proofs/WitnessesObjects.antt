@@ -13,7 +13,8 @@ use Rattle.model_core.specs.WellFormed.{in_slab, IsWellFormed}
 use Rattle.model_core.specs.Laws.{makes_slab_at, Object, IsObject, HasByte, ObjectsApart, RecordsFree, hand_outs, ConstructedFirst, ConstructedWhenTaken}
 use Rattle.model_core.specs.ByteLaws.{AllocKeeps, FreeKeeps, TakeKeeps, GiveKeeps, writes, IsLeftAlone, BytesStay, AllLeaveAlone, RunsKeepBytes, WritesAlone, SlabsLeaveZeroes}
 use Rattle.model_core.proofs.Lists.{each_append, each_map, each_true}
-use Rattle.model_core.proofs.Witnesses.{left_by, well_formed_left, slab_and_page, machine, is_well_formed, emptied, emptied_well_formed, crowded, crowded_well_formed}
+use Rattle.model_core.proofs.Witnesses.{well_formed_left, slab_and_page, machine, is_well_formed, emptied, emptied_well_formed, crowded, crowded_well_formed}
+use Rattle.model_core.proofs.RowAnswers.{machine_after}
 
 -- The first two objects of the slab at frame 0: the first is live, the second was never handed out.
 
@@ -76,7 +77,7 @@ can_be_asked = (
 )
 
 abbrev anew : Machine
-anew = left_by eight_slabs
+anew = machine_after eight_slabs
 
 -- the slab of the second cache, once its first object is handed out, and once its second is
 abbrev new_slab_with : Bool → Slab
@@ -99,14 +100,14 @@ unfolding layout_of cache_step create_step next_number take_step give_step write
 written_before = refl
 
 -- once its slab is made it has not been handed out since, and reads as the new pattern
-ConstructedFirst-met : ConstructedFirst → (left_by (eight_slabs ++ Take 1 ∷ [])).bytes (2048 + 0) ≡ Some 22
+ConstructedFirst-met : ConstructedFirst → (machine_after (eight_slabs ++ Take 1 ∷ [])).bytes (2048 + 0) ≡ Some 22
 unfolding layout_of cache_step create_step next_number take_step give_step write_step in_reach grown_cache grown slab_to_use fresh_byte by_need reaped choice taken_blocks empty_machine next_slot after_grant
 ConstructedFirst-met law = law MOST_CACHES 3 (eight_slabs ++ Take 1 ∷ []) (object_anew false 1) 0 (each_append IsPossible eight_slabs (Take 1 ∷ []) can_be_asked (tt, tt))
     (record { cache_in = (1, omega arith, refl); slab_in = (0, omega arith, refl); index_in = omega arith }) (omega arith) refl
 
 -- so do the object that the take answers which makes the slab, and the one that the next take answers
 ConstructedWhenTaken-met : ConstructedWhenTaken
-    → ((take_step 3 1 anew).machine.bytes (0 + 5) ≡ Some 22) × ((take_step 3 1 (left_by (eight_slabs ++ Take 1 ∷ []))).machine.bytes (2048 + 0) ≡ Some 22)
+    → ((take_step 3 1 anew).machine.bytes (0 + 5) ≡ Some 22) × ((take_step 3 1 (machine_after (eight_slabs ++ Take 1 ∷ []))).machine.bytes (2048 + 0) ≡ Some 22)
 unfolding layout_of cache_step create_step next_number take_step give_step write_step in_reach grown_cache grown slab_to_use fresh_byte by_need reaped choice taken_blocks empty_machine next_slot after_grant
 ConstructedWhenTaken-met law = (
   law MOST_CACHES 3 1 eight_slabs (object_anew false 0) 5 can_be_asked refl
@@ -149,7 +150,7 @@ abbrev both_written : List Operation
 both_written = slab_and_page ++ (Write 3 (77 ∷ []) ∷ Write 4099 (78 ∷ []) ∷ [])
 
 abbrev written : Machine
-written = left_by both_written
+written = machine_after both_written
 
 written_well_formed : IsWellFormed MOST_CACHES 3 written
 written_well_formed = well_formed_left both_written (tt, (refl, (tt, (tt, (tt, (tt, tt))))))

@@ -3,6 +3,7 @@ use Rattle.std.proofs.Common.{◌≡◌, ◌≢◌, ℕ, zero, suc, ◌/◌, ◌
 use Rattle.std.specs.Prelude.{if◌then◌else◌, filter, find}
 use Rattle.std.specs.List.{list_any, AllByRecursion as Each}
 use Rattle.std.proofs.lemmas.Bool.{false≢true, ne_eqb, or_left, or_right, or_parts, not_from_false}
+use Rattle.model_core.specs.declared.limits.TheConstants.{FRAME_BYTES}
 use Rattle.model_core.specs.declared.refusals.AllocRefusal.{AllocRefusal}
 use Rattle.model_core.specs.declared.refusals.DestroyRefusal.{DestroyRefusal}
 use Rattle.model_core.specs.declared.refusals.TakeBackRefusal.{TakeBackRefusal}
@@ -15,15 +16,15 @@ use Rattle.model_core.specs.CacheOperations.{take_new, take_from, take_of, take_
 use Rattle.model_core.specs.Runs.{Operation, Alloc, Free, Write, Create, Take, Give, Destroy, Reap, Grant, TakeBack, Reset, after}
 use Rattle.model_core.specs.WellFormed.{IsApart, IsWellFormed}
 use Rattle.model_core.specs.ByteLaws.{writes, WritesAlone}
-use Rattle.model_core.proofs.Lists.{IsIn, in_filter, each_in, find_in, Found, found, any_map, any_split, none_any}
+use Rattle.model_core.proofs.Lists.{IsIn, in_filter, each_in, find_in, Found, found, any_map, any_split, none_any, in_left, in_right, in_map}
 use Rattle.model_core.proofs.ByNeed.{by_need_keeps}
 use Rattle.model_core.proofs.Apart.{in_block-true, apart_place}
 use Rattle.model_core.proofs.Chosen.{chosen_apart}
 use Rattle.model_core.proofs.Laid.{Laid, laid, all_laid, laid_block, in_laid, Placed, IsCutLaid, taken_laid, laid_out}
-use Rattle.model_core.proofs.Kept.{frame_slot, place_held}
+use Rattle.model_core.proofs.MemoryKept.{frame_slot, place_held}
 use Rattle.model_core.proofs.Split.{laid_of, slab_blocks_laid, is_empty_laid, gone_laid}
 use Rattle.model_core.proofs.PageSteps.{either, done, by_need_kept, not_busy}
-use Rattle.model_core.proofs.CacheSteps.{in_left, in_right, in_map, in_all_laid}
+use Rattle.model_core.proofs.CacheSteps.{in_all_laid}
 use Rattle.model_core.proofs.Objects.{byte_is_of, IsPageByte, IsLiveByte, reached, live_byte, page_apart}
 use Rattle.model_core.proofs.Constructed.{grown_byte, not_gone, next_unheld}
 use Rattle.model_core.proofs.ObjectsApart.{one_key}
@@ -181,7 +182,7 @@ same_gone order slot place m w r e =
     let h : IsHolder m place = holder_of order m place w r in
     ap (λ b. if b then None else m.bytes place) (ne_eqb (slot_of order place) slot (λ same.
     each_in (λ b. b.first / 2 ^ order ≢ slot) h.holder (m.blocks ++ map laid_block (all_laid m.caches)) (not_busy order slot m e) h.holder_in
-    (sym (frame_slot order (place / 4096) h.holder (holder_placed order m place w h).0 (in_block-true place h.holder h.here)) ∙ same)))
+    (sym (frame_slot order (place / FRAME_BYTES) h.holder (holder_placed order m place w h).0 (in_block-true place h.holder h.here)) ∙ same)))
 
 same_take_back : {limit : ℕ} (order slot place : ℕ) (m : Machine) → IsWellFormed limit order m → Reached m place → Same place m (take_back_step order slot m).machine
 unfolding take_back_step

@@ -44,12 +44,14 @@ ReservedIsUntaken = (top : ℕ) (held : ℕ → Bool) (taken : Taken) (f j k : �
 
 -- The taken blocks stay aligned, in held slots and apart: where one is reserved out of a free block ..
 abbrev pub ReserveStaysSound : Type 0
-ReserveStaysSound = (top : ℕ) (held : ℕ → Bool) (taken : Taken) (f j k : ℕ) → IsSound top held taken → IsFree top held taken (block f j) → k ≤ j
+ReserveStaysSound = (top : ℕ) (held : ℕ → Bool) (taken : Taken) (f j k : ℕ) → IsSound top held taken
+    → IsFree top held taken (block f j) → k ≤ j
     → IsSound top held (with_taken taken f k)
 
 -- .. where one is released ..
 abbrev pub ReleaseStaysSound : Type 0
-ReleaseStaysSound = (top : ℕ) (held : ℕ → Bool) (taken : Taken) (f : ℕ) → IsSound top held taken → IsSound top held (without_taken taken f)
+ReleaseStaysSound = (top : ℕ) (held : ℕ → Bool) (taken : Taken) (f : ℕ) → IsSound top held taken
+    → IsSound top held (without_taken taken f)
 
 -- .. where slots are granted ..
 abbrev pub GrantStaysSound : Type 0
@@ -63,7 +65,8 @@ TakeBackStaysSound = (top : ℕ) (held fewer : ℕ → Bool) (taken : Taken) →
 
 -- the test `is_free` is true of the free blocks alone
 abbrev pub FreeIsTested : Type 0
-FreeIsTested = (top : ℕ) (held : ℕ → Bool) (taken : Taken) (b : Block) → (is_free top held taken b ≡ true) ↔ IsFree top held taken b
+FreeIsTested = (top : ℕ) (held : ℕ → Bool) (taken : Taken) (b : Block)
+    → (is_free top held taken b ≡ true) ↔ IsFree top held taken b
 
 -- `choose` finds the choice, or answers None where no free block is large enough
 abbrev pub ChoiceIsFound : Type 0
@@ -72,4 +75,5 @@ ChoiceIsFound = (top : ℕ) (held : ℕ → Bool) (taken : Taken) (slots k : ℕ
 
 -- there is one choice at most
 abbrev pub OneChoice : Type 0
-OneChoice = (top : ℕ) (held : ℕ → Bool) (taken : Taken) (k : ℕ) (b c : Block) → IsChoice top held taken k b → IsChoice top held taken k c → b ≡ c
+OneChoice = (top : ℕ) (held : ℕ → Bool) (taken : Taken) (k : ℕ) (b c : Block) → IsChoice top held taken k b
+    → IsChoice top held taken k c → b ≡ c

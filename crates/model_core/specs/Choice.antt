@@ -49,7 +49,8 @@ first_order top held taken slots k = least (λ j. nat_le k j && is_some (first_f
 
 -- the block of `IsChoice`, or None where there is none
 abbrev pub choose : ℕ → (ℕ → Bool) → Taken → ℕ → ℕ → Option Block
-choose top held taken slots k = option_and_then (λ j. option_map (λ f. block f j) (first_free top held taken slots j)) (first_order top held taken slots k)
+choose top held taken slots k =
+    option_and_then (λ j. option_map (λ f. block f j) (first_free top held taken slots j)) (first_order top held taken slots k)
 
 -- how many numbers below n pass
 abbrev pub count_below : (ℕ → Bool) → ℕ → ℕ

@@ -2,6 +2,7 @@
 use Rattle.std.specs.Prelude.{◌≡◌, ℕ, ◌+◌, ◌*◌, ◌/◌, ◌^◌, ◌<◌, ◌≤◌, Bool, true, false, List, [], ◌∷◌, ◌++◌, Option, Some, None, Ok, OnErr, option_map, option_and_then, is_some, if◌then◌else◌, find, flat_map, Contains, AllPairs, ◌==◌}
 use Rattle.std.specs.Option.{option_map_or}
 use Rattle.std.specs.Result.{result_ok}
+use Rattle.model_core.specs.declared.limits.TheConstants.{FRAME_BYTES, RECORD_OFFSET}
 use Rattle.model_core.specs.declared.refusals.AllocRefusal.{AllocRefusal}
 use Rattle.model_core.specs.declared.refusals.TakeRefusal.{TakeRefusal}
 use Rattle.model_core.specs.Blocks.{Block, block, HasFrame, IsAligned, Taken, with_taken, without_taken, IsTaken, IsChoice, IsWithout, IsSound}
@@ -16,16 +17,20 @@ use Rattle.model_core.specs.WellFormed.{IsApart, IsWellFormed}
 -- the block that a request gets is aligned, and all its frames lie in held slots and are not taken
 abbrev pub ChoiceIsUntaken : Type 0
 ChoiceIsUntaken = (order k first : ℕ) (m : Machine) → choice order m k ≡ Some first
-    → IsAligned order (block first k) × ((x : ℕ) → HasFrame (block first k) x → (holds m (x / 2 ^ order) ≡ true) × (IsTaken (taken_in m) x → ⊥))
+    → IsAligned order (block first k)
+    × ((x : ℕ) → HasFrame (block first k) x → (holds m (x / 2 ^ order) ≡ true) × (IsTaken (taken_in m) x → ⊥))
 
 -- what another account of the held slots and the taken blocks chooses is what the machine chooses
 abbrev pub ChoicesMeet : Type 0
-ChoicesMeet = (order k : ℕ) (held : ℕ → Bool) (taken : Taken) (m : Machine) → ((u : ℕ) → holds m u ≡ held u) → ((f : ℕ) → taken_in m f ≡ taken f)
-    → ((first j : ℕ) → IsChoice order held taken k (block first j) → choice order m k ≡ Some first) × (IsWithout order held taken k → choice order m k ≡ None)
+ChoicesMeet = (order k : ℕ) (held : ℕ → Bool) (taken : Taken) (m : Machine) → ((u : ℕ) → holds m u ≡ held u)
+    → ((f : ℕ) → taken_in m f ≡ taken f)
+    → ((first j : ℕ) → IsChoice order held taken k (block first j) → choice order m k ≡ Some first)
+    × (IsWithout order held taken k → choice order m k ≡ None)
 
 -- What a request for a block of order k does: `served first n` is the step where it gets the block at frame `first` of
 -- the machine n.
-pub record IsByNeed {A : Type 0} (order k : ℕ) (m : Machine) (served : ℕ → Machine → Step A) (refused step : Step A) : Type 0 where
+pub record IsByNeed {A : Type 0} (order k : ℕ) (m : Machine) (served : ℕ → Machine → Step A)
+    (refused step : Step A) : Type 0 where
   -- where a block is found nothing is given back
   pub found : (first : ℕ) → choice order m k ≡ Some first → step ≡ served first m
   -- where one is found only after all empty slabs are given back, exactly that comes first
@@ -36,18 +41,22 @@ pub record IsByNeed {A : Type 0} (order k : ℕ) (m : Machine) (served : ℕ →
 -- a page block is taken by need ..
 abbrev pub AllocReaps : Type 0
 AllocReaps = (order k : ℕ) (m : Machine) → k ≤ order → IsByNeed order k m
-    (λ first n. record { answer = Ok first; machine = with_block (block first k) n }) (refuse AllocRefusal.NoFrames m) (alloc_step order k m)
+    (λ first n. record { answer = Ok first; machine = with_block (block first k) n })
+    (refuse AllocRefusal.NoFrames m) (alloc_step order k m)
 
 -- .. and so is the block of a new slab, where a cache has neither a partial slab nor an empty one
 abbrev pub TakeReaps : Type 0
-TakeReaps = (order number : ℕ) (m : Machine) (c : Cache) → cache_of m number ≡ Some c → slab_to_use (find is_partial c.slabs) (find is_empty c.slabs) ≡ None
+TakeReaps = (order number : ℕ) (m : Machine) (c : Cache) → cache_of m number ≡ Some c
+    → slab_to_use (find is_partial c.slabs) (find is_empty c.slabs) ≡ None
     → IsByNeed order (layout c).order m
-    (λ first n. hand_out (grown_cache first c) (new_slab c first) (grown first c n)) (refuse TakeRefusal.NoFrames m) (take_step order number m)
+    (λ first n. hand_out (grown_cache first c) (new_slab c first) (grown first c n))
+    (refuse TakeRefusal.NoFrames m) (take_step order number m)
 
 -- what is refused leaves the machine as it was, slabs included
 abbrev pub RefusalsStay : Type 0
 RefusalsStay = (order n : ℕ) (m : Machine)
-    → OnErr (alloc_step order n m).answer ((alloc_step order n m).machine ≡ m) × OnErr (take_step order n m).answer ((take_step order n m).machine ≡ m)
+    → OnErr (alloc_step order n m).answer ((alloc_step order n m).machine ≡ m)
+    × OnErr (take_step order n m).answer ((take_step order n m).machine ≡ m)
 
 -- each operation that can be asked for keeps a machine well formed ..
 abbrev pub KeepsWellFormed : Type 0
@@ -113,11 +122,12 @@ abbrev pub ObjectsApart : Type 0
 ObjectsApart = (limit order : ℕ) (m : Machine) → IsWellFormed limit order m → (a b : Object) → IsObject m a → IsObject m b
     → (place : ℕ) → HasByte a place → HasByte b place → a ≡ b
 
--- the objects of a small slab lie in its frame, below the last 32 bytes
+-- the objects of a small slab lie in its frame, below the control record
 abbrev pub RecordsFree : Type 0
 RecordsFree = (limit order : ℕ) (m : Machine) → IsWellFormed limit order m → (object : Object) → IsObject m object
     → is_small (layout object.cache).chunk ≡ true
-    → (place : ℕ) → HasByte object place → (4096 * object.slab.first ≤ place) × (place < 4096 * object.slab.first + 4064)
+    → (place : ℕ) → HasByte object place
+    → (FRAME_BYTES * object.slab.first ≤ place) × (place < FRAME_BYTES * object.slab.first + RECORD_OFFSET)
 
 -- the place that a take answers
 abbrev pub taken_place : ℕ → Operation → Machine → Option ℕ

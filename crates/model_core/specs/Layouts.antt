@@ -1,10 +1,11 @@
 -- How a slab is cut into objects: numbers in bytes, unless frames are said.
 use Rattle.std.specs.Prelude.{◌≡◌, ℕ, ◌+◌, ◌-◌, ◌*◌, ◌/◌, ◌%◌, ◌^◌, ◌<◌, ◌≤◌, Bool, true, List, [], ◌∷◌, length, max, slice_index, if◌then◌else◌, nat_lt, nat_le, ◌&&◌, ◌==◌}
 use Rattle.std.specs.List.{list_any}
+use Rattle.model_core.specs.declared.limits.TheConstants.{FRAME_BYTES, RECORD_BYTES, RECORD_OFFSET, MOST_SIZE, MOST_PATTERN}
 
 -- the sizes of objects
 abbrev pub is_size : ℕ → Bool
-is_size size = nat_le 1 size && nat_le size 4096
+is_size size = nat_le 1 size && nat_le size MOST_SIZE
 
 -- the alignments of objects
 abbrev pub is_alignment : ℕ → Bool
@@ -27,13 +28,13 @@ pub record Layout : Type 0 where
 abbrev pub chunk_of : ℕ → ℕ → ℕ
 chunk_of size align = max 16 ((size + align - 1) / align * align)
 
--- the slabs of small objects have one frame, whose last 32 bytes are kept for the control record
+-- the slabs of small objects have one frame, whose last RECORD_BYTES bytes are kept for the control record
 abbrev pub is_small : ℕ → Bool
 is_small chunk = nat_lt chunk 512
 
 -- the bytes of 2 ^ order frames
 abbrev pub bytes_of_order : ℕ → ℕ
-bytes_of_order order = 4096 * 2 ^ order
+bytes_of_order order = FRAME_BYTES * 2 ^ order
 
 -- chunks leave at most an eighth of a slab of this order unused
 abbrev pub is_thrifty : ℕ → ℕ → Bool
@@ -41,11 +42,13 @@ is_thrifty chunk order = nat_le (bytes_of_order order % chunk) (bytes_of_order o
 
 -- the order of a slab: the least that is thrifty, for large objects (order 3 always is)
 abbrev pub slab_order : ℕ → ℕ
-slab_order chunk = if is_small chunk then 0 else if is_thrifty chunk 0 then 0 else if is_thrifty chunk 1 then 1 else if is_thrifty chunk 2 then 2 else 3
+slab_order chunk =
+    if is_small chunk then 0
+    else if is_thrifty chunk 0 then 0 else if is_thrifty chunk 1 then 1 else if is_thrifty chunk 2 then 2 else 3
 
 -- the room of a slab
 abbrev pub slab_room : ℕ → ℕ
-slab_room chunk = if is_small chunk then 4064 else bytes_of_order (slab_order chunk)
+slab_room chunk = if is_small chunk then RECORD_OFFSET else bytes_of_order (slab_order chunk)
 
 -- the layout for objects of a size and an alignment
 unfoldable pub layout_of : ℕ → ℕ → Layout
@@ -65,11 +68,12 @@ object_offset l colour i = colour + i * l.chunk
 
 -- where object i of the slab at this frame begins
 abbrev pub object_place : Layout → ℕ → ℕ → ℕ → ℕ
-object_place l frame colour i = 4096 * frame + object_offset l colour i
+object_place l frame colour i = FRAME_BYTES * frame + object_offset l colour i
 
 -- the byte at this offset of a slab is one of the `size` bytes of an object
 abbrev pub in_object : Layout → ℕ → ℕ → ℕ → Bool
-in_object l size colour offset = nat_le colour offset && (nat_lt ((offset - colour) / l.chunk) l.count && nat_lt ((offset - colour) % l.chunk) size)
+in_object l size colour offset =
+    nat_le colour offset && (nat_lt ((offset - colour) / l.chunk) l.count && nat_lt ((offset - colour) % l.chunk) size)
 
 -- a slab with this colour offset holds its objects: they end within the room, and the room within the slab, below the
 -- control record where that stands in the frame
@@ -79,7 +83,7 @@ pub record IsFit (l : Layout) (colour : ℕ) : Type 0 where
   pub few : l.count ≤ 256
   pub inside : colour + l.count * l.chunk ≤ l.room
   pub within : l.room ≤ bytes_of_order l.order
-  pub small : is_small l.chunk ≡ true → (l.order ≡ 0) × (l.room + 32 ≤ 4096)
+  pub small : is_small l.chunk ≡ true → (l.order ≡ 0) × (l.room + RECORD_BYTES ≤ FRAME_BYTES)
 
 -- the layout of these numbers fits at each of its colour offsets
 pub record IsLayout (size align : ℕ) (l : Layout) : Type 0 where
@@ -94,9 +98,9 @@ pub record IsLayout (size align : ℕ) (l : Layout) : Type 0 where
 abbrev pub LayoutsFit : Type 0
 LayoutsFit = (size align : ℕ) → is_size size ≡ true → is_alignment align ≡ true → IsLayout size align (layout_of size align)
 
--- a constructor: 1 to 16 bytes, over and over
+-- a constructor: 1 to MOST_PATTERN bytes, over and over
 abbrev pub is_pattern : List ℕ → Bool
-is_pattern pattern = nat_le 1 (length pattern) && nat_le (length pattern) 16
+is_pattern pattern = nat_le 1 (length pattern) && nat_le (length pattern) MOST_PATTERN
 
 -- byte j of an object that is constructed
 abbrev pub pattern_byte : List ℕ → ℕ → ℕ

@@ -2,7 +2,6 @@ pub mod Blocks
 pub mod Numbered
 pub mod Choice
 pub mod BlockLaws
-pub mod Marks
 pub mod Layouts
 pub mod Machine
 pub mod Slabs

@@ -1,7 +1,8 @@
 -- The private machine of a tenant: what it would have if no one else were there. Slots, frames and places are
--- numbered from 0; a frame has 4096 places, one byte each.
+-- numbered from 0; a frame has FRAME_BYTES places, one byte each.
 use Rattle.std.specs.Prelude.{ℕ, ◌+◌, ◌/◌, ◌^◌, Bool, List, [], ◌∷◌, ◌++◌, map, flat_map, max, Option, Some, None, option_map, if◌then◌else◌, nat_lt, nat_le, ◌&&◌, ◌==◌}
 use Rattle.std.specs.List.{list_any}
+use Rattle.model_core.specs.declared.limits.TheConstants.{FRAME_BYTES}
 use Rattle.model_core.specs.Blocks.{Block, block, Taken}
 use Rattle.model_core.specs.Choice.{choose}
 use Rattle.model_core.specs.Layouts.{Layout, layout_of}
@@ -59,11 +60,11 @@ holds m u = list_any (λ v. v == u) m.slots
 
 -- the slot of a place; slots have 2 ^ order frames
 abbrev pub slot_of : ℕ → ℕ → ℕ
-slot_of order place = place / 4096 / 2 ^ order
+slot_of order place = place / FRAME_BYTES / 2 ^ order
 
 -- the place lies in a frame of the block
 abbrev pub in_block : ℕ → Block → Bool
-in_block place b = nat_le b.first (place / 4096) && nat_lt (place / 4096) (b.first + 2 ^ b.order)
+in_block place b = nat_le b.first (place / FRAME_BYTES) && nat_lt (place / FRAME_BYTES) (b.first + 2 ^ b.order)
 
 -- how the cache's slabs are cut
 abbrev pub layout : Cache → Layout

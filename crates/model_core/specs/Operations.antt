@@ -60,7 +60,8 @@ written place new bytes p = if nat_le place p && nat_lt p (place + length new) t
 -- bytes written: how many; refused out of reach
 unfoldable pub write_step : ℕ → List ℕ → Machine → Step (Option ℕ)
 write_step place new m =
-    if in_reach m place (length new) then record { answer = Some (length new); machine = record m { bytes = written place new m.bytes } }
+    if in_reach m place (length new)
+    then record { answer = Some (length new); machine = record m { bytes = written place new m.bytes } }
     else record { answer = None; machine = m }
 
 -- Slots

@@ -1,6 +1,7 @@
 -- Reach: which ranges of places a tenant may read and write.
 use Rattle.std.specs.Prelude.{ℕ, ◌+◌, ◌*◌, ◌^◌, Bool, nat_le, nat_lt, ◌&&◌, ◌||◌}
 use Rattle.std.specs.List.{list_any}
+use Rattle.model_core.specs.declared.limits.TheConstants.{FRAME_BYTES}
 use Rattle.model_core.specs.Blocks.{Block}
 use Rattle.model_core.specs.Machine.{Cache, Machine}
 use Rattle.model_core.specs.Slabs.{LiveObject, live_objects}
@@ -11,7 +12,7 @@ is_within place len begin size = nat_le begin place && nat_le (place + len) (beg
 
 -- the range lies inside the block
 abbrev pub within_block : ℕ → ℕ → Block → Bool
-within_block place len b = is_within place len (4096 * b.first) (4096 * 2 ^ b.order)
+within_block place len b = is_within place len (FRAME_BYTES * b.first) (FRAME_BYTES * 2 ^ b.order)
 
 -- the range lies inside the bytes of the object
 abbrev pub within_object : Cache → ℕ → ℕ → LiveObject → Bool
@@ -23,4 +24,5 @@ within_objects place len c = list_any (within_object c place len) (live_objects 
 
 -- a range of at least one byte, inside one live page block or inside one live object
 unfoldable pub in_reach : Machine → ℕ → ℕ → Bool
-in_reach m place len = nat_lt 0 len && (list_any (within_block place len) m.blocks || list_any (within_objects place len) m.caches)
+in_reach m place len =
+    nat_lt 0 len && (list_any (within_block place len) m.blocks || list_any (within_objects place len) m.caches)

@@ -50,8 +50,8 @@ split_share free None = 0
 split_share free (Some k) = 1000 - 1000 * 2 ^ k / free
 
 -- a cache: its slabs of each kind, and its live objects
-abbrev pub row_of : Cache → CacheRow
-row_of c = record {
+abbrev pub row_of_cache : Cache → CacheRow
+row_of_cache c = record {
   cache = c.number;
   full = length (filter is_full c.slabs);
   partial = length (filter is_partial c.slabs);
@@ -60,5 +60,5 @@ row_of c = record {
 }
 
 -- by rising number
-abbrev pub rows_of : Machine → List CacheRow
-rows_of m = map row_of m.caches
+abbrev pub rows_of_caches : Machine → List CacheRow
+rows_of_caches m = map row_of_cache m.caches

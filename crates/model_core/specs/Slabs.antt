@@ -1,6 +1,7 @@
 -- Slabs and caches (Bonwick's object-caching allocator): kinds of slab, live objects, growth, handing out, giving back.
 use Rattle.std.specs.Prelude.{ℕ, ◌+◌, ◌-◌, ◌*◌, ◌%◌, Bool, false, not, List, [], ◌∷◌, map, filter, find, flat_map, replicate, Option, Some, None, is_some, is_none, slice_set, if◌then◌else◌, ◌&&◌, ◌||◌, ◌==◌}
 use Rattle.std.specs.List.{list_any, list_all, position_or_len}
+use Rattle.model_core.specs.declared.limits.TheConstants.{FRAME_BYTES}
 use Rattle.model_core.specs.Blocks.{Block}
 use Rattle.model_core.specs.Layouts.{colour_offset, object_place, in_object, pattern_byte}
 use Rattle.model_core.specs.Machine.{Slab, Cache, Machine, layout, slab_block, slab_blocks, in_block, put_rising, choice}
@@ -59,13 +60,14 @@ with_live i live s = record s { live = slice_set s.live i live }
 
 -- the slab that the cache makes next, at this frame
 abbrev pub new_slab : Cache → ℕ → Slab
-new_slab c first = record { first = first; colour = colour_offset c.align c.made (layout c); live = replicate (layout c).count false }
+new_slab c first =
+    record { first = first; colour = colour_offset c.align c.made (layout c); live = replicate (layout c).count false }
 
 -- the byte at a place of the slab when it is made: every object is constructed, and nothing else is there
 unfoldable pub fresh_byte : Cache → Slab → ℕ → Option ℕ
 fresh_byte c s place =
-    if in_object (layout c) c.size s.colour (place - 4096 * s.first)
-    then Some (pattern_byte c.pattern ((place - 4096 * s.first - s.colour) % (layout c).chunk)) else None
+    if in_object (layout c) c.size s.colour (place - FRAME_BYTES * s.first)
+    then Some (pattern_byte c.pattern ((place - FRAME_BYTES * s.first - s.colour) % (layout c).chunk)) else None
 
 -- the cache with a new slab at this frame
 unfoldable pub grown_cache : ℕ → Cache → Cache
@@ -77,7 +79,8 @@ grown_cache first c = record c {
 -- growth: the block at this frame becomes a slab of the cache
 unfoldable pub grown : ℕ → Cache → Machine → Machine
 grown first c m = with_cache (grown_cache first c) (record m {
-  bytes = λ place. if in_block place (slab_block c (new_slab c first)) then fresh_byte c (new_slab c first) place else m.bytes place;
+  bytes = λ place.
+      if in_block place (slab_block c (new_slab c first)) then fresh_byte c (new_slab c first) place else m.bytes place;
 })
 
 -- the partial slab of least frame, else the empty one of least frame

@@ -1,6 +1,7 @@
 -- What holds of every machine that operations leave.
 use Rattle.std.specs.Prelude.{◌≡◌, ℕ, ◌+◌, ◌-◌, ◌*◌, ◌/◌, ◌^◌, ◌<◌, ◌≤◌, Bool, true, not, List, [], ◌∷◌, map, flat_map, length, is_some, ⊤, ◌&&◌, ◌||◌}
 use Rattle.std.specs.List.{list_any, AllByRecursion}
+use Rattle.model_core.specs.declared.limits.TheConstants.{FRAME_BYTES}
 use Rattle.model_core.specs.Blocks.{Block, HasFrame, IsAligned}
 use Rattle.model_core.specs.Layouts.{is_size, is_alignment, is_pattern, colour_offset, in_object}
 use Rattle.model_core.specs.Machine.{Slab, Cache, Machine, holds, slot_of, in_block, layout, slab_block, slab_blocks, taken_blocks}
@@ -43,7 +44,7 @@ in_slab m place = list_any (in_block place) (flat_map slab_blocks m.caches)
 
 -- the byte at the place is one of an object of the slab, live or not
 abbrev pub in_object_of : ℕ → Cache → Slab → Bool
-in_object_of place c s = in_block place (slab_block c s) && in_object (layout c) c.size s.colour (place - 4096 * s.first)
+in_object_of place c s = in_block place (slab_block c s) && in_object (layout c) c.size s.colour (place - FRAME_BYTES * s.first)
 
 abbrev pub in_cache : ℕ → Cache → Bool
 in_cache place c = list_any (in_object_of place c) c.slabs

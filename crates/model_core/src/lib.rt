@@ -8,4 +8,3 @@ pub mod limits;
 pub mod owner;
 pub mod refusals;
 pub mod report;
-pub mod search;

@@ -1,4 +1,16 @@
-//! The limits of a machine and of what a tenant may ask of it.
+//! The sizes and limits of a machine and of what a tenant may ask of it.
+
+/// A frame has this many bytes.
+pub const FRAME_BYTES: u32 = 4096;
+
+/// The frame of a slab of small objects ends in the slab's control record, of this many bytes.
+pub const RECORD_BYTES: u32 = 32;
+
+/// The control record begins at this byte of its frame; the objects end before it.
+pub const RECORD_OFFSET: u32 = 4064;
+
+/// An object has at most this many bytes, and at least one.
+pub const MOST_SIZE: u32 = 4096;
 
 /// A superblock has `2^order` frames, of an order of at least this.
 pub const LEAST_ORDER: u8 = 3;

@@ -17,27 +17,27 @@ use Rattle.replay_core.specs.declared.replaying.ReplayError.{ReplayError}
 use Rattle.replay_core.specs.declared.replaying.ReplayError.TheVariants as Failed
 use Rattle.replay_core.specs.Runs.{Counts, HasCome, IsCutShort, Replays, IsDone, NamesFailed, HasOwnLines}
 use Rattle.replay_core.proofs.RunLemmas.{shown_more}
-use Rattle.partmem.specs.declared.settings.Settings.{Settings}
-use Rattle.partmem.specs.declared.outcome.Outcome.{Outcome}
-use Rattle.partmem.specs.declared.outcome.Outcome.TheVariants.{Unwritable, NoMemory}
+use Rattle.command_line.specs.declared.exit.Outcome.{Outcome}
+use Rattle.command_line.specs.declared.exit.Outcome.TheVariants.{Unwritable, NoMemory}
+use Rattle.command_line.specs.declared.machine.Machine.{Machine}
 use Rattle.partmem.specs.Outcome.{outcome_of, tally_of, without_unwritten}
-use Rattle.partmem.specs.Run.{replies_to, IsPrivate, IsBeginning, Answers, EndsAs, HasReached, IsGiven, IsOfTrace, Tallies}
+use Rattle.partmem.specs.Run.{shown_replies, IsPrivate, IsBeginning, Answers, EndsAs, HasReached, IsGiven, IsOfTrace, Tallies}
 
--- the kernel shows the opening world of the settings
-pub record IsNew (s : Settings) (k : Parts) : Type 0 where
-  pub order : k.order ≡ s.config.order
-  pub shows : Shows k (opening_world s.config.superblocks s.config.tenants)
+-- the kernel shows the machine's opening world
+pub record IsNew (m : Machine) (k : Parts) : Type 0 where
+  pub order : k.order ≡ m.config.order
+  pub shows : Shows k (opening_world m.config.superblocks m.config.tenants)
 
-pub booted : (s : Settings) (k : Parts) → k ≡ opening_parts s.config.order s.config.superblocks s.config.tenants
-    → Shows k (opening_world s.config.superblocks s.config.tenants) → IsNew s k
+pub booted : (m : Machine) (k : Parts) → k ≡ opening_parts m.config.order m.config.superblocks m.config.tenants
+    → Shows k (opening_world m.config.superblocks m.config.tenants) → IsNew m k
 unfolding opening_parts
-booted s k is shows = record { order = ap (λ parts. parts.order) is; shows = shows }
+booted m k is shows = record { order = ap (λ parts. parts.order) is; shows = shows }
 
--- in the kernel's words and in the settings'
-at_order : (s : Settings) (k : Parts) (lines : List (List ℕ)) → IsNew s k
-    → shown_lines s.only cache_limit k.order lines (opening_world s.config.superblocks s.config.tenants) ≡ replies_to s lines
-at_order s k lines new =
-    ap (λ order. shown_lines s.only cache_limit order lines (opening_world s.config.superblocks s.config.tenants)) new.order
+-- in the kernel's words and in the machine's
+at_order : (m : Machine) (k : Parts) (lines : List (List ℕ)) → IsNew m k
+    → shown_lines m.only cache_limit k.order lines (opening_world m.config.superblocks m.config.tenants) ≡ shown_replies m lines
+at_order m k lines new =
+    ap (λ order. shown_lines m.only cache_limit order lines (opening_world m.config.superblocks m.config.tenants)) new.order
 
 private_at : (config : Config) (only : Option ℕ) (k : Parts) (given taken : List ℕ) → k.order ≡ config.order
     → Shows k (opening_world config.superblocks config.tenants) → HasOwnLines only k given taken → IsPrivate only config given taken
@@ -68,63 +68,63 @@ cut_first only before after w lines done line rest taken tally shows split cut =
     regrouped a b c d = simp append_assoc
 
 -- a beginning of what the ended lines show is one of what any trace shows that goes on from them
-goes_on : ShownStays → (s : Settings) (k : Parts) (given more taken : List ℕ) → IsNew s k
-    → IsBeginning taken (shown_lines s.only cache_limit k.order (ended_lines given) (opening_world s.config.superblocks s.config.tenants))
-    → IsBeginning taken (replies_to s (lines_of_trace (given ++ more)))
-goes_on stays s k given more taken new (rest, shown) =
-    let later = stays s.only cache_limit k.order given more (opening_world s.config.superblocks s.config.tenants) in (
+goes_on : ShownStays → (m : Machine) (k : Parts) (given more taken : List ℕ) → IsNew m k
+    → IsBeginning taken (shown_lines m.only cache_limit k.order (ended_lines given) (opening_world m.config.superblocks m.config.tenants))
+    → IsBeginning taken (shown_replies m (lines_of_trace (given ++ more)))
+goes_on stays m k given more taken new (rest, shown) =
+    let later = stays m.only cache_limit k.order given more (opening_world m.config.superblocks m.config.tenants) in (
       rest ++ later.0,
-      sym (at_order s k (lines_of_trace (given ++ more)) new) ∙ later.1 ∙ ap (λ text. text ++ later.0) shown ∙ append_assoc taken rest later.0,
+      sym (at_order m k (lines_of_trace (given ++ more)) new) ∙ later.1 ∙ ap (λ text. text ++ later.0) shown ∙ append_assoc taken rest later.0,
     )
 
 -- nothing more comes
-all_came : (s : Settings) (given more taken : List ℕ) → more ≡ [] → IsBeginning taken (replies_to s (lines_of_trace given))
-    → IsBeginning taken (replies_to s (lines_of_trace (given ++ more)))
-all_came s given more taken none begins =
-    subst (λ trace. IsBeginning taken (replies_to s (lines_of_trace trace))) (sym (ap (λ bytes. given ++ bytes) none ∙ append-nil given)) begins
+all_came : (m : Machine) (given more taken : List ℕ) → more ≡ [] → IsBeginning taken (shown_replies m (lines_of_trace given))
+    → IsBeginning taken (shown_replies m (lines_of_trace (given ++ more)))
+all_came m given more taken none begins =
+    subst (λ trace. IsBeginning taken (shown_replies m (lines_of_trace trace))) (sym (ap (λ bytes. given ++ bytes) none ∙ append-nil given)) begins
 
-cut_begins : ShownStays → (s : Settings) (k k' : Parts) (ended : Bool) (given more taken : List ℕ) (done : List (List ℕ)) (line : List ℕ) (tally : Tally) → IsNew s k
-    → HasCome ended given (done ++ line ∷ []) → IsCutShort s.only k k' done line taken tally → (ended ≡ true → more ≡ [])
-    → IsBeginning taken (replies_to s (lines_of_trace (given ++ more)))
-cut_begins stays s k k' ended given more taken done line tally new (inl (rest, split)) cut over =
-    goes_on stays s k given more taken new (cut_first s.only k k' _ (ended_lines given) done line rest taken tally new.shows split cut)
-cut_begins stays s k k' ended given more taken done line tally new (inr (is_over, all)) cut over =
-    all_came s given more taken (over is_over) (
-    subst (IsBeginning taken) (at_order s k (lines_of_trace given) new)
-    (cut_first s.only k k' _ (lines_of_trace given) done line [] taken tally new.shows (all ∙ sym (append-nil _)) cut)
+cut_begins : ShownStays → (m : Machine) (k k' : Parts) (ended : Bool) (given more taken : List ℕ) (done : List (List ℕ)) (line : List ℕ) (tally : Tally) → IsNew m k
+    → HasCome ended given (done ++ line ∷ []) → IsCutShort m.only k k' done line taken tally → (ended ≡ true → more ≡ [])
+    → IsBeginning taken (shown_replies m (lines_of_trace (given ++ more)))
+cut_begins stays m k k' ended given more taken done line tally new (inl (rest, split)) cut over =
+    goes_on stays m k given more taken new (cut_first m.only k k' _ (ended_lines given) done line rest taken tally new.shows split cut)
+cut_begins stays m k k' ended given more taken done line tally new (inr (is_over, all)) cut over =
+    all_came m given more taken (over is_over) (
+    subst (IsBeginning taken) (at_order m k (lines_of_trace given) new)
+    (cut_first m.only k k' _ (lines_of_trace given) done line [] taken tally new.shows (all ∙ sym (append-nil _)) cut)
     )
 
 -- Whatever the replay answered, a trace goes on from what was given, unless the feed has ended.
-pub begins : ShownStays → (s : Settings) (k k' : Parts) (ended : Bool) (given more taken : List ℕ) (replayed : Result Tally ReplayError) → IsNew s k
-    → Replays ended s.only k k' given taken replayed → IsDone replayed ended → (ended ≡ true → more ≡ [])
-    → IsBeginning taken (replies_to s (lines_of_trace (given ++ more)))
-begins stays s k k' ended given more taken (Ok tally) new ran done over =
-    all_came s given more taken (over done)
-    ([], sym (at_order s k (lines_of_trace given) new) ∙ sym (ran.shown _ new.shows) ∙ sym (append-nil taken))
-begins stays s k k' ended given more taken (Err (Failed.Feed tally)) new ran done over =
-    goes_on stays s k given more taken new ([], sym (ran.shown _ new.shows) ∙ sym (append-nil taken))
-begins stays s k k' ended given more taken (Err (Failed.Drain tally)) new ran done over =
-    cut_begins stays s k k' ended given more taken ran.0 ran.1 tally new ran.2 ran.3 over
+pub begins : ShownStays → (m : Machine) (k k' : Parts) (ended : Bool) (given more taken : List ℕ) (replayed : Result Tally ReplayError) → IsNew m k
+    → Replays ended m.only k k' given taken replayed → IsDone replayed ended → (ended ≡ true → more ≡ [])
+    → IsBeginning taken (shown_replies m (lines_of_trace (given ++ more)))
+begins stays m k k' ended given more taken (Ok tally) new ran done over =
+    all_came m given more taken (over done)
+    ([], sym (at_order m k (lines_of_trace given) new) ∙ sym (ran.shown _ new.shows) ∙ sym (append-nil taken))
+begins stays m k k' ended given more taken (Err (Failed.Feed tally)) new ran done over =
+    goes_on stays m k given more taken new ([], sym (ran.shown _ new.shows) ∙ sym (append-nil taken))
+begins stays m k k' ended given more taken (Err (Failed.Drain tally)) new ran done over =
+    cut_begins stays m k k' ended given more taken ran.0 ran.1 tally new ran.2 ran.3 over
 
 -- where it could not be written, that is what was given
-pub unwritten : ShownStays → (s : Settings) (k k' : Parts) (ended : Bool) (given taken : List ℕ) (replayed : Result Tally ReplayError) → IsNew s k
-    → Replays ended s.only k k' given taken replayed → IsDone replayed ended → Answers s Unwritable given taken
-unwritten stays s k k' ended given taken replayed new ran done =
-    subst (λ trace. IsBeginning taken (replies_to s (lines_of_trace trace))) (append-nil given)
-    (begins stays s k k' ended given [] taken replayed new ran done (λ _. refl))
+pub unwritten : ShownStays → (m : Machine) (k k' : Parts) (ended : Bool) (given taken : List ℕ) (replayed : Result Tally ReplayError) → IsNew m k
+    → Replays ended m.only k k' given taken replayed → IsDone replayed ended → Answers m Unwritable given taken
+unwritten stays m k k' ended given taken replayed new ran done =
+    subst (λ trace. IsBeginning taken (shown_replies m (lines_of_trace trace))) (append-nil given)
+    (begins stays m k k' ended given [] taken replayed new ran done (λ _. refl))
 
 -- the outcome of the run
-pub answers : ShownStays → (s : Settings) (k k' : Parts) (ended : Bool) (given taken : List ℕ) (replayed : Result Tally ReplayError) (unsent flushed : Bool) → IsNew s k
-    → Replays ended s.only k k' given taken replayed → IsDone replayed ended → OnOk replayed (HasOwnLines s.only k given taken)
-    → Answers s (outcome_of replayed unsent flushed) given taken
-answers stays s k k' ended given taken (Ok tally) unsent true new ran done own = (
-  ran.shown _ new.shows ∙ at_order s k (lines_of_trace given) new,
-  private_at s.config s.only k given taken new.order new.shows own,
+pub answers : ShownStays → (m : Machine) (k k' : Parts) (ended : Bool) (given taken : List ℕ) (replayed : Result Tally ReplayError) (unsent flushed : Bool) → IsNew m k
+    → Replays ended m.only k k' given taken replayed → IsDone replayed ended → OnOk replayed (HasOwnLines m.only k given taken)
+    → Answers m (outcome_of replayed unsent flushed) given taken
+answers stays m k k' ended given taken (Ok tally) unsent true new ran done own = (
+  ran.shown _ new.shows ∙ at_order m k (lines_of_trace given) new,
+  private_at m.config m.only k given taken new.order new.shows own,
 )
-answers stays s k k' ended given taken (Ok tally) unsent false new ran done own = unwritten stays s k k' ended given taken (Ok tally) new ran done
-answers stays s k k' ended given taken (Err (Failed.Feed tally)) true flushed new ran done own = unwritten stays s k k' ended given taken (Err (Failed.Feed tally)) new ran done
-answers stays s k k' ended given taken (Err (Failed.Feed tally)) false flushed new ran done own = ran.shown _ new.shows ∙ at_order s k (ended_lines given) new
-answers stays s k k' ended given taken (Err (Failed.Drain tally)) unsent flushed new ran done own = unwritten stays s k k' ended given taken (Err (Failed.Drain tally)) new ran done
+answers stays m k k' ended given taken (Ok tally) unsent false new ran done own = unwritten stays m k k' ended given taken (Ok tally) new ran done
+answers stays m k k' ended given taken (Err (Failed.Feed tally)) true flushed new ran done own = unwritten stays m k k' ended given taken (Err (Failed.Feed tally)) new ran done
+answers stays m k k' ended given taken (Err (Failed.Feed tally)) false flushed new ran done own = ran.shown _ new.shows ∙ at_order m k (ended_lines given) new
+answers stays m k k' ended given taken (Err (Failed.Drain tally)) unsent flushed new ran done own = unwritten stays m k k' ended given taken (Err (Failed.Drain tally)) new ran done
 
 -- a beginning of what was counted is counted by its length
 counted : (tally : Tally) (lines : List (List ℕ)) (taken : List ℕ) (unwritten : ℕ) → Counts tally lines taken
@@ -182,9 +182,9 @@ ends (Err (Failed.Feed tally)) ended unread undrained false flushed done named s
 ends (Err (Failed.Drain tally)) ended unread undrained unsent flushed done named stopped fine = (ap not (fine named.1), λ failed. absurd cc)
 
 -- before the first line
-pub nothing_of : (s : Settings) (known : Option (List ℕ)) → IfSome known (λ trace. IsOfTrace s NoMemory trace [] [])
-nothing_of s None = tt
-nothing_of s (Some trace) = record { part = (trace, refl); begins = (replies_to s (lines_of_trace trace), refl) }
+pub nothing_of : (m : Machine) (known : Option (List ℕ)) → IfSome known (λ trace. IsOfTrace m NoMemory trace [] [])
+nothing_of m None = tt
+nothing_of m (Some trace) = record { part = (trace, refl); begins = (shown_replies m (lines_of_trace trace), refl) }
 
 -- a trace is done only at its end
 pub given_so_far : (replayed : Result Tally ReplayError) (unsent flushed ended : Bool) (given more : List ℕ) → IsDone replayed ended → (ended ≡ true → more ≡ [])
@@ -210,11 +210,11 @@ flushed (Some xs) (Some ys) None bytes appended kept = elim kept [ ]
 flushed (Some xs) (Some ys) (Some zs) bytes appended kept = kept ∙ appended
 
 -- what the run was of the trace, whatever its outcome
-pub traced : ShownStays → (s : Settings) (k k' : Parts) (ended : Bool) (given taken : List ℕ) (replayed : Result Tally ReplayError) (outcome : Outcome) (known left : Option (List ℕ))
-    → IsNew s k → Replays ended s.only k k' given taken replayed → IsDone replayed ended
+pub traced : ShownStays → (m : Machine) (k k' : Parts) (ended : Bool) (given taken : List ℕ) (replayed : Result Tally ReplayError) (outcome : Outcome) (known left : Option (List ℕ))
+    → IsNew m k → Replays ended m.only k k' given taken replayed → IsDone replayed ended
     → ((more : List ℕ) → (ended ≡ true → more ≡ []) → IsGiven outcome (given ++ more) given)
     → Consumes known left given → (ended ≡ true → IsAtEnd left)
-    → IfSome known (λ trace. IsOfTrace s outcome trace given taken)
-traced stays s k k' ended given taken replayed outcome known left new ran done part consumed over =
-    of_trace (λ trace. IsOfTrace s outcome trace given taken) known left ended given consumed over
-    (λ more none. record { part = part more none; begins = begins stays s k k' ended given more taken replayed new ran done none })
+    → IfSome known (λ trace. IsOfTrace m outcome trace given taken)
+traced stays m k k' ended given taken replayed outcome known left new ran done part consumed over =
+    of_trace (λ trace. IsOfTrace m outcome trace given taken) known left ended given consumed over
+    (λ more none. record { part = part more none; begins = begins stays m k k' ended given more taken replayed new ran done none })

@@ -1,4 +1,3 @@
-pub mod CommandLine
 pub mod Outcome
 pub mod Run
 pub mod Settings

@@ -9,14 +9,14 @@ use Rattle.world_core.specs.Output.{shown_lines, ended_lines, lines_for, with_li
 use Rattle.world_core.specs.Laws.{private_lines}
 use Rattle.replay_core.specs.declared.replaying.Tally.{Tally}
 use Rattle.replay_core.specs.Runs.{Counts, HasCome}
-use Rattle.partmem.specs.declared.settings.Settings.{Settings}
-use Rattle.partmem.specs.declared.outcome.Outcome.{Outcome}
+use Rattle.command_line.specs.declared.exit.Outcome.{Outcome}
+use Rattle.command_line.specs.declared.exit.Outcome.TheVariants.{Done, Unreadable, Unwritable, NoMemory}
+use Rattle.command_line.specs.declared.machine.Machine.{Machine}
 use Rattle.partmem.specs.Outcome.{no_tally}
-use Rattle.partmem.specs.declared.outcome.Outcome.TheVariants.{Done, Help, Version, Unreadable, Unwritable, BadLine, BadOnly, NoMemory}
 
--- what these lines show on a new machine of the settings: all replies, or those to one tenant
-abbrev pub replies_to : Settings → List (List ℕ) → List ℕ
-replies_to s lines = shown_lines s.only cache_limit s.config.order lines (opening_world s.config.superblocks s.config.tenants)
+-- what these lines show on a new machine: all replies, or those to one tenant
+abbrev pub shown_replies : Machine → List (List ℕ) → List ℕ
+shown_replies m lines = shown_lines m.only cache_limit m.config.order lines (opening_world m.config.superblocks m.config.tenants)
 
 -- the lines that a tenant's private machine answers to the tenant's own list of the trace
 abbrev pub private_replies : Config → ℕ → List ℕ → List (List ℕ)
@@ -31,15 +31,11 @@ abbrev pub IsBeginning : List ℕ → List ℕ → Type 0
 IsBeginning part whole = (rest : List ℕ) × (whole ≡ part ++ rest)
 
 -- what was written of the bytes that were given, when the run ended so
-abbrev pub Answers : Settings → Outcome → List ℕ → List ℕ → Type 0
-Answers s Done given written = (written ≡ replies_to s (lines_of_trace given)) × IsPrivate s.only s.config given written
-Answers s Unreadable given written = written ≡ replies_to s (ended_lines given)
-Answers s Unwritable given written = IsBeginning written (replies_to s (lines_of_trace given))
-Answers s NoMemory given written = (given ≡ []) × (written ≡ [])
-Answers s (Help text) given written = ⊥
-Answers s (Version text) given written = ⊥
-Answers s (BadLine text) given written = ⊥
-Answers s BadOnly given written = ⊥
+abbrev pub Answers : Machine → Outcome → List ℕ → List ℕ → Type 0
+Answers m Done given written = (written ≡ shown_replies m (lines_of_trace given)) × IsPrivate m.only m.config given written
+Answers m Unreadable given written = written ≡ shown_replies m (ended_lines given)
+Answers m Unwritable given written = IsBeginning written (shown_replies m (lines_of_trace given))
+Answers m NoMemory given written = (given ≡ []) × (written ≡ [])
 
 -- What was held back is the end of it: the writer took the rest, and nothing else.
 abbrev pub IsHeldBack : (before writer : Option (List ℕ)) → (held written sent : List ℕ) → Type 0
@@ -53,10 +49,6 @@ HasReached Unreadable false before writer held written sent = (sent ≡ written)
 HasReached Unreadable true before writer held written sent = IsHeldBack before writer held written sent
 HasReached Unwritable failed before writer held written sent = IsHeldBack before writer held written sent
 HasReached NoMemory failed before writer held written sent = sent ≡ []
-HasReached (Help text) failed before writer held written sent = ⊥
-HasReached (Version text) failed before writer held written sent = ⊥
-HasReached (BadLine text) failed before writer held written sent = ⊥
-HasReached BadOnly failed before writer held written sent = ⊥
 
 -- what is counted when the run ended so: the lines that were run, and what the writer took
 abbrev pub Tallies : Outcome → Tally → Bool → List ℕ → List ℕ → Type 0
@@ -64,10 +56,6 @@ Tallies Done tally ended given sent = Counts tally (lines_of_trace given) sent
 Tallies Unreadable tally ended given sent = Counts tally (ended_lines given) sent
 Tallies Unwritable tally ended given sent = (lines : List (List ℕ)) × HasCome ended given lines × Counts tally lines sent
 Tallies NoMemory tally ended given sent = tally ≡ no_tally
-Tallies (Help text) tally ended given sent = ⊥
-Tallies (Version text) tally ended given sent = ⊥
-Tallies (BadLine text) tally ended given sent = ⊥
-Tallies BadOnly tally ended given sent = ⊥
 
 -- Which end had failed when the run ended so; a trace is done only at its end. Where both had, a send failed before the feed did,
 -- or the feed before the last flush.
@@ -76,10 +64,6 @@ EndsAs Done ended unread unwritten unsent = (ended ≡ true) × (unread ≡ fals
 EndsAs Unreadable ended unread unwritten unsent = (unread ≡ true) × (unsent ≡ false)
 EndsAs Unwritable ended unread unwritten unsent = (unwritten ≡ true) × (unread ≡ true → unsent ≡ true)
 EndsAs NoMemory ended unread unwritten unsent = (unread ≡ false) × (unwritten ≡ false)
-EndsAs (Help text) ended unread unwritten unsent = ⊥
-EndsAs (Version text) ended unread unwritten unsent = ⊥
-EndsAs (BadLine text) ended unread unwritten unsent = ⊥
-EndsAs BadOnly ended unread unwritten unsent = ⊥
 
 -- how much of the trace was given when the run ended so: a beginning, and all of it where it is done
 abbrev pub IsGiven : Outcome → List ℕ → List ℕ → Type 0
@@ -87,6 +71,6 @@ IsGiven Done trace given = trace ≡ given
 IsGiven outcome trace given = IsBeginning given trace
 
 -- However the run ended, what was written is a beginning of what the whole trace shows.
-pub record IsOfTrace (s : Settings) (outcome : Outcome) (trace given written : List ℕ) : Type 0 where
+pub record IsOfTrace (m : Machine) (outcome : Outcome) (trace given written : List ℕ) : Type 0 where
   pub part : IsGiven outcome trace given
-  pub begins : IsBeginning written (replies_to s (lines_of_trace trace))
+  pub begins : IsBeginning written (shown_replies m (lines_of_trace trace))

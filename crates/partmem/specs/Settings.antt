@@ -1,35 +1,30 @@
--- What a command line asks for.
-use Rattle.std.specs.Prelude.{◌≡◌, ℕ, ◌^◌, ◌<◌, Bool, true, false, List, Option, Some, None, option_map, codes}
-use Rattle.std.specs.Str.Parse.{IsNumeral, digits_value, without_leading_plus}
+-- What a command line asks for: which word stands under which name, in clap's words.
+use Rattle.std.specs.Prelude.{◌≡◌, Bool, true, false, List, Option, Some, None, option_map, codes}
 use Rattle.std.specs.String.{string_bytes}
+use Rattle.clap.specs.Words.{App, Rule, Text, first_of, matches_of, new_rule, one_of, with_rule}
+use Rattle.clap.specs.declared.builder.action.ArgAction.TheVariants.{SetTrue}
+use Rattle.command_line.specs.Arguments.{machine_command, positional_rule}
+use Rattle.command_line.specs.Machine.{AsksMachine}
 use Rattle.partmem.specs.declared.settings.Settings.{Settings}
 
--- the text is a number of 32 bits, in decimal digits
-abbrev pub IsNumber : List ℕ → Type 0
-IsNumber text = IsNumeral 10 (without_leading_plus text) × (digits_value 10 (without_leading_plus text) < 2 ^ 32)
-
--- this is the number that stands there
-abbrev pub Writes : Option (List ℕ) → ℕ → Type 0
-Writes None n = ⊥
-Writes (Some text) n = IsNumber text × (n ≡ digits_value 10 (without_leading_plus text))
-
--- the same where no number need stand there
-abbrev pub MayWrite : Option (List ℕ) → Option ℕ → Type 0
-MayWrite text (Some n) = Writes text n
-MayWrite None None = Unit {0}
-MayWrite (Some text) None = ¬ IsNumber text
-
 -- a flag is set where its text is `true`
-pub record IsFlag (text : Option (List ℕ)) (flag : Bool) : Type 0 where
+pub record IsFlag (text : Option Text) (flag : Bool) : Type 0 where
   pub given : text ≡ Some (codes "true") → flag ≡ true
   pub denied : text ≡ Some (codes "false") → flag ≡ false
   pub none : text ≡ None → flag ≡ false
 
 -- the settings are what stands under the arguments' names: `read` of those that are read as a type, `whole` of FILE
-pub record Asks (read whole : List ℕ → Option (List ℕ)) (settings : Settings) : Type 0 where
-  pub order : Writes (read (codes "order")) settings.config.order
-  pub superblocks : Writes (read (codes "superblocks")) settings.config.superblocks
-  pub tenants : Writes (read (codes "tenants")) settings.config.tenants
-  pub only : MayWrite (read (codes "only")) settings.only
+pub record Asks (read whole : Text → Option Text) (settings : Settings) : Type 0 where
+  pub machine : AsksMachine read settings.machine
   pub tally : IsFlag (read (codes "tally")) settings.tally
   pub file : option_map (λ path. string_bytes path) settings.file ≡ whole (codes "FILE")
+
+abbrev pub tally_rule : Rule
+tally_rule = record (new_rule (codes "tally")) { long = Some (codes "tally"); action = Some SetTrue }
+
+abbrev pub command_line : App
+command_line = with_rule (with_rule (machine_command (codes "partmem")) tally_rule) (positional_rule (codes "FILE"))
+
+-- the settings are what clap finds in these words
+abbrev pub IsAskedBy : List Text → Settings → Type 0
+IsAskedBy words settings = Asks (λ name. one_of name (matches_of command_line words)) (λ name. first_of name (matches_of command_line words)) settings

@@ -2,26 +2,24 @@
 
 ghost use Rattle.std.specs.Prelude.{◌≡◌, ◌≤◌, ℕ, true, false, not, List, [], length, IfSome};
 ghost use Rattle.std.specs.Io.KnownBytes.{Appends, Consumes, Keeps};
-ghost use Rattle.kernel_core.specs.Booting.{is_bootable};
 ghost use Rattle.partmem.specs.Run.{Answers, EndsAs, HasReached, IsOfTrace, Tallies};
 
-use crate::outcome::{Ended, Outcome, outcome_of, tally_of};
-use crate::settings::Settings;
+use crate::outcome::{Ended, outcome_of, tally_of};
+use command_line::{Machine, Outcome};
 use kernel_core::{BootError, Kernel, laws};
 use replay_core::{Drain, Feed, WriterDrain, replay};
 use std::alloc::Global;
 use std::io::Write;
 use std::mem;
 
-/// Boots a new machine of these settings, replays the trace and flushes: after a failed feed too, but not after a failed
+/// Boots a new machine of these sizes, replays the trace and flushes: after a failed feed too, but not after a failed
 /// drain. The first failure decides.
 pub fn run<F: Feed, W: Write>(
     alloc: Global,
-    settings: &Settings,
+    machine: &Machine,
     feed: &mut F,
     drain: &mut WriterDrain<W>,
 ) -> Ended
-    requires bootable { is_bootable settings.now.config ≡ true }
     requires feed_fine { F.has_failed feed.old ≡ false }
     requires drain_fine { ⟦<WriterDrain<W> as Drain>⟧.has_failed drain.old ≡ false }
     // What was given of the trace, what was written, how much of that the writer took, and what the tally counts of them.
@@ -30,20 +28,20 @@ pub fn run<F: Feed, W: Write>(
         × Appends (⟦<WriterDrain<W> as Drain>⟧.contents drain.old) (⟦<WriterDrain<W> as Drain>⟧.contents drain.new) written
         × HasReached result.outcome (⟦<WriterDrain<W> as Drain>⟧.has_failed drain.new) (⟦<WriterDrain<W> as Drain>⟧.contents drain.old)
         (W.contents drain.new.writer) (⟦<WriterDrain<W> as Drain>⟧.held_back drain.new) written sent
-        × Answers settings.now result.outcome given written
+        × Answers machine.now result.outcome given written
         × Tallies result.outcome result.tally (F.has_ended feed.new) given sent
         × (length given ≤ F.room_left feed.old)
-        × IfSome (F.remaining feed.old) (λ trace. IsOfTrace settings.now result.outcome trace given written) }
+        × IfSome (F.remaining feed.old) (λ trace. IsOfTrace machine.now result.outcome trace given written) }
     ensures ended { EndsAs result.outcome (F.has_ended feed.new) (F.has_failed feed.new)
         (⟦<WriterDrain<W> as Drain>⟧.has_failed drain.new) (⟦<WriterDrain<W> as Drain>⟧.has_failed_to_send drain.new) }
 {
     laws::shown_stays();
-    let mut kernel = match Kernel::boot(alloc, settings.config) {
+    let mut kernel = match Kernel::boot(alloc, machine.config) {
         Ok(kernel) => kernel,
         Err(BootError::Memory) => return Ended::at_once(Outcome::NoMemory),
         Err(BootError::BadConfig) => unreachable!(),
     };
-    let replayed = replay(&mut kernel, feed, drain, settings.only);
+    let replayed = replay(&mut kernel, feed, drain, machine.only);
     // The system takes all memory back at once when the process ends, sooner than piece by piece.
     mem::forget(kernel);
     let flushed = flush(drain);

@@ -12,12 +12,13 @@ use Rattle.world_core.specs.World.{World, opening_world, world_step, world_after
 use Rattle.world_core.specs.Output.{event_in, events_of, shown_reading, shown_lines, output_of, lines_for, with_line_feeds}
 use Rattle.world_core.specs.Laws as world
 use Rattle.world_core.specs.Laws.{HaveSameOwnList}
+use Rattle.world_core.proofs.Worlds.{world_both, opening_tenants}
 use Rattle.kernel_core.specs.Parts.{Parts}
 use Rattle.kernel_core.specs.Shows.{Shows}
 use Rattle.replay_core.specs.Standing.{AreLines}
 use Rattle.replay_core.proofs.LineLemmas.{lines_cut}
-use Rattle.partmem_c.specs.Lines.{Answers}
-use Rattle.partmem_c.specs.Laws.{Call, lines_of, texts_of, Ran, OwnLines, SameLines, StandsAfter}
+use Rattle.partmem_c.specs.Lines.{AnswersLine}
+use Rattle.partmem_c.specs.Laws.{Call, lines_of_calls, texts_of, Ran, OwnLines, SameLines, StandsAfterCalls}
 
 -- what a line with this reading does to a world, and what it shows of it
 record Follows (k k' : Parts) (reading : Result (Option Event) LineFault) (text : List ℕ) (w : World) : Type 0 where
@@ -25,7 +26,7 @@ record Follows (k k' : Parts) (reading : Result (Option Event) LineFault) (text 
   pub shows : Shows k' (world_after cache_limit k.order w (event_in reading))
   pub shown : text ≡ shown_reading None cache_limit k.order reading w
 
-follows : (k k' : Parts) (reading : Result (Option Event) LineFault) (text : List ℕ) (w : World) → Answers k reading k' text → Shows k w
+follows : (k k' : Parts) (reading : Result (Option Event) LineFault) (text : List ℕ) (w : World) → AnswersLine k reading k' text → Shows k w
     → Follows k k' reading text w
 follows k k' (Ok (Some event)) text w did shows = record {
   order = did.1.sizes.order;
@@ -43,15 +44,10 @@ follows k k' (Err fault) text w did shows = record {
   shown = did.1;
 }
 
-world_both : (limit order : ℕ) (xs ys : List Event) (w : World)
-    → world_after limit order w (xs ++ ys) ≡ world_after limit order (world_after limit order w xs) ys
-world_both limit order [] ys w = refl
-world_both limit order (event ∷ xs) ys w = world_both limit order xs ys (world_step limit order event w).world
-
 -- the same of a list of calls
 record AllFollow (k k' : Parts) (calls : List Call) (w : World) : Type 0 where
-  pub shows : Shows k' (world_after cache_limit k.order w (events_of (lines_of calls)))
-  pub shown : texts_of calls ≡ shown_lines None cache_limit k.order (lines_of calls) w
+  pub shows : Shows k' (world_after cache_limit k.order w (events_of (lines_of_calls calls)))
+  pub shown : texts_of calls ≡ shown_lines None cache_limit k.order (lines_of_calls calls) w
 
 all_follow : (k k' : Parts) (calls : List Call) (w : World) → Ran k calls k' → Shows k w → AllFollow k k' calls w
 all_follow k k' [] w ran shows = record { shows = subst (λ (m : Parts). Shows m w) (sym ran) shows; shown = refl }
@@ -60,36 +56,32 @@ all_follow k k' (call ∷ calls) w ran shows =
     let one = follows k ran.0 reading call.text w ran.2 shows in
     let next : World = world_after cache_limit k.order w (event_in reading) in
     let more = all_follow ran.0 k' calls next ran.3 one.shows in record {
-      shows = subst (λ (v : World). Shows k' v) (sym (world_both cache_limit k.order (event_in reading) (events_of (lines_of calls)) w))
-          (subst (λ (order : ℕ). Shows k' (world_after cache_limit order next (events_of (lines_of calls)))) one.order more.shows);
+      shows = subst (λ (v : World). Shows k' v) (sym (world_both cache_limit k.order (event_in reading) (events_of (lines_of_calls calls)) w))
+          (subst (λ (order : ℕ). Shows k' (world_after cache_limit order next (events_of (lines_of_calls calls)))) one.order more.shows);
       shown = ap (λ (text : List ℕ). text ++ texts_of calls) one.shown
           ∙ ap (λ (texts : List ℕ). shown_reading None cache_limit k.order reading w ++ texts)
-          (more.shown ∙ ap (λ (order : ℕ). shown_lines None cache_limit order (lines_of calls) next) one.order);
+          (more.shown ∙ ap (λ (order : ℕ). shown_lines None cache_limit order (lines_of_calls calls) next) one.order);
     }
 
-pub stands_after : StandsAfter
+pub stands_after : StandsAfterCalls
 stands_after k k' calls ran w shows = (all_follow k k' calls w ran shows).shows
 
-are_lines : (k k' : Parts) (calls : List Call) → Ran k calls k' → AreLines (lines_of calls)
+are_lines : (k k' : Parts) (calls : List Call) → Ran k calls k' → AreLines (lines_of_calls calls)
 are_lines k k' [] ran = tt
 are_lines k k' (call ∷ calls) ran = (ran.1, are_lines ran.0 k' calls ran.3)
 
 -- the lines are those of their trace
-cut_again : (k k' : Parts) (calls : List Call) → Ran k calls k' → lines_of_trace (with_line_feeds (lines_of calls)) ≡ lines_of calls
+cut_again : (k k' : Parts) (calls : List Call) → Ran k calls k' → lines_of_trace (with_line_feeds (lines_of_calls calls)) ≡ lines_of_calls calls
 cut_again k k' calls ran =
-    ap lines_of_trace (sym (append-nil (with_line_feeds (lines_of calls)))) ∙ lines_cut (lines_of calls) [] (are_lines k k' calls ran)
-    ∙ append-nil (lines_of calls)
-
-opening_tenants : (superblocks tenants : ℕ) → length (opening_world superblocks tenants).machines ≡ tenants
-unfolding opening_world
-opening_tenants superblocks tenants = length-replicate tenants empty_machine
+    ap lines_of_trace (sym (append-nil (with_line_feeds (lines_of_calls calls)))) ∙ lines_cut (lines_of_calls calls) [] (are_lines k k' calls ran)
+    ∙ append-nil (lines_of_calls calls)
 
 few_tenants : (k : Parts) (superblocks tenants : ℕ) → Shows k (opening_world superblocks tenants) → tenants ≤ 64
 few_tenants k superblocks tenants shows = omega (arith, shows.tenants, shows.agree.tenants, opening_tenants superblocks tenants)
 
 -- all that was written is the output of the trace
 output_is : (k k' : Parts) (superblocks tenants : ℕ) (calls : List Call) → Shows k (opening_world superblocks tenants) → Ran k calls k'
-    → texts_of calls ≡ output_of cache_limit k.order (with_line_feeds (lines_of calls)) (opening_world superblocks tenants)
+    → texts_of calls ≡ output_of cache_limit k.order (with_line_feeds (lines_of_calls calls)) (opening_world superblocks tenants)
 unfolding output_of
 output_is k k' superblocks tenants calls shows ran =
     let w : World = opening_world superblocks tenants in
@@ -99,12 +91,12 @@ output_is k k' superblocks tenants calls shows ran =
 pub own_lines_of : world.OwnLines → OwnLines
 own_lines_of own k k' superblocks tenants t calls shows here ran =
     ap (lines_for t) (output_is k k' superblocks tenants calls shows ran)
-    ∙ own cache_limit k.order superblocks tenants t (with_line_feeds (lines_of calls))
+    ∙ own cache_limit k.order superblocks tenants t (with_line_feeds (lines_of_calls calls))
     (omega (arith, few_tenants k superblocks tenants shows)) here
 
 pub same_lines_of : world.SameLines → SameLines
 same_lines_of same k k' m m' superblocks tenants superblocks' tenants' t calls calls' shows shows' orders own ran ran' =
-    let trace : List ℕ = with_line_feeds (lines_of calls) in let trace' : List ℕ = with_line_feeds (lines_of calls') in
+    let trace : List ℕ = with_line_feeds (lines_of_calls calls) in let trace' : List ℕ = with_line_feeds (lines_of_calls calls') in
     ap (lines_for t) (output_is k k' superblocks tenants calls shows ran)
     ∙ same cache_limit k.order superblocks tenants superblocks' tenants' t trace trace'
     (omega (arith, few_tenants k superblocks tenants shows)) (omega (arith, few_tenants m superblocks' tenants' shows'))

@@ -1,3 +1,4 @@
+mod RawBoxValues
 mod SlotSteps
 pub mod TextLemmas
 pub mod CallLemmas

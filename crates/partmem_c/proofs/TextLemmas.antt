@@ -3,7 +3,7 @@ use Rattle.std.proofs.Common.{◌≡◌, ℕ, ◌+◌, ◌==◌, Bool, true, fal
 use Rattle.std.proofs.lemmas.List.{append-nil}
 use Rattle.std.proofs.lemmas.Slice.{drop-append-drop}
 use Rattle.replay_core.specs.Standing.{IsOneLine}
-use Rattle.partmem_c.specs.Lines.{has_line_feed, IsWritten}
+use Rattle.partmem_c.specs.Lines.{has_line_feed, IsTextWritten}
 
 neither : (x y : Bool) → (x || y) ≡ false → (x ≡ false) × (y ≡ false)
 neither false y h = (refl, h)
@@ -19,9 +19,6 @@ pub record IsPart (text rest room room' : List ℕ) (written : ℕ) : Type 0 whe
   pub split : text ≡ front ++ rest
   pub counted : written ≡ length front
   pub over : room' ≡ front ++ drop (length front) room
-
-pub nothing_written : (text room : List ℕ) → IsPart text text room room 0
-nothing_written text room = record { front = []; split = refl; counted = refl; over = refl }
 
 take-front : (xs ys : List ℕ) → take (length xs) (xs ++ ys) ≡ xs
 take-front [] ys = refl
@@ -45,12 +42,4 @@ written_more text rest line after room now then written written' had cut put cou
         both,
       )
           (sym (append_assoc had.front line (drop (length had.front + length line) room)));
-    }
-
--- nothing is left
-pub written_all : (text rest room now : List ℕ) (written : ℕ) → IsPart text rest room now written → rest ≡ [] → IsWritten text room now written
-written_all text rest room now written had none =
-    let whole : text ≡ had.front = had.split ∙ ap (λ xs. had.front ++ xs) none ∙ append-nil had.front in record {
-      counted = had.counted ∙ ap length (sym whole);
-      over = rw whole had.over;
     }

@@ -13,7 +13,7 @@ use Rattle.words_core.specs.declared.reply.Body.{Body}
 use Rattle.words_core.specs.declared.reply.Body.TheVariants.{Refused}
 use Rattle.words_core.specs.declared.reply.Refusal.TheVariants.{NoFrames}
 use Rattle.words_core.specs.Words.{words_of}
-use Rattle.words_core.specs.Grammar.{event_of, judged, reading_of}
+use Rattle.words_core.specs.Grammar.{event_of, reading_of_words, reading_of}
 use Rattle.world_core.specs.Limits.{cache_limit}
 use Rattle.world_core.specs.PrivateStep.{command_step}
 use Rattle.world_core.specs.World.{World, opening_world, answer, tenant_step, world_step, world_after}
@@ -26,8 +26,8 @@ use Rattle.kernel_core.proofs.Worlds.{steps_answered}
 use Rattle.kernel_core.proofs.OneWorld.{one_world}
 use Rattle.kernel_core.proofs.Witnesses.{opening_shown}
 use Rattle.replay_core.specs.Standing.{IsOneLine}
-use Rattle.partmem_c.specs.Lines.{Answers}
-use Rattle.partmem_c.specs.Laws.{Call, lines_of, texts_of, Ran, StandsAfter, OwnLines, SameLines}
+use Rattle.partmem_c.specs.Lines.{AnswersLine}
+use Rattle.partmem_c.specs.Laws.{Call, lines_of_calls, texts_of, Ran, StandsAfterCalls, OwnLines, SameLines}
 
 -- an event that changes nothing in the world that is shown is a step to the same kernel
 stays : (k : Parts) (w : World) (event : Event) (to : Addressee) (body : Body) → Shows k w → world_step cache_limit k.order event w ≡ answer to body w
@@ -56,8 +56,8 @@ small = opening_parts 3 2 3
 small_shown : Shows small (opening_world 2 3)
 small_shown = opening_shown 2 3 (omega arith) (omega arith)
 
-small_answers : Answers small (reading_of by_0.line) small by_0.text
-unfolding reading_of words_of judged event_of opening_parts opening_world world_step tenant_step answer command_step alloc_step by_need reaped choice taken_blocks empty_machine digits
+small_answers : AnswersLine small (reading_of by_0.line) small by_0.text
+unfolding reading_of words_of reading_of_words event_of opening_parts opening_world world_step tenant_step answer command_step alloc_step by_need reaped choice taken_blocks empty_machine digits
 small_answers = (record { addressee = To.Tenant 0; body = Refused NoFrames }, stays small (opening_world 2 3) (Tenant 0 (Alloc 0)) (To.Tenant 0) (Refused NoFrames) small_shown refl, refl)
 
 small_ran : Ran small (by_0 ∷ []) small
@@ -71,24 +71,24 @@ great = opening_parts 3 3 4
 great_shown : Shows great (opening_world 3 4)
 great_shown = opening_shown 3 4 (omega arith) (omega arith)
 
-great_answers_0 : Answers great (reading_of by_0.line) great by_0.text
-unfolding reading_of words_of judged event_of opening_parts opening_world world_step tenant_step answer command_step alloc_step by_need reaped choice taken_blocks empty_machine digits
+great_answers_0 : AnswersLine great (reading_of by_0.line) great by_0.text
+unfolding reading_of words_of reading_of_words event_of opening_parts opening_world world_step tenant_step answer command_step alloc_step by_need reaped choice taken_blocks empty_machine digits
 great_answers_0 = (record { addressee = To.Tenant 0; body = Refused NoFrames }, stays great (opening_world 3 4) (Tenant 0 (Alloc 0)) (To.Tenant 0) (Refused NoFrames) great_shown refl, refl)
 
-great_answers_1 : Answers great (reading_of by_1.line) great by_1.text
-unfolding reading_of words_of judged event_of opening_parts opening_world world_step tenant_step answer command_step alloc_step by_need reaped choice taken_blocks empty_machine digits
+great_answers_1 : AnswersLine great (reading_of by_1.line) great by_1.text
+unfolding reading_of words_of reading_of_words event_of opening_parts opening_world world_step tenant_step answer command_step alloc_step by_need reaped choice taken_blocks empty_machine digits
 great_answers_1 = (record { addressee = To.Tenant 1; body = Refused NoFrames }, stays great (opening_world 3 4) (Tenant 1 (Alloc 0)) (To.Tenant 1) (Refused NoFrames) great_shown refl, refl)
 
 great_ran : Ran great (by_1 ∷ by_0 ∷ []) great
 great_ran = (great, one_line_1, great_answers_1, (great, one_line_0, great_answers_0, refl))
 
 -- tenant 0's own lists are equal
-equal_lists : HaveSameOwnList cache_limit small.order 2 3 3 4 0 (events_of (lines_of (by_0 ∷ []))) (events_of (lines_of (by_1 ∷ by_0 ∷ [])))
-unfolding reading_of words_of judged event_of opening_parts opening_history opening_world world_step tenant_step answer command_step
+equal_lists : HaveSameOwnList cache_limit small.order 2 3 3 4 0 (events_of (lines_of_calls (by_0 ∷ []))) (events_of (lines_of_calls (by_1 ∷ by_0 ∷ [])))
+unfolding reading_of words_of reading_of_words event_of opening_parts opening_history opening_world world_step tenant_step answer command_step
 equal_lists = record { tenant = omega arith; tenant' = omega arith; own = refl }
 
-StandsAfter-met : StandsAfter → Shows small (world_after cache_limit small.order (opening_world 2 3) (events_of (codes "0 alloc 0" ∷ [])))
-StandsAfter-met law = law small small (by_0 ∷ []) small_ran (opening_world 2 3) small_shown
+StandsAfterCalls-met : StandsAfterCalls → Shows small (world_after cache_limit small.order (opening_world 2 3) (events_of (codes "0 alloc 0" ∷ [])))
+StandsAfterCalls-met law = law small small (by_0 ∷ []) small_ran (opening_world 2 3) small_shown
 
 OwnLines-met : OwnLines → codes "0> refused 1 NoFrames" ∷ [] ≡ private_lines cache_limit small.order 2 3 0 (codes "0 alloc 0\n")
 unfolding digits

@@ -1,4 +1,4 @@
--- An event as numbers, and its answer as numbers.
+-- An event as told_of_numbers, and its answer as told_of_numbers.
 use Rattle.std.specs.Prelude.{◌≡◌, ℕ, ◌+◌, ◌==◌, nat_lt, nat_le, not, ◌&&◌, List, [], ◌++◌, length, drop, if◌then◌else◌, Option, Some, None, is_some, is_none, option_map}
 use Rattle.arrayvec.specs.ArrayVec.{ArrayVec}
 use Rattle.words_core.specs.declared.event.Event.{Event}
@@ -35,8 +35,8 @@ admin_command_of a =
     else None))))
 
 -- the commands of a tenant
-abbrev pub command_of : Asked → List ℕ → Option Command
-command_of a bytes =
+abbrev pub asked_command : Asked → List ℕ → Option Command
+asked_command a bytes =
     if a.kind == kind.ALLOC then Some (Ask.Alloc a.first)
     else (if a.kind == kind.FREE then Some (Ask.Free a.first)
     else (if a.kind == kind.READ then Some (Ask.Read a.first a.second)
@@ -49,66 +49,66 @@ command_of a bytes =
     else (if a.kind == kind.REPORT then Some Ask.Report
     else None)))))))))
 
--- the event that the numbers and bytes say, if they say one
-abbrev pub event_of : Asked → List ℕ → Option Event
-event_of a bytes =
-    if nat_le a.kind kind.POOL then option_map On.Admin (admin_command_of a) else option_map (On.Tenant a.tenant) (command_of a bytes)
+-- the event that the told_of_numbers and bytes say, if they say one
+abbrev pub asked_event : Asked → List ℕ → Option Event
+asked_event a bytes =
+    if nat_le a.kind kind.POOL then option_map On.Admin (admin_command_of a) else option_map (On.Tenant a.tenant) (asked_command a bytes)
 
-abbrev pub numbers : ℕ → ℕ → ℕ → ℕ → ℕ → ℕ → Told
-numbers of a b c d e = record { kind = of; first = a; second = b; third = c; fourth = d; fifth = e }
+abbrev pub told_of_numbers : ℕ → ℕ → ℕ → ℕ → ℕ → ℕ → Told
+told_of_numbers of a b c d e = record { kind = of; first = a; second = b; third = c; fourth = d; fifth = e }
 
 -- the order of the greatest free block and one more, 0 where there is none
 abbrev pub top_number : Option ℕ → ℕ
 top_number None = 0
 top_number (Some order) = order + 1
 
--- a reply as numbers: of a report the figures, of the table of owners how many superblocks there are
+-- a reply as told_of_numbers: of a report the figures, of the table of owners how many superblocks there are
 abbrev pub told_of : Body → Told
-told_of (Granted tenant slot superblock) = numbers kind.GRANTED tenant slot superblock 0 0
-told_of (TakenBack superblock) = numbers kind.TAKEN_BACK superblock 0 0 0 0
-told_of (WasReset tenant superblocks) = numbers kind.WAS_RESET tenant superblocks 0 0 0
-told_of (Moved tenant slot superblock) = numbers kind.MOVED tenant slot superblock 0 0
-told_of (Owners owners) = numbers kind.OWNERS (length owners.items) 0 0 0 0
-told_of (Frame frame) = numbers kind.FRAME frame 0 0 0 0
-told_of (Freed order) = numbers kind.FREED order 0 0 0 0
-told_of (Bytes bytes) = numbers kind.BYTES (length bytes.items) 0 0 0 0
-told_of (Written count) = numbers kind.WRITTEN count 0 0 0 0
-told_of (Cache cache chunk order objects colours) = numbers kind.MADE cache chunk order objects colours
-told_of (Destroyed frames) = numbers kind.DESTROYED frames 0 0 0 0
-told_of (Object place) = numbers kind.OBJECT place 0 0 0 0
-told_of Given = numbers kind.GIVEN 0 0 0 0 0
-told_of (Reaped frames) = numbers kind.REAPED frames 0 0 0 0
-told_of (Report report) = numbers kind.FIGURES report.frames report.live report.free (top_number report.top) report.split
-told_of (Refused refusal) = numbers kind.REFUSED (number_of_refusal refusal) 0 0 0 0
-told_of (Fault fault) = numbers kind.NOTHING 0 0 0 0 0
+told_of (Granted tenant slot superblock) = told_of_numbers kind.GRANTED tenant slot superblock 0 0
+told_of (TakenBack superblock) = told_of_numbers kind.TAKEN_BACK superblock 0 0 0 0
+told_of (WasReset tenant superblocks) = told_of_numbers kind.WAS_RESET tenant superblocks 0 0 0
+told_of (Moved tenant slot superblock) = told_of_numbers kind.MOVED tenant slot superblock 0 0
+told_of (Owners owners) = told_of_numbers kind.OWNERS (length owners.items) 0 0 0 0
+told_of (Frame frame) = told_of_numbers kind.FRAME frame 0 0 0 0
+told_of (Freed order) = told_of_numbers kind.FREED order 0 0 0 0
+told_of (Bytes bytes) = told_of_numbers kind.BYTES (length bytes.items) 0 0 0 0
+told_of (Written count) = told_of_numbers kind.WRITTEN count 0 0 0 0
+told_of (Cache cache chunk order objects colours) = told_of_numbers kind.MADE cache chunk order objects colours
+told_of (Destroyed frames) = told_of_numbers kind.DESTROYED frames 0 0 0 0
+told_of (Object place) = told_of_numbers kind.OBJECT place 0 0 0 0
+told_of Given = told_of_numbers kind.GIVEN 0 0 0 0 0
+told_of (Reaped frames) = told_of_numbers kind.REAPED frames 0 0 0 0
+told_of (Report report) = told_of_numbers kind.FIGURES report.frames report.live report.free (top_number report.top) report.split
+told_of (Refused refusal) = told_of_numbers kind.REFUSED (number_of_refusal refusal) 0 0 0 0
+told_of (Fault fault) = told_of_numbers kind.NOTHING 0 0 0 0 0
 
 -- the bytes that a reply tells
-abbrev pub bytes_of : Body → List ℕ
-bytes_of (Granted tenant slot superblock) = []
-bytes_of (TakenBack superblock) = []
-bytes_of (WasReset tenant superblocks) = []
-bytes_of (Moved tenant slot superblock) = []
-bytes_of (Owners owners) = []
-bytes_of (Frame frame) = []
-bytes_of (Freed order) = []
-bytes_of (Bytes bytes) = bytes.items
-bytes_of (Written count) = []
-bytes_of (Cache cache chunk order objects colours) = []
-bytes_of (Destroyed frames) = []
-bytes_of (Object place) = []
-bytes_of Given = []
-bytes_of (Reaped frames) = []
-bytes_of (Report report) = []
-bytes_of (Refused refusal) = []
-bytes_of (Fault fault) = []
+abbrev pub answered_bytes : Body → List ℕ
+answered_bytes (Granted tenant slot superblock) = []
+answered_bytes (TakenBack superblock) = []
+answered_bytes (WasReset tenant superblocks) = []
+answered_bytes (Moved tenant slot superblock) = []
+answered_bytes (Owners owners) = []
+answered_bytes (Frame frame) = []
+answered_bytes (Freed order) = []
+answered_bytes (Bytes bytes) = bytes.items
+answered_bytes (Written count) = []
+answered_bytes (Cache cache chunk order objects colours) = []
+answered_bytes (Destroyed frames) = []
+answered_bytes (Object place) = []
+answered_bytes Given = []
+answered_bytes (Reaped frames) = []
+answered_bytes (Report report) = []
+answered_bytes (Refused refusal) = []
+answered_bytes (Fault fault) = []
 
 -- What such a call answers: the first of the errors that there is.
 abbrev pub event_status : Option Parts → Asked → List ℕ → List ℕ → ℕ
 event_status held a bytes room =
     if not (is_some held) then NO_MACHINE
-    else (if is_none (event_of a bytes) then NOT_AN_EVENT else (if nat_lt (length room) MOST_BYTES then NO_ROOM else DONE))
+    else (if is_none (asked_event a bytes) then NOT_AN_EVENT else (if nat_lt (length room) MOST_BYTES then NO_ROOM else DONE))
 
--- the event was a step of the kernel that was held, and was answered by these numbers and bytes
+-- the event was a step of the kernel that was held, and was answered by these told_of_numbers and bytes
 pub record RunsEvent (old new : Option Parts) (a : Asked) (bytes : List ℕ) (told : Told) (room room' : List ℕ) : Type 0 where
   pub before : Parts
   pub after : Parts
@@ -116,7 +116,7 @@ pub record RunsEvent (old new : Option Parts) (a : Asked) (bytes : List ℕ) (to
   pub reply : Reply
   pub was : old ≡ Some before
   pub is : new ≡ Some after
-  pub says : event_of a bytes ≡ Some event
+  pub says : asked_event a bytes ≡ Some event
   pub steps : Steps before event after reply
   pub numbers_told : told ≡ told_of reply.body
-  pub over : room' ≡ bytes_of reply.body ++ drop (length (bytes_of reply.body)) room
+  pub over : room' ≡ answered_bytes reply.body ++ drop (length (answered_bytes reply.body)) room

@@ -9,15 +9,15 @@ use Rattle.world_core.specs.Laws.{HaveSameOwnList, private_lines}
 use Rattle.kernel_core.specs.Parts.{Parts}
 use Rattle.kernel_core.specs.Shows.{Shows}
 use Rattle.replay_core.specs.Standing.{IsOneLine}
-use Rattle.partmem_c.specs.Lines.{Answers}
+use Rattle.partmem_c.specs.Lines.{AnswersLine}
 
 -- a call that was done: its line, and what it wrote
 pub record Call : Type 0 where
   pub line : List ℕ
   pub text : List ℕ
 
-abbrev pub lines_of : List Call → List (List ℕ)
-lines_of calls = map (λ call. call.line) calls
+abbrev pub lines_of_calls : List Call → List (List ℕ)
+lines_of_calls calls = map (λ call. call.line) calls
 
 abbrev pub texts_of : List Call → List ℕ
 texts_of calls = concat (map (λ call. call.text) calls)
@@ -26,23 +26,23 @@ texts_of calls = concat (map (λ call. call.text) calls)
 abbrev pub Ran : Parts → List Call → Parts → Type 0
 Ran k [] k' = k' ≡ k
 Ran k (call ∷ calls) k' =
-    (next : Parts) × IsOneLine call.line × Answers k (reading_of call.line) next call.text × Ran next calls k'
+    (next : Parts) × IsOneLine call.line × AnswersLine k (reading_of call.line) next call.text × Ran next calls k'
 
 -- In every world that the first kernel shows, the last one shows what the lines make of it.
-abbrev pub StandsAfter : Type 0
-StandsAfter = (k k' : Parts) (calls : List Call) → Ran k calls k' → (w : World) → Shows k w →
-    Shows k' (world_after cache_limit k.order w (events_of (lines_of calls)))
+abbrev pub StandsAfterCalls : Type 0
+StandsAfterCalls = (k k' : Parts) (calls : List Call) → Ran k calls k' → (w : World) → Shows k w →
+    Shows k' (world_after cache_limit k.order w (events_of (lines_of_calls calls)))
 
 -- From boot on, whatever the others do: of all that was written, the lines for a tenant are those of its private machine on
 -- its own list of the trace that the lines are.
 abbrev pub OwnLines : Type 0
 OwnLines = (k k' : Parts) (superblocks tenants t : ℕ) (calls : List Call) → Shows k (opening_world superblocks tenants) → t < tenants →
-    Ran k calls k' → lines_for t (texts_of calls) ≡ private_lines cache_limit k.order superblocks tenants t (with_line_feeds (lines_of calls))
+    Ran k calls k' → lines_for t (texts_of calls) ≡ private_lines cache_limit k.order superblocks tenants t (with_line_feeds (lines_of_calls calls))
 
 -- So two machines of one order, with any numbers of superblocks and tenants, write the same lines for a tenant whose own lists
 -- are equal.
 abbrev pub SameLines : Type 0
 SameLines = (k k' m m' : Parts) (superblocks tenants superblocks' tenants' t : ℕ) (calls calls' : List Call) →
     Shows k (opening_world superblocks tenants) → Shows m (opening_world superblocks' tenants') → m.order ≡ k.order →
-    HaveSameOwnList cache_limit k.order superblocks tenants superblocks' tenants' t (events_of (lines_of calls)) (events_of (lines_of calls')) →
+    HaveSameOwnList cache_limit k.order superblocks tenants superblocks' tenants' t (events_of (lines_of_calls calls)) (events_of (lines_of_calls calls')) →
     Ran k calls k' → Ran m calls' m' → lines_for t (texts_of calls) ≡ lines_for t (texts_of calls')

@@ -26,13 +26,13 @@ line_status held line room =
 
 -- A line with this reading was run, and answered by this text: an event is a step of the kernel's, a faulty line is told to
 -- nobody, and a blank line or a comment is answered nothing.
-abbrev pub Answers : Parts → Result (Option Event) LineFault → Parts → List ℕ → Type 0
-Answers old (Ok (Some event)) new text = (reply : Reply) × Steps old event new reply × (text ≡ text_of reply)
-Answers old (Ok None) new text = (new ≡ old) × (text ≡ [])
-Answers old (Err fault) new text = (new ≡ old) × (text ≡ text_of (record { addressee = Nobody; body = Fault fault }))
+abbrev pub AnswersLine : Parts → Result (Option Event) LineFault → Parts → List ℕ → Type 0
+AnswersLine old (Ok (Some event)) new text = (reply : Reply) × Steps old event new reply × (text ≡ text_of reply)
+AnswersLine old (Ok None) new text = (new ≡ old) × (text ≡ [])
+AnswersLine old (Err fault) new text = (new ≡ old) × (text ≡ text_of (record { addressee = Nobody; body = Fault fault }))
 
 -- the text stands over the first bytes of the room, and is counted
-pub record IsWritten (text room room' : List ℕ) (written : ℕ) : Type 0 where
+pub record IsTextWritten (text room room' : List ℕ) (written : ℕ) : Type 0 where
   pub counted : written ≡ length text
   pub over : room' ≡ text ++ drop (length text) room
 
@@ -44,5 +44,5 @@ pub record RunsLine (old new : Option Parts) (line room room' : List ℕ) (writt
   pub was : old ≡ Some before
   pub is : new ≡ Some after
   pub one : IsOneLine line
-  pub answers : Answers before (reading_of line) after text
-  pub puts : IsWritten text room room' written
+  pub answers : AnswersLine before (reading_of line) after text
+  pub puts : IsTextWritten text room room' written

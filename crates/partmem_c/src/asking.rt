@@ -3,7 +3,7 @@
 ghost use Rattle.std.specs.Prelude.{◌≡◌, ◌<◌, ◌^◌, IfSome};
 ghost use Rattle.words_core.specs.declared.event.Event.TheVariants as Event;
 ghost use Rattle.kernel_core.specs.Steps.{HasPattern};
-ghost use Rattle.partmem_c.specs.Events.{some_bytes, admin_command_of, command_of, event_of};
+ghost use Rattle.partmem_c.specs.Events.{some_bytes, admin_command_of, asked_command, asked_event};
 
 use crate::kinds::{
     ALLOC, CACHE, DESTROY, FREE, GIVE, GRANT, MOVE, POOL, READ, REAP, REPORT, RESET, TAKE,
@@ -26,7 +26,7 @@ pub struct Asked {
 
 /// The event that the numbers and bytes say; None, where they say none.
 pub fn event_of(asked: &Asked, bytes: &[u8]) -> Option<Event>
-    ensures says { result ≡ event_of asked.now bytes.now }
+    ensures says { result ≡ asked_event asked.now bytes.now }
     ensures pattern { IfSome result (λ event. HasPattern event) }
 {
     if asked.kind <= POOL {
@@ -54,7 +54,7 @@ fn admin_command_of(asked: &Asked) -> Option<AdminCommand>
 }
 
 fn command_of(asked: &Asked, bytes: &[u8]) -> Option<Command>
-    ensures says { result ≡ command_of asked.now bytes.now }
+    ensures says { result ≡ asked_command asked.now bytes.now }
     ensures pattern { IfSome result (λ command. HasPattern (Event.Tenant asked.now.tenant command)) }
 {
     let first = asked.first;

@@ -13,6 +13,7 @@ pub mod laws;
 pub mod lines;
 pub mod machine;
 pub mod owners;
+mod raw_box;
 mod slot;
 pub mod status;
 pub mod telling;

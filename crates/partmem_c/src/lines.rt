@@ -6,7 +6,7 @@ ghost use Rattle.words_core.specs.Texts.{text_of};
 ghost use Rattle.replay_core.specs.Pushes.{most_reply_bytes};
 ghost use Rattle.replay_core.specs.Standing.{IsRunnable};
 ghost use Rattle.kernel_core.specs.Parts.{Parts};
-ghost use Rattle.partmem_c.specs.Lines.{has_line_feed, line_status, Answers, IsWritten, RunsLine};
+ghost use Rattle.partmem_c.specs.Lines.{has_line_feed, line_status, AnswersLine, IsTextWritten, RunsLine};
 
 use crate::machine::Machine;
 use crate::status::{DONE, NO_MACHINE, NO_ROOM, NOT_A_LINE};
@@ -57,7 +57,7 @@ pub extern "C" fn partmem_line(
 /// Runs a line on the kernel, writes what it is answered over the first bytes of `room`, and answers how many.
 fn run_line(kernel: &mut Kernel, line: &[u8], room: &mut [u8]) -> usize
     requires { most_reply_bytes ≤ length room.old }
-    ensures { (text : List ℕ) × Answers kernel.old (reading_of line.now) kernel.new text × IsWritten text room.old room.new result }
+    ensures { (text : List ℕ) × AnswersLine kernel.old (reading_of line.now) kernel.new text × IsTextWritten text room.old room.new result }
 {
     answer(read_line(line), kernel, room)
 }
@@ -66,7 +66,7 @@ fn run_line(kernel: &mut Kernel, line: &[u8], room: &mut [u8]) -> usize
 fn answer(reading: Result<Option<Event>, LineFault>, kernel: &mut Kernel, room: &mut [u8]) -> usize
     requires runnable { IsRunnable reading }
     requires room { most_reply_bytes ≤ length room.old }
-    ensures { (text : List ℕ) × Answers kernel.old reading kernel.new text × IsWritten text room.old room.new result }
+    ensures { (text : List ℕ) × AnswersLine kernel.old reading kernel.new text × IsTextWritten text room.old room.new result }
 {
     let event = match reading {
         Ok(None) => return 0,
@@ -86,7 +86,7 @@ fn answer(reading: Result<Option<Event>, LineFault>, kernel: &mut Kernel, room: 
 /// Writes the text of a reply over the first bytes of `room`, and answers how many they are.
 fn write_reply(reply: &Reply, room: &mut [u8]) -> usize
     requires { most_reply_bytes ≤ length room.old }
-    ensures { IsWritten (text_of reply.now) room.old room.new result }
+    ensures { IsTextWritten (text_of reply.now) room.old room.new result }
 {
     let mut line = ArrayVec::new();
     let mut written = 0;

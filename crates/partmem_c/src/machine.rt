@@ -2,9 +2,9 @@
 
 ghost use Rattle.std.specs.Prelude.{◌≡◌, is_some, IsSome, Some, None};
 
+use crate::raw_box::RawBox;
 use crate::slot::Slot;
 use kernel_core::Kernel;
-use raw_box::RawBox;
 use std::alloc::Global;
 use std::mem::replace;
 

@@ -6,8 +6,8 @@ ghost use Rattle.kernel_core.specs.Parts.{Parts};
 ghost use Rattle.kernel_core.specs.contracts.kernel.Kernel.{the_row};
 ghost use Rattle.partmem_c.specs.Slots.{slot_owns};
 
+use crate::raw_box::RawBox;
 use kernel_core::Kernel;
-use raw_box::RawBox;
 use std::alloc::Global;
 use std::marker::Model;
 use std::ptr::null_mut;

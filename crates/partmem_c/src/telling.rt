@@ -1,7 +1,7 @@
 //! A reply as numbers and bytes.
 
 ghost use Rattle.std.specs.Prelude.{◌≡◌, ◌≤◌, length};
-ghost use Rattle.partmem_c.specs.Events.{told_of, bytes_of, numbers, top_number};
+ghost use Rattle.partmem_c.specs.Events.{told_of, answered_bytes, told_of_numbers, top_number};
 
 use crate::kinds::{
     BYTES, DESTROYED, FIGURES, FRAME, FREED, GIVEN, GRANTED, MADE, MOVED, NOTHING, OBJECT, OWNERS,
@@ -89,13 +89,13 @@ pub fn told_of(body: &Body) -> Told
 }
 
 fn one(kind: u32, first: u32) -> Told
-    ensures { result ≡ numbers kind first 0 0 0 0 }
+    ensures { result ≡ told_of_numbers kind first 0 0 0 0 }
 {
     three(kind, first, 0, 0)
 }
 
 fn three(kind: u32, first: u32, second: u32, third: u32) -> Told
-    ensures { result ≡ numbers kind first second third 0 0 }
+    ensures { result ≡ told_of_numbers kind first second third 0 0 }
 {
     Told {
         kind,
@@ -118,7 +118,7 @@ fn top_number(top: Option<u8>) -> u32
 
 /// The bytes that a reply tells.
 pub fn bytes_of(body: &Body) -> &[u8]
-    ensures value { result.now ≡ bytes_of body.now }
+    ensures value { result.now ≡ answered_bytes body.now }
     ensures few { length result.now ≤ MOST_BYTES }
 {
     match body {

@@ -6,7 +6,7 @@ use Rattle.words_core.specs.declared.event.Event.{Event}
 use Rattle.words_core.specs.declared.reply.Reply.{Reply}
 use Rattle.promise_core.specs.declared.promise.Promise.{Promise}
 use Rattle.promise_core.specs.State.{State, Known, opening_state, state_after}
-use Rattle.promise_core.specs.Promises.{form, refusals, room, busy, blocks, objects, layout, gives, owners, bytes, report, still, is_for, is_no_tenant, named, known_after, verdict, kept, judged, allowed}
+use Rattle.promise_core.specs.Promises.{form, refusals, room, busy, blocks, objects, new_layout, gives, owners, bytes, report, still, is_for, is_no_tenant, named, known_after, verdict, kept, judged, allowed}
 
 -- the state of the tenant that an event names, if there is such a tenant
 abbrev pub state_for : Event → Known → Option State
@@ -24,7 +24,7 @@ pub record IsAllowed (event : Event) (reply : Reply) (w v : Known) : Type 0 wher
   pub busy : busy event reply.body w state ≡ true
   pub blocks : blocks event reply.body w state ≡ true
   pub objects : objects event reply.body w state ≡ true
-  pub layout : layout event reply.body w state ≡ true
+  pub layout : new_layout event reply.body w state ≡ true
   pub gives : gives event reply.body w state ≡ true
   pub owners : owners event reply.body w state ≡ true
   pub bytes : bytes event reply.body w state ≡ true

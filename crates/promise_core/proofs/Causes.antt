@@ -7,10 +7,9 @@ use Rattle.std.proofs.Math.Nat.{div-div-eq-div-mul, div-eq_of_lt-le, mul-div_can
 use Rattle.std.proofs.lemmas.Nat.{pow_pos, pow-add, div-add-mod'}
 use Rattle.std.proofs.lemmas.Bool.{false≢true, and_parts, and_from, le-leb, le-ltb, lt-ltb, eqb-true, eq-eqb, cases_eq, false_from_ne_true, not-false}
 use Rattle.model_core.specs.Blocks.{Block, block}
-use Rattle.model_core.proofs.Lists.{IsIn, filter_in, in_filter, some_any, any_in}
-use Rattle.model_core.proofs.Bridge.{aligned_first}
+use Rattle.model_core.proofs.Lists.{IsIn, filter_in, in_filter, some_any, any_in, in_left, in_right, in_map, map_in}
+use Rattle.model_core.proofs.BlocksByNumber.{aligned_first}
 use Rattle.model_core.proofs.Objects.{in_append}
-use Rattle.model_core.proofs.CacheSteps.{in_left, in_right, in_map}
 use Rattle.words_core.specs.declared.event.Event.TheVariants as On
 use Rattle.words_core.specs.declared.event.Command.TheVariants as Asked
 use Rattle.words_core.specs.declared.reply.Addressee.TheVariants as To
@@ -18,11 +17,10 @@ use Rattle.words_core.specs.declared.reply.Body.{Body}
 use Rattle.words_core.specs.declared.reply.Body.TheVariants as Say
 use Rattle.words_core.specs.declared.reply.Refusal.{Refusal}
 use Rattle.promise_core.specs.declared.promise.Promise.{Promise}
-use Rattle.promise_core.specs.Holdings.{Holdings, holds, is_vacant, can_stand, blocks_of_slot, vacant_blocks, has_room}
+use Rattle.promise_core.specs.Holdings.{Holdings, has_slot, is_vacant, can_stand, blocks_of_slot, vacant_blocks, has_room}
 use Rattle.promise_core.specs.State.{State, Known, state_after}
 use Rattle.promise_core.specs.Promises.{first_due, is_one, due, verdict, kept, judged, allowed}
 use Rattle.promise_core.specs.Laws.{may_tell, RefusedForCause}
-use Rattle.promise_core.proofs.Confined as told
 
 -- Lists
 
@@ -70,9 +68,9 @@ module _ (order k : ℕ) (of_slot : k ≤ order) (h : Holdings) where
   stands_vacant : (f : ℕ) → can_stand order h (block f k) ≡ true → has_room order h k ≡ true
   unfolding can_stand vacant_blocks
   stands_vacant f e =
-      let parts = and_parts (leb k order && eqb (f % 2 ^ k) 0) (holds h (f / 2 ^ order) && is_vacant h (block f k)) e in
+      let parts = and_parts (leb k order && eqb (f % 2 ^ k) 0) (has_slot h (f / 2 ^ order) && is_vacant h (block f k)) e in
       let aligned : f % 2 ^ k ≡ 0 = eqb-true (f % 2 ^ k) 0 (and_parts (leb k order) (eqb (f % 2 ^ k) 0) parts.0).1 in
-      let there = and_parts (holds h (f / 2 ^ order)) (is_vacant h (block f k)) parts.1 in
+      let there = and_parts (has_slot h (f / 2 ^ order)) (is_vacant h (block f k)) parts.1 in
       let q : ℕ = f / 2 ^ k in
       let is : q * 2 ^ k ≡ f = omega (arith, aligned, div-add-mod' f (2 ^ k)) in
       let u : (v : ℕ) × IsIn v h.slots × (eqb v (f / 2 ^ order) ≡ true) = some_any (λ v. eqb v (f / 2 ^ order)) h.slots there.0 in
@@ -91,13 +89,13 @@ module _ (order k : ℕ) (of_slot : k ≤ order) (h : Holdings) where
       let b : (b : Block) × IsIn b (vacant_blocks order h k) = some_listed (vacant_blocks order h k) e in
       let v = filter_in (is_vacant h) b.0 (flat_map (blocks_of_slot order k) h.slots) b.1 in
       let u = flat_in (blocks_of_slot order k) b.0 h.slots v.0 in
-      let q = told.in_map (λ i. block (i * 2 ^ k) k) b.0 (range_with_len (u.0 * share) share) u.2 in
+      let q = map_in (λ i. block (i * 2 ^ k) k) b.0 (range_with_len (u.0 * share) share) u.2 in
       let r = range_in q.0 (u.0 * share) share q.1 in
       let slot : q.0 / share ≡ u.0 = div-eq_of_lt-le share r.0 (omega (arith, r.1)) in (
         q.0 * 2 ^ k,
-        and_from (leb k order && eqb (q.0 * 2 ^ k % 2 ^ k) 0) (holds h (q.0 * 2 ^ k / 2 ^ order) && is_vacant h (block (q.0 * 2 ^ k) k))
+        and_from (leb k order && eqb (q.0 * 2 ^ k % 2 ^ k) 0) (has_slot h (q.0 * 2 ^ k / 2 ^ order) && is_vacant h (block (q.0 * 2 ^ k) k))
             (and_from (leb k order) (eqb (q.0 * 2 ^ k % 2 ^ k) 0) (le-leb k order of_slot) (eq-eqb (q.0 * 2 ^ k % 2 ^ k) 0 (aligned_first q.0 k)))
-            (and_from (holds h (q.0 * 2 ^ k / 2 ^ order)) (is_vacant h (block (q.0 * 2 ^ k) k))
+            (and_from (has_slot h (q.0 * 2 ^ k / 2 ^ order)) (is_vacant h (block (q.0 * 2 ^ k) k))
             (any_in (λ x. eqb x (q.0 * 2 ^ k / 2 ^ order)) u.0 h.slots u.1 (eq-eqb u.0 (q.0 * 2 ^ k / 2 ^ order) (sym (slot_of_number q.0 ∙ slot))))
             (ap (is_vacant h) q.2 ∙ v.1)),
       )

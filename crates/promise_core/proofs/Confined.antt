@@ -1,5 +1,5 @@
 -- What a tenant is told is its own, by induction over the exchanges.
-use Rattle.std.proofs.Common.{◌≡◌, ℕ, zero, suc, ◌+◌, ◌-◌, ◌<◌, ◌≤◌, Bool, true, false, not, ◌&&◌, ◌||◌, List, [], ◌∷◌, map, length, replicate, Option, Some, None, Result, Ok, Err, slice_get, slice_set, refl, ap, sym, subst, ◌∙◌, ◌⊎◌, inl, inr, arith}
+use Rattle.std.proofs.Common.{◌≡◌, ℕ, zero, suc, ◌+◌, ◌-◌, ◌<◌, ◌≤◌, Bool, true, false, not, ◌&&◌, ◌||◌, List, [], ◌∷◌, length, replicate, Option, Some, None, Result, Ok, Err, slice_get, slice_set, refl, ap, sym, subst, ◌∙◌, ◌⊎◌, inl, inr, arith}
 use Rattle.std.specs.Prelude.{nat_le, nat_lt, slice_index, if◌then◌else◌, ◌==◌}
 use Rattle.std.specs.List.{list_any}
 use Rattle.std.specs.Option.{option_map_or}
@@ -7,7 +7,7 @@ use Rattle.std.proofs.lemmas.Bool.{cases_eq, eq-eqb, ne_eqb, false≢true, or_le
 use Rattle.arrayvec.specs.ArrayVec.{ArrayVec}
 use Rattle.model_core.specs.Blocks.{block}
 use Rattle.model_core.specs.Machine.{in_block, put_rising, slot_of}
-use Rattle.model_core.proofs.Lists.{IsIn, filter_in}
+use Rattle.model_core.proofs.Lists.{IsIn, filter_in, map_in}
 use Rattle.words_core.specs.declared.event.Event.{Event}
 use Rattle.words_core.specs.declared.event.Event.TheVariants as On
 use Rattle.words_core.specs.declared.event.AdminCommand.TheVariants as Do
@@ -19,11 +19,11 @@ use Rattle.words_core.specs.declared.reply.Reply.{Reply}
 use Rattle.world_core.specs.World.{Exchange}
 use Rattle.world_core.proofs.MachineLists.{slice_get-set_other}
 use Rattle.promise_core.specs.declared.promise.Promise.{Promise}
-use Rattle.promise_core.specs.Holdings.{ToldCache, cache_of, with_live, slab_at, are_apart}
-use Rattle.promise_core.specs.Bytes.{Holder, is_object, is_same, Cell, Cells, fresh_byte, may_be, with_bytes, doubted, without, may_all_be, holder_of}
+use Rattle.promise_core.specs.Holdings.{ToldCache, cache_told, with_live_places, slab_around, are_apart}
+use Rattle.promise_core.specs.Bytes.{Holder, is_object, is_same, Cell, Cells, told_fresh_byte, may_be, with_bytes, doubted, without, may_all_be, holder_of}
 use Rattle.promise_core.specs.State.{State, Known, opening_state, opening, with_object, is_in_no_slab, state_after}
 use Rattle.promise_core.specs.Promises.{is_no_tenant, named, bytes, allowed, all_allowed}
-use Rattle.promise_core.specs.Laws.{gives_pattern, writes, grants_slot, was_given, was_written, is_own, Confined}
+use Rattle.promise_core.specs.Laws.{gives_pattern, writes_byte, grants_slot, was_given, was_written, is_own, Confined}
 use Rattle.promise_core.proofs.Allowed.{ok_same, allowed_is}
 use Rattle.promise_core.proofs.Explained.{own, IsExplained, own_written, own_more, may_own, each_may}
 
@@ -40,11 +40,6 @@ in_put {X} key x y (z ∷ zs) i = go (nat_lt (key x) (key z)) i (in_put key x y 
     go true (inr j) ih = inr j
     go false (inl e) ih = inr (inl e)
     go false (inr j) ih = elim (ih j) [ inl e ↦ inl e | inr k ↦ inr (inr k) ]
-
-pub in_map : {X Y : Type 0} (f : X → Y) (y : Y) (xs : List X) → IsIn y (map f xs) → (x : X) × IsIn x xs × (f x ≡ y)
-in_map f y [] i = elim i [ ]
-in_map f y (x ∷ xs) (inl e) = (x, inl refl, e)
-in_map {X} f y (x ∷ xs) (inr i) = let rest : (z : X) × IsIn z xs × (f z ≡ y) = in_map f y xs i in (rest.0, inr rest.1, rest.2)
 
 set_same : {X : Type 0} (xs : List X) (i : ℕ) (x y : X) → slice_get (slice_set xs i y) i ≡ Some x → x ≡ y
 set_same [] i x y e = absurd (cc)
@@ -114,10 +109,10 @@ live_pattern : (b : Bool) (c : ToldCache) (live : List ℕ) → (if b then recor
 live_pattern true c live = refl
 live_pattern false c live = refl
 
-live_patterns : (s : State) (number : ℕ) (change : List ℕ → List ℕ) (c : ToldCache) → IsIn c (with_live number change s.has).caches
+live_patterns : (s : State) (number : ℕ) (change : List ℕ → List ℕ) (c : ToldCache) → IsIn c (with_live_places number change s.has).caches
     → (d : ToldCache) × IsIn d s.has.caches × (d.pattern ≡ c.pattern)
 live_patterns s number change c i =
-    let from : (d : ToldCache) × IsIn d s.has.caches × ((if d.number == number then record d { live = change d.live } else d) ≡ c) = in_map _ c s.has.caches i in
+    let from : (d : ToldCache) × IsIn d s.has.caches × ((if d.number == number then record d { live = change d.live } else d) ≡ c) = map_in _ c s.has.caches i in
     (from.0, from.1, sym (live_pattern (from.0.number == number) from.0 (change from.0.live)) ∙ ap (λ x. x.pattern) from.2)
 
 without_cells : (test : ℕ → Holder → Bool) (place : ℕ) (s : State) (cell : Cell) → without test s.cells place ≡ Some cell
@@ -128,7 +123,7 @@ object_cells : (first place : ℕ) (s : State) (cache : Option ToldCache) (cell 
     → (old : Cell) × (s.cells place ≡ Some old) × (old.byte ≡ cell.byte)
 object_cells first place s None cell e = (cell, e, refl)
 object_cells first place s (Some c) cell e =
-    without_cells (λ p holder. in_block p (slab_at c first) && not (is_object (λ n q. n == c.number && (q == first || are_apart c first q)) holder)) place s cell e
+    without_cells (λ p holder. in_block p (slab_around c first) && not (is_object (λ n q. n == c.number && (q == first || are_apart c first q)) holder)) place s cell e
 
 -- where bytes were laid from `begin` on, the byte at the place is one of them, or the one that was there
 range_cells : (begin place : ℕ) (new : List ℕ) (s : State) (holder : Option Holder) (cell : Cell)
@@ -191,14 +186,14 @@ abbrev given_after : ℕ → (ℕ → Bool) → Event → ℕ → Bool
 given_after t given event b = given b || gives_pattern t b event
 
 abbrev written_after : ℕ → ℕ → ℕ → (ℕ → Bool) → Event → Body → ℕ → Bool
-written_after order t place written event body b = writes t place b event body || (written b && not (grants_slot order t place event body))
+written_after order t place written event body b = writes_byte t place b event body || (written b && not (grants_slot order t place event body))
 
 still_given : (t : ℕ) (given : ℕ → Bool) (event : Event) (b : ℕ) → given b ≡ true → given_after t given event b ≡ true
 still_given t given event b e = or_left _ _ e
 
 still_written : (order t place : ℕ) (written : ℕ → Bool) (event : Event) (body : Body) (b : ℕ) → grants_slot order t place event body ≡ false
     → written b ≡ true → written_after order t place written event body b ≡ true
-still_written order t place written event body b none e = or_right (writes t place b event body) _ (and_from _ _ e (ap not none))
+still_written order t place written event body b none e = or_right (writes_byte t place b event body) _ (and_from _ _ e (ap not none))
 
 -- One step, for the tenant that it names
 module _ (order t place : ℕ) (given written : ℕ → Bool) where
@@ -210,7 +205,7 @@ module _ (order t place : ℕ) (given written : ℕ → Bool) where
   own_stays event body byte none = own_more given written (given_after t given event) (written_after order t place written event body)
       (still_given t given event) (λ b. still_written order t place written event body b none) byte
 
-  own_wrote : (event : Event) (body : Body) (byte : ℕ) → writes t place byte event body ≡ true
+  own_wrote : (event : Event) (body : Body) (byte : ℕ) → writes_byte t place byte event body ≡ true
       → own (given_after t given event) (written_after order t place written event body) byte ≡ true
   own_wrote event body byte e = own_written (given_after t given event) (written_after order t place written event body) byte (or_left _ _ e)
 
@@ -231,7 +226,7 @@ module _ (order t place : ℕ) (given written : ℕ → Bool) where
         let may = each_may s.has s.cells y begin told (place - begin) _ (subst (λ o. option_map_or (λ x. may_all_be s.has s.cells x begin told) o false ≡ true) is all)
         (get_index told (place - begin) j) in
         subst (λ b. own given written b ≡ true) (sym byte)
-        (may_own given written place s y _ x (subst (λ p. may_be y (fresh_byte s.has y p) (s.cells p) (slice_index told (place - begin)) ≡ true) whole may))
+        (may_own given written place s y _ x (subst (λ p. may_be y (told_fresh_byte s.has y p) (s.cells p) (slice_index told (place - begin)) ≡ true) whole may))
     | inr was ↦ x.cells cell was
   ]
 
@@ -292,7 +287,7 @@ module _ (order t place : ℕ) (given written : ℕ → Bool) where
       carry (On.Tenant i (Asked.Destroy number)) (Say.Destroyed frames) s _ s' refl e
       (record { patterns = λ c m. (c, (filter_in _ c s.has.caches m).0, refl); cells = without_cells (λ p. is_object (λ m q. m == number)) place s }) x
   step w (On.Tenant i (Asked.Take number)) (Say.Object first) s s' o e b n x =
-      carry (On.Tenant i (Asked.Take number)) (Say.Object first) s _ s' refl e (record { patterns = live_patterns s number _; cells = object_cells first place s (cache_of s.has number) }) x
+      carry (On.Tenant i (Asked.Take number)) (Say.Object first) s _ s' refl e (record { patterns = live_patterns s number _; cells = object_cells first place s (cache_told s.has number) }) x
   step w (On.Tenant i (Asked.Give number first)) Say.Given s s' o e b n x =
       carry (On.Tenant i (Asked.Give number first)) Say.Given s _ s' refl e
       (record { patterns = live_patterns s number _; cells = doubted_cells (λ p. is_same (Holder.Object number first)) place s }) x

@@ -1,5 +1,5 @@
 -- What is live lies apart and in held slots, by induction over the exchanges.
-use Rattle.std.proofs.Common.{◌≡◌, ℕ, ◌+◌, ◌*◌, ◌/◌, ◌^◌, ◌<◌, ◌≤◌, Bool, true, false, not, List, [], ◌∷◌, ◌++◌, map, length, Option, Some, None, Result, Ok, Err, is_none, slice_get, refl, ap, sym, subst, ◌∙◌, ◌⊎◌, inl, inr, arith}
+use Rattle.std.proofs.Common.{◌≡◌, ℕ, ◌+◌, ◌*◌, ◌/◌, ◌^◌, ◌<◌, ◌≤◌, Bool, true, false, not, List, [], ◌∷◌, map, length, Option, Some, None, Result, Ok, Err, is_none, slice_get, refl, ap, sym, subst, ◌∙◌, ◌⊎◌, inl, inr, arith}
 use Rattle.std.specs.Prelude.{if◌then◌else◌, filter, find, flat_map, nat_lt, ◌==◌}
 use Rattle.std.specs.Option.{option_map_or}
 use Rattle.std.proofs.Math.Nat.{div-mul-le_self, lt-div-mul-add}
@@ -8,8 +8,9 @@ use Rattle.std.proofs.lemmas.Bool.{eq-eqb, ne_eqb, eqb-true, false≢true, or_ca
 use Rattle.model_core.specs.Blocks.{Block, block, HasFrame, IsAligned, slot_block}
 use Rattle.model_core.specs.Machine.{put_rising}
 use Rattle.model_core.specs.Operations.{overlaps}
-use Rattle.model_core.proofs.Lists.{IsIn, find_in, filter_in, in_filter, some_any, any_in}
+use Rattle.model_core.proofs.Lists.{IsIn, find_in, filter_in, in_filter, some_any, any_in, in_left, in_right, map_in, in_map}
 use Rattle.model_core.proofs.ObjectsApart.{contains_in}
+use Rattle.model_core.proofs.Apart.{overlap_from}
 use Rattle.words_core.specs.declared.event.Event.{Event}
 use Rattle.words_core.specs.declared.event.Event.TheVariants as On
 use Rattle.words_core.specs.declared.event.AdminCommand.TheVariants as Do
@@ -20,12 +21,12 @@ use Rattle.words_core.specs.declared.reply.Refusal.{Refusal}
 use Rattle.words_core.specs.declared.reply.Reply.{Reply}
 use Rattle.world_core.specs.World.{Exchange}
 use Rattle.promise_core.specs.declared.promise.Promise.{Promise}
-use Rattle.promise_core.specs.Holdings.{ToldCache, Holdings, holds, cache_of, with_live, slab_at, taken_blocks, is_vacant, can_stand, is_busy, live_beside, can_be_taken}
+use Rattle.promise_core.specs.Holdings.{ToldCache, Holdings, has_slot, cache_told, with_live_places, slab_around, told_blocks, is_vacant, can_stand, is_slot_busy, live_beside, can_be_taken}
 use Rattle.promise_core.specs.State.{State, Known, opening_state, opening, state_after}
-use Rattle.promise_core.specs.Promises.{first_due, due, refusals, blocks, objects, layout, named, allowed, all_allowed}
+use Rattle.promise_core.specs.Promises.{first_due, due, refusals, blocks, objects, new_layout, named, allowed, all_allowed}
 use Rattle.promise_core.specs.Laws.{Uses, LiveApart}
 use Rattle.promise_core.proofs.Allowed.{ok_same, allowed_is}
-use Rattle.promise_core.proofs.Confined.{in_put, in_map, replicated, some_state, states_at}
+use Rattle.promise_core.proofs.Confined.{in_put, replicated, some_state, states_at}
 
 -- Lists
 
@@ -37,20 +38,6 @@ put_keeps {X} key x y (z ∷ zs) i = go (nat_lt (key x) (key z)) i (put_keeps ke
     go true j ih = inr j
     go false (inl e) ih = inl e
     go false (inr j) ih = inr (ih j)
-
-in_left : {X : Type 0} (x : X) (xs ys : List X) → IsIn x xs → IsIn x (xs ++ ys)
-in_left x [] ys i = elim i [ ]
-in_left x (z ∷ zs) ys (inl e) = inl e
-in_left x (z ∷ zs) ys (inr i) = inr (in_left x zs ys i)
-
-in_right : {X : Type 0} (x : X) (xs ys : List X) → IsIn x ys → IsIn x (xs ++ ys)
-in_right x [] ys i = i
-in_right x (z ∷ zs) ys i = inr (in_right x zs ys i)
-
-mapped_in : {X Y : Type 0} (f : X → Y) (x : X) (xs : List X) → IsIn x xs → IsIn (f x) (map f xs)
-mapped_in f x [] i = elim i [ ]
-mapped_in f x (z ∷ zs) (inl e) = inl (ap f e)
-mapped_in f x (z ∷ zs) (inr i) = inr (mapped_in f x zs i)
 
 in_flat : {X Y : Type 0} (f : X → List Y) (x : X) (y : Y) (xs : List X) → IsIn x xs → IsIn y (f x) → IsIn y (flat_map f xs)
 in_flat f x y [] i j = elim i [ ]
@@ -74,19 +61,19 @@ is_none_of (Some x) e = absurd (false≢true e)
 
 abbrev Used : Holdings → Option ℕ → Block → Type 0
 Used h None b = IsIn b h.pages
-Used h (Some n) b = (c : ToldCache) × (p : ℕ) × IsIn c h.caches × IsIn p c.live × (c.number ≡ n) × (b ≡ slab_at c p)
+Used h (Some n) b = (c : ToldCache) × (p : ℕ) × IsIn c h.caches × IsIn p c.live × (c.number ≡ n) × (b ≡ slab_around c p)
 
 abbrev HaveOwnNumbers : Holdings → Type 0
 HaveOwnNumbers h = (c d : ToldCache) → IsIn c h.caches → IsIn d h.caches → c.number ≡ d.number → c ≡ d
 
 pub record IsLaid (order : ℕ) (h : Holdings) : Type 0 where
-  pub placed : (by : Option ℕ) (b : Block) → Used h by b → IsAligned order b × (holds h (b.first / 2 ^ order) ≡ true)
+  pub placed : (by : Option ℕ) (b : Block) → Used h by b → IsAligned order b × (has_slot h (b.first / 2 ^ order) ≡ true)
   pub apart : (by other : Option ℕ) (a b : Block) (x : ℕ) → Used h by a → Used h other b → HasFrame a x → HasFrame b x → (by ≡ other) × (a ≡ b)
   pub numbers : HaveOwnNumbers h
 
 -- nothing more has frames, and what has them is in slots that are still held
 fewer : (order : ℕ) (h h' : Holdings) → IsLaid order h → ((by : Option ℕ) (b : Block) → Used h' by b → Used h by b)
-    → ((by : Option ℕ) (b : Block) → Used h' by b → holds h (b.first / 2 ^ order) ≡ true → holds h' (b.first / 2 ^ order) ≡ true) → HaveOwnNumbers h' → IsLaid order h'
+    → ((by : Option ℕ) (b : Block) → Used h' by b → has_slot h (b.first / 2 ^ order) ≡ true → has_slot h' (b.first / 2 ^ order) ≡ true) → HaveOwnNumbers h' → IsLaid order h'
 fewer order h h' l used held numbers = record {
   placed = λ by b u. let p = l.placed by b (used by b u) in (p.0, held by b u p.1);
   apart = λ by other a b x ua ub. l.apart by other a b x (used by a ua) (used other b ub);
@@ -96,12 +83,12 @@ fewer order h h' l used held numbers = record {
 -- one block more, that shares no frame with another
 more : (order : ℕ) (h h' : Holdings) (new : Option ℕ) (n : Block) → IsLaid order h
     → ((by : Option ℕ) (b : Block) → Used h' by b → Used h by b ⊎ ((by ≡ new) × (b ≡ n)))
-    → ((u : ℕ) → holds h u ≡ true → holds h' u ≡ true) → IsAligned order n → holds h (n.first / 2 ^ order) ≡ true
+    → ((u : ℕ) → has_slot h u ≡ true → has_slot h' u ≡ true) → IsAligned order n → has_slot h (n.first / 2 ^ order) ≡ true
     → ((by : Option ℕ) (b : Block) (x : ℕ) → Used h by b → HasFrame b x → HasFrame n x → ⊥) → HaveOwnNumbers h' → IsLaid order h'
 more order h h' new n l used held aligned here vacant numbers = record {
   placed = λ by b u. elim (used by b u) [
     | inl old ↦ let p = l.placed by b old in (p.0, held _ p.1)
-    | inr (e, is) ↦ subst (λ y. IsAligned order y × (holds h' (y.first / 2 ^ order) ≡ true)) (sym is) (aligned, held _ here)
+    | inr (e, is) ↦ subst (λ y. IsAligned order y × (has_slot h' (y.first / 2 ^ order) ≡ true)) (sym is) (aligned, held _ here)
   ];
   apart = λ by other a b x ua ub ha hb. elim (used by a ua) [
     | inl old ↦ elim (used other b ub) [
@@ -116,24 +103,20 @@ more order h h' new n l used held aligned here vacant numbers = record {
   numbers = numbers;
 }
 
-used_taken : (h : Holdings) (by : Option ℕ) (b : Block) → Used h by b → IsIn b (taken_blocks h)
-unfolding taken_blocks
+used_taken : (h : Holdings) (by : Option ℕ) (b : Block) → Used h by b → IsIn b (told_blocks h)
+unfolding told_blocks
 used_taken h None b i = in_left b h.pages _ i
 used_taken h (Some n) b (c, p, i, j, e, is) = in_right b h.pages _
-    (in_flat (λ d. map (slab_at d) d.live) c b h.caches i (subst (λ y. IsIn y (map (slab_at c) c.live)) (sym is) (mapped_in (slab_at c) p c.live j)))
-
-overlap_from : (a b : Block) (x : ℕ) → HasFrame a x → HasFrame b x → overlaps a b ≡ true
-overlap_from a b x (a_low, a_high) (b_low, b_high) =
-    and_from _ _ (lt-ltb a.first (b.first + 2 ^ b.order) (omega arith)) (lt-ltb b.first (a.first + 2 ^ a.order) (omega arith))
+    (in_flat (λ d. map (slab_around d) d.live) c b h.caches i (subst (λ y. IsIn y (map (slab_around c) c.live)) (sym is) (in_map (slab_around c) p c.live j)))
 
 -- what shares a frame with a vacant block is not used
 vacant_apart : (h : Holdings) (n : Block) → is_vacant h n ≡ true → (by : Option ℕ) (b : Block) (x : ℕ) → Used h by b → HasFrame b x → HasFrame n x → ⊥
 vacant_apart h n e by b x u hb hn =
-    false≢true (sym (not-true _ e) ∙ any_in (overlaps n) b (taken_blocks h) (used_taken h by b u) (overlap_from n b x hn hb))
+    false≢true (sym (not-true _ e) ∙ any_in (overlaps n) b (told_blocks h) (used_taken h by b u) (overlap_from n b x hn hb))
 
 record CanStand (order : ℕ) (h : Holdings) (b : Block) : Type 0 where
   aligned : IsAligned order b
-  held : holds h (b.first / 2 ^ order) ≡ true
+  held : has_slot h (b.first / 2 ^ order) ≡ true
   vacant : is_vacant h b ≡ true
 
 can_stand_is : (order : ℕ) (h : Holdings) (b : Block) → can_stand order h b ≡ true → CanStand order h b
@@ -147,30 +130,30 @@ live_number : (b : Bool) (c : ToldCache) (live : List ℕ) → (if b then record
 live_number true c live = refl
 live_number false c live = refl
 
-live_numbers : (h : Holdings) (number : ℕ) (change : List ℕ → List ℕ) → HaveOwnNumbers h → HaveOwnNumbers (with_live number change h)
+live_numbers : (h : Holdings) (number : ℕ) (change : List ℕ → List ℕ) → HaveOwnNumbers h → HaveOwnNumbers (with_live_places number change h)
 live_numbers h number change own c d i j e =
-    let x : (y : ToldCache) × IsIn y h.caches × ((if y.number == number then record y { live = change y.live } else y) ≡ c) = in_map _ c h.caches i in
-    let z : (y : ToldCache) × IsIn y h.caches × ((if y.number == number then record y { live = change y.live } else y) ≡ d) = in_map _ d h.caches j in
+    let x : (y : ToldCache) × IsIn y h.caches × ((if y.number == number then record y { live = change y.live } else y) ≡ c) = map_in _ c h.caches i in
+    let z : (y : ToldCache) × IsIn y h.caches × ((if y.number == number then record y { live = change y.live } else y) ≡ d) = map_in _ d h.caches j in
     let same : x.0 ≡ z.0 = own x.0 z.0 x.1 z.1 (sym (live_number (x.0.number == number) x.0 (change x.0.live)) ∙ ap (λ y. y.number) x.2
     ∙ e ∙ ap (λ y. y.number) (sym z.2) ∙ live_number (z.0.number == number) z.0 (change z.0.live)) in
     sym x.2 ∙ ap (λ (y : ToldCache). if y.number == number then record y { live = change y.live } else y) same ∙ z.2
 
 -- what has frames then: what had them, or the slab of an object of that cache after the change
 abbrev Changed : Holdings → ℕ → (List ℕ → List ℕ) → Option ℕ → Block → Type 0
-Changed h number change by b = (c : ToldCache) × (p : ℕ) × IsIn c h.caches × (c.number ≡ number) × IsIn p (change c.live) × (by ≡ Some number) × (b ≡ slab_at c p)
+Changed h number change by b = (c : ToldCache) × (p : ℕ) × IsIn c h.caches × (c.number ≡ number) × IsIn p (change c.live) × (by ≡ Some number) × (b ≡ slab_around c p)
 
-live_used : (h : Holdings) (number : ℕ) (change : List ℕ → List ℕ) (by : Option ℕ) (b : Block) → Used (with_live number change h) by b
+live_used : (h : Holdings) (number : ℕ) (change : List ℕ → List ℕ) (by : Option ℕ) (b : Block) → Used (with_live_places number change h) by b
     → Used h by b ⊎ Changed h number change by b
 live_used h number change None b i = inl i
 live_used h number change (Some n) b (c, p, i, j, e, is) =
-    let x : (y : ToldCache) × IsIn y h.caches × ((if y.number == number then record y { live = change y.live } else y) ≡ c) = in_map _ c h.caches i in
+    let x : (y : ToldCache) × IsIn y h.caches × ((if y.number == number then record y { live = change y.live } else y) ≡ c) = map_in _ c h.caches i in
     go x.0 x.1 (x.0.number == number) refl x.2
   where
     go : (y : ToldCache) → IsIn y h.caches → (test : Bool) → (y.number == number) ≡ test → (if test then record y { live = change y.live } else y) ≡ c
         → Used h (Some n) b ⊎ Changed h number change (Some n) b
     go y m true t same = let at : y.number ≡ number = eqb-true _ _ t in
-        inr (y, p, m, at, subst (λ z. IsIn p z.live) (sym same) j, ap Some (sym e ∙ ap (λ z. z.number) (sym same) ∙ at), is ∙ ap (λ z. slab_at z p) (sym same))
-    go y m false t same = inl (y, p, m, subst (λ z. IsIn p z.live) (sym same) j, ap (λ z. z.number) same ∙ e, is ∙ ap (λ z. slab_at z p) (sym same))
+        inr (y, p, m, at, subst (λ z. IsIn p z.live) (sym same) j, ap Some (sym e ∙ ap (λ z. z.number) (sym same) ∙ at), is ∙ ap (λ z. slab_around z p) (sym same))
+    go y m false t same = inl (y, p, m, subst (λ z. IsIn p z.live) (sym same) j, ap (λ z. z.number) same ∙ e, is ∙ ap (λ z. slab_around z p) (sym same))
 
 -- Each step
 
@@ -187,26 +170,26 @@ some_in : (xs : List ℕ) → nat_lt 0 (length xs) ≡ true → (x : ℕ) × IsI
 some_in [] e = absurd (false≢true e)
 some_in (x ∷ xs) e = (x, inl refl)
 
-take_laid : (order number place : ℕ) (h : Holdings) (c : ToldCache) → IsLaid order h → cache_of h number ≡ Some c → can_be_taken order h c place ≡ true
-    → IsLaid order (with_live number (put_rising (λ p. p) place) h)
+take_laid : (order number place : ℕ) (h : Holdings) (c : ToldCache) → IsLaid order h → cache_told h number ≡ Some c → can_be_taken order h c place ≡ true
+    → IsLaid order (with_live_places number (put_rising (λ p. p) place) h)
 unfolding can_be_taken
 take_laid order number place h c l e can = elim (or_cases _ _ (and_parts _ _ (and_parts _ _ can).0).1) [
   | inl some ↦
       let q : (x : ℕ) × IsIn x (live_beside c place) = some_in (live_beside c place) some in
-      let at = filter_in (λ p. (slab_at c p).first == (slab_at c place).first) q.0 c.live q.1 in
-      let same : slab_at c q.0 ≡ slab_at c place = ap (λ f. block f c.order) (eqb-true _ _ at.1) in
-      let there : Used h (Some number) (slab_at c place) = (c, q.0, found.0, at.0, is_number, sym same) in
+      let at = filter_in (λ p. (slab_around c p).first == (slab_around c place).first) q.0 c.live q.1 in
+      let same : slab_around c q.0 ≡ slab_around c place = ap (λ f. block f c.order) (eqb-true _ _ at.1) in
+      let there : Used h (Some number) (slab_around c place) = (c, q.0, found.0, at.0, is_number, sym same) in
       fewer order h after l (λ by b u. elim (used by b u) [
         | inl old ↦ old
         | inr (is_by, is) ↦ subst (λ o. Used h o b) (sym is_by) (subst (Used h (Some number)) (sym is) there)
       ]) (λ by b u held. held) (live_numbers h number (put_rising (λ p. p) place) l.numbers)
-  | inr stands ↦ let s = can_stand_is order h (slab_at c place) stands in
-      more order h after (Some number) (slab_at c place) l used (λ u held. held) s.aligned s.held (vacant_apart h (slab_at c place) s.vacant)
+  | inr stands ↦ let s = can_stand_is order h (slab_around c place) stands in
+      more order h after (Some number) (slab_around c place) l used (λ u held. held) s.aligned s.held (vacant_apart h (slab_around c place) s.vacant)
       (live_numbers h number (put_rising (λ p. p) place) l.numbers)
 ]
   where
     after : Holdings
-    after = with_live number (put_rising (λ p. p) place) h
+    after = with_live_places number (put_rising (λ p. p) place) h
 
     found : IsIn c h.caches × ((c.number == number) ≡ true)
     found = find_in (λ y. y.number == number) c h.caches e
@@ -214,18 +197,18 @@ take_laid order number place h c l e can = elim (or_cases _ _ (and_parts _ _ (an
     is_number : c.number ≡ number
     is_number = eqb-true _ _ found.1
 
-    used : (by : Option ℕ) (b : Block) → Used (with_live number (put_rising (λ p. p) place) h) by b → Used h by b ⊎ ((by ≡ Some number) × (b ≡ slab_at c place))
+    used : (by : Option ℕ) (b : Block) → Used (with_live_places number (put_rising (λ p. p) place) h) by b → Used h by b ⊎ ((by ≡ Some number) × (b ≡ slab_around c place))
     used by b u = elim (live_used h number (put_rising (λ p. p) place) by b u) [
       | inl old ↦ inl old
       | inr (d, p, m, num, j, is_by, is) ↦ let one : d ≡ c = l.numbers d c m found.0 (num ∙ sym is_number) in
           elim (in_put (λ x. x) place p d.live j) [
-            | inl same ↦ inr (is_by, is ∙ ap (λ z. slab_at z p) one ∙ ap (slab_at c) (sym same))
+            | inl same ↦ inr (is_by, is ∙ ap (λ z. slab_around z p) one ∙ ap (slab_around c) (sym same))
             | inr old ↦ inl (subst (λ o. Used h o b) (sym is_by) (d, p, m, old, num, is))
           ]
     ]
 
-give_laid : (order number place : ℕ) (h : Holdings) → IsLaid order h → IsLaid order (with_live number (filter (λ p. not (p == place))) h)
-give_laid order number place h l = fewer order h (with_live number (filter (λ p. not (p == place))) h) l (λ by b u.
+give_laid : (order number place : ℕ) (h : Holdings) → IsLaid order h → IsLaid order (with_live_places number (filter (λ p. not (p == place))) h)
+give_laid order number place h l = fewer order h (with_live_places number (filter (λ p. not (p == place))) h) l (λ by b u.
     elim (live_used h number (filter (λ p. not (p == place))) by b u) [
       | inl old ↦ old
       | inr (d, p, m, num, j, is_by, is) ↦
@@ -247,7 +230,7 @@ destroy_laid order number h l = fewer order h (record h { caches = filter (λ c.
     used None b i = i
     used (Some n) b (c, p, i, j, e, is) = (c, p, (filter_in (λ c. not (c.number == number)) c h.caches i).0, j, e, is)
 
-cache_laid : (order : ℕ) (h : Holdings) (new : ToldCache) → new.live ≡ [] → IsLaid order h → is_none (cache_of h new.number) ≡ true
+cache_laid : (order : ℕ) (h : Holdings) (new : ToldCache) → new.live ≡ [] → IsLaid order h → is_none (cache_told h new.number) ≡ true
     → IsLaid order (record h { caches = put_rising (λ x. x.number) new h.caches })
 cache_laid order h new empty l none = fewer order h (record h { caches = put_rising (λ x. x.number) new h.caches }) l used (λ by b u held. held) numbers
   where
@@ -280,8 +263,8 @@ grant_laid order u h l = fewer order h (record h { slots = put_rising (λ v. v) 
     same_used None b i = i
     same_used (Some n) b i = i
 
-    held : (by : Option ℕ) (b : Block) → Used (record h { slots = put_rising (λ v. v) u h.slots }) by b → holds h (b.first / 2 ^ order) ≡ true
-        → holds (record h { slots = put_rising (λ v. v) u h.slots }) (b.first / 2 ^ order) ≡ true
+    held : (by : Option ℕ) (b : Block) → Used (record h { slots = put_rising (λ v. v) u h.slots }) by b → has_slot h (b.first / 2 ^ order) ≡ true
+        → has_slot (record h { slots = put_rising (λ v. v) u h.slots }) (b.first / 2 ^ order) ≡ true
     held by b i e = let v : (x : ℕ) × IsIn x h.slots × ((x == b.first / 2 ^ order) ≡ true) = some_any _ h.slots e in
         any_in _ v.0 (put_rising (λ v. v) u h.slots) (put_keeps (λ v. v) u v.0 h.slots v.1) v.2
 
@@ -295,7 +278,7 @@ in_slot_overlaps order slot b same = and_from _ _
     high : b.first < slot * 2 ^ order + 2 ^ order
     high = subst (λ n. b.first < n * 2 ^ order + 2 ^ order) same (lt-div-mul-add (pow_pos order))
 
-take_back_laid : (order u : ℕ) (h : Holdings) → is_busy order h u ≡ false → IsLaid order h → IsLaid order (record h { slots = filter (λ v. not (v == u)) h.slots })
+take_back_laid : (order u : ℕ) (h : Holdings) → is_slot_busy order h u ≡ false → IsLaid order h → IsLaid order (record h { slots = filter (λ v. not (v == u)) h.slots })
 take_back_laid order u h idle l = fewer order h (record h { slots = filter (λ v. not (v == u)) h.slots }) l same_used held l.numbers
   where
     same_used : (by : Option ℕ) (b : Block) → Used (record h { slots = filter (λ v. not (v == u)) h.slots }) by b → Used h by b
@@ -303,11 +286,11 @@ take_back_laid order u h idle l = fewer order h (record h { slots = filter (λ v
     same_used (Some n) b i = i
 
     outside : (by : Option ℕ) (b : Block) → Used h by b → b.first / 2 ^ order ≡ u → ⊥
-    outside by b i e = false≢true (sym (not-true _ (not-false _ idle)) ∙ any_in (overlaps (slot_block order u)) b (taken_blocks h) (used_taken h by b i)
+    outside by b i e = false≢true (sym (not-true _ (not-false _ idle)) ∙ any_in (overlaps (slot_block order u)) b (told_blocks h) (used_taken h by b i)
         (in_slot_overlaps order u b e))
 
-    held : (by : Option ℕ) (b : Block) → Used (record h { slots = filter (λ v. not (v == u)) h.slots }) by b → holds h (b.first / 2 ^ order) ≡ true
-        → holds (record h { slots = filter (λ v. not (v == u)) h.slots }) (b.first / 2 ^ order) ≡ true
+    held : (by : Option ℕ) (b : Block) → Used (record h { slots = filter (λ v. not (v == u)) h.slots }) by b → has_slot h (b.first / 2 ^ order) ≡ true
+        → has_slot (record h { slots = filter (λ v. not (v == u)) h.slots }) (b.first / 2 ^ order) ≡ true
     held by b i e = let v : (x : ℕ) × IsIn x h.slots × ((x == b.first / 2 ^ order) ≡ true) = some_any _ h.slots e in
         any_in _ v.0 (filter (λ v. not (v == u)) h.slots) (in_filter (λ v. not (v == u)) v.0 h.slots v.1
         (ap not (ne_eqb v.0 u (λ is. outside by b (same_used by b i) (sym (eqb-true v.0 (b.first / 2 ^ order) v.2) ∙ is))))) v.2
@@ -326,7 +309,7 @@ unfolding opening_state
 nothing_laid order = record { placed = placed; apart = apart; numbers = λ c d i j e. elim i [ ] }
   where
     placed : (by : Option ℕ) (b : Block) → Used (record { slots = []; pages = []; caches = [] }) by b
-        → IsAligned order b × (holds (record { slots = []; pages = []; caches = [] }) (b.first / 2 ^ order) ≡ true)
+        → IsAligned order b × (has_slot (record { slots = []; pages = []; caches = [] }) (b.first / 2 ^ order) ≡ true)
     placed None b i = elim i [ ]
     placed (Some n) b (c, p, i, j, e, is) = elim i [ ]
 
@@ -336,7 +319,7 @@ nothing_laid order = record { placed = placed; apart = apart; numbers = λ c d i
     apart (Some n) other a b x (c, p, i, j, e, is) u ha hb = elim i [ ]
 
 step : (w : Known) (event : Event) (body : Body) (s s' : State) → state_after w.order event body s ≡ Some s' → refusals event body w s ≡ true
-    → blocks event body w s ≡ true → objects event body w s ≡ true → layout event body w s ≡ true → IsLaid w.order s.has → IsLaid w.order s'.has
+    → blocks event body w s ≡ true → objects event body w s ≡ true → new_layout event body w s ≡ true → IsLaid w.order s.has → IsLaid w.order s'.has
 unfolding state_after due
 step w event (Say.Refused r) s s' e f b o c l = subst (λ y. IsLaid w.order y.has) (some_state e) l
 step w (On.Tenant i (Asked.Alloc k)) (Say.Frame first) s s' e f b o c l = subst (λ y. IsLaid w.order y.has) (some_state e) (alloc_laid w.order s.has (block first k) l b)
@@ -347,14 +330,14 @@ step w (On.Tenant i (Asked.Cache size align pattern)) (Say.Cache number chunk q 
     (cache_laid w.order s.has (record { number = number; size = size; align = align; pattern = pattern.items; chunk = chunk; order = q; count = n; live = [] }) refl l
     (and_parts _ _ (and_parts _ _ c).0).1)
 step w (On.Tenant i (Asked.Destroy number)) (Say.Destroyed frames) s s' e f b o c l = subst (λ y. IsLaid w.order y.has) (some_state e) (destroy_laid w.order number s.has l)
-step w (On.Tenant i (Asked.Take number)) (Say.Object place) s s' e f b o c l = let v = value_of _ (cache_of s.has number) o in
+step w (On.Tenant i (Asked.Take number)) (Say.Object place) s s' e f b o c l = let v = value_of _ (cache_told s.has number) o in
     subst (λ y. IsLaid w.order y.has) (some_state e) (take_laid w.order number place s.has v.0 l v.1 v.2)
 step w (On.Tenant i (Asked.Give number place)) Say.Given s s' e f b o c l = subst (λ y. IsLaid w.order y.has) (some_state e) (give_laid w.order number place s.has l)
 step w (On.Tenant i Asked.Reap) (Say.Reaped frames) s s' e f b o c l = subst (λ y. IsLaid w.order y.has) (some_state e) l
 step w (On.Tenant i Asked.Report) (Say.Report r) s s' e f b o c l = subst (λ y. IsLaid w.order y.has) (some_state e) l
 step w (On.Admin (Do.Grant i)) (Say.Granted told u superblock) s s' e f b o c l = subst (λ y. IsLaid w.order y.has) (some_state e) (grant_laid w.order u s.has l)
 step w (On.Admin (Do.TakeBack i u)) (Say.TakenBack superblock) s s' e f b o c l = subst (λ y. IsLaid w.order y.has) (some_state e)
-    (take_back_laid w.order u s.has (second_none (not (holds s.has u)) (is_busy w.order s.has u) Refusal.NoSlot Refusal.SlotBusy f) l)
+    (take_back_laid w.order u s.has (second_none (not (has_slot s.has u)) (is_slot_busy w.order s.has u) Refusal.NoSlot Refusal.SlotBusy f) l)
 step w (On.Admin (Do.Reset i)) (Say.WasReset told superblocks) s s' e f b o c l = subst (λ y. IsLaid w.order y.has) (some_state e) (nothing_laid w.order)
 step w (On.Admin (Do.Move i u)) (Say.Moved told slot superblock) s s' e f b o c l = subst (λ y. IsLaid w.order y.has) (some_state e) l
 step w (On.Admin Do.Pool) (Say.Owners owners) s s' e f b o c l = subst (λ y. IsLaid w.order y.has) (some_state e) l

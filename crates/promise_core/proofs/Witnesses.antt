@@ -6,7 +6,7 @@ use Rattle.words_core.specs.declared.event.Command.TheVariants as Asked
 use Rattle.words_core.specs.declared.reply.Addressee.TheVariants as To
 use Rattle.words_core.specs.declared.reply.Body.TheVariants as Say
 use Rattle.promise_core.specs.declared.promise.Promise.{Promise}
-use Rattle.promise_core.specs.Holdings.{ToldCache, taken_blocks, can_stand, vacant_blocks, can_be_taken}
+use Rattle.promise_core.specs.Holdings.{ToldCache, told_blocks, can_stand, vacant_blocks, can_be_taken}
 use Rattle.promise_core.specs.Bytes.{holder_of}
 use Rattle.promise_core.specs.State.{State, Known, opening_state, opening, state_after, owners_after}
 use Rattle.promise_core.specs.Promises.{due, allowed, all_allowed}
@@ -32,13 +32,13 @@ none_is_some : {n : ℕ} → ◌≡◌ {A = Option ℕ} None (Some n) → ⊥
 none_is_some e = absurd (cc)
 
 LiveApart-met : LiveApart → (x : ℕ) → HasFrame (block 2 1) x → HasFrame (block 0 0) x → ⊥
-unfolding opening opening_state taken_blocks can_stand vacant_blocks can_be_taken holder_of state_after owners_after due allowed
+unfolding opening opening_state told_blocks can_stand vacant_blocks can_be_taken holder_of state_after owners_after due allowed
 LiveApart-met law x page slab = none_is_some ((law 32 3 3 2 0 begun known the_state refl refl).apart None (Some 0) (block 2 1) (block 0 0) x
     (0, omega arith, refl) (the_cache, 0, (0, omega arith, refl), (0, omega arith, refl), refl, refl) page slab).0
 
 -- the second of the bytes that were written, in a page block
 Confined-met : Confined → is_own 3 0 8193 2 begun ≡ true
-unfolding opening opening_state taken_blocks can_stand vacant_blocks can_be_taken holder_of state_after owners_after due allowed
+unfolding opening opening_state told_blocks can_stand vacant_blocks can_be_taken holder_of state_after owners_after due allowed
 Confined-met law = law 32 3 3 2 0 8192 3 1 2 begun (To.Tenant 0) (record { items = 1 ∷ 2 ∷ 0 ∷ [] }) known
     (known_of (allowed (On.Tenant 0 (Asked.Read 8192 3)) (record { addressee = To.Tenant 0; body = Say.Bytes (record { items = 1 ∷ 2 ∷ 0 ∷ [] }) }) known)) refl refl refl
 
@@ -48,5 +48,5 @@ not_own = refl
 
 -- in the run's state a frame can be answered, and no want of frames
 RefusedForCause-met : RefusedForCause → (f : ℕ) × (may_tell known 0 (Asked.Alloc 0) (Say.Frame f) ≡ true)
-unfolding opening opening_state taken_blocks can_stand vacant_blocks can_be_taken holder_of state_after owners_after due allowed
+unfolding opening opening_state told_blocks can_stand vacant_blocks can_be_taken holder_of state_after owners_after due allowed
 RefusedForCause-met law = (law known the_state 0 0 refl (omega arith)).answered refl

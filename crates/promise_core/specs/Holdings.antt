@@ -2,6 +2,7 @@
 -- that is the allocator's.
 use Rattle.std.specs.Prelude.{ℕ, ◌+◌, ◌-◌, ◌*◌, ◌/◌, ◌%◌, ◌^◌, Bool, not, List, ◌++◌, map, filter, find, flat_map, length, Option, nat_le, nat_lt, if◌then◌else◌, ◌&&◌, ◌||◌, ◌==◌}
 use Rattle.std.specs.List.{list_any, list_all, range_with_len}
+use Rattle.model_core.specs.declared.limits.TheConstants.{FRAME_BYTES}
 use Rattle.model_core.specs.Blocks.{Block, block, around, slot_block}
 use Rattle.model_core.specs.Choice.{is_any_below}
 use Rattle.model_core.specs.Operations.{overlaps}
@@ -26,33 +27,33 @@ pub record Holdings : Type 0 where
   pub pages : List Block
   pub caches : List ToldCache
 
-abbrev pub holds : Holdings → ℕ → Bool
-holds h u = list_any (λ v. v == u) h.slots
+abbrev pub has_slot : Holdings → ℕ → Bool
+has_slot h u = list_any (λ v. v == u) h.slots
 
-abbrev pub cache_of : Holdings → ℕ → Option ToldCache
-cache_of h number = find (λ c. c.number == number) h.caches
+abbrev pub cache_told : Holdings → ℕ → Option ToldCache
+cache_told h number = find (λ c. c.number == number) h.caches
 
 -- the holdings with the live objects of this cache changed
-abbrev pub with_live : ℕ → (List ℕ → List ℕ) → Holdings → Holdings
-with_live number change h = record h {
+abbrev pub with_live_places : ℕ → (List ℕ → List ℕ) → Holdings → Holdings
+with_live_places number change h = record h {
   caches = map {B = ToldCache} (λ (c : ToldCache). if c.number == number then record c { live = change c.live } else c) h.caches;
 }
 
 -- the slab that an object at this place is in
-abbrev pub slab_at : ToldCache → ℕ → Block
-slab_at c place = around (place / 4096) c.order
+abbrev pub slab_around : ToldCache → ℕ → Block
+slab_around c place = around (place / FRAME_BYTES) c.order
 
 -- the page blocks, and the slabs of live objects
-unfoldable pub taken_blocks : Holdings → List Block
-taken_blocks h = h.pages ++ flat_map (λ c. map (slab_at c) c.live) h.caches
+unfoldable pub told_blocks : Holdings → List Block
+told_blocks h = h.pages ++ flat_map (λ c. map (slab_around c) c.live) h.caches
 
 -- no frame of the block is taken
 abbrev pub is_vacant : Holdings → Block → Bool
-is_vacant h b = not (list_any (overlaps b) (taken_blocks h))
+is_vacant h b = not (list_any (overlaps b) (told_blocks h))
 
 -- the block is aligned, lies in a held slot, and no frame of it is taken; slots have 2 ^ order frames
 unfoldable pub can_stand : ℕ → Holdings → Block → Bool
-can_stand order h b = (nat_le b.order order && b.first % 2 ^ b.order == 0) && (holds h (b.first / 2 ^ order) && is_vacant h b)
+can_stand order h b = (nat_le b.order order && b.first % 2 ^ b.order == 0) && (has_slot h (b.first / 2 ^ order) && is_vacant h b)
 
 -- the aligned blocks of order k in slot u
 abbrev pub blocks_of_slot : ℕ → ℕ → ℕ → List Block
@@ -66,16 +67,16 @@ abbrev pub has_room : ℕ → Holdings → ℕ → Bool
 has_room order h k = nat_lt 0 (length (vacant_blocks order h k))
 
 -- a frame of the slot is taken
-abbrev pub is_busy : ℕ → Holdings → ℕ → Bool
-is_busy order h u = not (is_vacant h (slot_block order u))
+abbrev pub is_slot_busy : ℕ → Holdings → ℕ → Bool
+is_slot_busy order h u = not (is_vacant h (slot_block order u))
 
 -- the live objects in the slab that has this place
 abbrev pub live_beside : ToldCache → ℕ → List ℕ
-live_beside c place = filter (λ p. (slab_at c p).first == (slab_at c place).first) c.live
+live_beside c place = filter (λ p. (slab_around c p).first == (slab_around c place).first) c.live
 
 -- all objects of that slab are live
-abbrev pub is_full : ToldCache → ℕ → Bool
-is_full c place = length (live_beside c place) == c.count
+abbrev pub is_slab_full : ToldCache → ℕ → Bool
+is_slab_full c place = length (live_beside c place) == c.count
 
 -- objects of the cache at these two places share no byte
 abbrev pub are_apart : ToldCache → ℕ → ℕ → Bool
@@ -84,12 +85,12 @@ are_apart c p q = nat_le (p + c.size) q || nat_le (q + c.size) p
 -- the objects of the slab b fit into it if the first of them is at `origin`, and each of these places is that of one
 abbrev pub is_grid : ToldCache → Block → ℕ → List ℕ → Bool
 is_grid c b origin places =
-    (nat_le (4096 * b.first) origin && nat_le (origin + (c.count - 1) * c.chunk + c.size) (4096 * (b.first + 2 ^ b.order)))
+    (nat_le (FRAME_BYTES * b.first) origin && nat_le (origin + (c.count - 1) * c.chunk + c.size) (FRAME_BYTES * (b.first + 2 ^ b.order)))
     && list_all (λ p. nat_le origin p && ((p - origin) % c.chunk == 0 && nat_lt ((p - origin) / c.chunk) c.count)) places
 
 -- an object of the cache can be handed out at this place
 unfoldable pub can_be_taken : ℕ → Holdings → ToldCache → ℕ → Bool
 can_be_taken order h c place = let beside = live_beside c place in
-    (place % c.align == 0 && (nat_lt 0 (length beside) || can_stand order h (slab_at c place)))
+    (place % c.align == 0 && (nat_lt 0 (length beside) || can_stand order h (slab_around c place)))
     && (nat_lt (length beside) c.count && (list_all (are_apart c place) beside
-    && is_any_below (λ i. nat_le (i * c.chunk) place && is_grid c (slab_at c place) (place - i * c.chunk) beside) c.count))
+    && is_any_below (λ i. nat_le (i * c.chunk) place && is_grid c (slab_around c place) (place - i * c.chunk) beside) c.count))

@@ -15,7 +15,7 @@ use Rattle.words_core.specs.declared.reply.Body.{Body}
 use Rattle.words_core.specs.declared.reply.Body.TheVariants as Say
 use Rattle.words_core.specs.declared.reply.Refusal.{Refusal}
 use Rattle.world_core.specs.World.{Exchange}
-use Rattle.promise_core.specs.Holdings.{ToldCache, Holdings, holds, slab_at}
+use Rattle.promise_core.specs.Holdings.{ToldCache, Holdings, has_slot, slab_around}
 use Rattle.promise_core.specs.State.{State, Known, opening}
 use Rattle.promise_core.specs.Promises.{allowed, all_allowed}
 
@@ -24,12 +24,12 @@ abbrev pub gives_pattern : ℕ → ℕ → Event → Bool
 gives_pattern t byte (On.Tenant named (Asked.Cache size align pattern)) = named == t && list_any (λ b. b == byte) pattern.items
 gives_pattern t byte event = false
 
--- the tenant writes the byte at the place
-abbrev pub writes : ℕ → ℕ → ℕ → Event → Body → Bool
-writes t place byte (On.Tenant named (Asked.Write begin new)) (Say.Written n) =
+-- the tenant writes_byte the byte at the place
+abbrev pub writes_byte : ℕ → ℕ → ℕ → Event → Body → Bool
+writes_byte t place byte (On.Tenant named (Asked.Write begin new)) (Say.Written n) =
     named == t && ((nat_le begin place && nat_lt place (begin + length new.items))
     && slice_index new.items (place - begin) == byte)
-writes t place byte event body = false
+writes_byte t place byte event body = false
 
 -- the slot of the place is granted to the tenant; slots have 2 ^ order frames
 abbrev pub grants_slot : ℕ → ℕ → ℕ → Event → Body → Bool
@@ -45,7 +45,7 @@ was_given t byte before (e ∷ es) = was_given t byte (before || gives_pattern t
 abbrev pub was_written : ℕ → ℕ → ℕ → ℕ → Bool → List Exchange → Bool
 was_written order t place byte before [] = before
 was_written order t place byte before (e ∷ es) = was_written order t place byte
-    (writes t place byte e.event e.reply.body || (before && not (grants_slot order t place e.event e.reply.body))) es
+    (writes_byte t place byte e.event e.reply.body || (before && not (grants_slot order t place e.event e.reply.body))) es
 
 -- the byte is zero, or one of a pattern that the tenant gave, or one that it wrote at the place since its slot was granted
 abbrev pub is_own : ℕ → ℕ → ℕ → ℕ → List Exchange → Bool
@@ -61,11 +61,11 @@ Confined = (limit order superblocks tenants t begin len j byte : ℕ) (es : List
 -- what has frames: page blocks, by None, and the slabs of live objects, by the number of their cache
 abbrev pub Uses : Holdings → Option ℕ → Block → Type 0
 Uses h None b = Contains h.pages b
-Uses h (Some number) b = (c : ToldCache) × (place : ℕ) × Contains h.caches c × Contains c.live place × (c.number ≡ number) × (b ≡ slab_at c place)
+Uses h (Some number) b = (c : ToldCache) × (place : ℕ) × Contains h.caches c × Contains c.live place × (c.number ≡ number) × (b ≡ slab_around c place)
 
 -- these are aligned and in held slots, and two of them that share a frame are one; slots have 2 ^ order frames
 pub record LiesApart (order : ℕ) (h : Holdings) : Type 0 where
-  pub placed : (by : Option ℕ) (b : Block) → Uses h by b → IsAligned order b × (holds h (b.first / 2 ^ order) ≡ true)
+  pub placed : (by : Option ℕ) (b : Block) → Uses h by b → IsAligned order b × (has_slot h (b.first / 2 ^ order) ≡ true)
   pub apart : (by other : Option ℕ) (a b : Block) (x : ℕ) → Uses h by a → Uses h other b → HasFrame a x → HasFrame b x
       → (by ≡ other) × (a ≡ b)
 

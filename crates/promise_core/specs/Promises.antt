@@ -7,7 +7,7 @@ use Rattle.model_core.specs.Layouts.{is_size, is_alignment}
 use Rattle.model_core.specs.Machine.{order_in}
 use Rattle.model_core.specs.Owners.{is_of, is_owner}
 use Rattle.model_core.specs.Reports.{greatest, split_share}
-use Rattle.model_core.specs.declared.limits.TheConstants.{MOST_BYTES}
+use Rattle.model_core.specs.declared.limits.TheConstants.{MOST_BYTES, FRAME_BYTES}
 use Rattle.model_core.specs.declared.owner.Owner.{Owner}
 use Rattle.model_core.specs.declared.report.CacheRow.{CacheRow}
 use Rattle.words_core.specs.Texts.{number_of_refusal}
@@ -24,7 +24,7 @@ use Rattle.words_core.specs.declared.reply.Refusal.{Refusal}
 use Rattle.words_core.specs.declared.reply.Reply.{Reply}
 use Rattle.world_core.specs.World.{Exchange}
 use Rattle.promise_core.specs.declared.promise.Promise.{Promise}
-use Rattle.promise_core.specs.Holdings.{ToldCache, Holdings, holds, cache_of, can_stand, vacant_blocks, has_room, is_busy, live_beside, is_full, can_be_taken}
+use Rattle.promise_core.specs.Holdings.{ToldCache, Holdings, has_slot, cache_told, can_stand, vacant_blocks, has_room, is_slot_busy, live_beside, is_slab_full, can_be_taken}
 use Rattle.promise_core.specs.Bytes.{may_all_be, holder_of}
 use Rattle.promise_core.specs.State.{State, Known, opening_state, is_in_use, state_after, owners_after}
 
@@ -55,16 +55,16 @@ due (On.Tenant t (Asked.Write place bytes)) w s =
     first_due ((is_none (holder_of s.has place (length bytes.items)), Refusal.OutOfReach) ∷ [])
 due (On.Tenant t (Asked.Cache size align pattern)) w s = first_due ((not (is_size size), Refusal.BadSize)
     ∷ (not (is_alignment align), Refusal.BadAlign) ∷ (nat_le w.limit (length s.has.caches), Refusal.NoCacheSlot) ∷ [])
-due (On.Tenant t (Asked.Destroy number)) w s = let cache = cache_of s.has number in
+due (On.Tenant t (Asked.Destroy number)) w s = let cache = cache_told s.has number in
     first_due ((is_none cache, Refusal.NoCache) ∷ (is_in_use cache, Refusal.CacheInUse) ∷ [])
-due (On.Tenant t (Asked.Take number)) w s = first_due ((is_none (cache_of s.has number), Refusal.NoCache) ∷ [])
-due (On.Tenant t (Asked.Give number place)) w s = let cache = cache_of s.has number in first_due ((is_none cache, Refusal.NoCache)
+due (On.Tenant t (Asked.Take number)) w s = first_due ((is_none (cache_told s.has number), Refusal.NoCache) ∷ [])
+due (On.Tenant t (Asked.Give number place)) w s = let cache = cache_told s.has number in first_due ((is_none cache, Refusal.NoCache)
     ∷ (not (option_map_or (λ c. list_any (λ p. p == place) c.live) cache false), Refusal.NotAnObject) ∷ [])
 due (On.Admin (Do.Grant t)) w s = first_due ((list_all is_some w.owners, Refusal.PoolEmpty) ∷ [])
 due (On.Admin (Do.TakeBack t u)) w s =
-    first_due ((not (holds s.has u), Refusal.NoSlot) ∷ (is_busy w.order s.has u, Refusal.SlotBusy) ∷ [])
+    first_due ((not (has_slot s.has u), Refusal.NoSlot) ∷ (is_slot_busy w.order s.has u, Refusal.SlotBusy) ∷ [])
 due (On.Admin (Do.Move t u)) w s =
-    first_due ((not (holds s.has u), Refusal.NoSlot) ∷ (list_all is_some w.owners, Refusal.PoolEmpty) ∷ [])
+    first_due ((not (has_slot s.has u), Refusal.NoSlot) ∷ (list_all is_some w.owners, Refusal.PoolEmpty) ∷ [])
 due event w s = None
 
 abbrev pub is_one : Refusal → Refusal → Bool
@@ -78,20 +78,20 @@ refusals event body w s = is_none (due event w s)
 
 -- all objects in the cache's slabs are live, and there is no room for another slab
 abbrev pub is_used_up : ℕ → Holdings → ToldCache → Bool
-is_used_up order h c = list_all (is_full c) c.live && not (has_room order h c.order)
+is_used_up order h c = list_all (is_slab_full c) c.live && not (has_room order h c.order)
 
 -- there are no frames where there is no room
 abbrev pub room : Event → Body → Known → State → Bool
 room (On.Tenant t (Asked.Alloc k)) (Say.Refused Refusal.NoFrames) w s = not (has_room w.order s.has k)
 room (On.Tenant t (Asked.Take number)) (Say.Refused Refusal.NoFrames) w s =
-    option_map_or (is_used_up w.order s.has) (cache_of s.has number) false
+    option_map_or (is_used_up w.order s.has) (cache_told s.has number) false
 room event (Say.Refused Refusal.NoFrames) w s = false
 room event body w s = true
 
 -- a slot is busy where a frame of it is taken, or a slab without live objects may stand
 abbrev pub busy : Event → Body → Known → State → Bool
 busy (On.Admin (Do.TakeBack t u)) (Say.Refused Refusal.SlotBusy) w s =
-    is_busy w.order s.has u || list_any (λ c. s.hides c.number) s.has.caches
+    is_slot_busy w.order s.has u || list_any (λ c. s.hides c.number) s.has.caches
 busy event (Say.Refused Refusal.SlotBusy) w s = false
 busy event body w s = true
 
@@ -101,15 +101,15 @@ blocks event body w s = true
 
 abbrev pub objects : Event → Body → Known → State → Bool
 objects (On.Tenant t (Asked.Take number)) (Say.Object place) w s =
-    option_map_or (λ c. can_be_taken w.order s.has c place) (cache_of s.has number) false
+    option_map_or (λ c. can_be_taken w.order s.has c place) (cache_told s.has number) false
 objects event body w s = true
 
 -- a new cache has a number of its own, and its objects fit into a slab at each of its colours
-abbrev pub layout : Event → Body → Known → State → Bool
-layout (On.Tenant t (Asked.Cache size align pattern)) (Say.Cache number chunk q n colours) w s =
-    (nat_lt number w.limit && is_none (cache_of s.has number)) && ((nat_le size chunk && (chunk % align == 0 && nat_le q w.order))
-    && ((nat_le 1 n && nat_le 1 colours) && nat_le (align * (colours - 1) + n * chunk) (4096 * 2 ^ q)))
-layout event body w s = true
+abbrev pub new_layout : Event → Body → Known → State → Bool
+new_layout (On.Tenant t (Asked.Cache size align pattern)) (Say.Cache number chunk q n colours) w s =
+    (nat_lt number w.limit && is_none (cache_told s.has number)) && ((nat_le size chunk && (chunk % align == 0 && nat_le q w.order))
+    && ((nat_le 1 n && nat_le 1 colours) && nat_le (align * (colours - 1) + n * chunk) (FRAME_BYTES * 2 ^ q)))
+new_layout event body w s = true
 
 -- no more frames than are not taken, out of slabs of these caches that may stand
 abbrev pub can_come_back : ℕ → List ToldCache → ℕ → State → Bool
@@ -129,7 +129,7 @@ has_owner test superblock w = option_map_or test (slice_get w.owners superblock)
 -- what comes is nobody's before, what goes is the tenant's, and the pool is told as it is
 abbrev pub owners : Event → Body → Known → State → Bool
 owners (On.Admin (Do.Grant t)) (Say.Granted named u superblock) w s = (named == t && has_owner is_none superblock w)
-    && (not (holds s.has u) && nat_le ((u + 1) * 2 ^ w.order * 4096) (2 ^ 32))
+    && (not (has_slot s.has u) && nat_le ((u + 1) * 2 ^ w.order * FRAME_BYTES) (2 ^ 32))
 owners (On.Admin (Do.TakeBack t u)) (Say.TakenBack superblock) w s = has_owner (is_owner t u) superblock w
 owners (On.Admin (Do.Reset t)) (Say.WasReset named superblocks) w s = named == t && superblocks == count_by (is_of t) w.owners
 owners (On.Admin (Do.Move t u)) (Say.Moved named slot superblock) w s =
@@ -146,9 +146,9 @@ bytes (On.Tenant t (Asked.Write place new)) (Say.Written n) w s = length new.ite
 bytes event body w s = true
 
 -- how many frames these numbers of blocks have, the first of them of order 0
-abbrev pub frames_in : List ℕ → ℕ
-frames_in [] = 0
-frames_in (n ∷ ns) = n + 2 * frames_in ns
+abbrev pub frames_of_counts : List ℕ → ℕ
+frames_of_counts [] = 0
+frames_of_counts (n ∷ ns) = n + 2 * frames_of_counts ns
 
 -- how many slabs have a live object and pass the test, which is of the first one
 abbrev pub count_slabs : (ℕ → Bool) → ToldCache → ℕ
@@ -156,11 +156,11 @@ count_slabs test c = length (filter (λ p. slice_index (live_beside c p) 0 == p 
 
 abbrev pub is_row : (ℕ → Bool) → ToldCache × CacheRow → Bool
 is_row hides (c, row) = ((row.cache == c.number && row.live == length c.live) && (row.empty == 0 || hides c.number))
-    && (row.full == count_slabs (is_full c) c && row.partial == count_slabs (λ p. not (is_full c p)) c)
+    && (row.full == count_slabs (is_slab_full c) c && row.partial == count_slabs (λ p. not (is_slab_full c p)) c)
 
 -- how many blocks of order k are taken
-abbrev pub taken_count : Holdings → List CacheRow → ℕ → ℕ
-taken_count h rows k = length (filter (λ b. b.order == k) h.pages)
+abbrev pub told_count : Holdings → List CacheRow → ℕ → ℕ
+told_count h rows k = length (filter (λ b. b.order == k) h.pages)
     + sum_by (λ p. if p.0.order == k then p.1.full + p.1.partial + p.1.empty else 0) (zip h.caches rows)
 
 -- there are a row of each order and of each cache; the figures are those of the state, and the free blocks such as there can be
@@ -169,13 +169,13 @@ report (On.Tenant t Asked.Report) (Say.Report r) w s =
     let orders = range_with_len 0 (w.order + 1) in
     let free = map (λ row. row.free) r.orders.items in
     let taken = map (λ row. row.taken) r.orders.items in
-    list_all (λ holds. holds) ((length free == w.order + 1) ∷ (length r.caches.items == length s.has.caches)
-    ∷ (r.frames == length s.has.slots * 2 ^ w.order) ∷ (r.live + r.free == r.frames) ∷ (r.free == frames_in free)
-    ∷ (r.live == frames_in taken)
+    list_all (λ has_slot. has_slot) ((length free == w.order + 1) ∷ (length r.caches.items == length s.has.caches)
+    ∷ (r.frames == length s.has.slots * 2 ^ w.order) ∷ (r.live + r.free == r.frames) ∷ (r.free == frames_of_counts free)
+    ∷ (r.live == frames_of_counts taken)
     ∷ option_eq (λ i j. i == j) r.top (greatest (slice_index free) (w.order + 1)) ∷ (r.split == split_share r.free r.top)
     ∷ list_all (is_row s.hides) (zip s.has.caches r.caches.items)
-    ∷ list_all (λ k. slice_index taken k == taken_count s.has r.caches.items k) orders
-    ∷ list_all (λ k. nat_le (frames_in (drop k free)) (length (vacant_blocks w.order s.has k))) orders ∷ [])
+    ∷ list_all (λ k. slice_index taken k == told_count s.has r.caches.items k) orders
+    ∷ list_all (λ k. nat_le (frames_of_counts (drop k free)) (length (vacant_blocks w.order s.has k))) orders ∷ [])
 report event body w s = true
 
 -- how many frames the empty slabs have that a report told of the caches that pass
@@ -222,7 +222,7 @@ abbrev pub kept : Event → Reply → Known → State → List (Promise × Bool)
 kept event reply w s = let body = reply.body in
     (Promise.Form, form event reply w s) ∷ (Promise.Refusals, refusals event body w s) ∷ (Promise.Room, room event body w s)
     ∷ (Promise.Busy, busy event body w s) ∷ (Promise.Blocks, blocks event body w s) ∷ (Promise.Objects, objects event body w s)
-    ∷ (Promise.Layout, layout event body w s) ∷ (Promise.Gives, gives event body w s) ∷ (Promise.Owners, owners event body w s)
+    ∷ (Promise.Layout, new_layout event body w s) ∷ (Promise.Gives, gives event body w s) ∷ (Promise.Owners, owners event body w s)
     ∷ (Promise.Bytes, bytes event body w s) ∷ (Promise.Report, report event body w s) ∷ (Promise.Still, still event body w s) ∷ []
 
 abbrev pub is_no_tenant : Body → Bool

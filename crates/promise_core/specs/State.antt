@@ -14,7 +14,7 @@ use Rattle.words_core.specs.declared.report.Report.{Report}
 use Rattle.words_core.specs.declared.reply.Body.{Body}
 use Rattle.words_core.specs.declared.reply.Body.TheVariants as Say
 use Rattle.world_core.specs.World.{given_up}
-use Rattle.promise_core.specs.Holdings.{ToldCache, Holdings, cache_of, with_live, slab_at, are_apart}
+use Rattle.promise_core.specs.Holdings.{ToldCache, Holdings, cache_told, with_live_places, slab_around, are_apart}
 use Rattle.promise_core.specs.Bytes.{Holder, is_object, is_same, Cells, with_bytes, doubted, without, holder_of}
 
 -- of a tenant
@@ -50,12 +50,12 @@ with_range place bytes s holder = record s { cells = option_map_or (λ x. with_b
 
 -- an object taken at `first` has its slab to itself and to others of its cache: what else was left there is gone
 abbrev pub with_object : ℕ → Option ToldCache → Cells → Cells
-with_object first cache cells = option_map_or (λ c. without (λ place holder. in_block place (slab_at c first)
+with_object first cache cells = option_map_or (λ c. without (λ place holder. in_block place (slab_around c first)
     && not (is_object (λ n p. n == c.number && (p == first || are_apart c first p)) holder)) cells) cache cells
 
 -- the object is in no slab that has a live one
 abbrev pub is_in_no_slab : Holdings → ℕ → ℕ → Bool
-is_in_no_slab h n p = not (list_any (λ c. c.number == n && list_any (λ q. in_block p (slab_at c q)) c.live) h.caches)
+is_in_no_slab h n p = not (list_any (λ c. c.number == n && list_any (λ q. in_block p (slab_around c q)) c.live) h.caches)
 
 -- The state after a reply to an event, None where it answers no such event. After a refusal it is as before. Slots have
 -- 2 ^ order frames.
@@ -94,19 +94,19 @@ state_after order (On.Tenant t (Asked.Destroy number)) (Say.Destroyed frames) s 
   told = None;
 })
 state_after order (On.Tenant t (Asked.Take number)) (Say.Object place) s = Some (record {
-  has = with_live number (put_rising (λ p. p) place) s.has;
-  cells = with_object place (cache_of s.has number) s.cells;
+  has = with_live_places number (put_rising (λ p. p) place) s.has;
+  cells = with_object place (cache_told s.has number) s.cells;
   hides = λ n. n == number || s.hides n;
   told = None;
 })
 state_after order (On.Tenant t (Asked.Give number place)) Say.Given s = Some (record s {
-  has = with_live number (filter (λ p. not (p == place))) s.has;
+  has = with_live_places number (filter (λ p. not (p == place))) s.has;
   cells = doubted (λ p. is_same (Holder.Object number place)) s.cells;
   told = None;
 })
 state_after order (On.Tenant t Asked.Reap) (Say.Reaped frames) s =
     let cells = without (λ place. is_object (is_in_no_slab s.has)) s.cells in
-    Some (record s { cells = cells; hides = λ n. is_in_use (cache_of s.has n); told = None })
+    Some (record s { cells = cells; hides = λ n. is_in_use (cache_told s.has n); told = None })
 state_after order (On.Tenant t Asked.Report) (Say.Report r) s = Some (record s { told = Some r })
 state_after order (On.Admin (Do.Grant t)) (Say.Granted named u superblock) s = Some (record s {
   has = record s.has { slots = put_rising (λ v. v) u s.has.slots };

@@ -12,11 +12,10 @@ use Rattle.model_core.specs.Slabs.{by_need, choice_by_need}
 use Rattle.model_core.specs.Operations.{refuse, with_block, alloc_at, alloc_step}
 use Rattle.model_core.specs.WellFormed.{IsApart, IsWellFormed}
 use Rattle.model_core.specs.Laws.{Object, IsObject, place_of}
-use Rattle.model_core.proofs.Lists.{IsIn, each_in, PutIn, put_in}
+use Rattle.model_core.proofs.Lists.{IsIn, each_in, PutIn, put_in, in_right, in_map}
 use Rattle.model_core.proofs.Apart.{apart_place, apart_turned}
-use Rattle.model_core.proofs.Kept.{any_put}
+use Rattle.model_core.proofs.MemoryKept.{any_put}
 use Rattle.model_core.proofs.Chosen.{chosen_apart}
-use Rattle.model_core.proofs.CacheSteps.{in_right, in_map}
 use Rattle.model_core.proofs.ObjectsApart.{contains_in}
 use Rattle.model_core.proofs.ByNeed.{by_need_none}
 use Rattle.model_core.proofs.PageSteps.{by_need_kept}
@@ -30,7 +29,7 @@ use Rattle.promise_core.specs.Holdings.{Holdings, can_stand, has_room}
 use Rattle.promise_core.specs.Bytes.{Holder, is_same, without}
 use Rattle.promise_core.specs.State.{State, state_after}
 use Rattle.promise_core.specs.Promises.{due}
-use Rattle.promise_kept.specs.Meets.{holdings_of, is_live, Meets, IsKeptBy, IsKept}
+use Rattle.promise_kept.specs.Meets.{holdings_of, is_object_live, Meets, IsKeptBy, IsPromiseKept}
 use Rattle.promise_kept.proofs.Stand.{in_flat, by_need_stands, room_served}
 use Rattle.promise_kept.proofs.Cells.{all_kept, formed, without_some, without_may}
 use Rattle.promise_kept.proofs.Reaped.{untold, by_need_meets, object_in_slab}
@@ -52,8 +51,8 @@ any_with p b bs e =
     let i : PutIn (λ x. x.first) b bs = put_in (λ x. x.first) b bs in
     ap (λ cs. list_any p cs) i.is ∙ (any_put p i.before i.later b ∙ or_right (p b) (list_any p (i.before ++ i.later)) (ap (λ cs. list_any p cs) (sym i.was) ∙ e))
 
-lives_on : (b : Block) (h : Holdings) (holder : Holder) (place : ℕ) → is_live h holder place ≡ true
-    → is_live (record h { pages = put_rising (λ x. x.first) b h.pages }) holder place ≡ true
+lives_on : (b : Block) (h : Holdings) (holder : Holder) (place : ℕ) → is_object_live h holder place ≡ true
+    → is_object_live (record h { pages = put_rising (λ x. x.first) b h.pages }) holder place ≡ true
 lives_on b h Holder.Page place e = any_with (in_block place) b h.pages e
 lives_on b h (Holder.Object n first) place e = e
 
@@ -123,7 +122,7 @@ module _ (limit order k : ℕ) (m : Machine) (s : State) (w : IsWellFormed limit
     meets = λ t. (after_alloc (block first k) s, refl, alloc_meets order k first s (by_need order k m) (by_need_kept order k m w) (by_need_meets order s m w h k) is);
   }
 
-  pub alloc_is_kept : IsKept limit order (Asked.Alloc k) m s
+  pub alloc_is_kept : IsPromiseKept limit order (Asked.Alloc k) m s
   unfolding command_step alloc_step
   alloc_is_kept = go (ltb order k) refl (choice_by_need order k m) refl
     where

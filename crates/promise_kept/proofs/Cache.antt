@@ -11,17 +11,16 @@ use Rattle.model_core.specs.Machine.{Slab, Cache, Machine, put_rising, least_mis
 use Rattle.model_core.specs.Operations.{Step, refuse}
 use Rattle.model_core.specs.CacheOperations.{created, next_number, create_step, cache_answer, cache_step}
 use Rattle.model_core.specs.WellFormed.{RisesFrom, IsWellFormed}
-use Rattle.model_core.proofs.Lists.{IsIn, PutIn, put_in}
-use Rattle.model_core.proofs.Kept.{any_put}
+use Rattle.model_core.proofs.Lists.{IsIn, PutIn, put_in, in_left, in_right}
+use Rattle.model_core.proofs.MemoryKept.{any_put}
 use Rattle.model_core.proofs.Laid.{in_slab_laid, in_laid}
-use Rattle.model_core.proofs.CacheSteps.{in_left, in_right}
 use Rattle.model_core.proofs.Objects.{in_append}
 use Rattle.model_core.proofs.ObjectsApart.{contains_in}
 use Rattle.model_core.proofs.PageSteps.{created_laid}
 use Rattle.promise_core.specs.Holdings.{ToldCache, Holdings}
 use Rattle.promise_core.specs.Bytes.{Holder}
 use Rattle.promise_core.specs.State.{State, state_after}
-use Rattle.promise_kept.specs.Meets.{told_cache, holdings_of, is_live, Meets}
+use Rattle.promise_kept.specs.Meets.{told_cache, holdings_of, is_object_live, Meets}
 use Rattle.std.proofs.lemmas.List.{length-map}
 use Rattle.std.proofs.lemmas.Bool.{false_from_ne_true, ne_eqb}
 use Rattle.model_core.proofs.Layouts.{layouts_fit}
@@ -32,9 +31,9 @@ use Rattle.words_core.specs.declared.reply.Addressee.TheVariants as To
 use Rattle.words_core.specs.declared.reply.Body.TheVariants as Say
 use Rattle.words_core.specs.declared.reply.Refusal.{Refusal}
 use Rattle.world_core.specs.PrivateStep.{cache_body, command_step}
-use Rattle.promise_core.specs.Holdings.{cache_of}
+use Rattle.promise_core.specs.Holdings.{cache_told}
 use Rattle.promise_core.specs.Promises.{due}
-use Rattle.promise_kept.specs.Meets.{IsKeptBy, IsKept}
+use Rattle.promise_kept.specs.Meets.{IsKeptBy, IsPromiseKept}
 use Rattle.promise_kept.proofs.Stand.{in_contains}
 use Rattle.promise_kept.proofs.Cells.{all_kept, formed}
 
@@ -124,7 +123,7 @@ module _ (limit order size align : ℕ) (pattern : ArrayVec ℕ) (m : Machine) (
       go (inl e) = absurd (subst (λ (x : Cache). IsIn t x.slabs) (sym e) in_t)
       go (inr i) = i
 
-  cells_live : (holder : Holder) (place : ℕ) → is_live s.has holder place ≡ true → is_live after_cache.has holder place ≡ true
+  cells_live : (holder : Holder) (place : ℕ) → is_object_live s.has holder place ≡ true → is_object_live after_cache.has holder place ≡ true
   cells_live Holder.Page place e = e
   cells_live (Holder.Object n first) place e = any_more (λ c. eqb c.number n && list_any (λ p. eqb p first) c.live) (told_cache new) s.has.caches e
 
@@ -197,7 +196,7 @@ module _ (limit order size align : ℕ) (pattern : ArrayVec ℕ) (m : Machine) (
   unfolding due state_after laid holdings_of next_number
   cache_made large sized aligned below =
       let seen : leb limit (length s.has.caches) ≡ false = full_seen limit order m s w h ∙ below in
-      let other : cache_of s.has (next_number m) ≡ None = ap (λ (x : Holdings). find (λ (c : ToldCache). eqb c.number (next_number m)) x.caches) h.has
+      let other : cache_told s.has (next_number m) ≡ None = ap (λ (x : Holdings). find (λ (c : ToldCache). eqb c.number (next_number m)) x.caches) h.has
       ∙ unseen (next_number m) m.caches (least_is_missing 0 (map (λ c. c.number) m.caches) w.caches_rise) in
       record {
         allowed = λ t owners states. all_kept (On.Tenant t (Asked.Cache size align pattern)) (record { addressee = To.Tenant t; body = Say.Cache (next_number m) laid.chunk laid.order laid.count laid.colours })
@@ -207,7 +206,7 @@ module _ (limit order size align : ℕ) (pattern : ArrayVec ℕ) (m : Machine) (
         meets = λ t. (after_cache, refl, cache_meets);
       }
 
-  pub cache_is_kept : 3 ≤ order → IsKept limit order (Asked.Cache size align pattern) m s
+  pub cache_is_kept : 3 ≤ order → IsPromiseKept limit order (Asked.Cache size align pattern) m s
   unfolding command_step cache_step create_step laid
   cache_is_kept large = go (is_size size) refl (is_alignment align) refl (leb limit (next_number m)) refl
     where

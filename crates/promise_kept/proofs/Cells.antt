@@ -8,12 +8,12 @@ use Rattle.words_core.specs.declared.reply.Reply.{Reply}
 use Rattle.promise_core.specs.Holdings.{Holdings}
 use Rattle.promise_core.specs.Bytes.{Holder, is_same, Cell, Cells, may_be, doubted, without}
 use Rattle.promise_core.specs.State.{State, Known}
-use Rattle.promise_core.specs.Promises.{form, refusals, room, busy, blocks, objects, layout, gives, owners, bytes, report, still, kept}
-use Rattle.promise_kept.specs.Meets.{is_live}
+use Rattle.promise_core.specs.Promises.{form, refusals, room, busy, blocks, objects, new_layout, gives, owners, bytes, report, still, kept}
+use Rattle.promise_kept.specs.Meets.{is_object_live}
 
 -- each promise is kept
 pub all_kept : (event : Event) (reply : Reply) (w : Known) (s : State) → form event reply w s ≡ true → refusals event reply.body w s ≡ true → room event reply.body w s ≡ true
-    → busy event reply.body w s ≡ true → blocks event reply.body w s ≡ true → objects event reply.body w s ≡ true → layout event reply.body w s ≡ true
+    → busy event reply.body w s ≡ true → blocks event reply.body w s ≡ true → objects event reply.body w s ≡ true → new_layout event reply.body w s ≡ true
     → gives event reply.body w s ≡ true → owners event reply.body w s ≡ true → bytes event reply.body w s ≡ true → report event reply.body w s ≡ true
     → still event reply.body w s ≡ true → list_all (λ p. p.1) (kept event reply w s) ≡ true
 all_kept event reply w s a b c d e f g h i j k l =
@@ -42,15 +42,15 @@ is_same_refl (Holder.Object n p) = and_from (eqb n n) (eqb p p) (eq-eqb n n refl
 
 -- every sure cell is of something that lives
 abbrev pub IsLiving : Holdings → Cells → Type 0
-IsLiving h cells = (place : ℕ) (cell : Cell) → cells place ≡ Some cell → cell.sure ≡ true → is_live h cell.holder place ≡ true
+IsLiving h cells = (place : ℕ) (cell : Cell) → cells place ≡ Some cell → cell.sure ≡ true → is_object_live h cell.holder place ≡ true
 
 -- of what does not live the fresh byte may be
-pub fresh_may : (h : Holdings) (cells : Cells) → IsLiving h cells → (holder : Holder) (place fresh : ℕ) → is_live h holder place ≡ false
+pub fresh_may : (h : Holdings) (cells : Cells) → IsLiving h cells → (holder : Holder) (place fresh : ℕ) → is_object_live h holder place ≡ false
     → may_be holder fresh (cells place) fresh ≡ true
 fresh_may h cells lives holder place fresh dead = go (cells place) refl
   where
     sure : (cell : Cell) → cells place ≡ Some cell → cell.holder ≡ holder → (b : Bool) → cell.sure ≡ b → (eqb fresh cell.byte || (not b && eqb fresh fresh)) ≡ true
-    sure cell e same true is = absurd (false≢true (sym dead ∙ (ap (λ x. is_live h x place) (sym same) ∙ lives place cell e is)))
+    sure cell e same true is = absurd (false≢true (sym dead ∙ (ap (λ x. is_object_live h x place) (sym same) ∙ lives place cell e is)))
     sure cell e same false is = or_right (eqb fresh cell.byte) (eqb fresh fresh) (eq-eqb fresh fresh refl)
 
     cell_may : (cell : Cell) → cells place ≡ Some cell → (b : Bool) → is_same cell.holder holder ≡ b

@@ -14,12 +14,12 @@ use Rattle.model_core.specs.Operations.{Step, refuse}
 use Rattle.model_core.specs.CacheOperations.{frames_of, destroy_of, destroy_step}
 use Rattle.model_core.specs.WellFormed.{in_slab, IsWellFormed}
 use Rattle.model_core.specs.Laws.{Object, IsObject, place_of}
-use Rattle.model_core.proofs.Lists.{IsIn, Found, found, find_in, filter_in, in_filter, any_in, any_map, any_split, some_any, each_map, each_true}
+use Rattle.model_core.proofs.Lists.{IsIn, Found, found, find_in, filter_in, in_filter, any_in, any_map, any_split, some_any, each_map, each_true, in_map}
 use Rattle.model_core.proofs.ObjectsApart.{contains_in}
 use Rattle.model_core.proofs.Laid.{Laid, laid, all_laid, laid_block, in_laid, in_slab_laid, laid_out}
 use Rattle.model_core.proofs.Split.{filter_laid, laid_of, slab_blocks_laid}
 use Rattle.model_core.proofs.Constructed.{not_gone}
-use Rattle.model_core.proofs.CacheSteps.{in_map, in_all_laid}
+use Rattle.model_core.proofs.CacheSteps.{in_all_laid}
 use Rattle.words_core.specs.declared.event.Command.TheVariants as Asked
 use Rattle.words_core.specs.declared.report.Report.{Report}
 use Rattle.words_core.specs.declared.reply.Body.TheVariants as Say
@@ -28,7 +28,7 @@ use Rattle.promise_core.specs.Holdings.{vacant_blocks}
 use Rattle.promise_core.specs.Bytes.{Holder, is_object, may_be, without}
 use Rattle.promise_core.specs.State.{State, state_after}
 use Rattle.promise_core.specs.Promises.{due, can_come_back, empty_frames}
-use Rattle.promise_kept.specs.Meets.{told_cache, holdings_of, is_live, Meets, IsKeptBy, IsKept}
+use Rattle.promise_kept.specs.Meets.{told_cache, holdings_of, is_object_live, Meets, IsKeptBy, IsPromiseKept}
 use Rattle.promise_kept.proofs.Seen.{none_live}
 use Rattle.promise_kept.proofs.Stand.{in_flat, one_live, in_contains}
 use Rattle.promise_kept.proofs.Cells.{without_some, without_may, fresh_may}
@@ -138,7 +138,7 @@ module _ (limit order : ℕ) (c : Cache) (m : Machine) (s : State) (w : IsWellFo
       (sym (ap (λ bs. list_any (in_block place) bs) gone_are ∙ any_map (in_block place) laid_block (filter (λ l. eqb l.number c.number) (all_laid m.caches))))
       ∙ ap (λ b. list_any (in_block place) (slab_blocks c) || b) (ap (λ ls. list_any (in_laid place) ls) (filter_laid (λ n. not (eqb n c.number)) m.caches) ∙ sym (in_slab_laid (destroyed c m) place))))
 
-  still_live : (p : ℕ) (holder : Holder) → is_live (holdings_of m) holder p ≡ true → is_object (λ n q. eqb n c.number) holder ≡ false → is_live (holdings_of (destroyed c m)) holder p ≡ true
+  still_live : (p : ℕ) (holder : Holder) → is_object_live (holdings_of m) holder p ≡ true → is_object (λ n q. eqb n c.number) holder ≡ false → is_object_live (holdings_of (destroyed c m)) holder p ≡ true
   unfolding holdings_of destroyed
   still_live p Holder.Page e differs = e
   still_live p (Holder.Object number first) e differs =
@@ -179,7 +179,7 @@ module _ (limit order : ℕ) (c : Cache) (m : Machine) (s : State) (w : IsWellFo
     has = has_after;
     hides = λ x t in_x in_t. let k : IsIn x m.caches × (not (eqb x.number c.number) ≡ true) = left x in_x in and_from (not (eqb x.number c.number)) (s.hides x.number) k.1 (h.hides x t (in_contains x m.caches k.0) in_t);
     lives = λ p cell e sure. let k : (s.cells p ≡ Some cell) × (is_object (λ n q. eqb n c.number) cell.holder ≡ false) = without_some (λ place. is_object (λ n q. eqb n c.number)) s.cells p cell e in
-        ap (λ x. is_live x cell.holder p) has_after ∙ still_live p cell.holder (ap (λ x. is_live x cell.holder p) (sym h.has) ∙ h.lives p cell k.0 sure) k.1;
+        ap (λ x. is_object_live x cell.holder p) has_after ∙ still_live p cell.holder (ap (λ x. is_object_live x cell.holder p) (sym h.has) ∙ h.lives p cell k.0 sure) k.1;
     page_bytes = λ p byte out is. without_may (λ place. is_object (λ n q. eqb n c.number)) s.cells Holder.Page p 0 byte refl (page_at p byte out is);
     object_bytes = λ o j byte i below is. without_may (λ place. is_object (λ n q. eqb n c.number)) s.cells (Holder.Object o.cache.number (place_of o)) (place_of o + j) (pattern_byte o.cache.pattern j) byte
         (not-true (eqb o.cache.number c.number) (left o.cache i.cache_in).1) (object_at o j byte i below is);
@@ -201,7 +201,7 @@ in_use c e =
     let o : (o : LiveObject) × IsIn o (live_in c t.0) × (o.slab ≡ t.0) = one_live c t.0 0 t.0.live (not-false _ (not-true (is_empty t.0) t.2)) in
     in_length o.0.place (map (λ o. o.place) (live_objects c)) (in_map (λ o. o.place) o.0 (live_objects c) (in_flat (live_in c) o.0 t.0 c.slabs t.1 o.1))
 
-destroy_seen : (limit order number : ℕ) (m : Machine) (s : State) → IsWellFormed limit order m → Meets order s m → Meets order (seen m s) m → IsKept limit order (Asked.Destroy number) m (seen m s)
+destroy_seen : (limit order number : ℕ) (m : Machine) (s : State) → IsWellFormed limit order m → Meets order s m → Meets order (seen m s) m → IsPromiseKept limit order (Asked.Destroy number) m (seen m s)
 unfolding command_step destroy_step holdings_of due state_after
 destroy_seen limit order number m s w h k = go (cache_of m number) refl
   where
@@ -227,7 +227,7 @@ destroy_seen limit order number m s w h k = go (cache_of m number) refl
     }
     go (Some c) e = used c e (list_any (λ s. not (is_empty s)) c.slabs) refl
 
-pub destroy_kept : (limit order number : ℕ) (m : Machine) (s : State) → IsWellFormed limit order m → Meets order s m → IsKept limit order (Asked.Destroy number) m s
+pub destroy_kept : (limit order number : ℕ) (m : Machine) (s : State) → IsWellFormed limit order m → Meets order s m → IsPromiseKept limit order (Asked.Destroy number) m s
 destroy_kept limit order number m s w h =
     let e : seen m s ≡ s = seen_is m s h.has in
-    subst (IsKept limit order (Asked.Destroy number) m) e (destroy_seen limit order number m s w h (subst (λ x. Meets order x m) (sym e) h))
+    subst (IsPromiseKept limit order (Asked.Destroy number) m) e (destroy_seen limit order number m s w h (subst (λ x. Meets order x m) (sym e) h))

@@ -15,20 +15,19 @@ use Rattle.model_core.specs.Operations.{overlaps}
 use Rattle.model_core.specs.CacheOperations.{frames_of}
 use Rattle.model_core.specs.Reports.{frames_held, frames_taken, frames_free, free_count}
 use Rattle.model_core.specs.WellFormed.{RisesFrom, IsApart, AreApart, IsPlaced, IsWellFormed}
-use Rattle.model_core.proofs.Lists.{IsIn, each_in, each_from, each_map, some_any, any_in, any_none, in_filter}
-use Rattle.model_core.proofs.Bridge.{number_first, number_of_frame, aligned_first, taken_tells, taken_is, available_tells}
+use Rattle.model_core.proofs.Lists.{IsIn, each_in, each_from, each_map, some_any, any_in, any_none, in_filter, in_map, map_in}
+use Rattle.model_core.proofs.BlocksByNumber.{number_first, number_of_frame, aligned_first, taken_tells, taken_is, available_tells}
 use Rattle.model_core.proofs.Halves.{clear_at}
 use Rattle.model_core.proofs.Counting.{count_same}
 use Rattle.model_core.proofs.FreeBlocks.{same_bool}
 use Rattle.model_core.proofs.Chosen.{held_below}
 use Rattle.model_core.proofs.Chosen as chosen
-use Rattle.model_core.proofs.CacheSteps.{in_map}
-use Rattle.model_core.proofs.Kept.{frame_slot}
-use Rattle.promise_core.specs.Holdings.{taken_blocks, is_vacant, blocks_of_slot, vacant_blocks}
-use Rattle.promise_core.specs.Promises.{frames_in}
+use Rattle.model_core.proofs.MemoryKept.{frame_slot}
+use Rattle.promise_core.specs.Holdings.{told_blocks, is_vacant, blocks_of_slot, vacant_blocks}
+use Rattle.promise_core.specs.Promises.{frames_of_counts}
 use Rattle.promise_kept.specs.Meets.{holdings_of}
 use Rattle.promise_kept.proofs.Counts.{in_row}
-use Rattle.promise_kept.proofs.Stand.{in_flat, map_in, order_in_listed, overlap_shares, taken_seen}
+use Rattle.promise_kept.proofs.Stand.{in_flat, order_in_listed, overlap_shares, taken_seen}
 use Rattle.promise_kept.proofs.Below.{is_clear_alone, clear_halves, strided, count_less, in_frames, frame_in, in_frame, in_any, count_blocks, count_listed}
 
 -- Free blocks, by their orders
@@ -67,7 +66,7 @@ module _ (top : ℕ) (held : ℕ → Bool) (taken : Taken) (slots : ℕ) where
   and_true false = refl
 
   -- the free blocks from order k on, in blocks of order k, are the clear blocks of that order
-  pub free_clear : (d k : ℕ) → k + d ≡ top → frames_in (map free (range_with_len k (suc d))) ≡ count_below (is_clear ok k) (slots * 2 ^ d)
+  pub free_clear : (d k : ℕ) → k + d ≡ top → frames_of_counts (map free (range_with_len k (suc d))) ≡ count_below (is_clear ok k) (slots * 2 ^ d)
   free_clear zero k e =
       let is : k ≡ top = omega (arith, e) in
       let n : free k ≡ count_below (λ q. free_at k (q * 2 ^ k)) (slots * 2 ^ zero) = numbered k zero e in
@@ -75,7 +74,7 @@ module _ (top : ℕ) (held : ℕ → Bool) (taken : Taken) (slots : ℕ) where
       (λ q lt. free_is k q (omega (arith, is)) ∙ (ap (λ b. is_clear ok k q && (b || not (is_clear ok (suc k) (q / 2)))) (eq-eqb k top is) ∙ and_true (is_clear ok k q))) in
       omega (arith, n, whole)
   free_clear (suc d) k e =
-      let rest : frames_in (map free (range_with_len (k + 1) (suc d))) ≡ count_below (is_clear ok (k + 1)) (slots * 2 ^ d) = free_clear d (k + 1) (omega (arith, e)) in
+      let rest : frames_of_counts (map free (range_with_len (k + 1) (suc d))) ≡ count_below (is_clear ok (k + 1)) (slots * 2 ^ d) = free_clear d (k + 1) (omega (arith, e)) in
       let next : k + 1 ≡ suc k = omega arith in
       let above : count_below (is_clear ok (k + 1)) (slots * 2 ^ d) ≡ count_below (is_clear ok (suc k)) (slots * 2 ^ d) = ap (λ j. count_below (is_clear ok j) (slots * 2 ^ d)) next in
       let power : 2 ^ suc d ≡ 2 ^ d * 2 = omega arith in
@@ -205,7 +204,7 @@ module _ {limit : ℕ} (order : ℕ) (m : Machine) (w : IsWellFormed limit order
       in_filter (is_vacant (holdings_of m)) b (flat_map (blocks_of_slot order k) m.slots)
       (in_flat (blocks_of_slot order k) b u.0 m.slots u.1 (in_map (λ i. block (i * 2 ^ k) k) q (range_with_len (u.0 * share) share)
       (in_row q (u.0 * share) share (subst (λ v. v * share ≤ q) (sym slot) low) (subst (λ v. q < v * share + share) (sym slot) high))))
-      (not_from_false (list_any (overlaps b) (taken_blocks (holdings_of m))) (any_none (overlaps b) (taken_blocks (holdings_of m)) (each_from (λ t. overlaps b t ≡ false) (taken_blocks (holdings_of m))
+      (not_from_false (list_any (overlaps b) (told_blocks (holdings_of m))) (any_none (overlaps b) (told_blocks (holdings_of m)) (each_from (λ t. overlaps b t ≡ false) (told_blocks (holdings_of m))
       (λ t in_t. false_from_ne_true (overlaps b t) (λ o. overlap_shares b t o (λ x has other.
       (available_tells order (holds m) (taken_in m) x (free_frame x has)).1
       (t.first, t.order, chosen.order_in_listed (model.taken_blocks m) t w.apart (taken_seen order m t w in_t), other)))))))
@@ -220,16 +219,16 @@ module _ {limit : ℕ} (order : ℕ) (m : Machine) (w : IsWellFormed limit order
 
   -- the figures
 
-  pub free_frames : frames_in (map (free_count order m) (range_with_len 0 (order + 1))) ≡ frames_free order m
+  pub free_frames : frames_of_counts (map (free_count order m) (range_with_len 0 (order + 1))) ≡ frames_free order m
   free_frames =
       let all : order + 1 ≡ suc order = omega arith in
-      let sum : frames_in (map (free_count order m) (range_with_len 0 (suc order))) ≡ count_below available bound = free_clear order (holds m) (taken_in m) (beyond m.slots) order 0 (omega arith) in
-      ap (λ n. frames_in (map (free_count order m) (range_with_len 0 n))) all ∙ (sum ∙ omega (arith, available_count))
+      let sum : frames_of_counts (map (free_count order m) (range_with_len 0 (suc order))) ≡ count_below available bound = free_clear order (holds m) (taken_in m) (beyond m.slots) order 0 (omega arith) in
+      ap (λ n. frames_of_counts (map (free_count order m) (range_with_len 0 n))) all ∙ (sum ∙ omega (arith, available_count))
 
-  pub free_fits : (k : ℕ) → k ≤ order → frames_in (map (free_count order m) (range_with_len k (order + 1 - k))) ≤ length (vacant_blocks order (holdings_of m) k)
+  pub free_fits : (k : ℕ) → k ≤ order → frames_of_counts (map (free_count order m) (range_with_len k (order + 1 - k))) ≤ length (vacant_blocks order (holdings_of m) k)
   free_fits k le =
       let all : order + 1 - k ≡ suc (order - k) = omega (arith, le) in
-      let sum : frames_in (map (free_count order m) (range_with_len k (suc (order - k)))) ≡ count_below (is_clear available k) (beyond m.slots * 2 ^ (order - k)) =
+      let sum : frames_of_counts (map (free_count order m) (range_with_len k (suc (order - k)))) ≡ count_below (is_clear available k) (beyond m.slots * 2 ^ (order - k)) =
       free_clear order (holds m) (taken_in m) (beyond m.slots) (order - k) k (omega (arith, le)) in
-      let same : frames_in (map (free_count order m) (range_with_len k (order + 1 - k))) ≡ frames_in (map (free_count order m) (range_with_len k (suc (order - k)))) = ap (λ n. frames_in (map (free_count order m) (range_with_len k n))) all in
+      let same : frames_of_counts (map (free_count order m) (range_with_len k (order + 1 - k))) ≡ frames_of_counts (map (free_count order m) (range_with_len k (suc (order - k)))) = ap (λ n. frames_of_counts (map (free_count order m) (range_with_len k n))) all in
       omega (arith, same, sum, clear_fits k le)

@@ -10,7 +10,7 @@ use Rattle.model_core.specs.declared.report.CacheRow.{CacheRow}
 use Rattle.model_core.specs.Blocks.{Block}
 use Rattle.model_core.specs.Machine.{Slab, Cache, layout, slab_block}
 use Rattle.model_core.specs.Slabs.{is_empty, empty_blocks}
-use Rattle.model_core.specs.Reports.{row_of}
+use Rattle.model_core.specs.Reports.{row_of_cache}
 use Rattle.model_core.specs.CacheOperations.{frames_of}
 use Rattle.model_core.proofs.Lists.{IsIn, each_append, each_weaker, each_map, each_true, filter_in}
 use Rattle.promise_core.specs.Holdings.{ToldCache}
@@ -104,7 +104,7 @@ empty_of test c = if test c.number then empty_blocks c else []
 abbrev frames_told : (ℕ → Bool) → ToldCache → CacheRow → ℕ
 frames_told test c row = if test c.number then row.empty * 2 ^ c.order else 0
 
-pub told_frames : (test : ℕ → Bool) (cs : List Cache) (rows : List CacheRow) → map (λ row. row.empty) rows ≡ map (λ row. row.empty) (map row_of cs)
+pub told_frames : (test : ℕ → Bool) (cs : List Cache) (rows : List CacheRow) → map (λ row. row.empty) rows ≡ map (λ row. row.empty) (map row_of_cache cs)
     → sum_by (λ p. frames_told test p.0 p.1) (zip (map told_cache cs) rows) ≡ frames_of (flat_map (empty_of test) cs)
 told_frames test [] rows e = refl
 told_frames test (c ∷ cs) [] e = absurd (cc)

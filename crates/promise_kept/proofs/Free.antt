@@ -22,7 +22,7 @@ use Rattle.promise_core.specs.Holdings.{Holdings}
 use Rattle.promise_core.specs.Bytes.{Holder, is_same, doubted}
 use Rattle.promise_core.specs.State.{State, state_after}
 use Rattle.promise_core.specs.Promises.{due}
-use Rattle.promise_kept.specs.Meets.{holdings_of, is_live, Meets, IsKeptBy, IsKept}
+use Rattle.promise_kept.specs.Meets.{holdings_of, is_object_live, Meets, IsKeptBy, IsPromiseKept}
 use Rattle.promise_kept.proofs.Stand.{order_in_listed}
 use Rattle.promise_kept.proofs.Cells.{all_kept, formed, doubt_may, doubt_lives}
 
@@ -37,8 +37,8 @@ without_pages first h = record h { pages = filter (λ x. not (eqb x.first first)
 abbrev after_free : ℕ → ℕ → State → State
 after_free first k s = record s { has = without_pages first s.has; cells = doubted (freed_there (block first k)) s.cells; told = None }
 
-lives_still : (first k : ℕ) (h : Holdings) → RisesFrom 0 (map (λ b. b.first) h.pages) → order_in h.pages first ≡ Some k → (holder : Holder) (place : ℕ) → is_live h holder place ≡ true
-    → freed_there (block first k) place holder ≡ false → is_live (without_pages first h) holder place ≡ true
+lives_still : (first k : ℕ) (h : Holdings) → RisesFrom 0 (map (λ b. b.first) h.pages) → order_in h.pages first ≡ Some k → (holder : Holder) (place : ℕ) → is_object_live h holder place ≡ true
+    → freed_there (block first k) place holder ≡ false → is_object_live (without_pages first h) holder place ≡ true
 lives_still first k h rises is Holder.Page place e out =
     let b = some_any (in_block place) h.pages e in
     go b.0 b.1 b.2 (eqb b.0.first first) refl
@@ -59,7 +59,7 @@ module _ (limit order first : ℕ) (m : Machine) (s : State) (w : IsWellFormed l
     lives = λ place cell e sure. let was = doubt_lives (freed_there (block first k)) s.cells place cell e sure in
         lives_still first k s.has (subst (λ (x : Holdings). RisesFrom 0 (map (λ b. b.first) x.pages)) (sym h.has) w.blocks_rise)
         (ap (λ (x : Holdings). order_in x.pages first) h.has ∙ is) cell.holder place
-        (ap (λ x. is_live s.has x place) (sym was.3) ∙ h.lives place was.0 was.1 was.2) was.4;
+        (ap (λ x. is_object_live s.has x place) (sym was.3) ∙ h.lives place was.0 was.1 was.2) was.4;
     page_bytes = λ place byte out there. doubt_may (freed_there (block first k)) s.cells Holder.Page place 0 byte (h.page_bytes place byte out there);
     object_bytes = λ o j byte i byte_in there. doubt_may (freed_there (block first k)) s.cells (Holder.Object o.cache.number (place_of o)) (place_of o + j) (pattern_byte o.cache.pattern j) byte
         (h.object_bytes o j byte (record { cache_in = i.cache_in; slab_in = i.slab_in; index_in = i.index_in }) byte_in there);
@@ -89,7 +89,7 @@ module _ (limit order first : ℕ) (m : Machine) (s : State) (w : IsWellFormed l
         meets = λ t. (after_free first k s, refl, free_meets k is);
       }
 
-  pub free_is_kept : IsKept limit order (Asked.Free first) m s
+  pub free_is_kept : IsPromiseKept limit order (Asked.Free first) m s
   unfolding command_step free_step
   free_is_kept = go (order_in m.blocks first) refl
     where

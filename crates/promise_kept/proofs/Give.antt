@@ -18,11 +18,11 @@ use Rattle.model_core.proofs.Objects.{IsLive, live_is}
 use Rattle.words_core.specs.declared.event.Command.TheVariants as Asked
 use Rattle.words_core.specs.declared.reply.Body.TheVariants as Say
 use Rattle.world_core.specs.PrivateStep.{command_step, give_body}
-use Rattle.promise_core.specs.Holdings.{with_live as with_live_told}
+use Rattle.promise_core.specs.Holdings.{with_live_places as with_live_told}
 use Rattle.promise_core.specs.Bytes.{Holder, is_same, may_be, doubted}
 use Rattle.promise_core.specs.State.{State, state_after}
 use Rattle.promise_core.specs.Promises.{due}
-use Rattle.promise_kept.specs.Meets.{told_cache, holdings_of, is_live, Meets, IsKeptBy, IsKept}
+use Rattle.promise_kept.specs.Meets.{told_cache, holdings_of, is_object_live, Meets, IsKeptBy, IsPromiseKept}
 use Rattle.promise_kept.proofs.Stand.{in_contains}
 use Rattle.promise_kept.proofs.Live.{IsSlab, slabs_of, same_members, live_rises, IsLivePlace, live_place, place_listed}
 use Rattle.promise_kept.proofs.Flag.{replaced_is, replaced_one, replaced_other, live_after, live_other, WasObject, was_object, caches_told}
@@ -73,7 +73,7 @@ module _ (limit order place : ℕ) (c : Cache) (o : LiveObject) (m : Machine) (s
           go (inl e) = absurd (false≢true e.0)
           go (inr e) = in_filter (λ p. not (eqb p place)) u (map (λ x. x.place) (live_objects c)) (place_listed c u e.0) (not_from_false (eqb u place) (ne_eqb u place (λ k. e.1 (k ∙ sym here))))
 
-  still_live : (p : ℕ) (holder : Holder) → is_live (holdings_of m) holder p ≡ true → is_same (Holder.Object c.number place) holder ≡ false → is_live (holdings_of n) holder p ≡ true
+  still_live : (p : ℕ) (holder : Holder) → is_object_live (holdings_of m) holder p ≡ true → is_same (Holder.Object c.number place) holder ≡ false → is_object_live (holdings_of n) holder p ≡ true
   unfolding holdings_of
   still_live p Holder.Page e differs = e
   still_live p (Holder.Object number first) e differs = told_live n number first p (go (live_told m number first p e))
@@ -108,7 +108,7 @@ module _ (limit order place : ℕ) (c : Cache) (o : LiveObject) (m : Machine) (s
     has = refl;
     hides = λ x slab i j. go_hides x slab (contains_in n.caches x i) j;
     lives = λ p cell e sure. let k = doubt_lives (λ p. is_same (Holder.Object c.number place)) s.cells p cell e sure in
-        still_live p cell.holder (subst (λ x. is_live (holdings_of m) x p ≡ true) k.3 (ap (λ x. is_live x k.0.holder p) (sym h.has) ∙ h.lives p k.0 k.1 k.2)) k.4;
+        still_live p cell.holder (subst (λ x. is_object_live (holdings_of m) x p ≡ true) k.3 (ap (λ x. is_object_live x k.0.holder p) (sym h.has) ∙ h.lives p k.0 k.1 k.2)) k.4;
     page_bytes = λ p byte out is. doubt_may (λ p. is_same (Holder.Object c.number place)) s.cells Holder.Page p 0 byte
         (h.page_bytes p byte (sym (flagged_same order p c o.slab o.index false m w in_c l.slab_in) ∙ out) is);
     object_bytes = λ x j byte i below is. go_bytes x j byte below is (was_object limit order c o.slab o.index false m w in_c l.slab_in lt x i);
@@ -152,7 +152,7 @@ none_any {X} p (x ∷ xs) e = go (p x) e (none_any p xs)
     go true e rest = absurd (cc)
     go false e rest = rest e
 
-give_seen : (limit order number place : ℕ) (m : Machine) (s : State) → IsWellFormed limit order m → Meets order s m → Meets order (seen m s) m → IsKept limit order (Asked.Give number place) m (seen m s)
+give_seen : (limit order number place : ℕ) (m : Machine) (s : State) → IsWellFormed limit order m → Meets order s m → Meets order (seen m s) m → IsPromiseKept limit order (Asked.Give number place) m (seen m s)
 unfolding command_step give_step holdings_of due state_after
 give_seen limit order number place m s w h k = go (cache_of m number) refl
   where
@@ -178,7 +178,7 @@ give_seen limit order number place m s w h k = go (cache_of m number) refl
     }
     go (Some c) e = object c e (find (λ x. eqb x.place place) (live_objects c)) refl
 
-pub give_kept : (limit order number place : ℕ) (m : Machine) (s : State) → IsWellFormed limit order m → Meets order s m → IsKept limit order (Asked.Give number place) m s
+pub give_kept : (limit order number place : ℕ) (m : Machine) (s : State) → IsWellFormed limit order m → Meets order s m → IsPromiseKept limit order (Asked.Give number place) m s
 give_kept limit order number place m s w h =
     let e : seen m s ≡ s = seen_is m s h.has in
-    subst (IsKept limit order (Asked.Give number place) m) e (give_seen limit order number place m s w h (subst (λ x. Meets order x m) (sym e) h))
+    subst (IsPromiseKept limit order (Asked.Give number place) m) e (give_seen limit order number place m s w h (subst (λ x. Meets order x m) (sym e) h))

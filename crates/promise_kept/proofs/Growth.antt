@@ -12,7 +12,7 @@ use Rattle.model_core.proofs.Layouts.{layouts_fit}
 use Rattle.model_core.proofs.Lists.{IsIn, each_in, each_right, each_unmap}
 use Rattle.model_core.proofs.Apart.{apart_place, apart_turned}
 use Rattle.model_core.proofs.Laid.{Laid, laid, all_laid, laid_block, in_laid, taken_laid, in_slab_laid}
-use Rattle.model_core.proofs.Kept.{any_put}
+use Rattle.model_core.proofs.MemoryKept.{any_put}
 use Rattle.model_core.proofs.Chosen.{chosen_apart}
 use Rattle.model_core.proofs.Split.{in_middle}
 use Rattle.model_core.proofs.CacheSteps.{in_all_laid, IsGrown, grown_is, grown_kept}
@@ -20,7 +20,7 @@ use Rattle.model_core.proofs.ObjectsApart.{contains_in, one_key}
 use Rattle.model_core.proofs.Constructed.{IsFresh, AllFresh, grown_byte, fresh_grown}
 use Rattle.promise_core.specs.Bytes.{Holder, may_be}
 use Rattle.promise_core.specs.State.{State}
-use Rattle.promise_kept.specs.Meets.{told_cache, holdings_of, is_live, Meets}
+use Rattle.promise_kept.specs.Meets.{told_cache, holdings_of, is_object_live, Meets}
 use Rattle.promise_kept.proofs.Stand.{in_contains}
 use Rattle.promise_kept.proofs.Seen.{none_live}
 use Rattle.promise_kept.proofs.Cells.{fresh_may}
@@ -104,9 +104,9 @@ module _ {limit : ℕ} (order first : ℕ) (c : Cache) (m : Machine) (st : State
       let here : object_place (layout c) first new.colour k + 0 ≡ object_place (layout c) first new.colour k = omega arith in
       subst (λ p. in_block p (slab_block c new) ≡ true) here (object_in_slab order n (grown_cache first c) new k 0 (grown_kept order first c m w in_c e) g.cache_in g.slab_in lt sized)
 
-  new_dead : (k p : ℕ) → k < (layout c).count → is_live st.has (Holder.Object c.number (object_place (layout c) first new.colour k)) p ≡ false
+  new_dead : (k p : ℕ) → k < (layout c).count → is_object_live st.has (Holder.Object c.number (object_place (layout c) first new.colour k)) p ≡ false
   new_dead k p lt = false_from_ne_true _ (λ live. go (live_told m c.number (object_place (layout c) first new.colour k) p
-      (ap (λ x. is_live x (Holder.Object c.number (object_place (layout c) first new.colour k)) p) (sym h.has) ∙ live)))
+      (ap (λ x. is_object_live x (Holder.Object c.number (object_place (layout c) first new.colour k)) p) (sym h.has) ∙ live)))
     where
       go : IsLiveIn c.number (object_place (layout c) first new.colour k) m.caches → ⊥
       go l =

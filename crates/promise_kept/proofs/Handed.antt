@@ -13,15 +13,15 @@ use Rattle.model_core.specs.Operations.{overlaps}
 use Rattle.model_core.specs.Slabs.{live_objects}
 use Rattle.model_core.specs.WellFormed.{IsApart, IsCut, IsCache, IsWellFormed}
 use Rattle.model_core.proofs.Layouts.{for_alignment, layouts_fit}
-use Rattle.model_core.proofs.Lists.{IsIn, each_in, each_from, any_none}
+use Rattle.model_core.proofs.Lists.{IsIn, each_in, each_from, any_none, in_map, map_in}
 use Rattle.model_core.proofs.Apart.{apart_turned, one_holder}
-use Rattle.model_core.proofs.Bridge.{any_below_is}
+use Rattle.model_core.proofs.BlocksByNumber.{any_below_is}
 use Rattle.model_core.proofs.Laid.{laid, all_laid, laid_block, Placed, IsLaidOut, laid_out}
-use Rattle.model_core.proofs.CacheSteps.{in_map, in_all_laid}
+use Rattle.model_core.proofs.CacheSteps.{in_all_laid}
 use Rattle.model_core.proofs.Objects.{in_append}
-use Rattle.promise_core.specs.Holdings.{ToldCache, Holdings, slab_at, taken_blocks, can_stand, are_apart, is_grid, can_be_taken}
+use Rattle.promise_core.specs.Holdings.{ToldCache, Holdings, slab_around, told_blocks, can_stand, are_apart, is_grid, can_be_taken}
 use Rattle.promise_kept.specs.Meets.{told_cache, holdings_of}
-use Rattle.promise_kept.proofs.Stand.{flat_in, overlap_shares, map_in}
+use Rattle.promise_kept.proofs.Stand.{flat_in, overlap_shares}
 use Rattle.promise_kept.proofs.Live.{IsLivePlace, live_place}
 use Rattle.promise_kept.proofs.Beside.{places_in, less_count, some_count, IsBeside, beside_at, is_slab, slab_here, slab_of_live, beside_is}
 
@@ -73,9 +73,9 @@ module _ {limit : ℕ} (order : ℕ) (c : Cache) (s : Slab) (m : Machine) (w : I
 
   -- Where none of the slab's objects is live it can stand
 
-  other_apart : list_any (λ live. live) s.live ≡ false → (b : Block) → IsIn b (taken_blocks (holdings_of m)) → IsApart (slab_block c s) b
-  unfolding taken_blocks holdings_of
-  other_apart none b i = go (in_append b m.blocks (flat_map (λ x. map (slab_at x) x.live) (map told_cache m.caches)) i)
+  other_apart : list_any (λ live. live) s.live ≡ false → (b : Block) → IsIn b (told_blocks (holdings_of m)) → IsApart (slab_block c s) b
+  unfolding told_blocks holdings_of
+  other_apart none b i = go (in_append b m.blocks (flat_map (λ x. map (slab_around x) x.live) (map told_cache m.caches)) i)
     where
       l : IsLaidOut order m.slots m.blocks (all_laid m.caches) m.bytes
       l = laid_out order m w
@@ -88,19 +88,19 @@ module _ {limit : ℕ} (order : ℕ) (c : Cache) (s : Slab) (m : Machine) (w : I
           let one : laid c s ≡ laid d o.slab = one_holder laid_block (all_laid m.caches) (laid c s) (laid d o.slab) y l.apart_slabs here (in_all_laid d o.slab m.caches in_d o.slab_in) in_one in_other in
           false≢true (sym none ∙ flag_any s.live o.index (ap (λ k. get_or k.live o.index false) one ∙ o.live))
 
-      told : (d : Cache) → IsIn d m.caches → IsIn b (map (slab_at (told_cache d)) (map (λ o. o.place) (live_objects d))) → IsApart (slab_block c s) b
+      told : (d : Cache) → IsIn d m.caches → IsIn b (map (slab_around (told_cache d)) (map (λ o. o.place) (live_objects d))) → IsApart (slab_block c s) b
       told d in_d j =
-          let u : (u : ℕ) × IsIn u (map (λ o. o.place) (live_objects d)) × (slab_at (told_cache d) u ≡ b) = map_in (slab_at (told_cache d)) b (map (λ o. o.place) (live_objects d)) j in
+          let u : (u : ℕ) × IsIn u (map (λ o. o.place) (live_objects d)) × (slab_around (told_cache d) u ≡ b) = map_in (slab_around (told_cache d)) b (map (λ o. o.place) (live_objects d)) j in
           let o : IsLivePlace d u.0 = live_place d u.0 u.1 in
           subst (IsApart (slab_block c s)) (sym (slab_of_live order d m w in_d u.0 o) ∙ u.2) (slab d in_d u.0 o)
 
-      go : IsIn b m.blocks ⊎ IsIn b (flat_map (λ x. map (slab_at x) x.live) (map told_cache m.caches)) → IsApart (slab_block c s) b
+      go : IsIn b m.blocks ⊎ IsIn b (flat_map (λ x. map (slab_around x) x.live) (map told_cache m.caches)) → IsApart (slab_block c s) b
       go (inl j) = apart_turned b (slab_block c s) (each_in (IsApart b) (slab_block c s) (map laid_block (all_laid m.caches))
           (each_in (λ a. Each (IsApart a) (map laid_block (all_laid m.caches))) b m.blocks l.across j) (in_map laid_block (laid c s) (all_laid m.caches) here))
       go (inr j) =
-          let t : (t : ToldCache) × IsIn t (map told_cache m.caches) × IsIn b (map (slab_at t) t.live) = flat_in (λ x. map (slab_at x) x.live) b (map told_cache m.caches) j in
+          let t : (t : ToldCache) × IsIn t (map told_cache m.caches) × IsIn b (map (slab_around t) t.live) = flat_in (λ x. map (slab_around x) x.live) b (map told_cache m.caches) j in
           let d : (d : Cache) × IsIn d m.caches × (told_cache d ≡ t.0) = map_in told_cache t.0 m.caches t.1 in
-          told d.0 d.1 (subst (λ x. IsIn b (map (slab_at x) x.live)) (sym d.2) t.2)
+          told d.0 d.1 (subst (λ x. IsIn b (map (slab_around x) x.live)) (sym d.2) t.2)
 
   stands : list_any (λ live. live) s.live ≡ false → can_stand order (holdings_of m) (slab_block c s) ≡ true
   unfolding can_stand holdings_of
@@ -108,7 +108,7 @@ module _ {limit : ℕ} (order : ℕ) (c : Cache) (s : Slab) (m : Machine) (w : I
       let b : Block = slab_block c s in
       let placed : Placed order m.slots b = each_in (λ k. Placed order m.slots (laid_block k)) (laid c s) (all_laid m.caches) (laid_out order m w).placed_slabs (in_all_laid c s m.caches in_c in_s) in
       and_from _ _ (and_from _ _ (le-leb b.order order placed.0.0) (eq-eqb (b.first % 2 ^ b.order) 0 placed.0.1))
-      (and_from _ _ placed.1 (not_from_false _ (any_none (overlaps b) (taken_blocks (holdings_of m)) (each_from (λ x. overlaps b x ≡ false) (taken_blocks (holdings_of m)) (λ x i.
+      (and_from _ _ placed.1 (not_from_false _ (any_none (overlaps b) (told_blocks (holdings_of m)) (each_from (λ x. overlaps b x ≡ false) (told_blocks (holdings_of m)) (λ x i.
       false_from_ne_true (overlaps b x) (λ e. overlap_shares b x e (other_apart none x i)))))))
 
   -- The slab's objects lie on its grid
@@ -170,5 +170,5 @@ module _ {limit : ℕ} (order : ℕ) (c : Cache) (s : Slab) (m : Machine) (w : I
 
     pub can_take : can_be_taken order (holdings_of m) (told_cache c) place ≡ true
     unfolding can_be_taken
-    can_take = ap (λ ps. is_takable order (holdings_of m) (told_cache c) place ps (slab_at (told_cache c) place)) (beside_is order c m w in_c s i in_s lt)
+    can_take = ap (λ ps. is_takable order (holdings_of m) (told_cache c) place ps (slab_around (told_cache c) place)) (beside_is order c m w in_c s i in_s lt)
         ∙ (ap (λ b. is_takable order (holdings_of m) (told_cache c) place (places_in c s) b) (slab_here order c m w in_c s i in_s lt) ∙ takable)

@@ -5,13 +5,11 @@ use Rattle.std.specs.List.{list_any}
 use Rattle.std.proofs.lemmas.Bool.{and_parts, and_from, eqb-true, eq-eqb}
 use Rattle.model_core.specs.Machine.{Cache, Machine}
 use Rattle.model_core.specs.Slabs.{live_objects}
-use Rattle.model_core.proofs.Lists.{IsIn, some_any, any_in}
-use Rattle.model_core.proofs.CacheSteps.{in_map}
+use Rattle.model_core.proofs.Lists.{IsIn, some_any, any_in, in_map, map_in}
 use Rattle.promise_core.specs.Holdings.{ToldCache, Holdings}
 use Rattle.promise_core.specs.Bytes.{Holder}
 use Rattle.promise_core.specs.State.{State}
-use Rattle.promise_kept.specs.Meets.{told_cache, holdings_of, is_live}
-use Rattle.promise_kept.proofs.Stand.{map_in}
+use Rattle.promise_kept.specs.Meets.{told_cache, holdings_of, is_object_live}
 use Rattle.promise_kept.proofs.Live.{IsLivePlace, live_place, place_listed}
 
 -- the state with what is seen of the machine in place of what it has
@@ -50,7 +48,7 @@ place_any first c e =
 any_place : (first : ℕ) (c : Cache) → IsLivePlace c first → list_any (λ p. eqb p first) (map (λ o. o.place) (live_objects c)) ≡ true
 any_place first c l = any_in (λ p. eqb p first) first (map (λ o. o.place) (live_objects c)) (place_listed c first l) (eq-eqb first first refl)
 
-pub live_told : (m : Machine) (number first place : ℕ) → is_live (holdings_of m) (Holder.Object number first) place ≡ true → IsLiveIn number first m.caches
+pub live_told : (m : Machine) (number first place : ℕ) → is_object_live (holdings_of m) (Holder.Object number first) place ≡ true → IsLiveIn number first m.caches
 unfolding holdings_of
 live_told m number first place e =
     let r : (t : ToldCache) × IsIn t (map told_cache m.caches) × (is_told number first t ≡ true) = some_any (is_told number first) (map told_cache m.caches) e in
@@ -59,7 +57,7 @@ live_told m number first place e =
     and_parts (eqb c.0.number number) (list_any (λ p. eqb p first) (map (λ o. o.place) (live_objects c.0))) (ap (is_told number first) c.2 ∙ r.2) in
     record { cache = c.0; cache_in = c.1; number_is = eqb-true c.0.number number p.0; place = place_any first c.0 p.1 }
 
-pub told_live : (m : Machine) (number first place : ℕ) → IsLiveIn number first m.caches → is_live (holdings_of m) (Holder.Object number first) place ≡ true
+pub told_live : (m : Machine) (number first place : ℕ) → IsLiveIn number first m.caches → is_object_live (holdings_of m) (Holder.Object number first) place ≡ true
 unfolding holdings_of
 told_live m number first place l = any_in (is_told number first) (told_cache l.cache) (map told_cache m.caches) (in_map told_cache l.cache m.caches l.cache_in)
     (and_from (eqb l.cache.number number) (list_any (λ p. eqb p first) (map (λ o. o.place) (live_objects l.cache))) (eq-eqb l.cache.number number l.number_is) (any_place first l.cache l.place))

@@ -13,7 +13,7 @@ use Rattle.model_core.specs.Reach.{is_within, within_block}
 use Rattle.model_core.specs.Reports.{order_row, order_rows}
 use Rattle.model_core.specs.WellFormed.{IsWellFormed, in_slab}
 use Rattle.model_core.specs.Laws.{Object, IsObject, place_of}
-use Rattle.model_core.proofs.Lists.{IsIn, each_in, find_in, some_any, any_in}
+use Rattle.model_core.proofs.Lists.{IsIn, each_in, find_in, some_any, any_in, map_in}
 use Rattle.model_core.proofs.Apart.{in_block-from}
 use Rattle.model_core.proofs.Laid.{laid, all_laid, in_laid, IsCutLaid, laid_out, in_slab_laid}
 use Rattle.model_core.proofs.CacheSteps.{in_all_laid}
@@ -22,8 +22,8 @@ use Rattle.model_core.proofs.ObjectsApart.{contains_in, objects_apart}
 use Rattle.promise_core.specs.Holdings.{ToldCache}
 use Rattle.promise_core.specs.Bytes.{Holder, is_same, Cell, may_be, with_bytes, object_with, holder_of}
 use Rattle.promise_core.specs.State.{State}
-use Rattle.promise_kept.specs.Meets.{told_cache, holdings_of, is_live, Meets}
-use Rattle.promise_kept.proofs.Stand.{map_in, in_contains}
+use Rattle.promise_kept.specs.Meets.{told_cache, holdings_of, is_object_live, Meets}
+use Rattle.promise_kept.proofs.Stand.{in_contains}
 use Rattle.promise_kept.proofs.Cells.{is_same_refl}
 use Rattle.promise_kept.proofs.Reaped.{slab_no_page, object_in_slab}
 
@@ -58,7 +58,7 @@ objects_is place len holder (c ∷ cs) e = go (find (λ first. is_within place l
 pub data IsHolder (m : Machine) (place len : ℕ) (holder : Holder) : Type 0 where
   page : holder ≡ Holder.Page → (b : Block) → IsIn b m.blocks → within_block place len b ≡ true → IsHolder m place len holder
   object : (o : Object) → IsObject m o → holder ≡ Holder.Object o.cache.number (place_of o) → is_within place len (place_of o) o.cache.size ≡ true
-      → is_live (holdings_of m) holder place ≡ true → IsHolder m place len holder
+      → is_object_live (holdings_of m) holder place ≡ true → IsHolder m place len holder
 
 pub holder_is : {limit : ℕ} (order : ℕ) (m : Machine) (place len : ℕ) (holder : Holder) → IsWellFormed limit order m → holder_of (holdings_of m) place len ≡ Some holder → IsHolder m place len holder
 unfolding holder_of holdings_of
@@ -78,7 +78,7 @@ holder_is order m place len holder w e = go (ltb 0 len) (list_any (within_block 
         object o (record { cache_in = in_contains d.0 m.caches d.1; slab_in = in_contains lo.0.slab d.0.slabs l.slab_in; index_in = subst (λ n. lo.0.index < n) cut.count l.index_in })
         (r.is ∙ (ap (λ n. Holder.Object n r.first) number ∙ ap (λ p. Holder.Object d.0.number p) first))
         (ap (λ n. is_within place len (place_of o) n) (sym size) ∙ (ap (λ p. is_within place len p r.cache.size) (sym first) ∙ r.within))
-        (ap (λ x. is_live (holdings_of m) x place) r.is
+        (ap (λ x. is_object_live (holdings_of m) x place) r.is
         ∙ any_in (λ c. eqb c.number r.cache.number && list_any (λ p. eqb p r.first) c.live) r.cache (map told_cache m.caches) r.cache_in
         (and_from _ _ (eq-eqb r.cache.number r.cache.number refl) (any_in (λ p. eqb p r.first) r.first r.cache.live r.live (eq-eqb r.first r.first refl))))
 
@@ -89,13 +89,13 @@ holder_is order m place len holder w e = go (ltb 0 len) (list_any (within_block 
     go true false is e = of_object e
 
 -- the holder of a range lives at each of its places
-pub holder_lives : (m : Machine) (place len : ℕ) (holder : Holder) → IsHolder m place len holder → (p : ℕ) → place ≤ p → p < place + len → is_live (holdings_of m) holder p ≡ true
+pub holder_lives : (m : Machine) (place len : ℕ) (holder : Holder) → IsHolder m place len holder → (p : ℕ) → place ≤ p → p < place + len → is_object_live (holdings_of m) holder p ≡ true
 unfolding holdings_of
 holder_lives m place len holder (page is b i e) p low high =
     let r = within_is place len (4096 * b.first) (4096 * 2 ^ b.order) e in
-    ap (λ x. is_live (holdings_of m) x p) is ∙ any_in (in_block p) b m.blocks i (in_block-from p b (omega (arith, r.0), omega (arith, r.1)))
+    ap (λ x. is_object_live (holdings_of m) x p) is ∙ any_in (in_block p) b m.blocks i (in_block-from p b (omega (arith, r.0), omega (arith, r.1)))
 holder_lives m place len holder (object o i is e l) p low high =
-    ap (λ x. is_live (holdings_of m) x p) is ∙ (ap (λ x. is_live (holdings_of m) x place) (sym is) ∙ l)
+    ap (λ x. is_object_live (holdings_of m) x p) is ∙ (ap (λ x. is_object_live (holdings_of m) x place) (sym is) ∙ l)
 
 -- the bytes do not matter to a report
 order_rows_same : (order n : ℕ) (m : Machine) (bytes : ℕ → Option ℕ) → order_rows order (record m { bytes = bytes }) n ≡ order_rows order m n
@@ -127,14 +127,14 @@ module _ {limit : ℕ} (order : ℕ) (s : State) (m : Machine) (w : IsWellFormed
   own p fresh byte other same is = ap (λ b. if b then (eqb byte (slice_index new (p - place)) || (not true && eqb byte fresh)) else eqb byte fresh)
       (ap (λ x. is_same x other) same ∙ is_same_refl other) ∙ or_left (eqb byte (slice_index new (p - place))) _ (eq-eqb byte (slice_index new (p - place)) (sym is))
 
-  range_lives : (p : ℕ) (cell : Cell) → with_bytes holder place new s.cells p ≡ Some cell → cell.sure ≡ true → is_live s.has cell.holder p ≡ true
+  range_lives : (p : ℕ) (cell : Cell) → with_bytes holder place new s.cells p ≡ Some cell → cell.sure ≡ true → is_object_live s.has cell.holder p ≡ true
   range_lives p cell e sure = go (in_range p) refl e
     where
-      go : (b : Bool) → in_range p ≡ b → (if b then Some (record { holder = holder; byte = slice_index new (p - place); sure = true }) else s.cells p) ≡ Some cell → is_live s.has cell.holder p ≡ true
+      go : (b : Bool) → in_range p ≡ b → (if b then Some (record { holder = holder; byte = slice_index new (p - place); sure = true }) else s.cells p) ≡ Some cell → is_object_live s.has cell.holder p ≡ true
       go true is some =
           let same : record { holder = holder; byte = slice_index new (p - place); sure = true } ≡ cell = cc in
           let r = bounds p is in
-          ap (λ x. is_live s.has x p) (ap (λ (x : Cell). x.holder) (sym same)) ∙ (ap (λ x. is_live x holder p) h.has ∙ holder_lives m place (length new) holder held_by p r.0 r.1)
+          ap (λ x. is_object_live s.has x p) (ap (λ (x : Cell). x.holder) (sym same)) ∙ (ap (λ x. is_object_live x holder p) h.has ∙ holder_lives m place (length new) holder held_by p r.0 r.1)
       go false is some = h.lives p cell some sure
 
   range_page : (p byte : ℕ) → in_slab m p ≡ false → bytes p ≡ Some byte → may_be Holder.Page 0 (with_bytes holder place new s.cells p) byte ≡ true
@@ -167,7 +167,7 @@ module _ {limit : ℕ} (order : ℕ) (s : State) (m : Machine) (w : IsWellFormed
           let there : in_slab m (place_of o + j) ≡ true = in_slab_laid m (place_of o + j) ∙ any_in (in_laid (place_of o + j)) (laid o.cache o.slab) (all_laid m.caches) (in_all_laid o.cache o.slab m.caches in_c in_s)
           (object_in_slab order m o.cache o.slab o.index j w in_c in_s io.index_in byte_in) in
           absurd (false≢true (sym (slab_no_page order s m (place_of o + j) w h there)
-          ∙ (ap (λ x. is_live s.has x (place_of o + j)) (sym is) ∙ (ap (λ x. is_live x holder (place_of o + j)) h.has ∙ holder_lives m place (length new) holder (page is b i t) (place_of o + j) r.0 r.1))))
+          ∙ (ap (λ x. is_object_live s.has x (place_of o + j)) (sym is) ∙ (ap (λ x. is_object_live x holder (place_of o + j)) h.has ∙ holder_lives m place (length new) holder (page is b i t) (place_of o + j) r.0 r.1))))
       by e (object q i is t l) =
           let r = bounds (place_of o + j) e in
           let b = within_is place (length new) (place_of q) q.cache.size t in

@@ -10,9 +10,8 @@ use Rattle.model_core.specs.Slabs.{LiveObject, live_objects, live_in, is_empty, 
 use Rattle.model_core.specs.CacheOperations.{frames_of, reap_step}
 use Rattle.model_core.specs.WellFormed.{IsCache, IsWellFormed}
 use Rattle.model_core.specs.Laws.{Object, place_of}
-use Rattle.model_core.proofs.Lists.{IsIn, each_in, filter_in, any_in}
+use Rattle.model_core.proofs.Lists.{IsIn, each_in, filter_in, any_in, in_map, map_in}
 use Rattle.model_core.proofs.ObjectsApart.{contains_in, one_key}
-use Rattle.model_core.proofs.CacheSteps.{in_map}
 use Rattle.model_core.proofs.Layouts.{layouts_fit}
 use Rattle.words_core.specs.declared.event.Command.TheVariants as Asked
 use Rattle.words_core.specs.declared.event.Event.TheVariants as On
@@ -20,12 +19,12 @@ use Rattle.words_core.specs.declared.report.Report.{Report}
 use Rattle.words_core.specs.declared.reply.Addressee.TheVariants as To
 use Rattle.words_core.specs.declared.reply.Body.TheVariants as Say
 use Rattle.world_core.specs.PrivateStep.{command_step}
-use Rattle.promise_core.specs.Holdings.{cache_of, slab_at, vacant_blocks}
+use Rattle.promise_core.specs.Holdings.{cache_told, slab_around, vacant_blocks}
 use Rattle.promise_core.specs.Bytes.{Holder, is_object, without}
 use Rattle.promise_core.specs.State.{State, is_in_use, is_in_no_slab, state_after}
 use Rattle.promise_core.specs.Promises.{due, can_come_back, empty_frames}
-use Rattle.promise_kept.specs.Meets.{told_cache, holdings_of, Meets, IsKept}
-use Rattle.promise_kept.proofs.Stand.{map_in, in_flat, one_live, slab_seen, in_contains}
+use Rattle.promise_kept.specs.Meets.{told_cache, holdings_of, Meets, IsPromiseKept}
+use Rattle.promise_kept.proofs.Stand.{in_flat, one_live, slab_seen, in_contains}
 use Rattle.promise_kept.proofs.Cells.{all_kept, without_some, without_may}
 use Rattle.promise_kept.proofs.Reaped.{untold, meets_reaped, object_in_slab}
 use Rattle.promise_kept.proofs.Known.{seen, seen_is, cache_seen}
@@ -43,7 +42,7 @@ find_one {X} p x (y ∷ ys) i e one = go (p y) refl i (λ j. find_one p x ys j e
     go false t (inr j) rest = rest j
 
 -- a cache of a well formed machine is seen by its number
-pub cache_known : {limit : ℕ} (order : ℕ) (m : Machine) (c : Cache) → IsWellFormed limit order m → IsIn c m.caches → cache_of (holdings_of m) c.number ≡ Some (told_cache c)
+pub cache_known : {limit : ℕ} (order : ℕ) (m : Machine) (c : Cache) → IsWellFormed limit order m → IsIn c m.caches → cache_told (holdings_of m) c.number ≡ Some (told_cache c)
 unfolding holdings_of
 cache_known order m c w i = cache_seen c.number m.caches ∙ ap (option_map told_cache) (find_one (λ x. eqb x.number c.number) c m.caches i (eq-eqb c.number c.number refl)
     (λ x j e. one_key (λ y. y.number) 0 m.caches x c w.caches_rise j i (eqb-true x.number c.number e)))
@@ -83,7 +82,7 @@ module _ (limit order : ℕ) (m : Machine) (s : State) (w : IsWellFormed limit o
       let o : (o : LiveObject) × IsIn o (live_in d t) × (o.slab ≡ t) = one_live d t 0 t.live (not-false _ (not-true (is_empty t) f.1)) in
       (o.0, in_flat (live_in d) o.0 t d.slabs f.0 o.1, o.2)
 
-  in_use : (d : Cache) (t : Slab) → IsIn d m.caches → IsIn t (without_empty d).slabs → is_in_use (cache_of (holdings_of m) d.number) ≡ true
+  in_use : (d : Cache) (t : Slab) → IsIn d m.caches → IsIn t (without_empty d).slabs → is_in_use (cache_told (holdings_of m) d.number) ≡ true
   in_use d t in_d in_t =
       let o : (o : LiveObject) × IsIn o (live_objects d) × (o.slab ≡ t) = beside d t in_d in_t in
       ap is_in_use (cache_known order m d w in_d) ∙ in_length o.0.place (map (λ x. x.place) (live_objects d)) (in_map (λ x. x.place) o.0 (live_objects d) o.1)
@@ -97,9 +96,9 @@ module _ (limit order : ℕ) (m : Machine) (s : State) (w : IsWellFormed limit o
       let p : ℕ = object_place (layout d) t.first t.colour i in
       let zero : p + 0 ≡ p = omega arith in
       let here : in_block p (slab_block d t) ≡ true = ap (λ x. in_block x (slab_block d t)) (sym zero) ∙ object_in_slab order m d t i 0 w in_d f.0 lt some in
-      not_from_true _ (any_in (λ c. eqb c.number d.number && list_any (λ q. in_block p (slab_at c q)) c.live) (told_cache d) (map told_cache m.caches) (in_map told_cache d m.caches in_d)
-      (and_from (eqb d.number d.number) (list_any (λ q. in_block p (slab_at (told_cache d) q)) (map (λ x. x.place) (live_objects d))) (eq-eqb d.number d.number refl)
-      (any_in (λ q. in_block p (slab_at (told_cache d) q)) o.0.place (map (λ x. x.place) (live_objects d)) (in_map (λ x. x.place) o.0 (live_objects d) o.1)
+      not_from_true _ (any_in (λ c. eqb c.number d.number && list_any (λ q. in_block p (slab_around c q)) c.live) (told_cache d) (map told_cache m.caches) (in_map told_cache d m.caches in_d)
+      (and_from (eqb d.number d.number) (list_any (λ q. in_block p (slab_around (told_cache d) q)) (map (λ x. x.place) (live_objects d))) (eq-eqb d.number d.number refl)
+      (any_in (λ q. in_block p (slab_around (told_cache d) q)) o.0.place (map (λ x. x.place) (live_objects d)) (in_map (λ x. x.place) o.0 (live_objects d) o.1)
       (ap (in_block p) (slab_seen order m d o.0 w in_d o.1 ∙ ap (slab_block d) o.2) ∙ here))))
     where
       some : 0 < d.size
@@ -109,7 +108,7 @@ module _ (limit order : ℕ) (m : Machine) (s : State) (w : IsWellFormed limit o
   after = record {
     has = holdings_of m;
     cells = without (λ place. is_object (is_in_no_slab (holdings_of m))) s.cells;
-    hides = λ n. is_in_use (cache_of (holdings_of m) n);
+    hides = λ n. is_in_use (cache_told (holdings_of m) n);
     told = None;
   }
 
@@ -130,15 +129,15 @@ module _ (limit order : ℕ) (m : Machine) (s : State) (w : IsWellFormed limit o
     free_told = λ r e. absurd (cc);
   }
     where
-      go_hides : (c : Cache) (t : Slab) → ((d : Cache) × IsIn d m.caches × (without_empty d ≡ c)) → IsIn t c.slabs → is_in_use (cache_of (holdings_of m) c.number) ≡ true
-      go_hides c t (d, in_d, e) in_t = subst (λ x. IsIn t x.slabs → is_in_use (cache_of (holdings_of m) x.number) ≡ true) e (λ i. in_use d t in_d i) in_t
+      go_hides : (c : Cache) (t : Slab) → ((d : Cache) × IsIn d m.caches × (without_empty d ≡ c)) → IsIn t c.slabs → is_in_use (cache_told (holdings_of m) c.number) ≡ true
+      go_hides c t (d, in_d, e) in_t = subst (λ x. IsIn t x.slabs → is_in_use (cache_told (holdings_of m) x.number) ≡ true) e (λ i. in_use d t in_d i) in_t
 
       go_object : (o : Object) → ((d : Cache) × IsIn d m.caches × (without_empty d ≡ o.cache)) → IsIn o.slab o.cache.slabs → o.index < (layout o.cache).count → is_in_no_slab (holdings_of m) o.cache.number (place_of o) ≡ false
       go_object o (d, in_d, e) in_t lt =
           subst (λ x. IsIn o.slab x.slabs → o.index < (layout x).count → is_in_no_slab (holdings_of m) x.number (object_place (layout x) o.slab.first o.slab.colour o.index) ≡ false) e
           (λ i l. in_one d o.slab o.index in_d i l) in_t lt
 
-  reap_seen : IsKept limit order Asked.Reap m (seen m s)
+  reap_seen : IsPromiseKept limit order Asked.Reap m (seen m s)
   unfolding command_step reap_step state_after due after
   reap_seen = record {
     allowed = λ t owners states. all_kept (On.Tenant t Asked.Reap) (record { addressee = To.Tenant t; body = Say.Reaped (frames_of (flat_map empty_blocks m.caches)) })
@@ -147,7 +146,7 @@ module _ (limit order : ℕ) (m : Machine) (s : State) (w : IsWellFormed limit o
     meets = λ t. (after, refl, meets);
   }
 
-pub reap_kept : (limit order : ℕ) (m : Machine) (s : State) → IsWellFormed limit order m → Meets order s m → IsKept limit order Asked.Reap m s
+pub reap_kept : (limit order : ℕ) (m : Machine) (s : State) → IsWellFormed limit order m → Meets order s m → IsPromiseKept limit order Asked.Reap m s
 reap_kept limit order m s w h =
     let e : seen m s ≡ s = seen_is m s h.has in
-    subst (IsKept limit order Asked.Reap m) e (reap_seen limit order m s w h (subst (λ x. Meets order x m) (sym e) h))
+    subst (IsPromiseKept limit order Asked.Reap m) e (reap_seen limit order m s w h (subst (λ x. Meets order x m) (sym e) h))

@@ -8,7 +8,7 @@ use Rattle.model_core.specs.Machine.{Slab, Cache, Machine, layout, in_block}
 use Rattle.model_core.specs.Slabs.{is_empty, without_empty, empty_blocks, reaped, by_need}
 use Rattle.model_core.specs.WellFormed.{IsWellFormed, in_slab}
 use Rattle.model_core.specs.Laws.{Object, IsObject, place_of}
-use Rattle.model_core.proofs.Lists.{IsIn, each_in, filter_in, some_any, any_split, any_map}
+use Rattle.model_core.proofs.Lists.{IsIn, each_in, filter_in, some_any, any_split, any_map, map_in}
 use Rattle.model_core.proofs.Laid.{Laid, laid, all_laid, laid_block, in_laid, IsCutLaid, IsLaidOut, laid_out, in_slab_laid}
 use Rattle.model_core.proofs.CacheSteps.{in_all_laid}
 use Rattle.model_core.proofs.Objects.{byte_is_of, IsPageByte, page_apart}
@@ -18,9 +18,9 @@ use Rattle.model_core.proofs.Constructed.{not_gone}
 use Rattle.model_core.proofs.ByNeed.{by_need_keeps}
 use Rattle.promise_core.specs.Bytes.{Holder, may_be}
 use Rattle.promise_core.specs.State.{State}
-use Rattle.promise_kept.specs.Meets.{holdings_of, is_live, Meets}
+use Rattle.promise_kept.specs.Meets.{holdings_of, is_object_live, Meets}
 use Rattle.promise_kept.proofs.Seen.{holdings_reaped}
-use Rattle.promise_kept.proofs.Stand.{map_in, in_contains}
+use Rattle.promise_kept.proofs.Stand.{in_contains}
 use Rattle.promise_kept.proofs.Cells.{fresh_may}
 
 -- no report has to stand
@@ -39,7 +39,7 @@ meets_untold order s m h = record {
 }
 
 -- a place in a slab is in no live page block
-pub slab_no_page : {limit : ℕ} (order : ℕ) (s : State) (m : Machine) (place : ℕ) → IsWellFormed limit order m → Meets order s m → in_slab m place ≡ true → is_live s.has Holder.Page place ≡ false
+pub slab_no_page : {limit : ℕ} (order : ℕ) (s : State) (m : Machine) (place : ℕ) → IsWellFormed limit order m → Meets order s m → in_slab m place ≡ true → is_object_live s.has Holder.Page place ≡ false
 unfolding holdings_of
 slab_no_page order s m place w h e = ap (λ x. list_any (in_block place) x.pages) h.has ∙ false_from_ne_true (list_any (in_block place) m.blocks) (λ p.
     let b = some_any (in_block place) m.blocks p in

@@ -12,7 +12,7 @@ use Rattle.model_core.specs.Blocks.{Block}
 use Rattle.model_core.specs.Machine.{Slab, Cache, Machine}
 use Rattle.model_core.specs.Machine as model
 use Rattle.model_core.specs.CacheOperations.{frames_of}
-use Rattle.model_core.specs.Reports.{frames_held, frames_taken, frames_free, free_count, order_row, order_rows, greatest, greatest_free, rows_of}
+use Rattle.model_core.specs.Reports.{frames_held, frames_taken, frames_free, free_count, order_row, order_rows, greatest, greatest_free, rows_of_caches}
 use Rattle.model_core.specs.Reports as reports
 use Rattle.model_core.specs.WellFormed.{IsPlaced, IsWellFormed}
 use Rattle.model_core.proofs.Counting.{bit}
@@ -25,8 +25,8 @@ use Rattle.words_core.specs.declared.reply.Body.TheVariants as Say
 use Rattle.world_core.specs.PrivateStep.{figures_of, report_step, command_step}
 use Rattle.promise_core.specs.Holdings.{vacant_blocks}
 use Rattle.promise_core.specs.State.{State, state_after}
-use Rattle.promise_core.specs.Promises.{frames_in, taken_count, due, report, still}
-use Rattle.promise_kept.specs.Meets.{told_cache, holdings_of, Meets, IsKept}
+use Rattle.promise_core.specs.Promises.{frames_of_counts, told_count, due, report, still}
+use Rattle.promise_kept.specs.Meets.{told_cache, holdings_of, Meets, IsPromiseKept}
 use Rattle.promise_kept.proofs.Stand.{in_contains}
 use Rattle.promise_kept.proofs.Cells.{all_kept, formed}
 use Rattle.promise_kept.proofs.Known.{seen, seen_is}
@@ -61,26 +61,26 @@ all_range p a (suc n) all = and_from (p a) (list_all p (range_with_len (a + 1) n
 
 -- Frames of blocks by their orders
 
-no_frames : (a n : ℕ) → frames_in (map (λ k. 0) (range_with_len a n)) ≡ 0
+no_frames : (a n : ℕ) → frames_of_counts (map (λ k. 0) (range_with_len a n)) ≡ 0
 no_frames a zero = refl
-no_frames a (suc n) = let rest : frames_in (map (λ k. 0) (range_with_len (a + 1) n)) ≡ 0 = no_frames (a + 1) n in omega (arith, rest)
+no_frames a (suc n) = let rest : frames_of_counts (map (λ k. 0) (range_with_len (a + 1) n)) ≡ 0 = no_frames (a + 1) n in omega (arith, rest)
 
-no_order : (o a n : ℕ) → o < a → frames_in (map (λ k. bit (eqb o k)) (range_with_len a n)) ≡ 0
+no_order : (o a n : ℕ) → o < a → frames_of_counts (map (λ k. bit (eqb o k)) (range_with_len a n)) ≡ 0
 no_order o a zero lt = refl
 no_order o a (suc n) lt =
-    let rest : frames_in (map (λ k. bit (eqb o k)) (range_with_len (a + 1) n)) ≡ 0 = no_order o (a + 1) n (omega (arith, lt)) in
+    let rest : frames_of_counts (map (λ k. bit (eqb o k)) (range_with_len (a + 1) n)) ≡ 0 = no_order o (a + 1) n (omega (arith, lt)) in
     let here : bit (eqb o a) ≡ 0 = ap bit (ne_eqb o a (λ same. absurd (omega (arith, same, lt)))) in omega (arith, rest, here)
 
-one_order : (o a n : ℕ) → a ≤ o → o < a + n → frames_in (map (λ k. bit (eqb o k)) (range_with_len a n)) ≡ 2 ^ (o - a)
+one_order : (o a n : ℕ) → a ≤ o → o < a + n → frames_of_counts (map (λ k. bit (eqb o k)) (range_with_len a n)) ≡ 2 ^ (o - a)
 one_order o a zero low high = absurd (omega (arith, low, high))
 one_order o a (suc n) low high = ⊎_elim
     (λ same. let here : bit (eqb o a) ≡ 1 = ap bit (eq-eqb o a same) in
-    let rest : frames_in (map (λ k. bit (eqb o k)) (range_with_len (a + 1) n)) ≡ 0 = no_order o (a + 1) n (omega (arith, same)) in
+    let rest : frames_of_counts (map (λ k. bit (eqb o k)) (range_with_len (a + 1) n)) ≡ 0 = no_order o (a + 1) n (omega (arith, same)) in
     let none : o - a ≡ 0 = omega (arith, same) in
     let one : 2 ^ (o - a) ≡ 1 = ap (λ i. 2 ^ i) none in omega (arith, here, rest, one))
     (λ differ. let here : bit (eqb o a) ≡ 0 = ap bit (ne_eqb o a differ) in
     let above : a + 1 ≤ o = above_it differ in
-    let rest : frames_in (map (λ k. bit (eqb o k)) (range_with_len (a + 1) n)) ≡ 2 ^ (o - (a + 1)) = one_order o (a + 1) n above (omega (arith, high)) in
+    let rest : frames_of_counts (map (λ k. bit (eqb o k)) (range_with_len (a + 1) n)) ≡ 2 ^ (o - (a + 1)) = one_order o (a + 1) n above (omega (arith, high)) in
     let next : o - a ≡ suc (o - (a + 1)) = omega (arith, above) in
     let twice : 2 ^ (o - a) ≡ 2 * 2 ^ (o - (a + 1)) = ap (λ i. 2 ^ i) next ∙ omega arith in omega (arith, here, rest, twice))
     (cases_eq o a)
@@ -88,25 +88,25 @@ one_order o a (suc n) low high = ⊎_elim
     above_it : (o ≡ a → ⊥) → a + 1 ≤ o
     above_it differ = omega (arith, low, differ)
 
-frames_sum : (f g : ℕ → ℕ) (a n : ℕ) → frames_in (map (λ k. f k + g k) (range_with_len a n)) ≡ frames_in (map f (range_with_len a n)) + frames_in (map g (range_with_len a n))
+frames_sum : (f g : ℕ → ℕ) (a n : ℕ) → frames_of_counts (map (λ k. f k + g k) (range_with_len a n)) ≡ frames_of_counts (map f (range_with_len a n)) + frames_of_counts (map g (range_with_len a n))
 frames_sum f g a zero = refl
 frames_sum f g a (suc n) =
-    let rest : frames_in (map (λ k. f k + g k) (range_with_len (a + 1) n)) ≡ frames_in (map f (range_with_len (a + 1) n)) + frames_in (map g (range_with_len (a + 1) n)) = frames_sum f g (a + 1) n in
+    let rest : frames_of_counts (map (λ k. f k + g k) (range_with_len (a + 1) n)) ≡ frames_of_counts (map f (range_with_len (a + 1) n)) + frames_of_counts (map g (range_with_len (a + 1) n)) = frames_sum f g (a + 1) n in
     omega (arith, rest)
 
 map_same : (f g : ℕ → ℕ) (xs : List ℕ) → ((k : ℕ) → f k ≡ g k) → map f xs ≡ map g xs
 map_same f g [] same = refl
 map_same f g (x ∷ xs) same = ap (λ y. y ∷ map f xs) (same x) ∙ ap (λ ys. g x ∷ ys) (map_same f g xs same)
 
-by_order : (bs : List Block) (n : ℕ) → ((b : Block) → IsIn b bs → b.order < n) → frames_in (map (λ k. length (filter (is_order k) bs)) (range_with_len 0 n)) ≡ frames_of bs
+by_order : (bs : List Block) (n : ℕ) → ((b : Block) → IsIn b bs → b.order < n) → frames_of_counts (map (λ k. length (filter (is_order k) bs)) (range_with_len 0 n)) ≡ frames_of bs
 by_order [] n low = no_frames 0 n
 by_order (b ∷ bs) n low =
-    let rest : frames_in (map (λ k. length (filter (is_order k) bs)) (range_with_len 0 n)) ≡ frames_of bs = by_order bs n (λ c i. low c (inr i)) in
-    let here : frames_in (map (λ k. bit (is_order k b)) (range_with_len 0 n)) ≡ 2 ^ (b.order - 0) = one_order b.order 0 n (omega arith) (omega (arith, low b (inl refl))) in
+    let rest : frames_of_counts (map (λ k. length (filter (is_order k) bs)) (range_with_len 0 n)) ≡ frames_of bs = by_order bs n (λ c i. low c (inr i)) in
+    let here : frames_of_counts (map (λ k. bit (is_order k b)) (range_with_len 0 n)) ≡ 2 ^ (b.order - 0) = one_order b.order 0 n (omega arith) (omega (arith, low b (inl refl))) in
     let power : 2 ^ (b.order - 0) ≡ 2 ^ b.order = ap (λ i. 2 ^ i) (omega arith) in
-    let parts : frames_in (map (λ k. length (filter (is_order k) (b ∷ bs))) (range_with_len 0 n)) ≡ frames_in (map (λ k. bit (is_order k b) + length (filter (is_order k) bs)) (range_with_len 0 n)) =
-    ap frames_in (map_same (λ k. length (filter (is_order k) (b ∷ bs))) (λ k. bit (is_order k b) + length (filter (is_order k) bs)) (range_with_len 0 n) (λ k. filter_length (is_order k) b bs)) in
-    let sum : frames_in (map (λ k. bit (is_order k b) + length (filter (is_order k) bs)) (range_with_len 0 n)) ≡ frames_in (map (λ k. bit (is_order k b)) (range_with_len 0 n)) + frames_in (map (λ k. length (filter (is_order k) bs)) (range_with_len 0 n)) =
+    let parts : frames_of_counts (map (λ k. length (filter (is_order k) (b ∷ bs))) (range_with_len 0 n)) ≡ frames_of_counts (map (λ k. bit (is_order k b) + length (filter (is_order k) bs)) (range_with_len 0 n)) =
+    ap frames_of_counts (map_same (λ k. length (filter (is_order k) (b ∷ bs))) (λ k. bit (is_order k b) + length (filter (is_order k) bs)) (range_with_len 0 n) (λ k. filter_length (is_order k) b bs)) in
+    let sum : frames_of_counts (map (λ k. bit (is_order k b) + length (filter (is_order k) bs)) (range_with_len 0 n)) ≡ frames_of_counts (map (λ k. bit (is_order k b)) (range_with_len 0 n)) + frames_of_counts (map (λ k. length (filter (is_order k) bs)) (range_with_len 0 n)) =
     frames_sum (λ k. bit (is_order k b)) (λ k. length (filter (is_order k) bs)) 0 n in
     omega (arith, rest, here, power, parts, sum)
 
@@ -121,7 +121,7 @@ greatest_none : (f : ℕ → ℕ) (n : ℕ) → ((k : ℕ) → k < n → f k ≡
 greatest_none f zero none = refl
 greatest_none f (suc k) none = ap (λ i. if eqb i 0 then greatest f k else Some k) (none k (omega arith)) ∙ greatest_none f k (λ j lt. none j (omega (arith, lt)))
 
-each_zero : (f : ℕ → ℕ) (a n : ℕ) → frames_in (map f (range_with_len a n)) ≡ 0 → (k : ℕ) → a ≤ k → k < a + n → f k ≡ 0
+each_zero : (f : ℕ → ℕ) (a n : ℕ) → frames_of_counts (map f (range_with_len a n)) ≡ 0 → (k : ℕ) → a ≤ k → k < a + n → f k ≡ 0
 each_zero f a zero e k low high = absurd (omega (arith, low, high))
 each_zero f a (suc n) e k low high = ⊎_elim
     (λ same. let here : f a ≡ 0 = omega (arith, e) in ap f same ∙ here)
@@ -160,12 +160,12 @@ module _ (limit order : ℕ) (m : Machine) (s : State) (w : IsWellFormed limit o
   top_is = go (eqb (frames_free order m) 0) refl
     where
       go : (b : Bool) → eqb (frames_free order m) 0 ≡ b → (if b then None else greatest (free_count order m) (order + 1)) ≡ greatest (slice_index free) (order + 1)
-      go true e = let none : frames_in (map (free_count order m) (range_with_len 0 (order + 1))) ≡ 0 = free_frames order m w ∙ eqb-true (frames_free order m) 0 e in
+      go true e = let none : frames_of_counts (map (free_count order m) (range_with_len 0 (order + 1))) ≡ 0 = free_frames order m w ∙ eqb-true (frames_free order m) 0 e in
           sym (greatest_none (slice_index free) (order + 1) (λ k lt. free_at k lt ∙ each_zero (free_count order m) 0 (order + 1) none k (omega arith) (omega (arith, lt))))
       go false e = greatest_same (free_count order m) (slice_index free) (order + 1) (λ k lt. sym (free_at k lt))
 
-  taken_frames : frames_taken m ≡ frames_in taken
-  taken_frames = sym (ap frames_in taken_is ∙ by_order (model.taken_blocks m) (order + 1) (λ b i. let p : IsPlaced order m b = each_in (IsPlaced order m) b (model.taken_blocks m) w.placed i in
+  taken_frames : frames_taken m ≡ frames_of_counts taken
+  taken_frames = sym (ap frames_of_counts taken_is ∙ by_order (model.taken_blocks m) (order + 1) (λ b i. let p : IsPlaced order m b = each_in (IsPlaced order m) b (model.taken_blocks m) w.placed i in
       let le = p.0.0 in omega (arith, le)))
 
   held_is : frames_taken m + frames_free order m ≡ frames_held order m
@@ -182,18 +182,18 @@ module _ (limit order : ℕ) (m : Machine) (s : State) (w : IsWellFormed limit o
   unfolding figures_of holdings_of
   reported t owners states =
       and_from _ _ (eq-eqb _ _ (ap length free_is ∙ length-map-range_with_len (free_count order m) 0 (order + 1)))
-      (and_from _ _ (eq-eqb _ _ (length-map m.caches reports.row_of ∙ sym (length-map m.caches told_cache)))
+      (and_from _ _ (eq-eqb _ _ (length-map m.caches reports.row_of_cache ∙ sym (length-map m.caches told_cache)))
       (and_from _ _ (eq-eqb (frames_held order m) (frames_held order m) refl)
       (and_from _ _ (eq-eqb (frames_taken m + frames_free order m) (frames_held order m) held_is)
-      (and_from _ _ (eq-eqb (frames_free order m) (frames_in free) (sym (ap frames_in free_is ∙ free_frames order m w)))
-      (and_from _ _ (eq-eqb (frames_taken m) (frames_in taken) taken_frames)
+      (and_from _ _ (eq-eqb (frames_free order m) (frames_of_counts free) (sym (ap frames_of_counts free_is ∙ free_frames order m w)))
+      (and_from _ _ (eq-eqb (frames_taken m) (frames_of_counts taken) taken_frames)
       (and_from _ _ (ap (option_eq (λ i j. eqb i j) (greatest_free order m)) (sym top_is) ∙ same_order (greatest_free order m))
       (and_from _ _ (eq-eqb _ _ refl)
       (and_from _ _ (rows_seen order m w s.hides hides_slab)
-      (and_from _ _ (all_range _ 0 (order + 1) (λ k low high. eq-eqb (slice_index taken k) (taken_count (holdings_of m) (rows_of m) k)
+      (and_from _ _ (all_range _ 0 (order + 1) (λ k low high. eq-eqb (slice_index taken k) (told_count (holdings_of m) (rows_of_caches m) k)
       (ap (λ xs. slice_index xs k) taken_is ∙ (get_or-map-range_with_len (reports.taken_count m) 0 (order + 1) k k 0 (omega (arith, high)) (omega arith) ∙ taken_seen_by_order order m w k))))
-      (and_from _ _ (all_range _ 0 (order + 1) (λ k low high. le-leb (frames_in (drop k free)) (length (vacant_blocks order (holdings_of m) k))
-      (subst (λ xs. frames_in xs ≤ length (vacant_blocks order (holdings_of m) k)) (sym (free_drop k (omega (arith, high)))) (free_fits order m w k (omega (arith, high))))))
+      (and_from _ _ (all_range _ 0 (order + 1) (λ k low high. le-leb (frames_of_counts (drop k free)) (length (vacant_blocks order (holdings_of m) k))
+      (subst (λ xs. frames_of_counts xs ≤ length (vacant_blocks order (holdings_of m) k)) (sym (free_drop k (omega (arith, high)))) (free_fits order m w k (omega (arith, high))))))
       refl))))))))))
 
   -- a report that has to stand is told again
@@ -203,11 +203,11 @@ module _ (limit order : ℕ) (m : Machine) (s : State) (w : IsWellFormed limit o
   stays t owners states = go s.told refl
     where
       go : (o : Option Report) → s.told ≡ o → option_map_or (λ q. list_all (λ p. eqb p.0.free p.1.free) (zip q.orders.items (order_rows order m (order + 1)))
-          && list_all (λ p. eqb p.0.empty p.1.empty) (zip q.caches.items (rows_of m))) o true ≡ true
+          && list_all (λ p. eqb p.0.empty p.1.empty) (zip q.caches.items (rows_of_caches m))) o true ≡ true
       go None e = refl
-      go (Some r) e = and_from (list_all (λ p. eqb p.0.free p.1.free) (zip r.orders.items (order_rows order m (order + 1)))) (list_all (λ p. eqb p.0.empty p.1.empty) (zip r.caches.items (rows_of m)))
+      go (Some r) e = and_from (list_all (λ p. eqb p.0.free p.1.free) (zip r.orders.items (order_rows order m (order + 1)))) (list_all (λ p. eqb p.0.empty p.1.empty) (zip r.caches.items (rows_of_caches m)))
           (zip_same (λ row. row.free) r.orders.items (order_rows order m (order + 1)) (h.free_told r e))
-          (zip_same (λ row. row.empty) r.caches.items (rows_of m) (h.empty_told r e))
+          (zip_same (λ row. row.empty) r.caches.items (rows_of_caches m) (h.empty_told r e))
 
   after : State
   after = record (seen m s) { told = Some (figures_of order m) }
@@ -227,7 +227,7 @@ module _ (limit order : ℕ) (m : Machine) (s : State) (w : IsWellFormed limit o
       some : {r : Report} → Some (figures_of order m) ≡ Some r → figures_of order m ≡ r
       some e = cc
 
-  report_seen : IsKept limit order Asked.Report m (seen m s)
+  report_seen : IsPromiseKept limit order Asked.Report m (seen m s)
   unfolding command_step report_step state_after due after
   report_seen = record {
     allowed = λ t owners states. all_kept (On.Tenant t Asked.Report) (record { addressee = To.Tenant t; body = Say.Report (figures_of order m) })
@@ -236,7 +236,7 @@ module _ (limit order : ℕ) (m : Machine) (s : State) (w : IsWellFormed limit o
     meets = λ t. (after, refl, meets);
   }
 
-pub report_kept : (limit order : ℕ) (m : Machine) (s : State) → IsWellFormed limit order m → Meets order s m → IsKept limit order Asked.Report m s
+pub report_kept : (limit order : ℕ) (m : Machine) (s : State) → IsWellFormed limit order m → Meets order s m → IsPromiseKept limit order Asked.Report m s
 report_kept limit order m s w h =
     let e : seen m s ≡ s = seen_is m s h.has in
-    subst (IsKept limit order Asked.Report m) e (report_seen limit order m s w (subst (λ x. Meets order x m) (sym e) h))
+    subst (IsPromiseKept limit order Asked.Report m) e (report_seen limit order m s w (subst (λ x. Meets order x m) (sym e) h))

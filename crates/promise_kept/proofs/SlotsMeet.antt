@@ -11,24 +11,24 @@ use Rattle.model_core.specs.Operations.{next_slot, after_grant, after_take_back,
 use Rattle.model_core.specs.Operations as operations
 use Rattle.model_core.specs.WellFormed.{IsWellFormed, in_slab}
 use Rattle.model_core.specs.Laws.{Object, IsObject, place_of}
-use Rattle.model_core.proofs.Lists.{IsIn, each_in, each_from, some_any, any_in, any_none, none_any, PutIn, put_in}
-use Rattle.model_core.proofs.Kept.{any_put, place_held}
+use Rattle.model_core.proofs.Lists.{IsIn, each_in, each_from, some_any, any_in, any_none, none_any, PutIn, put_in, in_left, in_map, map_in}
+use Rattle.model_core.proofs.MemoryKept.{any_put, place_held}
 use Rattle.model_core.proofs.Laid.{laid, all_laid, laid_block, IsLaidOut, laid_out, Placed}
-use Rattle.model_core.proofs.CacheSteps.{in_left, in_all_laid, in_map}
+use Rattle.model_core.proofs.CacheSteps.{in_all_laid}
 use Rattle.model_core.proofs.Constructed.{next_unheld}
 use Rattle.model_core.proofs.Objects.{in_append}
 use Rattle.model_core.proofs.ObjectsApart.{contains_in}
-use Rattle.promise_core.specs.Holdings.{Holdings, taken_blocks, is_busy}
+use Rattle.promise_core.specs.Holdings.{Holdings, told_blocks, is_slot_busy}
 use Rattle.promise_core.specs.Bytes.{Holder, Cell, Cells, may_be, without}
 use Rattle.promise_core.specs.State.{State, opening_state}
-use Rattle.promise_kept.specs.Meets.{told_cache, holdings_of, is_live, Meets}
+use Rattle.promise_kept.specs.Meets.{told_cache, holdings_of, is_object_live, Meets}
 use Rattle.promise_kept.proofs.Owning.{below_missing}
-use Rattle.promise_kept.proofs.Stand.{flat_in, map_in, taken_seen, in_contains}
+use Rattle.promise_kept.proofs.Stand.{flat_in, taken_seen, in_contains}
 use Rattle.promise_kept.proofs.Cells.{without_some, without_may}
 use Rattle.promise_kept.proofs.Reaped.{object_in_slab}
 
 -- what lives does not hang on the slots
-lives_still : (us : List ℕ) (h : Holdings) (holder : Holder) (place : ℕ) → is_live h holder place ≡ true → is_live (record h { slots = us }) holder place ≡ true
+lives_still : (us : List ℕ) (h : Holdings) (holder : Holder) (place : ℕ) → is_object_live h holder place ≡ true → is_object_live (record h { slots = us }) holder place ≡ true
 lives_still us h Holder.Page place e = e
 lives_still us h (Holder.Object n first) place e = e
 
@@ -108,23 +108,23 @@ module _ {limit : ℕ} (order : ℕ) (m : Machine) (s : State) (w : IsWellFormed
       there o byte false e = e
 
   -- what is seen as busy is so
-  pub busy_seen : (u : ℕ) → operations.is_busy order m u ≡ false → is_busy order (holdings_of m) u ≡ false
+  pub busy_seen : (u : ℕ) → operations.is_busy order m u ≡ false → is_slot_busy order (holdings_of m) u ≡ false
   unfolding operations.is_busy
-  busy_seen u e = ap (λ b. not (not b)) (any_none (overlaps (slot_block order u)) (taken_blocks (holdings_of m)) (each_from (λ t. overlaps (slot_block order u) t ≡ false) (taken_blocks (holdings_of m))
+  busy_seen u e = ap (λ b. not (not b)) (any_none (overlaps (slot_block order u)) (told_blocks (holdings_of m)) (each_from (λ t. overlaps (slot_block order u) t ≡ false) (told_blocks (holdings_of m))
       (λ t i. each_in (λ t. overlaps (slot_block order u) t ≡ false) t (model.taken_blocks m) (none_any (overlaps (slot_block order u)) (model.taken_blocks m) e) (taken_seen order m t w i))))
 
   -- a slot is busy only where it is seen so, or a slab may stand
-  pub busy_may : (u : ℕ) → operations.is_busy order m u ≡ true → (is_busy order (holdings_of m) u || list_any (λ c. s.hides c.number) (holdings_of m).caches) ≡ true
-  unfolding operations.is_busy model.taken_blocks holdings_of taken_blocks
+  pub busy_may : (u : ℕ) → operations.is_busy order m u ≡ true → (is_slot_busy order (holdings_of m) u || list_any (λ c. s.hides c.number) (holdings_of m).caches) ≡ true
+  unfolding operations.is_busy model.taken_blocks holdings_of told_blocks
   busy_may u e =
       let b : (b : Block) × IsIn b (model.taken_blocks m) × (overlaps (slot_block order u) b ≡ true) = some_any (overlaps (slot_block order u)) (model.taken_blocks m) e in
       ⊎_elim
-      (λ (page : IsIn b.0 m.blocks). or_left (is_busy order (holdings_of m) u) (list_any (λ c. s.hides c.number) (map told_cache m.caches))
-      (ap (λ x. not (not x)) (any_in (overlaps (slot_block order u)) b.0 (taken_blocks (holdings_of m)) (in_left b.0 m.blocks _ page) b.2)))
+      (λ (page : IsIn b.0 m.blocks). or_left (is_slot_busy order (holdings_of m) u) (list_any (λ c. s.hides c.number) (map told_cache m.caches))
+      (ap (λ x. not (not x)) (any_in (overlaps (slot_block order u)) b.0 (told_blocks (holdings_of m)) (in_left b.0 m.blocks _ page) b.2)))
       (λ (slab : IsIn b.0 (flat_map slab_blocks m.caches)).
       let c : (c : Cache) × IsIn c m.caches × IsIn b.0 (slab_blocks c) = flat_in slab_blocks b.0 m.caches slab in
       let x : (x : Slab) × IsIn x c.0.slabs × (slab_block c.0 x ≡ b.0) = map_in (slab_block c.0) b.0 c.0.slabs c.2 in
-      or_right (is_busy order (holdings_of m) u) (list_any (λ c. s.hides c.number) (map told_cache m.caches))
+      or_right (is_slot_busy order (holdings_of m) u) (list_any (λ c. s.hides c.number) (map told_cache m.caches))
       (any_in (λ c. s.hides c.number) (told_cache c.0) (map told_cache m.caches) (in_map told_cache c.0 m.caches c.1) (h.hides c.0 x.0 (in_contains c.0 m.caches c.1) (in_contains x.0 c.0.slabs x.1))))
       (in_append b.0 m.blocks (flat_map slab_blocks m.caches) b.1)
 

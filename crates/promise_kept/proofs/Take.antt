@@ -20,11 +20,11 @@ use Rattle.words_core.specs.declared.event.Command.TheVariants as Asked
 use Rattle.words_core.specs.declared.reply.Addressee.TheVariants as To
 use Rattle.words_core.specs.declared.reply.Body.TheVariants as Say
 use Rattle.words_core.specs.declared.reply.Refusal.{Refusal}
-use Rattle.promise_core.specs.Holdings.{ToldCache, slab_at, are_apart, can_be_taken, cache_of as cache_told, with_live as with_live_told}
+use Rattle.promise_core.specs.Holdings.{ToldCache, slab_around, are_apart, can_be_taken, cache_told as cache_told, with_live_places as with_live_told}
 use Rattle.promise_core.specs.Bytes.{Holder, is_object, may_be, without}
 use Rattle.promise_core.specs.State.{State, state_after, with_object}
 use Rattle.promise_core.specs.Promises.{due, first_due}
-use Rattle.promise_kept.specs.Meets.{told_cache, holdings_of, is_live, Meets, IsKeptBy}
+use Rattle.promise_kept.specs.Meets.{told_cache, holdings_of, is_object_live, Meets, IsKeptBy}
 use Rattle.promise_kept.proofs.Stand.{in_contains}
 use Rattle.promise_kept.proofs.Cells.{all_kept, formed, without_some, without_may}
 use Rattle.promise_kept.proofs.Reaped.{object_in_slab}
@@ -52,7 +52,7 @@ cache_found order c m w i = go (find (λ x. eqb x.number c.number) m.caches) ref
 
 -- the cells of the slab's bytes that are no object's of the cache, beside the one taken
 abbrev left_beside : ToldCache → ℕ → ℕ → Holder → Bool
-left_beside c first place holder = in_block place (slab_at c first) && not (is_object (λ n p. eqb n c.number && (eqb p first || are_apart c first p)) holder)
+left_beside c first place holder = in_block place (slab_around c first) && not (is_object (λ n p. eqb n c.number && (eqb p first || are_apart c first p)) holder)
 
 module _ {limit : ℕ} (order : ℕ) (c : Cache) (s : Slab) (i : ℕ) (m : Machine) (st : State) (w : IsWellFormed limit order m) (h : Meets order (hidden c.number st) m)
     (in_c : IsIn c m.caches) (in_s : IsIn s c.slabs) (lt : i < (layout c).count) (dead : get_or s.live i false ≡ false) where
@@ -73,7 +73,7 @@ module _ {limit : ℕ} (order : ℕ) (c : Cache) (s : Slab) (i : ℕ) (m : Machi
       let one : IsOne l.slab s l.index i = one_place order c m w in_c l.slab s l.index i l.slab_in in_s (subst (λ k. l.index < k) (is_slab order c m w in_c l.slab l.slab_in).count l.index_in) lt (sym l.at) in
       false≢true (sym dead ∙ (ap (λ t. get_or t.live i false) (sym one.slab) ∙ (ap (λ k. get_or l.slab.live k false) (sym one.index) ∙ l.live)))
 
-  still_live : (p : ℕ) (holder : Holder) → is_live (holdings_of m) holder p ≡ true → is_live (holdings_of n) holder p ≡ true
+  still_live : (p : ℕ) (holder : Holder) → is_object_live (holdings_of m) holder p ≡ true → is_object_live (holdings_of n) holder p ≡ true
   unfolding holdings_of
   still_live p Holder.Page e = e
   still_live p (Holder.Object number first) e = told_live n number first p (go (live_told m number first p e))
@@ -137,7 +137,7 @@ module _ {limit : ℕ} (order : ℕ) (c : Cache) (s : Slab) (i : ℕ) (m : Machi
     has = refl;
     hides = λ x slab k j. go_hides x slab (contains_in n.caches x k) j;
     lives = λ p cell e sure. let was = without_some (left_beside (told_cache c) place) st.cells p cell e in
-        still_live p cell.holder (ap (λ x. is_live x cell.holder p) (sym h.has) ∙ h.lives p cell was.0 sure);
+        still_live p cell.holder (ap (λ x. is_object_live x cell.holder p) (sym h.has) ∙ h.lives p cell was.0 sure);
     page_bytes = λ p byte out is. let outside : in_slab m p ≡ false = sym (flagged_same order p c s i true m w in_c in_s) ∙ out in
         without_may (left_beside (told_cache c) place) st.cells Holder.Page p 0 byte (page_left p outside) (h.page_bytes p byte outside is);
     object_bytes = λ x j byte k below is. go_bytes x j byte below is (was_object limit order c s i true m w in_c in_s lt x k);

@@ -21,10 +21,10 @@ use Rattle.words_core.specs.declared.reply.Addressee.TheVariants as To
 use Rattle.words_core.specs.declared.reply.Body.TheVariants as Say
 use Rattle.words_core.specs.declared.reply.Refusal.{Refusal}
 use Rattle.world_core.specs.PrivateStep.{take_body, command_step}
-use Rattle.promise_core.specs.Holdings.{live_beside, is_full as is_full_there, has_room, cache_of as cache_told}
+use Rattle.promise_core.specs.Holdings.{live_beside, is_slab_full as is_full_there, has_room, cache_told as cache_told}
 use Rattle.promise_core.specs.State.{State, state_after}
 use Rattle.promise_core.specs.Promises.{due, first_due, is_used_up, is_one}
-use Rattle.promise_kept.specs.Meets.{told_cache, holdings_of, Meets, IsKeptBy, IsKept}
+use Rattle.promise_kept.specs.Meets.{told_cache, holdings_of, Meets, IsKeptBy, IsPromiseKept}
 use Rattle.promise_kept.proofs.Stand.{room_served}
 use Rattle.promise_kept.proofs.Cells.{all_kept, formed}
 use Rattle.promise_kept.proofs.Reaped.{untold, meets_untold, by_need_meets}
@@ -171,7 +171,7 @@ module _ (limit order number : ℕ) (m : Machine) (s : State) (w : IsWellFormed 
           subst (λ i. IsKeptBy limit order (Asked.Take i) s (take_body (hand_out (grown_cache first c) (new_slab c first) (grown first c n)).answer) (hand_out (grown_cache first c) (new_slab c first) (grown first c n)).machine) same
           (grow_kept order first c n s (by_need_kept order (layout c).order m w) (by_need_meets order s m w h (layout c).order) (stands_by_need order (layout c).order c m in_c e) some)
 
-  pub take_kept : 3 ≤ order → IsKept limit order (Asked.Take number) m s
+  pub take_kept : 3 ≤ order → IsPromiseKept limit order (Asked.Take number) m s
   unfolding command_step take_step
   take_kept large = go (cache_of m number) refl
     where

@@ -23,7 +23,7 @@ use Rattle.world_core.specs.Laws.{opening_history}
 use Rattle.world_core.proofs.Runs.{own_run}
 use Rattle.promise_core.specs.State.{State, opening}
 use Rattle.promise_core.specs.Promises.{allowed}
-use Rattle.promise_kept.specs.Meets.{Meets, IsKept}
+use Rattle.promise_kept.specs.Meets.{Meets, IsPromiseKept}
 use Rattle.promise_kept.specs.MeetsWorld.{IsKeptIn}
 use Rattle.promise_kept.specs.Laws.{AllocIsKept, FreeIsKept, WriteIsKept, ReadIsKept, CacheIsKept, ReportIsKept}
 use Rattle.promise_kept.specs.ObjectLaws.{TakeIsKept, GiveIsKept, DestroyIsKept, ReapIsKept}
@@ -103,32 +103,32 @@ formed = ran.meets.formed 0 left is_left
 met : Meets 3 of_it left
 met = ran.meets.meets 0 of_it left known_state.1 is_left
 
-AllocIsKept-met : AllocIsKept → IsKept 32 3 (Asked.Alloc 0) left of_it
+AllocIsKept-met : AllocIsKept → IsPromiseKept 32 3 (Asked.Alloc 0) left of_it
 AllocIsKept-met law = law 32 3 0 left of_it formed met
 
-FreeIsKept-met : FreeIsKept → IsKept 32 3 (Asked.Free 0) left of_it
+FreeIsKept-met : FreeIsKept → IsPromiseKept 32 3 (Asked.Free 0) left of_it
 FreeIsKept-met law = law 32 3 0 left of_it formed met
 
-WriteIsKept-met : WriteIsKept → IsKept 32 3 (Asked.Write 0 (record { items = 7 ∷ [] })) left of_it
+WriteIsKept-met : WriteIsKept → IsPromiseKept 32 3 (Asked.Write 0 (record { items = 7 ∷ [] })) left of_it
 WriteIsKept-met law = law 32 3 0 (record { items = 7 ∷ [] }) left of_it formed met
 
-ReadIsKept-met : ReadIsKept → IsKept 32 3 (Asked.Read 4096 2) left of_it
+ReadIsKept-met : ReadIsKept → IsPromiseKept 32 3 (Asked.Read 4096 2) left of_it
 ReadIsKept-met law = law 32 3 4096 2 left of_it formed met
 
-CacheIsKept-met : CacheIsKept → IsKept 32 3 (Asked.Cache 64 8 (record { items = 0 ∷ [] })) left of_it
+CacheIsKept-met : CacheIsKept → IsPromiseKept 32 3 (Asked.Cache 64 8 (record { items = 0 ∷ [] })) left of_it
 CacheIsKept-met law = law 32 3 64 8 (record { items = 0 ∷ [] }) left of_it formed met (omega arith)
 
-ReportIsKept-met : ReportIsKept → IsKept 32 3 Asked.Report left of_it
+ReportIsKept-met : ReportIsKept → IsPromiseKept 32 3 Asked.Report left of_it
 ReportIsKept-met law = law 32 3 left of_it formed met
 
-TakeIsKept-met : TakeIsKept → IsKept 32 3 (Asked.Take 0) left of_it
+TakeIsKept-met : TakeIsKept → IsPromiseKept 32 3 (Asked.Take 0) left of_it
 TakeIsKept-met law = law 32 3 0 left of_it formed met (omega arith)
 
-GiveIsKept-met : GiveIsKept → IsKept 32 3 (Asked.Give 0 8256) left of_it
+GiveIsKept-met : GiveIsKept → IsPromiseKept 32 3 (Asked.Give 0 8256) left of_it
 GiveIsKept-met law = law 32 3 0 8256 left of_it formed met
 
-DestroyIsKept-met : DestroyIsKept → IsKept 32 3 (Asked.Destroy 0) left of_it
+DestroyIsKept-met : DestroyIsKept → IsPromiseKept 32 3 (Asked.Destroy 0) left of_it
 DestroyIsKept-met law = law 32 3 0 left of_it formed met
 
-ReapIsKept-met : ReapIsKept → IsKept 32 3 Asked.Reap left of_it
+ReapIsKept-met : ReapIsKept → IsPromiseKept 32 3 Asked.Reap left of_it
 ReapIsKept-met law = law 32 3 left of_it formed met

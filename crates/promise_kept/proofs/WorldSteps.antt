@@ -37,7 +37,7 @@ use Rattle.world_core.proofs.Operations.{read_stays}
 use Rattle.world_core.proofs.Asked.{reading_possible}
 use Rattle.promise_core.specs.State.{State, Known, opening_state, opening, state_after, owners_after}
 use Rattle.promise_core.specs.Promises.{is_for, due, named, kept, allowed, all_allowed}
-use Rattle.promise_kept.specs.Meets.{Meets, IsKept}
+use Rattle.promise_kept.specs.Meets.{Meets, IsPromiseKept}
 use Rattle.promise_kept.specs.MeetsWorld.{MeetsWorld, IsKeptIn, IsEventKept}
 use Rattle.promise_kept.specs.WorldLaws.{CanBeAsked, KeepsPromises, TraceKeepsPromises, StrangerChangesNothing}
 use Rattle.promise_kept.proofs.Cells.{all_kept}
@@ -57,7 +57,7 @@ use Rattle.promise_kept.proofs.Report.{report_kept}
 
 -- Commands
 
-command_kept : (limit order : ℕ) (command : Command) (m : Machine) (s : State) → 3 ≤ order → IsWellFormed limit order m → Meets order s m → IsKept limit order command m s
+command_kept : (limit order : ℕ) (command : Command) (m : Machine) (s : State) → 3 ≤ order → IsWellFormed limit order m → Meets order s m → IsPromiseKept limit order command m s
 command_kept limit order (Asked.Alloc k) m s le w h = alloc_is_kept limit order k m s w h
 command_kept limit order (Asked.Free first) m s le w h = free_is_kept limit order first m s w h
 command_kept limit order (Asked.Read place len) m s le w h = read_is_kept limit order place len m s w h
@@ -107,7 +107,7 @@ module _ (limit order : ℕ) (w : World) (states : List State) (h : MeetsWorld l
   back_now t u = go (slice_get w.machines t) refl
     where
       at : (m : Machine) → slice_get w.machines t ≡ Some m → (held : Bool) → holds m u ≡ held → (busy : Bool) → is_busy order m u ≡ busy
-          → IsKeptNow (On.Admin (Do.TakeBack t u)) (world.taken_back t u w (back_step order u m held busy).machine (back_step order u m held busy).answer)
+          → IsKeptNow (On.Admin (Do.TakeBack t u)) (world.take_back_answered t u w (back_step order u m held busy).machine (back_step order u m held busy).answer)
       at m is false e busy f = no_slot limit order w states h t m is u e
       at m is true e true f = slot_busy limit order w states h t m is u e f
       at m is true e false f = back_done limit order w states h t m is u e f

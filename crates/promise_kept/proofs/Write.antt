@@ -17,7 +17,7 @@ use Rattle.world_core.specs.PrivateStep.{write_body, command_step}
 use Rattle.promise_core.specs.Bytes.{Holder, with_bytes, holder_of}
 use Rattle.promise_core.specs.State.{State, with_range, state_after}
 use Rattle.promise_core.specs.Promises.{due}
-use Rattle.promise_kept.specs.Meets.{Meets, IsKeptBy, IsKept}
+use Rattle.promise_kept.specs.Meets.{Meets, IsKeptBy, IsPromiseKept}
 use Rattle.promise_kept.proofs.Seen.{reach_same}
 use Rattle.promise_kept.proofs.Cells.{all_kept, formed}
 use Rattle.promise_kept.proofs.Range.{range_meets}
@@ -71,7 +71,7 @@ module _ (limit order place : ℕ) (new : ArrayVec ℕ) (m : Machine) (s : State
         );
       }
 
-  pub write_is_kept : IsKept limit order (Asked.Write place new) m s
+  pub write_is_kept : IsPromiseKept limit order (Asked.Write place new) m s
   unfolding command_step write_step
   write_is_kept = go (in_reach m place (length new.items)) refl
     where

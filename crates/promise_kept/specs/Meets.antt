@@ -6,7 +6,7 @@ use Rattle.model_core.specs.Layouts.{pattern_byte}
 use Rattle.model_core.specs.Machine.{Slab, Cache, Machine, layout, in_block}
 use Rattle.model_core.specs.Slabs.{live_objects}
 use Rattle.model_core.specs.WellFormed.{in_slab}
-use Rattle.model_core.specs.Reports.{rows_of, order_rows}
+use Rattle.model_core.specs.Reports.{rows_of_caches, order_rows}
 use Rattle.model_core.specs.Laws.{Object, IsObject, place_of}
 use Rattle.words_core.specs.declared.event.Command.{Command}
 use Rattle.words_core.specs.declared.event.Event.TheVariants as On
@@ -36,9 +36,9 @@ unfoldable pub holdings_of : Machine → Holdings
 holdings_of m = record { slots = m.slots; pages = m.blocks; caches = map told_cache m.caches }
 
 -- the holder of a byte at this place is a live page block, or a live object
-abbrev pub is_live : Holdings → Holder → ℕ → Bool
-is_live h Holder.Page place = list_any (in_block place) h.pages
-is_live h (Holder.Object number first) place = list_any (λ c. c.number == number && list_any (λ p. p == first) c.live) h.caches
+abbrev pub is_object_live : Holdings → Holder → ℕ → Bool
+is_object_live h Holder.Page place = list_any (in_block place) h.pages
+is_object_live h (Holder.Object number first) place = list_any (λ c. c.number == number && list_any (λ p. p == first) c.live) h.caches
 
 -- What is known of a machine is so; slots have 2 ^ order frames.
 pub record Meets (order : ℕ) (s : State) (m : Machine) : Type 0 where
@@ -46,14 +46,14 @@ pub record Meets (order : ℕ) (s : State) (m : Machine) : Type 0 where
   -- a cache with a slab is one that may have an empty one
   pub hides : (c : Cache) (slab : Slab) → Contains m.caches c → Contains c.slabs slab → s.hides c.number ≡ true
   -- what does not live is in doubt
-  pub lives : (place : ℕ) (cell : Cell) → s.cells place ≡ Some cell → cell.sure ≡ true → is_live s.has cell.holder place ≡ true
+  pub lives : (place : ℕ) (cell : Cell) → s.cells place ≡ Some cell → cell.sure ≡ true → is_object_live s.has cell.holder place ≡ true
   -- each byte outside slabs is one that a page block may have there
   pub page_bytes : (place byte : ℕ) → in_slab m place ≡ false → m.bytes place ≡ Some byte → may_be Holder.Page 0 (s.cells place) byte ≡ true
   -- each byte of an object, live or not, is one that it may have there
   pub object_bytes : (o : Object) (j byte : ℕ) → IsObject m o → j < o.cache.size → m.bytes (place_of o + j) ≡ Some byte
       → may_be (Holder.Object o.cache.number (place_of o)) (pattern_byte o.cache.pattern j) (s.cells (place_of o + j)) byte ≡ true
   -- a report that has to stand tells the empty slabs and the free blocks that there are
-  pub empty_told : (r : Report) → s.told ≡ Some r → map (λ row. row.empty) r.caches.items ≡ map (λ row. row.empty) (rows_of m)
+  pub empty_told : (r : Report) → s.told ≡ Some r → map (λ row. row.empty) r.caches.items ≡ map (λ row. row.empty) (rows_of_caches m)
   pub free_told : (r : Report) → s.told ≡ Some r → map (λ row. row.free) r.orders.items ≡ map (λ row. row.free) (order_rows order m (order + 1))
 
 -- This reply to a tenant's command keeps each promise, and what is known after it is so of this machine.
@@ -63,5 +63,5 @@ pub record IsKeptBy (limit order : ℕ) (command : Command) (s : State) (body : 
   pub meets : (t : ℕ) → (next : State) × (state_after order (On.Tenant t command) body s ≡ Some next) × Meets order next after
 
 -- So does what the private machine answers.
-abbrev pub IsKept : ℕ → ℕ → Command → Machine → State → Type 0
-IsKept limit order command m s = IsKeptBy limit order command s (command_step limit order command m).answer (command_step limit order command m).machine
+abbrev pub IsPromiseKept : ℕ → ℕ → Command → Machine → State → Type 0
+IsPromiseKept limit order command m s = IsKeptBy limit order command s (command_step limit order command m).answer (command_step limit order command m).machine

@@ -13,7 +13,7 @@ use Rattle.words_core.specs.Commands.{or_fault, bytes_or_fault, bytes_argument, 
 use Rattle.words_core.specs.Numbers.{number_of}
 use Rattle.words_core.specs.declared.event.Command.TheVariants.{Write}
 use Rattle.words_core.specs.declared.event.LineFault.TheVariants.{Number, Hex}
-use Rattle.quick_core.specs.Lines.{IsRead}
+use Rattle.quick_core.specs.Lines.{ReadsAs}
 use Rattle.quick_core.specs.declared.written.TheConstants.{HEX_VALUES}
 use Rattle.quick_core.proofs.LineLemmas.{IsPlain, IsPlainWord, SomeCase, OneCase, spaced, is_read, three_words, plain_number}
 use Rattle.quick_core.proofs.WindowLemmas.{one_more}
@@ -103,7 +103,7 @@ pub is_read_hex : SomeCase → OneCase → (rest : List ℕ) (a i b j d k e t n 
     → i ≡ a + 1 → i < b → j ≡ b + 1 → j < d → k ≡ d + 1 → k < e → e ≤ k + 128 → e < length rest → e ≤ 255
     → number_of (slice_range rest 0 a) ≡ Some t → get_or rest a 0 ≡ 32 → slice_range rest i b ≡ codes "write" → get_or rest b 0 ≡ 32
     → number_of (slice_range rest j d) ≡ Some n → get_or rest d 0 ≡ 32 → decode_pairs 0 (slice_range rest k e) ≡ Ok bytes → get_or rest e 0 ≡ 10
-    → IsRead rest t (Write n (record { items = bytes })) (e + 1)
+    → ReadsAs rest t (Write n (record { items = bytes })) (e + 1)
 is_read_hex some only rest a i b j d k e t n bytes i_is ib j_is jd k_is ke most within few first_is blank_a word_is blank_b n_is blank_d bytes_are at =
     let word = slice_range rest k e in
     let (digits, twice, _) = decode_pairs-ok 0 word bytes bytes_are in

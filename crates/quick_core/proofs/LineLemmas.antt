@@ -8,7 +8,7 @@ use Rattle.std.proofs.lemmas.List.Elements.{All-nil, All-cons, All-head, All-tai
 use Rattle.std.proofs.lemmas.List.{get_or-take, length-take-le}
 use Rattle.std.proofs.lemmas.Slice.{between_from_start}
 use Rattle.words_core.specs.Cases.{AllMake, CaseOfBytes, Case, of_words, event}
-use Rattle.words_core.specs.Commands.{or_fault, number, Row, tenant, tenant_rows}
+use Rattle.words_core.specs.Commands.{or_fault, number, CommandRow, tenant, tenant_rows}
 use Rattle.words_core.specs.Grammar.{reading_of}
 use Rattle.words_core.specs.Numbers.{is_number, value_of, number_of}
 use Rattle.words_core.specs.Words.{IsBlank, IsLetter, IsWord, StartsBlank, HasWords}
@@ -17,7 +17,7 @@ use Rattle.words_core.specs.declared.event.Event.{Event}
 use Rattle.words_core.specs.declared.event.Event.TheVariants.{Tenant}
 use Rattle.words_core.specs.declared.event.LineFault.{LineFault}
 use Rattle.words_core.specs.declared.event.LineFault.TheVariants.{Number}
-use Rattle.quick_core.specs.Lines.{IsRead}
+use Rattle.quick_core.specs.Lines.{ReadsAs}
 use Rattle.quick_core.proofs.WindowLemmas.{cut, front, first_line_feed}
 
 -- ---- bytes
@@ -142,7 +142,7 @@ OneCase = (line : List ℕ) (number other : ℕ) (reading second : Result (Optio
     → Case number line reading → Case other line second → (other ≡ number) × (second ≡ reading)
 
 -- a command's word and its arguments behind the number of a tenant
-pub event_said : SomeCase → OneCase → (first : List ℕ) (arguments : List (List ℕ)) (t : ℕ) (row : Row Command) (command : Command)
+pub event_said : SomeCase → OneCase → (first : List ℕ) (arguments : List (List ℕ)) (t : ℕ) (row : CommandRow Command) (command : Command)
     → number_of first ≡ Some t → Contains tenant_rows row → IsPlainWord row.word → All IsPlainWord arguments
     → length (first ++ spaced (row.word ∷ arguments)) ≤ 255
     → AllMake row.forms row.makes arguments command
@@ -161,11 +161,11 @@ event_said some only first arguments t row command first_is has plain_word plain
 -- ---- such a line in a window
 
 -- the first line of the window, cut into its words
-pub is_read : SomeCase → OneCase → (window first : List ℕ) (arguments : List (List ℕ)) (e t : ℕ) (row : Row Command) (command : Command)
+pub is_read : SomeCase → OneCase → (window first : List ℕ) (arguments : List (List ℕ)) (e t : ℕ) (row : CommandRow Command) (command : Command)
     → e < length window → e ≤ 255 → get_or window e 0 ≡ 10 → take e window ≡ first ++ spaced (row.word ∷ arguments)
     → number_of first ≡ Some t → Contains tenant_rows row → IsPlainWord row.word → All IsPlainWord arguments
     → AllMake row.forms row.makes arguments command
-    → IsRead window t command (e + 1)
+    → ReadsAs window t command (e + 1)
 is_read some only window first arguments e t row command within few at cuts first_is has plain_word plain make = record {
   some = omega arith;
   within = omega arith;
@@ -225,12 +225,12 @@ three_words window a i b j d k e i_is ib j_is jd k_is ke fits blank_a blank_b bl
     ∙ ap (λ rest. 32 ∷ rest) (sym (append-nil (slice_range window k e))))))))
 
 -- a command with one number
-pub is_read_one : SomeCase → OneCase → (window : List ℕ) (a i b j e t n : ℕ) (row : Row Command) (command : Command)
+pub is_read_one : SomeCase → OneCase → (window : List ℕ) (a i b j e t n : ℕ) (row : CommandRow Command) (command : Command)
     → i ≡ a + 1 → i < b → j ≡ b + 1 → j < e → e < length window → e ≤ 255
     → number_of (slice_range window 0 a) ≡ Some t → get_or window a 0 ≡ 32 → slice_range window i b ≡ row.word → get_or window b 0 ≡ 32
     → number_of (slice_range window j e) ≡ Some n → get_or window e 0 ≡ 10
     → Contains tenant_rows row → IsPlainWord row.word → AllMake row.forms row.makes (slice_range window j e ∷ []) command
-    → IsRead window t command (e + 1)
+    → ReadsAs window t command (e + 1)
 is_read_one some only window a i b j e t n row command i_is ib j_is je within few first_is blank_a word_is blank_b number_is at has plain make =
     is_read some only window (slice_range window 0 a) (slice_range window j e ∷ []) e t row command within few at
     (two_words window a i b j e i_is ib j_is je (omega arith) blank_a blank_b
@@ -240,13 +240,13 @@ is_read_one some only window a i b j e t n row command i_is ib j_is je within fe
     make
 
 -- a command with two numbers
-pub is_read_two : SomeCase → OneCase → (window : List ℕ) (a i b j d k e t m n : ℕ) (row : Row Command) (command : Command)
+pub is_read_two : SomeCase → OneCase → (window : List ℕ) (a i b j d k e t m n : ℕ) (row : CommandRow Command) (command : Command)
     → i ≡ a + 1 → i < b → j ≡ b + 1 → j < d → k ≡ d + 1 → k < e → e < length window → e ≤ 255
     → number_of (slice_range window 0 a) ≡ Some t → get_or window a 0 ≡ 32 → slice_range window i b ≡ row.word → get_or window b 0 ≡ 32
     → number_of (slice_range window j d) ≡ Some m → get_or window d 0 ≡ 32 → number_of (slice_range window k e) ≡ Some n → get_or window e 0 ≡ 10
     → Contains tenant_rows row → IsPlainWord row.word
     → AllMake row.forms row.makes (slice_range window j d ∷ slice_range window k e ∷ []) command
-    → IsRead window t command (e + 1)
+    → ReadsAs window t command (e + 1)
 is_read_two some only window a i b j d k e t m n row command i_is ib j_is jd k_is ke within few first_is blank_a word_is blank_b m_is blank_d n_is at has plain make =
     is_read some only window (slice_range window 0 a) (slice_range window j d ∷ slice_range window k e ∷ []) e t row command within few at
     (three_words window a i b j d k e i_is ib j_is jd k_is ke (omega arith) blank_a blank_b blank_d

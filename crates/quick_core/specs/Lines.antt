@@ -9,14 +9,14 @@ use Rattle.quick_core.specs.declared.line.TheConstants.{MOST_TENANT_DIGITS}
 use Rattle.quick_core.specs.declared.number.Number.{Number}
 
 -- the first line feed (byte 10) of the bytes ends a line of so many, and it reads as this command of this tenant
-pub record IsRead (bytes : List ℕ) (tenant : ℕ) (command : Command) (len : ℕ) : Type 0 where
+pub record ReadsAs (bytes : List ℕ) (tenant : ℕ) (command : Command) (len : ℕ) : Type 0 where
   pub some : 0 < len
   pub within : len ≤ length bytes
   pub ended : position (λ b. b == 10) bytes ≡ Some (len - 1)
   pub reading : reading_of (take (len - 1) bytes) ≡ Ok (Some (Tenant tenant command))
 
 -- the number of a tenant, a blank, and the first four letters of a command
-pub record Begins (bytes : List ℕ) (tenant : Number) (four : List ℕ) : Type 0 where
+pub record BeginsLine (bytes : List ℕ) (tenant : Number) (four : List ℕ) : Type 0 where
   pub number : number_of (slice_range bytes 0 tenant.end) ≡ Some tenant.value
   pub short : tenant.end ≤ MOST_TENANT_DIGITS
   pub blank : slice_index bytes tenant.end ≡ 32

@@ -11,11 +11,11 @@ use Rattle.words_core.specs.declared.reply.Body.{Body}
 use Rattle.words_core.specs.declared.reply.Body.TheVariants as Body_
 use Rattle.words_core.specs.declared.reply.Reply.{Reply}
 
-abbrev pub command_of : Quick → Command
-command_of (Asked.Alloc order) = Alloc order
-command_of (Asked.Free frame) = Free frame
-command_of (Asked.Take cache) = Take cache
-command_of (Asked.Give cache place) = Give cache place
+abbrev pub quick_command : Quick → Command
+quick_command (Asked.Alloc order) = Alloc order
+quick_command (Asked.Free frame) = Free frame
+quick_command (Asked.Take cache) = Take cache
+quick_command (Asked.Give cache place) = Give cache place
 
 abbrev pub body_of_told : Told → Body
 body_of_told (Say.Frame frame) = Body_.Frame frame

@@ -8,7 +8,7 @@ ghost use Rattle.words_core.specs.Texts.{text_of};
 ghost use Rattle.words_core.specs.declared.event.Event.TheVariants.{Tenant};
 ghost use Rattle.words_core.specs.declared.event.Command.TheVariants.{Read};
 ghost use Rattle.quick_core.specs.Quick.{reply_of_bytes, reply_of_written};
-ghost use Rattle.quick_core.specs.Lines.{Begins, IsRead};
+ghost use Rattle.quick_core.specs.Lines.{BeginsLine, ReadsAs};
 
 use crate::line::{MOST_TENANT_DIGITS, four_at, last_number};
 use crate::number::{MOST_READ_DIGITS, Number, number_at};
@@ -40,7 +40,8 @@ pub fn read_bytes_line(window: &[u8; WINDOW]) -> Option<BytesLine>
     ensures line { IfSome result (λ line. position (λ b. b == 10) window.now ≡ Some (line.len - 1)) }
     ensures some { IfSome result (λ line. 0 < line.len) }
     // It reads as that event.
-    ensures reading { IfSome result (λ line. reading_of (take (line.len - 1) window.now) ≡ Ok (Some (Tenant line.tenant (Read line.place line.asked)))) }
+    ensures reading { IfSome result
+        (λ line. reading_of (take (line.len - 1) window.now) ≡ Ok (Some (Tenant line.tenant (Read line.place line.asked)))) }
     ensures within { IfSome result (λ line. line.len ≤ WINDOW) }
 {
     let tenant = number_at(window, 0, MOST_TENANT_DIGITS)?;
@@ -52,8 +53,8 @@ pub fn read_bytes_line(window: &[u8; WINDOW]) -> Option<BytesLine>
 
 #[inline(always)]
 fn rest_of_read(window: &[u8; WINDOW], tenant: Number) -> Option<BytesLine>
-    requires { Begins window.now tenant (codes "read") }
-    ensures { IfSome result (λ line. IsRead window.now line.tenant (Read line.place line.asked) line.len) }
+    requires { BeginsLine window.now tenant (codes "read") }
+    ensures { IfSome result (λ line. ReadsAs window.now line.tenant (Read line.place line.asked) line.len) }
 {
     one_case();
     let at = tenant.end + 5;

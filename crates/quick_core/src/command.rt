@@ -1,3 +1,5 @@
+//! What is asked and answered on the short path.
+
 ghost use Rattle.std.specs.Prelude.{◌≡◌};
 
 use words_core::Refusal;

@@ -1,11 +1,13 @@
+//! The lines of `alloc`, `free`, `take` and `give`, read off the front of a window.
+
 ghost use Rattle.std.specs.Prelude.{◌≡◌, ◌-◌, ◌+◌, ◌<◌, ◌≤◌, ◌==◌, Some, Ok, IfSome, codes, length, take, slice_range, slice_index};
 ghost use Rattle.std.specs.List.{position};
 ghost use Rattle.std.specs.Int.{w32, to_le_bytes};
 ghost use Rattle.words_core.specs.Grammar.{reading_of};
 ghost use Rattle.words_core.specs.Numbers.{number_of};
 ghost use Rattle.words_core.specs.declared.event.Event.TheVariants.{Tenant};
-ghost use Rattle.quick_core.specs.Quick.{command_of};
-ghost use Rattle.quick_core.specs.Lines.{Begins, IsRead};
+ghost use Rattle.quick_core.specs.Quick.{quick_command};
+ghost use Rattle.quick_core.specs.Lines.{BeginsLine, ReadsAs};
 
 use crate::command::Quick;
 use crate::number::{MOST_READ_DIGITS, Number, number_at};
@@ -40,7 +42,8 @@ pub fn read_quick(window: &[u8; WINDOW]) -> Option<QuickLine>
     ensures line { IfSome result (λ line. position (λ b. b == 10) window.now ≡ Some (line.len - 1)) }
     ensures some { IfSome result (λ line. 0 < line.len) }
     // It reads as that event.
-    ensures reading { IfSome result (λ line. reading_of (take (line.len - 1) window.now) ≡ Ok (Some (Tenant line.tenant (command_of line.command)))) }
+    ensures reading { IfSome result
+        (λ line. reading_of (take (line.len - 1) window.now) ≡ Ok (Some (Tenant line.tenant (quick_command line.command)))) }
     ensures within { IfSome result (λ line. line.len ≤ WINDOW) }
 {
     let tenant = number_at(window, 0, MOST_TENANT_DIGITS)?;
@@ -80,8 +83,8 @@ pub fn last_number(bytes: &[u8], from: usize) -> Option<Number>
 
 #[inline(always)]
 fn alloc_line(window: &[u8; WINDOW], tenant: Number) -> Option<QuickLine>
-    requires { Begins window.now tenant (codes "allo") }
-    ensures { IfSome result (λ line. IsRead window.now line.tenant (command_of line.command) line.len) }
+    requires { BeginsLine window.now tenant (codes "allo") }
+    ensures { IfSome result (λ line. ReadsAs window.now line.tenant (quick_command line.command) line.len) }
 {
     one_case();
     let at = tenant.end + 5;
@@ -98,8 +101,8 @@ fn alloc_line(window: &[u8; WINDOW], tenant: Number) -> Option<QuickLine>
 
 #[inline(always)]
 fn free_line(window: &[u8; WINDOW], tenant: Number) -> Option<QuickLine>
-    requires { Begins window.now tenant (codes "free") }
-    ensures { IfSome result (λ line. IsRead window.now line.tenant (command_of line.command) line.len) }
+    requires { BeginsLine window.now tenant (codes "free") }
+    ensures { IfSome result (λ line. ReadsAs window.now line.tenant (quick_command line.command) line.len) }
 {
     one_case();
     let at = tenant.end + 5;
@@ -116,8 +119,8 @@ fn free_line(window: &[u8; WINDOW], tenant: Number) -> Option<QuickLine>
 
 #[inline(always)]
 fn take_line(window: &[u8; WINDOW], tenant: Number) -> Option<QuickLine>
-    requires { Begins window.now tenant (codes "take") }
-    ensures { IfSome result (λ line. IsRead window.now line.tenant (command_of line.command) line.len) }
+    requires { BeginsLine window.now tenant (codes "take") }
+    ensures { IfSome result (λ line. ReadsAs window.now line.tenant (quick_command line.command) line.len) }
 {
     one_case();
     let at = tenant.end + 5;
@@ -134,8 +137,8 @@ fn take_line(window: &[u8; WINDOW], tenant: Number) -> Option<QuickLine>
 
 #[inline(always)]
 fn give_line(window: &[u8; WINDOW], tenant: Number) -> Option<QuickLine>
-    requires { Begins window.now tenant (codes "give") }
-    ensures { IfSome result (λ line. IsRead window.now line.tenant (command_of line.command) line.len) }
+    requires { BeginsLine window.now tenant (codes "give") }
+    ensures { IfSome result (λ line. ReadsAs window.now line.tenant (quick_command line.command) line.len) }
 {
     one_case();
     let at = tenant.end + 5;

@@ -1,3 +1,5 @@
+//! A number of few digits, read off a window.
+
 ghost use Rattle.std.specs.Prelude.{◌≡◌, ◌+◌, ◌<◌, ◌≤◌, Some, IfSome, length, slice_range};
 ghost use Rattle.words_core.specs.Numbers.{number_of};
 

@@ -1,3 +1,5 @@
+//! The answer to a tenant, written as a line.
+
 ghost use Rattle.std.specs.Prelude.{◌≡◌, ◌+◌, ◌<◌, ◌≤◌, [], ◌∷◌, take};
 ghost use Rattle.words_core.specs.Texts.{body_texts, text_of};
 ghost use Rattle.quick_core.specs.Quick.{body_of_told, reply_of_told};

@@ -6,7 +6,7 @@ ghost use Rattle.hex.specs.Hex.{decode_pairs, hex_digit_value};
 ghost use Rattle.words_core.specs.Grammar.{reading_of};
 ghost use Rattle.words_core.specs.declared.event.Event.TheVariants.{Tenant};
 ghost use Rattle.words_core.specs.declared.event.Command.TheVariants.{Write};
-ghost use Rattle.quick_core.specs.Lines.{Begins, IsRead};
+ghost use Rattle.quick_core.specs.Lines.{BeginsLine, ReadsAs};
 
 use crate::line::{MOST_TENANT_DIGITS, four_at};
 use crate::number::{MOST_READ_DIGITS, Number, number_at};
@@ -51,8 +51,9 @@ pub fn read_write_line(rest: &[u8], bytes: &mut [u8; MOST_BYTES]) -> Option<Writ
 #[inline(always)]
 fn rest_of_write(rest: &[u8], tenant: Number, bytes: &mut [u8; MOST_BYTES]) -> Option<WriteLine>
     requires size { WINDOW ≤ length rest.now }
-    requires begins { Begins rest.now tenant (codes "writ") }
-    ensures read { IfSome result (λ line. IsRead rest.now line.tenant (Write line.place (record { items = take line.count bytes.new })) line.len) }
+    requires begins { BeginsLine rest.now tenant (codes "writ") }
+    ensures read { IfSome result
+        (λ line. ReadsAs rest.now line.tenant (Write line.place (record { items = take line.count bytes.new })) line.len) }
     ensures few { IfSome result (λ line. line.count ≤ MOST_BYTES) }
 {
     one_case();

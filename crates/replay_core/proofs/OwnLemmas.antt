@@ -7,13 +7,10 @@ use Rattle.world_core.specs.Limits.{cache_limit}
 use Rattle.world_core.specs.World.{World, opening_world}
 use Rattle.world_core.specs.Output.{output_of, lines_for, with_line_feeds}
 use Rattle.world_core.specs.Laws.{OwnLines, OwnShown}
+use Rattle.world_core.proofs.Worlds.{opening_tenants}
 use Rattle.kernel_core.specs.Parts.{Parts}
 use Rattle.replay_core.specs.declared.replaying.Tally.{Tally}
 use Rattle.replay_core.specs.Runs.{HasRun, HasOwnLines}
-
-opening_tenants : (superblocks tenants : ℕ) → length (opening_world superblocks tenants).machines ≡ tenants
-unfolding opening_world
-opening_tenants superblocks tenants = length-replicate tenants empty_machine
 
 pub own_lines_taken : OwnLines → OwnShown → (only : Option ℕ) (before now : Parts) (given taken : List ℕ) (tally : Tally) → before.tenants < 4294967296
     → HasRun only before now (lines_of_trace given) taken tally → HasOwnLines only before given taken

@@ -5,6 +5,7 @@ use Rattle.std.specs.Result.{is_ok}
 use Rattle.std.specs.Str.Lines.{strip_carriage_return}
 use Rattle.words_core.specs.declared.event.LineFault.TheVariants.{Long}
 use Rattle.words_core.specs.Grammar.{reading_of}
+use Rattle.words_core.proofs.LineLemmas.{reading_of-long}
 use Rattle.std.proofs.lemmas.Bool.Decides.{nat_tests}
 use Rattle.std.proofs.lemmas.Bool.{cases_lt, ltb-true, ltb-false, lt-ltb, le-ltb}
 use Rattle.std.proofs.lemmas.List.{append-nil, take_all, take-append-le, length-take, length-append}
@@ -62,10 +63,6 @@ longer_false line h = ltb-false 256 (length line) h
 stripped : (test : Bool) (line : List ℕ) → 256 < length line → 255 < length (if test then take (length line - 1) line else line)
 stripped true line h = omega (arith, length-take (length line - 1) line)
 stripped false line h = omega arith
-
-reading_of-long : (line : List ℕ) → 255 < length (strip_carriage_return line) → reading_of line ≡ Err Long
-unfolding reading_of
-reading_of-long line long = grind (arith, nat_tests)
 
 -- a line of more than 256 bytes is too long, whatever its end is
 pub overlong : (line : List ℕ) → 256 < length line → reading_of line ≡ Err Long

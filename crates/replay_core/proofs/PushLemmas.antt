@@ -1,12 +1,15 @@
 -- Bytes offered one part after the other.
-use Rattle.std.proofs.Common.{◌≡◌, ℕ, zero, suc, ◌+◌, ◌<◌, ◌≤◌, Bool, true, false, List, [], ◌∷◌, ◌++◌, Option, Some, Result, Ok, Err, length, take, drop, refl, sym, ap, ◌∙◌, arith, add-one, append_assoc, length-append, take-append-drop}
+use Rattle.std.proofs.Common.{◌≡◌, ℕ, zero, suc, ◌+◌, ◌<◌, ◌≤◌, Bool, true, false, List, [], ◌∷◌, ◌++◌, Option, Some, Result, Ok, Err, length, take, drop, refl, sym, ap, subst, ◌∙◌, arith, add-one, append_assoc, length-append, take-append-drop}
 use Rattle.std.proofs.lemmas.List.{append-nil, length-take-le}
 use Rattle.std.specs.List.{concat, slice_get}
 use Rattle.std.specs.Io.KnownBytes.{Appends, Keeps}
 use Rattle.replay_core.specs.declared.feed.Stopped.{Stopped}
 use Rattle.std.specs.Result.{is_err}
-use Rattle.std.specs.Prelude.{nat_eq}
+use Rattle.std.specs.Prelude.{nat_eq, if◌then◌else◌}
 use Rattle.std.proofs.lemmas.Bool.Decides.{nat_tests}
+use Rattle.words_core.specs.declared.reply.Reply.{Reply}
+use Rattle.words_core.specs.Texts.{text_of}
+use Rattle.world_core.specs.Output.{is_shown, shown_text}
 use Rattle.replay_core.specs.Pushes.{HasPushed, IsWholeAtOk}
 use Rattle.replay_core.proofs.MoveLemmas.{appends_nothing, appends_more, appends_kept}
 
@@ -38,23 +41,24 @@ pushed_count old now new text rest count written written' written'' had within a
     pushed_more old now new text rest (take count rest) (drop count rest) written written' written'' had
     (sym (take-append-drop count rest)) appended (omega (arith, counted, length-take-le count rest within))
 
-pub pushed_part : (old now new : Option (List ℕ)) (text rest line after : List ℕ) (written written' written'' : ℕ)
-    → HasPushedBut old now text rest written written' → rest ≡ line ++ after → HasPushed now new line written' written'' (Ok tt)
+pub pushed_part : (old now new : Option (List ℕ)) (failing : Bool) (text rest line after : List ℕ) (written written' written'' : ℕ)
+    → HasPushedBut old now text rest written written' → rest ≡ line ++ after → HasPushed now new failing line written' written'' (Ok tt)
     → HasPushedBut old new text after written written''
-pushed_part old now new text rest line after written written' written'' had cut more =
+pushed_part old now new failing text rest line after written written' written'' had cut more =
     let whole : line ≡ more.taken = more.split ∙ ap (λ xs. more.taken ++ xs) more.whole ∙ append-nil more.taken in
     pushed_more old now new text rest more.taken after written written' written'' had (cut ∙ ap (λ xs. xs ++ after) whole) more.appended more.counted
 
 -- nothing is left
-pub pushed_all : (old new : Option (List ℕ)) (text rest : List ℕ) (written written' : ℕ)
-    → HasPushedBut old new text rest written written' → rest ≡ [] → HasPushed old new text written written' (Ok tt)
-pushed_all old new text rest written written' had none = record {
+pub pushed_all : (old new : Option (List ℕ)) (failing : Bool) (text rest : List ℕ) (written written' : ℕ)
+    → HasPushedBut old new text rest written written' → rest ≡ [] → failing ≡ false → HasPushed old new failing text written written' (Ok tt)
+pushed_all old new failing text rest written written' had none fine = record {
   taken = had.taken;
   rest = rest;
   split = had.split;
   appended = had.appended;
   counted = had.counted;
   whole = none;
+  failed = fine;
 }
 
 -- a test for emptiness failed
@@ -66,23 +70,25 @@ part_at_err (Ok x) rest failed some = cc
 part_at_err (Err e) rest failed some = some
 
 -- the drain failed at the rest
-pub pushed_to : (old now new : Option (List ℕ)) (text rest : List ℕ) (written written' : ℕ) (result : Result (Unit {0}) Stopped) → is_err result ≡ true
-    → HasPushedBut old now text rest written written' → Keeps now new → 0 < length rest → HasPushed old new text written written' result
-pushed_to old now new text rest written written' result failed had kept some = record {
+pub pushed_to : (old now new : Option (List ℕ)) (failing : Bool) (text rest : List ℕ) (written written' : ℕ) (result : Result (Unit {0}) Stopped)
+    → is_err result ≡ true → HasPushedBut old now text rest written written' → Keeps now new → 0 < length rest → failing ≡ true
+    → HasPushed old new failing text written written' result
+pushed_to old now new failing text rest written written' result failed had kept some stopped = record {
   taken = had.taken;
   rest = rest;
   split = had.split;
   appended = appends_kept old now new had.taken had.appended kept;
   counted = had.counted;
   whole = part_at_err result rest failed some;
+  failed = stopped ∙ sym failed;
 }
 
 -- the drain failed within the next part
-pub pushed_into : (old now new : Option (List ℕ)) (text rest line after : List ℕ) (written written' written'' : ℕ) (stopped : Stopped)
+pub pushed_into : (old now new : Option (List ℕ)) (failing : Bool) (text rest line after : List ℕ) (written written' written'' : ℕ) (stopped : Stopped)
     (result : Result (Unit {0}) Stopped) → is_err result ≡ true
-    → HasPushedBut old now text rest written written' → rest ≡ line ++ after → HasPushed now new line written' written'' (Err stopped)
-    → HasPushed old new text written written'' result
-pushed_into old now new text rest line after written written' written'' stopped result failed had cut more = record {
+    → HasPushedBut old now text rest written written' → rest ≡ line ++ after → HasPushed now new failing line written' written'' (Err stopped)
+    → HasPushed old new failing text written written'' result
+pushed_into old now new failing text rest line after written written' written'' stopped result failed had cut more = record {
   taken = had.taken ++ more.taken;
   rest = more.rest ++ after;
   split = had.split
@@ -91,12 +97,13 @@ pushed_into old now new text rest line after written written' written'' stopped 
   appended = appends_more old now new had.taken more.taken had.appended more.appended;
   counted = omega (arith, more.counted, had.counted, length-append had.taken more.taken);
   whole = part_at_err result (more.rest ++ after) failed (omega (arith, more.whole, length-append more.rest after));
+  failed = more.failed ∙ sym failed;
 }
 
 -- no more is counted than the text has
-pub pushed_few : (old new : Option (List ℕ)) (text : List ℕ) (written written' : ℕ) (result : Result (Unit {0}) Stopped)
-    → HasPushed old new text written written' result → written' ≤ written + length text
-pushed_few old new text written written' result pushed =
+pub pushed_few : (old new : Option (List ℕ)) (failing : Bool) (text : List ℕ) (written written' : ℕ) (result : Result (Unit {0}) Stopped)
+    → HasPushed old new failing text written written' result → written' ≤ written + length text
+pushed_few old new failing text written written' result pushed =
     omega (arith, pushed.counted, ap length pushed.split, length-append pushed.taken pushed.rest)
 
 row_here : (rows : List (List ℕ)) (i : ℕ) (line : List ℕ) → slice_get rows i ≡ Some line → concat (drop i rows) ≡ line ++ concat (drop (suc i) rows)
@@ -107,3 +114,8 @@ row_here (row ∷ rows) (suc i) line h = row_here rows i line h
 -- the rows from here on begin with this one
 pub row_next : (rows : List (List ℕ)) (i : ℕ) (line : List ℕ) → slice_get rows i ≡ Some line → concat (drop i rows) ≡ line ++ concat (drop (i + 1) rows)
 row_next rows i line h = rw add-one (row_here rows i line h)
+
+-- a reply that is to be shown is shown whole
+pub shown_whole : (only : Option ℕ) (reply : Reply) (test : Bool) → test ≡ is_shown only reply.addressee → test ≡ true → shown_text only reply ≡ text_of reply
+shown_whole only reply test is shown =
+    subst (λ (b : Bool). (if b then text_of reply else []) ≡ text_of reply) (sym shown ∙ is) refl

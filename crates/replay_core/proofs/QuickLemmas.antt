@@ -12,11 +12,11 @@ use Rattle.world_core.specs.Output.{line_feed}
 use Rattle.words_core.specs.declared.event.Command.{Command}
 use Rattle.kernel_core.specs.Parts.{Parts}
 use Rattle.quick_core.specs.declared.window.TheConstants.{WINDOW}
-use Rattle.quick_core.specs.Lines.{IsRead}
+use Rattle.quick_core.specs.Lines.{ReadsAs}
 use Rattle.replay_core.specs.declared.feed.Stopped.{Stopped}
 use Rattle.replay_core.specs.declared.pending.Pending.{Pending}
-use Rattle.replay_core.specs.declared.replaying.Tally.{Tally}
-use Rattle.replay_core.specs.Pending.{Holds, HoldsNothing}
+use Rattle.replay_core.specs.declared.run.Run.{Run}
+use Rattle.replay_core.specs.Pending.{HoldsLine, HoldsNothing}
 use Rattle.replay_core.specs.Standing.{HasAnswered, Stands, HasStopped}
 use Rattle.replay_core.proofs.LineLemmas.{found_cut}
 use Rattle.replay_core.proofs.RunLemmas.{stands_more_lines, stopped_within}
@@ -36,10 +36,6 @@ pub position_in_front : (p : ℕ → Bool) (n : ℕ) (bytes : List ℕ) (i : ℕ
 position_in_front p n bytes i found =
     position_from-zero p bytes ∙ found_first p n 0 bytes i (sym (position_from-zero p (take n bytes)) ∙ found)
 
--- nothing was held, so no line was
-pub none_was_held : (pending : Pending) → pending.held.items ≡ [] → (line : List ℕ) → Holds line pending → line ≡ []
-none_was_held pending none line holds = nil_from_length line (omega (arith, ap length (sym holds.front ∙ none), length-take 256 line))
-
 abbrev pub is_line_feed : ℕ → Bool
 is_line_feed b = b == line_feed
 
@@ -48,7 +44,7 @@ pub lines_read : {A : Type 0} (o : Option A) (tenant : A → ℕ) (command : A �
     → IfSome o (λ line. position is_line_feed bytes ≡ Some (len line - 1)) → IfSome o (λ line. 0 < len line)
     → IfSome o (λ line. reading_of (take (len line - 1) bytes) ≡ Ok (Some (Tenant (tenant line) (command line))))
     → IfSome o (λ line. len line ≤ length bytes)
-    → IfSome o (λ line. IsRead bytes (tenant line) (command line) (len line))
+    → IfSome o (λ line. ReadsAs bytes (tenant line) (command line) (len line))
 lines_read None tenant command len bytes at some reading within = tt
 lines_read (Some line) tenant command len bytes at some reading within = record { some = some; within = within; ended = at; reading = reading }
 
@@ -58,7 +54,7 @@ pub lines_in_front : {A : Type 0} (o : Option A) (tenant : A → ℕ) (command :
     → IfSome o (λ line. position is_line_feed window ≡ Some (len line - 1)) → IfSome o (λ line. 0 < len line)
     → IfSome o (λ line. reading_of (take (len line - 1) window) ≡ Ok (Some (Tenant (tenant line) (command line))))
     → IfSome o (λ line. len line ≤ WINDOW)
-    → IfSome o (λ line. IsRead bytes (tenant line) (command line) (len line))
+    → IfSome o (λ line. ReadsAs bytes (tenant line) (command line) (len line))
 lines_in_front None tenant command len window bytes front room at some reading within = tt
 lines_in_front (Some line) tenant command len window bytes front room at some reading within = record {
   some = some;
@@ -76,29 +72,29 @@ one_more : (bytes : List ℕ) (len : ℕ) → 0 < len → drop (len - 1 + 1) byt
 one_more bytes len some = ap (λ n. drop n bytes) (omega arith)
 
 -- a line at the front of the rest has been run and answered
-pub line_done : (only : Option ℕ) (before now next : Parts) (given rest : List ℕ) (start old new : Option (List ℕ)) (pending : Pending) (tally tally' : Tally)
-    (tenant : ℕ) (command : Command) (len : ℕ) → IsRead rest tenant command len → HoldsNothing pending
-    → Stands only before now given rest start old pending tally
-    → HasAnswered only (Ok (Some (Tenant tenant command))) now next old new tally tally' (Ok tt)
-    → Stands only before next given (drop len rest) start new pending tally'
-line_done only before now next given rest start old new pending tally tally' tenant command len read holds stands answered =
+pub line_done : (only : Option ℕ) (before now next : Parts) (given rest : List ℕ) (start old new : Option (List ℕ)) (failing : Bool) (pending : Pending) (run run' : Run)
+    (tenant : ℕ) (command : Command) (len : ℕ) → ReadsAs rest tenant command len → HoldsNothing pending
+    → Stands only before now given rest start old pending run
+    → HasAnswered (Ok (Some (Tenant tenant command))) now next old new failing run run' (Ok tt)
+    → Stands only before next given (drop len rest) start new pending run'
+line_done only before now next given rest start old new failing pending run run' tenant command len read holds stands answered =
     let end : ℕ = len - 1 in
     let found = found_cut rest end read.ended in
     let none = holds stands.tail stands.holds in
-    subst (λ (xs : List ℕ). Stands only before next given xs start new pending tally') (one_more rest len read.some)
-    (stands_more_lines only before now next given rest (take end rest) (drop (end + 1) rest) start old new pending pending tally tally' stands
-    (Ok (Some (Tenant tenant command))) found.0 found.1 (subst (λ (tail : List ℕ). Holds tail pending) none stands.holds)
+    subst (λ (xs : List ℕ). Stands only before next given xs start new pending run') (one_more rest len read.some)
+    (stands_more_lines only before now next given rest (take end rest) (drop (end + 1) rest) start old new failing pending pending run run' stands
+    (Ok (Some (Tenant tenant command))) found.0 found.1 (subst (λ (tail : List ℕ). HoldsLine tail pending) none stands.holds)
     (whole_line stands.tail (take end rest) _ none read.reading) answered)
 
 -- the drain failed within its answer
-pub line_stopped : (only : Option ℕ) (before now next : Parts) (given rest : List ℕ) (start old new : Option (List ℕ)) (pending : Pending) (tally tally' : Tally)
-    (stopped : Stopped) (tenant : ℕ) (command : Command) (len : ℕ) → IsRead rest tenant command len → HoldsNothing pending
-    → Stands only before now given rest start old pending tally
-    → HasAnswered only (Ok (Some (Tenant tenant command))) now next old new tally tally' (Err stopped)
-    → HasStopped only before next given start new tally'
-line_stopped only before now next given rest start old new pending tally tally' stopped tenant command len read holds stands answered =
+pub line_stopped : (only : Option ℕ) (before now next : Parts) (given rest : List ℕ) (start old new : Option (List ℕ)) (failing : Bool) (pending : Pending) (run run' : Run)
+    (stopped : Stopped) (tenant : ℕ) (command : Command) (len : ℕ) → ReadsAs rest tenant command len → HoldsNothing pending
+    → Stands only before now given rest start old pending run
+    → HasAnswered (Ok (Some (Tenant tenant command))) now next old new failing run run' (Err stopped)
+    → HasStopped only before next given start new run'
+line_stopped only before now next given rest start old new failing pending run run' stopped tenant command len read holds stands answered =
     let end : ℕ = len - 1 in
     let found = found_cut rest end read.ended in
     let none = holds stands.tail stands.holds in
-    stopped_within only before now next given rest (take end rest) (drop (end + 1) rest) start old new pending tally tally' stopped stands
+    stopped_within only before now next given rest (take end rest) (drop (end + 1) rest) start old new failing pending run run' stopped stands
     (Ok (Some (Tenant tenant command))) found.0 found.1 (whole_line stands.tail (take end rest) _ none read.reading) answered

@@ -1,36 +1,29 @@
 -- One more line is run.
-use Rattle.std.proofs.Common.{◌≡◌, ℕ, ◌+◌, ◌<◌, ◌≤◌, Bool, true, false, inr, List, [], ◌∷◌, ◌++◌, Result, Ok, Err, Option, Some, None, length, refl, ap, sym, subst, ◌∙◌, arith, append_assoc, length-append}
+use Rattle.std.proofs.Common.{◌≡◌, ℕ, ◌+◌, ◌<◌, ◌≤◌, Bool, true, false, inl, inr, List, [], ◌∷◌, ◌++◌, Result, Ok, Err, Option, None, length, refl, ap, sym, subst, ◌∙◌, arith, append_assoc, length-append}
 use Rattle.std.proofs.lemmas.List.{append-nil, nil_from_length}
 use Rattle.std.specs.Io.KnownBytes.{Appends, Keeps}
 use Rattle.std.specs.Result.{is_err}
 use Rattle.std.specs.Prelude.{MatchResult, nat_eq}
 use Rattle.words_core.specs.declared.event.Event.{Event}
 use Rattle.words_core.specs.declared.event.LineFault.{LineFault}
-use Rattle.words_core.specs.declared.reply.Reply.{Reply}
-use Rattle.words_core.specs.declared.reply.Addressee.TheVariants.{Nobody}
-use Rattle.words_core.specs.declared.reply.Body.TheVariants.{Fault}
 use Rattle.words_core.specs.Cutting.{lines_of_trace}
 use Rattle.words_core.specs.Grammar.{reading_of}
 use Rattle.world_core.specs.Limits.{cache_limit}
 use Rattle.world_core.specs.World.{World, world_step, world_after}
-use Rattle.world_core.specs.Output.{event_in, events_of, shown_text, shown_line, shown_lines, with_line_feeds, ended_lines}
+use Rattle.world_core.specs.Output.{event_in, events_of, shown_reading, shown_line, shown_lines, with_line_feeds, ended_lines}
+use Rattle.world_core.proofs.Worlds.{world_both}
 use Rattle.kernel_core.specs.Parts.{Parts, SameSizes}
 use Rattle.kernel_core.specs.Shows.{Shows}
 use Rattle.replay_core.specs.declared.feed.Stopped.{Stopped}
 use Rattle.replay_core.specs.declared.pending.Pending.{Pending}
 use Rattle.replay_core.specs.declared.replaying.Tally.{Tally}
+use Rattle.replay_core.specs.declared.run.Run.{Run}
 use Rattle.replay_core.specs.declared.replaying.ReplayError.TheVariants as Of
-use Rattle.replay_core.specs.Pending.{Holds}
+use Rattle.replay_core.specs.Pending.{HoldsLine}
 use Rattle.replay_core.specs.Runs.{fault_in, faults_of, Counts, StandsAfter, HasRun, IsCutShort, Replays}
-use Rattle.replay_core.specs.Pushes.{HasPushed}
-use Rattle.replay_core.specs.Standing.{IsOneLine, IsBounded, HasAnswered, Stands, HasStopped}
+use Rattle.replay_core.specs.Standing.{IsOneLine, HasAnswered, Stands, HasStopped, tally_of_run}
 use Rattle.replay_core.proofs.MoveLemmas.{appends_nothing, appends_more, appends_kept}
 use Rattle.replay_core.proofs.LineLemmas.{one_line_append, lines_append, with_line_feeds_append, with_line_feeds_long, lines_cut, lines_ended, one_line_cut, one_line_unended}
-
-world_both : (limit order : ℕ) (xs ys : List Event) (w : World)
-    → world_after limit order w (xs ++ ys) ≡ world_after limit order (world_after limit order w xs) ys
-world_both limit order [] ys w = refl
-world_both limit order (event ∷ xs) ys w = world_both limit order xs ys (world_step limit order event w).world
 
 events_more : (xs : List (List ℕ)) (line : List ℕ) → events_of (xs ++ line ∷ []) ≡ events_of xs ++ event_in (reading_of line)
 events_more [] line = append-nil _
@@ -94,43 +87,48 @@ shown_here only before now xs line text stands shown w before_shows =
     ap (λ order. shown_line only cache_limit order line (world_after cache_limit before.order w (events_of xs))) (sym stands.sizes.order)
     ∙ shown (world_after cache_limit before.order w (events_of xs)) (stands.shows w before_shows)
 
+-- what is shown is what the run shows
+shown_to : (only : Option ℕ) (now : Parts) (reading : Result (Option Event) LineFault) (w : World) (run : Run) (text : List ℕ) → run.replies.only ≡ only
+    → shown_reading run.replies.only cache_limit now.order reading w ≡ text → shown_reading only cache_limit now.order reading w ≡ text
+shown_to only now reading w run text same shown = ap (λ o. shown_reading o cache_limit now.order reading w) (sym same) ∙ shown
+
 -- the line is answered in full
-run_more : (only : Option ℕ) (before now next : Parts) (xs : List (List ℕ)) (line taken : List ℕ) (old new : Option (List ℕ)) (tally tally' : Tally)
-    → HasRun only before now xs taken tally
-    → (answered : HasAnswered only (reading_of line) now next old new tally tally' (Ok tt))
-    → HasRun only before next (xs ++ line ∷ []) (taken ++ answered.taken) tally'
-run_more only before now next xs line taken old new tally tally' ran answered = record {
+run_more : (only : Option ℕ) (before now next : Parts) (xs : List (List ℕ)) (line taken : List ℕ) (old new : Option (List ℕ)) (failing : Bool) (run run' : Run)
+    → HasRun only before now xs taken (tally_of_run run) → run.replies.only ≡ only
+    → (answered : HasAnswered (reading_of line) now next old new failing run run' (Ok tt))
+    → HasRun only before next (xs ++ line ∷ []) (taken ++ answered.taken) (tally_of_run run')
+run_more only before now next xs line taken old new failing run run' ran same answered = record {
   stands = stands_more before now next xs line ran.stands answered.sizes answered.shows;
   shown = λ w before_shows.
       ap (λ more. taken ++ more) (sym (shown_here only before now xs line answered.taken ran.stands
-      (λ v shows. answered.shown v shows ∙ ap (λ more. answered.taken ++ more) answered.whole ∙ append-nil answered.taken) w before_shows))
+      (λ v shows. shown_to only now (reading_of line) v run _ same (answered.shown v shows) ∙ ap (λ more. answered.taken ++ more) answered.whole ∙ append-nil answered.taken) w before_shows))
       ∙ ap (λ sofar. sofar ++ shown_line only cache_limit before.order line (world_after cache_limit before.order w (events_of xs))) (ran.shown w before_shows)
       ∙ sym (shown_more only cache_limit before.order xs line w);
-  counted = counts_more tally tally' xs line taken answered.taken ran.counted answered.lines answered.events answered.faults answered.written;
+  counted = counts_more (tally_of_run run) (tally_of_run run') xs line taken answered.taken ran.counted answered.lines answered.events answered.faults answered.written;
 }
 
 -- the drain failed within its answer
-cut_short : (only : Option ℕ) (before now next : Parts) (xs : List (List ℕ)) (line taken : List ℕ) (old new : Option (List ℕ)) (tally tally' : Tally) (stopped : Stopped)
-    → HasRun only before now xs taken tally
-    → (answered : HasAnswered only (reading_of line) now next old new tally tally' (Err stopped))
-    → IsCutShort only before next xs line (taken ++ answered.taken) tally'
-cut_short only before now next xs line taken old new tally tally' stopped ran answered = record {
+cut_short : (only : Option ℕ) (before now next : Parts) (xs : List (List ℕ)) (line taken : List ℕ) (old new : Option (List ℕ)) (failing : Bool) (run run' : Run) (stopped : Stopped)
+    → HasRun only before now xs taken (tally_of_run run) → run.replies.only ≡ only
+    → (answered : HasAnswered (reading_of line) now next old new failing run run' (Err stopped))
+    → IsCutShort only before next xs line (taken ++ answered.taken) (tally_of_run run')
+cut_short only before now next xs line taken old new failing run run' stopped ran same answered = record {
   stands = stands_more before now next xs line ran.stands answered.sizes answered.shows;
   shown = λ w before_shows. (
     answered.taken,
     answered.rest,
     answered.whole,
-    shown_here only before now xs line (answered.taken ++ answered.rest) ran.stands answered.shown w before_shows,
+    shown_here only before now xs line (answered.taken ++ answered.rest) ran.stands (λ v shows. shown_to only now (reading_of line) v run _ same (answered.shown v shows)) w before_shows,
     ap (λ sofar. sofar ++ answered.taken) (ran.shown w before_shows),
   );
-  counted = counts_more tally tally' xs line taken answered.taken ran.counted answered.lines answered.events answered.faults answered.written;
+  counted = counts_more (tally_of_run run) (tally_of_run run') xs line taken answered.taken ran.counted answered.lines answered.events answered.faults answered.written;
 }
 
 -- before the first pull
-pub stands_first : (only : Option ℕ) (k : Parts) (known : Option (List ℕ)) (pending : Pending) (tally : Tally)
-    → Holds [] pending → tally.lines ≡ 0 → tally.events ≡ 0 → tally.faults ≡ 0 → tally.written ≡ 0
-    → Stands only k k [] [] known known pending tally
-stands_first only k known pending tally holds lines events faults written = record {
+pub stands_first : (only : Option ℕ) (k : Parts) (known : Option (List ℕ)) (pending : Pending) (run : Run)
+    → HoldsLine [] pending → run.replies.only ≡ only → tally_of_run run ≡ record { lines = 0; events = 0; faults = 0; written = 0 }
+    → Stands only k k [] [] known known pending run
+stands_first only k known pending run holds same none = record {
   done = [];
   tail = [];
   taken = [];
@@ -138,21 +136,24 @@ stands_first only k known pending tally holds lines events faults written = reco
   ended = tt;
   unended = tt;
   holds = holds;
+  same = same;
   ran = record {
     stands = record { sizes = same_sizes k; shows = λ w shows. shows };
     shown = λ w shows. refl;
-    counted = record { lines = lines; events = events; faults = faults; written = written };
+    counted = record {
+      lines = ap (λ tally. tally.lines) none;
+      events = ap (λ tally. tally.events) none;
+      faults = ap (λ tally. tally.faults) none;
+      written = ap (λ tally. tally.written) none;
+    };
   };
   appended = appends_nothing known;
 }
 
-pub bounded_first : (tally : Tally) → tally.lines ≡ 0 → tally.events ≡ 0 → tally.faults ≡ 0 → tally.written ≡ 0 → IsBounded tally
-bounded_first tally lines events faults written = record { events = omega arith; faults = omega arith; written = omega arith }
-
 -- the drain has sent what it had taken
-pub stands_sent : (only : Option ℕ) (before now : Parts) (given rest : List ℕ) (start old new : Option (List ℕ)) (pending : Pending) (tally : Tally)
-    → Stands only before now given rest start old pending tally → Keeps old new → Stands only before now given rest start new pending tally
-stands_sent only before now given rest start old new pending tally stands kept = record {
+pub stands_sent : (only : Option ℕ) (before now : Parts) (given rest : List ℕ) (start old new : Option (List ℕ)) (pending : Pending) (run : Run)
+    → Stands only before now given rest start old pending run → Keeps old new → Stands only before now given rest start new pending run
+stands_sent only before now given rest start old new pending run stands kept = record {
   done = stands.done;
   tail = stands.tail;
   taken = stands.taken;
@@ -160,14 +161,15 @@ stands_sent only before now given rest start old new pending tally stands kept =
   ended = stands.ended;
   unended = stands.unended;
   holds = stands.holds;
+  same = stands.same;
   ran = stands.ran;
   appended = appends_kept start old new stands.taken stands.appended kept;
 }
 
 -- a pull gave more
-pub stands_given : (only : Option ℕ) (before now : Parts) (given more : List ℕ) (start contents : Option (List ℕ)) (pending : Pending) (tally : Tally)
-    → Stands only before now given [] start contents pending tally → Stands only before now (given ++ more) more start contents pending tally
-stands_given only before now given more start contents pending tally stands = record {
+pub stands_given : (only : Option ℕ) (before now : Parts) (given more : List ℕ) (start contents : Option (List ℕ)) (pending : Pending) (run : Run)
+    → Stands only before now given [] start contents pending run → Stands only before now (given ++ more) more start contents pending run
+stands_given only before now given more start contents pending run stands = record {
   done = stands.done;
   tail = stands.tail;
   taken = stands.taken;
@@ -175,14 +177,15 @@ stands_given only before now given more start contents pending tally stands = re
   ended = stands.ended;
   unended = stands.unended;
   holds = stands.holds;
+  same = stands.same;
   ran = stands.ran;
   appended = stands.appended;
 }
 
 -- the lines done are fewer than the bytes given
-pub stands_few : (only : Option ℕ) (before now : Parts) (given rest : List ℕ) (start contents : Option (List ℕ)) (pending : Pending) (tally : Tally)
-    → (stands : Stands only before now given rest start contents pending tally) → tally.lines + length stands.tail + length rest ≤ length given
-stands_few only before now given rest start contents pending tally stands =
+pub stands_few : (only : Option ℕ) (before now : Parts) (given rest : List ℕ) (start contents : Option (List ℕ)) (pending : Pending) (run : Run)
+    → (stands : Stands only before now given rest start contents pending run) → run.lines + length stands.tail + length rest ≤ length given
+stands_few only before now given rest start contents pending run stands =
     omega (
       arith,
       stands.ran.counted.lines,
@@ -204,13 +207,13 @@ split_more done tail given rest part after split cut =
     ∙ sym (with_line_feeds_append done (tail ++ part)))
 
 -- the line that ends with `part` is answered in full
-pub stands_more_lines : (only : Option ℕ) (before now next : Parts) (given rest part after : List ℕ) (start old new : Option (List ℕ)) (pending pending' : Pending) (tally tally' : Tally)
-    → (stands : Stands only before now given rest start old pending tally)
-    (reading : Result (Option Event) LineFault) → IsOneLine part → rest ≡ (part ++ 10 ∷ []) ++ after → Holds [] pending' → reading ≡ reading_of (stands.tail ++ part)
-    → HasAnswered only reading now next old new tally tally' (Ok tt)
-    → Stands only before next given after start new pending' tally'
-stands_more_lines only before now next given rest part after start old new pending pending' tally tally' stands reading one cut holds is said =
-    let answered = subst (λ r. HasAnswered only r now next old new tally tally' (Ok tt)) is said in record {
+pub stands_more_lines : (only : Option ℕ) (before now next : Parts) (given rest part after : List ℕ) (start old new : Option (List ℕ)) (failing : Bool) (pending pending' : Pending) (run run' : Run)
+    → (stands : Stands only before now given rest start old pending run)
+    (reading : Result (Option Event) LineFault) → IsOneLine part → rest ≡ (part ++ 10 ∷ []) ++ after → HoldsLine [] pending' → reading ≡ reading_of (stands.tail ++ part)
+    → HasAnswered reading now next old new failing run run' (Ok tt)
+    → Stands only before next given after start new pending' run'
+stands_more_lines only before now next given rest part after start old new failing pending pending' run run' stands reading one cut holds is said =
+    let answered = subst (λ r. HasAnswered r now next old new failing run run' (Ok tt)) is said in record {
       done = stands.done ++ (stands.tail ++ part) ∷ [];
       tail = [];
       taken = stands.taken ++ answered.taken;
@@ -218,18 +221,19 @@ stands_more_lines only before now next given rest part after start old new pendi
       ended = lines_append stands.done (stands.tail ++ part) stands.ended (one_line_append stands.tail part stands.unended one);
       unended = tt;
       holds = holds;
-      ran = run_more only before now next stands.done (stands.tail ++ part) stands.taken old new tally tally' stands.ran answered;
+      same = answered.same ∙ stands.same;
+      ran = run_more only before now next stands.done (stands.tail ++ part) stands.taken old new failing run run' stands.ran stands.same answered;
       appended = appends_more start old new stands.taken answered.taken stands.appended answered.appended;
     }
 
 -- the drain failed within its answer
-pub stopped_within : (only : Option ℕ) (before now next : Parts) (given rest part after : List ℕ) (start old new : Option (List ℕ)) (pending : Pending) (tally tally' : Tally) (stopped : Stopped)
-    → (stands : Stands only before now given rest start old pending tally)
+pub stopped_within : (only : Option ℕ) (before now next : Parts) (given rest part after : List ℕ) (start old new : Option (List ℕ)) (failing : Bool) (pending : Pending) (run run' : Run) (stopped : Stopped)
+    → (stands : Stands only before now given rest start old pending run)
     (reading : Result (Option Event) LineFault) → IsOneLine part → rest ≡ (part ++ 10 ∷ []) ++ after → reading ≡ reading_of (stands.tail ++ part)
-    → HasAnswered only reading now next old new tally tally' (Err stopped)
-    → HasStopped only before next given start new tally'
-stopped_within only before now next given rest part after start old new pending tally tally' stopped stands reading one cut is said =
-    let answered = subst (λ r. HasAnswered only r now next old new tally tally' (Err stopped)) is said in record {
+    → HasAnswered reading now next old new failing run run' (Err stopped)
+    → HasStopped only before next given start new run'
+stopped_within only before now next given rest part after start old new failing pending run run' stopped stands reading one cut is said =
+    let answered = subst (λ r. HasAnswered r now next old new failing run run' (Err stopped)) is said in record {
       done = stands.done;
       line = stands.tail ++ part;
       rest = ended_lines after;
@@ -237,15 +241,15 @@ stopped_within only before now next given rest part after start old new pending 
       split = ap ended_lines (split_more stands.done stands.tail given rest part after stands.split cut)
           ∙ lines_ended (stands.done ++ (stands.tail ++ part) ∷ []) after
           (lines_append stands.done (stands.tail ++ part) stands.ended (one_line_append stands.tail part stands.unended one));
-      cut = cut_short only before now next stands.done (stands.tail ++ part) stands.taken old new tally tally' stopped stands.ran answered;
+      cut = cut_short only before now next stands.done (stands.tail ++ part) stands.taken old new failing run run' stopped stands.ran stands.same answered;
       appended = appends_more start old new stands.taken answered.taken stands.appended answered.appended;
     }
 
 -- the rest has no LF, and is held
-pub stands_held : (only : Option ℕ) (before now : Parts) (given rest : List ℕ) (start contents : Option (List ℕ)) (pending pending' : Pending) (tally : Tally)
-    → (stands : Stands only before now given rest start contents pending tally) → IsOneLine rest → Holds (stands.tail ++ rest) pending'
-    → Stands only before now given [] start contents pending' tally
-stands_held only before now given rest start contents pending pending' tally stands one holds = record {
+pub stands_held : (only : Option ℕ) (before now : Parts) (given rest : List ℕ) (start contents : Option (List ℕ)) (pending pending' : Pending) (run : Run)
+    → (stands : Stands only before now given rest start contents pending run) → IsOneLine rest → HoldsLine (stands.tail ++ rest) pending'
+    → Stands only before now given [] start contents pending' run
+stands_held only before now given rest start contents pending pending' run stands one holds = record {
   done = stands.done;
   tail = stands.tail ++ rest;
   taken = stands.taken;
@@ -253,63 +257,85 @@ stands_held only before now given rest start contents pending pending' tally sta
   ended = stands.ended;
   unended = one_line_append stands.tail rest stands.unended one;
   holds = holds;
+  same = stands.same;
   ran = stands.ran;
   appended = stands.appended;
 }
 
 -- all lines that ended are done
-pub ended_are_done : (only : Option ℕ) (before now : Parts) (given : List ℕ) (start contents : Option (List ℕ)) (pending : Pending) (tally : Tally)
-    → (stands : Stands only before now given [] start contents pending tally) → HasRun only before now (ended_lines given) stands.taken tally
-ended_are_done only before now given start contents pending tally stands =
+pub ended_are_done : (only : Option ℕ) (before now : Parts) (given : List ℕ) (start contents : Option (List ℕ)) (pending : Pending) (run : Run) (tally : Tally)
+    → (stands : Stands only before now given [] start contents pending run) → tally ≡ tally_of_run run → HasRun only before now (ended_lines given) stands.taken tally
+ended_are_done only before now given start contents pending run tally stands told =
     subst (λ lines. HasRun only before now lines stands.taken tally)
     (sym (ap ended_lines (stands.split ∙ append-nil _) ∙ lines_ended stands.done stands.tail stands.ended
     ∙ ap (λ more. stands.done ++ more) (one_line_unended stands.tail stands.unended) ∙ append-nil stands.done))
-    stands.ran
+    (subst (λ (t : Tally). HasRun only before now stands.done stands.taken t) (sym told) stands.ran)
 
 -- with nothing held all lines are done
-pub all_are_done : (only : Option ℕ) (before now : Parts) (given : List ℕ) (start contents : Option (List ℕ)) (pending : Pending) (tally : Tally)
-    → (stands : Stands only before now given [] start contents pending tally) → length stands.tail ≡ 0
+pub all_are_done : (only : Option ℕ) (before now : Parts) (given : List ℕ) (start contents : Option (List ℕ)) (pending : Pending) (run : Run) (tally : Tally)
+    → (stands : Stands only before now given [] start contents pending run) → length stands.tail ≡ 0 → tally ≡ tally_of_run run
     → HasRun only before now (lines_of_trace given) stands.taken tally
-all_are_done only before now given start contents pending tally stands none =
+all_are_done only before now given start contents pending run tally stands none told =
     subst (λ lines. HasRun only before now lines stands.taken tally)
     (sym (ap lines_of_trace (stands.split ∙ append-nil _) ∙ lines_cut stands.done stands.tail stands.ended
     ∙ ap (λ tail. stands.done ++ lines_of_trace tail) (nil_from_length stands.tail none) ∙ append-nil stands.done))
-    stands.ran
+    (subst (λ (t : Tally). HasRun only before now stands.done stands.taken t) (sym told) stands.ran)
 
-last_cut : (only : Option ℕ) (before now : Parts) (given : List ℕ) (start contents : Option (List ℕ)) (pending : Pending) (tally : Tally)
-    → (stands : Stands only before now given [] start contents pending tally) → 0 < length stands.tail
+last_cut : (only : Option ℕ) (before now : Parts) (given : List ℕ) (start contents : Option (List ℕ)) (pending : Pending) (run : Run)
+    → (stands : Stands only before now given [] start contents pending run) → 0 < length stands.tail
     → lines_of_trace given ≡ stands.done ++ stands.tail ∷ []
-last_cut only before now given start contents pending tally stands some =
+last_cut only before now given start contents pending run stands some =
     ap lines_of_trace (stands.split ∙ append-nil _) ∙ lines_cut stands.done stands.tail stands.ended
     ∙ ap (λ more. stands.done ++ more) (one_line_cut stands.tail stands.unended some)
 
 -- what is held is the last line, and is answered in full
-pub last_is_done : (only : Option ℕ) (before now next : Parts) (given : List ℕ) (start old new : Option (List ℕ)) (pending : Pending) (tally tally' : Tally)
-    → (stands : Stands only before now given [] start old pending tally) (reading : Result (Option Event) LineFault) → 0 < length stands.tail → reading ≡ reading_of stands.tail
-    → HasAnswered only reading now next old new tally tally' (Ok tt)
-    → (taken : List ℕ) × Appends start new taken × HasRun only before next (lines_of_trace given) taken tally'
-last_is_done only before now next given start old new pending tally tally' stands reading some is said =
-    let answered = subst (λ r. HasAnswered only r now next old new tally tally' (Ok tt)) is said in (
+pub last_is_done : (only : Option ℕ) (before now next : Parts) (given : List ℕ) (start old new : Option (List ℕ)) (failing : Bool) (pending : Pending) (run run' : Run) (tally : Tally)
+    → (stands : Stands only before now given [] start old pending run) (reading : Result (Option Event) LineFault) → 0 < length stands.tail → reading ≡ reading_of stands.tail
+    → HasAnswered reading now next old new failing run run' (Ok tt) → tally ≡ tally_of_run run'
+    → (taken : List ℕ) × Appends start new taken × HasRun only before next (lines_of_trace given) taken tally
+last_is_done only before now next given start old new failing pending run run' tally stands reading some is said told =
+    let answered = subst (λ r. HasAnswered r now next old new failing run run' (Ok tt)) is said in (
       stands.taken ++ answered.taken,
       appends_more start old new stands.taken answered.taken stands.appended answered.appended,
-      subst (λ lines. HasRun only before next lines (stands.taken ++ answered.taken) tally') (sym (last_cut only before now given start old pending tally stands some))
-          (run_more only before now next stands.done stands.tail stands.taken old new tally tally' stands.ran answered),
+      subst (λ lines. HasRun only before next lines (stands.taken ++ answered.taken) tally) (sym (last_cut only before now given start old pending run stands some))
+          (subst (λ (t : Tally). HasRun only before next (stands.done ++ stands.tail ∷ []) (stands.taken ++ answered.taken) t) (sym told)
+          (run_more only before now next stands.done stands.tail stands.taken old new failing run run' stands.ran stands.same answered)),
     )
 
--- the drain failed within its answer
-pub stopped_at_last : (ended : Bool) (only : Option ℕ) (before now next : Parts) (given : List ℕ) (start old new : Option (List ℕ)) (pending : Pending) (tally tally' : Tally) (stopped : Stopped)
-    → (stands : Stands only before now given [] start old pending tally) (reading : Result (Option Event) LineFault) → 0 < length stands.tail → reading ≡ reading_of stands.tail
-    → HasAnswered only reading now next old new tally tally' (Err stopped) → ended ≡ true
-    → (taken : List ℕ) × Appends start new taken × Replays ended only before next given taken (Err (Of.Drain tally'))
-stopped_at_last ended only before now next given start old new pending tally tally' stopped stands reading some is said over =
-    let answered = subst (λ r. HasAnswered only r now next old new tally tally' (Err stopped)) is said in (
+told_cut : (only : Option ℕ) (before now : Parts) (lines : List (List ℕ)) (line taken : List ℕ) (counted tally : Tally) → tally ≡ counted
+    → IsCutShort only before now lines line taken counted → IsCutShort only before now lines line taken tally
+told_cut only before now lines line taken counted tally told cut = subst (λ (t : Tally). IsCutShort only before now lines line taken t) (sym told) cut
+
+-- the drain failed within the answer to a line that ended
+pub stopped_before : (ended : Bool) (only : Option ℕ) (before now : Parts) (given : List ℕ) (start contents : Option (List ℕ)) (run : Run) (tally : Tally)
+    → HasStopped only before now given start contents run → tally ≡ tally_of_run run
+    → (taken : List ℕ) × Appends start contents taken × Replays ended only before now given taken (Err (Of.Drain tally))
+stopped_before ended only before now given start contents run tally stopped told = (
+  stopped.taken,
+  stopped.appended,
+  (
+    stopped.done,
+    stopped.line,
+    inl (stopped.rest, stopped.split),
+    told_cut only before now stopped.done stopped.line stopped.taken (tally_of_run run) tally told stopped.cut,
+  ),
+)
+
+-- .. or to the last one
+pub stopped_at_last : (ended : Bool) (only : Option ℕ) (before now next : Parts) (given : List ℕ) (start old new : Option (List ℕ)) (failing : Bool) (pending : Pending) (run run' : Run) (tally : Tally) (stopped : Stopped)
+    → (stands : Stands only before now given [] start old pending run) (reading : Result (Option Event) LineFault) → 0 < length stands.tail → reading ≡ reading_of stands.tail
+    → HasAnswered reading now next old new failing run run' (Err stopped) → ended ≡ true → tally ≡ tally_of_run run'
+    → (taken : List ℕ) × Appends start new taken × Replays ended only before next given taken (Err (Of.Drain tally))
+stopped_at_last ended only before now next given start old new failing pending run run' tally stopped stands reading some is said over told =
+    let answered = subst (λ r. HasAnswered r now next old new failing run run' (Err stopped)) is said in (
       stands.taken ++ answered.taken,
       appends_more start old new stands.taken answered.taken stands.appended answered.appended,
       (
         stands.done,
         stands.tail,
-        inr (over, last_cut only before now given start old pending tally stands some),
-        cut_short only before now next stands.done stands.tail stands.taken old new tally tally' stopped stands.ran answered,
+        inr (over, last_cut only before now given start old pending run stands some),
+        told_cut only before next stands.done stands.tail (stands.taken ++ answered.taken) (tally_of_run run') tally told
+            (cut_short only before now next stands.done stands.tail stands.taken old new failing run run' stopped stands.ran stands.same answered),
       ),
     )
 
@@ -318,9 +344,10 @@ pub ended_at : (ended : Bool) (count : ℕ) → ended ≡ nat_eq count 0 → cou
 ended_at ended count is none = is ∙ ap (λ n. nat_eq n 0) none
 
 -- a blank line or a comment shows nothing
-pub answered_nothing : (only : Option ℕ) (k : Parts) (known : Option (List ℕ)) (tally : Tally)
-    → HasAnswered only (Ok None) k k known known tally (record tally { lines = tally.lines + 1 }) (Ok tt)
-answered_nothing only k known tally = record {
+pub answered_nothing : (k : Parts) (known : Option (List ℕ)) (failing : Bool) (run run' : Run) → failing ≡ false
+    → run'.lines ≡ run.lines + 1 → run'.events ≡ run.events → run'.faults ≡ run.faults → run'.replies ≡ run.replies
+    → HasAnswered (Ok None) k k known known failing run run' (Ok tt)
+answered_nothing k known failing run run' fine lines events faults replies = record {
   taken = [];
   rest = [];
   sizes = same_sizes k;
@@ -328,48 +355,12 @@ answered_nothing only k known tally = record {
   shown = λ w shows. refl;
   appended = appends_nothing known;
   whole = refl;
-  lines = refl;
-  events = omega arith;
-  faults = omega arith;
-  written = omega arith;
-}
-
--- an event shows its reply
-pub answered_event : (only : Option ℕ) (event : Event) (now next : Parts) (old new : Option (List ℕ)) (tally : Tally) (written : ℕ) (reply : Reply) (result : Result (Unit {0}) Stopped)
-    → SameSizes now next → ((w : World) → Shows now w → Shows next (world_step cache_limit now.order event w).world)
-    → ((w : World) → Shows now w → reply ≡ (world_step cache_limit now.order event w).reply)
-    → HasPushed old new (shown_text only reply) tally.written written result
-    → HasAnswered only (Ok (Some event)) now next old new tally (record tally { lines = tally.lines + 1; events = tally.events + 1; written = written }) result
-answered_event only event now next old new tally written reply result sizes shows said pushed = record {
-  taken = pushed.taken;
-  rest = pushed.rest;
-  sizes = sizes;
-  shows = shows;
-  shown = λ w before_shows. ap (shown_text only) (sym (said w before_shows)) ∙ pushed.split;
-  appended = pushed.appended;
-  whole = pushed.whole;
-  lines = refl;
-  events = refl;
-  faults = omega arith;
-  written = pushed.counted;
-}
-
--- a faulty line shows its fault
-pub answered_fault : (only : Option ℕ) (fault : LineFault) (k : Parts) (old new : Option (List ℕ)) (tally : Tally) (written : ℕ) (result : Result (Unit {0}) Stopped)
-    → HasPushed old new (shown_text only (record { addressee = Nobody; body = Fault fault })) tally.written written result
-    → HasAnswered only (Err fault) k k old new tally (record tally { lines = tally.lines + 1; faults = tally.faults + 1; written = written }) result
-answered_fault only fault k old new tally written result pushed = record {
-  taken = pushed.taken;
-  rest = pushed.rest;
-  sizes = same_sizes k;
-  shows = λ w shows. shows;
-  shown = λ w shows. pushed.split;
-  appended = pushed.appended;
-  whole = pushed.whole;
-  lines = refl;
-  events = omega arith;
-  faults = refl;
-  written = pushed.counted;
+  failed = fine;
+  lines = lines;
+  events = omega (arith, events);
+  faults = omega (arith, faults);
+  written = omega (arith, ap (λ replies. replies.written) replies);
+  same = ap (λ replies. replies.only) replies;
 }
 
 -- a fact of an error

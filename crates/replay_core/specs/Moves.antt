@@ -3,9 +3,9 @@ use Rattle.std.specs.Prelude.{ℕ, List, [], ◌∷◌, Option, Some, None, Resu
 use Rattle.std.specs.Io.KnownBytes.{prepend_known}
 
 -- how many bytes it gave
-abbrev pub moved : {E : Type 0} → Result ℕ E → ℕ
-moved (Ok n) = n
-moved (Err e) = 0
+abbrev pub moved_count : {E : Type 0} → Result ℕ E → ℕ
+moved_count (Ok n) = n
+moved_count (Err e) = 0
 
 -- the bytes that a reader still has, behind one that was read and not given
 abbrev pub put_back : Option ℕ → Option (List ℕ) → Option (List ℕ)

@@ -1,6 +1,6 @@
 ghost use Rattle.std.specs.Prelude.{◌≡◌, ℕ, ◌+◌, ◌<◌, ◌≤◌, ◌==◌, Bool, true, false, List, Option, None, Ok, length, IfOk, OnErr, is_err};
 ghost use Rattle.std.specs.Io.KnownBytes.{ReadConsumes};
-ghost use Rattle.replay_core.specs.Moves.{moved};
+ghost use Rattle.replay_core.specs.Moves.{moved_count};
 
 /// A feed or a drain has failed: it gave or took no byte in this call, and does so no more.
 #[derive(Clone, Copy, Debug, PartialEq, Eq)]
@@ -22,8 +22,8 @@ pub trait Feed {
     fn pull(&mut self, into: &mut [u8]) -> Result<usize, Stopped>
         requires space { 0 < length into.old }
         requires fine { has_failed self.old ≡ false }
-        ensures count { moved result ≤ length into.new }
-        ensures room { room_left self.new + moved result ≡ room_left self.old }
+        ensures count { moved_count result ≤ length into.new }
+        ensures room { room_left self.new + moved_count result ≡ room_left self.old }
         ensures bytes { ReadConsumes (remaining self.old) (remaining self.new) result into.new }
         ensures ended { IfOk result (λ n. has_ended self.new ≡ (n == 0)) }
         ensures stays { has_ended self.old ≡ true → result ≡ Ok 0 }

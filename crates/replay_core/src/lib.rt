@@ -6,15 +6,16 @@ mod drain;
 mod feed;
 mod held;
 mod pending;
-mod pushing;
 mod quick;
-mod quick_bytes;
 mod reader_feed;
 mod replaying;
+mod replies;
+mod run;
 mod writer_drain;
 
 pub use drain::Drain;
 pub use feed::{Feed, Stopped};
+pub use pending::{Pending, line_end};
 pub use reader_feed::ReaderFeed;
 pub use replaying::{ReplayError, Tally, replay};
 pub use writer_drain::WriterDrain;

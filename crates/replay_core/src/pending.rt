@@ -1,6 +1,7 @@
-ghost use Rattle.std.specs.Prelude.{◌≡◌, ℕ, ◌++◌, List, [], length, ◌==◌};
+ghost use Rattle.std.specs.Prelude.{◌≡◌, ℕ, ◌<◌, ◌++◌, List, [], length, position, ◌==◌, IfSome};
 ghost use Rattle.words_core.specs.Grammar.{reading_of};
-ghost use Rattle.replay_core.specs.Pending.{Holds, HoldsNothing};
+ghost use Rattle.world_core.specs.Output.{line_feed};
+ghost use Rattle.replay_core.specs.Pending.{HoldsLine, HoldsNothing};
 ghost use Rattle.replay_core.specs.Standing.{IsRunnable};
 
 use arrayvec::ArrayVec;
@@ -16,7 +17,7 @@ pub struct Pending {
 impl Pending {
     /// Nothing of a line.
     pub fn new() -> Self
-        ensures { Holds [] result }
+        ensures { HoldsLine [] result }
     {
         Pending {
             held: ArrayVec::new(),
@@ -26,14 +27,14 @@ impl Pending {
 
     /// No byte has come.
     pub fn is_empty(&self) -> bool
-        ensures { (line : List ℕ) → Holds line self.now → result ≡ (length line == 0) }
+        ensures { (line : List ℕ) → HoldsLine line self.now → result ≡ (length line == 0) }
     {
         self.held.is_empty()
     }
 
     /// The line goes on with these bytes.
     pub fn add(&mut self, bytes: &[u8])
-        ensures { (line : List ℕ) → Holds line self.old → Holds (line ++ bytes.now) self.new }
+        ensures { (line : List ℕ) → HoldsLine line self.old → HoldsLine (line ++ bytes.now) self.new }
     {
         let room = self.held.capacity() - self.held.len();
         if bytes.len() <= room {
@@ -48,7 +49,7 @@ impl Pending {
 
     /// The line that has come, which is too long where it has more than is held.
     pub fn reading(&self) -> Result<Option<Event>, LineFault>
-        ensures reading { (line : List ℕ) → Holds line self.now → result ≡ reading_of line }
+        ensures reading { (line : List ℕ) → HoldsLine line self.now → result ≡ reading_of line }
         ensures runnable { IsRunnable result }
     {
         if self.longer {
@@ -60,9 +61,9 @@ impl Pending {
 
     /// The line ends with these bytes: its reading. The next line begins.
     pub fn end_with(&mut self, bytes: &[u8]) -> Result<Option<Event>, LineFault>
-        ensures reading { (line : List ℕ) → Holds line self.old → result ≡ reading_of (line ++ bytes.now) }
+        ensures reading { (line : List ℕ) → HoldsLine line self.old → result ≡ reading_of (line ++ bytes.now) }
         ensures runnable { IsRunnable result }
-        ensures cleared { (line : List ℕ) → Holds line self.old → Holds [] self.new }
+        ensures cleared { (line : List ℕ) → HoldsLine line self.old → HoldsLine [] self.new }
         ensures none_held { HoldsNothing self.new }
     {
         if self.is_empty() {
@@ -77,9 +78,17 @@ impl Pending {
 
     /// The next line begins.
     fn clear(&mut self)
-        ensures { Holds [] self.new }
+        ensures { HoldsLine [] self.new }
     {
         self.held.clear();
         self.longer = false;
     }
+}
+
+/// Where the first LF stands.
+pub fn line_end(bytes: &[u8]) -> Option<usize>
+    ensures at { result ≡ position (λ b. b == line_feed) bytes.now }
+    ensures within { IfSome result (λ end. end < length bytes.now) }
+{
+    bytes.iter().position(|byte| *byte == b'\n')
 }

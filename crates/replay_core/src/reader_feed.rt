@@ -5,7 +5,7 @@ use crate::feed::{Feed, Stopped};
 use std::io::Read;
 
 /// The bytes that a feed over a reader gives at most: 1 GiB.
-const MOST_BYTES: u64 = 1 << 30;
+const MOST_TRACE_BYTES: u64 = 1 << 30;
 
 /// A feed over one of std's readers, of at most 1 GiB.
 ///
@@ -31,7 +31,7 @@ impl<R: Read> ReaderFeed<R> {
         ensures not_ended { ⟦<ReaderFeed<R> as Feed>⟧.has_ended result ≡ false }
         ensures fine { ⟦<ReaderFeed<R> as Feed>⟧.has_failed result ≡ false }
     {
-        ReaderFeed::with_room(reader, MOST_BYTES)
+        ReaderFeed::with_room(reader, MOST_TRACE_BYTES)
     }
 
     /// A feed of what this reader gives, of at most `room` bytes.

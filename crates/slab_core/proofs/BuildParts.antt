@@ -6,17 +6,17 @@ use Rattle.model_core.specs.Layouts.{is_small}
 use Rattle.model_core.specs.declared.limits.TheConstants.{MOST_CACHES}
 use Rattle.klist_core.specs.Places.{place_at}
 use Rattle.space_core.specs.Content as spaces
-use Rattle.space_core.specs.Laws.{IsSameFor, IsApart, SpareStays}
+use Rattle.space_core.specs.Laws.{IsSameFor, IsOneToOne, SpareStays}
 use Rattle.buddy_core.specs.Content as buddies
 use Rattle.buddy_core.proofs.Holdings.{other_holding}
 use Rattle.slab_tables.specs.declared.cache.Cache as own
-use Rattle.slab_tables.specs.Content.{Content, IsSlabs, kept_at, cache_in, cache_at, index_of_cache, numbers}
-use Rattle.slab_laws.specs.Records.{is_set, count_true}
-use Rattle.slab_laws.specs.Shows.{node_of, byte_or_zero, is_live, live_of, IsAgreed, Agree}
-use Rattle.slab_laws.specs.Keeps.{Keeps, Spares}
-use Rattle.slab_laws.proofs.Facts.{same_below}
-use Rattle.slab_laws.proofs.Steady.{one_owner}
-use Rattle.slab_laws.proofs.Untouched.{node_same}
+use Rattle.slab_tables.specs.Content.{Content, IsSlabs, kept_at, cache_in, cache_at, index_of_cache, layout_numbers}
+use Rattle.parts_laws.specs.Records.{is_set, count_true}
+use Rattle.parts_laws.specs.Shows.{node_of, byte_or_zero, is_live, live_of, IsAgreed, Agree}
+use Rattle.parts_laws.specs.Keeps.{Keeps, Spares}
+use Rattle.parts_laws.proofs.Facts.{same_below}
+use Rattle.parts_laws.proofs.Steady.{one_owner}
+use Rattle.parts_laws.proofs.Untouched.{node_same}
 
 -- only what tenant t has changed, and of the nodes only this one, which lies under frame `first`
 pub record IsLocal (r r' : spaces.Content) (b b' : buddies.Content) (s s' : Content) (t first node : ℕ) : Type 0 where
@@ -32,7 +32,7 @@ pub record IsLocal (r r' : spaces.Content) (b b' : buddies.Content) (s s' : Cont
 
 -- the slab at a node agrees still where nothing that it says changed
 pub agreed_still : (r r' : spaces.Content) (b b' : buddies.Content) (s s' : Content) (node head key : ℕ) (cache : own.Cache)
-    → (numbers cache).count ≤ 256 → IsAgreed r b s node head key cache
+    → (layout_numbers cache).count ≤ 256 → IsAgreed r b s node head key cache
     → node_of s'.top r'.slots (head / 3 / MOST_CACHES) key ≡ node_of s.top r.slots (head / 3 / MOST_CACHES) key
     → buddies.taken_of (buddies.holding_of (head / 3 / MOST_CACHES) b') key ≡ buddies.taken_of (buddies.holding_of (head / 3 / MOST_CACHES) b) key
     → kept_at s'.kept node ≡ kept_at s.kept node
@@ -43,13 +43,13 @@ agreed_still r r' b b' s s' node head key cache few g under taken kept live = re
   taken = taken ∙ g.taken;
   counted = ap (λ k. k.live) kept ∙ g.counted
       ∙ sym (ap (λ k. count_true (live_of r' (head / 3 / MOST_CACHES) cache k key)) kept
-      ∙ ap count_true (same_below 0 (numbers cache).count (is_live r' (head / 3 / MOST_CACHES) cache (kept_at s.kept node) key)
+      ∙ ap count_true (same_below 0 (layout_numbers cache).count (is_live r' (head / 3 / MOST_CACHES) cache (kept_at s.kept node) key)
       (is_live r (head / 3 / MOST_CACHES) cache (kept_at s.kept node) key) (λ i low high. live i (omega arith))));
   rest = λ i low high. ap (λ k. is_live r' (head / 3 / MOST_CACHES) cache k key i) kept ∙ live i high ∙ g.rest i low high;
 }
 
 module _ (r r' : spaces.Content) (b b' : buddies.Content) (s s' : Content) (t first node : ℕ) (k : IsLocal r r' b b' s s' t first node)
-    (apart : IsApart r) where
+    (apart : IsOneToOne r) where
   cache_other : (u c : ℕ) → u ≢ t → cache_at s' u c ≡ cache_at s u c
   cache_other u c differ = ⊎_elim below above (cases_lt c MOST_CACHES)
     where
@@ -99,7 +99,7 @@ module _ (r r' : spaces.Content) (b b' : buddies.Content) (s s' : Content) (t fi
         (node_same r r' b b' s s' u keeps key)
         (ap (λ h. buddies.taken_of h key) keeps.buddy)
         (k.kept n away)
-        (λ i less. ap (λ x. cond (is_small (numbers cache).chunk) (is_set (byte_or_zero x) (i % 8)) (is_set (kept_at s.kept n).outside i))
+        (λ i less. ap (λ x. cond (is_small (layout_numbers cache).chunk) (is_set (byte_or_zero x) (i % 8)) (is_set (kept_at s.kept n).outside i))
         (keeps.space.bytes (4096 * key + 4064 + i / 8)))
 
     slots_now : (u v : ℕ) → buddies.superblock_at (buddies.holding_of u b') v ≡ spaces.superblock_at r'.slots u v

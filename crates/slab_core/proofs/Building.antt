@@ -12,18 +12,11 @@ use Rattle.layout_core.specs.Objects.{IsColour}
 use Rattle.space_core.specs.Content as spaces
 use Rattle.space_core.specs.Laws.{SpaceLaws, IsSameFor, OwnBytes, SpareStays}
 use Rattle.space_core.specs.Windows.{is_in_slot, home_of, byte_at, with_window}
+use Rattle.space_core.proofs.Reading.{same_twice}
 use Rattle.slab_tables.specs.declared.cache.Cache as own
-use Rattle.slab_tables.specs.Content.{numbers}
-use Rattle.slab_laws.specs.Shows.{byte_or_zero}
+use Rattle.slab_tables.specs.Content.{layout_numbers}
+use Rattle.parts_laws.specs.Shows.{byte_or_zero}
 use Rattle.slab_core.specs.Calls.{IsFilled, IsConstructed}
-
-pub same_twice : (t : ℕ) (r r' r'' : spaces.Content) → IsSameFor t r r' → IsSameFor t r' r'' → IsSameFor t r r''
-same_twice t r r' r'' k k' = record {
-  slots = λ u. k'.slots u ∙ k.slots u;
-  banks = λ u m e. k'.banks u m (k.slots u ∙ e) ∙ k.banks u m e;
-  bytes = λ place. k'.bytes place ∙ k.bytes place;
-  windows = λ place len. k'.windows place len ∙ k.windows place len;
-}
 
 pub same_here : (t : ℕ) (r : spaces.Content) → IsSameFor t r r
 same_here t r = record {
@@ -89,32 +82,32 @@ module _ (r : spaces.Content) (t place len : ℕ) (w : List ℕ) (mine : OwnByte
 pub inside_from : (p f k : ℕ) → 4096 * f ≤ p → p < 4096 * f + 4096 * 2 ^ k → HasFrame (block f k) (p / 4096)
 inside_from p f k low high = (omega arith, omega arith)
 
-module _ (cache : own.Cache) (f colour : ℕ) (cut : IsLayout cache.layout.size cache.layout.align (numbers cache))
+module _ (cache : own.Cache) (f colour : ℕ) (cut : IsLayout cache.layout.size cache.layout.align (layout_numbers cache))
     (is : IsColour cache.layout colour) where
-  pub fit : IsFit (numbers cache) colour
-  fit = subst (λ x. IsFit (numbers cache) x) (sym is.1) (cut.fits is.0)
+  pub fit : IsFit (layout_numbers cache) colour
+  fit = subst (λ x. IsFit (layout_numbers cache) x) (sym is.1) (cut.fits is.0)
 
   -- an object ends within the room, before the next one begins
-  pub ends : (i n : ℕ) → i < n → object_offset (numbers cache) colour i + cache.layout.size ≤ object_offset (numbers cache) colour n
+  pub ends : (i n : ℕ) → i < n → object_offset (layout_numbers cache) colour i + cache.layout.size ≤ object_offset (layout_numbers cache) colour n
   ends i n less =
-      let rows : (i + 1) * (numbers cache).chunk ≤ n * (numbers cache).chunk = mul-le-mul_right _ (omega arith) in
-      let sized : cache.layout.size ≤ (numbers cache).chunk = cut.chunked in
+      let rows : (i + 1) * (layout_numbers cache).chunk ≤ n * (layout_numbers cache).chunk = mul-le-mul_right _ (omega arith) in
+      let sized : cache.layout.size ≤ (layout_numbers cache).chunk = cut.chunked in
       omega arith
 
   -- where the whole block lies in a held slot, so does each object
-  pub object_held : (r : spaces.Content) (t i place len : ℕ) → 0 < r.unit → IsSome (home_of r t (4096 * f) (4096 * 2 ^ (numbers cache).order))
-      → i < (numbers cache).count → place ≡ 4096 * f + object_offset (numbers cache) colour i → len ≡ cache.layout.size
+  pub object_held : (r : spaces.Content) (t i place len : ℕ) → 0 < r.unit → IsSome (home_of r t (4096 * f) (4096 * 2 ^ (layout_numbers cache).order))
+      → i < (layout_numbers cache).count → place ≡ 4096 * f + object_offset (layout_numbers cache) colour i → len ≡ cache.layout.size
       → IsSome (home_of r t place len)
   object_held r t i place len unit home object at size =
-      let last : object_offset (numbers cache) colour i + cache.layout.size ≤ object_offset (numbers cache) colour (numbers cache).count =
-      ends i (numbers cache).count object in
+      let last : object_offset (layout_numbers cache) colour i + cache.layout.size ≤ object_offset (layout_numbers cache) colour (layout_numbers cache).count =
+      ends i (layout_numbers cache).count object in
       let inside_room = fit.inside in
       let within = fit.within in
       let some = cut.sized in
-      inner_held r t (4096 * f) (4096 * 2 ^ (numbers cache).order) place len home (omega arith) (omega arith) (omega arith) unit
+      inner_held r t (4096 * f) (4096 * 2 ^ (layout_numbers cache).order) place len home (omega arith) (omega arith) (omega arith) unit
 
-  pub one_more : (r0 r r' : spaces.Content) (t i place : ℕ) → place ≡ 4096 * f + object_offset (numbers cache) colour i
-      → SpaceLaws r → IsSome (home_of r t place cache.layout.size) → i < (numbers cache).count
+  pub one_more : (r0 r r' : spaces.Content) (t i place : ℕ) → place ≡ 4096 * f + object_offset (layout_numbers cache) colour i
+      → SpaceLaws r → IsSome (home_of r t place cache.layout.size) → i < (layout_numbers cache).count
       → IsFilled r r' t place cache.layout.size cache.pattern
       → IsConstructed r0 r t cache f colour i → IsConstructed r0 r' t cache f colour (i + 1)
   one_more r0 r r' t i place at laws home object filling before =
@@ -122,11 +115,11 @@ module _ (cache : own.Cache) (f colour : ℕ) (cut : IsLayout cache.layout.size 
       let w = filling.bytes in
       let out : (p : ℕ) → (place ≤ p → p < place + cache.layout.size → ⊥) → byte_at r' t p ≡ byte_at r t p =
       λ p h. now p ∙ out_of_range r t place cache.layout.size w mine home filling.long p h in
-      let last : object_offset (numbers cache) colour i + cache.layout.size ≤ object_offset (numbers cache) colour (numbers cache).count =
-      ends i (numbers cache).count object in
+      let last : object_offset (layout_numbers cache) colour i + cache.layout.size ≤ object_offset (layout_numbers cache) colour (layout_numbers cache).count =
+      ends i (layout_numbers cache).count object in
       let inside_room = fit.inside in
       let within = fit.within in
-      let frames : 0 < 2 ^ (numbers cache).order = pow_pos (numbers cache).order in
+      let frames : 0 < 2 ^ (layout_numbers cache).order = pow_pos (layout_numbers cache).order in
       record {
         space = banks_twice r0 r r' before.space (banks_of r r' (with_window r t place cache.layout.size w) filling.filled refl);
         others = λ u differ. same_twice u r0 r r' (before.others u differ)
@@ -137,28 +130,28 @@ module _ (cache : own.Cache) (f colour : ℕ) (cut : IsLayout cache.layout.size 
             let room = (fit.small small).1 in
             ap byte_or_zero (out (4096 * f + 4064 + j) (λ low high. absurd (omega arith))) ∙ before.clear small j less;
         objects = λ k j lower less. ⊎_elim (earlier k j less) (this k j lower less) (cases_lt k i);
-        bytes = λ p outside. out p (λ low high. false≢true (sym outside ∙ in_block-from p (block f (numbers cache).order)
-            (inside_from p f (numbers cache).order (omega arith) (omega arith)))) ∙ before.bytes p outside;
+        bytes = λ p outside. out p (λ low high. false≢true (sym outside ∙ in_block-from p (block f (layout_numbers cache).order)
+            (inside_from p f (layout_numbers cache).order (omega arith) (omega arith)))) ∙ before.bytes p outside;
       }
     where
       now : (p : ℕ) → byte_at r' t p ≡ byte_at (with_window r t place cache.layout.size filling.bytes) t p
       now p = ap (λ x. byte_at x t p) filling.filled
 
       earlier : (k j : ℕ) → j < cache.layout.size → k < i
-          → byte_at r' t (object_place (numbers cache) f colour k + j) ≡ Some (pattern_byte cache.pattern j)
+          → byte_at r' t (object_place (layout_numbers cache) f colour k + j) ≡ Some (pattern_byte cache.pattern j)
       earlier k j less lower =
           let before_this = ends k i lower in
-          now (object_place (numbers cache) f colour k + j)
-          ∙ out_of_range r t place cache.layout.size filling.bytes laws.own_bytes home filling.long (object_place (numbers cache) f colour k + j)
+          now (object_place (layout_numbers cache) f colour k + j)
+          ∙ out_of_range r t place cache.layout.size filling.bytes laws.own_bytes home filling.long (object_place (layout_numbers cache) f colour k + j)
           (λ low high. absurd (omega arith))
           ∙ before.objects k j lower less
 
       this : (k j : ℕ) → k < i + 1 → j < cache.layout.size → i ≤ k
-          → byte_at r' t (object_place (numbers cache) f colour k + j) ≡ Some (pattern_byte cache.pattern j)
+          → byte_at r' t (object_place (layout_numbers cache) f colour k + j) ≡ Some (pattern_byte cache.pattern j)
       this k j lower less high =
           let same : k ≡ i = omega arith in
-          let here : object_place (numbers cache) f colour k + j ≡ place + j =
-          ap (λ n. object_place (numbers cache) f colour n + j) same ∙ ap (λ n. n + j) (sym at) in
+          let here : object_place (layout_numbers cache) f colour k + j ≡ place + j =
+          ap (λ n. object_place (layout_numbers cache) f colour n + j) same ∙ ap (λ n. n + j) (sym at) in
           let offset : place + j - place ≡ j = omega arith in
           ap (λ p. byte_at r' t p) here ∙ now (place + j)
           ∙ in_range r t place cache.layout.size filling.bytes laws.own_bytes home filling.long (place + j) (omega arith) (omega arith)
@@ -166,14 +159,14 @@ module _ (cache : own.Cache) (f colour : ℕ) (cut : IsLayout cache.layout.size 
 
 module _ (cache : own.Cache) (f colour : ℕ) where
   -- where the whole block lies in a held slot, so does the record
-  pub record_held : (r : spaces.Content) (t : ℕ) → 0 < r.unit → IsSome (home_of r t (4096 * f) (4096 * 2 ^ (numbers cache).order))
+  pub record_held : (r : spaces.Content) (t : ℕ) → 0 < r.unit → IsSome (home_of r t (4096 * f) (4096 * 2 ^ (layout_numbers cache).order))
       → IsSome (home_of r t (4096 * f + 4064) 32)
   record_held r t unit home =
-      let frames : 0 < 2 ^ (numbers cache).order = pow_pos (numbers cache).order in
-      inner_held r t (4096 * f) (4096 * 2 ^ (numbers cache).order) (4096 * f + 4064) 32 home (omega arith) (omega arith) (omega arith) unit
+      let frames : 0 < 2 ^ (layout_numbers cache).order = pow_pos (layout_numbers cache).order in
+      inner_held r t (4096 * f) (4096 * 2 ^ (layout_numbers cache).order) (4096 * f + 4064) 32 home (omega arith) (omega arith) (omega arith) unit
 
   -- no object yet
-  pub begun : (r : spaces.Content) (t : ℕ) → is_small (numbers cache).chunk ≡ false → IsConstructed r r t cache f colour 0
+  pub begun : (r : spaces.Content) (t : ℕ) → is_small (layout_numbers cache).chunk ≡ false → IsConstructed r r t cache f colour 0
   begun r t large = record {
     space = refl;
     others = λ u differ. same_here u r;
@@ -183,14 +176,14 @@ module _ (cache : own.Cache) (f colour : ℕ) where
     bytes = λ place outside. refl;
   }
 
-  pub cleared : (r r' : spaces.Content) (t : ℕ) → SpaceLaws r → is_small (numbers cache).chunk ≡ true
+  pub cleared : (r r' : spaces.Content) (t : ℕ) → SpaceLaws r → is_small (layout_numbers cache).chunk ≡ true
       → IsSome (home_of r t (4096 * f + 4064) 32) → r' ≡ with_window r t (4096 * f + 4064) 32 (replicate 32 0)
       → IsConstructed r r' t cache f colour 0
   cleared r r' t laws small home written =
       let mine : OwnBytes r = laws.own_bytes in
       let now : (p : ℕ) → byte_at r' t p ≡ byte_at (with_window r t (4096 * f + 4064) 32 (replicate 32 0)) t p = λ p. ap (λ x. byte_at x t p) written in
       let sized : length (replicate {A = ℕ} 32 0) ≡ 32 = refl in
-      let frames : 0 < 2 ^ (numbers cache).order = pow_pos (numbers cache).order in
+      let frames : 0 < 2 ^ (layout_numbers cache).order = pow_pos (layout_numbers cache).order in
       record {
         space = banks_of r r' (with_window r t (4096 * f + 4064) 32 (replicate 32 0)) written refl;
         others = λ u differ. subst (λ x. IsSameFor u r x) (sym written) (laws.others.window t (4096 * f + 4064) 32 (replicate 32 0) u differ);
@@ -203,6 +196,6 @@ module _ (cache : own.Cache) (f colour : ℕ) where
             ∙ ap (λ b. Some b) (get_or-replicate 32 j 0 0 less));
         objects = λ i j lower less. absurd (omega arith);
         bytes = λ p outside. now p ∙ out_of_range r t (4096 * f + 4064) 32 (replicate 32 0) mine home sized p
-            (λ low high. false≢true (sym outside ∙ in_block-from p (block f (numbers cache).order)
-            (inside_from p f (numbers cache).order (omega arith) (omega arith))));
+            (λ low high. false≢true (sym outside ∙ in_block-from p (block f (layout_numbers cache).order)
+            (inside_from p f (layout_numbers cache).order (omega arith) (omega arith))));
       }

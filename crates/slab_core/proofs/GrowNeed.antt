@@ -17,13 +17,13 @@ use Rattle.space_core.specs.Content as spaces
 use Rattle.buddy_core.specs.Content as buddies
 use Rattle.slab_tables.specs.declared.cache.Cache as own
 use Rattle.slab_tables.specs.Content.{Content, IsSlabs, index_of_cache, head_of}
-use Rattle.slab_laws.specs.Shows.{frame_under, node_of, is_of_cache, ShowsMachine, Agree}
-use Rattle.slab_laws.specs.Steady.{IsSteady}
-use Rattle.slab_laws.specs.Changes.{IsReturned, IsGrown}
-use Rattle.slab_laws.specs.Objects.{IsAllFull}
-use Rattle.slab_laws.proofs.Lookups.{found_key, in_found, keys_mapped}
-use Rattle.slab_laws.proofs.Reaped.{reaped_shows}
-use Rattle.slab_laws.proofs.Using.{take_makes}
+use Rattle.parts_laws.specs.Shows.{frame_under, node_of, is_of_cache, ShowsMachine, Agree}
+use Rattle.parts_laws.specs.Steady.{IsSteady}
+use Rattle.parts_laws.specs.Changes.{IsReturned, IsGrown}
+use Rattle.parts_laws.specs.Objects.{IsAllFull}
+use Rattle.parts_laws.proofs.Lookups.{found_key, in_found, keys_mapped}
+use Rattle.parts_laws.proofs.Reaped.{reaped_shows}
+use Rattle.parts_laws.proofs.Using.{take_makes}
 use Rattle.slab_core.specs.Calls.{idle_at, IsNew}
 use Rattle.slab_core.proofs.ReserveByNeed.{next_choice, no_choice}
 use Rattle.slab_core.proofs.ReturnMany.{idle_empty}
@@ -71,11 +71,6 @@ new_slab r r' b b' s s' t c cache f n g = record {
   };
   empty = ap (λ x. x.live) g.fresh;
 }
-
-pub some_new : (r r' : spaces.Content) (b b' : buddies.Content) (s s' : Content) (t c : ℕ) (cache : own.Cache) (o : Option (ℕ × ℕ))
-    → IfSome o (λ p. IsGrown r r' b b' s s' t c cache p.0 p.1) → IfSome o (λ p. IsNew r' s' t c cache p.0 p.1)
-some_new r r' b b' s s' t c cache None g = tt
-some_new r r' b b' s s' t c cache (Some p) g = new_slab r r' b b' s s' t c cache p.0 p.1 g
 
 -- what holds of parts that did not change holds of what they were
 pub unmoved : (P : spaces.Content → buddies.Content → Content → Type 0) (r r' : spaces.Content) (b b' : buddies.Content) (s s' : Content)

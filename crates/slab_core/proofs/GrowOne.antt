@@ -6,8 +6,6 @@ use Rattle.std.proofs.lemmas.List.{length-set, get_or-set_same, get_or-set_other
 use Rattle.std.proofs.lemmas.Nat.{pow_pos, div-add-mod', mod_below}
 use Rattle.std.proofs.Math.Nat.{mul-le-mul_right, lt-div-mul-add}
 use Rattle.model_core.specs.Blocks.{block, HasFrame, IsAligned, IsTaken, IsChoice, IsWithout, with_taken}
-use Rattle.model_core.specs.BlockLaws.{ReservedIsUntaken}
-use Rattle.model_core.specs.Laws.{ChoicesMeet}
 use Rattle.model_core.specs.Machine.{Cache, Machine, choice}
 use Rattle.model_core.specs.Slabs.{cache_of, grown}
 use Rattle.model_core.specs.Layouts.{IsLayout, is_small, in_object, object_place, pattern_byte}
@@ -15,57 +13,63 @@ use Rattle.model_core.specs.declared.limits.TheConstants.{MOST_CACHES}
 use Rattle.model_core.proofs.Apart.{has_first, in_block-true}
 use Rattle.klist_core.specs.Places.{place_at}
 use Rattle.space_core.specs.Content as spaces
-use Rattle.space_core.specs.Laws.{SpaceLaws}
 use Rattle.space_core.specs.Windows.{home_of, byte_at}
 use Rattle.space_core.proofs.Ranges.{range_held}
 use Rattle.buddy_core.specs.Content as buddies
 use Rattle.buddy_core.proofs.Holdings.{own_holding, taken-with_block}
 use Rattle.slab_tables.specs.declared.cache.Cache as own
-use Rattle.slab_tables.specs.Content.{Content, IsSlabs, kept_at, cache_in, cache_at, index_of_cache, head_of, numbers}
+use Rattle.slab_tables.specs.Content.{Content, IsSlabs, kept_at, cache_in, cache_at, index_of_cache, head_of, layout_numbers}
 use Rattle.slab_tables.specs.Changes.{fresh_kept, made_more, with_slab}
-use Rattle.slab_laws.specs.Records.{is_set, count_true, flags_from}
-use Rattle.slab_laws.specs.Shows.{frame_under, node_of, is_inside, record_byte, byte_or_zero, is_live, live_of, IsSlab, IsAgreed, Agree, ShowsMachine}
-use Rattle.slab_laws.specs.Keeps.{Spares}
-use Rattle.slab_laws.specs.Steady.{IsSteady}
-use Rattle.slab_laws.specs.Changes.{IsGrown}
-use Rattle.slab_laws.specs.Laws.{TakenMeets}
-use Rattle.slab_laws.proofs.Lookups.{some_none, some_same}
-use Rattle.slab_laws.proofs.Facts.{under_is, one_stays, record_inside, is_not}
-use Rattle.slab_laws.proofs.Grown.{none_set, grown_shows}
-use Rattle.slab_laws.proofs.Steady.{within, in_table, tenant_is}
+use Rattle.parts_laws.specs.Records.{is_set, count_true, flags_from}
+use Rattle.parts_laws.specs.Shows.{frame_under, node_of, is_inside, record_byte, byte_or_zero, is_live, live_of, IsSlab, IsAgreed, Agree, ShowsMachine}
+use Rattle.parts_laws.specs.Keeps.{Spares}
+use Rattle.parts_laws.specs.Slots.{HoldTogether}
+use Rattle.parts_laws.specs.Steady.{IsSteady}
+use Rattle.parts_laws.specs.Changes.{IsGrown}
+use Rattle.parts_laws.proofs.Lookups.{some_none, some_same}
+use Rattle.parts_laws.proofs.Facts.{under_is, one_stays, record_inside, is_not}
+use Rattle.parts_laws.proofs.Grown.{none_set, grown_shows}
+use Rattle.parts_laws.proofs.Steady.{within, in_table, tenant_is}
+use Rattle.model_core.proofs.FreeBlocks.{reserved_is_untaken}
+use Rattle.model_core.proofs.Chosen.{choices_meet}
+use Rattle.parts_laws.proofs.Taken.{taken_meets}
 use Rattle.slab_core.specs.Calls.{IsConstructed}
-use Rattle.slab_core.specs.Room.{HasFree}
+use Rattle.slab_core.specs.Room.{HasFreeBlock}
 use Rattle.slab_core.proofs.BuildParts.{IsLocal, agreed_still, spares_of, agree_of}
 use Rattle.slab_core.proofs.BuildCache.{cache_here, cache_there, in_other}
+use Rattle.slab_core.proofs.ObjectSlabs.{in_tables}
 use Rattle.slab_core.proofs.ReturnCache.{among_all}
-
-none_unless : (o : Option ℕ) → ((k : ℕ) → o ≡ Some k → ⊥) → o ≡ None
-none_unless None none = refl
-none_unless (Some k) none = absurd (none k refl)
 
 no_place : (o : Option (ℕ × ℕ)) → ((head key : ℕ) → o ≡ Some (head, key) → ⊥) → o ≡ None
 no_place None none = refl
 no_place (Some p) none = absurd (none p.0 p.1 refl)
 
-something : {A : Type 0} (o : Option A) → is_some o ≡ true → (x : A) × (o ≡ Some x)
+pub something : {A : Type 0} (o : Option A) → is_some o ≡ true → (x : A) × (o ≡ Some x)
 something None e = absurd (false≢true e)
 something (Some x) e = (x, refl)
 
 -- a slab is made exactly where a block is free for it
 pub none_free : (b : buddies.Content) (t k : ℕ) → IsWithout b.top (buddies.is_held (buddies.holding_of t b)) (buddies.taken_of (buddies.holding_of t b)) k
-    → (o : Option (ℕ × ℕ)) → o ≡ None → IsSome o ↔ HasFree b t k
+    → (o : Option (ℕ × ℕ)) → o ≡ None → IsSome o ↔ HasFreeBlock b t k
 none_free b t k without o none = (λ e. absurd (false≢true (sym (ap is_some none) ∙ e)), λ h. absurd (without h.found h.free h.enough))
 
 pub some_free : (b : buddies.Content) (t k f j : ℕ) → IsChoice b.top (buddies.is_held (buddies.holding_of t b)) (buddies.taken_of (buddies.holding_of t b)) k (block f j)
-    → (p : ℕ × ℕ) → IsSome (Some p) ↔ HasFree b t k
+    → (p : ℕ × ℕ) → IsSome (Some p) ↔ HasFreeBlock b t k
 some_free b t k f j chosen p = (λ e. record { found = block f j; free = chosen.0; enough = chosen.1 }, λ h. refl)
+
+-- the block that is chosen for an order
+pub chosen_for : (b : buddies.Content) (t k k' f j : ℕ) → k ≡ k'
+    → IsChoice b.top (buddies.is_held (buddies.holding_of t b)) (buddies.taken_of (buddies.holding_of t b)) k (block f j)
+    → IsChoice b.top (buddies.is_held (buddies.holding_of t b)) (buddies.taken_of (buddies.holding_of t b)) k' (block f j)
+chosen_for b t k k' f j e is =
+    subst (λ i. IsChoice b.top (buddies.is_held (buddies.holding_of t b)) (buddies.taken_of (buddies.holding_of t b)) i (block f j)) e is
 
 module _ (r : spaces.Content) (b : buddies.Content) (s : Content) (t k : ℕ) (a : Agree r b s) where
   -- a chosen block lies in a slot that the tenant holds
-  pub has_node : ReservedIsUntaken → (f j : ℕ) → IsChoice b.top (buddies.is_held (buddies.holding_of t b)) (buddies.taken_of (buddies.holding_of t b)) k (block f j)
+  pub has_node : (f j : ℕ) → IsChoice b.top (buddies.is_held (buddies.holding_of t b)) (buddies.taken_of (buddies.holding_of t b)) k (block f j)
       → node_of s.top r.slots t f ≡ None → ⊥
-  has_node law f j chosen none =
-      let free = law b.top (buddies.is_held (buddies.holding_of t b)) (buddies.taken_of (buddies.holding_of t b)) f j k chosen.0 chosen.1 in
+  has_node f j chosen none =
+      let free = reserved_is_untaken b.top (buddies.is_held (buddies.holding_of t b)) (buddies.taken_of (buddies.holding_of t b)) f j k chosen.0 chosen.1 in
       let held : is_some (spaces.superblock_at r.slots t (f / 2 ^ s.top)) ≡ true =
       subst (λ top. is_some (spaces.superblock_at r.slots t (f / 2 ^ top)) ≡ true) a.order
       (ap is_some (sym (a.slots t (f / 2 ^ b.top))) ∙ (free.1 f (has_first (block f k))).0) in
@@ -79,11 +83,11 @@ module _ (r : spaces.Content) (b : buddies.Content) (s : Content) (t k : ℕ) (a
   pub none_large : b.top < k → IsWithout b.top (buddies.is_held (buddies.holding_of t b)) (buddies.taken_of (buddies.holding_of t b)) k
   none_large large z free enough = absurd (let small = free.0.0 in omega arith)
 
-  module _ (meet : ChoicesMeet) (taken : TakenMeets) (st : IsSteady r b s t) (m : Machine) (h : ShowsMachine r b s t m) where
+  module _ (st : IsSteady r b s t) (m : Machine) (h : ShowsMachine r b s t m) where
     both : ((first j : ℕ) → IsChoice b.top (buddies.is_held (buddies.holding_of t b)) (buddies.taken_of (buddies.holding_of t b)) k (block first j) → choice b.top m k ≡ Some first)
         × (IsWithout b.top (buddies.is_held (buddies.holding_of t b)) (buddies.taken_of (buddies.holding_of t b)) k → choice b.top m k ≡ None)
-    both = meet b.top k (buddies.is_held (buddies.holding_of t b)) (buddies.taken_of (buddies.holding_of t b)) m
-        (λ u. h.slots u ∙ sym (ap is_some (a.slots t u))) (taken r b s t m st h)
+    both = choices_meet b.top k (buddies.is_held (buddies.holding_of t b)) (buddies.taken_of (buddies.holding_of t b)) m
+        (λ u. h.slots u ∙ sym (ap is_some (a.slots t u))) (taken_meets r b s t m st h)
 
     -- the machine chooses the block that the buddy system does
     pub choice_some : (f j : ℕ) → IsChoice b.top (buddies.is_held (buddies.holding_of t b)) (buddies.taken_of (buddies.holding_of t b)) k (block f j)
@@ -96,18 +100,40 @@ module _ (r : spaces.Content) (b : buddies.Content) (s : Content) (t k : ℕ) (a
     pub choice_large : b.top < k → choice s.top m k ≡ None
     choice_large large = choice_none (none_large large)
 
-module _ (r : spaces.Content) (b : buddies.Content) (s : Content) (t c : ℕ) (cache : own.Cache) (w : IsSlabs s) (a : Agree r b s) (st : IsSteady r b s t)
-    (laws : SpaceLaws r) (blaws : buddies.BuddyLaws b) (tenant : t < length r.slots) (cached : cache_at s t c ≡ Some cache)
-    (law : ReservedIsUntaken) (f j n : ℕ) (chosen : IsChoice b.top (buddies.is_held (buddies.holding_of t b)) (buddies.taken_of (buddies.holding_of t b)) (numbers cache).order (block f j))
-    (under : node_of s.top r.slots t f ≡ Some n) where
+-- for the next slab of the tenant's cache the buddy system has chosen the block at frame f, node n
+pub record IsChosen (r : spaces.Content) (b : buddies.Content) (s : Content) (t c : ℕ) (cache : own.Cache) (f j n : ℕ) : Type 0 where
+  pub parts : HoldTogether r b s
+  pub steady : IsSteady r b s t
+  pub tenant : t < length r.slots
+  pub cached : cache_at s t c ≡ Some cache
+  pub block : IsChoice b.top (buddies.is_held (buddies.holding_of t b)) (buddies.taken_of (buddies.holding_of t b)) (layout_numbers cache).order (block f j)
+  pub under : node_of s.top r.slots t f ≡ Some n
+
+module _ {r : spaces.Content} {b : buddies.Content} {s : Content} {t c : ℕ} {cache : own.Cache} {f j n : ℕ} (chosen : IsChosen r b s t c cache f j n) where
+  w : IsSlabs s
+  w = chosen.parts.slabs
+
+  a : Agree r b s
+  a = chosen.parts.agree
+
+  under : node_of s.top r.slots t f ≡ Some n
+  under = chosen.under
+
+  cached : cache_at s t c ≡ Some cache
+  cached = chosen.cached
+
+  -- it is cut by the cache's layout
+  pub cut : IsLayout cache.layout.size cache.layout.align (layout_numbers cache)
+  cut = (in_tables s t c cache w cached).layout
+
   known : t < length b.tenants
-  known = subst (λ x. t < x) a.rows tenant
+  known = subst (λ x. t < x) a.rows chosen.tenant
 
   abbrev k : ℕ
-  k = (numbers cache).order
+  k = (layout_numbers cache).order
 
   free : IsAligned b.top (block f k) × ((x : ℕ) → HasFrame (block f k) x → (buddies.is_held (buddies.holding_of t b) (x / 2 ^ b.top) ≡ true) × (IsTaken (buddies.taken_of (buddies.holding_of t b)) x → ⊥))
-  free = law b.top (buddies.is_held (buddies.holding_of t b)) (buddies.taken_of (buddies.holding_of t b)) f j k chosen.0 chosen.1
+  free = reserved_is_untaken b.top (buddies.is_held (buddies.holding_of t b)) (buddies.taken_of (buddies.holding_of t b)) f j k chosen.block.0 chosen.block.1
 
   aligned : IsAligned s.top (block f k)
   aligned = subst (λ top. IsAligned top (block f k)) a.order free.0
@@ -131,18 +157,18 @@ module _ (r : spaces.Content) (b : buddies.Content) (s : Content) (t c : ℕ) (c
   frame_within =
       let top = b.top in
       let there = something (buddies.superblock_at (buddies.holding_of t b) (f / 2 ^ b.top)) (free.1 f (has_first (block f k))).0 in
-      let slot : f / 2 ^ b.top < b.superblocks = subst (λ x. f / 2 ^ b.top < x) (blaws.sizes.slots t known) (within _ _ there.0 there.1) in
+      let slot : f / 2 ^ b.top < b.superblocks = subst (λ x. f / 2 ^ b.top < x) (chosen.parts.buddy.sizes.slots t known) (within _ _ there.0 there.1) in
       let below : f < f / 2 ^ b.top * 2 ^ b.top + 2 ^ b.top = lt-div-mul-add (pow_pos b.top) in
-      omega (arith, below, mul-le-mul_right (2 ^ b.top) slot, blaws.sizes.taken t known)
+      omega (arith, below, mul-le-mul_right (2 ^ b.top) slot, chosen.parts.buddy.sizes.taken t known)
 
   pub few : f < 65536
-  few = omega (arith, frame_within, blaws.sizes.taken t known, a.nodes, ap (λ top. b.superblocks * 2 ^ top) a.order, w.small)
+  few = omega (arith, frame_within, chosen.parts.buddy.sizes.taken t known, a.nodes, ap (λ top. b.superblocks * 2 ^ top) a.order, w.small)
 
   -- no slab begins there
   pub vacant : place_at s.lists.places n ≡ None
   vacant = no_place (place_at s.lists.places n) (λ head key e.
-      let there = st.listed f n head key under e in
-      not_first (numbers there.1).order (st.stands there.0 f n there.1 there.2).taken)
+      let there = chosen.steady.listed f n head key under e in
+      not_first (layout_numbers there.1).order (chosen.steady.stands there.0 f n there.1 there.2).taken)
 
   pub fresh : (x : ℕ) → place_at s.lists.places x ≢ Some (head_of t c 2, f)
   fresh x e =
@@ -150,12 +176,12 @@ module _ (r : spaces.Content) (b : buddies.Content) (s : Content) (t c : ℕ) (c
       let there = w.standing x (head_of t c 2) f e in
       let tenant_of : head_of t c 2 / 3 / MOST_CACHES ≡ t = omega arith in
       let taken = (a.slabs x (head_of t c 2) f there.0 e there.1).taken in
-      not_first (numbers there.0).order (subst (λ u. buddies.taken_of (buddies.holding_of u b) f ≡ Some (numbers there.0).order) tenant_of taken)
+      not_first (layout_numbers there.0).order (subst (λ u. buddies.taken_of (buddies.holding_of u b) f ≡ Some (layout_numbers there.0).order) tenant_of taken)
 
   pub node_within : n < length s.lists.places
   node_within =
       let there = under_is s.top f n (spaces.superblock_at r.slots t (f / 2 ^ s.top)) under in
-      let owned = within r.owners there.0 _ ((laws.facts.agree t (f / 2 ^ s.top) there.0).0 there.1) in
+      let owned = within r.owners there.0 _ ((chosen.parts.space.facts.agree t (f / 2 ^ s.top) there.0).0 there.1) in
       let rest : f % 2 ^ s.top < 2 ^ s.top = mod_below f (2 ^ s.top) (pow_pos s.top) in
       omega (arith, owned, rest, mul-le-mul_right (2 ^ s.top) owned, a.superblocks, a.nodes, there.2, ap (λ x. x * 2 ^ s.top) a.superblocks)
 
@@ -163,7 +189,7 @@ module _ (r : spaces.Content) (b : buddies.Content) (s : Content) (t c : ℕ) (c
   small = (in_table s t c cache cached).number
 
   among : index_of_cache t c < length s.caches
-  among = among_all r b s t c a tenant small
+  among = among_all r b s t c a chosen.tenant small
 
   pub kept_now : kept_at (with_slab s t c cache f n).kept n ≡ fresh_kept cache
   kept_now = get_or-set_same s.kept n (fresh_kept cache) _ (subst (λ l. n < l) (sym w.paired) node_within)
@@ -182,29 +208,29 @@ module _ (r : spaces.Content) (b : buddies.Content) (s : Content) (t c : ℕ) (c
       ap (λ h. buddies.taken_of h g) holding_now
       ∙ ap (λ (taken : ℕ → Option ℕ). taken g) (taken-with_block (buddies.holding_of t b) f k frame_within)
 
-  module _ (r' : spaces.Content) (cut : IsLayout cache.layout.size cache.layout.align (numbers cache))
-      (built : IsConstructed r r' t cache f (fresh_kept cache).colour (numbers cache).count) where
+  module _ {r' : spaces.Content}
+      (built : IsConstructed r r' t cache f (fresh_kept cache).colour (layout_numbers cache).count) where
     abbrev s' : Content
     s' = with_slab s t c cache f n
 
     -- each object is found by one division
     constructed : (place : ℕ) → is_inside place f cache ≡ true
-        → in_object (numbers cache) cache.layout.size (fresh_kept cache).colour (place - 4096 * f) ≡ true
-        → byte_at r' t place ≡ Some (pattern_byte cache.pattern ((place - 4096 * f - (fresh_kept cache).colour) % (numbers cache).chunk))
+        → in_object (layout_numbers cache) cache.layout.size (fresh_kept cache).colour (place - 4096 * f) ≡ true
+        → byte_at r' t place ≡ Some (pattern_byte cache.pattern ((place - 4096 * f - (fresh_kept cache).colour) % (layout_numbers cache).chunk))
     constructed place inside object =
         let colour : ℕ = (fresh_kept cache).colour in
-        let chunk : ℕ = (numbers cache).chunk in
+        let chunk : ℕ = (layout_numbers cache).chunk in
         let offset : ℕ = place - 4096 * f in
-        let one = and_parts (leb colour offset) (ltb ((offset - colour) / chunk) (numbers cache).count && ltb ((offset - colour) % chunk) cache.layout.size) object in
-        let two = and_parts (ltb ((offset - colour) / chunk) (numbers cache).count) (ltb ((offset - colour) % chunk) cache.layout.size) one.1 in
+        let one = and_parts (leb colour offset) (ltb ((offset - colour) / chunk) (layout_numbers cache).count && ltb ((offset - colour) % chunk) cache.layout.size) object in
+        let two = and_parts (ltb ((offset - colour) / chunk) (layout_numbers cache).count) (ltb ((offset - colour) % chunk) cache.layout.size) one.1 in
         let low : colour ≤ offset = leb-true colour offset one.0 in
         let frame : HasFrame (block f k) (place / 4096) = in_block-true place (block f k) inside in
         let begins : 4096 * f ≤ place = omega (arith, frame.0) in
         let split : (offset - colour) / chunk * chunk + (offset - colour) % chunk ≡ offset - colour = div-add-mod' (offset - colour) chunk in
-        let at : object_place (numbers cache) f colour ((offset - colour) / chunk) + (offset - colour) % chunk ≡ place = omega arith in
+        let at : object_place (layout_numbers cache) f colour ((offset - colour) / chunk) + (offset - colour) % chunk ≡ place = omega arith in
         ap (byte_at r' t) (sym at)
         ∙ built.objects ((offset - colour) / chunk) ((offset - colour) % chunk)
-        (ltb-true ((offset - colour) / chunk) (numbers cache).count two.0) (ltb-true ((offset - colour) % chunk) cache.layout.size two.1)
+        (ltb-true ((offset - colour) / chunk) (layout_numbers cache).count two.0) (ltb-true ((offset - colour) % chunk) cache.layout.size two.1)
 
     pub one_grown : IsGrown r r' b reserved s s' t c cache f n
     one_grown = record {
@@ -240,13 +266,13 @@ module _ (r : spaces.Content) (b : buddies.Content) (s : Content) (t c : ℕ) (c
     }
 
     pub one_spares : Spares t r r' b reserved s s'
-    one_spares = spares_of r r' b reserved s s' t f n alone laws.apart
+    one_spares = spares_of r r' b reserved s s' t f n alone chosen.parts.space.apart
 
     -- no object of the new slab is live
     down : (i : ℕ) → i < 256 → is_live r' t cache (fresh_kept cache) f i ≡ false
-    down i less = go (is_small (numbers cache).chunk) refl
+    down i less = go (is_small (layout_numbers cache).chunk) refl
       where
-        go : (v : Bool) → is_small (numbers cache).chunk ≡ v
+        go : (v : Bool) → is_small (layout_numbers cache).chunk ≡ v
             → cond v (is_set (record_byte r' t f (i / 8)) (i % 8)) (is_set 0 i) ≡ false
         go true e = ap (λ x. is_set x (i % 8)) (built.clear e (i / 8) (omega arith)) ∙ none_set (i % 8)
         go false e = none_set i
@@ -270,7 +296,7 @@ module _ (r : spaces.Content) (b : buddies.Content) (s : Content) (t c : ℕ) (c
           counted = subst (λ u. (kept_at s'.kept n).live ≡ count_true (live_of r' u (made_more cache) (kept_at s'.kept n) f)) (sym tenant_of)
               (ap (λ x. x.live) kept_now
               ∙ sym (ap (λ x. count_true (live_of r' t cache x f)) kept_now
-              ∙ count_none (numbers cache).count 0 (is_live r' t cache (fresh_kept cache) f) (λ j less. down j (omega arith))));
+              ∙ count_none (layout_numbers cache).count 0 (is_live r' t cache (fresh_kept cache) f) (λ j less. down j (omega arith))));
           rest = λ i low high. subst (λ u. is_live r' u (made_more cache) (kept_at s'.kept n) f i ≡ false) (sym tenant_of)
               (ap (λ x. is_live r' t cache x f i) kept_now ∙ down i high);
         }
@@ -281,24 +307,24 @@ module _ (r : spaces.Content) (b : buddies.Content) (s : Content) (t c : ℕ) (c
     stays x head key other away placed old e =
         let g : IsAgreed r b s x head key other = a.slabs x head key other placed old in
         let here : node_of s.top r.slots t key ≡ Some x = subst (λ u. node_of s.top r.slots u key ≡ Some x) e g.under in
-        let there = st.listed key x head key here placed in
+        let there = chosen.steady.listed key x head key here placed in
         let q : IsSlab r s t there.0 key x there.1 = there.2 in
         let differ : key ≡ f → ⊥ = λ same. away (some_same (sym here ∙ ap (node_of s.top r.slots t) same ∙ under)) in
-        let taken : buddies.taken_of (buddies.holding_of t b) key ≡ Some (numbers there.1).order = (st.stands there.0 key x there.1 q).taken in
+        let taken : buddies.taken_of (buddies.holding_of t b) key ≡ Some (layout_numbers there.1).order = (chosen.steady.stands there.0 key x there.1 q).taken in
         agreed_still r r' b reserved s s' x head key other ((w.fits (head / 3) other old).layout.fits 0).few g
         (ap (λ y. node_of s.top y.slots (head / 3 / MOST_CACHES) key) built.space)
         (subst (λ u. buddies.taken_of (buddies.holding_of u reserved) key ≡ buddies.taken_of (buddies.holding_of u b) key) (sym e)
         (taken_now key ∙ ap (λ v. cond v (Some k) (buddies.taken_of (buddies.holding_of t b) key)) (ne_eqb key f differ)))
         (alone.kept x away)
         (λ i less. subst (λ u. is_live r' u other (kept_at s.kept x) key i ≡ is_live r u other (kept_at s.kept x) key i) (sym e)
-        (one_stays r b s t st r' (kept_at s.kept x) key i other
+        (one_stays r r' t other (kept_at s.kept x) key i
         (λ _ j low. ap byte_or_zero (built.bytes (4096 * key + 4064 + j)
         (is_not (is_inside (4096 * key + 4064 + j) f cache) (λ inside.
         untaken ((4096 * key + 4064 + j) / 4096) (in_block-true (4096 * key + 4064 + j) (block f k) inside) (
           key,
-          (numbers there.1).order,
+          (layout_numbers there.1).order,
           taken,
-          in_block-true (4096 * key + 4064 + j) (block key (numbers there.1).order) (record_inside r b s t st there.0 key x j there.1 q low),
+          in_block-true (4096 * key + 4064 + j) (block key (layout_numbers there.1).order) (record_inside r b s t chosen.steady there.0 key x j there.1 q low),
         ))))) less))
 
     mine : (x head key : ℕ) (other : own.Cache) → place_at s'.lists.places x ≡ Some (head, key) → cache_in s'.caches (head / 3) ≡ Some other
@@ -335,7 +361,7 @@ module _ (r : spaces.Content) (b : buddies.Content) (s : Content) (t c : ℕ) (c
 
     pub one_agrees : Agree r' reserved s'
     one_agrees =
-        agree_of r r' b reserved s s' t f n alone laws.apart w a (length-set s.lists.places n (Some (head_of t c 2, f)))
+        agree_of r r' b reserved s s' t f n alone chosen.parts.space.apart w a (length-set s.lists.places n (Some (head_of t c 2, f)))
         (length-set s.caches (index_of_cache t c) (Some (made_more cache)))
         (λ v. ap (λ h. buddies.superblock_at h v) holding_now)
         (λ head key placed.
@@ -345,7 +371,7 @@ module _ (r : spaces.Content) (b : buddies.Content) (s : Content) (t c : ℕ) (c
 
     -- the machine's cache has grown
     shown_grown : (m : Machine) (x : Cache) → ShowsMachine r b s t m → cache_of m c ≡ Some x → ShowsMachine r' reserved s' t (grown f x m)
-    shown_grown m x h ex = grown_shows r r' b reserved s s' t c cache f n m x one_grown st cut (λ g i y e there here. untaken y here (g, i, e, there)) ex h
+    shown_grown m x h ex = grown_shows r r' b reserved s s' t c cache f n m x one_grown chosen.steady cut (λ g i y e there here. untaken y here (g, i, e, there)) ex h
 
     pub record IsMade (b' : buddies.Content) (s'' : Content) : Type 0 where
       pub shows : (m : Machine) (x : Cache) → ShowsMachine r b s t m → cache_of m c ≡ Some x → ShowsMachine r' b' s'' t (grown f x m)

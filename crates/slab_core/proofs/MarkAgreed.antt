@@ -11,16 +11,16 @@ use Rattle.space_core.specs.Laws.{SpaceLaws}
 use Rattle.buddy_core.specs.Content as buddies
 use Rattle.slab_tables.specs.declared.cache.Cache as own
 use Rattle.slab_tables.specs.declared.cache.Kept.{Kept}
-use Rattle.slab_tables.specs.Content.{Content, IsSlabs, IsPlaced, blank, kept_at, cache_in, index_of_cache, head_of, numbers, kind_of}
+use Rattle.slab_tables.specs.Content.{Content, IsSlabs, IsPlacedIn, blank, kept_at, cache_in, index_of_cache, head_of, layout_numbers, kind_of}
 use Rattle.slab_tables.specs.Changes.{with_count}
 use Rattle.slab_tables.proofs.Reading.{kind_below, head_parts, same_place}
-use Rattle.slab_laws.specs.Records.{is_set, count_true}
-use Rattle.slab_laws.specs.Shows.{node_of, record_byte, byte_or_zero, is_live, live_of, is_of_cache, IsSlab, IsAgreed, Agree}
-use Rattle.slab_laws.specs.Keeps.{Spares}
-use Rattle.slab_laws.specs.Changes.{found, IsMarked}
-use Rattle.slab_laws.proofs.Lookups.{some_same}
-use Rattle.slab_laws.proofs.Facts.{under_is, superblock_of_node, same_below}
-use Rattle.slab_laws.proofs.Flags.{length_flags, flag_at, count_few}
+use Rattle.parts_laws.specs.Records.{is_set, count_true}
+use Rattle.parts_laws.specs.Shows.{node_of, record_byte, byte_or_zero, is_live, live_of, is_of_cache, IsSlab, IsAgreed, Agree}
+use Rattle.parts_laws.specs.Keeps.{Spares}
+use Rattle.parts_laws.specs.Changes.{found, IsMarked}
+use Rattle.parts_laws.proofs.Lookups.{some_same}
+use Rattle.parts_laws.proofs.Facts.{under_is, superblock_of_node, same_below}
+use Rattle.parts_laws.proofs.Flags.{length_flags, flag_at, count_few}
 use Rattle.slab_core.specs.Objects.{IsTurned}
 use Rattle.slab_core.proofs.MarkBits.{flags_changed, count_cleared, count_set}
 use Rattle.slab_core.proofs.ObjectSlabs.{IsHeld, held, node_within}
@@ -30,21 +30,21 @@ abbrev pub IsCountOf : Bool → ℕ → ℕ → Type 0
 IsCountOf live before count = (live ≡ true → count ≡ before + 1) × (live ≡ false → count + 1 ≡ before)
 
 module _ (r : spaces.Content) (b : buddies.Content) (s : Content) (t c f n i : ℕ) (cache : own.Cache) (w : IsSlabs s) (a : Agree r b s) (q : IsSlab r s t c f n cache)
-    (less : i < (numbers cache).count) (v : Bool) (was : is_live r t cache (kept_at s.kept n) f i ≡ not v) where
+    (less : i < (layout_numbers cache).count) (v : Bool) (was : is_live r t cache (kept_at s.kept n) f i ≡ not v) where
   h : IsHeld r b s t c f n cache
   h = held r b s t c f n cache w a q
 
   abbrev flags_before : List Bool
   flags_before = live_of r t cache (kept_at s.kept n) f
 
-  long : length flags_before ≡ (numbers cache).count
-  long = length_flags 0 (numbers cache).count (is_live r t cache (kept_at s.kept n) f)
+  long : length flags_before ≡ (layout_numbers cache).count
+  long = length_flags 0 (layout_numbers cache).count (is_live r t cache (kept_at s.kept n) f)
 
   zero_more : 0 + i ≡ i
   zero_more = omega arith
 
   flag_was : get_or flags_before i false ≡ not v
-  flag_was = flag_at (numbers cache).count i (is_live r t cache (kept_at s.kept n) f) false less ∙ was
+  flag_was = flag_at (layout_numbers cache).count i (is_live r t cache (kept_at s.kept n) f) false less ∙ was
 
   -- the marked flags, counted
   count_marked : (count : ℕ) → IsCountOf v (kept_at s.kept n).live count → count ≡ count_true (set flags_before i v)
@@ -59,17 +59,17 @@ module _ (r : spaces.Content) (b : buddies.Content) (s : Content) (t c f n i : �
   some_live e =
       let m = count_cleared flags_before i (omega (arith, long)) (flag_was ∙ ap not e) in omega (arith, h.counted)
 
-  pub count_below : (count : ℕ) → IsCountOf v (kept_at s.kept n).live count → count ≤ (numbers cache).count
+  pub count_below : (count : ℕ) → IsCountOf v (kept_at s.kept n).live count → count ≤ (layout_numbers cache).count
   count_below count is = omega (arith, count_marked count is, count_few (set flags_before i v), length-set flags_before i v, long)
 
-  pub is_placed : IsPlaced s t c f n
+  pub is_placed : IsPlacedIn s t c f n
   is_placed =
       let index = h.index in
       let whole : h.head ≡ head_of t c (h.head % 3) = omega arith in
       record { kind = h.head % 3; few = omega arith; placed = h.place ∙ ap (λ (x : ℕ). Some (x, f)) whole }
 
   -- no other node of the cache has the slab's first frame
-  pub alone : (m : ℕ) → IsPlaced s t c f m → m ≡ n
+  pub alone : (m : ℕ) → IsPlacedIn s t c f m → m ≡ n
   alone m p =
       let few = p.few in
       let index : head_of t c p.kind / 3 ≡ index_of_cache t c = (head_parts t c p.kind p.few).0 in
@@ -87,13 +87,13 @@ module _ (r : spaces.Content) (b : buddies.Content) (s : Content) (t c f n i : �
     s' = with_count (record s { kept = ks }) t c cache f n count
 
     abbrev kind : ℕ
-    kind = kind_of (numbers cache).count count
+    kind = kind_of (layout_numbers cache).count count
 
     abbrev head_now : ℕ
     head_now = head_of t c kind
 
     index_now : head_now / 3 ≡ index_of_cache t c
-    index_now = (head_parts t c kind (kind_below (numbers cache).count count)).0
+    index_now = (head_parts t c kind (kind_below (layout_numbers cache).count count)).0
 
     tenant_now : head_now / 3 / MOST_CACHES ≡ t
     tenant_now = let e = index_now in let below = h.below in omega arith
@@ -117,12 +117,12 @@ module _ (r : spaces.Content) (b : buddies.Content) (s : Content) (t c f n i : �
     not_not true = refl
     not_not false = refl
 
-    few : (numbers cache).count ≤ 256
+    few : (layout_numbers cache).count ≤ 256
     few = (h.layout.fits 0).few
 
     flags_now : live_of r' t cache (kept_at s'.kept n) f ≡ set flags_before i v
     flags_now =
-        flags_changed 0 (numbers cache).count i (is_live r t cache (kept_at s.kept n) f) (is_live r' t cache (kept_at s'.kept n) f) v less
+        flags_changed 0 (layout_numbers cache).count i (is_live r t cache (kept_at s.kept n) f) (is_live r' t cache (kept_at s'.kept n) f) v less
         (ap (is_live r' t cache (kept_at s'.kept n) f) zero_more ∙ (is_live_now i ∙ (k.turned ∙ (ap not was ∙ not_not v))))
         (λ j low high other. is_live_now j ∙ k.stay j (let x = few in omega arith) (λ e. other (omega arith)))
 
@@ -148,7 +148,7 @@ module _ (r : spaces.Content) (b : buddies.Content) (s : Content) (t c f n i : �
       taken = ap (λ u. buddies.taken_of (buddies.holding_of u b) f) tenant_now ∙ h.taken;
       counted = subst (λ u. (kept_at s'.kept n).live ≡ count_true (live_of r' u cache (kept_at s'.kept n) f)) (sym tenant_now)
           (ap (λ (x : Kept). x.live) kept_now ∙ (count_marked count is_count ∙ ap count_true (sym flags_now)));
-      rest = subst (λ u. (j : ℕ) → (numbers cache).count ≤ j → j < 256 → is_live r' u cache (kept_at s'.kept n) f j ≡ false) (sym tenant_now)
+      rest = subst (λ u. (j : ℕ) → (layout_numbers cache).count ≤ j → j < 256 → is_live r' u cache (kept_at s'.kept n) f j ≡ false) (sym tenant_now)
           (λ j high low. is_live_now j ∙ (k.stay j low (λ e. omega arith) ∙ h.rest j high low));
     }
 
@@ -169,14 +169,14 @@ module _ (r : spaces.Content) (b : buddies.Content) (s : Content) (t c f n i : �
         let most = ((w.fits (head / 3) cache' cached).layout.fits 0).few in
         let u : ℕ = head / 3 / MOST_CACHES in
         let stays : (j : ℕ) → j < 256 → is_live r' u cache' (kept_at s.kept node) key j ≡ is_live r u cache' (kept_at s.kept node) key j =
-        λ j low. ap (λ (z : ℕ). if is_small (numbers cache').chunk then is_set z (j % 8) else is_set (kept_at s.kept node).outside j) (record_stays u node key x.under other (j / 8) (omega arith)) in
+        λ j low. ap (λ (z : ℕ). if is_small (layout_numbers cache').chunk then is_set z (j % 8) else is_set (kept_at s.kept node).outside j) (record_stays u node key x.under other (j / 8) (omega arith)) in
         let all : live_of r' u cache' (kept_at s.kept node) key ≡ live_of r u cache' (kept_at s.kept node) key =
-        same_below 0 (numbers cache').count (is_live r' u cache' (kept_at s.kept node) key) (is_live r u cache' (kept_at s.kept node) key) (λ j low high. stays j (omega arith)) in
+        same_below 0 (layout_numbers cache').count (is_live r' u cache' (kept_at s.kept node) key) (is_live r u cache' (kept_at s.kept node) key) (λ j low high. stays j (omega arith)) in
         record {
           under = x.under;
           taken = x.taken;
           counted = subst (λ (y : Kept). y.live ≡ count_true (live_of r' u cache' y key)) (sym (kept_other node other)) (x.counted ∙ ap count_true (sym all));
-          rest = subst (λ (y : Kept). (j : ℕ) → (numbers cache').count ≤ j → j < 256 → is_live r' u cache' y key j ≡ false) (sym (kept_other node other))
+          rest = subst (λ (y : Kept). (j : ℕ) → (layout_numbers cache').count ≤ j → j < 256 → is_live r' u cache' y key j ≡ false) (sym (kept_other node other))
               (λ j high low. stays j low ∙ x.rest j high low);
         }
 

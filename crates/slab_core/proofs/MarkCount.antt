@@ -3,11 +3,11 @@ use Rattle.std.proofs.Common.{◌≡◌, ℕ, ◌<◌, ◌≤◌, Bool, false, S
 use Rattle.space_core.specs.Content as spaces
 use Rattle.buddy_core.specs.Content as buddies
 use Rattle.slab_tables.specs.declared.cache.Cache as own
-use Rattle.slab_tables.specs.Content.{Content, IsTenant, IsPlaced, kept_at, cache_at, numbers}
+use Rattle.slab_tables.specs.Content.{Content, IsTenant, IsPlacedIn, kept_at, cache_at, layout_numbers}
 use Rattle.slab_tables.specs.Changes.{with_count}
-use Rattle.slab_laws.specs.Shows.{Agree}
-use Rattle.slab_laws.specs.Keeps.{Spares}
-use Rattle.slab_laws.specs.Changes.{found, IsMarked}
+use Rattle.parts_laws.specs.Shows.{Agree}
+use Rattle.parts_laws.specs.Keeps.{Spares}
+use Rattle.parts_laws.specs.Changes.{found, IsMarked}
 use Rattle.slab_core.specs.Objects.{IsTurned, IsToCount}
 use Rattle.slab_core.proofs.ObjectSlabs.{node_within}
 use Rattle.slab_core.proofs.MarkAgreed.{IsCountOf, some_live, count_below, is_placed, alone, marked, agree, spares}
@@ -33,14 +33,14 @@ module _ (r r' : spaces.Content) (b : buddies.Content) (s s' : Content) (t c f n
       let same = k.turned.live in
       omega arith
 
-  pub placed_now : IsPlaced s' t c f n
+  pub placed_now : IsPlacedIn s' t c f n
   placed_now =
       let p = is_placed r b s t c f n i cache k.slabs k.agree k.slab k.index v k.was in
-      subst (λ (x : Content). IsPlaced x t c f n) (sym k.turned.tables) (record { kind = p.kind; few = p.few; placed = p.placed })
+      subst (λ (x : Content). IsPlacedIn x t c f n) (sym k.turned.tables) (record { kind = p.kind; few = p.few; placed = p.placed })
 
-  pub alone_now : (m : ℕ) → IsPlaced s' t c f m → m ≡ n
+  pub alone_now : (m : ℕ) → IsPlacedIn s' t c f m → m ≡ n
   alone_now m e =
-      let p = subst (λ (x : Content). IsPlaced x t c f m) k.turned.tables e in
+      let p = subst (λ (x : Content). IsPlacedIn x t c f m) k.turned.tables e in
       alone r b s t c f n i cache k.slabs k.agree k.slab k.index v k.was m (record { kind = p.kind; few = p.few; placed = p.placed })
 
   -- what is so once it is counted
@@ -48,7 +48,7 @@ module _ (r r' : spaces.Content) (b : buddies.Content) (s s' : Content) (t c f n
     is_count : IsCountOf v (kept_at s.kept n).live count
     is_count = subst (λ x. IsCountOf v x count) k.turned.live is_now
 
-    pub below_now : count ≤ (numbers cache).count
+    pub below_now : count ≤ (layout_numbers cache).count
     below_now = count_below r b s t c f n i cache k.slabs k.agree k.slab k.index v k.was count is_count
 
     abbrev space_now : spaces.Content

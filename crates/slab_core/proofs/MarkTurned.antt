@@ -11,27 +11,27 @@ use Rattle.space_core.specs.Laws.{SpaceLaws, IsSameFor, SpareStays, IsRead}
 use Rattle.space_core.specs.Windows.{byte_at, with_byte, home_of, with_window}
 use Rattle.slab_tables.specs.declared.cache.Cache as own
 use Rattle.slab_tables.specs.declared.cache.Kept.{Kept}
-use Rattle.slab_tables.specs.Content.{Content, blank, kept_at, numbers}
+use Rattle.slab_tables.specs.Content.{Content, blank, kept_at, layout_numbers}
 use Rattle.slab_tables.specs.Changes.{with_outside}
-use Rattle.slab_laws.specs.Records.{is_set}
-use Rattle.slab_laws.specs.Shows.{byte_or_zero, record_byte, is_live}
-use Rattle.slab_laws.specs.Changes.{Found}
+use Rattle.parts_laws.specs.Records.{is_set}
+use Rattle.parts_laws.specs.Shows.{byte_or_zero, record_byte, is_live}
+use Rattle.parts_laws.specs.Changes.{Found}
 use Rattle.slab_core.specs.Objects.{IsTurned, IsRecordRaised}
 use Rattle.slab_core.proofs.Building.{in_range, out_of_range}
 use Rattle.slab_core.proofs.MarkBits.{bit_turned, bit_stays}
 
 -- which word of a record tells of an object
-pub live_small : (r : spaces.Content) (t : ℕ) (cache : own.Cache) (kept : Kept) (f i : ℕ) → is_small (numbers cache).chunk ≡ true
+pub live_small : (r : spaces.Content) (t : ℕ) (cache : own.Cache) (kept : Kept) (f i : ℕ) → is_small (layout_numbers cache).chunk ≡ true
     → is_live r t cache kept f i ≡ is_set (record_byte r t f (i / 8)) (i % 8)
 live_small r t cache kept f i small = ap (λ b. cond b (is_set (record_byte r t f (i / 8)) (i % 8)) (is_set kept.outside i)) small
 
-pub live_large : (r : spaces.Content) (t : ℕ) (cache : own.Cache) (kept : Kept) (f i : ℕ) → is_small (numbers cache).chunk ≡ false
+pub live_large : (r : spaces.Content) (t : ℕ) (cache : own.Cache) (kept : Kept) (f i : ℕ) → is_small (layout_numbers cache).chunk ≡ false
     → is_live r t cache kept f i ≡ is_set kept.outside i
 live_large r t cache kept f i large = ap (λ b. cond b (is_set (record_byte r t f (i / 8)) (i % 8)) (is_set kept.outside i)) large
 
 module _ (r : spaces.Content) (s : Content) (t : ℕ) (o : Found) where
   -- a byte of the record written with the bit turned, however that was done
-  module _ (after : spaces.Content) (few : o.index < 256) (small : is_small (numbers o.cache).chunk ≡ true) (place byte word : ℕ)
+  module _ (after : spaces.Content) (few : o.index < 256) (small : is_small (layout_numbers o.cache).chunk ≡ true) (place byte word : ℕ)
       (at : place ≡ 4096 * o.first + 4064 + o.index / 8) (reads : byte_at r t place ≡ Some byte) (is_flipped : word ≡ bit_xor byte (2 ^ (o.index % 8)))
       (now : (p : ℕ) → byte_at after t p ≡ (if p == place then Some word else byte_at r t p)) (same : after ≡ record r { banks = after.banks })
       (others : (u : ℕ) → u ≢ t → IsSameFor u r after) (spare : SpareStays r after) where
@@ -79,7 +79,7 @@ module _ (r : spaces.Content) (s : Content) (t : ℕ) (o : Found) where
       live = refl;
     }
 
-  module _ (laws : SpaceLaws r) (few : o.index < 256) (small : is_small (numbers o.cache).chunk ≡ true) (place byte word : ℕ)
+  module _ (laws : SpaceLaws r) (few : o.index < 256) (small : is_small (layout_numbers o.cache).chunk ≡ true) (place byte word : ℕ)
       (at : place ≡ 4096 * o.first + 4064 + o.index / 8) (reads : byte_at r t place ≡ Some byte) (is : word ≡ bit_xor byte (1 * 2 ^ (o.index % 8) % 256)) where
     pub turned_inside : IsTurned r (with_byte r t place word) s s t o
     turned_inside =
@@ -89,7 +89,7 @@ module _ (r : spaces.Content) (s : Content) (t : ℕ) (o : Found) where
         (λ u other. laws.others.byte t place word u other) (laws.spare.byte t place word)
 
   -- .. where the whole record was lent
-  module _ (after : spaces.Content) (laws : SpaceLaws r) (few : o.index < 256) (small : is_small (numbers o.cache).chunk ≡ true) (place : ℕ)
+  module _ (after : spaces.Content) (laws : SpaceLaws r) (few : o.index < 256) (small : is_small (layout_numbers o.cache).chunk ≡ true) (place : ℕ)
       (at : place ≡ 4096 * o.first + 4064) (home : IsSome (home_of r t place 32)) (k : IsRecordRaised r after t place o.index) where
     read : IsRead r t place 32 k.before
     read = laws.own_bytes.read t place 32 k.before k.read
@@ -143,7 +143,7 @@ module _ (r : spaces.Content) (s : Content) (t : ℕ) (o : Found) where
         (turned_by (with_window r t place 32 k.after) few small bit_place byte word (omega (arith, at)) (read.each (o.index / 8) (omega arith)) refl
         after_now refl (λ u other. laws.others.window t place 32 k.after u other) (laws.spare.window t place 32 k.after))
 
-  module _ (large : is_small (numbers o.cache).chunk ≡ false) (few : o.index < 16) (within : o.node < length s.kept) (word : ℕ)
+  module _ (large : is_small (layout_numbers o.cache).chunk ≡ false) (few : o.index < 16) (within : o.node < length s.kept) (word : ℕ)
       (is : word ≡ bit_xor (kept_at s.kept o.node).outside (1 * 2 ^ o.index % 65536)) where
     now_kept : kept_at (with_outside s o.node word).kept o.node ≡ record (kept_at s.kept o.node) { outside = word }
     now_kept = get_or-set_same s.kept o.node (record (kept_at s.kept o.node) { outside = word }) blank within

@@ -4,17 +4,17 @@ use Rattle.std.proofs.lemmas.Bool.{false≢true}
 use Rattle.std.proofs.lemmas.Nat.{div-mul-add}
 use Rattle.model_core.specs.Blocks.{block, around, HasFrame}
 use Rattle.model_core.specs.Layouts.{Layout, IsFit, object_offset}
-use Rattle.model_core.proofs.Bridge.{number_is, first_is, number_of_frame}
+use Rattle.model_core.proofs.BlocksByNumber.{number_is, first_is, number_of_frame}
 use Rattle.layout_core.specs.Objects.{Begins, IsOnly}
 use Rattle.klist_core.specs.Places.{place_at}
 use Rattle.space_core.specs.Content as spaces
 use Rattle.buddy_core.specs.Content as buddies
 use Rattle.slab_tables.specs.declared.cache.Cache as own
-use Rattle.slab_tables.specs.Content.{Content, IsSlabs, kept_at, cache_at, index_of_cache, numbers}
-use Rattle.slab_laws.specs.Shows.{node_of, is_of_cache, is_live, Agree}
-use Rattle.slab_laws.specs.Changes.{Found, found}
-use Rattle.slab_laws.specs.Objects.{IsObject, IsNoObject}
-use Rattle.slab_laws.proofs.Lookups.{some_none, some_same}
+use Rattle.slab_tables.specs.Content.{Content, IsSlabs, kept_at, cache_at, index_of_cache, layout_numbers}
+use Rattle.parts_laws.specs.Shows.{node_of, is_of_cache, is_live, Agree}
+use Rattle.parts_laws.specs.Changes.{Found, found}
+use Rattle.parts_laws.specs.Objects.{IsObject, IsNoObject}
+use Rattle.parts_laws.proofs.Lookups.{some_none, some_same}
 use Rattle.slab_core.proofs.ObjectSlabs.{held}
 
 -- an aligned block is the one around each of its frames
@@ -43,15 +43,15 @@ object_within l colour i fit less =
 
 module _ (r : spaces.Content) (b : buddies.Content) (s : Content) (t c place : ℕ) (cache : own.Cache) (w : IsSlabs s) (a : Agree r b s)
     (sound : buddies.IsSoundHolding b.top (buddies.holding_of t b)) (cached : cache_at s t c ≡ Some cache)
-    (first : ℕ) (is_first : first ≡ (around (place / 4096) (numbers cache).order).first) where
+    (first : ℕ) (is_first : first ≡ (around (place / 4096) (layout_numbers cache).order).first) where
   begins_there : (f n i : ℕ) → IsObject r s t c place (found cache f n i) → f ≡ first
   begins_there f n i o =
       let h = held r b s t c f n cache w a o.slab in
-      let k = (numbers cache).order in
+      let k = (layout_numbers cache).order in
       let colour = (kept_at s.kept n).colour in
-      let fit : IsFit (numbers cache) colour = subst (λ x. IsFit (numbers cache) x) (sym h.listed.colour.1) (h.layout.fits h.listed.colour.0) in
+      let fit : IsFit (layout_numbers cache) colour = subst (λ x. IsFit (layout_numbers cache) x) (sym h.listed.colour.1) (h.layout.fits h.listed.colour.0) in
       let has : HasFrame (block f k) (place / 4096) =
-      subst (λ p. HasFrame (block f k) (p / 4096)) o.begins (in_frame f k (object_offset (numbers cache) colour i) (object_within (numbers cache) colour i fit o.index)) in
+      subst (λ p. HasFrame (block f k) (p / 4096)) o.begins (in_frame f k (object_offset (layout_numbers cache) colour i) (object_within (layout_numbers cache) colour i fit o.index)) in
       around_frame f k (place / 4096) (sound.placed f k h.taken).0.1 has ∙ sym is_first
 
   -- an object that begins at the place is one of the slab there

@@ -9,12 +9,12 @@ use Rattle.model_core.proofs.Lists.{IsIn}
 use Rattle.space_core.specs.Content as spaces
 use Rattle.buddy_core.specs.Content as buddies
 use Rattle.slab_tables.specs.Content.{Content}
-use Rattle.slab_laws.specs.Shows.{ShowsMachine}
-use Rattle.slab_laws.proofs.Lookups.{some_none, some_same, at, at_here, at_past, in_found}
-use Rattle.slab_laws.proofs.Facts.{cache_kept}
-use Rattle.slab_laws.proofs.Steady.{in_table}
+use Rattle.parts_laws.specs.Shows.{ShowsMachine}
+use Rattle.parts_laws.proofs.Lookups.{some_none, some_same, at, at_here, at_past, in_found}
+use Rattle.parts_laws.proofs.Facts.{cache_kept}
+use Rattle.parts_laws.proofs.Steady.{in_table}
 use Rattle.model_core.specs.declared.report.CacheRow.{CacheRow}
-use Rattle.model_core.specs.Reports.{row_of}
+use Rattle.model_core.specs.Reports.{row_of_cache}
 
 abbrev pub listed : {X : Type 0} → Option X → List X
 listed None = []
@@ -59,22 +59,22 @@ module _ {X : Type 0} (key : X → ℕ) where
   all_below n (x ∷ xs) few =
       ap (λ b. cond b (x ∷ below n xs) (below n xs)) (lt-ltb (key x) n (few x (inl refl))) ∙ ap (λ ys. x ∷ ys) (all_below n xs (λ y i. few y (inr i)))
 
-map_more : (xs ys : List Cache) → map row_of (xs ++ ys) ≡ map row_of xs ++ map row_of ys
+map_more : (xs ys : List Cache) → map row_of_cache (xs ++ ys) ≡ map row_of_cache xs ++ map row_of_cache ys
 map_more [] ys = refl
-map_more (x ∷ xs) ys = ap (λ zs. row_of x ∷ zs) (map_more xs ys)
+map_more (x ∷ xs) ys = ap (λ zs. row_of_cache x ∷ zs) (map_more xs ys)
 
 no_more : {X : Type 0} (xs : List X) → xs ≡ xs ++ []
 no_more [] = refl
 no_more (x ∷ xs) = ap (λ ys. x ∷ ys) (no_more xs)
 
 -- the next cache's row put at the end, where there is such a cache
-pub pushed : (rows : List CacheRow) (row : CacheRow) (xs : List Cache) (o : Option Cache) → Some row ≡ option_map row_of o → rows ≡ map row_of xs
-    → rows ++ (row ∷ []) ≡ map row_of (xs ++ listed o)
+pub pushed : (rows : List CacheRow) (row : CacheRow) (xs : List Cache) (o : Option Cache) → Some row ≡ option_map row_of_cache o → rows ≡ map row_of_cache xs
+    → rows ++ (row ∷ []) ≡ map row_of_cache (xs ++ listed o)
 pushed rows row xs None e same = absurd (some_none e)
-pushed rows row xs (Some x) e same = ap (λ z. z ++ (row ∷ [])) same ∙ (ap (λ z. map row_of xs ++ (z ∷ [])) (some_same e) ∙ sym (map_more xs (x ∷ [])))
+pushed rows row xs (Some x) e same = ap (λ z. z ++ (row ∷ [])) same ∙ (ap (λ z. map row_of_cache xs ++ (z ∷ [])) (some_same e) ∙ sym (map_more xs (x ∷ [])))
 
-pub not_pushed : (rows : List CacheRow) (xs : List Cache) (o : Option Cache) → None ≡ option_map row_of o → rows ≡ map row_of xs → rows ≡ map row_of (xs ++ listed o)
-not_pushed rows xs None e same = same ∙ ap (map row_of) (no_more xs)
+pub not_pushed : (rows : List CacheRow) (xs : List Cache) (o : Option Cache) → None ≡ option_map row_of_cache o → rows ≡ map row_of_cache xs → rows ≡ map row_of_cache (xs ++ listed o)
+not_pushed rows xs None e same = same ∙ ap (map row_of_cache) (no_more xs)
 not_pushed rows xs (Some x) e same = absurd (some_none (sym e))
 
 -- all caches have a number below the most

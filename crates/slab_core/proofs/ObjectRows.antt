@@ -1,10 +1,10 @@
 -- What a report says of a cache is what the machine says of it.
-use Rattle.std.proofs.Common.{◌≡◌, ℕ, ◌+◌, ◌*◌, ◌<◌, List, [], ◌∷◌, Some, length, get_or, sym, ap, ◌∙◌, inl, inr, arith}
+use Rattle.std.proofs.Common.{◌≡◌, ℕ, ◌+◌, ◌*◌, ◌<◌, Some, length, get_or, sym, ap, ◌∙◌, arith}
 use Rattle.std.specs.Prelude.{filter, Option, option_map}
 use Rattle.std.proofs.lemmas.List.{length-map}
 use Rattle.klist_core.specs.Places.{place_at}
 use Rattle.klist_core.specs.Lists.{list_of, keys_of}
-use Rattle.klist_core.proofs.Listing.{IsAmong, in_list}
+use Rattle.klist_core.proofs.Listing.{in_list}
 use Rattle.model_core.specs.Machine.{Slab, Cache, Machine}
 use Rattle.model_core.specs.Slabs.{is_full, is_partial, cache_of, slab_of, live_objects}
 use Rattle.model_core.proofs.Lists.{IsIn, filter_in}
@@ -12,22 +12,18 @@ use Rattle.space_core.specs.Content as spaces
 use Rattle.buddy_core.specs.Content as buddies
 use Rattle.slab_tables.specs.declared.cache.Cache as own
 use Rattle.slab_tables.specs.Content.{Content, IsSlabs, kept_at, cache_at, index_of_cache, head_of, live_total}
-use Rattle.slab_laws.specs.Records.{count_true}
-use Rattle.slab_laws.specs.Shows.{Agree, ShowsMachine}
-use Rattle.slab_laws.specs.Steady.{IsSteady}
-use Rattle.slab_laws.specs.Laws.{is_kind, ListsHold}
-use Rattle.slab_laws.proofs.Lookups.{some_same, found_key, in_found}
-use Rattle.slab_laws.proofs.Facts.{shown, slab_shown}
+use Rattle.parts_laws.specs.Records.{count_true}
+use Rattle.parts_laws.specs.Shows.{Agree, ShowsMachine}
+use Rattle.parts_laws.specs.Steady.{IsSteady}
+use Rattle.parts_laws.specs.Laws.{is_kind, ListsHold}
+use Rattle.parts_laws.proofs.Lookups.{some_same, found_key, in_found}
+use Rattle.parts_laws.proofs.Facts.{shown, slab_shown}
+use Rattle.parts_laws.proofs.KindLists.{in_among}
 use Rattle.model_core.specs.declared.report.CacheRow.{CacheRow}
-use Rattle.model_core.specs.Reports.{row_of}
+use Rattle.model_core.specs.Reports.{row_of_cache}
 use Rattle.slab_core.proofs.ObjectSlabs.{held}
 use Rattle.slab_core.proofs.ObjectTotals.{sum_of, sum_live, total_of_lists, sum_of_slabs, sum_by_kind, objects_counted}
 use Rattle.slab_core.proofs.TakeSlab.{slab_in_list}
-
-in_among : {X : Type 0} (x : X) (xs : List X) → IsIn x xs → IsAmong x xs
-in_among x [] i = elim i [ ]
-in_among x (y ∷ ys) (inl same) = inl same
-in_among x (y ∷ ys) (inr i) = inr (in_among x ys i)
 
 same_row : {n f p e l n' f' p' e' l' : ℕ} → n ≡ n' → f ≡ f' → p ≡ p' → e ≡ e' → l ≡ l'
     → ◌≡◌ {A = CacheRow} (record { cache = n; full = f; partial = p; empty = e; live = l }) (record { cache = n'; full = f'; partial = p'; empty = e'; live = l' })
@@ -77,9 +73,9 @@ module _ (r : spaces.Content) (b : buddies.Content) (s : Content) (t c : ℕ) (m
   pub row_is : index_of_cache t c < length s.caches → (full partial empty live : ℕ) → full ≡ length (keys_of s.lists.places (head_of t c 0))
       → partial ≡ length (keys_of s.lists.places (head_of t c 1)) → empty ≡ length (keys_of s.lists.places (head_of t c 2))
       → live ≡ get_or s.live (index_of_cache t c) 0
-      → ◌≡◌ {A = Option CacheRow} (Some (record { cache = c; full = full; partial = partial; empty = empty; live = live })) (option_map row_of (cache_of m c))
+      → ◌≡◌ {A = Option CacheRow} (Some (record { cache = c; full = full; partial = partial; empty = empty; live = live })) (option_map row_of_cache (cache_of m c))
   row_is below full partial empty live ef ep ee el =
       ap (λ (z : CacheRow). Some z)
       (same_row (sym (found_key (λ z. z.number) c m.caches x ex)) (ef ∙ kind_counted 0 (omega arith)) (ep ∙ kind_counted 1 (omega arith)) (ee ∙ kind_counted 2 (omega arith))
       (el ∙ live_counted below))
-      ∙ sym (ap (option_map row_of) ex)
+      ∙ sym (ap (option_map row_of_cache) ex)

@@ -3,24 +3,23 @@ use Rattle.std.proofs.Common.{◌≡◌, ◌↔◌, ℕ, ◌/◌, ◌^◌, ◌�
 use Rattle.std.specs.Prelude.{Option, is_some}
 use Rattle.std.proofs.lemmas.Bool.{false≢true}
 use Rattle.model_core.specs.Blocks.{block, HasFrame, IsAligned}
-use Rattle.model_core.specs.Laws.{AllocReaps}
 use Rattle.model_core.specs.Machine.{Machine, choice}
 use Rattle.model_core.specs.Operations.{with_block, alloc_step}
 use Rattle.model_core.specs.Slabs.{reaped, choice_by_need}
 use Rattle.model_core.proofs.Apart.{has_first}
 use Rattle.model_core.proofs.FreeBlocks.{reserved_is_untaken}
-use Rattle.model_core.proofs.ByNeed.{by_need_found, by_need_reaps, by_need_stays}
+use Rattle.parts_laws.proofs.Reaped.{reaped_shows}
+use Rattle.model_core.proofs.ByNeed.{alloc_reaps, by_need_found, by_need_reaps, by_need_stays}
 use Rattle.space_core.specs.Content as spaces
 use Rattle.buddy_core.specs.Content as buddies
-use Rattle.slab_tables.specs.Content.{Content, IsSlabs, numbers}
-use Rattle.slab_laws.specs.Shows.{ShowsMachine, Agree}
-use Rattle.slab_laws.specs.Steady.{IsSteady}
-use Rattle.slab_laws.specs.Changes.{IsReturned}
-use Rattle.slab_laws.specs.Room.{HasRoom}
-use Rattle.slab_laws.specs.Laws.{ReapedShows}
-use Rattle.slab_laws.proofs.Lookups.{some_none}
+use Rattle.slab_tables.specs.Content.{Content, IsSlabs, layout_numbers}
+use Rattle.parts_laws.specs.Shows.{ShowsMachine, Agree}
+use Rattle.parts_laws.specs.Steady.{IsSteady}
+use Rattle.parts_laws.specs.Changes.{IsReturned}
+use Rattle.parts_laws.specs.Room.{HasRoom}
+use Rattle.parts_laws.proofs.Lookups.{some_none}
 use Rattle.slab_core.specs.Calls.{idle_at}
-use Rattle.slab_core.specs.Room.{HasFree}
+use Rattle.slab_core.specs.Room.{HasFreeBlock}
 use Rattle.slab_core.proofs.RoomFrames.{idle_begins}
 use Rattle.slab_core.proofs.ReserveOne.{vacant_free}
 use Rattle.slab_core.proofs.ReturnMany.{idle_empty}
@@ -42,19 +41,19 @@ module _ (order k : ℕ) (m : Machine) where
   no_choice None e = refl
   no_choice (Some f) e = absurd (false≢true e)
 
-  module _ (reaps : AllocReaps) (fits : k ≤ order) where
+  module _ (fits : k ≤ order) where
     pub found_step : (f : ℕ) → Some f ≡ choice order m k → (alloc_step order k m).machine ≡ with_block (block f k) m
-    found_step f e = ap (λ z. z.machine) ((reaps order k m fits).found f (sym e))
+    found_step f e = ap (λ z. z.machine) ((alloc_reaps order k m fits).found f (sym e))
 
     pub reaped_step : (f : ℕ) → None ≡ choice order m k → Some f ≡ choice order (reaped m) k
         → (alloc_step order k m).machine ≡ with_block (block f k) (reaped m)
-    reaped_step f none e = ap (λ z. z.machine) ((reaps order k m fits).reaps f (sym none) (sym e))
+    reaped_step f none e = ap (λ z. z.machine) ((alloc_reaps order k m fits).reaps f (sym none) (sym e))
 
     pub refused_step : None ≡ choice order m k → false ≡ is_some (choice order (reaped m) k) → (alloc_step order k m).machine ≡ m
-    refused_step none still = ap (λ z. z.machine) ((reaps order k m fits).stays (sym none) (no_choice (choice order (reaped m) k) still))
+    refused_step none still = ap (λ z. z.machine) ((alloc_reaps order k m fits).stays (sym none) (no_choice (choice order (reaped m) k) still))
 
 -- what is free is room
-pub free_room : (r : spaces.Content) (b : buddies.Content) (s : Content) (t k : ℕ) → Agree r b s → HasFree b t k → HasRoom r b s t k
+pub free_room : (r : spaces.Content) (b : buddies.Content) (s : Content) (t k : ℕ) → Agree r b s → HasFreeBlock b t k → HasRoom r b s t k
 free_room r b s t k a h =
     let out = reserved_is_untaken b.top (buddies.is_held (buddies.holding_of t b)) (buddies.taken_of (buddies.holding_of t b)) h.found.first h.found.order k h.free h.enough in
     record {
@@ -73,7 +72,7 @@ is_there (Some f) P some = tt
 module _ (r r' : spaces.Content) (b b' : buddies.Content) (s s' : Content) (t k : ℕ) (st : IsSteady r b s t)
     (gone : IsReturned r r' b b' s s' t (idle_at (λ i. true) r s t)) where
   -- room is free now
-  pub room_free : Agree r' b' s' → HasRoom r b s t k → HasFree b' t k
+  pub room_free : Agree r' b' s' → HasRoom r b s t k → HasFreeBlock b' t k
   room_free a' room =
       let order : b'.top ≡ s.top = a'.order ∙ gone.top in
       vacant_free b' t room.first k (record {
@@ -92,7 +91,7 @@ module _ (r r' : spaces.Content) (b b' : buddies.Content) (s s' : Content) (t k 
           ap (λ v. cond v None (buddies.taken_of (buddies.holding_of t b) g)) (sym is) ∙ sym (gone.taken g) ∙ e in
           let i = room.idle x has (g, j, was, there) in
           let same : g ≡ i.first =
-          st.sound.apart g j i.first (numbers i.cache).order x was (st.stands i.number i.first i.node i.cache i.slab).taken there i.within in
+          st.sound.apart g j i.first (layout_numbers i.cache).order x was (st.stands i.number i.first i.node i.cache i.slab).taken there i.within in
           false≢true (sym is ∙ ap (idle_at (λ y. true) r s t) same ∙ idle_begins r s t x i)
 
   -- what a block reserved then is to the request
@@ -101,19 +100,19 @@ module _ (r r' : spaces.Content) (b b' : buddies.Content) (s s' : Content) (t k 
     pub answer : (m : Machine) → ShowsMachine r b s t m → o ≡ choice_by_need s.top k m
     pub shows : (m : Machine) → ShowsMachine r b s t m → ShowsMachine r' b'' s' t (alloc_step s.top k m).machine
 
-  pub served_then : IsSlabs s → Agree r b s → Agree r' b' s' → k ≤ s.top → AllocReaps → ReapedShows → HasRoom r b s t k
+  pub served_then : IsSlabs s → Agree r b s → Agree r' b' s' → k ≤ s.top → HasRoom r b s t k
       → ((m : Machine) → ShowsMachine r b s t m → None ≡ choice s.top m k) → (b'' : buddies.Content) (o : Option ℕ)
       → ((m : Machine) → ShowsMachine r' b' s' t m → o ≡ choice s'.top m k)
       → IfSome o (λ f. (m : Machine) → ShowsMachine r' b' s' t m → ShowsMachine r' b'' s' t (with_block (block f k) m))
-      → (IsSome o ↔ HasFree b' t k) → IsServedThen b'' o
-  served_then w a a' fits reaps law room none b'' o answer shows free = record {
+      → (IsSome o ↔ HasFreeBlock b' t k) → IsServedThen b'' o
+  served_then w a a' fits room none b'' o answer shows free = record {
     some = free.1 (room_free a' room);
     answer = λ m h. choice_then m h ∙ sym (next_choice s.top k m (none m h));
     shows = λ m h. go o (free.1 (room_free a' room)) shows m h (choice_then m h);
   }
     where
       reaped_then : (m : Machine) → ShowsMachine r b s t m → ShowsMachine r' b' s' t (reaped m)
-      reaped_then m h = law r r' b b' s s' t (idle_at (λ i. true) r s t) m gone st h (idle_empty r b s t m w a h)
+      reaped_then m h = reaped_shows r r' b b' s s' t (idle_at (λ i. true) r s t) m gone st h (idle_empty r b s t m w a h)
 
       choice_then : (m : Machine) → ShowsMachine r b s t m → o ≡ choice s.top (reaped m) k
       choice_then m h = answer (reaped m) (reaped_then m h) ∙ ap (λ top. choice top (reaped m) k) gone.top
@@ -123,4 +122,4 @@ module _ (r r' : spaces.Content) (b b' : buddies.Content) (s s' : Content) (t k 
           → (m : Machine) → ShowsMachine r b s t m → p ≡ choice s.top (reaped m) k → ShowsMachine r' b'' s' t (alloc_step s.top k m).machine
       go None some after m h is = absurd (false≢true some)
       go (Some f) some after m h is =
-          subst (ShowsMachine r' b'' s' t) (sym (reaped_step s.top k m reaps fits f (none m h) is)) (after (reaped m) (reaped_then m h))
+          subst (ShowsMachine r' b'' s' t) (sym (reaped_step s.top k m fits f (none m h) is)) (after (reaped m) (reaped_then m h))

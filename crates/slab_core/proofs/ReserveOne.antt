@@ -6,9 +6,7 @@ use Rattle.std.proofs.lemmas.List.{length-set}
 use Rattle.std.proofs.lemmas.Nat.{pow_pos}
 use Rattle.std.proofs.Math.Nat.{mul-le-mul_right, lt-div-mul-add}
 use Rattle.model_core.specs.Blocks.{Block, block, HasFrame, IsAligned, IsTaken, IsChoice, IsWithout, with_taken}
-use Rattle.model_core.specs.BlockLaws.{ReservedIsUntaken}
 use Rattle.model_core.specs.Choice.{choose}
-use Rattle.model_core.specs.Laws.{ChoicesMeet}
 use Rattle.model_core.specs.Machine.{Machine, choice}
 use Rattle.model_core.specs.Operations.{with_block}
 use Rattle.model_core.specs.declared.limits.TheConstants.{MOST_CACHES}
@@ -17,22 +15,19 @@ use Rattle.model_core.proofs.Choosing.{choice_is_found}
 use Rattle.space_core.specs.Content as spaces
 use Rattle.buddy_core.specs.Content as buddies
 use Rattle.buddy_core.proofs.Holdings.{own_holding, other_holding, taken-with_block}
-use Rattle.slab_tables.specs.Content.{Content, numbers}
-use Rattle.slab_laws.specs.Shows.{ShowsMachine, IsAgreed, Agree}
-use Rattle.slab_laws.specs.Keeps.{Spares}
-use Rattle.slab_laws.specs.Steady.{IsSteady}
-use Rattle.slab_laws.specs.Laws.{TakenMeets, ReservedShows}
-use Rattle.slab_laws.proofs.Lookups.{some_none}
+use Rattle.slab_tables.specs.Content.{Content, layout_numbers}
+use Rattle.parts_laws.specs.Shows.{ShowsMachine, IsAgreed, Agree}
+use Rattle.parts_laws.specs.Keeps.{Spares}
+use Rattle.parts_laws.specs.Steady.{IsSteady}
+use Rattle.parts_laws.proofs.Lookups.{some_none}
 use Rattle.model_core.proofs.Vacant.{IsVacant, some_choice}
-use Rattle.slab_laws.proofs.Steady.{within}
-use Rattle.slab_core.specs.Room.{HasFree}
+use Rattle.parts_laws.proofs.Steady.{within}
+use Rattle.model_core.proofs.FreeBlocks.{reserved_is_untaken}
+use Rattle.parts_laws.proofs.Reserved.{reserved_shows}
+use Rattle.slab_core.specs.Room.{HasFreeBlock}
 use Rattle.slab_core.proofs.Building.{same_here}
-use Rattle.slab_core.proofs.GrowOne.{choice_some, choice_none}
+use Rattle.slab_core.proofs.GrowOne.{something, choice_some, choice_none}
 use Rattle.slab_core.proofs.ReturnMany.{spares_none}
-
-something : {A : Type 0} (o : Option A) → is_some o ≡ true → (x : A) × (o ≡ Some x)
-something None e = absurd (false≢true e)
-something (Some x) e = (x, refl)
 
 no_order : (o : Option ℕ) → ((k : ℕ) → o ≡ Some k → ⊥) → o ≡ None
 no_order None none = refl
@@ -51,12 +46,12 @@ module _ (b : buddies.Content) (t : ℕ) where
       let there = something (buddies.superblock_at (buddies.holding_of t b) u) e in within (buddies.holding_of t b).slots u there.0 there.1
 
   -- where a block is vacant, some free block is large enough
-  pub vacant_free : (f k : ℕ) → IsVacant b.top held taken f k → HasFree b t k
+  pub vacant_free : (f k : ℕ) → IsVacant b.top held taken f k → HasFreeBlock b t k
   vacant_free f k v =
       let slots : ℕ = length (buddies.holding_of t b).slots in
       go (choose b.top held taken slots k) (choice_is_found b.top held taken slots k held_within) (some_choice b.top held taken slots held_within f k v)
     where
-      go : (o : Option Block) → MatchOption o (IsWithout b.top held taken k) (IsChoice b.top held taken k) → is_some o ≡ true → HasFree b t k
+      go : (o : Option Block) → MatchOption o (IsWithout b.top held taken k) (IsChoice b.top held taken k) → is_some o ≡ true → HasFreeBlock b t k
       go None w e = absurd (false≢true e)
       go (Some z) is e = record { found = z; free = is.0; enough = is.1 }
 
@@ -64,9 +59,9 @@ module _ (r : spaces.Content) (b : buddies.Content) (s : Content) (t k : ℕ) (a
   known : t < length b.tenants
   known = subst (λ x. t < x) a.rows tenant
 
-  module _ (law : ReservedIsUntaken) (f j : ℕ) (chosen : IsChoice b.top (held b t) (taken b t) k (block f j)) where
+  module _ (f j : ℕ) (chosen : IsChoice b.top (held b t) (taken b t) k (block f j)) where
     out : IsAligned b.top (block f k) × ((x : ℕ) → HasFrame (block f k) x → (held b t (x / 2 ^ b.top) ≡ true) × (IsTaken (taken b t) x → ⊥))
-    out = law b.top (held b t) (taken b t) f j k chosen.0 chosen.1
+    out = reserved_is_untaken b.top (held b t) (taken b t) f j k chosen.0 chosen.1
 
     not_first : taken b t f ≡ None
     not_first = no_order (taken b t f) (λ g e. (out.1 f (has_first (block f k))).1 (f, g, e, has_first (block f g)))
@@ -124,7 +119,7 @@ module _ (r : spaces.Content) (b : buddies.Content) (s : Content) (t k : ℕ) (a
               let g : IsAgreed r b s node head key cache = a.slabs node head key cache placed cached in
               record {
                 under = g.under;
-                taken = stays (head / 3 / MOST_CACHES) key (numbers cache).order g.taken;
+                taken = stays (head / 3 / MOST_CACHES) key (layout_numbers cache).order g.taken;
                 counted = g.counted;
                 rest = g.rest;
               };
@@ -147,9 +142,9 @@ module _ (r : spaces.Content) (b : buddies.Content) (s : Content) (t k : ℕ) (a
       pub spares : Spares t r r b b' s s
       pub agree : Agree r b' s
 
-    pub is_reserved : ReservedShows → IsSteady r b s t → (b' : buddies.Content) → b' ≡ reserved → IsReserved b'
-    is_reserved shows st b' e = subst IsReserved (sym e) (record {
-      shows = λ m h. shows r b reserved s t f k m st not_first taken_now h;
+    pub is_reserved : IsSteady r b s t → (b' : buddies.Content) → b' ≡ reserved → IsReserved b'
+    is_reserved st b' e = subst IsReserved (sym e) (record {
+      shows = λ m h. reserved_shows r b reserved s t f k m st not_first taken_now h;
       spares = one_spares;
       agree = one_agrees;
     })
@@ -158,26 +153,26 @@ module _ (r : spaces.Content) (b : buddies.Content) (s : Content) (t k : ℕ) (a
   pub record IsServed (b' : buddies.Content) (o : Option ℕ) : Type 0 where
     pub answer : (m : Machine) → ShowsMachine r b s t m → o ≡ choice s.top m k
     pub shows : IfSome o (λ f. (m : Machine) → ShowsMachine r b s t m → ShowsMachine r b' s t (with_block (block f k) m))
-    pub free : IsSome o ↔ HasFree b t k
+    pub free : IsSome o ↔ HasFreeBlock b t k
     pub spares : Spares t r r b b' s s
     pub agree : Agree r b' s
 
-  pub is_served : ReservedIsUntaken → ChoicesMeet → TakenMeets → ReservedShows → IsSteady r b s t → (b' : buddies.Content) (o : Option ℕ)
+  pub is_served : IsSteady r b s t → (b' : buddies.Content) (o : Option ℕ)
       → IfNone o (IsWithout b.top (held b t) (taken b t) k × (b' ≡ b))
       → IfSome o (λ f. (j : ℕ) × (IsChoice b.top (held b t) (taken b t) k (block f j)
       × (b' ≡ buddies.with_holding t (buddies.with_block f k (buddies.holding_of t b)) b)))
       → IsServed b' o
-  is_served law meet taken_meets shows st b' None none some = record {
-    answer = λ m h. sym (choice_none r b s t k a meet taken_meets st m h none.0);
+  is_served st b' None none some = record {
+    answer = λ m h. sym (choice_none r b s t k a st m h none.0);
     shows = tt;
     free = (λ e. absurd (false≢true e), λ h. absurd (none.0 h.found h.free h.enough));
     spares = subst (λ x. Spares t r r b x s s) (sym none.1) (spares_none r b s t);
     agree = subst (λ x. Agree r x s) (sym none.1) a;
   }
-  is_served law meet taken_meets shows st b' (Some f) none some =
-      let is : IsReserved law f some.0 some.1.0 b' = is_reserved law f some.0 some.1.0 shows st b' some.1.1 in
+  is_served st b' (Some f) none some =
+      let is : IsReserved f some.0 some.1.0 b' = is_reserved f some.0 some.1.0 st b' some.1.1 in
       record {
-        answer = λ m h. sym (choice_some r b s t k a meet taken_meets st m h f some.0 some.1.0);
+        answer = λ m h. sym (choice_some r b s t k a st m h f some.0 some.1.0);
         shows = is.shows;
         free = (λ e. record { found = block f some.0; free = some.1.0.0; enough = some.1.0.1 }, λ h. refl);
         spares = is.spares;

@@ -17,17 +17,17 @@ use Rattle.klist_core.specs.Places.{place_at, IsEmpty}
 use Rattle.space_core.specs.Content as spaces
 use Rattle.buddy_core.specs.Content as buddies
 use Rattle.slab_tables.specs.declared.cache.Cache as own
-use Rattle.slab_tables.specs.Content.{Content, IsSlabs, IsPlaced, kept_at, cache_at, index_of_cache, head_of}
+use Rattle.slab_tables.specs.Content.{Content, IsSlabs, IsPlacedIn, kept_at, cache_at, index_of_cache, head_of}
 use Rattle.slab_tables.specs.Changes.{with_cache}
-use Rattle.slab_laws.specs.Shows.{node_of, ShowsMachine, Agree, bare, without_slabs}
-use Rattle.slab_laws.specs.Keeps.{Spares}
-use Rattle.slab_laws.specs.Steady.{IsSteady}
-use Rattle.slab_laws.specs.Changes.{IsReturned, kept_slabs, gone_blocks, returned}
-use Rattle.slab_laws.specs.Laws.{ReturnedShows}
-use Rattle.slab_laws.proofs.Lookups.{some_none, some_same, at, at_here, at_past, in_found, found_key, found_mapped, found_kept}
-use Rattle.slab_laws.proofs.Facts.{is_not, cache_shown, slab_of_machine, none_mapped}
-use Rattle.slab_laws.proofs.Steady.{in_table, placed_as}
-use Rattle.slab_laws.proofs.ByKind.{to_list, from_list}
+use Rattle.parts_laws.specs.Shows.{node_of, ShowsMachine, Agree, bare, without_slabs}
+use Rattle.parts_laws.specs.Keeps.{Spares}
+use Rattle.parts_laws.specs.Steady.{IsSteady}
+use Rattle.parts_laws.specs.Changes.{IsReturned, kept_slabs, gone_blocks, returned}
+use Rattle.parts_laws.proofs.Lookups.{some_none, some_same, at, at_here, at_past, in_found, found_key, found_mapped, found_kept}
+use Rattle.parts_laws.proofs.Facts.{is_not, cache_shown, slab_of_machine, none_mapped}
+use Rattle.parts_laws.proofs.Steady.{in_table, placed_as}
+use Rattle.parts_laws.proofs.ByKind.{to_list, from_list}
+use Rattle.parts_laws.proofs.Returned.{returned_shows}
 use Rattle.slab_core.specs.Calls.{idle_at, empty_frames_in, IsUnused}
 use Rattle.slab_core.proofs.BuildCache.{IsBare, cache_others, cache_shows}
 use Rattle.slab_core.proofs.ReturnMany.{this, idle_tells, idle_is, idle_empty}
@@ -74,7 +74,7 @@ bare_of s t c unused empty n head key placed index =
     (λ rest. ⊎_elim (λ partial. unused.1 n key (at_kind 1 partial)) (λ last. empty n key (at_kind 2 (omega arith))) (cases_eq (head % 3) 1))
     (cases_eq (head % 3) 0)
 
-pub unplaced : (s : Content) (t c : ℕ) → IsBare s (index_of_cache t c) → (first node : ℕ) → IsPlaced s t c first node → ⊥
+pub unplaced : (s : Content) (t c : ℕ) → IsBare s (index_of_cache t c) → (first node : ℕ) → IsPlacedIn s t c first node → ⊥
 unplaced s t c none first node p =
     let kind = p.few in
     let index : head_of t c p.kind / 3 ≡ index_of_cache t c = omega arith in
@@ -150,7 +150,7 @@ module _ (r : spaces.Content) (b : buddies.Content) (s : Content) (t c : ℕ) (c
   gone = idle_at (this t c) r s t
 
   module _ (unused : IsUnused s t c) (r' : spaces.Content) (b' : buddies.Content) (s' : Content)
-      (none : IsBare s' (index_of_cache t c)) (within : index_of_cache t c < length s'.caches) (shows : ReturnedShows) (k : IsReturned r r' b b' s s' t gone)
+      (none : IsBare s' (index_of_cache t c)) (within : index_of_cache t c < length s'.caches) (k : IsReturned r r' b b' s s' t gone)
       (m : Machine) (h : ShowsMachine r b s t m) where
     pub record IsDestroyed (frames : ℕ) : Type 0 where
       pub answer : Ok frames ≡ (destroy_step c m).answer
@@ -220,7 +220,7 @@ module _ (r : spaces.Content) (b : buddies.Content) (s : Content) (t c : ℕ) (c
       destroyed_shows =
           subst (λ bs. ShowsMachine r' b' (with_cache s' t c None) t (record m { caches = left; bytes = zeroed bs m.bytes })) blocks_same
           (cache_shows s' t c None (in_table s t c cache cached).number within none r' b' (returned gone m)
-          (shows r r' b b' s s' t gone m k st h) left
+          (returned_shows r r' b b' s s' t gone m k st h) left
           (filter_rises (λ z. z.number) (λ z. not (eqb z.number x.number)) 0 m.caches h.caches_rise)
           (ap (option_map without_slabs) left_here)
           (λ z e. absurd (some_none (sym e ∙ left_here)))

@@ -10,19 +10,19 @@ use Rattle.model_core.specs.CacheOperations.{frames_of}
 use Rattle.model_core.specs.WellFormed.{RisesFrom}
 use Rattle.model_core.proofs.Lists.{IsIn}
 use Rattle.model_core.specs.Blocks.{Block}
-use Rattle.slab_laws.proofs.Lookups.{at, at_here, at_past, in_found}
+use Rattle.parts_laws.proofs.Lookups.{at, at_here, at_past, in_found}
 use Rattle.model_core.specs.declared.limits.TheConstants.{MOST_CACHES}
-use Rattle.klist_core.specs.Places.{IsTable}
+use Rattle.klist_core.specs.Places.{ArePlaces}
 use Rattle.klist_core.specs.Lists.{keys_of}
 use Rattle.space_core.specs.Content as spaces
 use Rattle.buddy_core.specs.Content as buddies
 use Rattle.slab_tables.specs.declared.cache.Cache as own
-use Rattle.slab_tables.specs.Content.{Content, IsSlabs, cache_at, head_of, numbers}
-use Rattle.slab_laws.specs.Shows.{ShowsMachine, Agree, bare}
-use Rattle.slab_laws.specs.Steady.{IsSteady}
-use Rattle.slab_laws.specs.Laws.{KindsHold}
-use Rattle.slab_laws.proofs.Facts.{cache_shown, cache_kept, none_mapped}
-use Rattle.slab_laws.proofs.Steady.{in_table}
+use Rattle.slab_tables.specs.Content.{Content, IsSlabs, cache_at, head_of, layout_numbers}
+use Rattle.parts_laws.specs.Shows.{ShowsMachine, Agree, bare}
+use Rattle.parts_laws.specs.Steady.{IsSteady}
+use Rattle.parts_laws.proofs.Facts.{cache_shown, cache_kept, none_mapped}
+use Rattle.parts_laws.proofs.Steady.{in_table}
+use Rattle.parts_laws.proofs.KindLists.{kinds_hold}
 use Rattle.slab_core.specs.Calls.{empty_frames_in}
 
 pub frames_append : (f : Cache → List Block) (x : Cache) (xs : List Cache)
@@ -97,7 +97,7 @@ none_first (x ∷ xs) = ap (λ v. cond v (x ∷ below 0 xs) (below 0 xs)) (le-lt
 pub frames_first : (xs : List Cache) → frames_of (flat_map empty_blocks (below 0 xs)) ≡ 0
 frames_first xs = ap (λ ys. frames_of (flat_map empty_blocks ys)) (none_first xs)
 
--- all numbers are below
+-- all layout_numbers are below
 pub below_all : (c : ℕ) (xs : List Cache) → ((x : Cache) → IsIn x xs → x.number < c) → below c xs ≡ xs
 below_all c [] all = refl
 below_all c (x ∷ xs) all =
@@ -112,22 +112,18 @@ frames_few count order few small =
     (omega arith, omega arith)
 
 -- the list of a cache's empty slabs counts them
-pub frames_counted : (s : Content) (t c count : ℕ) (cache : own.Cache) → IsSlabs s → IsTable s.lists → KindsHold → cache_at s t c ≡ Some cache
+pub frames_counted : (s : Content) (t c count : ℕ) (cache : own.Cache) → IsSlabs s → ArePlaces s.lists → cache_at s t c ≡ Some cache
     → count ≡ length (keys_of s.lists.places (head_of t c 2)) → (r : spaces.Content) (b : buddies.Content) (m : Machine)
-    → Agree r b s → IsSteady r b s t → ShowsMachine r b s t m → empty_frames_in (cache_of m c) ≡ count * 2 ^ (numbers cache).order
-frames_counted s t c count cache w table hold cached counted r b m a st h =
+    → Agree r b s → IsSteady r b s t → ShowsMachine r b s t m → empty_frames_in (cache_of m c) ≡ count * 2 ^ (layout_numbers cache).order
+frames_counted s t c count cache w table cached counted r b m a st h =
     let there = cache_shown r b s t m h c cache cached in
     let x : Cache = there.shown in
-    let keys = hold s w table r b t c 2 m x a st h there.cached (omega arith) in
+    let keys = kinds_hold s w table r b t c 2 m x a st h there.cached (omega arith) in
     let long : count ≡ length (filter is_empty x.slabs) = counted ∙ ap length keys ∙ length-map (filter is_empty x.slabs) (λ y. y.first) in
     ap empty_frames_in there.cached ∙ frames_each x (filter is_empty x.slabs)
     ∙ ap (λ n. n * 2 ^ (layout x).order) (sym long) ∙ ap (λ l. count * 2 ^ l.order) there.layout
 
-pub none_counted : (s : Content) (t c : ℕ) → cache_at s t c ≡ None → (r : spaces.Content) (b : buddies.Content) (m : Machine)
-    → ShowsMachine r b s t m → empty_frames_in (cache_of m c) ≡ 0
-none_counted s t c vacant r b m h = ap empty_frames_in (none_mapped (cache_of m c) (h.caches c ∙ ap (option_map (bare c)) vacant))
-
--- the tenant's caches have numbers below the most
+-- the tenant's caches have layout_numbers below the most
 pub numbers_below : (r : spaces.Content) (b : buddies.Content) (s : Content) (t : ℕ) (m : Machine) → ShowsMachine r b s t m
     → (x : Cache) → IsIn x m.caches → x.number < MOST_CACHES
 numbers_below r b s t m h x i =

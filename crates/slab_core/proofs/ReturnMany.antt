@@ -8,25 +8,28 @@ use Rattle.klist_core.specs.Places.{place_at, IsEmpty}
 use Rattle.space_core.specs.Content as spaces
 use Rattle.buddy_core.specs.Content as buddies
 use Rattle.slab_tables.specs.declared.cache.Cache as own
-use Rattle.slab_tables.specs.Content.{Content, IsSlabs, kept_at, cache_in, cache_at, index_of_cache, head_of, kind_of, numbers}
+use Rattle.slab_tables.specs.Content.{Content, IsSlabs, kept_at, cache_in, cache_at, index_of_cache, head_of, kind_of, layout_numbers}
 use Rattle.slab_tables.specs.Changes.{without_slab}
 use Rattle.slab_tables.proofs.Reading.{kind_fresh}
-use Rattle.slab_laws.specs.Shows.{node_of, live_of, IsSlab, ShowsMachine, Agree}
-use Rattle.slab_laws.specs.Keeps.{Keeps, Spares}
-use Rattle.slab_laws.specs.Steady.{IsSteady}
-use Rattle.slab_laws.specs.Changes.{IsReturned}
-use Rattle.slab_laws.proofs.Lookups.{some_none, some_same}
-use Rattle.slab_laws.proofs.Facts.{is_not, slab_of_machine}
-use Rattle.slab_laws.proofs.Flags.{any_counts}
+use Rattle.parts_laws.specs.Shows.{node_of, live_of, IsSlab, ShowsMachine, Agree}
+use Rattle.parts_laws.specs.Keeps.{Keeps, Spares}
+use Rattle.parts_laws.specs.Steady.{IsSteady}
+use Rattle.model_core.specs.Owners.{owned_by}
+use Rattle.space_core.specs.Laws.{IsOneToOne}
+use Rattle.space_core.proofs.Reading.{same_twice}
+use Rattle.parts_laws.specs.Changes.{IsReturned}
+use Rattle.parts_laws.proofs.Lookups.{some_none, some_same}
+use Rattle.parts_laws.proofs.Facts.{is_not, slab_of_machine}
+use Rattle.parts_laws.proofs.Flags.{any_counts}
 use Rattle.model_core.specs.Machine.{Slab, Cache, Machine}
 use Rattle.model_core.specs.Slabs.{cache_of, slab_of, is_empty}
-use Rattle.slab_laws.proofs.Returned.{node_same}
-use Rattle.slab_laws.proofs.Untouched
-use Rattle.slab_laws.proofs.Steady.{IsInTable, in_table, placed_as, slab_from, counted}
-use Rattle.slab_laws.proofs.Twice.{twice}
+use Rattle.parts_laws.proofs.Returned.{node_same}
+use Rattle.parts_laws.proofs.Untouched
+use Rattle.parts_laws.proofs.Steady.{IsInTable, in_table, placed_as, slab_from, slab_listed, counted}
+use Rattle.parts_laws.proofs.Twice.{twice}
 use Rattle.slab_core.specs.Calls.{is_of_these, is_idle, idle_at}
 use Rattle.slab_core.proofs.BuildCreate.{bare_without}
-use Rattle.slab_core.proofs.Building.{same_twice, same_here, banks_twice, spare_twice}
+use Rattle.slab_core.proofs.Building.{same_here, banks_twice, spare_twice}
 
 or_cases : (v w : Bool) → (v || w) ≡ true → (v ≡ true) ⊎ (w ≡ true)
 or_cases true w e = inl refl
@@ -84,6 +87,7 @@ pub record IsGiving (these : ℕ → Bool) (r r' : spaces.Content) (b b' : buddi
   pub only : (f : ℕ) → gone f ≡ true → idle_at these r s t f ≡ true
   pub spares : Spares t r r' b b' s s'
   pub agree : Agree r' b' s'
+  pub tables : IsSlabs s'
 
 pub spares_none : (r : spaces.Content) (b : buddies.Content) (s : Content) (t : ℕ) → Spares t r r b b s s
 spares_none r b s t = record {
@@ -123,8 +127,8 @@ spares_twice r r' r'' b b' b'' s s' s'' t k k' = record {
       ∙ ap (λ x. record b { tenants = x }) (set-set b.tenants t (buddies.holding_of t b') (buddies.holding_of t b''));
 }
 
-pub giving_none : (these : ℕ → Bool) (r : spaces.Content) (b : buddies.Content) (s : Content) (t : ℕ) → Agree r b s → IsGiving these r r b b s s t
-giving_none these r b s t a = record {
+pub giving_none : (these : ℕ → Bool) (r : spaces.Content) (b : buddies.Content) (s : Content) (t : ℕ) → Agree r b s → IsSlabs s → IsGiving these r r b b s s t
+giving_none these r b s t a w = record {
   gone = λ f. false;
   returned = record {
     top = refl;
@@ -140,6 +144,7 @@ giving_none these r b s t a = record {
   only = λ f e. absurd (false≢true e);
   spares = spares_none r b s t;
   agree = a;
+  tables = w;
 }
 
 module _ (these : ℕ → Bool) (r r' : spaces.Content) (b b' : buddies.Content) (s s' : Content) (t : ℕ) (st : IsSteady r b s t)
@@ -165,14 +170,26 @@ module _ (these : ℕ → Bool) (r r' : spaces.Content) (b b' : buddies.Content)
       (ap (λ x. x.live) (sym (k.kept f i.node under)) ∙ i.empty)
 
   pub giving_more : (r'' : spaces.Content) (b'' : buddies.Content) (s'' : Content) (gone' : ℕ → Bool) → IsReturned r' r'' b' b'' s' s'' t gone'
-      → ((f : ℕ) → gone' f ≡ true → idle_at these r' s' t f ≡ true) → Spares t r' r'' b' b'' s' s'' → Agree r'' b'' s''
+      → ((f : ℕ) → gone' f ≡ true → idle_at these r' s' t f ≡ true) → Spares t r' r'' b' b'' s' s'' → Agree r'' b'' s'' → IsSlabs s''
       → IsGiving these r r'' b b'' s s'' t
-  giving_more r'' b'' s'' gone' k' only' spares' agree' = record {
+  giving_more r'' b'' s'' gone' k' only' spares' agree' tables' = record {
     gone = λ f. g.gone f || gone' f;
     returned = twice r r' r'' b b' b'' s s' s'' t g.gone gone' st k k';
     only = λ f e. ⊎_elim (g.only f) (λ h. was_idle f (only' f h)) (or_cases (g.gone f) (gone' f) e);
     spares = spares_twice r r' r'' b b' b'' s s' s'' t g.spares spares';
     agree = agree';
+    tables = tables';
+  }
+
+  -- the superblocks stand under the same slots as before
+  pub still_apart : IsOneToOne r → IsOneToOne r'
+  still_apart apart = record {
+    superblocks = λ u v m n e e'. apart.superblocks u v m n
+        (subst (λ (x : spaces.Content). spaces.owner_at x.owners m ≡ Some (owned_by u v)) g.spares.space e)
+        (subst (λ (x : spaces.Content). spaces.owner_at x.owners n ≡ Some (owned_by u v)) g.spares.space e');
+    slots = λ u v x y m e e'. apart.slots u v x y m
+        (subst (λ (z : spaces.Content). spaces.superblock_at z.slots u v ≡ Some m) g.spares.space e)
+        (subst (λ (z : spaces.Content). spaces.superblock_at z.slots x y ≡ Some m) g.spares.space e');
   }
 
   -- once none is idle any more, exactly those that were so are given back
@@ -224,7 +241,7 @@ module _ (r : spaces.Content) (b : buddies.Content) (s : Content) (t : ℕ) (w :
       subst (λ u. node_of s.top r.slots u first ≡ Some node) tenant (a.slabs node (head_of t c 2) first cache placed at).under in
       record {
         slab = slab_from r s t c first node (head_of t c 2) cache small index at under placed;
-        empty = kind_empty (numbers there.0).count (kept_at s.kept node).live (head_of t c 2 % 3) kind there.2.kind;
+        empty = kind_empty (layout_numbers there.0).count (kept_at s.kept node).live (head_of t c 2 % 3) kind there.2.kind;
       }
 
   -- what is idle stands in the list of its cache's empty slabs
@@ -235,14 +252,15 @@ module _ (r : spaces.Content) (b : buddies.Content) (s : Content) (t : ℕ) (w :
     pub one : these (index_of_cache t number) ≡ true
     pub placed : place_at s.lists.places node ≡ Some (head_of t number 2, f)
 
-  pub idle_listed : IsSteady r b s t → (these : ℕ → Bool) (f : ℕ) → idle_at these r s t f ≡ true → IsInEmpty these f
-  idle_listed st these f e =
+  pub idle_listed : ((f n head key : ℕ) → node_of s.top r.slots t f ≡ Some n → place_at s.lists.places n ≡ Some (head, key)
+      → (c : ℕ) × (cache : own.Cache) × IsSlab r s t c f n cache) → (these : ℕ → Bool) (f : ℕ) → idle_at these r s t f ≡ true → IsInEmpty these f
+  idle_listed listed these f e =
       let i = idle_tells these r s t f e in
-      let sl = st.listed f i.node i.head i.key i.under i.place in
+      let sl = listed f i.node i.head i.key i.under i.place in
       let p = placed_as r s t sl.0 f i.node sl.1 sl.2 in
       let there = w.standing i.node p.head f p.place in
-      let count : 0 < (numbers there.0).count = ((w.fits (p.head / 3) there.0 there.1).layout.fits 0).some in
-      let kind : p.head % 3 ≡ 2 = there.2.kind ∙ ap (kind_of (numbers there.0).count) i.empty ∙ kind_fresh (numbers there.0).count count in
+      let count : 0 < (layout_numbers there.0).count = ((w.fits (p.head / 3) there.0 there.1).layout.fits 0).some in
+      let kind : p.head % 3 ≡ 2 = there.2.kind ∙ ap (kind_of (layout_numbers there.0).count) i.empty ∙ kind_fresh (layout_numbers there.0).count count in
       let index : p.head / 3 ≡ index_of_cache t sl.0 = p.index in
       let is : p.head ≡ head_of t sl.0 2 = omega arith in
       let same : i.head ≡ p.head = ap (λ (q : ℕ × ℕ). q.0) (some_same (sym i.place ∙ p.place)) in
@@ -264,10 +282,10 @@ module _ (t c : ℕ) where
       idle_is (this t c) r s t f node p.head first (ap (node_of s.top r.slots t) (eqb-true f first e) ∙ q.under) p.place
       (eq-eqb (p.head / 3) (index_of_cache t c) p.index) empty
 
-  pub none_idle : (r : spaces.Content) (b : buddies.Content) (s : Content) → IsSlabs s → Agree r b s → IsSteady r b s t
+  pub none_idle : (r : spaces.Content) (b : buddies.Content) (s : Content) → IsSlabs s → Agree r b s → IsOneToOne r
       → c < MOST_CACHES → IsEmpty s.lists.places (head_of t c 2) → (f : ℕ) → idle_at (this t c) r s t f ≡ true → ⊥
-  none_idle r b s w a st small none f e =
-      let i = idle_listed r b s t w a st (this t c) f e in
+  none_idle r b s w a apart small none f e =
+      let i = idle_listed r b s t w a (λ g n head key. slab_listed r b s w a t g n head key apart) (this t c) f e in
       let index : index_of_cache t i.number ≡ index_of_cache t c = eqb-true (index_of_cache t i.number) (index_of_cache t c) i.one in
       let same : i.number ≡ c = omega arith in
       none i.node f (i.placed ∙ ap (λ (x : ℕ). Some (head_of t x 2, f)) same)
@@ -278,10 +296,10 @@ any_idle r s t c f e =
     let i = idle_tells (this t c) r s t f e in
     idle_is (λ x. true) r s t f i.node i.head i.key i.under i.place refl i.empty
 
-pub none_any : (r : spaces.Content) (b : buddies.Content) (s : Content) (t : ℕ) → IsSlabs s → Agree r b s → IsSteady r b s t
+pub none_any : (r : spaces.Content) (b : buddies.Content) (s : Content) (t : ℕ) → IsSlabs s → Agree r b s → IsOneToOne r
     → ((d : ℕ) → d < MOST_CACHES → IsEmpty s.lists.places (head_of t d 2)) → (f : ℕ) → idle_at (λ i. true) r s t f ≡ true → ⊥
-none_any r b s t w a st none f e =
-    let i = idle_listed r b s t w a st (λ x. true) f e in
+none_any r b s t w a apart none f e =
+    let i = idle_listed r b s t w a (λ g n head key. slab_listed r b s w a t g n head key apart) (λ x. true) f e in
     none i.number i.small i.node f i.placed
 
 -- where there is no cache, its list is empty
@@ -302,22 +320,22 @@ below_same r r' r'' b b' b'' s s' s'' t c er eb es g =
 
 pub below_next : (r r' r'' : spaces.Content) (b b' b'' : buddies.Content) (s s' s'' : Content) (t c : ℕ) → IsSteady r b s t
     → IsGivingBelow r r' b b' s s' t c → IsReturned r' r'' b' b'' s' s'' t (idle_at (this t c) r' s' t) → Spares t r' r'' b' b'' s' s''
-    → Agree r'' b'' s'' → IsEmpty s''.lists.places (head_of t c 2)
+    → Agree r'' b'' s'' → IsSlabs s'' → IsEmpty s''.lists.places (head_of t c 2)
     → ((head : ℕ) → IsEmpty s'.lists.places head → IsEmpty s''.lists.places head) → IsGivingBelow r r'' b b'' s s'' t (c + 1)
-below_next r r' r'' b b' b'' s s' s'' t c st g k spares agree none less = record {
-  giving = giving_more (λ i. true) r r' b b' s s' t st g.giving r'' b'' s'' (idle_at (this t c) r' s' t) k (any_idle r' s' t c) spares agree;
+below_next r r' r'' b b' b'' s s' s'' t c st g k spares agree tables none less = record {
+  giving = giving_more (λ i. true) r r' b b' s s' t st g.giving r'' b'' s'' (idle_at (this t c) r' s' t) k (any_idle r' s' t c) spares agree tables;
   lists = λ d small. ⊎_elim (λ lower. less (head_of t d 2) (g.lists d lower))
       (λ high. let same : d ≡ c = omega arith in subst (λ x. IsEmpty s''.lists.places (head_of t x 2)) (sym same) none) (cases_lt d c);
 }
 
 -- there is no cache of this number
 pub below_none : (r r' : spaces.Content) (b b' : buddies.Content) (s s' : Content) (t c : ℕ) → IsGivingBelow r r' b b' s s' t c
-    → IsSlabs s' → c < MOST_CACHES → cache_at s' t c ≡ None → IsGivingBelow r r' b b' s s' t (c + 1)
-below_none r r' b b' s s' t c g w small vacant = record {
+    → c < MOST_CACHES → cache_at s' t c ≡ None → IsGivingBelow r r' b b' s s' t (c + 1)
+below_none r r' b b' s s' t c g small vacant = record {
   giving = g.giving;
   lists = λ d less. ⊎_elim (g.lists d)
       (λ high. let same : d ≡ c = omega arith in
-      subst (λ x. IsEmpty s'.lists.places (head_of t x 2)) (sym same) (no_cache s' t c w small vacant)) (cases_lt d c);
+      subst (λ x. IsEmpty s'.lists.places (head_of t x 2)) (sym same) (no_cache s' t c g.giving.tables small vacant)) (cases_lt d c);
 }
 
 -- what is idle is what is empty in the machine

@@ -17,15 +17,15 @@ use Rattle.space_core.proofs.Ranges.{range_held}
 use Rattle.buddy_core.specs.Content as buddies
 use Rattle.buddy_core.proofs.Holdings.{own_holding, taken-without_block}
 use Rattle.slab_tables.specs.declared.cache.Cache as own
-use Rattle.slab_tables.specs.Content.{Content, IsSlabs, kept_at, cache_in, index_of_cache, numbers}
+use Rattle.slab_tables.specs.Content.{Content, IsSlabs, kept_at, cache_in, index_of_cache, layout_numbers}
 use Rattle.slab_tables.specs.Changes.{without_slab}
-use Rattle.slab_laws.specs.Shows.{node_of, is_of_cache, has_slab, is_inside, IsSlab, IsAgreed, Agree, byte_or_zero, is_live}
-use Rattle.slab_laws.specs.Keeps.{Spares}
-use Rattle.slab_laws.specs.Steady.{IsSteady}
-use Rattle.slab_laws.specs.Changes.{IsReturned}
-use Rattle.slab_laws.proofs.Lookups.{some_none, some_same}
-use Rattle.slab_laws.proofs.Facts.{has_it, one_slab, one_node, one_stays, record_inside}
-use Rattle.slab_laws.proofs.Returned.{not_gone}
+use Rattle.parts_laws.specs.Shows.{node_of, is_of_cache, has_slab, is_inside, IsSlab, IsAgreed, Agree, byte_or_zero, is_live}
+use Rattle.parts_laws.specs.Keeps.{Spares}
+use Rattle.parts_laws.specs.Steady.{IsSteady}
+use Rattle.parts_laws.specs.Changes.{IsReturned}
+use Rattle.parts_laws.proofs.Lookups.{some_none, some_same}
+use Rattle.parts_laws.proofs.Facts.{has_it, one_slab, one_node, one_stays, record_inside}
+use Rattle.parts_laws.proofs.Returned.{not_gone}
 use Rattle.slab_core.proofs.Building.{in_range, out_of_range, inside_from}
 use Rattle.slab_core.proofs.BuildParts.{IsLocal, agreed_still, spares_of, agree_of}
 
@@ -40,9 +40,9 @@ len_is order few = let power : 2 ^ order ≤ 2 ^ 3 = pow-le-pow_right (omega ari
 module _ (r : spaces.Content) (b : buddies.Content) (s : Content) (t c f n : ℕ) (cache : own.Cache) (a : Agree r b s) (st : IsSteady r b s t)
     (q : IsSlab r s t c f n cache) where
   -- the slab lies in one slot that the tenant holds
-  pub slab_held : IsSome (home_of r t (4096 * f) (4096 * 2 ^ (numbers cache).order))
+  pub slab_held : IsSome (home_of r t (4096 * f) (4096 * 2 ^ (layout_numbers cache).order))
   slab_held =
-      let k : ℕ = (numbers cache).order in
+      let k : ℕ = (layout_numbers cache).order in
       let placed = st.sound.placed f k (st.stands c f n cache q).taken in
       let some : 0 < 2 ^ k = pow_pos k in
       range_held r t s.top f k (4096 * f) (4096 * 2 ^ k) a.unit placed.0.0 placed.0.1 placed.1 (omega arith) (omega arith) (omega arith)
@@ -55,7 +55,7 @@ module _ (r : spaces.Content) (b : buddies.Content) (s : Content) (t c f n : ℕ
 
   module _ (w : IsSlabs s) (laws : SpaceLaws r) (tenant : t < length b.tenants) where
     abbrev bytes : ℕ
-    bytes = 4096 * 2 ^ (numbers cache).order
+    bytes = 4096 * 2 ^ (layout_numbers cache).order
 
     abbrev pub zeroed_space : spaces.Content
     zeroed_space = with_window r t (4096 * f) bytes (replicate bytes 0)
@@ -74,11 +74,11 @@ module _ (r : spaces.Content) (b : buddies.Content) (s : Content) (t c f n : ℕ
         ap (λ h. buddies.taken_of h g) holding_now ∙ ap (λ (taken : ℕ → Option ℕ). taken g) (taken-without_block (buddies.holding_of t b) f)
 
     within : (place : ℕ) → 4096 * f ≤ place → place < 4096 * f + bytes → is_inside place f cache ≡ true
-    within place low high = in_block-from place (block f (numbers cache).order) (inside_from place f (numbers cache).order low high)
+    within place low high = in_block-from place (block f (layout_numbers cache).order) (inside_from place f (layout_numbers cache).order low high)
 
     zero_within : (place : ℕ) → is_inside place f cache ≡ true → byte_at zeroed_space t place ≡ Some 0
     zero_within place inside =
-        let frame : HasFrame (block f (numbers cache).order) (place / 4096) = in_block-true place (block f (numbers cache).order) inside in
+        let frame : HasFrame (block f (layout_numbers cache).order) (place / 4096) = in_block-true place (block f (layout_numbers cache).order) inside in
         let low : 4096 * f ≤ place = omega (arith, frame.0) in
         let high : place < 4096 * f + bytes = omega (arith, frame.1) in
         in_range r t (4096 * f) bytes (replicate bytes 0) laws.own_bytes slab_held sized place low high
@@ -150,7 +150,7 @@ module _ (r : spaces.Content) (b : buddies.Content) (s : Content) (t c f n : ℕ
         (taken_now key ∙ ap (λ v. cond v None (buddies.taken_of (buddies.holding_of t b) key)) stand))
         refl
         (λ i less. subst (λ u. is_live zeroed_space u other (kept_at s.kept x) key i ≡ is_live r u other (kept_at s.kept x) key i) (sym e)
-        (one_stays r b s t st zeroed_space (kept_at s.kept x) key i other
+        (one_stays r zeroed_space t other (kept_at s.kept x) key i
         (λ small j low. ap byte_or_zero (one_returned.bytes (4096 * key + 4064 + j)
         (not_gone r zeroed_space b released s (without_slab s n) t (λ y. eqb y f) one_returned st (4096 * key + 4064 + j) there.0 key x there.1 p stand
         (record_inside r b s t st there.0 key x j there.1 p low)))) less))
@@ -170,12 +170,12 @@ module _ (r : spaces.Content) (b : buddies.Content) (s : Content) (t c f n : ℕ
       pub spares : Spares t r r' b b' s s'
       pub agree : Agree r' b' s'
 
-    pub given_back : (r' : spaces.Content) (b' : buddies.Content) (s' : Content) (order len : ℕ) → order ≡ (numbers cache).order
+    pub given_back : (r' : spaces.Content) (b' : buddies.Content) (s' : Content) (order len : ℕ) → order ≡ (layout_numbers cache).order
         → len ≡ 4096 * 2 ^ order % 4294967296 → r' ≡ with_window r t (4096 * f) len (replicate len 0)
         → (result : Option ℕ) → result ≡ buddies.taken_of (buddies.holding_of t b) f → OnSome result (b' ≡ released)
         → s' ≡ without_slab s n → IsGivenBack r' b' s'
     given_back r' b' s' order len same long zeroed result answer done forgotten =
-        let is_len : len ≡ bytes = long ∙ ap (λ k. 4096 * 2 ^ k % 4294967296) same ∙ len_is (numbers cache).order (st.stands c f n cache q).layout.order in
+        let is_len : len ≡ bytes = long ∙ ap (λ k. 4096 * 2 ^ k % 4294967296) same ∙ len_is (layout_numbers cache).order (st.stands c f n cache q).layout.order in
         let is_space : r' ≡ zeroed_space = zeroed ∙ ap (λ x. with_window r t (4096 * f) x (replicate x 0)) is_len in
         let is_buddy : b' ≡ released = subst (λ o. OnSome o (b' ≡ released)) (answer ∙ (st.stands c f n cache q).taken) done in
         subst (λ x. IsGivenBack x b' s') (sym is_space)

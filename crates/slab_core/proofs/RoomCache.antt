@@ -6,13 +6,13 @@ use Rattle.std.proofs.lemmas.Nat.{pow_pos}
 use Rattle.std.proofs.lemmas.Bool.{cases_lt}
 use Rattle.model_core.specs.Blocks.{around}
 use Rattle.model_core.specs.declared.limits.TheConstants.{MOST_CACHES}
-use Rattle.model_core.proofs.Bridge.{aligned_first}
+use Rattle.model_core.proofs.BlocksByNumber.{aligned_first}
 use Rattle.klist_core.specs.Places.{place_at, NoneAbove, IsNext}
 use Rattle.space_core.specs.Content as spaces
 use Rattle.buddy_core.specs.Content as buddies
 use Rattle.slab_tables.specs.Content.{Content, IsSlabs, head_of}
-use Rattle.slab_laws.specs.Shows.{Agree}
-use Rattle.slab_laws.specs.Steady.{IsSteady}
+use Rattle.parts_laws.specs.Shows.{Agree}
+use Rattle.parts_laws.specs.Steady.{IsSteady}
 use Rattle.slab_core.specs.Room.{IsUnusedBlock, HasRoomAround}
 use Rattle.slab_core.proofs.ObjectFinding.{around_frame}
 use Rattle.slab_core.proofs.RoomFrames.{listed_taken}

@@ -6,18 +6,18 @@ use Rattle.std.proofs.lemmas.Bool.{cases_lt, false≢true}
 use Rattle.model_core.specs.Blocks.{Block, block, HasFrame, IsAligned, around, IsChoice, IsWithout}
 use Rattle.model_core.specs.Choice.{choose}
 use Rattle.model_core.specs.Numbered.{number_at}
-use Rattle.model_core.proofs.Bridge.{number_is, first_is, number_around, aligned_first, aligned_below, number_of_frame, frame_of_number, same_slot}
+use Rattle.model_core.proofs.BlocksByNumber.{number_is, first_is, number_around, aligned_first, aligned_below, number_of_frame, frame_of_number, same_slot}
 use Rattle.model_core.proofs.Halves.{same_above}
 use Rattle.model_core.proofs.FreeBlocks.{same_bool}
 use Rattle.model_core.proofs.Choosing.{choice_is_found}
 use Rattle.space_core.specs.Content as spaces
 use Rattle.buddy_core.specs.Content as buddies
-use Rattle.slab_tables.specs.Content.{Content, IsSlabs, numbers}
-use Rattle.slab_laws.specs.Shows.{Agree}
-use Rattle.slab_laws.specs.Steady.{IsSteady}
-use Rattle.slab_laws.specs.Room.{IsIdle, HasRoom}
+use Rattle.slab_tables.specs.Content.{Content, IsSlabs, layout_numbers}
+use Rattle.parts_laws.specs.Shows.{Agree}
+use Rattle.parts_laws.specs.Steady.{IsSteady}
+use Rattle.parts_laws.specs.Room.{IsIdle, HasRoom}
 use Rattle.model_core.proofs.Vacant.{IsVacant, some_choice}
-use Rattle.slab_core.specs.Room.{HasFree, IsUnusedBlock, HasRoomInSlabs}
+use Rattle.slab_core.specs.Room.{HasFreeBlock, IsUnusedBlock, HasRoomInSlabs}
 use Rattle.slab_core.proofs.ObjectFinding.{around_frame}
 use Rattle.slab_core.proofs.ReturnMany.{idle_listed}
 use Rattle.slab_core.proofs.RoomFree.{held_within}
@@ -38,7 +38,7 @@ wider f j k x le has =
 
 module _ (r : spaces.Content) (b : buddies.Content) (s : Content) (t k : ℕ) (w : IsSlabs s) (a : Agree r b s) (st : IsSteady r b s t) where
   module _ (fits : k ≤ s.top) where
-    room_of_free : HasFree b t k → HasRoom r b s t k
+    room_of_free : HasFreeBlock b t k → HasRoom r b s t k
     room_of_free h =
         let f = h.found.first in
         let held : is_some (buddies.superblock_at (buddies.holding_of t b) (f / 2 ^ s.top)) ≡ true =
@@ -50,7 +50,7 @@ module _ (r : spaces.Content) (b : buddies.Content) (s : Content) (t k : ℕ) (w
           idle = λ x has is. absurd (h.free.2 (x, wider f k h.found.order x h.enough has, is));
         }
 
-    pub room_by_free : (free : Bool) → free ≡ true → (free ≡ true) ↔ HasFree b t k → (free ≡ true) ↔ HasRoom r b s t k
+    pub room_by_free : (free : Bool) → free ≡ true → (free ≡ true) ↔ HasFreeBlock b t k → (free ≡ true) ↔ HasRoom r b s t k
     room_by_free free is by = (λ e. room_of_free (by.0 is), λ room. is)
 
     room_of_slab : HasRoomInSlabs r b s t k → HasRoom r b s t k
@@ -67,14 +67,14 @@ module _ (r : spaces.Content) (b : buddies.Content) (s : Content) (t k : ℕ) (w
 
   -- where a frame of the room lies in an empty slab, there is room around the slab
   module _ (room : HasRoom r b s t k) (x : ℕ) (has : HasFrame (block room.first k) x) (i : IsIdle r s t x) where
-    aligned : i.first % 2 ^ (numbers i.cache).order ≡ 0
-    aligned = (st.sound.placed i.first (numbers i.cache).order (st.stands i.number i.first i.node i.cache i.slab).taken).0.1
+    aligned : i.first % 2 ^ (layout_numbers i.cache).order ≡ 0
+    aligned = (st.sound.placed i.first (layout_numbers i.cache).order (st.stands i.number i.first i.node i.cache i.slab).taken).0.1
 
     -- a slab no smaller than the block has all of it
-    in_slab : k ≤ (numbers i.cache).order → IsUnusedBlock r b s t (around i.first k).first k
+    in_slab : k ≤ (layout_numbers i.cache).order → IsUnusedBlock r b s t (around i.first k).first k
     in_slab le y there is =
         let here : (around i.first k).first ≡ i.first =
-        ap (λ n. n * 2 ^ k) (sym (number_is k i.first)) ∙ first_is i.first k (aligned_below i.first k (numbers i.cache).order le aligned) in
+        ap (λ n. n * 2 ^ k) (sym (number_is k i.first)) ∙ first_is i.first k (aligned_below i.first k (layout_numbers i.cache).order le aligned) in
         record {
           number = i.number;
           first = i.first;
@@ -82,14 +82,14 @@ module _ (r : spaces.Content) (b : buddies.Content) (s : Content) (t k : ℕ) (w
           cache = i.cache;
           slab = i.slab;
           empty = i.empty;
-          within = wider i.first k (numbers i.cache).order y le (subst (λ f. HasFrame (block f k) y) here there);
+          within = wider i.first k (layout_numbers i.cache).order y le (subst (λ f. HasFrame (block f k) y) here there);
         }
 
     -- a smaller one lies in it
-    in_room : (numbers i.cache).order ≤ k → IsUnusedBlock r b s t (around i.first k).first k
+    in_room : (layout_numbers i.cache).order ≤ k → IsUnusedBlock r b s t (around i.first k).first k
     in_room le =
         let same : number_at k i.first ≡ number_at k room.first =
-        sym (same_above x i.first (numbers i.cache).order k le (number_of_frame i.first (numbers i.cache).order x aligned i.within))
+        sym (same_above x i.first (layout_numbers i.cache).order k le (number_of_frame i.first (layout_numbers i.cache).order x aligned i.within))
         ∙ number_of_frame room.first k x room.aligned.1 has in
         let here : room.first ≡ (around i.first k).first =
         around_frame room.first k i.first room.aligned.1 (frame_of_number room.first k i.first room.aligned.1 same) in
@@ -97,20 +97,20 @@ module _ (r : spaces.Content) (b : buddies.Content) (s : Content) (t k : ℕ) (w
 
     room_around : HasRoomInSlabs r b s t k
     room_around =
-        let e = idle_listed r b s t w a st (λ n. true) i.first (idle_begins r s t x i) in (
+        let e = idle_listed r b s t w a st.listed (λ n. true) i.first (idle_begins r s t x i) in (
           e.number,
           e.small,
           record {
             first = i.first;
             node = e.node;
             empty = e.placed;
-            unused = ⊎_elim (λ less. in_room (omega arith)) (λ le. in_slab le) (cases_lt (numbers i.cache).order k);
+            unused = ⊎_elim (λ less. in_room (omega arith)) (λ le. in_slab le) (cases_lt (layout_numbers i.cache).order k);
           },
         )
 
   module _ (laws : buddies.BuddyLaws b) (lt : t < length b.tenants) where
     -- where no frame of the room is taken, a free block has it
-    free_of_vacant : (f : ℕ) → IsVacant b.top (buddies.is_held (buddies.holding_of t b)) (buddies.taken_of (buddies.holding_of t b)) f k → HasFree b t k
+    free_of_vacant : (f : ℕ) → IsVacant b.top (buddies.is_held (buddies.holding_of t b)) (buddies.taken_of (buddies.holding_of t b)) f k → HasFreeBlock b t k
     free_of_vacant f v =
         let held = buddies.is_held (buddies.holding_of t b) in
         let taken = buddies.taken_of (buddies.holding_of t b) in
@@ -121,11 +121,11 @@ module _ (r : spaces.Content) (b : buddies.Content) (s : Content) (t k : ℕ) (w
         go : (o : Option Block)
             → MatchOption o (IsWithout b.top (buddies.is_held (buddies.holding_of t b)) (buddies.taken_of (buddies.holding_of t b)) k)
             (IsChoice b.top (buddies.is_held (buddies.holding_of t b)) (buddies.taken_of (buddies.holding_of t b)) k)
-            → is_some o ≡ true → HasFree b t k
+            → is_some o ≡ true → HasFreeBlock b t k
         go None none some = absurd (false≢true some)
         go (Some z) is some = record { found = z; free = is.0; enough = is.1 }
 
-    no_room : (HasFree b t k → ⊥) → (HasRoomInSlabs r b s t k → ⊥) → HasRoom r b s t k → ⊥
+    no_room : (HasFreeBlock b t k → ⊥) → (HasRoomInSlabs r b s t k → ⊥) → HasRoom r b s t k → ⊥
     no_room none_free none_around room =
         let slot : is_some (buddies.superblock_at (buddies.holding_of t b) (room.first / 2 ^ s.top)) ≡ true =
         ap is_some (a.slots t (room.first / 2 ^ s.top)) ∙ room.held in
@@ -136,7 +136,7 @@ module _ (r : spaces.Content) (b : buddies.Content) (s : Content) (t k : ℕ) (w
         }))
 
     -- where no block is free that is large enough, all room lies around empty slabs
-    pub room_by_slabs : k ≤ s.top → (HasFree b t k → ⊥) → (slabs : Bool) → (slabs ≡ true) ↔ HasRoomInSlabs r b s t k
+    pub room_by_slabs : k ≤ s.top → (HasFreeBlock b t k → ⊥) → (slabs : Bool) → (slabs ≡ true) ↔ HasRoomInSlabs r b s t k
         → (slabs ≡ true) ↔ HasRoom r b s t k
     room_by_slabs fits none true by = (λ e. room_of_slab fits (by.0 refl), λ room. refl)
     room_by_slabs fits none false by = (

@@ -7,12 +7,12 @@ use Rattle.model_core.specs.declared.limits.TheConstants.{MOST_CACHES}
 use Rattle.space_core.specs.Content as spaces
 use Rattle.buddy_core.specs.Content as buddies
 use Rattle.klist_core.specs.Places.{place_at}
-use Rattle.slab_tables.specs.Content.{Content, IsSlabs, numbers, head_of}
-use Rattle.slab_laws.specs.Shows.{Agree}
-use Rattle.slab_laws.specs.Steady.{IsSteady}
-use Rattle.slab_laws.specs.Room.{IsIdle}
-use Rattle.slab_laws.proofs.Lookups.{some_same}
-use Rattle.slab_laws.proofs.Steady.{placed_as}
+use Rattle.slab_tables.specs.Content.{Content, IsSlabs, layout_numbers, head_of}
+use Rattle.parts_laws.specs.Shows.{Agree}
+use Rattle.parts_laws.specs.Steady.{IsSteady}
+use Rattle.parts_laws.specs.Room.{IsIdle}
+use Rattle.parts_laws.proofs.Lookups.{some_same}
+use Rattle.parts_laws.proofs.Steady.{placed_as}
 use Rattle.slab_core.specs.Calls.{idle_at}
 use Rattle.slab_core.specs.Room.{IsUnusedFrame, IsUnusedTo}
 use Rattle.slab_core.proofs.ReturnMany.{idle_tells, idle_is}
@@ -38,7 +38,7 @@ module _ (r : spaces.Content) (b : buddies.Content) (s : Content) (t : ℕ) (st 
   idle_in f k x taken has idle =
       let i = idle_tells (λ n. true) r s t f idle in
       let there = st.listed f i.node i.head i.key i.under i.place in
-      let order : k ≡ (numbers there.1).order = some_same (sym taken ∙ (st.stands there.0 f i.node there.1 there.2).taken) in
+      let order : k ≡ (layout_numbers there.1).order = some_same (sym taken ∙ (st.stands there.0 f i.node there.1 there.2).taken) in
       record {
         number = there.0;
         first = f;
@@ -59,7 +59,7 @@ module _ (r : spaces.Content) (b : buddies.Content) (s : Content) (t : ℕ) (st 
     not_unused busy unused =
         let i = unused (f, k, taken, has) in
         let same : i.first ≡ f =
-        st.sound.apart i.first (numbers i.cache).order f k frame (st.stands i.number i.first i.node i.cache i.slab).taken taken i.within has in
+        st.sound.apart i.first (layout_numbers i.cache).order f k frame (st.stands i.number i.first i.node i.cache i.slab).taken taken i.within has in
         false≢true (sym busy ∙ ap (idle_at (λ n. true) r s t) (sym same) ∙ idle_begins r s t frame i)
 
 -- what stands in the list of the empty slabs of a tenant's cache is a taken block of the tenant
@@ -68,7 +68,7 @@ pub listed_taken : (r : spaces.Content) (b : buddies.Content) (s : Content) (t c
 listed_taken r b s t c f n w a less placed =
     let kept = w.standing n (head_of t c 2) f placed in
     let tenant : head_of t c 2 / 3 / MOST_CACHES ≡ t = omega arith in (
-      (numbers kept.0).order,
-      subst (λ u. buddies.taken_of (buddies.holding_of u b) f ≡ Some (numbers kept.0).order) tenant
+      (layout_numbers kept.0).order,
+      subst (λ u. buddies.taken_of (buddies.holding_of u b) f ≡ Some (layout_numbers kept.0).order) tenant
           (a.slabs n (head_of t c 2) f kept.0 placed kept.1).taken,
     )

@@ -10,8 +10,8 @@ use Rattle.model_core.proofs.Choosing.{free_is_tested}
 use Rattle.model_core.proofs.Counting.{bit}
 use Rattle.buddy_core.specs.Content as buddies
 use Rattle.buddy_core.proofs.Counting.{count_some}
-use Rattle.slab_laws.proofs.Steady.{within}
-use Rattle.slab_core.specs.Room.{HasFree}
+use Rattle.parts_laws.proofs.Steady.{within}
+use Rattle.slab_core.specs.Room.{HasFreeBlock}
 
 -- where some are counted, one passes
 some_counted : (p : ℕ → Bool) (n : ℕ) → 0 < count_below p n → (f : ℕ) × (p f ≡ true)
@@ -38,7 +38,7 @@ module _ (b : buddies.Content) (t k : ℕ) where
   abbrev test : ℕ → ℕ → Bool
   test j f = is_free b.top (buddies.is_held (buddies.holding_of t b)) (buddies.taken_of (buddies.holding_of t b)) (block f j)
 
-  pub free_of_count : (j : ℕ) → k ≤ j → 0 < buddies.free_blocks b.top b.superblocks j (buddies.holding_of t b) → HasFree b t k
+  pub free_of_count : (j : ℕ) → k ≤ j → 0 < buddies.free_block_count b.top b.superblocks j (buddies.holding_of t b) → HasFreeBlock b t k
   free_of_count j enough some =
       let is = some_counted (test j) (b.superblocks * 2 ^ b.top) some in
       record {
@@ -47,8 +47,8 @@ module _ (b : buddies.Content) (t k : ℕ) where
         enough = enough;
       }
 
-  pub count_of_free : buddies.IsSized b → t < length b.tenants → (h : HasFree b t k)
-      → 0 < buddies.free_blocks b.top b.superblocks h.found.order (buddies.holding_of t b)
+  pub count_of_free : buddies.IsSized b → t < length b.tenants → (h : HasFreeBlock b t k)
+      → 0 < buddies.free_block_count b.top b.superblocks h.found.order (buddies.holding_of t b)
   count_of_free sized lt h =
       let less : h.found.first < b.superblocks * 2 ^ b.top =
       (div-lt_iff_lt-mul (pow_pos b.top)).0 (held_within b t (h.found.first / 2 ^ b.top) sized lt h.free.1) in
@@ -57,14 +57,14 @@ module _ (b : buddies.Content) (t k : ℕ) where
 
   -- orders from k up to this one have no free block
   abbrev pub IsNoneTo : ℕ → Type 0
-  IsNoneTo order = (j : ℕ) → k ≤ j → j < order → buddies.free_blocks b.top b.superblocks j (buddies.holding_of t b) ≡ 0
+  IsNoneTo order = (j : ℕ) → k ≤ j → j < order → buddies.free_block_count b.top b.superblocks j (buddies.holding_of t b) ≡ 0
 
-  pub none_to_next : (order : ℕ) → IsNoneTo order → buddies.free_blocks b.top b.superblocks order (buddies.holding_of t b) ≡ 0 → IsNoneTo (order + 1)
+  pub none_to_next : (order : ℕ) → IsNoneTo order → buddies.free_block_count b.top b.superblocks order (buddies.holding_of t b) ≡ 0 → IsNoneTo (order + 1)
   none_to_next order none here j from to = ⊎_elim (λ less. none j from less)
       (λ past. let same : j ≡ order = omega arith in
-      ap (λ i. buddies.free_blocks b.top b.superblocks i (buddies.holding_of t b)) same ∙ here) (cases_lt j order)
+      ap (λ i. buddies.free_block_count b.top b.superblocks i (buddies.holding_of t b)) same ∙ here) (cases_lt j order)
 
-  pub none_free : buddies.IsSized b → t < length b.tenants → (end : ℕ) → b.top < end → IsNoneTo end → HasFree b t k → ⊥
+  pub none_free : buddies.IsSized b → t < length b.tenants → (end : ℕ) → b.top < end → IsNoneTo end → HasFreeBlock b t k → ⊥
   none_free sized lt end all none h =
       let some = count_of_free sized lt h in
       let order : h.found.order ≤ b.top = h.free.0.0 in

@@ -6,7 +6,7 @@ use Rattle.std.proofs.lemmas.Bool.{cases_lt, eq-eqb, ne_eqb}
 use Rattle.std.proofs.lemmas.Nat.Bits.{bit_at_above, bit_at_ones, bit_at-trailing_ones}
 use Rattle.std.specs.Int.Bits.{bit_xor}
 use Rattle.std.proofs.lemmas.Nat.{one_shl}
-use Rattle.slab_laws.specs.Records.{is_set, flags_from, flags}
+use Rattle.parts_laws.specs.Records.{is_set, flags_from, flags}
 use Rattle.slab_core.specs.Objects.{IsRaised}
 
 -- every bit of a full byte is 1

@@ -10,13 +10,13 @@ use Rattle.model_core.specs.CacheOperations.{hand_out}
 use Rattle.space_core.specs.Content as spaces
 use Rattle.buddy_core.specs.Content as buddies
 use Rattle.slab_tables.specs.declared.cache.Cache as own
-use Rattle.slab_tables.specs.Content.{Content, IsSlabs, kept_at, numbers}
-use Rattle.slab_laws.specs.Records.{count_true}
-use Rattle.slab_laws.specs.Shows.{is_live, live_of, IsSlab, Agree, ShowsMachine}
-use Rattle.slab_laws.specs.Steady.{IsSteady}
-use Rattle.slab_laws.proofs.Lookups.{some_same}
-use Rattle.slab_laws.proofs.Flags.{length_flags, flag_at}
-use Rattle.slab_laws.proofs.Facts.{shown, slab_shown, cache_shown}
+use Rattle.slab_tables.specs.Content.{Content, IsSlabs, kept_at, layout_numbers}
+use Rattle.parts_laws.specs.Records.{count_true}
+use Rattle.parts_laws.specs.Shows.{is_live, live_of, IsSlab, Agree, ShowsMachine}
+use Rattle.parts_laws.specs.Steady.{IsSteady}
+use Rattle.parts_laws.proofs.Lookups.{some_same}
+use Rattle.parts_laws.proofs.Flags.{length_flags, flag_at}
+use Rattle.parts_laws.proofs.Facts.{shown, slab_shown, cache_shown}
 use Rattle.slab_core.proofs.ObjectSlabs.{IsHeld, held}
 use Rattle.slab_core.proofs.ObjectFinding.{object_within}
 
@@ -35,38 +35,38 @@ down_found (true ∷ xs) less =
 down_found (false ∷ xs) less = record { within = omega arith; down = refl }
 
 module _ (r : spaces.Content) (b : buddies.Content) (s : Content) (t c f n i : ℕ) (cache : own.Cache) (w : IsSlabs s) (a : Agree r b s) (st : IsSteady r b s t)
-    (q : IsSlab r s t c f n cache) (free : (kept_at s.kept n).live < (numbers cache).count)
+    (q : IsSlab r s t c f n cache) (free : (kept_at s.kept n).live < (layout_numbers cache).count)
     (is : i ≡ position_or_len not (live_of r t cache (kept_at s.kept n) f)) where
   h : IsHeld r b s t c f n cache
   h = held r b s t c f n cache w a q
 
-  long : length (live_of r t cache (kept_at s.kept n) f) ≡ (numbers cache).count
-  long = length_flags 0 (numbers cache).count (is_live r t cache (kept_at s.kept n) f)
+  long : length (live_of r t cache (kept_at s.kept n) f) ≡ (layout_numbers cache).count
+  long = length_flags 0 (layout_numbers cache).count (is_live r t cache (kept_at s.kept n) f)
 
   is_down : IsDown (live_of r t cache (kept_at s.kept n) f) i
   is_down = subst (IsDown (live_of r t cache (kept_at s.kept n) f)) (sym is) (down_found (live_of r t cache (kept_at s.kept n) f) (omega (arith, h.counted, long)))
 
-  pub object_below : i < (numbers cache).count
+  pub object_below : i < (layout_numbers cache).count
   object_below = omega (arith, is_down.within, long)
 
   pub not_live : is_live r t cache (kept_at s.kept n) f i ≡ false
-  not_live = sym (flag_at (numbers cache).count i (is_live r t cache (kept_at s.kept n) f) false object_below) ∙ is_down.down
+  not_live = sym (flag_at (layout_numbers cache).count i (is_live r t cache (kept_at s.kept n) f) false object_below) ∙ is_down.down
 
   pub first_few : f < 65536
-  first_few = st.few f (numbers cache).order h.taken
+  first_few = st.few f (layout_numbers cache).order h.taken
 
-  pub offset_few : object_offset (numbers cache) (kept_at s.kept n).colour i < 32769
+  pub offset_few : object_offset (layout_numbers cache) (kept_at s.kept n).colour i < 32769
   offset_few =
-      let fit : IsFit (numbers cache) (kept_at s.kept n).colour = subst (λ x. IsFit (numbers cache) x) (sym h.listed.colour.1) (h.layout.fits h.listed.colour.0) in
-      let within = object_within (numbers cache) (kept_at s.kept n).colour i fit object_below in
-      let frames : 2 ^ (numbers cache).order ≤ 2 ^ 3 = pow-le-pow_right {n = 2} (omega arith) h.layout.order in
+      let fit : IsFit (layout_numbers cache) (kept_at s.kept n).colour = subst (λ x. IsFit (layout_numbers cache) x) (sym h.listed.colour.1) (h.layout.fits h.listed.colour.0) in
+      let within = object_within (layout_numbers cache) (kept_at s.kept n).colour i fit object_below in
+      let frames : 2 ^ (layout_numbers cache).order ≤ 2 ^ 3 = pow-le-pow_right {n = 2} (omega arith) h.layout.order in
       omega arith
 
   module _ (m : Machine) (x : machines.Cache) (y : machines.Slab) (g : ShowsMachine r b s t m) (ex : cache_of m c ≡ Some x) (ey : slab_of x f ≡ Some y) where
     slab_is : y ≡ shown r s t c cache q.cached f n
     slab_is = some_same (sym ey ∙ (g.slabs c f x cache ex q.cached ∙ slab_shown r s t c cache q.cached f n q))
 
-    layout_is : machines.layout x ≡ numbers cache
+    layout_is : machines.layout x ≡ layout_numbers cache
     layout_is =
         let there = cache_shown r b s t m g c cache q.cached in
         ap machines.layout (some_same (sym ex ∙ there.cached)) ∙ there.layout
@@ -74,7 +74,7 @@ module _ (r : spaces.Content) (b : buddies.Content) (s : Content) (t c f n i : �
     pub next_is : next_object y ≡ i
     next_is = ap next_object slab_is ∙ sym is
 
-    pub answered : (place : ℕ) → place ≡ 4096 * f + object_offset (numbers cache) (kept_at s.kept n).colour i → Ok place ≡ (hand_out x y m).answer
+    pub answered : (place : ℕ) → place ≡ 4096 * f + object_offset (layout_numbers cache) (kept_at s.kept n).colour i → Ok place ≡ (hand_out x y m).answer
     answered place e =
         ap (λ (p : ℕ). Ok p)
         (e ∙ sym (ap (λ j. object_place (machines.layout x) y.first y.colour j) next_is

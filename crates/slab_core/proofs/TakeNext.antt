@@ -10,12 +10,12 @@ use Rattle.space_core.specs.Windows.{byte_at, is_in_slot, home_of, window_of}
 use Rattle.space_core.proofs.Ranges.{range_held}
 use Rattle.slab_tables.specs.declared.cache.Cache as own
 use Rattle.slab_tables.specs.declared.cache.Kept.{Kept}
-use Rattle.slab_tables.specs.Content.{Content, numbers}
-use Rattle.slab_laws.specs.Records.{is_set}
-use Rattle.slab_laws.specs.Shows.{byte_or_zero, record_byte, is_live, live_of, IsSlab}
-use Rattle.slab_laws.proofs.Facts.{under_is}
+use Rattle.slab_tables.specs.Content.{Content, layout_numbers}
+use Rattle.parts_laws.specs.Records.{is_set}
+use Rattle.parts_laws.specs.Shows.{byte_or_zero, record_byte, is_live, live_of, IsSlab}
+use Rattle.parts_laws.proofs.Facts.{under_is}
 use Rattle.slab_core.proofs.MarkTurned.{live_small, live_large}
-use Rattle.slab_laws.proofs.Flags.{length_flags, flag_at}
+use Rattle.parts_laws.proofs.Flags.{length_flags, flag_at}
 use Rattle.slab_core.specs.Objects.{HasClear, IsRecordRaised}
 use Rattle.slab_core.proofs.ObjectPlaces.{record_under}
 use Rattle.slab_core.proofs.TakeBits.{IsClear, full_byte, least_of}
@@ -49,18 +49,18 @@ clear_found (true ∷ xs) less =
     rw next (clear_found xs (omega arith))
 clear_found (false ∷ xs) less = refl
 
-module _ (r : spaces.Content) (t : ℕ) (cache : own.Cache) (kept : Kept) (f : ℕ) (free : position_or_len not (live_of r t cache kept f) < (numbers cache).count) where
+module _ (r : spaces.Content) (t : ℕ) (cache : own.Cache) (kept : Kept) (f : ℕ) (free : position_or_len not (live_of r t cache kept f) < (layout_numbers cache).count) where
   abbrev least : ℕ
   least = position_or_len not (live_of r t cache kept f)
 
-  long : length (live_of r t cache kept f) ≡ (numbers cache).count
-  long = length_flags 0 (numbers cache).count (is_live r t cache kept f)
+  long : length (live_of r t cache kept f) ≡ (layout_numbers cache).count
+  long = length_flags 0 (layout_numbers cache).count (is_live r t cache kept f)
 
   pub least_free : is_live r t cache kept f least ≡ false
-  least_free = sym (flag_at (numbers cache).count least (is_live r t cache kept f) false free) ∙ clear_found (live_of r t cache kept f) (omega (arith, long))
+  least_free = sym (flag_at (layout_numbers cache).count least (is_live r t cache kept f) false free) ∙ clear_found (live_of r t cache kept f) (omega (arith, long))
 
   -- where the record stands in the frame
-  module _ (small : is_small (numbers cache).chunk ≡ true) (few : (numbers cache).count ≤ 256) (mine : OwnBytes r) (place : ℕ) (at : place ≡ 4096 * f + 4064) where
+  module _ (small : is_small (layout_numbers cache).chunk ≡ true) (few : (layout_numbers cache).count ≤ 256) (mine : OwnBytes r) (place : ℕ) (at : place ≡ 4096 * f + 4064) where
     bit : (bytes : List ℕ) → window_of r t place 32 ≡ Some bytes → (j : ℕ) → j < 256 → is_live r t cache kept f j ≡ is_set (get_or bytes (j / 8) 0) (j % 8)
     bit bytes e j less = live_small r t cache kept f j small ∙ ap (λ x. is_set x (j % 8)) (record_read r t f place bytes mine at e (j / 8) (omega arith))
 
@@ -76,13 +76,13 @@ module _ (r : spaces.Content) (t : ℕ) (cache : own.Cache) (kept : Kept) (f : �
     claimed_inside r' k x =
         let read = mine.read t place 32 x.before x.read in
         let below : k < 256 = omega (arith, x.raised.below, read.count) in
-        let is = least_of (numbers cache).count 256 k (is_live r t cache kept f) few (omega arith)
+        let is = least_of (layout_numbers cache).count 256 k (is_live r t cache kept f) few (omega arith)
         (λ j low. bit x.before x.read j (omega arith) ∙ x.raised.ones j low) (λ low. bit x.before x.read k low ∙ x.raised.clear) in
         omega (arith, is, free)
 
   -- where it is kept outside
-  pub claimed_outside : (k : ℕ) → is_small (numbers cache).chunk ≡ false → (numbers cache).count ≤ 16 → IsClear 16 kept.outside k → k ≡ least
+  pub claimed_outside : (k : ℕ) → is_small (layout_numbers cache).chunk ≡ false → (layout_numbers cache).count ≤ 16 → IsClear 16 kept.outside k → k ≡ least
   claimed_outside k large few x =
-      let is = least_of (numbers cache).count 16 k (is_live r t cache kept f) few x.below
+      let is = least_of (layout_numbers cache).count 16 k (is_live r t cache kept f) few x.below
       (λ j low. live_large r t cache kept f j large ∙ x.ones j low) (λ low. live_large r t cache kept f k large ∙ x.clear low) in
       omega (arith, is, free)

@@ -7,11 +7,11 @@ use Rattle.model_core.specs.declared.limits.TheConstants.{MOST_CACHES}
 use Rattle.space_core.specs.Content as spaces
 use Rattle.buddy_core.specs.Content as buddies
 use Rattle.slab_tables.specs.declared.cache.Cache as own
-use Rattle.slab_tables.specs.Content.{Content, IsSlabs, kept_at, cache_in, cache_at, index_of_cache, head_of, kind_of, numbers}
+use Rattle.slab_tables.specs.Content.{Content, IsSlabs, kept_at, cache_in, cache_at, index_of_cache, head_of, kind_of, layout_numbers}
 use Rattle.slab_tables.proofs.Reading.{head_parts, listed}
-use Rattle.slab_laws.specs.Shows.{node_of, IsSlab, Agree}
-use Rattle.slab_laws.specs.Objects.{IsToUse, IsAllFull}
-use Rattle.slab_laws.proofs.Steady.{in_table, slab_from, tenant_is}
+use Rattle.parts_laws.specs.Shows.{node_of, IsSlab, Agree}
+use Rattle.parts_laws.specs.Objects.{IsToUse, IsAllFull}
+use Rattle.parts_laws.proofs.Steady.{in_table, slab_from, tenant_is}
 use Rattle.slab_core.specs.Objects.{standing}
 
 module _ (r : spaces.Content) (b : buddies.Content) (s : Content) (t c : ℕ) (cache : own.Cache) (a : Agree r b s) (cached : cache_at s t c ≡ Some cache) where
@@ -36,22 +36,22 @@ module _ (r : spaces.Content) (b : buddies.Content) (s : Content) (t c : ℕ) (c
 
   -- the slab of a list of partial or of empty ones has an object that is not live
   free_in_list : IsSlabs s → (kind f n : ℕ) → 0 < kind → kind < 3 → place_at s.lists.places n ≡ Some (head_of t c kind, f)
-      → (kept_at s.kept n).live < (numbers cache).count
+      → (kept_at s.kept n).live < (layout_numbers cache).count
   free_in_list w kind f n some few place =
       let is = listed s w t c f n cache cached kind few place in
       let few_live = is.few in
-      elim (cases_eq (kept_at s.kept n).live (numbers cache).count) [
+      elim (cases_eq (kept_at s.kept n).live (layout_numbers cache).count) [
         | inl full ↦
-            let none : kind_of (numbers cache).count (kept_at s.kept n).live ≡ 0 =
-            ap (λ b. if b then 0 else (if (kept_at s.kept n).live == 0 then 2 else 1)) (eq-eqb (kept_at s.kept n).live (numbers cache).count full) in
+            let none : kind_of (layout_numbers cache).count (kept_at s.kept n).live ≡ 0 =
+            ap (λ b. if b then 0 else (if (kept_at s.kept n).live == 0 then 2 else 1)) (eq-eqb (kept_at s.kept n).live (layout_numbers cache).count full) in
             absurd (omega (arith, is.kind, (head_parts t c kind few).1, none))
         | inr other ↦ omega arith
       ]
 
-  pub free_partial : IsSlabs s → (f n : ℕ) → IsFirst s.lists.places (head_of t c 1) f n → (kept_at s.kept n).live < (numbers cache).count
+  pub free_partial : IsSlabs s → (f n : ℕ) → IsFirst s.lists.places (head_of t c 1) f n → (kept_at s.kept n).live < (layout_numbers cache).count
   free_partial w f n first = free_in_list w 1 f n (omega arith) (omega arith) first.here
 
   pub free_empty : IsSlabs s → (o : Option (ℕ × ℕ)) → MatchOption o (IsEmpty s.lists.places (head_of t c 2)) (λ p. IsFirst s.lists.places (head_of t c 2) p.0 p.1)
-      → IfSome o (λ p. (kept_at s.kept p.1).live < (numbers cache).count)
+      → IfSome o (λ p. (kept_at s.kept p.1).live < (layout_numbers cache).count)
   free_empty w None none = tt
   free_empty w (Some p) first = free_in_list w 2 p.0 p.1 (omega arith) (omega arith) first.here

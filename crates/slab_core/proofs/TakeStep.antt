@@ -7,18 +7,17 @@ use Rattle.model_core.specs.Operations.{refuse}
 use Rattle.model_core.specs.CacheOperations.{hand_out, take_new, take_from, take_of, take_step}
 use Rattle.model_core.specs.declared.refusals.TakeRefusal.TheVariants.{NoCache, NoFrames}
 use Rattle.model_core.proofs.ByNeed.{by_need_none}
-use Rattle.model_core.proofs.Lists.{IsIn, put_in}
-use Rattle.model_core.proofs.CacheSteps.{in_right}
+use Rattle.model_core.proofs.Lists.{IsIn, put_in, in_right}
 use Rattle.space_core.specs.Content as spaces
 use Rattle.buddy_core.specs.Content as buddies
 use Rattle.slab_tables.specs.declared.cache.Cache as own
-use Rattle.slab_tables.specs.Content.{Content, IsSlabs, cache_at, numbers}
-use Rattle.slab_laws.specs.Shows.{ShowsMachine, Agree, bare}
-use Rattle.slab_laws.specs.Steady.{IsSteady}
-use Rattle.slab_laws.specs.Objects.{IsToUse, IsAllFull, Standing}
-use Rattle.slab_laws.proofs.Lookups.{found_key, found_new, in_found}
-use Rattle.slab_laws.proofs.Facts.{none_mapped, cache_shown}
-use Rattle.slab_laws.proofs.Using.{take_uses, take_makes}
+use Rattle.slab_tables.specs.Content.{Content, IsSlabs, cache_at, layout_numbers}
+use Rattle.parts_laws.specs.Shows.{ShowsMachine, Agree, bare}
+use Rattle.parts_laws.specs.Steady.{IsSteady}
+use Rattle.parts_laws.specs.Objects.{IsToUse, IsAllFull, Standing}
+use Rattle.parts_laws.proofs.Lookups.{found_key, found_new, in_found}
+use Rattle.parts_laws.proofs.Facts.{none_mapped, cache_shown}
+use Rattle.parts_laws.proofs.Using.{take_uses, take_makes}
 use Rattle.slab_core.proofs.GrowNeed.{stands}
 
 -- The steps
@@ -86,16 +85,16 @@ module _ (r : spaces.Content) (b : buddies.Content) (s : Content) (t c : ℕ) (m
 
     -- no slab can be used
     module _ (full : IsAllFull s t c) where
-      none_step : (o : Option ℕ) → choice_by_need s.top (numbers cache).order m ≡ o → (x : Cache) → cache_of m c ≡ Some x → (layout x).order ≡ (numbers cache).order
-          → take_step s.top c m ≡ take_new x (by_need s.top (numbers cache).order m) o
+      none_step : (o : Option ℕ) → choice_by_need s.top (layout_numbers cache).order m ≡ o → (x : Cache) → cache_of m c ≡ Some x → (layout x).order ≡ (layout_numbers cache).order
+          → take_step s.top c m ≡ take_new x (by_need s.top (layout_numbers cache).order m) o
       none_step o is x ex order =
-          step_from s.top c m x None ex (take_makes r b s t c m x w a st h ex full) ∙ step_new s.top (numbers cache).order m x o order is
+          step_from s.top c m x None ex (take_makes r b s t c m x w a st h ex full) ∙ step_new s.top (layout_numbers cache).order m x o order is
 
-      pub no_frames_step : choice_by_need s.top (numbers cache).order m ≡ None → take_step s.top c m ≡ refuse NoFrames m
+      pub no_frames_step : choice_by_need s.top (layout_numbers cache).order m ≡ None → take_step s.top c m ≡ refuse NoFrames m
       no_frames_step none =
           let there = cache_shown r b s t m h c cache cached in
           none_step None none there.shown there.cached (ap (λ l. l.order) there.layout)
-          ∙ ap (refuse NoFrames) (by_need_none s.top (numbers cache).order m none)
+          ∙ ap (refuse NoFrames) (by_need_none s.top (layout_numbers cache).order m none)
 
       -- the slab that is made, in the machine grown by need
       pub record IsMade (f : ℕ) (r' : spaces.Content) (b' : buddies.Content) (s' : Content) : Type 0 where
@@ -107,13 +106,13 @@ module _ (r : spaces.Content) (b : buddies.Content) (s : Content) (t c : ℕ) (m
         pub standing : slab_of shown f ≡ Some slab
         pub step : take_step s.top c m ≡ hand_out shown slab after
 
-      pub made : (f : ℕ) (r' : spaces.Content) (b' : buddies.Content) (s' : Content) → choice_by_need s.top (numbers cache).order m ≡ Some f
-          → ((x : Cache) → cache_of m c ≡ Some x → ShowsMachine r' b' s' t (grown f x (by_need s.top (numbers cache).order m))) → IsMade f r' b' s'
+      pub made : (f : ℕ) (r' : spaces.Content) (b' : buddies.Content) (s' : Content) → choice_by_need s.top (layout_numbers cache).order m ≡ Some f
+          → ((x : Cache) → cache_of m c ≡ Some x → ShowsMachine r' b' s' t (grown f x (by_need s.top (layout_numbers cache).order m))) → IsMade f r' b' s'
       made f r' b' s' is shows =
           let there = cache_shown r b s t m h c cache cached in
           let x : Cache = there.shown in
-          let n : Machine = by_need s.top (numbers cache).order m in
-          let stays = stands r b s t c (numbers cache).order w a st full m x h there.cached in
+          let n : Machine = by_need s.top (layout_numbers cache).order m in
+          let stays = stands r b s t c (layout_numbers cache).order w a st full m x h there.cached in
           let shown = shows x there.cached in
           record {
             after = grown f x n;

@@ -9,9 +9,9 @@ use Rattle.space_core.specs.Laws.{IsSameFor, SpareStays}
 use Rattle.space_core.specs.Windows.{byte_at, with_window}
 use Rattle.slab_tables.specs.declared.cache.Cache as own
 use Rattle.klist_core.specs.Places.{place_at, IsEmpty}
-use Rattle.slab_tables.specs.Content.{Content, kept_at, head_of, numbers}
+use Rattle.slab_tables.specs.Content.{Content, kept_at, head_of, layout_numbers}
 use Rattle.slab_tables.specs.Changes.{made_more}
-use Rattle.slab_laws.specs.Shows.{node_of, is_inside, record_byte, IsSlab}
+use Rattle.parts_laws.specs.Shows.{node_of, is_inside, record_byte, IsSlab}
 
 -- the range of tenant t holds the pattern now, over and over, and all else of the memory is as before
 pub record IsFilled (r r' : spaces.Content) (t place len : ℕ) (pattern : List ℕ) : Type 0 where
@@ -27,9 +27,9 @@ pub record IsConstructed (r r' : spaces.Content) (t : ℕ) (cache : own.Cache) (
   pub space : r' ≡ record r { banks = r'.banks }
   pub others : (u : ℕ) → u ≢ t → IsSameFor u r r'
   pub spare : SpareStays r r'
-  pub clear : is_small (numbers cache).chunk ≡ true → (j : ℕ) → j < 32 → record_byte r' t first j ≡ 0
+  pub clear : is_small (layout_numbers cache).chunk ≡ true → (j : ℕ) → j < 32 → record_byte r' t first j ≡ 0
   pub objects : (i j : ℕ) → i < n → j < cache.layout.size
-      → byte_at r' t (object_place (numbers cache) first colour i + j) ≡ Some (pattern_byte cache.pattern j)
+      → byte_at r' t (object_place (layout_numbers cache) first colour i + j) ≡ Some (pattern_byte cache.pattern j)
   pub bytes : (place : ℕ) → is_inside place first cache ≡ false → byte_at r' t place ≡ byte_at r t place
 
 -- the place is in a list of one of these caches, each named by where it stands among all

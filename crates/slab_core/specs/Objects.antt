@@ -1,16 +1,17 @@
 -- What the steps of giving and taking objects do.
 use Rattle.std.specs.Prelude.{◌≡◌, ◌≢◌, ℕ, ◌+◌, ◌*◌, ◌/◌, ◌%◌, ◌^◌, ◌<◌, Bool, not, true, false, List, Some, length, slice_index, slice_set}
 use Rattle.std.specs.Int.Bits.{bit_xor}
+use Rattle.model_core.specs.declared.limits.TheConstants.{FRAME_BYTES, RECORD_BYTES, RECORD_OFFSET}
 use Rattle.model_core.specs.Layouts.{is_small}
 use Rattle.space_core.specs.Content as spaces
 use Rattle.space_core.specs.Laws.{SpaceLaws, IsSameFor, SpareStays}
 use Rattle.space_core.specs.Windows.{byte_at, window_of, with_window}
 use Rattle.buddy_core.specs.Content as buddies
-use Rattle.slab_tables.specs.Content.{Content, IsSlabs, kept_at, numbers}
-use Rattle.slab_laws.specs.Records.{is_set}
-use Rattle.slab_laws.specs.Shows.{is_live, IsSlab, Agree}
-use Rattle.slab_laws.specs.Changes.{Found}
-use Rattle.slab_laws.specs.Objects.{Standing}
+use Rattle.slab_tables.specs.Content.{Content, IsSlabs, kept_at, layout_numbers}
+use Rattle.parts_laws.specs.Records.{is_set}
+use Rattle.parts_laws.specs.Shows.{is_live, IsSlab, Agree}
+use Rattle.parts_laws.specs.Changes.{Found}
+use Rattle.parts_laws.specs.Objects.{Standing}
 
 -- the slab at this first frame and node
 abbrev pub standing : ℕ → ℕ → Standing
@@ -26,8 +27,8 @@ pub record IsTurned (r r' : spaces.Content) (s s' : Content) (t : ℕ) (o : Foun
   pub space : r' ≡ record r { banks = r'.banks }
   pub others : (u : ℕ) → u ≢ t → IsSameFor u r r'
   pub spare : SpareStays r r'
-  pub bytes : (place : ℕ) → ((k : ℕ) → k < 32 → place ≢ 4096 * o.first + 4064 + k) → byte_at r' t place ≡ byte_at r t place
-  pub large : is_small (numbers o.cache).chunk ≢ true → (place : ℕ) → byte_at r' t place ≡ byte_at r t place
+  pub bytes : (place : ℕ) → ((k : ℕ) → k < RECORD_BYTES → place ≢ FRAME_BYTES * o.first + RECORD_OFFSET + k) → byte_at r' t place ≡ byte_at r t place
+  pub large : is_small (layout_numbers o.cache).chunk ≢ true → (place : ℕ) → byte_at r' t place ≡ byte_at r t place
   pub tables : s' ≡ record s { kept = s'.kept }
   pub nodes : length s'.kept ≡ length s.kept
   pub kept : (n : ℕ) → n ≢ o.node → kept_at s'.kept n ≡ kept_at s.kept n
@@ -42,7 +43,7 @@ pub record IsToCount (r r' : spaces.Content) (b : buddies.Content) (s s' : Conte
   pub slabs : IsSlabs s
   pub agree : Agree r b s
   pub slab : IsSlab r s t c o.first o.node o.cache
-  pub index : o.index < (numbers o.cache).count
+  pub index : o.index < (layout_numbers o.cache).count
   pub was : is_live r t o.cache (kept_at s.kept o.node) o.first o.index ≡ not live
   pub turned : IsTurned r r' s s' t o
 

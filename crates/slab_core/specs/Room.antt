@@ -6,10 +6,10 @@ use Rattle.klist_core.specs.Places.{place_at}
 use Rattle.space_core.specs.Content as spaces
 use Rattle.buddy_core.specs.Content as buddies
 use Rattle.slab_tables.specs.Content.{Content, head_of}
-use Rattle.slab_laws.specs.Room.{IsIdle}
+use Rattle.parts_laws.specs.Room.{IsIdle}
 
 -- tenant t has a free block of order k or more
-pub record HasFree (b : buddies.Content) (t k : ℕ) : Type 0 where
+pub record HasFreeBlock (b : buddies.Content) (t k : ℕ) : Type 0 where
   pub found : Block
   pub free : IsFree b.top (buddies.is_held (buddies.holding_of t b)) (buddies.taken_of (buddies.holding_of t b)) found
   pub enough : k ≤ found.order

@@ -6,8 +6,8 @@ ghost use Rattle.model_core.specs.CacheOperations.{create_step};
 ghost use Rattle.space_core.specs.Content as spaces;
 ghost use Rattle.buddy_core.specs.Content as buddies;
 ghost use Rattle.slab_tables.specs.Content.{IsTenant};
-ghost use Rattle.slab_laws.specs.Shows.{ShowsMachine, Agree};
-ghost use Rattle.slab_laws.specs.Keeps.{Keeps};
+ghost use Rattle.parts_laws.specs.Shows.{ShowsMachine, Agree};
+ghost use Rattle.parts_laws.specs.Keeps.{Keeps};
 
 use crate::Slabs;
 use layout_core::{Layout, Pattern};
@@ -28,7 +28,7 @@ impl Slabs {
         ensures agree { (r : spaces.Content) (b : buddies.Content) → Agree r b self.old → Agree r b self.new }
         ensures refused { IfNone result (self.new ≡ self.old) }
     {
-        self.tables.facts();
+        self.tables.laws();
         self.tables.create(t, layout, pattern)
     }
 }

@@ -3,14 +3,12 @@
 ghost use Rattle.std.specs.Prelude.{◌≡◌, ◌<◌, length, OnErr};
 ghost use Rattle.model_core.specs.Machine.{Machine};
 ghost use Rattle.model_core.specs.CacheOperations.{give_step};
-ghost use Rattle.slab_laws.specs.Shows.{Agree, ShowsMachine};
-ghost use Rattle.slab_laws.specs.Keeps.{Spares};
+ghost use Rattle.parts_laws.specs.Shows.{Agree, ShowsMachine};
+ghost use Rattle.parts_laws.specs.Keeps.{Spares};
 
 use crate::Slabs;
 use buddy_core::Buddy;
 use model_core::refusals::GiveRefusal;
-use slab_laws::changes::marked_shows;
-use slab_laws::meets::{found_gives, not_found_refuses};
 use space_core::Space;
 
 impl Slabs {
@@ -34,18 +32,13 @@ impl Slabs {
         ensures agree { Agree space.new buddy.now self.new }
         ensures refused { OnErr result ((space.new ≡ space.old) × (self.new ≡ self.old)) }
     {
-        self.tables.facts();
-        self.steady(space, buddy, t);
-        space.laws();
-        found_gives();
-        not_found_refuses();
-        marked_shows();
+        self.laws_with(space, buddy, t);
         let cache = *self.tables.cache(t, c).ok_or(GiveRefusal::NoCache)?;
         let object = self
             .find(space, buddy, t, c, &cache, place)
             .ok_or(GiveRefusal::NotAnObject)?;
-        self.turn(space, t, &cache, object);
-        self.count(space, buddy, t, c, &cache, object, false);
+        self.turn_bit(space, t, &cache, object);
+        self.recount(space, buddy, t, c, &cache, object, false);
         Ok(())
     }
 }

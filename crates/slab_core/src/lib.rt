@@ -11,12 +11,13 @@
 
 ghost use Rattle.std.specs.Prelude.{◌≡◌, ℕ, ◌≤◌, IfOk};
 ghost use Rattle.model_core.specs.declared.limits.TheConstants.{MOST_ORDER, MOST_SUPERBLOCKS, MOST_TENANTS};
-ghost use Rattle.slab_tables.specs.Content.{IsSlabs, opening};
-ghost use Rattle.slab_laws.specs.Laws.{ListsHold};
+ghost use Rattle.slab_tables.specs.Content.{IsSlabs, empty_tables};
+ghost use Rattle.parts_laws.specs.Laws.{ListsHold};
 
 mod creating;
 mod giving;
 mod growing;
+mod laws;
 mod moving;
 mod objects;
 mod reaching;
@@ -24,12 +25,10 @@ mod reserving;
 mod returning;
 mod room;
 mod rows;
-mod steady;
 mod taking;
 
 use klist_core::Lists;
 pub use model_core::report::CacheRow;
-use slab_laws::meets::kinds_hold;
 use slab_tables::Tables;
 use std::alloc::{AllocError, Global};
 use std::marker::Model;
@@ -56,18 +55,18 @@ impl Slabs {
         requires order { order ≤ MOST_ORDER }
         requires superblocks { superblocks ≤ MOST_SUPERBLOCKS }
         requires tenants { tenants ≤ MOST_TENANTS }
-        ensures { IfOk result (λ s. s ≡ opening order superblocks tenants) }
+        ensures { IfOk result (λ s. s ≡ empty_tables order superblocks tenants) }
     {
         Ok(Slabs {
             tables: Tables::new(alloc, order, superblocks, tenants)?,
         })
     }
 
-    /// A law: what holds of the caches and slabs of all tenants. It costs nothing.
-    pub fn facts(&self)
+    /// What holds of the caches and slabs of all tenants. The call does nothing.
+    pub fn laws(&self)
         ensures { IsSlabs self.now }
     {
-        self.tables.facts();
+        self.tables.laws();
     }
 
     /// A superblock has `2^order` frames.
@@ -77,16 +76,13 @@ impl Slabs {
         self.tables.order()
     }
 
-    /// The lists of the slabs of all caches: each has the slabs of one kind of one cache, by first frame, with their nodes.
-    /// List `3 * (32 * t + c)` has the full slabs of cache `c` of tenant `t`, and the next two have the partial and the empty
-    /// ones.
+    /// The lists of the slabs of all caches: each has the slabs of one kind of one cache, by first frame, with their nodes. A
+    /// [`slab_tables::ListId`] has the number of each.
     pub fn lists(&self) -> &Lists
         ensures same { result.now ≡ self.now.lists }
         ensures hold { ListsHold self.now }
     {
-        self.tables.facts();
-        self.tables.lists().facts();
-        kinds_hold();
+        self.tables.laws();
         self.tables.lists()
     }
 }

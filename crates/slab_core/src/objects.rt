@@ -2,26 +2,23 @@
 
 ghost use Rattle.std.specs.Prelude.{◌≡◌, ℕ, ◌*◌, ◌+◌, ◌/◌, ◌%◌, ◌^◌, ◌<◌, ◌≤◌, Some, length, IfSome, MatchOption, not};
 ghost use Rattle.model_core.specs.Blocks.{around};
-ghost use Rattle.model_core.specs.declared.limits.TheConstants.{MOST_CACHES};
-ghost use Rattle.slab_tables.specs.Content.{Content, kept_at, cache_at, index_of_cache, numbers};
-ghost use Rattle.slab_laws.specs.Shows.{node_of, has_slab, is_of_cache, is_live, IsSlab, Agree};
-ghost use Rattle.slab_laws.specs.Changes.{found, IsMarked};
-ghost use Rattle.slab_laws.specs.Objects.{IsObject, IsNoObject};
-ghost use Rattle.slab_laws.specs.Keeps.{Spares};
+ghost use Rattle.model_core.specs.declared.limits.TheConstants.{FRAME_BYTES, RECORD_OFFSET, MOST_CACHES};
+ghost use Rattle.slab_tables.specs.Content.{Content, IsSlabs, kept_at, cache_at, index_of_cache, layout_numbers};
+ghost use Rattle.parts_laws.specs.Shows.{node_of, has_slab, is_of_cache, is_live, IsSlab, Agree};
+ghost use Rattle.parts_laws.specs.Changes.{found, IsMarked};
+ghost use Rattle.parts_laws.specs.Objects.{IsObject, IsNoObject};
+ghost use Rattle.parts_laws.specs.Keeps.{Spares};
 ghost use Rattle.slab_core.specs.Objects.{IsTurned, IsToCount};
+ghost use Rattle.parts_laws.specs.Slots.{HoldTogether};
 ghost use Rattle.space_core.specs.Content as spaces;
+ghost use Rattle.space_core.specs.Laws.{SpaceLaws};
 ghost use Rattle.klist_core.specs.Places.{place_at};
-ghost use Rattle.space_core.specs.declared.TheConstants.{FRAME_BYTES};
 
 use crate::Slabs;
 use buddy_core::Buddy;
-use layout_core::laws::few_objects;
-use model_core::limits::MOST_CACHES;
-use slab_tables::Cache;
-use space_core::{FRAME_BYTES, Space};
-
-/// Where the control record begins in the frame of a slab of small objects.
-pub(crate) const RECORD_OFFSET: u32 = 4064;
+use model_core::limits::{FRAME_BYTES, RECORD_OFFSET};
+use slab_tables::{Cache, ListId};
+use space_core::Space;
 
 /// An object: the first frame and the node of its slab, and which of the slab's objects it is.
 #[derive(Clone, Copy, Debug)]
@@ -35,7 +32,7 @@ pub(crate) struct Object {
 pub(crate) fn record_place(frame: u32, index: u32) -> u32
     requires frame { frame < 65536 }
     requires index { index < 256 }
-    ensures { result ≡ 4096 * frame + 4064 + index / 8 }
+    ensures { result ≡ FRAME_BYTES * frame + RECORD_OFFSET + index / 8 }
 {
     FRAME_BYTES * frame + RECORD_OFFSET + index / 8
 }
@@ -57,7 +54,7 @@ impl Slabs {
         ensures value { result ≡ node_of self.now.top space.now.slots t frame }
         ensures below { IfSome result (λ node. node < length self.now.lists.places) }
     {
-        self.tables.facts();
+        self.tables.laws();
         let order = self.tables.order();
         let m = space.machine_of(t, frame >> order)?;
         Some((u32::from(m) << order) + frame % (1 << order))
@@ -66,10 +63,10 @@ impl Slabs {
     /// The superblock that has the machine frame.
     #[inline(always)]
     pub(crate) fn superblock(&self, node: u32) -> u16
-        requires { node < length self.now.lists.places }
+        requires tables { IsSlabs self.now }
+        requires node { node < length self.now.lists.places }
         ensures { result ≡ node / 2 ^ self.now.top }
     {
-        self.tables.facts();
         (node >> self.tables.order()) as u16
     }
 
@@ -91,32 +88,28 @@ impl Slabs {
         requires node { node < length self.now.lists.places }
         ensures { result ≡ is_of_cache (index_of_cache t c) frame (place_at self.now.lists.places node) }
     {
-        let cache = u32::from(MOST_CACHES) * u32::from(t) + c;
         match self.tables.place_of(node) {
             None => false,
-            Some((head, first)) => head / 3 == cache && first == frame,
+            Some((number, first)) => ListId { number }.is_of(t, c) && first == frame,
         }
     }
 
     /// Whether an object of a slab is live.
     pub(crate) fn is_live_object(&self, space: &Space, t: u8, cache: &Cache, object: Object) -> bool
         requires tenant { t < length space.now.slots }
-        requires unit { space.now.unit ≡ 4096 * 2 ^ self.now.top }
+        requires laws { SpaceLaws space.now }
+        requires tables { IsSlabs self.now }
+        requires unit { space.now.unit ≡ FRAME_BYTES * 2 ^ self.now.top }
         requires slab { (c : ℕ) × IsSlab space.now self.now t c object.first object.node cache.now }
-        requires index { object.index < (numbers cache.now).count }
+        requires index { object.index < (layout_numbers cache.now).count }
         ensures { result ≡ is_live space.now t cache.now (kept_at self.now.kept object.node) object.first object.index }
     {
-        self.tables.facts();
-        space.laws();
-        cache.layout.fits();
-        cache.layout.accepted();
-        few_objects();
         if cache.layout.in_page() {
             let superblock = self.superblock(object.node);
             let place = record_place(object.first, object.index);
             space.byte_in(superblock, t, place) >> (object.index % 8) & 1 == 1
         } else {
-            let outside = self.tables.kept(object.node).outside;
+            let outside = self.tables.kept_of(object.node).outside;
             outside >> object.index & 1 == 1
         }
     }
@@ -132,21 +125,18 @@ impl Slabs {
         place: u32,
     ) -> Option<Object>
         requires tenant { t < length space.now.slots }
-        requires agree { Agree space.now buddy.now self.now }
+        requires parts { HoldTogether space.now buddy.now self.now }
         requires cache { cache_at self.now t c ≡ Some cache.now }
         ensures { MatchOption result (IsNoObject space.now self.now t c place)
             (λ o. IsObject space.now self.now t c place (found cache.now o.first o.node o.index)) }
     {
-        self.tables.facts();
-        buddy.laws();
-        cache.layout.fits();
         let order = cache.layout.order();
         let first = block_around(place, order);
         let node = self.node(space, t, first)?;
         if !self.is_of_cache(t, c, first, node) {
             return None;
         }
-        let colour = u32::from(self.tables.kept(node).colour);
+        let colour = u32::from(self.tables.kept_of(node).colour);
         let index = cache.layout.index_of(colour, place - FRAME_BYTES * first)?;
         let object = Object { first, node, index };
         if self.is_live_object(space, t, cache, object) {
@@ -158,32 +148,29 @@ impl Slabs {
 
     /// Turns the bit of an object in the record of its slab.
     #[inline(always)]
-    pub(crate) fn turn(&mut self, space: &mut Space, t: u8, cache: &Cache, object: Object)
+    pub(crate) fn turn_bit(&mut self, space: &mut Space, t: u8, cache: &Cache, object: Object)
         requires tenant { t < length space.old.slots }
-        requires unit { space.old.unit ≡ 4096 * 2 ^ self.old.top }
+        requires laws { SpaceLaws space.old }
+        requires tables { IsSlabs self.old }
+        requires unit { space.old.unit ≡ FRAME_BYTES * 2 ^ self.old.top }
         requires slab { (c : ℕ) × IsSlab space.old self.old t c object.first object.node cache.now }
-        requires index { object.index < (numbers cache.now).count }
+        requires index { object.index < (layout_numbers cache.now).count }
         ensures { IsTurned space.old space.new self.old self.new t (found cache.now object.first object.node object.index) }
     {
-        self.tables.facts();
-        space.laws();
-        cache.layout.fits();
-        cache.layout.accepted();
-        few_objects();
         if cache.layout.in_page() {
             let superblock = self.superblock(object.node);
             let place = record_place(object.first, object.index);
             let byte = space.byte_in(superblock, t, place) ^ 1 << (object.index % 8);
             space.set_byte_in(superblock, t, place, byte);
         } else {
-            let outside = self.tables.kept(object.node).outside ^ 1 << object.index;
+            let outside = self.tables.kept_of(object.node).outside ^ 1 << object.index;
             self.tables.set_outside(object.node, outside);
         }
     }
 
     /// Counts the live objects of a slab anew, of which one has been turned: it is live now, or is not any more.
     #[inline(always)]
-    pub(crate) fn count(
+    pub(crate) fn recount(
         &mut self,
         space: &Space,
         buddy: &Buddy,
@@ -201,7 +188,7 @@ impl Slabs {
             → Spares t r space.now buddy.now buddy.now s self.new }
         ensures agree { Agree space.now buddy.now self.new }
     {
-        let before = u32::from(self.tables.kept(object.node).live);
+        let before = u32::from(self.tables.kept_of(object.node).live);
         let count = if live { before + 1 } else { before - 1 };
         self.tables
             .set_count(t, c, cache, object.first, object.node, count);

@@ -5,15 +5,18 @@ ghost use Rattle.std.specs.List.{list_any};
 ghost use Rattle.model_core.specs.Machine.{Machine};
 ghost use Rattle.model_core.specs.Reach.{within_objects};
 ghost use Rattle.slab_tables.specs.declared.cache.Cache as own;
-ghost use Rattle.slab_laws.specs.Shows.{node_of, has_slab, IsSlab, Agree, ShowsMachine};
-ghost use Rattle.slab_laws.specs.Changes.{Found, found};
-ghost use Rattle.slab_laws.specs.Objects.{HasRange, HasNone};
+ghost use Rattle.parts_laws.specs.Shows.{node_of, has_slab, IsSlab, Agree, ShowsMachine};
+ghost use Rattle.parts_laws.specs.Changes.{Found, found};
+ghost use Rattle.parts_laws.specs.Slots.{HoldTogether};
+ghost use Rattle.parts_laws.specs.Steady.{IsSteady};
+ghost use Rattle.parts_laws.specs.Objects.{HasRange, HasNone};
 
 use crate::Slabs;
 use crate::objects::Object;
 use buddy_core::Buddy;
-use model_core::limits::MOST_CACHES;
-use space_core::{FRAME_BYTES, Space};
+use model_core::limits::FRAME_BYTES;
+use slab_tables::ListId;
+use space_core::Space;
 
 impl Slabs {
     /// Whether the `len` bytes of tenant `t` from a place on, at least one, lie inside one live object.
@@ -22,7 +25,7 @@ impl Slabs {
         requires agree { Agree space.now buddy.now self.now }
         ensures { (result ≡ true) ↔ ((o : Found) × HasRange space.now self.now t place len o) }
     {
-        self.steady(space, buddy, t);
+        self.laws_with(space, buddy, t);
         self.object_over(space, buddy, t, place, len).is_some()
     }
 
@@ -36,15 +39,15 @@ impl Slabs {
         len: u32,
     ) -> Option<Object>
         requires tenant { t < length space.now.slots }
-        requires agree { Agree space.now buddy.now self.now }
+        requires parts { HoldTogether space.now buddy.now self.now }
+        requires steady { IsSteady space.now buddy.now self.now t }
         ensures { MatchOption result (HasNone space.now self.now t place len)
             (λ o. (cache : own.Cache) × HasRange space.now self.now t place len (found cache o.first o.node o.index)) }
     {
-        self.steady(space, buddy, t);
         let (first, _) = buddy.block_of(t, place / FRAME_BYTES)?;
         let (c, node) = self.slab_at(space, buddy, t, first)?;
         let cache = self.tables.cache(t, c).unwrap();
-        let colour = u32::from(self.tables.kept(node).colour);
+        let colour = u32::from(self.tables.kept_of(node).colour);
         let index = cache
             .layout
             .holder(colour, place - FRAME_BYTES * first, len)?;
@@ -59,13 +62,13 @@ impl Slabs {
     /// The slab that begins at a frame of tenant `t`, if one does: the number of its cache, and its node.
     fn slab_at(&self, space: &Space, buddy: &Buddy, t: u8, frame: u32) -> Option<(u32, u32)>
         requires tenant { t < length space.now.slots }
-        requires agree { Agree space.now buddy.now self.now }
+        requires parts { HoldTogether space.now buddy.now self.now }
+        requires steady { IsSteady space.now buddy.now self.now t }
         ensures { MatchOption result (has_slab self.now (node_of self.now.top space.now.slots t frame) ≡ false)
             (λ p. (cache : own.Cache) × IsSlab space.now self.now t p.0 frame p.1 cache) }
     {
-        self.steady(space, buddy, t);
         let node = self.node(space, t, frame)?;
-        let (head, _) = self.tables.place_of(node)?;
-        Some((head / 3 % u32::from(MOST_CACHES), node))
+        let (number, _) = self.tables.place_of(node)?;
+        Some((ListId { number }.cache(), node))
     }
 }

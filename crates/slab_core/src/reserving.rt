@@ -5,10 +5,10 @@ ghost use Rattle.model_core.specs.Blocks.{block};
 ghost use Rattle.model_core.specs.Machine.{Machine, choice};
 ghost use Rattle.model_core.specs.Slabs.{choice_by_need};
 ghost use Rattle.model_core.specs.Operations.{with_block, alloc_step};
-ghost use Rattle.slab_laws.specs.Shows.{ShowsMachine, Agree};
-ghost use Rattle.slab_laws.specs.Keeps.{Spares};
-ghost use Rattle.slab_laws.specs.Room.{HasRoom};
-ghost use Rattle.slab_core.specs.Room.{HasFree};
+ghost use Rattle.parts_laws.specs.Shows.{ShowsMachine, Agree};
+ghost use Rattle.parts_laws.specs.Keeps.{Spares};
+ghost use Rattle.parts_laws.specs.Room.{HasRoom};
+ghost use Rattle.slab_core.specs.Room.{HasFreeBlock};
 
 use crate::Slabs;
 use buddy_core::Buddy;
@@ -37,10 +37,7 @@ impl Slabs {
         ensures agree { Agree space.new buddy.new self.new }
         ensures refused { IfNone result ((space.new ≡ space.old) × ((buddy.new ≡ buddy.old) × (self.new ≡ self.old))) }
     {
-        self.tables.facts();
-        self.steady(space, buddy, t);
-        slab_laws::changes::reaped_shows();
-        model_core::laws::reaps_by_need();
+        self.laws_with(space, buddy, t);
         if let Some(first) = self.reserve(space, buddy, t, k) {
             return Some(first);
         }
@@ -60,17 +57,12 @@ impl Slabs {
         ensures answer { (m : Machine) → ShowsMachine space.now buddy.old self.now t m → result ≡ choice self.now.top m k }
         ensures shows { IfSome result (λ f. (m : Machine) → ShowsMachine space.now buddy.old self.now t m
             → ShowsMachine space.now buddy.new self.now t (with_block (block f k) m)) }
-        ensures free { IsSome result ↔ HasFree buddy.old t k }
+        ensures free { IsSome result ↔ HasFreeBlock buddy.old t k }
         ensures spares { Spares t space.now space.now buddy.old buddy.new self.now self.now }
         ensures agree { Agree space.now buddy.new self.now }
         ensures refused { IfNone result (buddy.new ≡ buddy.old) }
     {
-        self.steady(space, buddy, t);
-        buddy.laws();
-        slab_laws::meets::taken_meets();
-        slab_laws::changes::reserved_shows();
-        model_core::laws::choices_meet();
-        model_core::block_laws::reserved_is_untaken();
+        self.laws_with(space, buddy, t);
         buddy.reserve(t, k)
     }
 }

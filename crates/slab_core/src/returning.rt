@@ -3,24 +3,24 @@
 ghost use Rattle.std.specs.Prelude.{◌≡◌, ℕ, ◌<◌, ◌≤◌, ◌^◌, ◌==◌, ◌↔◌, length, flat_map, Some, true, false, OnErr};
 ghost use Rattle.slab_tables.specs.Changes.{without_slab};
 ghost use Rattle.klist_core.specs.Places.{IsEmpty};
-ghost use Rattle.slab_tables.specs.Content.{IsTenant, kept_at, cache_at, index_of_cache, head_of};
+ghost use Rattle.slab_tables.specs.Content.{IsTenant, IsSlabs, kept_at, cache_at, index_of_cache, head_of};
 ghost use Rattle.slab_core.specs.Calls.{idle_at, empty_frames_in, IsUnused};
 ghost use Rattle.model_core.specs.Machine.{Machine};
 ghost use Rattle.model_core.specs.Slabs.{cache_of, empty_blocks};
 ghost use Rattle.model_core.specs.CacheOperations.{frames_of, reap_step, destroy_step};
 ghost use Rattle.space_core.specs.Content as spaces;
 ghost use Rattle.buddy_core.specs.Content as buddies;
-ghost use Rattle.slab_laws.specs.Steady.{IsSteady};
-ghost use Rattle.slab_laws.specs.Shows.{IsSlab, ShowsMachine, Agree};
-ghost use Rattle.slab_laws.specs.Keeps.{Spares};
-ghost use Rattle.slab_laws.specs.Changes.{IsReturned};
+ghost use Rattle.parts_laws.specs.Steady.{IsSteady};
+ghost use Rattle.parts_laws.specs.Shows.{IsSlab, ShowsMachine, Agree};
+ghost use Rattle.parts_laws.specs.Keeps.{Spares};
+ghost use Rattle.parts_laws.specs.Changes.{IsReturned};
 
 use crate::Slabs;
 use buddy_core::Buddy;
-use model_core::limits::MOST_CACHES;
+use model_core::limits::{FRAME_BYTES, MOST_CACHES};
 use model_core::refusals::DestroyRefusal;
 use slab_tables::{Cache, Kind};
-use space_core::{FRAME_BYTES, Space};
+use space_core::Space;
 
 impl Slabs {
     /// Gives back the slab of tenant `t` at frame `first` and `node`, of which no object is live.
@@ -42,12 +42,10 @@ impl Slabs {
         ensures spares { Spares t space.old space.new buddy.old buddy.new self.old self.new }
         ensures agree { Agree space.new buddy.new self.new }
     {
-        self.steady(space, buddy, t);
-        self.tables.facts();
-        space.laws();
+        self.laws_with(space, buddy, t);
         let _ = buddy.release(t, first);
         space.zero(t, FRAME_BYTES * first, FRAME_BYTES << cache.layout.order());
-        self.tables.forget(node);
+        self.tables.remove_slab(node);
     }
 
     /// Gives back all slabs of cache `c` of tenant `t` of which no object is live.
@@ -65,16 +63,14 @@ impl Slabs {
         ensures returned { IsReturned space.old space.new buddy.old buddy.new self.old self.new t (idle_at (λ i. i == index_of_cache t c) space.old self.old t) }
         ensures empty { IsEmpty self.new.lists.places (head_of t c 2) }
         ensures lists { (head : ℕ) → IsEmpty self.old.lists.places head → IsEmpty self.new.lists.places head }
+        ensures tables { IsSlabs self.new }
         ensures spares { Spares t space.old space.new buddy.old buddy.new self.old self.new }
         ensures agree { Agree space.new buddy.new self.new }
     {
-        self.steady(space, buddy, t);
+        self.laws_with(space, buddy, t);
         while let Some((first, node)) = self.tables.first(t, c, Kind::Empty) {
-            self.tables.facts();
             self.give_back(space, buddy, t, cache, first, node);
         }
-        self.tables.facts();
-        self.steady(space, buddy, t);
     }
 
     /// Gives back all slabs of tenant `t` of which no object is live.
@@ -85,15 +81,12 @@ impl Slabs {
         ensures spares { Spares t space.old space.new buddy.old buddy.new self.old self.new }
         ensures agree { Agree space.new buddy.new self.new }
     {
-        self.steady(space, buddy, t);
+        self.laws_with(space, buddy, t);
         for c in 0..u32::from(MOST_CACHES) {
-            self.tables.facts();
             if let Some(cache) = self.tables.cache(t, c).copied() {
                 self.give_back_empty(space, buddy, t, c, &cache);
             }
         }
-        self.tables.facts();
-        self.steady(space, buddy, t);
     }
 
     /// Gives back all slabs of tenant `t` of which no object is live, and answers how many frames they had.
@@ -106,9 +99,7 @@ impl Slabs {
         ensures spares { Spares t space.old space.new buddy.old buddy.new self.old self.new }
         ensures agree { Agree space.new buddy.new self.new }
     {
-        self.tables.facts();
-        self.steady(space, buddy, t);
-        slab_laws::changes::reaped_shows();
+        self.laws_with(space, buddy, t);
         let frames = self.empty_frames(t);
         self.give_back_all(space, buddy, t);
         frames
@@ -133,9 +124,7 @@ impl Slabs {
         ensures agree { Agree space.new buddy.new self.new }
         ensures refused { OnErr result ((space.new ≡ space.old) × ((buddy.new ≡ buddy.old) × (self.new ≡ self.old))) }
     {
-        self.tables.facts();
-        self.steady(space, buddy, t);
-        slab_laws::changes::returned_shows();
+        self.laws_with(space, buddy, t);
         let Some(cache) = self.tables.cache(t, c).copied() else {
             return Err(DestroyRefusal::NoCache);
         };
@@ -179,14 +168,10 @@ impl Slabs {
         ensures frames { (r : spaces.Content) (b : buddies.Content) (m : Machine) → Agree r b self.now → IsSteady r b self.now t
             → ShowsMachine r b self.now t m → result ≡ empty_frames_in (cache_of m c) }
     {
-        self.tables.facts();
-        self.tables.lists().facts();
-        klist_core::laws::lists_count_places();
-        slab_laws::meets::kinds_hold();
+        self.tables.laws();
         let Some(cache) = self.tables.cache(t, c) else {
             return 0;
         };
-        cache.layout.fits();
         self.tables.count(t, c, Kind::Empty) << cache.layout.order()
     }
 }

@@ -5,24 +5,26 @@ ghost use Rattle.model_core.specs.Blocks.{around};
 ghost use Rattle.model_core.specs.Machine.{Machine, choice};
 ghost use Rattle.model_core.specs.Slabs.{reaped};
 ghost use Rattle.model_core.specs.declared.limits.TheConstants.{MOST_CACHES, MOST_ORDER};
-ghost use Rattle.slab_laws.specs.Room.{HasRoom};
-ghost use Rattle.slab_laws.specs.Shows.{ShowsMachine, Agree};
+ghost use Rattle.parts_laws.specs.Room.{HasRoom};
+ghost use Rattle.parts_laws.specs.Shows.{ShowsMachine, Agree};
+ghost use Rattle.parts_laws.specs.Slots.{HoldTogether};
+ghost use Rattle.parts_laws.specs.Steady.{IsSteady};
+ghost use Rattle.buddy_core.specs.Content.{BuddyLaws};
 ghost use Rattle.slab_core.specs.Calls.{idle_at};
-ghost use Rattle.slab_core.specs.Room.{HasFree, IsUnusedFrame, IsUnusedTo, IsUnusedBlock, HasRoomAround, HasRoomInSlabs};
+ghost use Rattle.slab_core.specs.Room.{HasFreeBlock, IsUnusedFrame, IsUnusedTo, IsUnusedBlock, HasRoomAround, HasRoomInSlabs};
 
 use crate::Slabs;
 use buddy_core::Buddy;
 use model_core::limits::MOST_CACHES;
-use slab_laws::meets::{agree_steady, room_meets};
 use slab_tables::Kind;
 use space_core::Space;
 
 /// Whether tenant `t` has a free block of order `k` or more.
 fn has_free(buddy: &Buddy, t: u8, k: u8) -> bool
-    requires { t < length buddy.now.tenants }
-    ensures { (result ≡ true) ↔ HasFree buddy.now t k }
+    requires tenant { t < length buddy.now.tenants }
+    requires laws { BuddyLaws buddy.now }
+    ensures { (result ≡ true) ↔ HasFreeBlock buddy.now t k }
 {
-    buddy.laws();
     for order in k..=buddy.order() {
         if buddy.free_count(t, order) > 0 {
             return true;
@@ -52,11 +54,7 @@ impl Slabs {
         ensures answer { (m : Machine) → ShowsMachine space.now buddy.now self.now t m
             → result ≡ is_some (choice self.now.top (reaped m) k) }
     {
-        self.tables.facts();
-        space.laws();
-        buddy.laws();
-        agree_steady();
-        room_meets();
+        self.laws_with(space, buddy, t);
         has_free(buddy, t, k) || self.has_room_in_slabs(space, buddy, t, k)
     }
 
@@ -64,7 +62,8 @@ impl Slabs {
     fn has_room_in_slabs(&self, space: &Space, buddy: &Buddy, t: u8, k: u8) -> bool
         requires tenant { t < length space.now.slots }
         requires order { k ≤ self.now.top }
-        requires agree { Agree space.now buddy.now self.now }
+        requires parts { HoldTogether space.now buddy.now self.now }
+        requires steady { IsSteady space.now buddy.now self.now t }
         ensures { (result ≡ true) ↔ HasRoomInSlabs space.now buddy.now self.now t k }
     {
         for c in 0..u32::from(MOST_CACHES) {
@@ -80,11 +79,10 @@ impl Slabs {
         requires tenant { t < length space.now.slots }
         requires cache { c < MOST_CACHES }
         requires order { k ≤ self.now.top }
-        requires agree { Agree space.now buddy.now self.now }
+        requires parts { HoldTogether space.now buddy.now self.now }
+        requires steady { IsSteady space.now buddy.now self.now t }
         ensures { (result ≡ true) ↔ HasRoomAround space.now buddy.now self.now t c k }
     {
-        self.tables.facts();
-        self.steady(space, buddy, t);
         let mut next = self.tables.first(t, c, Kind::Empty);
         // Slabs that begin before this frame are done with, so that no block is walked twice for one cache.
         let mut done = 0;
@@ -106,10 +104,10 @@ impl Slabs {
         requires tenant { t < length space.now.slots }
         requires first { first < 65536 }
         requires order { k ≤ self.now.top }
-        requires agree { Agree space.now buddy.now self.now }
+        requires parts { HoldTogether space.now buddy.now self.now }
+        requires steady { IsSteady space.now buddy.now self.now t }
         ensures { (result ≡ true) ↔ IsUnusedBlock space.now buddy.now self.now t first k }
     {
-        self.tables.facts();
         let end = first + (1 << k);
         let mut frame = first;
         while frame < end {
@@ -126,12 +124,11 @@ impl Slabs {
     fn past_unused(&self, space: &Space, buddy: &Buddy, t: u8, frame: u32) -> Option<u32>
         requires tenant { t < length space.now.slots }
         requires frame { frame < 2 ^ 32 - 1 }
-        requires agree { Agree space.now buddy.now self.now }
+        requires parts { HoldTogether space.now buddy.now self.now }
+        requires steady { IsSteady space.now buddy.now self.now t }
         ensures { MatchOption result (IsUnusedFrame space.now buddy.now self.now t frame → ⊥)
             (λ next. IsUnusedTo space.now buddy.now self.now t frame next) }
     {
-        self.tables.facts();
-        self.steady(space, buddy, t);
         let Some((first, order)) = buddy.block_of(t, frame) else {
             return Some(frame + 1);
         };
@@ -150,7 +147,8 @@ impl Slabs {
     {
         match self.node(space, t, frame) {
             None => false,
-            Some(node) => self.tables.place_of(node).is_some() && self.tables.kept(node).live == 0,
+            Some(node) => self.tables.place_of(node).is_some()
+                && self.tables.kept_of(node).live == 0,
         }
     }
 }

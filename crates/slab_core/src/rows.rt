@@ -7,14 +7,13 @@ ghost use Rattle.model_core.specs.declared.limits.TheConstants.{MOST_CACHES};
 ghost use Rattle.space_core.specs.Content as spaces;
 ghost use Rattle.buddy_core.specs.Content as buddies;
 ghost use Rattle.slab_tables.specs.Content.{IsTenant};
-ghost use Rattle.slab_laws.specs.Shows.{Agree, ShowsMachine};
-ghost use Rattle.slab_laws.specs.Steady.{IsSteady};
-ghost use Rattle.model_core.specs.Reports.{row_of, rows_of};
+ghost use Rattle.parts_laws.specs.Shows.{Agree, ShowsMachine};
+ghost use Rattle.parts_laws.specs.Steady.{IsSteady};
+ghost use Rattle.model_core.specs.Reports.{row_of_cache, rows_of_caches};
 
 use crate::{CacheRow, Slabs};
 use arrayvec::ArrayVec;
 use model_core::limits::MOST_CACHES;
-use slab_laws::meets::kinds_hold;
 use slab_tables::Kind;
 
 impl Slabs {
@@ -22,7 +21,7 @@ impl Slabs {
     pub fn rows(&self, t: u8) -> ArrayVec<CacheRow, 32>
         requires { IsTenant self.now t }
         ensures { (r : spaces.Content) (b : buddies.Content) (m : Machine) → Agree r b self.now → IsSteady r b self.now t → ShowsMachine r b self.now t m
-            → result.items ≡ rows_of m }
+            → result.items ≡ rows_of_caches m }
     {
         let mut rows = ArrayVec::new();
         for c in 0..MOST_CACHES {
@@ -38,11 +37,9 @@ impl Slabs {
         requires tenant { IsTenant self.now t }
         requires cache { c < MOST_CACHES }
         ensures { (r : spaces.Content) (b : buddies.Content) (m : Machine) → Agree r b self.now → IsSteady r b self.now t → ShowsMachine r b self.now t m
-            → result ≡ option_map row_of (cache_of m c) }
+            → result ≡ option_map row_of_cache (cache_of m c) }
     {
-        self.tables.facts();
-        self.tables.lists().facts();
-        kinds_hold();
+        self.tables.laws();
         let _cache = self.tables.cache(t, c.into())?;
         Some(CacheRow {
             cache: c,

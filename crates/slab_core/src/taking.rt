@@ -2,26 +2,28 @@
 
 ghost use Rattle.std.specs.Prelude.{◌≡◌, ◌≢◌, ℕ, ◌*◌, ◌^◌, ◌<◌, ◌≤◌, not, List, Some, Ok, length, slice_index, IsSome, IfSome, OnErr, MatchOption};
 ghost use Rattle.std.specs.List.{position_or_len};
-ghost use Rattle.slab_tables.specs.Content.{kept_at, cache_at, numbers};
-ghost use Rattle.slab_laws.specs.Shows.{live_of, IsSlab, Agree, ShowsMachine};
-ghost use Rattle.slab_laws.specs.Keeps.{Spares};
+ghost use Rattle.model_core.specs.declared.limits.TheConstants.{FRAME_BYTES};
+ghost use Rattle.slab_tables.specs.Content.{IsSlabs, kept_at, cache_at, layout_numbers};
+ghost use Rattle.parts_laws.specs.Shows.{live_of, IsSlab, Agree, ShowsMachine};
+ghost use Rattle.parts_laws.specs.Keeps.{Spares};
+ghost use Rattle.parts_laws.specs.Slots.{HoldTogether};
 ghost use Rattle.model_core.specs.Machine as machines;
 ghost use Rattle.model_core.specs.Machine.{Machine};
 ghost use Rattle.model_core.specs.Slabs.{cache_of, slab_of};
 ghost use Rattle.model_core.specs.CacheOperations.{hand_out, take_step};
-ghost use Rattle.slab_laws.specs.Objects.{IsToUse, IsAllFull};
-ghost use Rattle.slab_laws.specs.Changes.{found};
+ghost use Rattle.parts_laws.specs.Objects.{IsToUse, IsAllFull};
+ghost use Rattle.parts_laws.specs.Changes.{found};
+ghost use Rattle.space_core.specs.Laws.{SpaceLaws};
 ghost use Rattle.space_core.specs.Windows.{home_of, window_of};
 ghost use Rattle.slab_core.specs.Objects.{standing, HasClear, IsRaised, IsRecordRaised, IsTurned};
 
 use crate::Slabs;
 use crate::objects::{Object, record_place};
 use buddy_core::Buddy;
-use layout_core::laws::few_objects;
+use model_core::limits::FRAME_BYTES;
 use model_core::refusals::TakeRefusal;
-use slab_laws::changes::marked_shows;
 use slab_tables::{Cache, Kind};
-use space_core::{FRAME_BYTES, Space};
+use space_core::Space;
 
 /// The least index of a byte of which not every bit is 1.
 #[inline(always)]
@@ -85,8 +87,7 @@ impl Slabs {
         ensures agree { Agree space.new buddy.new self.new }
         ensures refused { OnErr result ((space.new ≡ space.old) × ((buddy.new ≡ buddy.old) × (self.new ≡ self.old))) }
     {
-        self.tables.facts();
-        self.steady(space, buddy, t);
+        self.laws_with(space, buddy, t);
         let cache = *self.tables.cache(t, c).ok_or(TakeRefusal::NoCache)?;
         if let Some((first, node)) = self.slab_to_use(space, buddy, t, c, &cache) {
             return Ok(self.hand_out(space, buddy, t, c, &cache, first, node));
@@ -96,7 +97,6 @@ impl Slabs {
             .ok_or(TakeRefusal::NoFrames)?;
         // It has made one slab more.
         let cache = *self.tables.cache(t, c).unwrap();
-        cache.layout.fits();
         Ok(self.hand_out(space, buddy, t, c, &cache, first, node))
     }
 
@@ -110,12 +110,11 @@ impl Slabs {
         cache: &Cache,
     ) -> Option<(u32, u32)>
         requires tenant { t < length space.now.slots }
-        requires agree { Agree space.now buddy.now self.now }
+        requires parts { HoldTogether space.now buddy.now self.now }
         requires cache { cache_at self.now t c ≡ Some cache.now }
         ensures slab { MatchOption result (IsAllFull self.now t c) (λ p. IsToUse space.now self.now t c cache.now (standing p.0 p.1)) }
-        ensures free { IfSome result (λ p. (kept_at self.now.kept p.1).live < (numbers cache.now).count) }
+        ensures free { IfSome result (λ p. (kept_at self.now.kept p.1).live < (layout_numbers cache.now).count) }
     {
-        self.tables.facts();
         match self.tables.first(t, c, Kind::Partial) {
             Some(slab) => Some(slab),
             None => self.tables.first(t, c, Kind::Empty),
@@ -124,24 +123,28 @@ impl Slabs {
 
     /// Lets the least object of a slab be live that is not, and answers which. The slab is still to be counted.
     #[inline(always)]
-    fn claim(&mut self, space: &mut Space, t: u8, cache: &Cache, first: u32, node: u32) -> u32
+    fn mark_least_free(
+        &mut self,
+        space: &mut Space,
+        t: u8,
+        cache: &Cache,
+        first: u32,
+        node: u32,
+    ) -> u32
         requires tenant { t < length space.old.slots }
-        requires unit { space.old.unit ≡ 4096 * 2 ^ self.old.top }
+        requires laws { SpaceLaws space.old }
+        requires tables { IsSlabs self.old }
+        requires unit { space.old.unit ≡ FRAME_BYTES * 2 ^ self.old.top }
         requires slab { (c : ℕ) × IsSlab space.old self.old t c first node cache.now }
-        requires free { position_or_len not (live_of space.old t cache.now (kept_at self.old.kept node) first) < (numbers cache.now).count }
+        requires free { position_or_len not (live_of space.old t cache.now (kept_at self.old.kept node) first) < (layout_numbers cache.now).count }
         ensures least { result ≡ position_or_len not (live_of space.old t cache.now (kept_at self.old.kept node) first) }
         ensures turned { IsTurned space.old space.new self.old self.new t (found cache.now first node result) }
     {
-        self.tables.facts();
-        space.laws();
-        cache.layout.fits();
-        cache.layout.accepted();
-        few_objects();
         if cache.layout.in_page() {
             let superblock = self.superblock(node);
             raise_in_record(space, superblock, t, record_place(first, 0))
         } else {
-            let outside = self.tables.kept(node).outside;
+            let outside = self.tables.kept_of(node).outside;
             let index = u32::from(outside).trailing_ones();
             self.tables.set_outside(node, outside ^ 1 << index);
             index
@@ -163,7 +166,7 @@ impl Slabs {
         requires tenant { t < length space.old.slots }
         requires agree { Agree space.old buddy.now self.old }
         requires slab { IsSlab space.old self.old t c first node cache.now }
-        requires free { (kept_at self.old.kept node).live < (numbers cache.now).count }
+        requires free { (kept_at self.old.kept node).live < (layout_numbers cache.now).count }
         ensures answer { (m : Machine) (x : machines.Cache) (y : machines.Slab) → ShowsMachine space.old buddy.now self.old t m
             → cache_of m c ≡ Some x → slab_of x first ≡ Some y → Ok result ≡ (hand_out x y m).answer }
         ensures shows { (m : Machine) (x : machines.Cache) (y : machines.Slab) → ShowsMachine space.old buddy.now self.old t m
@@ -171,15 +174,11 @@ impl Slabs {
         ensures spares { Spares t space.old space.new buddy.now buddy.now self.old self.new }
         ensures agree { Agree space.new buddy.now self.new }
     {
-        self.steady(space, buddy, t);
-        marked_shows();
-        self.tables.facts();
-        space.laws();
-        cache.layout.fits();
-        let colour = u32::from(self.tables.kept(node).colour);
-        let index = self.claim(space, t, cache, first, node);
+        self.laws_with(space, buddy, t);
+        let colour = u32::from(self.tables.kept_of(node).colour);
+        let index = self.mark_least_free(space, t, cache, first, node);
         let object = Object { first, node, index };
-        self.count(space, buddy, t, c, cache, object, true);
+        self.recount(space, buddy, t, c, cache, object, true);
         FRAME_BYTES * first + cache.layout.offset(colour, index)
     }
 }

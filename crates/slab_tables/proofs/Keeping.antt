@@ -8,7 +8,7 @@ use Rattle.klist_core.proofs.Tables.{placed_within}
 use Rattle.model_core.specs.declared.limits.TheConstants.{MOST_CACHES, MOST_ORDER, MOST_SUPERBLOCKS, MOST_TENANTS}
 use Rattle.slab_tables.specs.declared.cache.Cache.{Cache}
 use Rattle.slab_tables.specs.declared.cache.Kept.{Kept}
-use Rattle.slab_tables.specs.Content.{Content, IsSlabs, IsListed, IsCache, IsTenant, IsPlaced, blank, kept_at, cache_in, cache_at, index_of_cache, head_of, numbers, kind_of, is_of_index, live_total, opening}
+use Rattle.slab_tables.specs.Content.{Content, IsSlabs, IsListed, IsCache, IsTenant, IsPlacedIn, blank, kept_at, cache_in, cache_at, index_of_cache, head_of, layout_numbers, kind_of, is_of_index, live_total, empty_tables}
 use Rattle.slab_tables.specs.Changes.{fresh_kept, made_more, with_slab, with_count, with_outside, without_slab, with_cache}
 use Rattle.slab_tables.proofs.Totals.{part, total_set, part_within, total_none, total_few}
 use Rattle.slab_tables.proofs.Reading.{everywhere, same_cache, same_place, IsCached, cached, cache_within, placed_at, head_parts, listed, few_live, kind_below, kind_fresh}
@@ -135,7 +135,7 @@ slabs_slab s t c cache first node w e below lt free =
     more : IsSlabs (with_made s t c cache)
     more = slabs_cache s (index_of_cache t c) (Some (made_more cache)) w below
         (λ d q. subst IsCache (same_cache {o = Some (made_more cache)} refl q)
-        (record { layout = fit.layout; pattern = fit.pattern; made = omega (arith, fit.layout.colours) }))
+        (record { size = fit.size; align = fit.align; layout = fit.layout; pattern = fit.pattern; made = omega (arith, fit.layout.colours) }))
         (λ i head key q is.
         let x = w.standing i head key q in
         let same : x.0 ≡ cache = same_cache (sym (ap (cache_in s.caches) is) ∙ x.1) here.cached in
@@ -151,14 +151,14 @@ slabs_slab s t c cache first node w e below lt free =
           ap (cache_in (set s.caches (index_of_cache t c) (Some (made_more cache)))) (ap (λ x. x / 3) (sym is) ∙ (head_parts t c 2 (omega arith)).0)
               ∙ get_or-set_same s.caches (index_of_cache t c) (Some (made_more cache)) None below,
           record {
-            kind = ap (λ x. x % 3) (sym is) ∙ ((head_parts t c 2 (omega arith)).1 ∙ sym (kind_fresh (numbers cache).count count));
+            kind = ap (λ x. x % 3) (sym is) ∙ ((head_parts t c 2 (omega arith)).1 ∙ sym (kind_fresh (layout_numbers cache).count count));
             few = omega arith;
             colour = (cache.made, refl);
           },
         )
 
 -- a cache less, which has no slab
-pub slabs_less : (s : Content) (t c : ℕ) → IsSlabs s → index_of_cache t c < length s.caches → ((first node : ℕ) → IsPlaced s t c first node → ⊥)
+pub slabs_less : (s : Content) (t c : ℕ) → IsSlabs s → index_of_cache t c < length s.caches → ((first node : ℕ) → IsPlacedIn s t c first node → ⊥)
     → IsSlabs (with_cache s t c None)
 slabs_less s t c w below none = slabs_cache s (index_of_cache t c) None w below
     (λ d e. absurd (let f : ◌≡◌ {A = Option Cache} None (Some d) = e in cc))
@@ -186,7 +186,7 @@ pub record IsTotal (s : Content) (t c node : ℕ) : Type 0 where
   pub at_least : (kept_at s.kept node).live ≤ get_or s.live (index_of_cache t c) 0
   pub at_most : get_or s.live (index_of_cache t c) 0 ≤ 256 * 2 ^ 16
 
-pub total_of : (s : Content) (t c first node : ℕ) → IsSlabs s → index_of_cache t c < length s.caches → IsPlaced s t c first node → IsTotal s t c node
+pub total_of : (s : Content) (t c first node : ℕ) → IsSlabs s → index_of_cache t c < length s.caches → IsPlacedIn s t c first node → IsTotal s t c node
 total_of s t c first node w below p =
     let n = index_of_cache t c in
     let lt = placed_within s.lists.places node (head_of t c p.kind, first) p.placed in
@@ -204,15 +204,15 @@ counted_live s n node count = set s.live n (get_or s.live n 0 + count - (kept_at
 
 -- a slab counted anew
 pub slabs_count : (s : Content) (t c : ℕ) (cache : Cache) (first node count : ℕ) → IsSlabs s → cache_at s t c ≡ Some cache → index_of_cache t c < length s.caches
-    → IsPlaced s t c first node → count ≤ (numbers cache).count → IsSlabs (with_count s t c cache first node count)
+    → IsPlacedIn s t c first node → count ≤ (layout_numbers cache).count → IsSlabs (with_count s t c cache first node count)
 slabs_count s t c cache first node count w e below p few =
-    slabs_node s node (Some (head_of t c (kind_of (numbers cache).count count), first)) (counted_kept s node count) (counted_live s (index_of_cache t c) node count) w
+    slabs_node s node (Some (head_of t c (kind_of (layout_numbers cache).count count), first)) (counted_kept s node count) (counted_live s (index_of_cache t c) node count) w
     (placed_within s.lists.places node (head_of t c p.kind, first) p.placed) stands (length-set s.live (index_of_cache t c) _) counts
   where
-    stands : InOrder s (Some (head_of t c (kind_of (numbers cache).count count), first)) (counted_kept s node count)
+    stands : InOrder s (Some (head_of t c (kind_of (layout_numbers cache).count count), first)) (counted_kept s node count)
     stands head key q =
-        let kind = kind_of (numbers cache).count count in
-        let parts = head_parts t c kind (kind_below (numbers cache).count count) in
+        let kind = kind_of (layout_numbers cache).count count in
+        let parts = head_parts t c kind (kind_below (layout_numbers cache).count count) in
         let is : head_of t c kind ≡ head = (same_place {o = Some (head_of t c kind, first)} refl q).0 in
         let old = listed s w t c first node cache e p.kind p.few p.placed in (
           cache,
@@ -222,11 +222,11 @@ slabs_count s t c cache first node count w e below p few =
 
     counts : (m : ℕ) → m < length s.live
         → get_or (counted_live s (index_of_cache t c) node count) m 0 + part m (place_at s.lists.places node) (kept_at s.kept node)
-        ≡ get_or s.live m 0 + part m (Some (head_of t c (kind_of (numbers cache).count count), first)) (counted_kept s node count)
+        ≡ get_or s.live m 0 + part m (Some (head_of t c (kind_of (layout_numbers cache).count count), first)) (counted_kept s node count)
     counts m lt =
         let n = index_of_cache t c in
-        let kind = kind_of (numbers cache).count count in
-        let below_three = kind_below (numbers cache).count count in
+        let kind = kind_of (layout_numbers cache).count count in
+        let below_three = kind_below (layout_numbers cache).count count in
         let placed = ap (λ x. part m x (kept_at s.kept node)) p.placed in
         elim (cases_eq m n) [
           | inl is ↦
@@ -253,7 +253,7 @@ slabs_count s t c cache first node count w e below p few =
         ]
 
 -- what the code reads of the slab
-pub kept_read : (s : Content) (t c first node : ℕ) (k : Kept) → IsSlabs s → IsPlaced s t c first node → k ≡ get_or s.kept node k → k ≡ kept_at s.kept node
+pub kept_read : (s : Content) (t c first node : ℕ) (k : Kept) → IsSlabs s → IsPlacedIn s t c first node → k ≡ get_or s.kept node k → k ≡ kept_at s.kept node
 kept_read s t c first node k w p read =
     let lt = placed_within s.lists.places node (head_of t c p.kind, first) p.placed in
     get_or_read s.kept node k (omega (arith, w.paired)) read blank
@@ -266,7 +266,7 @@ pub record IsCounting (s : Content) (t c node count total : ℕ) (k : Kept) : Ty
   pub enough : k.live ≤ total + count
 
 pub counting : (s : Content) (t c : ℕ) (cache : Cache) (first node count total : ℕ) (k : Kept) → IsSlabs s → IsTenant s t → cache_at s t c ≡ Some cache
-    → IsPlaced s t c first node → count ≤ (numbers cache).count → total ≡ get_or s.live (index_of_cache t c) total → k ≡ get_or s.kept node k
+    → IsPlacedIn s t c first node → count ≤ (layout_numbers cache).count → total ≡ get_or s.live (index_of_cache t c) total → k ≡ get_or s.kept node k
     → IsCounting s t c node count total k
 counting s t c cache first node count total k w tenant e p few read read_kept =
     let here = cached s t c cache e in
@@ -283,7 +283,7 @@ counting s t c cache first node count total k w tenant e p few read read_kept =
     }
 
 -- no cache and no slab
-pub slabs_opening : (top superblocks tenants : ℕ) → top ≤ MOST_ORDER → superblocks ≤ MOST_SUPERBLOCKS → tenants ≤ MOST_TENANTS → IsSlabs (opening top superblocks tenants)
+pub slabs_opening : (top superblocks tenants : ℕ) → top ≤ MOST_ORDER → superblocks ≤ MOST_SUPERBLOCKS → tenants ≤ MOST_TENANTS → IsSlabs (empty_tables top superblocks tenants)
 slabs_opening top superblocks tenants order few_superblocks few_tenants = record {
   order = order;
   paired = length-replicate nodes blank ∙ sym (length-replicate nodes unplaced);

@@ -6,7 +6,7 @@ use Rattle.klist_core.specs.Places.{place_at}
 use Rattle.model_core.specs.declared.limits.TheConstants.{MOST_CACHES}
 use Rattle.slab_tables.specs.declared.cache.Cache.{Cache}
 use Rattle.slab_tables.specs.declared.tables.Tables.TheInside.{Inside}
-use Rattle.slab_tables.specs.Content.{Content, IsSlabs, IsListed, IsTenant, IsPlaced, kept_at, cache_in, cache_at, index_of_cache, head_of, kind_of, numbers}
+use Rattle.slab_tables.specs.Content.{Content, IsSlabs, IsListed, IsTenant, IsPlacedIn, kept_at, cache_in, cache_at, index_of_cache, head_of, kind_of, layout_numbers}
 
 -- what callers see of the tables
 abbrev pub shown : Inside → Content
@@ -40,7 +40,7 @@ pub head_parts : (t c kind : ℕ) → kind < 3 → (head_of t c kind / 3 ≡ ind
 head_parts t c kind lt = (omega arith, omega arith)
 
 -- a place in a list of the cache
-pub placed_at : (s : Content) (t c head key node : ℕ) → place_at s.lists.places node ≡ Some (head, key) → head / 3 ≡ index_of_cache t c → IsPlaced s t c key node
+pub placed_at : (s : Content) (t c head key node : ℕ) → place_at s.lists.places node ≡ Some (head, key) → head / 3 ≡ index_of_cache t c → IsPlacedIn s t c key node
 placed_at s t c head key node e is =
     let parts : head ≡ head_of t c (head % 3) = omega arith in
     record { kind = head % 3; few = omega arith; placed = e ∙ ap (λ (x : ℕ). Some (x, key)) parts }
@@ -64,8 +64,8 @@ listed s w t c first node cache e kind lt placed =
     subst (λ x. IsListed (kept_at s.kept node) x (head_of t c kind)) same k.2
 
 -- a slab stands in the list of its kind
-pub placed_by_kind : (s : Content) → IsSlabs s → (t c first node : ℕ) (cache : Cache) → cache_at s t c ≡ Some cache → IsPlaced s t c first node
-    → place_at s.lists.places node ≡ Some (head_of t c (kind_of (numbers cache).count (kept_at s.kept node).live), first)
+pub placed_by_kind : (s : Content) → IsSlabs s → (t c first node : ℕ) (cache : Cache) → cache_at s t c ≡ Some cache → IsPlacedIn s t c first node
+    → place_at s.lists.places node ≡ Some (head_of t c (kind_of (layout_numbers cache).count (kept_at s.kept node).live), first)
 placed_by_kind s w t c first node cache e slab =
     let stands = listed s w t c first node cache e slab.kind slab.few slab.placed in
     slab.placed ∙ ap (λ (k : ℕ). Some (head_of t c k, first)) (sym (head_parts t c slab.kind slab.few).1 ∙ stands.kind)

@@ -6,15 +6,15 @@ use Rattle.layout_core.specs.Cut.{Cut}
 use Rattle.klist_core.specs.Places.{Placed, place_at, is_in, inserted, removed, replaced}
 use Rattle.slab_tables.specs.declared.cache.Cache.{Cache}
 use Rattle.slab_tables.specs.declared.cache.Kept.{Kept}
-use Rattle.slab_tables.specs.Content.{Content, kept_at, cache_in, cache_at, index_of_cache, numbers, kind_of, head_of}
+use Rattle.slab_tables.specs.Content.{Content, kept_at, cache_in, cache_at, index_of_cache, layout_numbers, kind_of, head_of}
 
 -- what is kept of the slab that the cache makes next: it has the next colour, and no object is live
 abbrev pub fresh_kept : Cache → Kept
-fresh_kept cache = record { colour = colour_offset cache.layout.align cache.made (numbers cache); live = 0; outside = 0 }
+fresh_kept cache = record { colour = colour_offset cache.layout.align cache.made (layout_numbers cache); live = 0; outside = 0 }
 
 -- the cache has made one slab more
 abbrev pub made_more : Cache → Cache
-made_more cache = record cache { made = (cache.made + 1) % (numbers cache).colours }
+made_more cache = record cache { made = (cache.made + 1) % (layout_numbers cache).colours }
 
 -- the next slab of cache c of tenant t, an empty one, begins at this frame and node
 abbrev pub with_slab : Content → ℕ → ℕ → Cache → ℕ → ℕ → Content
@@ -27,7 +27,7 @@ with_slab s t c cache first node = record s {
 -- the slab has so many live objects now, and stands in the list of its kind
 abbrev pub with_count : Content → ℕ → ℕ → Cache → ℕ → ℕ → ℕ → Content
 with_count s t c cache first node count = record s {
-  lists = record s.lists { places = slice_set s.lists.places node (Some (head_of t c (kind_of (numbers cache).count count), first)) };
+  lists = record s.lists { places = slice_set s.lists.places node (Some (head_of t c (kind_of (layout_numbers cache).count count), first)) };
   kept = slice_set s.kept node (record (kept_at s.kept node) { live = count });
   live = slice_set s.live (index_of_cache t c) (slice_index s.live (index_of_cache t c) + count - (kept_at s.kept node).live);
 }

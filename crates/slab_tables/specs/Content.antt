@@ -1,6 +1,6 @@
 -- The tables of all tenants' caches. A slab is named by its node, the machine frame at which it begins.
 use Rattle.std.specs.Prelude.{◌≡◌, ℕ, ◌+◌, ◌*◌, ◌/◌, ◌%◌, ◌^◌, ◌<◌, ◌≤◌, ◌==◌, Bool, true, false, nat_lt, if◌then◌else◌, List, [], ◌∷◌, Option, Some, None, length, replicate, slice_index, slice_index_or}
-use Rattle.model_core.specs.Layouts.{Layout, IsLayout, is_pattern}
+use Rattle.model_core.specs.Layouts.{Layout, IsLayout, is_size, is_alignment, is_pattern}
 use Rattle.model_core.specs.declared.limits.TheConstants.{MOST_CACHES, MOST_ORDER}
 use Rattle.layout_core.specs.Cut.{numbers_of}
 use Rattle.layout_core.specs.Objects.{IsColour}
@@ -44,19 +44,19 @@ cache_at s t c = if nat_lt c MOST_CACHES then cache_in s.caches (index_of_cache 
 abbrev pub IsTenant : Content → ℕ → Type 0
 IsTenant s t = index_of_cache t MOST_CACHES ≤ length s.caches
 
--- the numbers of the cache's layout
-abbrev pub numbers : Cache → Layout
-numbers c = numbers_of c.layout
+-- the layout_numbers of the cache's layout
+abbrev pub layout_numbers : Cache → Layout
+layout_numbers c = numbers_of c.layout
 
 -- the kind of a slab of so many objects of which so many are live: 0 full, 1 partial, 2 empty
 abbrev pub kind_of : ℕ → ℕ → ℕ
 kind_of count live = if live == count then 0 else (if live == 0 then 2 else 1)
 
 -- the number of a kind
-abbrev pub number_of : Kind → ℕ
-number_of Full = 0
-number_of Partial = 1
-number_of Empty = 2
+abbrev pub kind_number : Kind → ℕ
+kind_number Full = 0
+kind_number Partial = 1
+kind_number Empty = 2
 
 -- the list of the slabs of a kind of cache c of tenant t
 abbrev pub head_of : ℕ → ℕ → ℕ → ℕ
@@ -64,14 +64,16 @@ head_of t c kind = 3 * index_of_cache t c + kind
 
 -- what is kept of a slab of the cache is in order, and says that it is of this list's kind
 pub record IsListed (kept : Kept) (cache : Cache) (head : ℕ) : Type 0 where
-  pub kind : head % 3 ≡ kind_of (numbers cache).count kept.live
-  pub few : kept.live ≤ (numbers cache).count
+  pub kind : head % 3 ≡ kind_of (layout_numbers cache).count kept.live
+  pub few : kept.live ≤ (layout_numbers cache).count
   pub colour : IsColour cache.layout kept.colour
 
 pub record IsCache (c : Cache) : Type 0 where
-  pub layout : IsLayout c.layout.size c.layout.align (numbers c)
+  pub size : is_size c.layout.size ≡ true
+  pub align : is_alignment c.layout.align ≡ true
+  pub layout : IsLayout c.layout.size c.layout.align (layout_numbers c)
   pub pattern : is_pattern c.pattern ≡ true
-  pub made : c.made < (numbers c).colours
+  pub made : c.made < (layout_numbers c).colours
 
 -- the place is in a list of this cache
 abbrev pub is_of_index : ℕ → Option (ℕ × ℕ) → Bool
@@ -98,8 +100,8 @@ pub record IsSlabs (s : Content) : Type 0 where
   pub counted : (n : ℕ) → n < length s.caches → slice_index s.live n ≡ live_total n s.lists.places s.kept
 
 -- no cache and no slab
-abbrev pub opening : ℕ → ℕ → ℕ → Content
-opening top superblocks tenants = record {
+abbrev pub empty_tables : ℕ → ℕ → ℕ → Content
+empty_tables top superblocks tenants = record {
   top = top;
   lists = record { heads = MOST_CACHES * tenants * 3; places = replicate (superblocks * 2 ^ top) None };
   kept = replicate (superblocks * 2 ^ top) blank;
@@ -108,7 +110,7 @@ opening top superblocks tenants = record {
 }
 
 -- a slab of cache c of tenant t begins at this frame and node
-pub record IsPlaced (s : Content) (t c first node : ℕ) : Type 0 where
+pub record IsPlacedIn (s : Content) (t c first node : ℕ) : Type 0 where
   pub kind : ℕ
   pub few : kind < 3
   pub placed : place_at s.lists.places node ≡ Some (head_of t c kind, first)

@@ -31,7 +31,7 @@ impl Cache {
     pub(crate) fn next_slab(&self) -> Kept
         ensures { result ≡ fresh_kept self.now }
     {
-        self.layout.fits();
+        self.layout.laws();
         let colour = self.layout.align() * (self.made % self.layout.colours());
         Kept {
             colour: colour as u16,

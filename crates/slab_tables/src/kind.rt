@@ -14,11 +14,11 @@ pub enum Kind {
 }
 
 impl Kind {
-    ghost use Rattle.slab_tables.specs.Content.{number_of, kind_of};
+    ghost use Rattle.slab_tables.specs.Content.{kind_number, kind_of};
 
     /// The kind of a slab of `count` objects of which `live` are live.
     pub fn of(count: u32, live: u32) -> Kind
-        ensures { number_of result ≡ kind_of count live }
+        ensures { kind_number result ≡ kind_of count live }
     {
         if live == count {
             Kind::Full
@@ -31,7 +31,7 @@ impl Kind {
 
     /// The list of the kind among those of a cache: 0 to 2.
     pub(crate) fn number(self) -> u32
-        ensures { result ≡ number_of self }
+        ensures { result ≡ kind_number self }
     {
         match self {
             Kind::Full => 0,

@@ -10,9 +10,11 @@
 
 mod cache;
 mod kind;
+mod list;
 mod places;
 mod tables;
 
 pub use cache::{Cache, Kept};
 pub use kind::Kind;
+pub use list::ListId;
 pub use tables::Tables;

@@ -3,10 +3,9 @@
 ghost use Rattle.std.specs.Prelude.{◌≡◌, ◌≢◌, ℕ, ◌+◌, ◌*◌, ◌^◌, ◌<◌, ◌≤◌, Some, None, length, IsSome};
 ghost use Rattle.model_core.specs.declared.limits.TheConstants.{MOST_ORDER};
 ghost use Rattle.klist_core.specs.Places.{place_at, inserted, replaced};
-ghost use Rattle.slab_tables.specs.Content.{index_of_cache, head_of, number_of};
+ghost use Rattle.slab_tables.specs.Content.{index_of_cache};
 ghost use Rattle.slab_tables.specs.Changes.{IsEmptied};
 
-use crate::kind::Kind;
 use klist_core::Lists;
 use model_core::limits::MOST_CACHES;
 
@@ -16,14 +15,6 @@ pub(crate) fn index_of(t: u8, c: u32) -> usize
     ensures { result ≡ index_of_cache t c }
 {
     usize::from(MOST_CACHES) * usize::from(t) + c as usize
-}
-
-/// The list of the slabs of a kind of cache `c` of tenant `t`.
-pub(crate) fn head(t: u8, c: u32, kind: Kind) -> u32
-    requires { c < MOST_CACHES }
-    ensures { result ≡ head_of t c (number_of kind) }
-{
-    3 * index_of(t, c) as u32 + kind.number()
 }
 
 /// The node of frame `i` of a superblock of `2^order` frames.

@@ -1,15 +1,16 @@
 //! The tables.
 
 ghost use Rattle.std.specs.Prelude.{◌≡◌, ◌≢◌, ℕ, ◌<◌, ◌≤◌, ◌==◌, ◌^◌, ◌*◌, ◌+◌, Some, None, length, is_none, slice_index, option_map, IfOk, IfSome, IfNone, IsSome, MatchOption};
-ghost use Rattle.klist_core.specs.Places.{IsEmpty, IsFirst, place_at, inserted};
+ghost use Rattle.klist_core.specs.Places.{ArePlaces, IsEmpty, IsFirst, place_at, inserted};
 ghost use Rattle.klist_core.specs.Lists.{keys_of};
 ghost use Rattle.model_core.specs.declared.limits.TheConstants.{MOST_ORDER, MOST_SUPERBLOCKS, MOST_TENANTS};
-ghost use Rattle.slab_tables.specs.Content.{IsSlabs, IsTenant, IsPlaced, opening, kept_at, cache_at, index_of_cache, head_of, number_of, numbers};
+ghost use Rattle.slab_tables.specs.Content.{IsSlabs, IsTenant, IsPlacedIn, empty_tables, kept_at, cache_at, index_of_cache, head_of, kind_number, layout_numbers};
 ghost use Rattle.slab_tables.specs.Changes.{with_slab, with_count, with_outside, without_slab, with_cache, new_cache, IsLeastNumber, IsAllUsed, IsCleared, IsReset, IsMoved, with_node_moved};
 
 use crate::cache::{Cache, Kept};
 use crate::kind::Kind;
-use crate::places::{empty_list, head, index_of, node_at, relist, replace};
+use crate::list::ListId;
+use crate::places::{empty_list, index_of, node_at, relist, replace};
 use klist_core::Lists;
 use layout_core::{Layout, Pattern};
 use model_core::limits::MOST_CACHES;
@@ -50,7 +51,7 @@ impl Tables {
         requires order { order ≤ MOST_ORDER }
         requires superblocks { superblocks ≤ MOST_SUPERBLOCKS }
         requires tenants { tenants ≤ MOST_TENANTS }
-        ensures { IfOk result (λ s. s ≡ opening order superblocks tenants) }
+        ensures { IfOk result (λ s. s ≡ empty_tables order superblocks tenants) }
     {
         let nodes = u32::from(superblocks) << order;
         let caches = u32::from(MOST_CACHES) * u32::from(tenants);
@@ -68,11 +69,12 @@ impl Tables {
         })
     }
 
-    /// A law: what holds of all tables. It costs nothing.
-    pub fn facts(&self)
-        ensures { IsSlabs self.now }
+    /// What holds of all tables and of their lists. The call does nothing.
+    pub fn laws(&self)
+        ensures slabs { IsSlabs self.now }
+        ensures table { ArePlaces self.now.lists }
     {
-        let _ = &self.order;
+        self.lists.laws();
     }
 
     /// A superblock has `2^order` frames.
@@ -82,8 +84,7 @@ impl Tables {
         self.order
     }
 
-    /// The lists of the slabs of all caches, by first frame, with their nodes. List `3 * (32 * t + c)` has the full slabs of
-    /// cache `c` of tenant `t`, and the next two have the partial and the empty ones.
+    /// The lists of the slabs of all caches, by first frame, with their nodes. A [`ListId`] has the number of each.
     pub fn lists(&self) -> &Lists
         ensures { result.now ≡ self.now.lists }
     {
@@ -102,7 +103,7 @@ impl Tables {
     }
 
     /// What is kept of the slab that begins at the node.
-    pub fn kept(&self, node: u32) -> Kept
+    pub fn kept_of(&self, node: u32) -> Kept
         requires { node < length self.now.lists.places }
         ensures { result ≡ kept_at self.now.kept node }
     {
@@ -122,19 +123,19 @@ impl Tables {
         requires tenant { IsTenant self.now t }
         requires cache { c < MOST_CACHES }
         ensures { MatchOption result
-            (IsEmpty self.now.lists.places (head_of t c (number_of kind)))
-            (λ p. IsFirst self.now.lists.places (head_of t c (number_of kind)) p.0 p.1) }
+            (IsEmpty self.now.lists.places (head_of t c (kind_number kind)))
+            (λ p. IsFirst self.now.lists.places (head_of t c (kind_number kind)) p.0 p.1) }
     {
-        self.lists.first(head(t, c, kind))
+        self.lists.first(ListId::of(t, c, kind).number)
     }
 
     /// How many slabs of one kind cache `c` of tenant `t` has.
     pub fn count(&self, t: u8, c: u32, kind: Kind) -> u32
         requires tenant { IsTenant self.now t }
         requires cache { c < MOST_CACHES }
-        ensures { result ≡ length (keys_of self.now.lists.places (head_of t c (number_of kind))) }
+        ensures { result ≡ length (keys_of self.now.lists.places (head_of t c (kind_number kind))) }
     {
-        self.lists.len(head(t, c, kind))
+        self.lists.len(ListId::of(t, c, kind).number)
     }
 
     /// How many objects of cache `c` of tenant `t` are live.
@@ -155,7 +156,7 @@ impl Tables {
         ensures full { IfNone result (self.new ≡ self.old) }
     {
         // What every layout and every pattern lends, for the invariant.
-        layout.fits();
+        layout.laws();
         let _bytes = pattern.as_slice();
         let c = self.free_number(t)?;
         self.caches[index_of(t, c.into())] = Some(Cache {
@@ -183,7 +184,7 @@ impl Tables {
     pub fn remove_cache(&mut self, t: u8, c: u32)
         requires tenant { IsTenant self.old t }
         requires cache { IsSome (cache_at self.old t c) }
-        requires without_slabs { (first node : ℕ) → ¬ IsPlaced self.old t c first node }
+        requires without_slabs { (first node : ℕ) → ¬ IsPlacedIn self.old t c first node }
         ensures { self.new ≡ with_cache self.old t c None }
     {
         self.caches[index_of(t, c)] = None;
@@ -191,7 +192,7 @@ impl Tables {
 
     /// Lets the next slab of cache `c` of tenant `t`, an empty one, begin at frame `first` and node `node`. The cache has made
     /// one slab more then, so what was read of it before is out of date.
-    pub fn stand(&mut self, t: u8, c: u32, cache: &Cache, first: u32, node: u32)
+    pub fn add_slab(&mut self, t: u8, c: u32, cache: &Cache, first: u32, node: u32)
         requires tenant { IsTenant self.old t }
         requires cache { cache_at self.old t c ≡ Some cache.now }
         requires node { node < length self.old.lists.places }
@@ -200,7 +201,8 @@ impl Tables {
         ensures { self.new ≡ with_slab self.old t c cache.now first node }
     {
         let colours = cache.layout.colours();
-        self.lists.insert(head(t, c, Kind::Empty), node, first);
+        self.lists
+            .insert(ListId::of(t, c, Kind::Empty).number, node, first);
         self.kept[node as usize] = cache.next_slab();
         let made = (cache.made + 1) % colours;
         self.caches[index_of(t, c)] = Some(Cache { made, ..*cache });
@@ -213,18 +215,26 @@ impl Tables {
     pub fn set_count(&mut self, t: u8, c: u32, cache: &Cache, first: u32, node: u32, count: u32)
         requires tenant { IsTenant self.old t }
         requires cache { cache_at self.old t c ≡ Some cache.now }
-        requires slab { IsPlaced self.old t c first node }
-        requires alone { (n : ℕ) → IsPlaced self.old t c first n → n ≡ node }
-        requires few { count ≤ (numbers cache.now).count }
+        requires slab { IsPlacedIn self.old t c first node }
+        requires alone { (n : ℕ) → IsPlacedIn self.old t c first n → n ≡ node }
+        requires few { count ≤ (layout_numbers cache.now).count }
         ensures { self.new ≡ with_count self.old t c cache.now first node count }
     {
-        cache.layout.fits();
+        cache.layout.laws();
         let total = cache.layout.count();
         let before = u32::from(self.kept[node as usize].live);
-        let from = head(t, c, Kind::of(total, before));
-        let to = head(t, c, Kind::of(total, count));
+        let from = ListId::of(t, c, Kind::of(total, before));
+        let to = ListId::of(t, c, Kind::of(total, count));
         let slab = cache.layout.order();
-        relist(&mut self.lists, from, to, node, first, slab, self.order);
+        relist(
+            &mut self.lists,
+            from.number,
+            to.number,
+            node,
+            first,
+            slab,
+            self.order,
+        );
         let kept = &mut self.kept[node as usize];
         kept.live = count as u16;
         let i = index_of(t, c);
@@ -240,7 +250,7 @@ impl Tables {
     }
 
     /// Takes the slab at the node, of which no object is live, out of its list.
-    pub fn forget(&mut self, node: u32)
+    pub fn remove_slab(&mut self, node: u32)
         requires placed { IsSome (place_at self.old.lists.places node) }
         requires empty { (kept_at self.old.kept node).live ≡ 0 }
         ensures { self.new ≡ without_slab self.old node }
@@ -264,9 +274,9 @@ impl Tables {
         requires cache { c < MOST_CACHES }
         ensures { IsCleared self.old self.new (λ n. n == index_of_cache t c) }
     {
-        empty_list(&mut self.lists, head(t, c, Kind::Full));
-        empty_list(&mut self.lists, head(t, c, Kind::Partial));
-        empty_list(&mut self.lists, head(t, c, Kind::Empty));
+        empty_list(&mut self.lists, ListId::of(t, c, Kind::Full).number);
+        empty_list(&mut self.lists, ListId::of(t, c, Kind::Partial).number);
+        empty_list(&mut self.lists, ListId::of(t, c, Kind::Empty).number);
         let i = index_of(t, c);
         self.live[i] = 0;
         self.caches[i] = None;

@@ -6,13 +6,13 @@ use Rattle.std.proofs.lemmas.Bool.{cases_lt, cases_eq}
 use Rattle.std.proofs.lemmas.Bool.Decides.{nat_tests}
 use Rattle.model_core.specs.declared.owner.Owner.{Owner}
 use Rattle.model_core.specs.Owners.{owned_by, is_of}
-use Rattle.space_core.specs.Content.{Content, IsSpace, bank, owner_at, mark_at, row_of, superblock_at}
-use Rattle.space_core.specs.Changes.{with_slot, granted, taken_back, moved}
-use Rattle.space_core.specs.Laws.{IsApart}
-use Rattle.space_core.proofs.Banks.{after-set, with_bank, with_bank-IsSpace}
+use Rattle.space_core.specs.Content.{Content, IsSpace, bank, owner_at, mark_at, slots_of, superblock_at}
+use Rattle.space_core.specs.Changes.{with_entry, with_grant, with_take_back, with_move}
+use Rattle.space_core.specs.Laws.{IsOneToOne}
+use Rattle.space_core.proofs.BankLemmas.{after-set, with_bank, with_bank-IsSpace}
 use Rattle.space_core.proofs.Mapping.{within_from_some, superblock-lt}
 use Rattle.space_core.proofs.Reading.{not_unowned}
-use Rattle.space_core.proofs.Mapped.{superblock_at-with_slot, length-row_of-with_slot, counted-set, agree-set}
+use Rattle.space_core.proofs.Mapped.{superblock_at-with_entry, length-row_of-with_slot, counted-set, agree-set}
 
 -- only a tenant has a slot with something under it
 pub tenant-lt : (slots : List (List (Option ℕ))) (t u m : ℕ) → superblock_at slots t u ≡ Some m → t < length slots
@@ -31,14 +31,14 @@ is_of_other t u k differ = grind (arith, nat_tests)
 pub same_parts : (k v t u : ℕ) → (let p : Option Owner = Some (owned_by k v) in p) ≡ Some (owned_by t u) → (k ≡ t) × (v ≡ u)
 same_parts k v t u e = let q : owned_by k v ≡ owned_by t u = cc in (ap (λ (o : Owner). o.tenant) q, ap (λ (o : Owner). o.slot) q)
 
-pub taken_back-IsSpace : {s : Content} → IsSpace s → (t u m : ℕ) → superblock_at s.slots t u ≡ Some m → IsSpace (taken_back s t u m)
+pub taken_back-IsSpace : {s : Content} → IsSpace s → (t u m : ℕ) → superblock_at s.slots t u ≡ Some m → IsSpace (with_take_back s t u m)
 taken_back-IsSpace {s} facts t u m under =
     let owned = (facts.agree t u m).0 under in
     let within = superblock-lt facts t u m under in
     let tenant = tenant-lt s.slots t u m under in
-    let short = within_from_some (row_of s.slots t) u m under in
+    let short = within_from_some (slots_of s.slots t) u m under in
     let slot : u < length s.owners = omega (arith, facts.rows t tenant) in
-    let row = set (row_of s.slots t) u None in
+    let row = set (slots_of s.slots t) u None in
     let is_t : is_of t (owner_at s.owners m) ≡ true = ap (is_of t) owned ∙ is_of_self t u in
     record {
       some = facts.some;
@@ -57,11 +57,11 @@ taken_back-IsSpace {s} facts t u m under =
       ];
     }
 
-pub granted-IsSpace : {s : Content} → IsSpace s → (t u m : ℕ) → t < length s.slots → u < length s.owners → m < length s.owners → superblock_at s.slots t u ≡ None → owner_at s.owners m ≡ None → IsSpace (granted s t u m)
+pub granted-IsSpace : {s : Content} → IsSpace s → (t u m : ℕ) → t < length s.slots → u < length s.owners → m < length s.owners → superblock_at s.slots t u ≡ None → owner_at s.owners m ≡ None → IsSpace (with_grant s t u m)
 granted-IsSpace {s} facts t u m tenant slot within vacant unowned =
     let o : Option Owner = Some (owned_by t u) in
     let zeroes : List ℕ = replicate s.unit 0 in
-    let row = set (row_of s.slots t) u (Some m) in
+    let row = set (slots_of s.slots t) u (Some m) in
     record {
       some = facts.some;
       small = facts.small;
@@ -80,29 +80,29 @@ granted-IsSpace {s} facts t u m tenant slot within vacant unowned =
     }
 
 -- a move is a take-back and a grant, and then the bytes of the old superblock written into the new one
-moved_is : (s : Content) (t u from to : ℕ) → t < length s.slots → with_bank (granted (taken_back s t u from) t u to) to (bank s.banks from) ≡ moved s t u from to
+moved_is : (s : Content) (t u from to : ℕ) → t < length s.slots → with_bank (with_grant (with_take_back s t u from) t u to) to (bank s.banks from) ≡ with_move s t u from to
 moved_is s t u from to tenant =
-    let row = row_of s.slots t in
+    let row = slots_of s.slots t in
     let bytes = bank s.banks from in
-    let here : with_slot (with_slot s.slots t u None) t u (Some to) ≡ with_slot s.slots t u (Some to) =
+    let here : with_entry (with_entry s.slots t u None) t u (Some to) ≡ with_entry s.slots t u (Some to) =
     set-set s.slots t (set row u None) _ ∙ ap (set s.slots t) (ap (λ (r : List (Option ℕ)). set r u (Some to)) (get_or-set_same s.slots t (set row u None) [] tenant) ∙ set-set row u None (Some to)) in
     let there : set (set s.banks to (replicate s.unit 0)) to bytes ≡ set s.banks to bytes = set-set s.banks to (replicate s.unit 0) bytes in
-    ap (λ (slots : List (List (Option ℕ))). record (moved s t u from to) { slots = slots; banks = set (set s.banks to (replicate s.unit 0)) to bytes }) here
-    ∙ ap (λ (banks : List (List ℕ)). record (moved s t u from to) { banks = banks }) there
+    ap (λ (slots : List (List (Option ℕ))). record (with_move s t u from to) { slots = slots; banks = set (set s.banks to (replicate s.unit 0)) to bytes }) here
+    ∙ ap (λ (banks : List (List ℕ)). record (with_move s t u from to) { banks = banks }) there
 
-pub moved-IsSpace : {s : Content} → IsSpace s → (t u from to : ℕ) → superblock_at s.slots t u ≡ Some from → to < length s.owners → owner_at s.owners to ≡ None → IsSpace (moved s t u from to)
+pub moved-IsSpace : {s : Content} → IsSpace s → (t u from to : ℕ) → superblock_at s.slots t u ≡ Some from → to < length s.owners → owner_at s.owners to ≡ None → IsSpace (with_move s t u from to)
 moved-IsSpace {s} facts t u from to under within unowned =
-    let left = taken_back s t u from in
+    let left = with_take_back s t u from in
     let tenant = tenant-lt s.slots t u from under in
-    let short = within_from_some (row_of s.slots t) u from under in
+    let short = within_from_some (slots_of s.slots t) u from under in
     let apart = not_unowned facts t u from to under unowned in
-    let row = set (row_of s.slots t) u None in
+    let row = set (slots_of s.slots t) u None in
     let still : to < length left.owners = omega (arith, length-set s.owners from None) in
     let given = granted-IsSpace {s = left} (taken_back-IsSpace facts t u from under) t u to
     (omega (arith, length-set s.slots t row))
     (omega (arith, facts.rows t tenant, length-set s.owners from None))
     still
-    (superblock_at-with_slot s.slots t u None tenant short)
+    (superblock_at-with_entry s.slots t u None tenant short)
     (get_or-set_other s.owners from to None None (λ same. apart (sym same)) ∙ unowned) in
     let o = Some (owned_by t u) in
     let owned : owner_at (set left.owners to o) to ≢ None = λ none. let some = get_or-set_same left.owners to o None still in absurd (cc) in
@@ -110,7 +110,7 @@ moved-IsSpace {s} facts t u from to under within unowned =
     (with_bank-IsSpace given to owned (omega (arith, length-set left.owners to o)) (bank s.banks from) (facts.sized from (omega (arith, facts.paired, superblock-lt facts t u from under))))
 
 -- the mapping is one to one
-pub space-IsApart : {s : Content} → IsSpace s → IsApart s
+pub space-IsApart : {s : Content} → IsSpace s → IsOneToOne s
 space-IsApart {s} facts = record {
   superblocks = λ t u m n first second. let q : (let o : Option ℕ = Some m in o) ≡ Some n = sym ((facts.agree t u m).1 first) ∙ (facts.agree t u n).1 second in cc;
   slots = λ t u v w m first second. same_parts t u v w (sym ((facts.agree t u m).0 first) ∙ (facts.agree v w m).0 second);

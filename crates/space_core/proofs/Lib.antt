@@ -1,11 +1,11 @@
 mod TableLemmas
 mod Mapping
-mod Banks
+mod BankLemmas
 mod Stored
 pub mod Empty
 mod Mapped
 mod Changed
-mod Vacancy
+pub mod Vacancy
 mod Places
 pub mod Reading
 mod Own

@@ -8,32 +8,32 @@ use Rattle.std.proofs.lemmas.Bool.Decides.{nat_tests}
 use Rattle.std.specs.Prelude.{◌==◌, if◌then◌else◌}
 use Rattle.model_core.specs.declared.owner.Owner.{Owner}
 use Rattle.model_core.specs.Owners.{owned_by, is_of}
-use Rattle.space_core.specs.Content.{Content, IsSpace, owner_at, row_of, superblock_at}
-use Rattle.space_core.specs.Changes.{with_slot}
+use Rattle.space_core.specs.Content.{Content, IsSpace, owner_at, slots_of, superblock_at}
+use Rattle.space_core.specs.Changes.{with_entry}
 
-pub row_of-with_slot : (slots : List (List (Option ℕ))) (t u : ℕ) (x : Option ℕ) → t < length slots → row_of (with_slot slots t u x) t ≡ set (row_of slots t) u x
-row_of-with_slot slots t u x lt = get_or-set_same slots t (set (row_of slots t) u x) [] lt
+pub row_of-with_slot : (slots : List (List (Option ℕ))) (t u : ℕ) (x : Option ℕ) → t < length slots → slots_of (with_entry slots t u x) t ≡ set (slots_of slots t) u x
+row_of-with_slot slots t u x lt = get_or-set_same slots t (set (slots_of slots t) u x) [] lt
 
-pub row_of_other-with_slot : (slots : List (List (Option ℕ))) (t u : ℕ) (x : Option ℕ) (k : ℕ) → k ≢ t → row_of (with_slot slots t u x) k ≡ row_of slots k
-row_of_other-with_slot slots t u x k differ = get_or-set_other slots t k (set (row_of slots t) u x) [] differ
+pub row_of_other-with_slot : (slots : List (List (Option ℕ))) (t u : ℕ) (x : Option ℕ) (k : ℕ) → k ≢ t → slots_of (with_entry slots t u x) k ≡ slots_of slots k
+row_of_other-with_slot slots t u x k differ = get_or-set_other slots t k (set (slots_of slots t) u x) [] differ
 
 -- each row keeps its length
-pub length-row_of-with_slot : (slots : List (List (Option ℕ))) (t u : ℕ) (x : Option ℕ) (k : ℕ) → t < length slots → length (row_of (with_slot slots t u x) k) ≡ length (row_of slots k)
+pub length-row_of-with_slot : (slots : List (List (Option ℕ))) (t u : ℕ) (x : Option ℕ) (k : ℕ) → t < length slots → length (slots_of (with_entry slots t u x) k) ≡ length (slots_of slots k)
 length-row_of-with_slot slots t u x k lt =
     elim (cases_eq k t) [
-      | inl same ↦ subst (λ n. length (row_of (with_slot slots t u x) n) ≡ length (row_of slots n)) (sym same) (ap length (row_of-with_slot slots t u x lt) ∙ length-set (row_of slots t) u x)
+      | inl same ↦ subst (λ n. length (slots_of (with_entry slots t u x) n) ≡ length (slots_of slots n)) (sym same) (ap length (row_of-with_slot slots t u x lt) ∙ length-set (slots_of slots t) u x)
       | inr differ ↦ ap length (row_of_other-with_slot slots t u x k differ)
     ]
 
 -- the slot itself, and every other one
-pub superblock_at-with_slot : (slots : List (List (Option ℕ))) (t u : ℕ) (x : Option ℕ) → t < length slots → u < length (row_of slots t) → superblock_at (with_slot slots t u x) t u ≡ x
-superblock_at-with_slot slots t u x lt short =
-    ap (λ (row : List (Option ℕ)). get_or row u None) (row_of-with_slot slots t u x lt) ∙ get_or-set_same (row_of slots t) u x None short
+pub superblock_at-with_entry : (slots : List (List (Option ℕ))) (t u : ℕ) (x : Option ℕ) → t < length slots → u < length (slots_of slots t) → superblock_at (with_entry slots t u x) t u ≡ x
+superblock_at-with_entry slots t u x lt short =
+    ap (λ (row : List (Option ℕ)). get_or row u None) (row_of-with_slot slots t u x lt) ∙ get_or-set_same (slots_of slots t) u x None short
 
-pub superblock_at_other-with_slot : (slots : List (List (Option ℕ))) (t u : ℕ) (x : Option ℕ) (k v : ℕ) → t < length slots → ((k ≡ t) × (v ≡ u) → ⊥) → superblock_at (with_slot slots t u x) k v ≡ superblock_at slots k v
-superblock_at_other-with_slot slots t u x k v lt differ =
+pub superblock_at_other-with_entry : (slots : List (List (Option ℕ))) (t u : ℕ) (x : Option ℕ) (k v : ℕ) → t < length slots → ((k ≡ t) × (v ≡ u) → ⊥) → superblock_at (with_entry slots t u x) k v ≡ superblock_at slots k v
+superblock_at_other-with_entry slots t u x k v lt differ =
     elim (cases_eq k t) [
-      | inl same ↦ subst (λ n. superblock_at (with_slot slots t u x) n v ≡ superblock_at slots n v) (sym same) (ap (λ (row : List (Option ℕ)). get_or row v None) (row_of-with_slot slots t u x lt) ∙ get_or-set_other (row_of slots t) u v x None (λ e. differ (same, e)))
+      | inl same ↦ subst (λ n. superblock_at (with_entry slots t u x) n v ≡ superblock_at slots n v) (sym same) (ap (λ (row : List (Option ℕ)). get_or row v None) (row_of-with_slot slots t u x lt) ∙ get_or-set_other (slots_of slots t) u v x None (λ e. differ (same, e)))
       | inr apart ↦ ap (λ (row : List (Option ℕ)). get_or row v None) (row_of_other-with_slot slots t u x k apart)
     ]
 
@@ -44,11 +44,11 @@ pub if_false : {A : Type 0} (b : Bool) (x y : A) → b ≡ false → (if b then 
 if_false b x y e = ap (λ test. if test then x else y) e
 
 -- a slot that was changed, and the others of its tenant
-pub slot_put : (slots : List (List (Option ℕ))) (t u : ℕ) (x : Option ℕ) → t < length slots → u < length (row_of slots t) → (v : ℕ) → superblock_at (with_slot slots t u x) t v ≡ (if v == u then x else superblock_at slots t v)
+pub slot_put : (slots : List (List (Option ℕ))) (t u : ℕ) (x : Option ℕ) → t < length slots → u < length (slots_of slots t) → (v : ℕ) → superblock_at (with_entry slots t u x) t v ≡ (if v == u then x else superblock_at slots t v)
 slot_put slots t u x tenant short v =
     elim (cases_eq v u) [
-      | inl same ↦ ap (superblock_at (with_slot slots t u x) t) same ∙ (superblock_at-with_slot slots t u x tenant short ∙ sym (if_true (v == u) _ _ (grind (arith, nat_tests))))
-      | inr differ ↦ superblock_at_other-with_slot slots t u x t v tenant (λ e. differ e.1) ∙ sym (if_false (v == u) _ _ (grind (arith, nat_tests)))
+      | inl same ↦ ap (superblock_at (with_entry slots t u x) t) same ∙ (superblock_at-with_entry slots t u x tenant short ∙ sym (if_true (v == u) _ _ (grind (arith, nat_tests))))
+      | inr differ ↦ superblock_at_other-with_entry slots t u x t v tenant (λ e. differ e.1) ∙ sym (if_false (v == u) _ _ (grind (arith, nat_tests)))
     ]
 
 abbrev pub one_if : Bool → ℕ
@@ -72,15 +72,15 @@ count_by-set p xs i x d lt = sum_by-set (λ y. cond (p y) 1 0) xs i x d lt
 pub counted-set : {s : Content} → IsSpace s → (t u m : ℕ) (x : Option ℕ) (o : Option Owner) → t < length s.slots → u < length s.owners → m < length s.owners
     → is_some (superblock_at s.slots t u) ≡ is_of t (owner_at s.owners m) → is_some x ≡ is_of t o
     → ((k : ℕ) → k ≢ t → is_of k (owner_at s.owners m) ≡ false) → ((k : ℕ) → k ≢ t → is_of k o ≡ false)
-    → (k : ℕ) → k < length s.slots → count_by is_some (row_of (with_slot s.slots t u x) k) ≡ count_by (is_of k) (set s.owners m o)
+    → (k : ℕ) → k < length s.slots → count_by is_some (slots_of (with_entry s.slots t u x) k) ≡ count_by (is_of k) (set s.owners m o)
 counted-set {s} facts t u m x o tenant slot within was is others other k lt =
     let owners = count_by-set (is_of k) s.owners m o None within in
     elim (cases_eq k t) [
       | inl same ↦
-          let row = count_by-set is_some (row_of s.slots t) u x None (omega (arith, facts.rows t tenant)) in
+          let row = count_by-set is_some (slots_of s.slots t) u x None (omega (arith, facts.rows t tenant)) in
           let alike = facts.counted t tenant in
           let owned = count_by-set (is_of t) s.owners m o None within in
-          subst (λ n. count_by is_some (row_of (with_slot s.slots t u x) n) ≡ count_by (is_of n) (set s.owners m o)) (sym same)
+          subst (λ n. count_by is_some (slots_of (with_entry s.slots t u x) n) ≡ count_by (is_of n) (set s.owners m o)) (sym same)
           (ap (count_by is_some) (row_of-with_slot s.slots t u x tenant)
           ∙ omega (arith, row, owned, alike, ap one_if was, ap one_if is))
       | inr differ ↦
@@ -92,14 +92,14 @@ counted-set {s} facts t u m x o tenant slot within was is others other k lt =
 pub agree-set : {s : Content} → IsSpace s → (t u m : ℕ) (x : Option ℕ) (o : Option Owner) → t < length s.slots → u < length s.owners → m < length s.owners
     → ((n : ℕ) → x ≡ Some n → (n ≡ m) × (o ≡ Some (owned_by t u))) → ((k v : ℕ) → o ≡ Some (owned_by k v) → (k ≡ t) × (v ≡ u) × (x ≡ Some m))
     → ((k v : ℕ) → superblock_at s.slots k v ≡ Some m → (k ≡ t) × (v ≡ u)) → ((n : ℕ) → superblock_at s.slots t u ≡ Some n → n ≡ m)
-    → (k v n : ℕ) → (superblock_at (with_slot s.slots t u x) k v ≡ Some n) ↔ (owner_at (set s.owners m o) n ≡ Some (owned_by k v))
+    → (k v n : ℕ) → (superblock_at (with_entry s.slots t u x) k v ≡ Some n) ↔ (owner_at (set s.owners m o) n ≡ Some (owned_by k v))
 agree-set {s} facts t u m x o tenant slot within to_owner to_slot alone unique k v n =
-    let short : u < length (row_of s.slots t) = omega (arith, facts.rows t tenant) in
-    let here = superblock_at-with_slot s.slots t u x tenant short in
+    let short : u < length (slots_of s.slots t) = omega (arith, facts.rows t tenant) in
+    let here = superblock_at-with_entry s.slots t u x tenant short in
     let owner = get_or-set_same s.owners m o None within in
-    let at_slot : (k ≡ t) × (v ≡ u) → superblock_at (with_slot s.slots t u x) k v ≡ x = λ e. rw (e.0, e.1) here in
+    let at_slot : (k ≡ t) × (v ≡ u) → superblock_at (with_entry s.slots t u x) k v ≡ x = λ e. rw (e.0, e.1) here in
     let at_owner : n ≡ m → owner_at (set s.owners m o) n ≡ o = λ e. rw e owner in
-    let elsewhere = superblock_at_other-with_slot s.slots t u x k v tenant in
+    let elsewhere = superblock_at_other-with_entry s.slots t u x k v tenant in
     let kept = get_or-set_other s.owners m n o None in (
       λ under. elim (cases_both k t v u) [
         | inl same ↦ let found = to_owner n (sym (at_slot same) ∙ under) in at_owner found.0 ∙ (found.1 ∙ ap Some (same_owner (sym same.0) (sym same.1)))

@@ -7,12 +7,12 @@ use Rattle.std.proofs.lemmas.Bool.{cases_eq, cases_lt}
 use Rattle.std.proofs.lemmas.Bool.Decides.{nat_tests}
 use Rattle.space_core.specs.Content.{Content, IsSpace, bank, owner_at, superblock_at}
 use Rattle.space_core.specs.Windows.{slot_bytes, is_in_slot, home_of, bytes_under, window_of, put_within, banks_with, with_window, byte_under, byte_at, banks_with_byte, with_byte}
-use Rattle.space_core.specs.Changes.{granted, taken_back, moved, with_slot}
+use Rattle.space_core.specs.Changes.{with_grant, with_take_back, with_move, with_entry}
 use Rattle.space_core.specs.Laws.{IsRead, ReadsSame, OwnBytes}
-use Rattle.space_core.proofs.Banks.{with_bank}
+use Rattle.space_core.proofs.BankLemmas.{with_bank, with_banks}
 use Rattle.space_core.proofs.Changed.{same_parts, tenant-lt}
 use Rattle.space_core.proofs.Mapping.{superblock-lt, within_from_some}
-use Rattle.space_core.proofs.Mapped.{if_true, if_false, superblock_at-with_slot, superblock_at_other-with_slot}
+use Rattle.space_core.proofs.Mapped.{if_true, if_false, superblock_at-with_entry, superblock_at_other-with_entry}
 use Rattle.space_core.proofs.Empty.{get_or-copies}
 use Rattle.space_core.proofs.Reading.{reads_same, bank_kept, not_unowned}
 use Rattle.space_core.proofs.Places.{place-add, same_slot, get_or-slice_range, put_within-before, put_within-at, put_within-after}
@@ -85,9 +85,6 @@ byte_at-with_bank : (s : Content) (t m i : ℕ) (xs : List ℕ) (p : ℕ) → m 
 byte_at-with_bank s t m i xs p within under place =
     byte_is (with_bank s m xs) t p i m under place ∙ ap (λ (ys : List ℕ). Some (get_or ys i 0)) (get_or-set_same s.banks m xs [] within)
 
-abbrev with_banks : Content → List (List ℕ) → Content
-with_banks s banks = record s { banks = banks }
-
 pub own_window : {s : Content} → IsSpace s → (t place len : ℕ) (w : List ℕ) → IsSome (home_of s t place len) → length w ≡ len → (p : ℕ) → byte_at (with_window s t place len w) t p ≡ (if nat_le place p && nat_lt p (place + len) then Some (get_or w (p - place) 0) else byte_at s t p)
 own_window {s} facts t place len w has_home size p = go (home_of s t place len) refl has_home
   where
@@ -145,51 +142,51 @@ byte_under_kept : (banks banks' : List (List ℕ)) (i : ℕ) (o : Option ℕ) �
 byte_under_kept banks banks' i None kept = refl
 byte_under_kept banks banks' i (Some m) kept = ap (λ (ys : List ℕ). Some (get_or ys i 0)) (kept m refl)
 
-pub own_grant : {s : Content} → IsSpace s → (t u m : ℕ) → t < length s.slots → u < length s.owners → m < length s.owners → owner_at s.owners m ≡ None → (p : ℕ) → byte_at (granted s t u m) t p ≡ (if p / s.unit == u then Some 0 else byte_at s t p)
+pub own_grant : {s : Content} → IsSpace s → (t u m : ℕ) → t < length s.slots → u < length s.owners → m < length s.owners → owner_at s.owners m ≡ None → (p : ℕ) → byte_at (with_grant s t u m) t p ≡ (if p / s.unit == u then Some 0 else byte_at s t p)
 own_grant {s} facts t u m tenant slot within unowned p =
     let short : u < length (get_or s.slots t []) = omega (arith, facts.rows t tenant) in
     let zeroes = replicate s.unit zero in
     let i = p % s.unit in
     elim (cases_eq (p / s.unit) u) [
       | inl same ↦
-          byte_is (granted s t u m) t p i m (ap (superblock_at (with_slot s.slots t u (Some m)) t) same ∙ superblock_at-with_slot s.slots t u (Some m) tenant short) refl
+          byte_is (with_grant s t u m) t p i m (ap (superblock_at (with_entry s.slots t u (Some m)) t) same ∙ superblock_at-with_entry s.slots t u (Some m) tenant short) refl
           ∙ (ap (λ (ys : List ℕ). Some (get_or ys i 0)) (get_or-set_same s.banks m zeroes [] (omega (arith, facts.paired)))
           ∙ (ap Some (get_or-copies s.unit i 0) ∙ sym (if_true (p / s.unit == u) _ _ (grind (arith, nat_tests)))))
       | inr differ ↦
-          ap (byte_under (set s.banks m zeroes) i) (superblock_at_other-with_slot s.slots t u (Some m) t (p / s.unit) tenant (λ e. differ e.1))
+          ap (byte_under (set s.banks m zeroes) i) (superblock_at_other-with_entry s.slots t u (Some m) t (p / s.unit) tenant (λ e. differ e.1))
           ∙ (byte_under_kept s.banks (set s.banks m zeroes) i (superblock_at s.slots t (p / s.unit)) (λ n e. get_or-set_other s.banks m n zeroes [] (λ same. let owned = (facts.agree t (p / s.unit) n).0 e in let here = ap (owner_at s.owners) same in absurd (cc)))
           ∙ sym (if_false (p / s.unit == u) _ _ (grind (arith, nat_tests))))
     ]
 
-pub own_take_back : {s : Content} → IsSpace s → (t u m : ℕ) → superblock_at s.slots t u ≡ Some m → (p : ℕ) → byte_at (taken_back s t u m) t p ≡ (if p / s.unit == u then None else byte_at s t p)
+pub own_take_back : {s : Content} → IsSpace s → (t u m : ℕ) → superblock_at s.slots t u ≡ Some m → (p : ℕ) → byte_at (with_take_back s t u m) t p ≡ (if p / s.unit == u then None else byte_at s t p)
 own_take_back {s} facts t u m under p =
     let tenant = tenant-lt s.slots t u m under in
     let short = within_from_some (get_or s.slots t []) u m under in
     let i = p % s.unit in
     elim (cases_eq (p / s.unit) u) [
       | inl same ↦
-          ap (byte_under s.banks i) (ap (superblock_at (with_slot s.slots t u None) t) same ∙ superblock_at-with_slot s.slots t u None tenant short)
+          ap (byte_under s.banks i) (ap (superblock_at (with_entry s.slots t u None) t) same ∙ superblock_at-with_entry s.slots t u None tenant short)
           ∙ sym (if_true (p / s.unit == u) _ _ (grind (arith, nat_tests)))
       | inr differ ↦
-          ap (byte_under s.banks i) (superblock_at_other-with_slot s.slots t u None t (p / s.unit) tenant (λ e. differ e.1))
+          ap (byte_under s.banks i) (superblock_at_other-with_entry s.slots t u None t (p / s.unit) tenant (λ e. differ e.1))
           ∙ sym (if_false (p / s.unit == u) _ _ (grind (arith, nat_tests)))
     ]
 
--- the slot that moved has the bytes of the superblock that it stood over, and each other one stays
-pub own_move : {s : Content} → IsSpace s → (t u from to : ℕ) → superblock_at s.slots t u ≡ Some from → to < length s.owners → owner_at s.owners to ≡ None → ReadsSame t s (moved s t u from to)
+-- the slot that with_move has the bytes of the superblock that it stood over, and each other one stays
+pub own_move : {s : Content} → IsSpace s → (t u from to : ℕ) → superblock_at s.slots t u ≡ Some from → to < length s.owners → owner_at s.owners to ≡ None → ReadsSame t s (with_move s t u from to)
 own_move {s} facts t u from to under within unowned =
     let tenant = tenant-lt s.slots t u from under in
     let short = within_from_some (get_or s.slots t []) u from under in
     let bytes = bank s.banks from in
     let banks = set s.banks to bytes in
-    reads_same t s (moved s t u from to) refl (λ v. elim (cases_eq v u) [
+    reads_same t s (with_move s t u from to) refl (λ v. elim (cases_eq v u) [
       | inl same ↦
-          ap (slot_bytes (moved s t u from to) t) same
-          ∙ (ap (option_map (bank banks)) (superblock_at-with_slot s.slots t u (Some to) tenant short)
+          ap (slot_bytes (with_move s t u from to) t) same
+          ∙ (ap (option_map (bank banks)) (superblock_at-with_entry s.slots t u (Some to) tenant short)
           ∙ (ap (λ (xs : List ℕ). Some xs) (get_or-set_same s.banks to bytes [] (omega (arith, facts.paired)))
           ∙ sym (ap (slot_bytes s t) same ∙ ap (option_map (bank s.banks)) under)))
       | inr differ ↦
-          ap (option_map (bank banks)) (superblock_at_other-with_slot s.slots t u (Some to) t v tenant (λ e. differ e.1))
+          ap (option_map (bank banks)) (superblock_at_other-with_entry s.slots t u (Some to) t v tenant (λ e. differ e.1))
           ∙ bank_kept s.banks banks (superblock_at s.slots t v) (λ n here. get_or-set_other s.banks to n bytes [] (not_unowned facts t v n to here unowned))
     ])
 

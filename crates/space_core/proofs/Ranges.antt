@@ -4,8 +4,8 @@ use Rattle.std.specs.Prelude.{nat_lt, nat_le, if◌then◌else◌}
 use Rattle.std.proofs.lemmas.Bool.{lt-ltb, le-leb, and_from}
 use Rattle.std.proofs.lemmas.Nat.{pow_pos, div-mul-add, mod-mul-add}
 use Rattle.std.proofs.Math.Nat.{lt-div-mul-add, div-mul-le_self}
-use Rattle.model_core.proofs.Bridge.{number_of_frame, same_slot}
-use Rattle.space_core.specs.declared.TheConstants.{FRAME_BYTES}
+use Rattle.model_core.proofs.BlocksByNumber.{number_of_frame, same_slot}
+use Rattle.model_core.specs.declared.limits.TheConstants.{FRAME_BYTES}
 use Rattle.space_core.specs.Content.{Content, superblock_at}
 use Rattle.space_core.specs.Windows.{is_in_slot, home_of}
 

@@ -7,9 +7,9 @@ use Rattle.model_core.specs.declared.owner.Owner.{Owner}
 use Rattle.model_core.specs.Owners.{owned_by}
 use Rattle.space_core.specs.Content.{Content, IsSpace, bank, owner_at, superblock_at}
 use Rattle.space_core.specs.Windows.{home_of, banks_with, with_window, banks_with_byte, with_byte}
-use Rattle.space_core.specs.Changes.{granted, moved}
+use Rattle.space_core.specs.Changes.{with_grant, with_move}
 use Rattle.space_core.specs.Laws.{SpareStays, SpareBytes}
-use Rattle.space_core.proofs.Banks.{with_bank, with_banks}
+use Rattle.space_core.proofs.BankLemmas.{with_bank, with_banks}
 use Rattle.space_core.proofs.Own.{home_is}
 
 -- superblock m, which has an owner then, gets other bytes
@@ -41,7 +41,7 @@ pub spare_bytes : {s : Content} → IsSpace s → SpareBytes s
 spare_bytes {s} facts = record {
   window = spare_window facts;
   byte = spare_byte facts;
-  grant = λ t u m within. spare_written s (granted s t u m) m (owned_by t u) _ (get_or-set_same s.owners m (Some (owned_by t u)) None within) refl;
+  grant = λ t u m within. spare_written s (with_grant s t u m) m (owned_by t u) _ (get_or-set_same s.owners m (Some (owned_by t u)) None within) refl;
   take_back = λ t u m n none. refl;
-  move = λ t u from to within. spare_written s (moved s t u from to) to (owned_by t u) _ (get_or-set_same (set s.owners from None) to (Some (owned_by t u)) None (omega (arith, length-set s.owners from None))) refl;
+  move = λ t u from to within. spare_written s (with_move s t u from to) to (owned_by t u) _ (get_or-set_same (set s.owners from None) to (Some (owned_by t u)) None (omega (arith, length-set s.owners from None))) refl;
 }

@@ -5,7 +5,7 @@ use Rattle.std.proofs.lemmas.Bool.{cases_lt}
 use Rattle.std.proofs.Math.ListN.{set}
 use Rattle.std.specs.Global.{Vec}
 use Rattle.space_core.specs.Content.{Content, IsSpace}
-use Rattle.space_core.specs.Storage.{or_zeros, shown}
+use Rattle.space_core.specs.Storage.{or_zeros, shown_banks}
 use Rattle.space_core.proofs.TableLemmas.{lists_of, get_or-lists_of}
 
 pub or_zeros-full : (unit : ℕ) (bytes : List ℕ) → bytes ≢ [] → or_zeros unit bytes ≡ bytes
@@ -43,22 +43,22 @@ length-full (x ∷ xs) full = omega arith
 pub set-full : (bytes : List ℕ) (i byte : ℕ) → bytes ≢ [] → set bytes i byte ≢ []
 set-full bytes i byte full = full-from_length (set bytes i byte) (omega (arith, length-full bytes full, length-set bytes i byte))
 
-pub length-shown : (unit : ℕ) (stored : List (List ℕ)) → length (shown unit stored) ≡ length stored
+pub length-shown : (unit : ℕ) (stored : List (List ℕ)) → length (shown_banks unit stored) ≡ length stored
 length-shown unit stored = length-map stored (or_zeros unit)
 
-pub shown-set : (unit : ℕ) (stored : List (List ℕ)) (m : ℕ) (bytes : List ℕ) → shown unit (set stored m bytes) ≡ set (shown unit stored) m (or_zeros unit bytes)
+pub shown-set : (unit : ℕ) (stored : List (List ℕ)) (m : ℕ) (bytes : List ℕ) → shown_banks unit (set stored m bytes) ≡ set (shown_banks unit stored) m (or_zeros unit bytes)
 shown-set unit stored m bytes = map-set (or_zeros unit) stored m bytes
 
-pub bank-shown : (unit : ℕ) (stored : List (List ℕ)) (m : ℕ) → m < length stored → get_or (shown unit stored) m [] ≡ or_zeros unit (get_or stored m [])
+pub bank-shown : (unit : ℕ) (stored : List (List ℕ)) (m : ℕ) → m < length stored → get_or (shown_banks unit stored) m [] ≡ or_zeros unit (get_or stored m [])
 bank-shown unit stored m lt = get_or-map (or_zeros unit) stored m [] [] lt
 
 -- superblocks with no bytes yet
-pub shown-none : (unit n : ℕ) → shown unit (replicate n []) ≡ replicate n (replicate unit 0)
+pub shown-none : (unit n : ℕ) → shown_banks unit (replicate n []) ≡ replicate n (replicate unit 0)
 shown-none unit zero = refl
 shown-none unit (suc n) = ap (λ (banks : List (List ℕ)). replicate unit 0 ∷ banks) (shown-none unit n)
 
 -- the bytes of a superblock that has some
-pub bank-shown_full : (unit : ℕ) (stored : List (List ℕ)) (m : ℕ) → get_or stored m [] ≢ [] → get_or (shown unit stored) m [] ≡ get_or stored m []
+pub bank-shown_full : (unit : ℕ) (stored : List (List ℕ)) (m : ℕ) → get_or stored m [] ≢ [] → get_or (shown_banks unit stored) m [] ≡ get_or stored m []
 bank-shown_full unit stored m full =
     elim (cases_lt m (length stored)) [
       | inl lt ↦ bank-shown unit stored m lt ∙ or_zeros-full unit (get_or stored m []) full
@@ -66,12 +66,12 @@ bank-shown_full unit stored m full =
     ]
 
 -- the zeros that a superblock reads as, written out
-pub shown-written_out : (unit : ℕ) (stored : List (List ℕ)) (m : ℕ) → shown unit (set stored m (or_zeros unit (get_or stored m []))) ≡ shown unit stored
+pub shown-written_out : (unit : ℕ) (stored : List (List ℕ)) (m : ℕ) → shown_banks unit (set stored m (or_zeros unit (get_or stored m []))) ≡ shown_banks unit stored
 shown-written_out unit stored m = elim (cases_lt m (length stored)) [
   | inl lt ↦
       shown-set unit stored m (or_zeros unit (get_or stored m []))
-      ∙ (ap (set (shown unit stored) m) (or_zeros-twice unit (get_or stored m []) ∙ sym (bank-shown unit stored m lt)) ∙ set-get_or (shown unit stored) m [])
-  | inr past ↦ ap (shown unit) (set_past stored m (or_zeros unit (get_or stored m [])) past)
+      ∙ (ap (set (shown_banks unit stored) m) (or_zeros-twice unit (get_or stored m []) ∙ sym (bank-shown unit stored m lt)) ∙ set-get_or (shown_banks unit stored) m [])
+  | inr past ↦ ap (shown_banks unit) (set_past stored m (or_zeros unit (get_or stored m [])) past)
 ]
 
 -- and then they are there
@@ -81,27 +81,27 @@ written_out-full unit stored m some lt =
     (omega (arith, ap length (get_or-set_same stored m (or_zeros unit (get_or stored m [])) [] lt), length-or_zeros unit (get_or stored m []) some))
 
 -- one byte written where there are bytes
-pub shown-set_byte : (unit : ℕ) (stored : List (List ℕ)) (m i byte : ℕ) → get_or stored m [] ≢ [] → shown unit (set stored m (set (get_or stored m []) i byte)) ≡ set (shown unit stored) m (set (get_or (shown unit stored) m []) i byte)
+pub shown-set_byte : (unit : ℕ) (stored : List (List ℕ)) (m i byte : ℕ) → get_or stored m [] ≢ [] → shown_banks unit (set stored m (set (get_or stored m []) i byte)) ≡ set (shown_banks unit stored) m (set (get_or (shown_banks unit stored) m []) i byte)
 shown-set_byte unit stored m i byte full =
     let bytes = get_or stored m [] in
     shown-set unit stored m (set bytes i byte)
-    ∙ (ap (λ xs. set (shown unit stored) m xs) (or_zeros-full unit (set bytes i byte) (set-full bytes i byte full)) ∙ ap (λ xs. set (shown unit stored) m (set xs i byte)) (sym (bank-shown_full unit stored m full)))
+    ∙ (ap (λ xs. set (shown_banks unit stored) m xs) (or_zeros-full unit (set bytes i byte) (set-full bytes i byte full)) ∙ ap (λ xs. set (shown_banks unit stored) m (set xs i byte)) (sym (bank-shown_full unit stored m full)))
 
 -- a superblock that an index gave: its bytes
-pub shown-read : (unit : ℕ) (banks : List (Vec ℕ)) (m : ℕ) (read : Vec ℕ) → m < length banks → read ≡ get_or banks m read → get_or (lists_of banks) m [] ≢ [] → get_or (shown unit (lists_of banks)) m [] ≡ read.items
+pub shown-read : (unit : ℕ) (banks : List (Vec ℕ)) (m : ℕ) (read : Vec ℕ) → m < length banks → read ≡ get_or banks m read → get_or (lists_of banks) m [] ≢ [] → get_or (shown_banks unit (lists_of banks)) m [] ≡ read.items
 shown-read unit banks m read lt is full = bank-shown_full unit (lists_of banks) m full ∙ get_or-lists_of banks m read lt is
 
 -- and how many they are
-pub length-shown_read : {s : Content} → IsSpace s → (banks : List (Vec ℕ)) → s.banks ≡ shown s.unit (lists_of banks) → (m : ℕ) (read : Vec ℕ) → m < length s.owners → get_or s.banks m [] ≡ read.items → length read.items ≡ s.unit
+pub length-shown_read : {s : Content} → IsSpace s → (banks : List (Vec ℕ)) → s.banks ≡ shown_banks s.unit (lists_of banks) → (m : ℕ) (read : Vec ℕ) → m < length s.owners → get_or s.banks m [] ≡ read.items → length read.items ≡ s.unit
 length-shown_read {s} facts banks same m read lt here = ap length (sym here) ∙ facts.sized m (omega (arith, facts.paired))
 
 -- the bytes of a superblock copied to another one
-pub shown-copied : (unit : ℕ) (stored : List (List ℕ)) (from to : ℕ) → from < length stored → shown unit (set stored to (get_or stored from [])) ≡ set (shown unit stored) to (get_or (shown unit stored) from [])
+pub shown-copied : (unit : ℕ) (stored : List (List ℕ)) (from to : ℕ) → from < length stored → shown_banks unit (set stored to (get_or stored from [])) ≡ set (shown_banks unit stored) to (get_or (shown_banks unit stored) from [])
 shown-copied unit stored from to lt =
-    shown-set unit stored to (get_or stored from []) ∙ ap (λ bytes. set (shown unit stored) to bytes) (sym (bank-shown unit stored from lt))
+    shown-set unit stored to (get_or stored from []) ∙ ap (λ bytes. set (shown_banks unit stored) to bytes) (sym (bank-shown unit stored from lt))
 
--- as many bytes are stored as are shown, or none
-pub stored-short : (unit : ℕ) (stored : List (List ℕ)) (m : ℕ) → m < length stored → length (get_or stored m []) ≤ length (get_or (shown unit stored) m [])
+-- as many bytes are stored as are shown_banks, or none
+pub stored-short : (unit : ℕ) (stored : List (List ℕ)) (m : ℕ) → m < length stored → length (get_or stored m []) ≤ length (get_or (shown_banks unit stored) m [])
 stored-short unit stored m lt = subst (λ (bytes : List ℕ). length (get_or stored m []) ≤ length bytes) (sym (bank-shown unit stored m lt)) (go (get_or stored m []))
   where
     go : (bytes : List ℕ) → length bytes ≤ length (or_zeros unit bytes)

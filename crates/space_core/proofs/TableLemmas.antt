@@ -5,8 +5,8 @@ use Rattle.std.proofs.lemmas.List.Elements.{All-set}
 use Rattle.std.proofs.Math.ListN.{set}
 use Rattle.std.specs.Global.{Vec}
 use Rattle.std.specs.Vec.{with_items}
-use Rattle.space_core.specs.Storage.{HasRoom}
-use Rattle.space_core.specs.Tables.{bytes_of}
+use Rattle.space_core.specs.Storage.{HaveRoom}
+use Rattle.space_core.specs.Tables.{stored_bytes}
 
 abbrev pub lists_of : {X : Type 0} → List (Vec X) → List (List X)
 lists_of rows = map (λ row. row.items) rows
@@ -36,14 +36,14 @@ pub back_written : {A : Type 0} (xs front back : List A) (i : ℕ) (x : A) → x
 back_written xs front back i x whole size = ap (λ n. front ++ set back n x) (omega arith) ∙ (sym (set-append_right front back i i x size (omega arith)) ∙ ap (λ ys. set ys i x) (sym whole))
 
 -- one row made to hold what another one holds
-pub bytes_of-copied : (v : Vec (Vec ℕ)) (all : List (Vec ℕ)) (from to : ℕ) (source row : Vec ℕ) → all ≡ set v.items to row → from < length v.items → source ≡ get_or v.items from source → row.items ≡ source.items → bytes_of (with_items v all) ≡ set (bytes_of v) to (get_or (bytes_of v) from [])
+pub bytes_of-copied : (v : Vec (Vec ℕ)) (all : List (Vec ℕ)) (from to : ℕ) (source row : Vec ℕ) → all ≡ set v.items to row → from < length v.items → source ≡ get_or v.items from source → row.items ≡ source.items → stored_bytes (with_items v all) ≡ set (stored_bytes v) to (get_or (stored_bytes v) from [])
 bytes_of-copied v all from to source row written within read same =
     ap lists_of (with_items_is v all (ap length written ∙ omega (arith, length-set v.items to row, v.ok.0)) ∙ written)
     ∙ (lists_of-set v.items to row ∙ ap (λ (bytes : List ℕ). set (lists_of v.items) to bytes) (same ∙ sym (get_or-lists_of v.items from source within read)))
 
 -- and as much room as before
-pub HasRoom-written : (v : Vec (Vec ℕ)) (all : List (Vec ℕ)) (to : ℕ) (target row : Vec ℕ) → all ≡ set v.items to row → to < length v.items → target ≡ get_or v.items to target → target.cap ≤ row.cap → (unit : ℕ) → HasRoom unit v.items → HasRoom unit (with_items v all).items
+pub HasRoom-written : (v : Vec (Vec ℕ)) (all : List (Vec ℕ)) (to : ℕ) (target row : Vec ℕ) → all ≡ set v.items to row → to < length v.items → target ≡ get_or v.items to target → target.cap ≤ row.cap → (unit : ℕ) → HaveRoom unit v.items → HaveRoom unit (with_items v all).items
 HasRoom-written v all to target row written within read more unit room =
     let was : unit ≤ target.cap = subst (λ (bank : Vec ℕ). unit ≤ bank.cap) (sym read) (room to target within) in
-    subst (HasRoom unit) (sym (with_items_is v all (ap length written ∙ omega (arith, length-set v.items to row, v.ok.0)) ∙ written))
+    subst (HaveRoom unit) (sym (with_items_is v all (ap length written ∙ omega (arith, length-set v.items to row, v.ok.0)) ∙ written))
     (All-set (λ (bank : Vec ℕ). unit ≤ bank.cap) v.items to row (omega arith) room)

@@ -9,7 +9,7 @@ use Rattle.std.proofs.lemmas.Bool.{cases_lt}
 use Rattle.std.proofs.lemmas.Bool.Decides.{nat_tests}
 use Rattle.model_core.specs.declared.owner.Owner.{Owner}
 use Rattle.model_core.specs.Owners.{owned_by, is_of}
-use Rattle.space_core.specs.Content.{Content, IsSpace, owner_at, row_of, superblock_at}
+use Rattle.space_core.specs.Content.{Content, IsSpace, owner_at, slots_of, superblock_at}
 use Rattle.space_core.specs.Changes.{IsLeastSlot}
 use Rattle.space_core.proofs.Mapped.{one_if, count_by-set}
 use Rattle.space_core.proofs.Changed.{is_of_self}
@@ -48,25 +48,25 @@ unowned_from_pool owners pool = go (position is_none owners) refl pool
     go None e some = cc
     go (Some m) e some = let found = position-Some is_none owners m None e in (m, found.0, none_from_test (owner_at owners m) found.1)
 
-pub has_vacant_slot : {s : Content} → IsSpace s → (t : ℕ) → t < length s.slots → IsSome (position is_none s.owners) → IsSome (position is_none (row_of s.slots t))
-has_vacant_slot {s} facts t tenant pool = go (position is_none (row_of s.slots t)) refl
+pub has_vacant_slot : {s : Content} → IsSpace s → (t : ℕ) → t < length s.slots → IsSome (position is_none s.owners) → IsSome (position is_none (slots_of s.slots t))
+has_vacant_slot {s} facts t tenant pool = go (position is_none (slots_of s.slots t)) refl
   where
-    go : (o : Option ℕ) → position is_none (row_of s.slots t) ≡ o → IsSome o
+    go : (o : Option ℕ) → position is_none (slots_of s.slots t) ≡ o → IsSome o
     go (Some u) e = refl
     go None e =
-        let row = row_of s.slots t in
+        let row = slots_of s.slots t in
         let spare = unowned_from_pool s.owners pool in
         let fewer = count_by-lt-length t s.owners spare.0 spare.1 spare.2 in
         absurd (omega (arith, fewer, facts.counted t tenant, facts.rows t tenant, count_by_full row (full_from_none row e)))
 
-pub least_from_position : (slots : List (List (Option ℕ))) (t u : ℕ) → position is_none (row_of slots t) ≡ Some u → IsLeastSlot slots t u
+pub least_from_position : (slots : List (List (Option ℕ))) (t u : ℕ) → position is_none (slots_of slots t) ≡ Some u → IsLeastSlot slots t u
 least_from_position slots t u e =
-    let found = position-Some is_none (row_of slots t) u None e in
+    let found = position-Some is_none (slots_of slots t) u None e in
     record { vacant = none_from_test (superblock_at slots t u) found.1; below = λ v lt. some_from_test (superblock_at slots t v) (found.2 v lt) }
 
-pub slot-lt : {s : Content} → IsSpace s → (t u : ℕ) → t < length s.slots → position is_none (row_of s.slots t) ≡ Some u → u < length s.owners
+pub slot-lt : {s : Content} → IsSpace s → (t u : ℕ) → t < length s.slots → position is_none (slots_of s.slots t) ≡ Some u → u < length s.owners
 slot-lt {s} facts t u tenant e =
-    let found = position-Some is_none (row_of s.slots t) u None e in
+    let found = position-Some is_none (slots_of s.slots t) u None e in
     omega (arith, facts.rows t tenant, found.0)
 
 pub unowned-from_position : (owners : List (Option Owner)) (m : ℕ) → position is_none owners ≡ Some m → owner_at owners m ≡ None

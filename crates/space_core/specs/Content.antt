@@ -1,12 +1,12 @@
 -- RAM by superblock, the pool, and the mapping between superblocks and the slots of tenants.
 use Rattle.std.specs.Prelude.{◌≡◌, ℕ, ◌*◌, ◌<◌, ◌≤◌, ◌^◌, ◌↔◌, Bool, false, List, [], Option, Some, None, is_some, length, count_by, replicate, slice_index_or}
 use Rattle.model_core.specs.declared.owner.Owner.{Owner}
-use Rattle.model_core.specs.declared.limits.TheConstants.{MOST_ORDER, MOST_SUPERBLOCKS, MOST_TENANTS}
+use Rattle.model_core.specs.declared.limits.TheConstants.{FRAME_BYTES, MOST_ORDER, MOST_SUPERBLOCKS, MOST_TENANTS}
 use Rattle.model_core.specs.Owners.{owned_by, is_of}
-use Rattle.space_core.specs.declared.TheConstants.{FRAME_BYTES}
 
 -- unit: bytes of a superblock. owners: by superblock, the tenant that has it and the slot that it is there.
--- slots: by tenant and slot, the superblock. banks: by superblock, its bytes. marks: by superblock, whether it still has to be scrubbed
+-- slots: by tenant and slot, the superblock. banks: by superblock, its bytes.
+-- marks: by superblock, whether it still has to be scrubbed
 pub record Content : Type 0 where
   pub unit : ℕ
   pub owners : List (Option Owner)
@@ -27,12 +27,12 @@ abbrev pub mark_at : List Bool → ℕ → Bool
 mark_at marks m = slice_index_or marks m false
 
 -- the slots of tenant t
-abbrev pub row_of : List (List (Option ℕ)) → ℕ → List (Option ℕ)
-row_of slots t = slice_index_or slots t []
+abbrev pub slots_of : List (List (Option ℕ)) → ℕ → List (Option ℕ)
+slots_of slots t = slice_index_or slots t []
 
 -- the superblock under slot u of tenant t
 abbrev pub superblock_at : List (List (Option ℕ)) → ℕ → ℕ → Option ℕ
-superblock_at slots t u = slice_index_or (row_of slots t) u None
+superblock_at slots t u = slice_index_or (slots_of slots t) u None
 
 -- what is true of every `Space`
 pub record IsSpace (s : Content) : Type 0 where
@@ -42,14 +42,15 @@ pub record IsSpace (s : Content) : Type 0 where
   pub tenants : length s.slots ≤ MOST_TENANTS
   pub paired : length s.banks ≡ length s.owners
   pub flagged : length s.marks ≡ length s.owners
-  pub rows : (t : ℕ) → t < length s.slots → length (row_of s.slots t) ≡ length s.owners
+  pub rows : (t : ℕ) → t < length s.slots → length (slots_of s.slots t) ≡ length s.owners
   pub sized : (m : ℕ) → m < length s.banks → length (bank s.banks m) ≡ s.unit
   -- owners and slots say the same, so no two superblocks stand under one slot and no superblock under two
   pub agree : (t u m : ℕ) → (superblock_at s.slots t u ≡ Some m) ↔ (owner_at s.owners m ≡ Some (owned_by t u))
   -- a tenant holds as many slots as superblocks, so where a superblock is without owner each tenant has a slot for it
-  pub counted : (t : ℕ) → t < length s.slots → count_by is_some (row_of s.slots t) ≡ count_by (is_of t) s.owners
+  pub counted : (t : ℕ) → t < length s.slots → count_by is_some (slots_of s.slots t) ≡ count_by (is_of t) s.owners
   -- what has no owner and no mark reads as zero
-  pub spare : (m : ℕ) → m < length s.banks → owner_at s.owners m ≡ None → mark_at s.marks m ≡ false → bank s.banks m ≡ replicate s.unit 0
+  pub spare : (m : ℕ) → m < length s.banks → owner_at s.owners m ≡ None → mark_at s.marks m ≡ false
+      → bank s.banks m ≡ replicate s.unit 0
 
 -- a space in which no superblock has an owner or a mark and every byte is zero
 abbrev pub empty_space : ℕ → ℕ → ℕ → Content

@@ -3,10 +3,10 @@ use Rattle.std.specs.Prelude.{◌≡◌, ◌≢◌, ℕ, ◌+◌, ◌-◌, ◌/�
 use Rattle.model_core.specs.Owners.{owned_by}
 use Rattle.space_core.specs.Content.{Content, IsSpace, bank, superblock_at, owner_at}
 use Rattle.space_core.specs.Windows.{slot_bytes, home_of, window_of, with_window, byte_at, with_byte}
-use Rattle.space_core.specs.Changes.{granted, taken_back, moved}
+use Rattle.space_core.specs.Changes.{with_grant, with_take_back, with_move}
 
 -- no two superblocks stand under one slot, and no superblock under two
-pub record IsApart (s : Content) : Type 0 where
+pub record IsOneToOne (s : Content) : Type 0 where
   pub superblocks : (t u m n : ℕ) → owner_at s.owners m ≡ Some (owned_by t u) → owner_at s.owners n ≡ Some (owned_by t u) → m ≡ n
   pub slots : (t u v w m : ℕ) → superblock_at s.slots t u ≡ Some m → superblock_at s.slots v w ≡ Some m → (t ≡ v) × (u ≡ w)
 
@@ -27,9 +27,9 @@ pub record ReadsSame (t : ℕ) (s s' : Content) : Type 0 where
 pub record OthersStay (s : Content) : Type 0 where
   pub window : (t place len : ℕ) (w : List ℕ) (other : ℕ) → other ≢ t → IsSameFor other s (with_window s t place len w)
   pub byte : (t place b other : ℕ) → other ≢ t → IsSameFor other s (with_byte s t place b)
-  pub grant : (t u m other : ℕ) → owner_at s.owners m ≡ None → other ≢ t → IsSameFor other s (granted s t u m)
-  pub take_back : (t u m other : ℕ) → other ≢ t → IsSameFor other s (taken_back s t u m)
-  pub move : (t u from to other : ℕ) → owner_at s.owners to ≡ None → other ≢ t → IsSameFor other s (moved s t u from to)
+  pub grant : (t u m other : ℕ) → owner_at s.owners m ≡ None → other ≢ t → IsSameFor other s (with_grant s t u m)
+  pub take_back : (t u m other : ℕ) → other ≢ t → IsSameFor other s (with_take_back s t u m)
+  pub move : (t u from to other : ℕ) → owner_at s.owners to ≡ None → other ≢ t → IsSameFor other s (with_move s t u from to)
 
 -- a superblock without owner in s' has the bytes that it has in s
 abbrev pub SpareStays : Content → Content → Type 0
@@ -39,9 +39,9 @@ SpareStays s s' = (m : ℕ) → owner_at s'.owners m ≡ None → bank s'.banks 
 pub record SpareBytes (s : Content) : Type 0 where
   pub window : (t place len : ℕ) (w : List ℕ) → SpareStays s (with_window s t place len w)
   pub byte : (t place b : ℕ) → SpareStays s (with_byte s t place b)
-  pub grant : (t u m : ℕ) → m < length s.owners → SpareStays s (granted s t u m)
-  pub take_back : (t u m : ℕ) → SpareStays s (taken_back s t u m)
-  pub move : (t u from to : ℕ) → to < length s.owners → SpareStays s (moved s t u from to)
+  pub grant : (t u m : ℕ) → m < length s.owners → SpareStays s (with_grant s t u m)
+  pub take_back : (t u m : ℕ) → SpareStays s (with_take_back s t u m)
+  pub move : (t u from to : ℕ) → to < length s.owners → SpareStays s (with_move s t u from to)
 
 -- bytes are those of tenant t from place on, len of them
 pub record IsRead (s : Content) (t place len : ℕ) (bytes : List ℕ) : Type 0 where
@@ -51,22 +51,31 @@ pub record IsRead (s : Content) (t place len : ℕ) (bytes : List ℕ) : Type 0 
 -- what the named tenant then reads at each place p
 pub record OwnBytes (s : Content) : Type 0 where
   pub read : (t place len : ℕ) (bytes : List ℕ) → window_of s t place len ≡ Some bytes → IsRead s t place len bytes
-  pub window : (t place len : ℕ) (w : List ℕ) → IsSome (home_of s t place len) → length w ≡ len → (p : ℕ) → byte_at (with_window s t place len w) t p ≡ (if nat_le place p && nat_lt p (place + len) then Some (slice_index w (p - place)) else byte_at s t p)
-  pub byte : (t place b : ℕ) → IsSome (byte_at s t place) → (p : ℕ) → byte_at (with_byte s t place b) t p ≡ (if p == place then Some b else byte_at s t p)
-  pub grant : (t u m : ℕ) → t < length s.slots → u < length s.owners → m < length s.owners → owner_at s.owners m ≡ None → (p : ℕ) → byte_at (granted s t u m) t p ≡ (if p / s.unit == u then Some 0 else byte_at s t p)
-  pub take_back : (t u m : ℕ) → superblock_at s.slots t u ≡ Some m → (p : ℕ) → byte_at (taken_back s t u m) t p ≡ (if p / s.unit == u then None else byte_at s t p)
-  pub move : (t u from to : ℕ) → superblock_at s.slots t u ≡ Some from → to < length s.owners → owner_at s.owners to ≡ None → ReadsSame t s (moved s t u from to)
+  pub window : (t place len : ℕ) (w : List ℕ) → IsSome (home_of s t place len) → length w ≡ len
+      → (p : ℕ) → byte_at (with_window s t place len w) t p
+      ≡ (if nat_le place p && nat_lt p (place + len) then Some (slice_index w (p - place)) else byte_at s t p)
+  pub byte : (t place b : ℕ) → IsSome (byte_at s t place)
+      → (p : ℕ) → byte_at (with_byte s t place b) t p ≡ (if p == place then Some b else byte_at s t p)
+  pub grant : (t u m : ℕ) → t < length s.slots → u < length s.owners → m < length s.owners → owner_at s.owners m ≡ None
+      → (p : ℕ) → byte_at (with_grant s t u m) t p ≡ (if p / s.unit == u then Some 0 else byte_at s t p)
+  pub take_back : (t u m : ℕ) → superblock_at s.slots t u ≡ Some m
+      → (p : ℕ) → byte_at (with_take_back s t u m) t p ≡ (if p / s.unit == u then None else byte_at s t p)
+  pub move : (t u from to : ℕ) → superblock_at s.slots t u ≡ Some from → to < length s.owners
+      → owner_at s.owners to ≡ None → ReadsSame t s (with_move s t u from to)
 
 -- which slots the named tenant then holds
 pub record OwnSlots (s : Content) : Type 0 where
-  pub grant : (t u m : ℕ) → t < length s.slots → u < length s.owners → (v : ℕ) → superblock_at (granted s t u m).slots t v ≡ (if v == u then Some m else superblock_at s.slots t v)
-  pub take_back : (t u m : ℕ) → superblock_at s.slots t u ≡ Some m → (v : ℕ) → superblock_at (taken_back s t u m).slots t v ≡ (if v == u then None else superblock_at s.slots t v)
-  pub move : (t u from to : ℕ) → superblock_at s.slots t u ≡ Some from → (v : ℕ) → superblock_at (moved s t u from to).slots t v ≡ (if v == u then Some to else superblock_at s.slots t v)
+  pub grant : (t u m : ℕ) → t < length s.slots → u < length s.owners
+      → (v : ℕ) → superblock_at (with_grant s t u m).slots t v ≡ (if v == u then Some m else superblock_at s.slots t v)
+  pub take_back : (t u m : ℕ) → superblock_at s.slots t u ≡ Some m
+      → (v : ℕ) → superblock_at (with_take_back s t u m).slots t v ≡ (if v == u then None else superblock_at s.slots t v)
+  pub move : (t u from to : ℕ) → superblock_at s.slots t u ≡ Some from
+      → (v : ℕ) → superblock_at (with_move s t u from to).slots t v ≡ (if v == u then Some to else superblock_at s.slots t v)
 
 -- what is true of every space, and what the calls do to the tenants of one
 pub record SpaceLaws (s : Content) : Type 0 where
   pub facts : IsSpace s
-  pub apart : IsApart s
+  pub apart : IsOneToOne s
   pub others : OthersStay s
   pub own_bytes : OwnBytes s
   pub own_slots : OwnSlots s

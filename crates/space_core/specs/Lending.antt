@@ -11,4 +11,5 @@ LendsWindow s t place len r = Lends the_row (Array u8 0) s r (with_window s.now 
 
 -- superblock m ends with the last value written through r from i on, and all else of s stays
 abbrev pub LendsPart : MutBor Content → ℕ → ℕ → MutBor (List ℕ) → Fml
-LendsPart s m i r = Lends the_row (Array u8 0) s r (λ w. record s.now { banks = slice_set s.now.banks m (put_within (bank s.now.banks m) i w) })
+LendsPart s m i r = Lends the_row (Array u8 0) s r
+    (λ w. record s.now { banks = slice_set s.now.banks m (put_within (bank s.now.banks m) i w) })

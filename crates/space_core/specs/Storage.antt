@@ -9,14 +9,14 @@ abbrev pub or_zeros : ℕ → List ℕ → List ℕ
 or_zeros unit [] = replicate unit 0
 or_zeros unit (x ∷ xs) = x ∷ xs
 
-abbrev pub shown : ℕ → List (List ℕ) → List (List ℕ)
-shown unit stored = map (or_zeros unit) stored
+abbrev pub shown_banks : ℕ → List (List ℕ) → List (List ℕ)
+shown_banks unit stored = map (or_zeros unit) stored
 
 -- each superblock has room for unit bytes
-abbrev pub HasRoom : ℕ → List (Vec ℕ) → Type 0
-HasRoom unit banks = All (λ bank. unit ≤ vec_capacity bank) banks
+abbrev pub HaveRoom : ℕ → List (Vec ℕ) → Type 0
+HaveRoom unit banks = All (λ bank. unit ≤ vec_capacity bank) banks
 
 -- what is true of the vectors of every `Space`
 pub record IsStored (unit : ℕ) (banks : List (Vec ℕ)) (zeros : List ℕ) : Type 0 where
-  pub room : HasRoom unit banks
+  pub room : HaveRoom unit banks
   pub blank : zeros ≡ replicate unit 0

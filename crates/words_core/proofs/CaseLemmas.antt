@@ -7,9 +7,9 @@ use Rattle.std.specs.Str.Lines.{strip_carriage_return}
 use Rattle.std.proofs.lemmas.Bool.Decides.{Decides-eqb, nat_tests, not_from_Decides}
 use Rattle.std.proofs.lemmas.List.Elements.{All-contains, All-from_recursion}
 use Rattle.std.proofs.lemmas.Slice.Eq.{bytes_eq-Decides}
-use Rattle.words_core.specs.Cases.{IsComment, Names, Asks, FirstFault, AllMake, CaseOfWords, blank, comment, nobody, alone, no_command, wrong_count, faulty, event, CaseOfBytes, too_long, of_words, Case, Says}
-use Rattle.words_core.specs.Commands.{or_fault, Form, Given, Maker, Row, read_as, Actor, administrator, tenant, CommandOf, admin_rows, tenant_rows, rows_of, event_by, nobody_fault}
-use Rattle.words_core.specs.Grammar.{◌>>=◌, are_as_many, made_of, command_by, command_of, asked_of, tenant_of, actor_of, event_of, judged, judged_within, reading_of}
+use Rattle.words_core.specs.Cases.{IsComment, Names, AsksFor, FirstFault, AllMake, CaseOfWords, blank, comment, nobody, alone, no_command, wrong_count, faulty, event, CaseOfBytes, too_long, of_words, Case, Says}
+use Rattle.words_core.specs.Commands.{or_fault, Form, Given, Maker, CommandRow, read_as, Actor, administrator, tenant, CommandOf, admin_rows, tenant_rows, command_rows, event_by, nobody_fault}
+use Rattle.words_core.specs.Grammar.{◌>>=◌, are_as_many, made_of, command_by, command_of, asked_of, tenant_of, actor_of, event_of, reading_of_words, reading_within, reading_of}
 use Rattle.words_core.specs.Numbers.{value_of, number_of}
 use Rattle.words_core.specs.Words.{words_of}
 use Rattle.words_core.specs.declared.numbers.TheConstants.{MOST_DIGITS}
@@ -27,20 +27,20 @@ abbrev made_case : {C : Type 0} → Result C LineFault → ℕ
 made_case (Ok command) = 8
 made_case (Err fault) = 7
 
-abbrev row_case : {C : Type 0} → List (List ℕ) → Row C → ℕ
+abbrev row_case : {C : Type 0} → List (List ℕ) → CommandRow C → ℕ
 row_case arguments row = if are_as_many row.forms arguments then made_case (made_of row.forms row.makes arguments) else 6
 
 -- what is found at the row of a word
-abbrev at_row : {C D : Type 0} → List (Row C) → List ℕ → (Row C → D) → D → D
+abbrev at_row : {C D : Type 0} → List (CommandRow C) → List ℕ → (CommandRow C → D) → D → D
 at_row [] word found none = none
 at_row (row ∷ rows) word found none = if bytes_eq word row.word then found row else at_row rows word found none
 
-abbrev asked_case : {C : Type 0} → List (Row C) → List (List ℕ) → ℕ
+abbrev asked_case : {C : Type 0} → List (CommandRow C) → List (List ℕ) → ℕ
 asked_case rows [] = 4
 asked_case rows (word ∷ arguments) = at_row rows word (row_case arguments) 5
 
 abbrev actor_case : Result Actor LineFault → List (List ℕ) → ℕ
-actor_case (Ok actor) rest = asked_case (rows_of actor) rest
+actor_case (Ok actor) rest = asked_case (command_rows actor) rest
 actor_case (Err fault) rest = 3
 
 abbrev words_case : List (List ℕ) → ℕ
@@ -117,54 +117,54 @@ contains_first x xs = (0, omega arith, refl)
 contains_later : {X : Type 0} (x y : X) (xs : List X) → Contains xs y → Contains (x ∷ xs) y
 contains_later x y xs (k, below, is) = (suc k, omega (arith, below), is)
 
-command_of-at_row : {C : Type 0} (rows : List (Row C)) (word : List ℕ) (arguments : List (List ℕ))
+command_of-at_row : {C : Type 0} (rows : List (CommandRow C)) (word : List ℕ) (arguments : List (List ℕ))
     → command_of rows word arguments ≡ at_row rows word (λ row. command_by row arguments) (Err Unknown)
 command_of-at_row [] word arguments = refl
 command_of-at_row (row ∷ rows) word arguments =
     ap (λ rest. if bytes_eq word row.word then command_by row arguments else rest) (command_of-at_row rows word arguments)
 
 module _ {D : Type 0} (none : D) where
-  at_row-admin : (found : Row AdminCommand → D) → All (λ row. at_row admin_rows row.word found none ≡ found row) admin_rows
-  at_row-admin found = All-from_recursion (λ (row : Row AdminCommand). at_row admin_rows row.word found none ≡ found row) admin_rows
+  at_row-admin : (found : CommandRow AdminCommand → D) → All (λ row. at_row admin_rows row.word found none ≡ found row) admin_rows
+  at_row-admin found = All-from_recursion (λ (row : CommandRow AdminCommand). at_row admin_rows row.word found none ≡ found row) admin_rows
       (refl, (refl, (refl, (refl, (refl, tt)))))
 
-  at_row-tenant : (found : Row Command → D) → All (λ row. at_row tenant_rows row.word found none ≡ found row) tenant_rows
-  at_row-tenant found = All-from_recursion (λ (row : Row Command). at_row tenant_rows row.word found none ≡ found row) tenant_rows
+  at_row-tenant : (found : CommandRow Command → D) → All (λ row. at_row tenant_rows row.word found none ≡ found row) tenant_rows
+  at_row-tenant found = All-from_recursion (λ (row : CommandRow Command). at_row tenant_rows row.word found none ≡ found row) tenant_rows
       (refl, (refl, (refl, (refl, (refl, (refl, (refl, (refl, (refl, (refl, tt))))))))))
 
   -- no two rows of a table have one word
-  at_row-found : (actor : Actor) (word : List ℕ) (row : Row (CommandOf actor)) (found : Row (CommandOf actor) → D)
-      → Asks actor word row → at_row (rows_of actor) word found none ≡ found row
+  at_row-found : (actor : Actor) (word : List ℕ) (row : CommandRow (CommandOf actor)) (found : CommandRow (CommandOf actor) → D)
+      → AsksFor actor word row → at_row (command_rows actor) word found none ≡ found row
   at_row-found administrator word row found (has, is) =
       ap (λ w. at_row admin_rows w found none) is
-      ∙ All-contains (λ (row : Row AdminCommand). at_row admin_rows row.word found none ≡ found row) admin_rows row (at_row-admin found) has
+      ∙ All-contains (λ (row : CommandRow AdminCommand). at_row admin_rows row.word found none ≡ found row) admin_rows row (at_row-admin found) has
   at_row-found (tenant t) word row found (has, is) =
       ap (λ w. at_row tenant_rows w found none) is
-      ∙ All-contains (λ (row : Row Command). at_row tenant_rows row.word found none ≡ found row) tenant_rows row (at_row-tenant found) has
+      ∙ All-contains (λ (row : CommandRow Command). at_row tenant_rows row.word found none ≡ found row) tenant_rows row (at_row-tenant found) has
 
-at_row-none : {C D : Type 0} (rows : List (Row C)) (word : List ℕ) (found : Row C → D) (none : D)
-    → ((row : Row C) → Contains rows row × (word ≡ row.word) → ⊥) → at_row rows word found none ≡ none
+at_row-none : {C D : Type 0} (rows : List (CommandRow C)) (word : List ℕ) (found : CommandRow C → D) (none : D)
+    → ((row : CommandRow C) → Contains rows row × (word ≡ row.word) → ⊥) → at_row rows word found none ≡ none
 at_row-none [] word found none never = refl
 at_row-none (row ∷ rows) word found none never =
     ap (λ test. if test then found row else at_row rows word found none)
     (refused _ (bytes_eq-Decides word row.word) (λ same. never row (contains_first row rows, same)))
     ∙ at_row-none rows word found none (λ later (has, same). never later (contains_later row later rows has, same))
 
-row_or_none : {C : Type 0} (rows : List (Row C)) (word : List ℕ)
-    → ((row : Row C) × (Contains rows row × (word ≡ row.word))) ⊎ ((row : Row C) → Contains rows row × (word ≡ row.word) → ⊥)
+row_or_none : {C : Type 0} (rows : List (CommandRow C)) (word : List ℕ)
+    → ((row : CommandRow C) × (Contains rows row × (word ≡ row.word))) ⊎ ((row : CommandRow C) → Contains rows row × (word ≡ row.word) → ⊥)
 row_or_none {C} [] word = inr none where
-  none : (row : Row C) → Contains [] row × (word ≡ row.word) → ⊥
+  none : (row : CommandRow C) → Contains [] row × (word ≡ row.word) → ⊥
   none row ((k, below, is), same) = omega (arith, below)
 row_or_none {C} (first ∷ rows) word = by (true_or_false (bytes_eq word first.word)) (row_or_none rows word) where
-  neither : bytes_eq word first.word ≡ false → ((row : Row C) → Contains rows row × (word ≡ row.word) → ⊥)
-      → (row : Row C) → Contains (first ∷ rows) row × (word ≡ row.word) → ⊥
+  neither : bytes_eq word first.word ≡ false → ((row : CommandRow C) → Contains rows row × (word ≡ row.word) → ⊥)
+      → (row : CommandRow C) → Contains (first ∷ rows) row × (word ≡ row.word) → ⊥
   neither other never row ((zero, below, is), same) =
-      not_from_Decides _ (bytes_eq-Decides word first.word) other (same ∙ ap (λ (r : Row C). r.word) (sym is))
+      not_from_Decides _ (bytes_eq-Decides word first.word) other (same ∙ ap (λ (r : CommandRow C). r.word) (sym is))
   neither other never row ((suc k, below, is), same) = never row ((k, omega (arith, below), is), same)
 
   by : (bytes_eq word first.word ≡ true) ⊎ (bytes_eq word first.word ≡ false)
-      → ((row : Row C) × (Contains rows row × (word ≡ row.word))) ⊎ ((row : Row C) → Contains rows row × (word ≡ row.word) → ⊥)
-      → ((row : Row C) × (Contains (first ∷ rows) row × (word ≡ row.word))) ⊎ ((row : Row C) → Contains (first ∷ rows) row × (word ≡ row.word) → ⊥)
+      → ((row : CommandRow C) × (Contains rows row × (word ≡ row.word))) ⊎ ((row : CommandRow C) → Contains rows row × (word ≡ row.word) → ⊥)
+      → ((row : CommandRow C) × (Contains (first ∷ rows) row × (word ≡ row.word))) ⊎ ((row : CommandRow C) → Contains (first ∷ rows) row × (word ≡ row.word) → ⊥)
   by (inl same) rest = inl (first, (contains_first first rows, (bytes_eq-Decides word first.word).0 same))
   by (inr other) (inl (row, (has, same))) = inl (row, (contains_later first row rows has, same))
   by (inr other) (inr never) = inr (neither other never)
@@ -225,9 +225,9 @@ abbrev said_by : (actor : Actor) → Result (CommandOf actor) LineFault → Resu
 said_by actor asked = (asked >>= (λ command. Ok (event_by actor command))) >>= (λ event. Ok (Some event))
 
 named : (first : List ℕ) (rest : List (List ℕ)) (actor : Actor) (number : ℕ) (asked : Result (CommandOf actor) LineFault) → Names first actor
-    → asked_case (rows_of actor) rest ≡ number → asked_of (rows_of actor) rest ≡ asked
-    → (words_case (first ∷ rest) ≡ number) × (judged (first ∷ rest) ≡ said_by actor asked)
-unfolding judged event_of
+    → asked_case (command_rows actor) rest ≡ number → asked_of (command_rows actor) rest ≡ asked
+    → (words_case (first ∷ rest) ≡ number) × (reading_of_words (first ∷ rest) ≡ said_by actor asked)
+unfolding reading_of_words event_of
 named first rest actor number asked names number_is asked_is =
     let no_comment : (slice_index first 0 == 35) ≡ false = refused _ (Decides-eqb (slice_index first 0) 35) (names_no_comment first actor names) in
     let names_actor : actor_of first ≡ Ok actor = actor_of-named first actor names in (
@@ -235,28 +235,28 @@ named first rest actor number asked names number_is asked_is =
           ∙ ap (λ found. actor_case found rest) names_actor
           ∙ number_is,
       ap (λ test. if test then Ok None else (event_of first rest >>= (λ event. Ok (Some event)))) no_comment
-          ∙ ap (λ found. (found >>= (λ actor. asked_of (rows_of actor) rest >>= (λ command. Ok (event_by actor command)))) >>= (λ event. Ok (Some event))) names_actor
+          ∙ ap (λ found. (found >>= (λ actor. asked_of (command_rows actor) rest >>= (λ command. Ok (event_by actor command)))) >>= (λ event. Ok (Some event))) names_actor
           ∙ ap (said_by actor) asked_is,
     )
 
-of_row : (first word : List ℕ) (arguments : List (List ℕ)) (actor : Actor) (row : Row (CommandOf actor)) (many : Bool)
-    (made : Result (CommandOf actor) LineFault) → Names first actor → Asks actor word row
+of_row : (first word : List ℕ) (arguments : List (List ℕ)) (actor : Actor) (row : CommandRow (CommandOf actor)) (many : Bool)
+    (made : Result (CommandOf actor) LineFault) → Names first actor → AsksFor actor word row
     → are_as_many row.forms arguments ≡ many → made_of row.forms row.makes arguments ≡ made
     → (words_case (first ∷ word ∷ arguments) ≡ (if many then made_case made else 6))
-    × (judged (first ∷ word ∷ arguments) ≡ said_by actor (if many then made else Err Words))
+    × (reading_of_words (first ∷ word ∷ arguments) ≡ said_by actor (if many then made else Err Words))
 of_row first word arguments actor row many made names asks many_is made_is =
     named first (word ∷ arguments) actor _ _ names
     (at_row-found 5 actor word row (row_case arguments) asks
     ∙ ap (λ test. if test then made_case (made_of row.forms row.makes arguments) else 6) many_is
     ∙ ap (λ found. if many then made_case found else 6) made_is)
-    (command_of-at_row (rows_of actor) word arguments
+    (command_of-at_row (command_rows actor) word arguments
     ∙ at_row-found (Err Unknown) actor word row (λ row. command_by row arguments) asks
     ∙ ap (λ test. if test then made_of row.forms row.makes arguments else Err Words) many_is
     ∙ ap (λ found. if many then found else Err Words) made_is)
 
 only_of_words : (number : ℕ) (words : List (List ℕ)) (reading : Result (Option Event) LineFault) → CaseOfWords number words reading
-    → (words_case words ≡ number) × (judged words ≡ reading)
-unfolding judged event_of
+    → (words_case words ≡ number) × (reading_of_words words ≡ reading)
+unfolding reading_of_words event_of
 only_of_words number words reading blank = (refl, refl)
 only_of_words number words reading (comment {first} {rest} is) =
     let test : (slice_index first 0 == 35) ≡ true = (Decides-eqb (slice_index first 0) 35).1 is in (
@@ -268,13 +268,13 @@ only_of_words number words reading (nobody {first} {rest} no_comment none) =
     let nobody : actor_of first ≡ Err (nobody_fault first) = actor_of-nobody first none in (
       ap (λ test. if test then 2 else actor_case (actor_of first) rest) test ∙ ap (λ found. actor_case found rest) nobody,
       ap (λ test. if test then Ok None else (event_of first rest >>= (λ event. Ok (Some event)))) test
-          ∙ ap (λ found. (found >>= (λ actor. asked_of (rows_of actor) rest >>= (λ command. Ok (event_by actor command)))) >>= (λ event. Ok (Some event))) nobody,
+          ∙ ap (λ found. (found >>= (λ actor. asked_of (command_rows actor) rest >>= (λ command. Ok (event_by actor command)))) >>= (λ event. Ok (Some event))) nobody,
     )
 only_of_words number words reading (alone {first} actor names) = named first [] actor 4 (Err Words) names refl refl
 only_of_words number words reading (no_command {first} {word} {arguments} actor names none) =
     named first (word ∷ arguments) actor 5 (Err Unknown) names
-    (at_row-none (rows_of actor) word (row_case arguments) 5 none)
-    (command_of-at_row (rows_of actor) word arguments ∙ at_row-none (rows_of actor) word (λ row. command_by row arguments) (Err Unknown) none)
+    (at_row-none (command_rows actor) word (row_case arguments) 5 none)
+    (command_of-at_row (command_rows actor) word arguments ∙ at_row-none (command_rows actor) word (λ row. command_by row arguments) (Err Unknown) none)
 only_of_words number words reading (wrong_count {first} {word} {arguments} actor names row asks differ) =
     of_row first word arguments actor row false _ names asks (not_as_many row.forms arguments differ) refl
 only_of_words number words reading (faulty {first} {word} {arguments} {fault} actor names row asks same is_fault) =
@@ -290,7 +290,7 @@ abbrev SomeCase : List (List ℕ) → Type 0
 SomeCase words = (number : ℕ) × (reading : Result (Option Event) LineFault) × CaseOfWords number words reading
 
 some_of_row : (first word : List ℕ) (arguments : List (List ℕ)) (actor : Actor) → Names first actor
-    → (row : Row (CommandOf actor)) → Asks actor word row → SomeCase (first ∷ word ∷ arguments)
+    → (row : CommandRow (CommandOf actor)) → AsksFor actor word row → SomeCase (first ∷ word ∷ arguments)
 some_of_row first word arguments actor names row asks =
     by (true_or_false (length arguments == length row.forms)) where
       counted : length arguments ≡ length row.forms
@@ -307,8 +307,8 @@ some_of_row first word arguments actor names row asks =
 
 some_of_actor : (first : List ℕ) (rest : List (List ℕ)) (actor : Actor) → Names first actor → SomeCase (first ∷ rest)
 some_of_actor first [] actor names = (4, Err Words, alone actor names)
-some_of_actor first (word ∷ arguments) actor names = by (row_or_none (rows_of actor) word) where
-  by : ((row : Row (CommandOf actor)) × Asks actor word row) ⊎ ((row : Row (CommandOf actor)) → Asks actor word row → ⊥) → SomeCase (first ∷ word ∷ arguments)
+some_of_actor first (word ∷ arguments) actor names = by (row_or_none (command_rows actor) word) where
+  by : ((row : CommandRow (CommandOf actor)) × AsksFor actor word row) ⊎ ((row : CommandRow (CommandOf actor)) → AsksFor actor word row → ⊥) → SomeCase (first ∷ word ∷ arguments)
   by (inl (row, asks)) = some_of_row first word arguments actor names row asks
   by (inr none) = (5, Err Unknown, no_command actor names none)
 
@@ -328,18 +328,18 @@ abbrev bytes_case : List ℕ → ℕ
 bytes_case bytes = if nat_lt MOST_LINE_BYTES (length bytes) then 1 else words_case (words_of bytes)
 
 only_of_bytes : (number : ℕ) (bytes : List ℕ) (reading : Result (Option Event) LineFault) → CaseOfBytes number bytes reading
-    → (bytes_case bytes ≡ number) × (judged_within (length bytes) (words_of bytes) ≡ reading)
+    → (bytes_case bytes ≡ number) × (reading_within (length bytes) (words_of bytes) ≡ reading)
 only_of_bytes number bytes reading (too_long long) =
     let test : nat_lt MOST_LINE_BYTES (length bytes) ≡ true = grind (arith, nat_tests) in (
       ap (λ test. if test then 1 else words_case (words_of bytes)) test,
-      ap (λ test. if test then Err Long else judged (words_of bytes)) test,
+      ap (λ test. if test then Err Long else reading_of_words (words_of bytes)) test,
     )
 only_of_bytes number bytes reading (of_words short words has says) =
     let test : nat_lt MOST_LINE_BYTES (length bytes) ≡ false = grind (arith, nat_tests) in
     let (number_is, reading_is) = only_of_words number words reading says in
     let are : words_of bytes ≡ words = words_of-has bytes words has in (
       ap (λ test. if test then 1 else words_case (words_of bytes)) test ∙ ap words_case are ∙ number_is,
-      ap (λ test. if test then Err Long else judged (words_of bytes)) test ∙ ap judged are ∙ reading_is,
+      ap (λ test. if test then Err Long else reading_of_words (words_of bytes)) test ∙ ap reading_of_words are ∙ reading_is,
     )
 
 pub only_reading : (line : List ℕ) (reading : Result (Option Event) LineFault) → Says line reading → reading ≡ reading_of line

@@ -1,5 +1,5 @@
 mod CaseLemmas
-mod LineLemmas
+pub mod LineLemmas
 mod ReportLemmas
 pub mod TextLemmas
 mod WordLemmas

@@ -4,11 +4,11 @@ use Rattle.std.proofs.lemmas.Bool.Decides.{nat_tests}
 use Rattle.std.specs.Str.Lines.{strip_carriage_return}
 use Rattle.words_core.specs.declared.event.LineFault.{LineFault}
 use Rattle.words_core.specs.declared.event.LineFault.TheVariants.{Long}
-use Rattle.words_core.specs.Commands.{Actor, administrator, tenant, rows_of, event_by}
-use Rattle.words_core.specs.Grammar.{◌>>=◌, asked_of, actor_of, event_of, judged, judged_within, reading_of}
+use Rattle.words_core.specs.Commands.{Actor, administrator, tenant, command_rows, event_by}
+use Rattle.words_core.specs.Grammar.{◌>>=◌, asked_of, actor_of, event_of, reading_of_words, reading_within, reading_of}
 use Rattle.words_core.specs.Words.{words_of}
 
-asked-take : (actor : Actor) (words : List (List ℕ)) → asked_of (rows_of actor) (take 5 words) ≡ asked_of (rows_of actor) words
+asked-take : (actor : Actor) (words : List (List ℕ)) → asked_of (command_rows actor) (take 5 words) ≡ asked_of (command_rows actor) words
 asked-take actor [] = refl
 asked-take administrator (a ∷ []) = refl
 asked-take administrator (a ∷ b ∷ []) = refl
@@ -31,8 +31,8 @@ event_of-take first rest = same_after (actor_of first) _ _ (λ actor.
     ap (λ asked. asked >>= (λ command. Ok (event_by actor command))) (asked-take actor rest))
 
 -- no command has as many words as six
-pub judged-take : (words : List (List ℕ)) → judged (take 6 words) ≡ judged words
-unfolding judged
+pub judged-take : (words : List (List ℕ)) → reading_of_words (take 6 words) ≡ reading_of_words words
+unfolding reading_of_words
 judged-take [] = refl
 judged-take (first ∷ rest) =
     ap (λ said. if slice_index first 0 == 35 then Ok None else (said >>= (λ event. Ok (Some event)))) (event_of-take first rest)
@@ -41,12 +41,12 @@ pub reading_of-long : (line : List ℕ) → 255 < length (strip_carriage_return 
 unfolding reading_of
 reading_of-long line long = grind (arith, nat_tests)
 
-pub within : (size : ℕ) (words : List (List ℕ)) → size ≤ 255 → judged_within size words ≡ judged words
+pub within : (size : ℕ) (words : List (List ℕ)) → size ≤ 255 → reading_within size words ≡ reading_of_words words
 within size words short = grind (arith, nat_tests)
 
 pub reading_of-words : (line : List ℕ) (words : List (List ℕ)) → length (strip_carriage_return line) ≤ 255
-    → words ≡ take 6 (words_of (strip_carriage_return line)) → judged words ≡ reading_of line
+    → words ≡ take 6 (words_of (strip_carriage_return line)) → reading_of_words words ≡ reading_of line
 unfolding reading_of
 reading_of-words line words short words_are =
     let bytes = strip_carriage_return line in
-    ap judged words_are ∙ judged-take (words_of bytes) ∙ sym (within (length bytes) (words_of bytes) short)
+    ap reading_of_words words_are ∙ judged-take (words_of bytes) ∙ sym (within (length bytes) (words_of bytes) short)

@@ -5,7 +5,7 @@ use Rattle.words_core.specs.declared.event.Event.TheVariants.{Tenant}
 use Rattle.words_core.specs.declared.event.LineFault.TheVariants.{Long}
 use Rattle.words_core.specs.Commands.{tenant, free_row}
 use Rattle.words_core.specs.Words.{words_of}
-use Rattle.words_core.specs.Grammar.{reading_of, judged, event_of}
+use Rattle.words_core.specs.Grammar.{reading_of, reading_of_words, event_of}
 use Rattle.words_core.specs.Cases.{Case, event, too_long, of_words}
 use Rattle.words_core.specs.Laws.{EachLineHasACase, NoLineHasTwo}
 use Rattle.words_core.proofs.WordLemmas.{has-words_of}
@@ -18,7 +18,7 @@ a_long_line : Case 1 (replicate 256 48) (Err Long)
 a_long_line = too_long (omega arith)
 
 EachLineHasACase-met : EachLineHasACase → (number : ℕ) × Case number (codes "0 free 5") (Ok (Some (Tenant 0 (Free 5))))
-unfolding reading_of words_of judged event_of
+unfolding reading_of words_of reading_of_words event_of
 EachLineHasACase-met law = law (codes "0 free 5")
 
 NoLineHasTwo-met : NoLineHasTwo → (◌≡◌ {A = ℕ} 8 8) × (◌≡◌ {A = ℕ} 1 1)

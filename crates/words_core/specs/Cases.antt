@@ -5,7 +5,7 @@ use Rattle.std.specs.List.{Contains}
 use Rattle.std.specs.Str.Lines.{strip_carriage_return}
 use Rattle.words_core.specs.Numbers.{number_of}
 use Rattle.words_core.specs.Words.{HasWords}
-use Rattle.words_core.specs.Commands.{Form, Given, Maker, Row, read_as, Actor, administrator, tenant, CommandOf, rows_of, event_by, nobody_fault}
+use Rattle.words_core.specs.Commands.{Form, Given, Maker, CommandRow, read_as, Actor, administrator, tenant, CommandOf, command_rows, event_by, nobody_fault}
 use Rattle.words_core.specs.declared.line.TheConstants.{MOST_LINE_BYTES}
 use Rattle.words_core.specs.declared.event.Event.{Event}
 use Rattle.words_core.specs.declared.event.LineFault.{LineFault}
@@ -21,8 +21,8 @@ Names word administrator = word ≡ codes "admin"
 Names word (tenant t) = number_of word ≡ Some t
 
 -- this row of the actor's table of commands has this word
-abbrev pub Asks : (actor : Actor) → List ℕ → Row (CommandOf actor) → Type 0
-Asks actor word row = Contains (rows_of actor) row × (word ≡ row.word)
+abbrev pub AsksFor : (actor : Actor) → List ℕ → CommandRow (CommandOf actor) → Type 0
+AsksFor actor word row = Contains (command_rows actor) row × (word ≡ row.word)
 
 -- the first of the arguments that isn't in its form has this fault
 abbrev pub FirstFault : List Form → List (List ℕ) → LineFault → Type 0
@@ -51,18 +51,18 @@ pub data CaseOfWords : ℕ → List (List ℕ) → Result (Option Event) LineFau
   alone : {first : List ℕ} (actor : Actor) → Names first actor → CaseOfWords 4 (first ∷ []) (Err Words)
   -- 5. the second word is no command of that actor
   no_command : {first word : List ℕ} {arguments : List (List ℕ)} (actor : Actor) → Names first actor
-      → ((row : Row (CommandOf actor)) → ¬ Asks actor word row) → CaseOfWords 5 (first ∷ word ∷ arguments) (Err Unknown)
+      → ((row : CommandRow (CommandOf actor)) → ¬ AsksFor actor word row) → CaseOfWords 5 (first ∷ word ∷ arguments) (Err Unknown)
   -- 6. not as many arguments as the command has
   wrong_count : {first word : List ℕ} {arguments : List (List ℕ)} (actor : Actor) → Names first actor
-      → (row : Row (CommandOf actor)) → Asks actor word row → ¬ (length arguments ≡ length row.forms)
+      → (row : CommandRow (CommandOf actor)) → AsksFor actor word row → ¬ (length arguments ≡ length row.forms)
       → CaseOfWords 6 (first ∷ word ∷ arguments) (Err Words)
   -- 7. from left to right, the first argument that isn't in its form
   faulty : {first word : List ℕ} {arguments : List (List ℕ)} {fault : LineFault} (actor : Actor) → Names first actor
-      → (row : Row (CommandOf actor)) → Asks actor word row → length arguments ≡ length row.forms
+      → (row : CommandRow (CommandOf actor)) → AsksFor actor word row → length arguments ≡ length row.forms
       → FirstFault row.forms arguments fault → CaseOfWords 7 (first ∷ word ∷ arguments) (Err fault)
   -- 8. otherwise the event
   event : {first word : List ℕ} {arguments : List (List ℕ)} (actor : Actor) → Names first actor
-      → (row : Row (CommandOf actor)) → Asks actor word row → (command : CommandOf actor)
+      → (row : CommandRow (CommandOf actor)) → AsksFor actor word row → (command : CommandOf actor)
       → AllMake row.forms row.makes arguments command
       → CaseOfWords 8 (first ∷ word ∷ arguments) (Ok (Some (event_by actor command)))
 

@@ -55,62 +55,62 @@ Maker [] C = C
 Maker (form ∷ forms) C = Given form → Maker forms C
 
 -- a row of a table of commands: the command's word, the forms of its arguments, and the command that they make
-pub record Row (C : Type 0) : Type 0 where
+pub record CommandRow (C : Type 0) : Type 0 where
   pub word : List ℕ
   pub forms : List Form
   pub makes : Maker forms C
 
-abbrev pub grant_row : Row AdminCommand
+abbrev pub grant_row : CommandRow AdminCommand
 grant_row = record { word = codes "grant"; forms = number ∷ []; makes = Grant }
 
-abbrev pub take_back_row : Row AdminCommand
+abbrev pub take_back_row : CommandRow AdminCommand
 take_back_row = record { word = codes "takeback"; forms = number ∷ number ∷ []; makes = TakeBack }
 
-abbrev pub reset_row : Row AdminCommand
+abbrev pub reset_row : CommandRow AdminCommand
 reset_row = record { word = codes "reset"; forms = number ∷ []; makes = Reset }
 
-abbrev pub move_row : Row AdminCommand
+abbrev pub move_row : CommandRow AdminCommand
 move_row = record { word = codes "move"; forms = number ∷ number ∷ []; makes = Move }
 
-abbrev pub pool_row : Row AdminCommand
+abbrev pub pool_row : CommandRow AdminCommand
 pool_row = record { word = codes "pool"; forms = []; makes = Pool }
 
-abbrev pub alloc_row : Row Command
+abbrev pub alloc_row : CommandRow Command
 alloc_row = record { word = codes "alloc"; forms = number ∷ []; makes = Alloc }
 
-abbrev pub free_row : Row Command
+abbrev pub free_row : CommandRow Command
 free_row = record { word = codes "free"; forms = number ∷ []; makes = Free }
 
-abbrev pub read_row : Row Command
+abbrev pub read_row : CommandRow Command
 read_row = record { word = codes "read"; forms = number ∷ number ∷ []; makes = Read }
 
-abbrev pub write_row : Row Command
+abbrev pub write_row : CommandRow Command
 write_row = record { word = codes "write"; forms = number ∷ hex MOST_BYTES ∷ []; makes = Write }
 
-abbrev pub cache_row : Row Command
+abbrev pub cache_row : CommandRow Command
 cache_row = record { word = codes "cache"; forms = number ∷ number ∷ hex MOST_PATTERN ∷ []; makes = Cache }
 
-abbrev pub destroy_row : Row Command
+abbrev pub destroy_row : CommandRow Command
 destroy_row = record { word = codes "destroy"; forms = number ∷ []; makes = Destroy }
 
-abbrev pub take_row : Row Command
+abbrev pub take_row : CommandRow Command
 take_row = record { word = codes "take"; forms = number ∷ []; makes = Take }
 
-abbrev pub give_row : Row Command
+abbrev pub give_row : CommandRow Command
 give_row = record { word = codes "give"; forms = number ∷ number ∷ []; makes = Give }
 
-abbrev pub reap_row : Row Command
+abbrev pub reap_row : CommandRow Command
 reap_row = record { word = codes "reap"; forms = []; makes = Reap }
 
-abbrev pub report_row : Row Command
+abbrev pub report_row : CommandRow Command
 report_row = record { word = codes "report"; forms = []; makes = Report }
 
 -- the commands of the administrator
-abbrev pub admin_rows : List (Row AdminCommand)
+abbrev pub admin_rows : List (CommandRow AdminCommand)
 admin_rows = grant_row ∷ take_back_row ∷ reset_row ∷ move_row ∷ pool_row ∷ []
 
 -- the commands of a tenant
-abbrev pub tenant_rows : List (Row Command)
+abbrev pub tenant_rows : List (CommandRow Command)
 tenant_rows =
     alloc_row ∷ free_row ∷ read_row ∷ write_row ∷ cache_row ∷ destroy_row ∷ take_row ∷ give_row ∷ reap_row ∷ report_row ∷ []
 
@@ -125,9 +125,9 @@ CommandOf administrator = AdminCommand
 CommandOf (tenant t) = Command
 
 -- the table of them
-abbrev pub rows_of : (actor : Actor) → List (Row (CommandOf actor))
-rows_of administrator = admin_rows
-rows_of (tenant t) = tenant_rows
+abbrev pub command_rows : (actor : Actor) → List (CommandRow (CommandOf actor))
+command_rows administrator = admin_rows
+command_rows (tenant t) = tenant_rows
 
 -- a command, given by this actor
 abbrev pub event_by : (actor : Actor) → CommandOf actor → Event

@@ -5,7 +5,7 @@ use Rattle.std.specs.Str.{bytes_eq}
 use Rattle.std.specs.Str.Lines.{strip_carriage_return}
 use Rattle.words_core.specs.declared.line.TheConstants.{MOST_LINE_BYTES}
 use Rattle.words_core.specs.Numbers.{number_of}
-use Rattle.words_core.specs.Commands.{or_fault, Form, Maker, Row, read_as, Actor, administrator, tenant, rows_of, event_by, nobody_fault}
+use Rattle.words_core.specs.Commands.{or_fault, Form, Maker, CommandRow, read_as, Actor, administrator, tenant, command_rows, event_by, nobody_fault}
 use Rattle.words_core.specs.Words.{words_of}
 use Rattle.words_core.specs.declared.event.Event.{Event}
 use Rattle.words_core.specs.declared.event.LineFault.{LineFault}
@@ -33,16 +33,17 @@ made_of (form ∷ forms) makes (word ∷ words) = do
   made_of forms (makes value) words
 
 -- the command of this row with these arguments
-abbrev pub command_by : {C : Type 0} → Row C → List (List ℕ) → Result C LineFault
+abbrev pub command_by : {C : Type 0} → CommandRow C → List (List ℕ) → Result C LineFault
 command_by row arguments = if are_as_many row.forms arguments then made_of row.forms row.makes arguments else Err Words
 
 -- the command of this word
-abbrev pub command_of : {C : Type 0} → List (Row C) → List ℕ → List (List ℕ) → Result C LineFault
+abbrev pub command_of : {C : Type 0} → List (CommandRow C) → List ℕ → List (List ℕ) → Result C LineFault
 command_of [] word arguments = Err Unknown
-command_of (row ∷ rows) word arguments = if bytes_eq word row.word then command_by row arguments else command_of rows word arguments
+command_of (row ∷ rows) word arguments =
+    if bytes_eq word row.word then command_by row arguments else command_of rows word arguments
 
 -- what follows the word that says who speaks
-abbrev pub asked_of : {C : Type 0} → List (Row C) → List (List ℕ) → Result C LineFault
+abbrev pub asked_of : {C : Type 0} → List (CommandRow C) → List (List ℕ) → Result C LineFault
 asked_of rows [] = Err Words
 asked_of rows (word ∷ arguments) = command_of rows word arguments
 
@@ -61,22 +62,22 @@ actor_of word =
 unfoldable pub event_of : List ℕ → List (List ℕ) → Result Event LineFault
 event_of first rest = do
   actor ← actor_of first
-  command ← asked_of (rows_of actor) rest
+  command ← asked_of (command_rows actor) rest
   Ok (event_by actor command)
 
 -- what words say; byte 35 is `#`
-unfoldable pub judged : List (List ℕ) → Result (Option Event) LineFault
-judged [] = Ok None
-judged (first ∷ rest) =
+unfoldable pub reading_of_words : List (List ℕ) → Result (Option Event) LineFault
+reading_of_words [] = Ok None
+reading_of_words (first ∷ rest) =
     if slice_index first 0 == 35 then Ok None
     else (do
       event ← event_of first rest
       Ok (Some event))
 
 -- what words say that stand in a line of this many bytes
-abbrev pub judged_within : ℕ → List (List ℕ) → Result (Option Event) LineFault
-judged_within size words = if nat_lt MOST_LINE_BYTES size then Err Long else judged words
+abbrev pub reading_within : ℕ → List (List ℕ) → Result (Option Event) LineFault
+reading_within size words = if nat_lt MOST_LINE_BYTES size then Err Long else reading_of_words words
 
 -- What a line says, as a function. One carriage return (byte 13) at its end is no part of it.
 unfoldable pub reading_of : List ℕ → Result (Option Event) LineFault
-reading_of line = let bytes = strip_carriage_return line in judged_within (length bytes) (words_of bytes)
+reading_of line = let bytes = strip_carriage_return line in reading_within (length bytes) (words_of bytes)

@@ -12,7 +12,8 @@ top_text (Some order) = decimal order
 -- the frames of the slots, those that are taken, those that are free, and how these are split
 abbrev pub frames_text : List ℕ → Report → List ℕ
 frames_text front report =
-    front ++ codes "frames " ++ decimal report.frames ++ codes " live " ++ decimal report.live ++ codes " free " ++ decimal report.free
+    front ++ codes "frames " ++ decimal report.frames ++ codes " live " ++ decimal report.live ++ codes " free "
+    ++ decimal report.free
     ++ codes " top " ++ top_text report.top ++ codes " split " ++ decimal report.split
 
 -- the blocks of this order

@@ -65,7 +65,8 @@ addressee_text (Tenant tenant) = decimal tenant ++ codes "> "
 abbrev pub owner_text : List ℕ → ℕ → Option Owner → List ℕ
 owner_text front superblock None = front ++ codes "superblock " ++ decimal superblock ++ codes " free"
 owner_text front superblock (Some owner) =
-    front ++ codes "superblock " ++ decimal superblock ++ codes " tenant " ++ decimal owner.tenant ++ codes " slot " ++ decimal owner.slot
+    front ++ codes "superblock " ++ decimal superblock ++ codes " tenant " ++ decimal owner.tenant ++ codes " slot "
+    ++ decimal owner.slot
 
 -- a line for each superblock, the first of them with this number
 abbrev pub owner_texts : List ℕ → ℕ → List (Option Owner) → List (List ℕ)
@@ -75,17 +76,20 @@ owner_texts front superblock (owner ∷ owners) = owner_text front superblock ow
 -- how many of how many superblocks have no owner, and then a line for each
 abbrev pub pool_texts : List ℕ → List (Option Owner) → List (List ℕ)
 pool_texts front owners =
-    (front ++ codes "pool free " ++ decimal (count_by is_none owners) ++ codes " of " ++ decimal (length owners)) ∷ owner_texts front 0 owners
+    (front ++ codes "pool free " ++ decimal (count_by is_none owners) ++ codes " of " ++ decimal (length owners))
+    ∷ owner_texts front 0 owners
 
 -- the lines that say the body, each begun with `front`
 abbrev pub body_texts : List ℕ → Body → List (List ℕ)
 body_texts front (Granted tenant slot superblock) =
-    (front ++ codes "granted " ++ decimal tenant ++ codes " slot " ++ decimal slot ++ codes " superblock " ++ decimal superblock) ∷ []
+    (front ++ codes "granted " ++ decimal tenant ++ codes " slot " ++ decimal slot ++ codes " superblock " ++ decimal superblock)
+    ∷ []
 body_texts front (TakenBack superblock) = (front ++ codes "taken superblock " ++ decimal superblock) ∷ []
 body_texts front (WasReset tenant superblocks) =
     (front ++ codes "reset " ++ decimal tenant ++ codes " superblocks " ++ decimal superblocks) ∷ []
 body_texts front (Moved tenant slot superblock) =
-    (front ++ codes "moved " ++ decimal tenant ++ codes " slot " ++ decimal slot ++ codes " superblock " ++ decimal superblock) ∷ []
+    (front ++ codes "moved " ++ decimal tenant ++ codes " slot " ++ decimal slot ++ codes " superblock " ++ decimal superblock)
+    ∷ []
 body_texts front (Owners owners) = pool_texts front owners.items
 body_texts front (Frame frame) = (front ++ codes "frame " ++ decimal frame) ∷ []
 body_texts front (Freed order) = (front ++ codes "freed " ++ decimal order) ∷ []

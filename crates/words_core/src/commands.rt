@@ -1,4 +1,5 @@
-//! The commands, each read from its arguments.
+//! The commands, each read from the words behind its own. A wrong number of words is the fault `Words`, and else the first
+//! that is not in its form says the fault.
 
 ghost use Rattle.std.specs.Prelude.{◌≡◌, ◌<◌, ◌^◌, map};
 ghost use Rattle.words_core.specs.Commands.{argument, bytes_argument, grant_row, take_back_row, reset_row, move_row, pool_row, alloc_row, free_row, read_row, write_row, cache_row, destroy_row, take_row, give_row, reap_row, report_row};
@@ -8,6 +9,7 @@ use crate::event::{AdminCommand, Command, LineFault};
 use crate::numbers::number;
 use arrayvec::ArrayVec;
 
+/// The number that a word is, in decimal.
 fn argument(word: &[u8]) -> Result<u32, LineFault>
     ensures { result ≡ argument word.now }
 {
@@ -30,6 +32,7 @@ fn bytes_argument<const N: usize>(word: &[u8]) -> Result<ArrayVec<u8, N>, LineFa
     }
 }
 
+/// `grant TENANT`: one more superblock for a tenant.
 pub fn grant_of(arguments: &[&[u8]]) -> Result<AdminCommand, LineFault>
     ensures { result ≡ command_by grant_row (map (λ word. word.now) arguments.now) }
 {
@@ -40,6 +43,7 @@ pub fn grant_of(arguments: &[&[u8]]) -> Result<AdminCommand, LineFault>
     Ok(AdminCommand::Grant { tenant })
 }
 
+/// `takeback TENANT SLOT`: the superblock under a slot back into the pool.
 pub fn take_back_of(arguments: &[&[u8]]) -> Result<AdminCommand, LineFault>
     ensures { result ≡ command_by take_back_row (map (λ word. word.now) arguments.now) }
 {
@@ -51,6 +55,7 @@ pub fn take_back_of(arguments: &[&[u8]]) -> Result<AdminCommand, LineFault>
     Ok(AdminCommand::TakeBack { tenant, slot })
 }
 
+/// `reset TENANT`: all that a tenant has taken away.
 pub fn reset_of(arguments: &[&[u8]]) -> Result<AdminCommand, LineFault>
     ensures { result ≡ command_by reset_row (map (λ word. word.now) arguments.now) }
 {
@@ -61,6 +66,7 @@ pub fn reset_of(arguments: &[&[u8]]) -> Result<AdminCommand, LineFault>
     Ok(AdminCommand::Reset { tenant })
 }
 
+/// `move TENANT SLOT`: another superblock under a slot.
 pub fn move_of(arguments: &[&[u8]]) -> Result<AdminCommand, LineFault>
     ensures { result ≡ command_by move_row (map (λ word. word.now) arguments.now) }
 {
@@ -72,6 +78,7 @@ pub fn move_of(arguments: &[&[u8]]) -> Result<AdminCommand, LineFault>
     Ok(AdminCommand::Move { tenant, slot })
 }
 
+/// `pool`: who owns which superblock.
 pub fn pool_of(arguments: &[&[u8]]) -> Result<AdminCommand, LineFault>
     ensures { result ≡ command_by pool_row (map (λ word. word.now) arguments.now) }
 {
@@ -81,6 +88,7 @@ pub fn pool_of(arguments: &[&[u8]]) -> Result<AdminCommand, LineFault>
     Ok(AdminCommand::Pool)
 }
 
+/// `alloc ORDER`: a page block of `2^ORDER` frames.
 pub fn alloc_of(arguments: &[&[u8]]) -> Result<Command, LineFault>
     ensures { result ≡ command_by alloc_row (map (λ word. word.now) arguments.now) }
 {
@@ -91,6 +99,7 @@ pub fn alloc_of(arguments: &[&[u8]]) -> Result<Command, LineFault>
     Ok(Command::Alloc { order })
 }
 
+/// `free FRAME`: the page block that begins at a frame released.
 pub fn free_of(arguments: &[&[u8]]) -> Result<Command, LineFault>
     ensures { result ≡ command_by free_row (map (λ word. word.now) arguments.now) }
 {
@@ -101,6 +110,7 @@ pub fn free_of(arguments: &[&[u8]]) -> Result<Command, LineFault>
     Ok(Command::Free { frame })
 }
 
+/// `read PLACE LEN`: bytes read.
 pub fn read_of(arguments: &[&[u8]]) -> Result<Command, LineFault>
     ensures { result ≡ command_by read_row (map (λ word. word.now) arguments.now) }
 {
@@ -112,6 +122,7 @@ pub fn read_of(arguments: &[&[u8]]) -> Result<Command, LineFault>
     Ok(Command::Read { place, len })
 }
 
+/// `write PLACE HEX`: bytes written.
 pub fn write_of(arguments: &[&[u8]]) -> Result<Command, LineFault>
     ensures { result ≡ command_by write_row (map (λ word. word.now) arguments.now) }
 {
@@ -123,6 +134,7 @@ pub fn write_of(arguments: &[&[u8]]) -> Result<Command, LineFault>
     Ok(Command::Write { place, bytes })
 }
 
+/// `cache SIZE ALIGN HEX`: a new cache, with the pattern of its objects.
 pub fn cache_of(arguments: &[&[u8]]) -> Result<Command, LineFault>
     ensures { result ≡ command_by cache_row (map (λ word. word.now) arguments.now) }
 {
@@ -139,6 +151,7 @@ pub fn cache_of(arguments: &[&[u8]]) -> Result<Command, LineFault>
     })
 }
 
+/// `destroy CACHE`: a cache and its slabs given back.
 pub fn destroy_of(arguments: &[&[u8]]) -> Result<Command, LineFault>
     ensures { result ≡ command_by destroy_row (map (λ word. word.now) arguments.now) }
 {
@@ -149,6 +162,7 @@ pub fn destroy_of(arguments: &[&[u8]]) -> Result<Command, LineFault>
     Ok(Command::Destroy { cache })
 }
 
+/// `take CACHE`: an object out of a cache.
 pub fn take_of(arguments: &[&[u8]]) -> Result<Command, LineFault>
     ensures { result ≡ command_by take_row (map (λ word. word.now) arguments.now) }
 {
@@ -159,6 +173,7 @@ pub fn take_of(arguments: &[&[u8]]) -> Result<Command, LineFault>
     Ok(Command::Take { cache })
 }
 
+/// `give CACHE PLACE`: an object given back to its cache.
 pub fn give_of(arguments: &[&[u8]]) -> Result<Command, LineFault>
     ensures { result ≡ command_by give_row (map (λ word. word.now) arguments.now) }
 {
@@ -170,6 +185,7 @@ pub fn give_of(arguments: &[&[u8]]) -> Result<Command, LineFault>
     Ok(Command::Give { cache, place })
 }
 
+/// `reap`: all empty slabs given back.
 pub fn reap_of(arguments: &[&[u8]]) -> Result<Command, LineFault>
     ensures { result ≡ command_by reap_row (map (λ word. word.now) arguments.now) }
 {
@@ -179,6 +195,7 @@ pub fn reap_of(arguments: &[&[u8]]) -> Result<Command, LineFault>
     Ok(Command::Reap)
 }
 
+/// `report`: the figures of the tenant's memory.
 pub fn report_of(arguments: &[&[u8]]) -> Result<Command, LineFault>
     ensures { result ≡ command_by report_row (map (λ word. word.now) arguments.now) }
 {

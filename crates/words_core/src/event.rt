@@ -1,3 +1,5 @@
+//! What a line asks for: the events, their commands, and the faults of a line that asks for nothing.
+
 ghost use Rattle.std.specs.Prelude.{◌≡◌, ◌≤◌, length};
 
 use arrayvec::ArrayVec;

@@ -1,10 +1,12 @@
+//! A line read: the event that it asks for, nothing, or its fault.
+
 ghost use Rattle.std.specs.Prelude.{◌≡◌, Option, Result, map};
 ghost use Rattle.std.specs.Str.Lines.{strip_carriage_return};
 ghost use Rattle.words_core.specs.declared.event.Event.{Event as EventValue};
 ghost use Rattle.words_core.specs.declared.event.LineFault.{LineFault as Fault};
 ghost use Rattle.words_core.specs.Cases.{Says};
 ghost use Rattle.words_core.specs.Commands.{admin_rows, tenant_rows};
-ghost use Rattle.words_core.specs.Grammar.{command_of, asked_of, tenant_of, event_of, judged, reading_of};
+ghost use Rattle.words_core.specs.Grammar.{command_of, asked_of, tenant_of, event_of, reading_of_words, reading_of};
 
 use crate::commands::{
     alloc_of, cache_of, destroy_of, free_of, give_of, grant_of, move_of, pool_of, read_of, reap_of,
@@ -43,9 +45,9 @@ fn without_carriage_return(line: &[u8]) -> &[u8]
     }
 }
 
-#[tactic(auto, unfolding(crate::specs::Grammar::judged))]
+#[tactic(auto, unfolding(crate::specs::Grammar::reading_of_words))]
 fn judged(words: &[&[u8]]) -> Result<Option<Event>, LineFault>
-    ensures { result ≡ judged (map (λ word. word.now) words.now) }
+    ensures { result ≡ reading_of_words (map (λ word. word.now) words.now) }
 {
     match words {
         [] | [[b'#', ..], ..] => Ok(None),

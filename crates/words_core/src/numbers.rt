@@ -1,3 +1,5 @@
+//! Numbers in decimal.
+
 ghost use Rattle.std.specs.Prelude.{◌≡◌};
 ghost use Rattle.words_core.specs.Numbers.{number_of};
 

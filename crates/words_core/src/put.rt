@@ -22,8 +22,10 @@ pub const MOST_ADDRESSEE_BYTES: usize = MOST_DIGITS + 2;
 /// No label of a number has more bytes.
 const MOST_LABEL_BYTES: usize = 20;
 
+/// A line of a reply as it is written, without its line feed.
 pub type Line = ArrayVec<u8, MOST_REPLY_BYTES>;
 
+/// A text as it stands.
 pub fn put(text: &[u8], out: &mut Line)
     requires { array_vec_len out.old + length text.now ≤ MOST_REPLY_BYTES }
     ensures { out.new.items ≡ out.old.items ++ text.now }
@@ -32,6 +34,7 @@ pub fn put(text: &[u8], out: &mut Line)
     prove!(taken.is_ok());
 }
 
+/// A number in decimal, without leading zeros.
 pub fn put_number(number: u32, out: &mut Line)
     requires { array_vec_len out.old + MOST_DIGITS ≤ MOST_REPLY_BYTES }
     ensures text { out.new.items ≡ out.old.items ++ decimal number }
@@ -51,6 +54,7 @@ pub fn put_labelled(label: &[u8], number: u32, out: &mut Line)
     put_number(number, out);
 }
 
+/// Bytes in hex, two lower case digits each.
 fn put_hex(bytes: &[u8], out: &mut Line)
     requires few { length bytes.now ≤ MOST_BYTES }
     requires room { array_vec_len out.old + 2 * MOST_BYTES ≤ MOST_REPLY_BYTES }
@@ -84,7 +88,8 @@ pub fn start_line(addressee: Addressee, out: &mut Line)
 pub fn put_slot(label: &[u8], tenant: u8, slot: u16, superblock: u16, out: &mut Line)
     requires few { length label.now ≤ MOST_LABEL_BYTES }
     requires room { array_vec_len out.old ≤ MOST_ADDRESSEE_BYTES }
-    ensures text { out.new.items ≡ out.old.items ++ label.now ++ decimal tenant ++ codes " slot " ++ decimal slot ++ codes " superblock " ++ decimal superblock }
+    ensures text { out.new.items
+        ≡ out.old.items ++ label.now ++ decimal tenant ++ codes " slot " ++ decimal slot ++ codes " superblock " ++ decimal superblock }
     ensures short { array_vec_len out.new < MOST_REPLY_BYTES }
 {
     put_labelled(label, u32::from(tenant), out);
@@ -92,6 +97,7 @@ pub fn put_slot(label: &[u8], tenant: u8, slot: u16, superblock: u16, out: &mut 
     put_labelled(b" superblock ", u32::from(superblock), out);
 }
 
+/// That the administrator has a superblock back.
 pub fn put_taken_back(superblock: u16, out: &mut Line)
     requires { array_vec_len out.old ≤ MOST_ADDRESSEE_BYTES }
     ensures text { body_texts out.old.items (TakenBack superblock) ≡ out.new.items ∷ [] }
@@ -100,6 +106,7 @@ pub fn put_taken_back(superblock: u16, out: &mut Line)
     put_labelled(b"taken superblock ", u32::from(superblock), out);
 }
 
+/// That a tenant was reset, and how many superblocks it had.
 pub fn put_was_reset(tenant: u8, superblocks: u16, out: &mut Line)
     requires { array_vec_len out.old ≤ MOST_ADDRESSEE_BYTES }
     ensures text { body_texts out.old.items (WasReset tenant superblocks) ≡ out.new.items ∷ [] }
@@ -109,6 +116,7 @@ pub fn put_was_reset(tenant: u8, superblocks: u16, out: &mut Line)
     put_labelled(b" superblocks ", u32::from(superblocks), out);
 }
 
+/// Bytes that were read, in hex, two digits each.
 // The room for the digits is zeroed at each entry, which the other kinds need not pay for.
 #[inline(never)]
 pub fn put_bytes(bytes: &ArrayVec<u8, MOST_BYTES>, out: &mut Line)
@@ -120,6 +128,7 @@ pub fn put_bytes(bytes: &ArrayVec<u8, MOST_BYTES>, out: &mut Line)
     put_hex(bytes.as_slice(), out);
 }
 
+/// That a cache was made: its number, and how its slabs are cut. The chunk is in bytes; a slab has `2^order` frames.
 pub fn put_cache(cache: u8, chunk: u32, order: u8, objects: u32, colours: u32, out: &mut Line)
     requires { array_vec_len out.old ≤ MOST_ADDRESSEE_BYTES }
     ensures text { body_texts out.old.items (Cache cache chunk order objects colours) ≡ out.new.items ∷ [] }
@@ -132,6 +141,7 @@ pub fn put_cache(cache: u8, chunk: u32, order: u8, objects: u32, colours: u32, o
     put_labelled(b" colours ", colours, out);
 }
 
+/// That a command was refused, by the number and the name of the refusal.
 pub fn put_refused(refusal: Refusal, out: &mut Line)
     requires { array_vec_len out.old ≤ MOST_ADDRESSEE_BYTES }
     ensures text { body_texts out.old.items (Refused refusal) ≡ out.new.items ∷ [] }
@@ -142,6 +152,7 @@ pub fn put_refused(refusal: Refusal, out: &mut Line)
     put(refusal.name().as_bytes(), out);
 }
 
+/// That a line is faulty.
 pub fn put_fault(fault: LineFault, out: &mut Line)
     requires { array_vec_len out.old ≤ MOST_ADDRESSEE_BYTES }
     ensures text { body_texts out.old.items (Fault fault) ≡ out.new.items ∷ [] }

@@ -1,3 +1,5 @@
+//! Replies: whom one is for, and what it says.
+
 ghost use Rattle.std.specs.Prelude.{◌≡◌, ◌≤◌, length};
 
 use crate::event::LineFault;

@@ -1,3 +1,5 @@
+//! The text of a reply, a line at a time.
+
 ghost use Rattle.std.specs.Prelude.{◌≡◌, ◌+◌, ◌<◌, ◌≤◌, length, slice_get, Some};
 ghost use Rattle.arrayvec.specs.ArrayVec.{array_vec_len};
 ghost use Rattle.words_core.specs.Texts.{owner_text, pool_texts, body_texts, lines_of};

@@ -1,3 +1,5 @@
+//! The words of a line: runs of bytes that are no blanks.
+
 ghost use Rattle.std.specs.Prelude.{◌≡◌, ◌<◌, ◌≤◌, ℕ, [], ◌∷◌, false, true, length, map, take, slice_index, MatchOption};
 ghost use Rattle.words_core.specs.Words.{is_blank, words_of};
 

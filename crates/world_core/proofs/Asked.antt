@@ -23,8 +23,8 @@ use Rattle.words_core.specs.declared.event.LineFault.TheVariants.{Long, Words, H
 use Rattle.words_core.specs.declared.reply.Body.{Body}
 use Rattle.words_core.specs.Cutting.{lines_of_trace}
 use Rattle.words_core.specs.Words.{words_of}
-use Rattle.words_core.specs.Commands.{Form, Given, bytes_or_fault, bytes_argument, read_as, Maker, Row, Actor, administrator, tenant, tenant_rows, rows_of, event_by}
-use Rattle.words_core.specs.Grammar.{◌>>=◌, are_as_many, made_of, command_by, command_of, asked_of, actor_of, event_of, judged, reading_of}
+use Rattle.words_core.specs.Commands.{Form, Given, bytes_or_fault, bytes_argument, read_as, Maker, CommandRow, Actor, administrator, tenant, tenant_rows, command_rows, event_by}
+use Rattle.words_core.specs.Grammar.{◌>>=◌, are_as_many, made_of, command_by, command_of, asked_of, actor_of, event_of, reading_of_words, reading_of}
 use Rattle.world_core.specs.PrivateStep.{Entry, Ask, Grant, TakeBack, Reset}
 use Rattle.world_core.specs.World.{World, history, world_step}
 use Rattle.world_core.specs.OwnList.{is_refused, own_entries, own_list}
@@ -99,10 +99,10 @@ made_has P (form ∷ forms) makes (word ∷ words) c h e =
     let parts = both (read_as form word) (λ value. made_of forms (makes value) words) c e in
     made_has P forms (makes parts.value) words c (h parts.value (word, parts.is)) parts.rest
 
-abbrev RowMakes : {C : Type 0} → (C → Type 0) → Row C → Type 0
+abbrev RowMakes : {C : Type 0} → (C → Type 0) → CommandRow C → Type 0
 RowMakes P row = MakesAll P row.forms row.makes
 
-command_has : {C : Type 0} (P : C → Type 0) (rows : List (Row C)) (word : List ℕ) (arguments : List (List ℕ)) (c : C)
+command_has : {C : Type 0} (P : C → Type 0) (rows : List (CommandRow C)) (word : List ℕ) (arguments : List (List ℕ)) (c : C)
     → Each (RowMakes P) rows → command_of rows word arguments ≡ Ok c → P c
 command_has P [] word arguments c h e = absurd (cc)
 command_has {C} P (row ∷ rows) word arguments c (here, later) e = go (bytes_eq word row.word) e (command_has P rows word arguments c later)
@@ -116,7 +116,7 @@ command_has {C} P (row ∷ rows) word arguments c (here, later) e = go (bytes_eq
     go true e more = count (are_as_many row.forms arguments) e
     go false e more = more e
 
-asked_has : {C : Type 0} (P : C → Type 0) (rows : List (Row C)) (words : List (List ℕ)) (c : C) → Each (RowMakes P) rows → asked_of rows words ≡ Ok c → P c
+asked_has : {C : Type 0} (P : C → Type 0) (rows : List (CommandRow C)) (words : List (List ℕ)) (c : C) → Each (RowMakes P) rows → asked_of rows words ≡ Ok c → P c
 asked_has P rows [] c h e = absurd (cc)
 asked_has P rows (word ∷ arguments) c h e = command_has P rows word arguments c h e
 
@@ -148,26 +148,26 @@ IsPossibleEvent (On.Tenant t command) = IsPossibleCommand command
 IsPossibleEvent (On.Admin command) = Unit {0}
 
 by_actor : (actor : Actor) (rest : List (List ℕ)) (event : Event)
-    → (asked_of (rows_of actor) rest >>= λ command. Ok (event_by actor command)) ≡ Ok event → IsPossibleEvent event
+    → (asked_of (command_rows actor) rest >>= λ command. Ok (event_by actor command)) ≡ Ok event → IsPossibleEvent event
 by_actor administrator rest event e =
-    let parts = both (asked_of (rows_of administrator) rest) (λ command. Ok (event_by administrator command)) event e in
+    let parts = both (asked_of (command_rows administrator) rest) (λ command. Ok (event_by administrator command)) event e in
     subst IsPossibleEvent (ok_same (On.Admin parts.value) event parts.rest) tt
 by_actor (tenant t) rest event e =
-    let parts = both (asked_of (rows_of (tenant t)) rest) (λ command. Ok (event_by (tenant t) command)) event e in
+    let parts = both (asked_of (command_rows (tenant t)) rest) (λ command. Ok (event_by (tenant t) command)) event e in
     subst IsPossibleEvent (ok_same (On.Tenant t parts.value) event parts.rest)
     (asked_has IsPossibleCommand tenant_rows rest parts.value tenant_rows_make parts.is)
 
 event_possible : (first : List ℕ) (rest : List (List ℕ)) (event : Event) → event_of first rest ≡ Ok event → IsPossibleEvent event
 unfolding event_of
 event_possible first rest event e =
-    let parts = both (actor_of first) (λ actor. asked_of (rows_of actor) rest >>= λ command. Ok (event_by actor command)) event e in
+    let parts = both (actor_of first) (λ actor. asked_of (command_rows actor) rest >>= λ command. Ok (event_by actor command)) event e in
     by_actor parts.value rest event parts.rest
 
 some_same : (a b : Event) → Some a ≡ Some b → a ≡ b
 some_same a b e = cc
 
-judged_possible : (words : List (List ℕ)) (event : Event) → judged words ≡ Ok (Some event) → IsPossibleEvent event
-unfolding judged
+judged_possible : (words : List (List ℕ)) (event : Event) → reading_of_words words ≡ Ok (Some event) → IsPossibleEvent event
+unfolding reading_of_words
 judged_possible [] event e = absurd (cc)
 judged_possible (first ∷ rest) event e = go (slice_index first 0 == 35) e
   where
@@ -185,7 +185,7 @@ reading_possible line event e = go (nat_lt 255 (length (strip_carriage_return li
     words : List (List ℕ)
     words = words_of (strip_carriage_return line)
 
-    go : (long : Bool) → (if long then Err Long else judged words) ≡ Ok (Some event) → IsPossibleEvent event
+    go : (long : Bool) → (if long then Err Long else reading_of_words words) ≡ Ok (Some event) → IsPossibleEvent event
     go true e = absurd (cc)
     go false e = judged_possible words event e
 

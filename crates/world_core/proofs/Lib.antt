@@ -1,4 +1,5 @@
 pub mod MachineLists
+pub mod Worlds
 pub mod Runs
 pub mod TextLines
 pub mod TenantLines
@@ -10,6 +11,7 @@ pub mod Reached
 pub mod ReachedObjects
 mod WitnessesConstructed
 pub mod ReachedRoom
+mod Computed
 pub mod Rows
 pub mod Witnesses
 pub mod WitnessesReached

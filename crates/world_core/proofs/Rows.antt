@@ -1,21 +1,12 @@
 -- Worked traces and what they write, computed from the definitions: superblocks of order 3, two of them, two tenants.
 use Rattle.std.proofs.Common.{◌≡◌, ℕ, List, [], ◌∷◌, map, codes, refl}
-use Rattle.std.specs.Fmt.{digits}
-use Rattle.hex.specs.Hex.{encode_with, decode_pairs}
-use Rattle.model_core.specs.Machine.{empty_machine, choice, taken_blocks}
-use Rattle.model_core.specs.Layouts.{layout_of}
-use Rattle.model_core.specs.Slabs.{slab_to_use, fresh_byte, grown_cache, grown, by_need, reaped, destroyed}
-use Rattle.model_core.specs.CacheOperations.{next_number, create_step, cache_step, destroy_step, take_step, give_step, reap_step}
-use Rattle.model_core.specs.Operations.{alloc_step, free_step, read_step, write_step, next_slot, after_grant, after_take_back, take_back_step, is_busy}
-use Rattle.model_core.specs.Reach.{in_reach}
-use Rattle.words_core.specs.Grammar.{reading_of, judged, event_of}
 use Rattle.words_core.specs.Cutting.{lines_of_trace}
-use Rattle.words_core.specs.Words.{words_of}
 use Rattle.world_core.specs.Limits.{cache_limit}
-use Rattle.world_core.specs.PrivateStep.{Entry, figures_of, report_step, command_step}
-use Rattle.world_core.specs.World.{opening_world, history, world_step, grant_step, tenant_step, slot_step, reset_step, move_step, answer}
+use Rattle.world_core.specs.PrivateStep.{Entry}
+use Rattle.world_core.specs.World.{opening_world, history}
 use Rattle.world_core.specs.Output.{output_of, events_of, lines_for}
 use Rattle.world_core.specs.OwnList.{own_list}
+use Rattle.world_core.proofs.Computed.{computed_texts}
 
 pub record Row : Type 0 where
   pub trace : List ℕ
@@ -109,7 +100,7 @@ abbrev pub expected : Row → List ℕ
 expected r = r.output
 
 rows_are_written : map written rows ≡ map expected rows
-unfolding decode_pairs after_take_back free_step write_step take_back_step is_busy slot_step reset_step output_of opening_world world_step grant_step tenant_step answer command_step alloc_step read_step next_slot after_grant in_reach choice by_need reaped taken_blocks empty_machine layout_of slab_to_use fresh_byte grown_cache grown destroyed next_number create_step cache_step destroy_step take_step give_step reap_step figures_of report_step move_step reading_of judged event_of words_of digits encode_with
+unfolding computed_texts
 rows_are_written = refl
 
 -- two traces in which tenant 0 does and is granted the same, and the others do much or nothing
@@ -127,15 +118,15 @@ abbrev pub lines_of_0 : List ℕ → List (List ℕ)
 lines_of_0 trace = lines_for 0 (output_of cache_limit 3 trace (opening_world 2 2))
 
 same_own_list : own_list_of alone ≡ own_list_of among_others
-unfolding decode_pairs after_take_back free_step write_step take_back_step is_busy slot_step reset_step output_of opening_world world_step grant_step tenant_step answer command_step alloc_step read_step next_slot after_grant in_reach choice by_need reaped taken_blocks empty_machine layout_of slab_to_use fresh_byte grown_cache grown destroyed next_number create_step cache_step destroy_step take_step give_step reap_step figures_of report_step move_step reading_of judged event_of words_of digits encode_with
+unfolding computed_texts
 same_own_list = refl
 
 lines_alone : lines_of_0 alone ≡ codes "0> frame 0" ∷ codes "0> bytes 00" ∷ codes "0> refused 1 NoFrames"
     ∷ codes "0> cache 0 chunk 24 order 0 objects 169 colours 2" ∷ codes "0> object 8192" ∷ []
-unfolding decode_pairs after_take_back free_step write_step take_back_step is_busy slot_step reset_step output_of opening_world world_step grant_step tenant_step answer command_step alloc_step read_step next_slot after_grant in_reach choice by_need reaped taken_blocks empty_machine layout_of slab_to_use fresh_byte grown_cache grown destroyed next_number create_step cache_step destroy_step take_step give_step reap_step figures_of report_step move_step reading_of judged event_of words_of digits encode_with
+unfolding computed_texts
 lines_alone = refl
 
 lines_among_others : lines_of_0 among_others ≡ codes "0> frame 0" ∷ codes "0> bytes 00" ∷ codes "0> refused 1 NoFrames"
     ∷ codes "0> cache 0 chunk 24 order 0 objects 169 colours 2" ∷ codes "0> object 8192" ∷ []
-unfolding decode_pairs after_take_back free_step write_step take_back_step is_busy slot_step reset_step output_of opening_world world_step grant_step tenant_step answer command_step alloc_step read_step next_slot after_grant in_reach choice by_need reaped taken_blocks empty_machine layout_of slab_to_use fresh_byte grown_cache grown destroyed next_number create_step cache_step destroy_step take_step give_step reap_step figures_of report_step move_step reading_of judged event_of words_of digits encode_with
+unfolding computed_texts
 lines_among_others = refl

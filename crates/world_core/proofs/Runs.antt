@@ -14,7 +14,7 @@ use Rattle.words_core.specs.declared.reply.Body.TheVariants.{Refused}
 use Rattle.words_core.specs.declared.reply.Refusal.TheVariants.{NoSlot}
 use Rattle.world_core.specs.PrivateStep.{Entry, private_step}
 use Rattle.world_core.specs.PrivateRun.{private_run}
-use Rattle.world_core.specs.World.{World, WorldStep, answer, grant_step, tenant_step, taken_back, slot_step, reset_step, moved_to, move_step, world_step, history, world_after, opening_world}
+use Rattle.world_core.specs.World.{World, WorldStep, answer, grant_step, tenant_step, take_back_answered, slot_step, reset_step, moved_to, move_step, world_step, history, world_after, opening_world}
 use Rattle.world_core.specs.OwnList.{own_entries, own_list, if_for, replies_to}
 use Rattle.world_core.specs.Laws.{IsPrivateRun, OwnRun, SameReplies, SameTexts, opening_history}
 use Rattle.world_core.specs.Output.{texts_for}
@@ -65,7 +65,7 @@ grant_other limit order t named w m (Some n) (Some superblock) here other =
     rw (is_other named t other) record { replies = refl; machine = slice_get-set_other w.machines named t _ other ∙ here }
 
 taken_back_same : (limit order t slot : ℕ) (w : World) (m : Machine) (answered : Result (Unit {0}) TakeBackRefusal) → slice_get w.machines t ≡ Some m
-    → StepLeaves limit order t (On.Admin (Do.TakeBack t slot)) m (taken_back t slot w (take_back_step order slot m).machine answered)
+    → StepLeaves limit order t (On.Admin (Do.TakeBack t slot)) m (take_back_answered t slot w (take_back_step order slot m).machine answered)
 unfolding answer private_step
 taken_back_same limit order t slot w m (Ok done) here =
     rw (is_same t) record { replies = refl; machine = slice_get-set_same w.machines t m _ here }
@@ -73,7 +73,7 @@ taken_back_same limit order t slot w m (Err TakeBackRefusal.NoSlot) here = recor
 taken_back_same limit order t slot w m (Err TakeBackRefusal.SlotBusy) here = record { replies = refl; machine = here }
 
 taken_back_other : (limit order t named slot : ℕ) (w : World) (m after : Machine) (answered : Result (Unit {0}) TakeBackRefusal) → slice_get w.machines t ≡ Some m → named ≢ t
-    → StepLeaves limit order t (On.Admin (Do.TakeBack named slot)) m (taken_back named slot w after answered)
+    → StepLeaves limit order t (On.Admin (Do.TakeBack named slot)) m (take_back_answered named slot w after answered)
 unfolding answer
 taken_back_other limit order t named slot w m after (Ok done) here other =
     rw (is_other named t other) record { replies = refl; machine = slice_get-set_other w.machines named t _ other ∙ here }

@@ -31,7 +31,7 @@ use Rattle.model_core.specs.declared.report.CacheRow.{CacheRow}
 use Rattle.words_core.specs.declared.report.Report as figures
 use Rattle.words_core.specs.ReportTexts.{top_text, frames_text, order_text, order_texts, cache_text, report_texts}
 use Rattle.words_core.specs.Texts.{addressee_text, body_texts, owner_text, owner_texts, number_of_refusal, name_of_refusal, name_of_fault, text_of}
-use Rattle.world_core.specs.World.{World, WorldStep, answer, grant_step, tenant_step, taken_back, slot_step, reset_step, moved_to, move_step, world_step, world_after, history, opening_world}
+use Rattle.world_core.specs.World.{World, WorldStep, answer, grant_step, tenant_step, take_back_answered, slot_step, reset_step, moved_to, move_step, world_step, world_after, history, opening_world}
 use Rattle.world_core.specs.OwnList.{if_for, replies_to}
 use Rattle.world_core.specs.Output.{shown_reading, shown_lines, output_of, event_in, events_of, lines_for, texts_for}
 use Rattle.world_core.specs.Laws.{OwnLines, SameLines, private_lines, opening_history}
@@ -224,7 +224,7 @@ grant_stays order named w None free = record { tenants = refl; addressee = λ ma
 grant_stays order named w (Some m) None = record { tenants = refl; addressee = λ many. tt }
 grant_stays order named w (Some m) (Some superblock) = record { tenants = length-set w.machines named _; addressee = λ many. tt }
 
-taken_back_stays : (named slot : ℕ) (w : World) (after : Machine) (answered : Result (Unit {0}) TakeBackRefusal) → StaysNumbered w (taken_back named slot w after answered)
+taken_back_stays : (named slot : ℕ) (w : World) (after : Machine) (answered : Result (Unit {0}) TakeBackRefusal) → StaysNumbered w (take_back_answered named slot w after answered)
 unfolding answer
 taken_back_stays named slot w after (Ok done) = record { tenants = length-set w.machines named _; addressee = λ many. tt }
 taken_back_stays named slot w after (Err TakeBackRefusal.NoSlot) = record { tenants = refl; addressee = λ many. tt }

@@ -2,28 +2,21 @@
 use Rattle.std.proofs.Common.{◌≡◌, ℕ, false, sym, List, [], ◌∷◌, ◌++◌, Some, None, refl, arith}
 use Rattle.std.specs.Prelude.{codes, Contains}
 use Rattle.std.specs.List.{AllByRecursion}
-use Rattle.std.specs.Fmt.{digits}
 use Rattle.std.proofs.lemmas.Bool.{false≢true}
 use Rattle.std.proofs.lemmas.List.Elements.{All-from_recursion, All-contains}
-use Rattle.hex.proofs.OnLiterals.{hex_on_literals}
-use Rattle.model_core.specs.Layouts.{layout_of}
-use Rattle.model_core.specs.Machine.{empty_machine, taken_blocks, choice}
-use Rattle.model_core.specs.Slabs.{fresh_byte, grown_cache, grown, slab_to_use, reaped, by_need}
-use Rattle.model_core.specs.Operations.{alloc_step, free_step, next_slot, after_grant}
-use Rattle.model_core.specs.CacheOperations.{next_number, create_step, cache_step, take_step, give_step}
+use Rattle.model_core.specs.Machine.{empty_machine}
 use Rattle.words_core.specs.declared.event.Command.TheVariants as Asked
 use Rattle.words_core.specs.declared.reply.Body.{Body}
 use Rattle.words_core.specs.declared.reply.Body.TheVariants as Say
 use Rattle.words_core.specs.declared.reply.Refusal.TheVariants.{NoCacheSlot}
-use Rattle.words_core.specs.Words.{words_of}
-use Rattle.words_core.specs.Grammar.{event_of, judged, reading_of}
 use Rattle.words_core.specs.Cutting.{lines_of_trace}
-use Rattle.world_core.specs.PrivateStep.{Entry, Ask, Grant, command_step, private_step}
+use Rattle.world_core.specs.PrivateStep.{Entry, Ask, Grant}
 use Rattle.world_core.specs.PrivateRun.{private_run}
-use Rattle.world_core.specs.World.{opening_world, answer, grant_step, tenant_step, world_step}
+use Rattle.world_core.specs.World.{opening_world}
 use Rattle.world_core.specs.OwnList.{is_refused, replies_to}
 use Rattle.world_core.specs.Output.{shown_lines, output_of, events_of, lines_for, texts_for, line_feed, with_line_feeds}
 use Rattle.world_core.specs.Laws.{OwnRun, HaveSameOwnList, SameReplies, SameTexts, MoreCaches, OwnLines, SameLines, AllShown, OwnShown, OwnLinesShown, EndedAllButTail, EndedLinesStay, ShownStays, opening_history, private_lines}
+use Rattle.world_core.proofs.Computed.{computed_lines, computed_machine, computed_texts}
 
 -- tenant 0 alone, and beside others
 abbrev alone : List ℕ
@@ -34,12 +27,12 @@ among_others = codes "admin grant 1\n1 alloc 0\nadmin grant 0\n1 alloc 3\n0 allo
 
 -- its own lists are equal, in worlds of 2 and of 3 superblocks
 equal_lists : HaveSameOwnList 32 3 2 3 3 4 0 (events_of (lines_of_trace alone)) (events_of (lines_of_trace among_others))
-unfolding opening_history opening_world world_step grant_step tenant_step answer reading_of words_of judged event_of hex_on_literals command_step alloc_step free_step cache_step create_step next_number take_step give_step grown_cache grown slab_to_use fresh_byte by_need reaped choice taken_blocks empty_machine next_slot after_grant layout_of private_step
+unfolding computed_lines
 equal_lists = record { tenant = omega arith; tenant' = omega arith; own = refl }
 
 -- what it is told is its private run
 OwnRun-met : OwnRun → replies_to 0 (opening_history 32 3 3 4 (events_of (lines_of_trace among_others))) ≡ Say.Frame 0 ∷ []
-unfolding opening_history opening_world world_step grant_step tenant_step answer reading_of words_of judged event_of hex_on_literals command_step alloc_step free_step cache_step create_step next_number take_step give_step grown_cache grown slab_to_use fresh_byte by_need reaped choice taken_blocks empty_machine next_slot after_grant layout_of private_step
+unfolding computed_lines
 OwnRun-met law = (law 32 3 3 4 0 (events_of (lines_of_trace among_others)) (omega arith)).replies
 
 SameReplies-met : SameReplies →
@@ -56,7 +49,7 @@ SameLines-met law = law 32 3 2 3 3 4 0 alone among_others (omega arith) (omega a
 
 -- the private machine's lines, computed
 OwnLines-met : OwnLines → lines_for 0 (output_of 32 3 among_others (opening_world 3 4)) ≡ codes "0> frame 0" ∷ []
-unfolding digits private_lines opening_history opening_world world_step grant_step tenant_step answer reading_of words_of judged event_of hex_on_literals command_step alloc_step free_step cache_step create_step next_number take_step give_step grown_cache grown slab_to_use fresh_byte by_need reaped choice taken_blocks empty_machine next_slot after_grant layout_of private_step
+unfolding computed_texts private_lines
 OwnLines-met law = law 32 3 3 4 0 among_others (omega arith) (omega arith)
 
 -- a cache, an object of it taken and given back: no cache is refused for want of a number
@@ -64,7 +57,7 @@ abbrev one_cache : List Entry
 one_cache = Grant ∷ Ask (Asked.Cache 64 8 (record { items = 0 ∷ [] })) ∷ Ask (Asked.Take 0) ∷ Ask (Asked.Give 0 0) ∷ []
 
 no_refusal : AllByRecursion (λ body. is_refused body ≡ false) (private_run 16 3 one_cache empty_machine).replies
-unfolding command_step alloc_step cache_step create_step next_number take_step give_step grown_cache grown slab_to_use by_need reaped choice taken_blocks empty_machine next_slot after_grant layout_of private_step
+unfolding computed_machine
 no_refusal = (refl, (refl, (refl, tt)))
 
 not_told : Contains (private_run 16 3 one_cache empty_machine).replies (Say.Refused NoCacheSlot) → ⊥

@@ -1,13 +1,10 @@
 -- For each law of objects that were not handed out before an instance of its premises, met by computation: slots of 8 frames.
 use Rattle.std.proofs.Common.{◌≡◌, ◌+◌, true, false, List, [], ◌∷◌, ◌++◌, Some, replicate, refl, arith}
-use Rattle.model_core.specs.Layouts.{layout_of}
-use Rattle.model_core.specs.Machine.{Slab, Cache, empty_machine, taken_blocks, choice}
-use Rattle.model_core.specs.Slabs.{fresh_byte, grown_cache, grown, slab_to_use, reaped, by_need}
-use Rattle.model_core.specs.Operations.{next_slot, after_grant}
-use Rattle.model_core.specs.CacheOperations.{next_number, create_step, cache_step, take_step}
+use Rattle.model_core.specs.Machine.{Slab, Cache}
 use Rattle.words_core.specs.declared.event.Command.TheVariants as Asked
-use Rattle.world_core.specs.PrivateStep.{Entry, Ask, Grant, command_step, private_step}
+use Rattle.world_core.specs.PrivateStep.{Entry, Ask, Grant, command_step}
 use Rattle.world_core.specs.Reached.{reached_machine, ReachedConstructed, ReachedConstructedWhenTaken}
+use Rattle.world_core.proofs.Computed.{computed_machine}
 
 -- A slot granted, and a cache
 
@@ -23,12 +20,12 @@ the_cache = record { number = 0; size = 100; align = 8; pattern = 90 ∷ 91 ∷ 
 
 -- the second object was not handed out
 ReachedConstructed-met : ReachedConstructed → (reached_machine 32 3 (entries ++ Ask (Asked.Take 0) ∷ [])).bytes (104 + 7) ≡ Some 91
-unfolding command_step cache_step create_step next_number take_step grown_cache grown slab_to_use fresh_byte by_need reaped choice taken_blocks empty_machine next_slot after_grant layout_of private_step
+unfolding computed_machine
 ReachedConstructed-met law = law 32 3 (entries ++ Ask (Asked.Take 0) ∷ []) (record { cache = the_cache; slab = the_slab; index = 1 }) 7 (tt, (refl, (tt, tt)))
     (record { cache_in = (0, omega arith, refl); slab_in = (0, omega arith, refl); index_in = omega arith }) (omega arith) refl
 
 -- the first is, by the `take` that makes the slab
 ReachedConstructedWhenTaken-met : ReachedConstructedWhenTaken → (command_step 32 3 (Asked.Take 0) (reached_machine 32 3 entries)).machine.bytes (0 + 7) ≡ Some 91
-unfolding command_step cache_step create_step next_number take_step grown_cache grown slab_to_use fresh_byte by_need reaped choice taken_blocks empty_machine next_slot after_grant layout_of private_step
+unfolding computed_machine
 ReachedConstructedWhenTaken-met law = law 32 3 0 entries (record { cache = the_cache; slab = the_slab; index = 0 }) 7 (tt, (refl, tt)) refl
     (record { cache_in = (0, omega arith, refl); slab_in = (0, omega arith, refl); index_in = omega arith }) (omega arith) refl

@@ -1,31 +1,27 @@
 -- For each law of reached machines an instance of its premises, met by computation: slots of 8 frames.
 use Rattle.std.proofs.Common.{◌≡◌, ℕ, ◌<◌, ◌≤◌, false, List, [], ◌∷◌, Some, Ok, replicate, refl, arith}
 use Rattle.std.specs.Prelude.{codes, slice_get}
-use Rattle.hex.proofs.OnLiterals.{hex_on_literals}
 use Rattle.model_core.specs.Blocks.{Block, block, HasFrame, IsTaken, IsChoice, IsSound}
 use Rattle.model_core.specs.BlockLaws.{JoinsTo}
 use Rattle.model_core.specs.Layouts.{layout_of}
 use Rattle.model_core.specs.Machine.{Slab, Cache, Machine, empty_machine, holds, taken_blocks, taken_in, choice, layout}
-use Rattle.model_core.specs.Slabs.{fresh_byte, grown_cache, grown, slab_to_use, reaped, by_need}
+use Rattle.model_core.specs.Slabs.{reaped, by_need}
 use Rattle.model_core.specs.Operations.{alloc_step, free_step, next_slot, after_grant}
-use Rattle.model_core.specs.CacheOperations.{next_number, create_step, cache_step, take_step, give_step}
 use Rattle.model_core.specs.Runs.{Operation, run}
 use Rattle.model_core.specs.WellFormed.{IsWellFormed}
 use Rattle.model_core.specs.Laws.{Object, IsObject, HasByte}
 use Rattle.model_core.specs.Room.{IsAmple}
-use Rattle.model_core.proofs.Bridge.{available_tells}
+use Rattle.model_core.proofs.BlocksByNumber.{available_tells}
 use Rattle.words_core.specs.declared.event.Event.TheVariants as On
 use Rattle.words_core.specs.declared.event.Command.TheVariants as Asked
 use Rattle.words_core.specs.declared.reply.Addressee.TheVariants as To
 use Rattle.words_core.specs.declared.reply.Body.TheVariants as Say
-use Rattle.words_core.specs.Words.{words_of}
-use Rattle.words_core.specs.Grammar.{event_of, judged, reading_of}
 use Rattle.words_core.specs.Cutting.{lines_of_trace}
 use Rattle.world_core.specs.PrivateStep.{Entry, Ask, Grant, command_step, private_step}
-use Rattle.world_core.specs.World.{World, opening_world, answer, grant_step, tenant_step, world_step, world_after}
+use Rattle.world_core.specs.World.{World, opening_world, world_step, world_after}
 use Rattle.world_core.specs.Output.{events_of}
-use Rattle.world_core.specs.Laws.{opening_history}
 use Rattle.world_core.specs.Reached.{reached_machine, AreAsked, EntriesAreOperations, OwnListsAreAsked, IsFreeIn, ReachedWellFormed, ReachedSound, ReachedFreeOnce, ReachedSplits, ReachedJoins, ReachedApart, ReachedRecordsFree, ReachedRoom, ReachedObjectRoom, NobodyStarves}
+use Rattle.world_core.proofs.Computed.{computed_lines, computed_machine}
 
 -- A slot granted, a cache, an object of it taken and given back: one slab, which is empty
 
@@ -46,7 +42,7 @@ EntriesAreOperations-met : EntriesAreOperations →
 EntriesAreOperations-met law = law 32 3 entries empty_machine
 
 OwnListsAreAsked-met : OwnListsAreAsked → AreAsked entries
-unfolding opening_history opening_world world_step grant_step tenant_step answer reading_of words_of judged event_of hex_on_literals command_step alloc_step free_step cache_step create_step next_number take_step give_step grown_cache grown slab_to_use fresh_byte by_need reaped choice taken_blocks empty_machine next_slot after_grant layout_of private_step
+unfolding computed_lines
 OwnListsAreAsked-met law = law 32 3 2 2 0 trace
 
 ReachedWellFormed-met : ReachedWellFormed → IsWellFormed 32 3 machine
@@ -93,7 +89,7 @@ abbrev object : Object
 object = record { cache = the_cache; slab = the_slab; index = 1 }
 
 it_is_there : IsObject machine object
-unfolding command_step alloc_step free_step cache_step create_step next_number take_step give_step grown_cache grown slab_to_use fresh_byte by_need reaped choice taken_blocks empty_machine next_slot after_grant layout_of private_step
+unfolding computed_machine
 it_is_there = record { cache_in = (0, omega arith, refl); slab_in = (0, omega arith, refl); index_in = omega arith }
 
 its_byte : HasByte object 100
@@ -110,7 +106,7 @@ ReachedRecordsFree-met law = law 32 3 entries are_asked object it_is_there refl 
 -- Its slab is empty, so the whole slot is there for a block ..
 
 is_ample : IsAmple 3 3 machine
-unfolding command_step alloc_step free_step cache_step create_step next_number take_step give_step grown_cache grown slab_to_use fresh_byte by_need reaped choice taken_blocks empty_machine next_slot after_grant layout_of private_step
+unfolding computed_machine
 is_ample = record { of_slot = omega arith; fewer = omega arith }
 
 ReachedRoom-met : ReachedRoom → (first : ℕ) × ((command_step 32 3 (Asked.Alloc 3) machine).answer ≡ Say.Frame first)
@@ -118,11 +114,11 @@ ReachedRoom-met law = law 32 3 3 entries are_asked is_ample
 
 -- .. and all its frames for slabs of the cache
 is_ample_for_slabs : IsAmple 3 (layout the_cache).order machine
-unfolding command_step alloc_step free_step cache_step create_step next_number take_step give_step grown_cache grown slab_to_use fresh_byte by_need reaped choice taken_blocks empty_machine next_slot after_grant layout_of private_step
+unfolding computed_machine
 is_ample_for_slabs = record { of_slot = omega arith; fewer = omega arith }
 
 ReachedObjectRoom-met : ReachedObjectRoom → (place : ℕ) × ((command_step 32 3 (Asked.Take 0) machine).answer ≡ Say.Object place)
-unfolding command_step alloc_step free_step cache_step create_step next_number take_step give_step grown_cache grown slab_to_use fresh_byte by_need reaped choice taken_blocks empty_machine next_slot after_grant layout_of private_step
+unfolding computed_machine
 ReachedObjectRoom-met law = law 32 3 0 entries the_cache are_asked refl is_ample_for_slabs
 
 -- the world of two tenants after the trace
@@ -130,7 +126,7 @@ abbrev world : World
 world = world_after 32 3 (opening_world 2 2) (events_of (lines_of_trace trace))
 
 its_machine : slice_get world.machines 0 ≡ Some machine
-unfolding opening_history opening_world world_step grant_step tenant_step answer reading_of words_of judged event_of hex_on_literals command_step alloc_step free_step cache_step create_step next_number take_step give_step grown_cache grown slab_to_use fresh_byte by_need reaped choice taken_blocks empty_machine next_slot after_grant layout_of private_step
+unfolding computed_lines
 its_machine = refl
 
 NobodyStarves-met : NobodyStarves →

@@ -13,7 +13,8 @@ use Rattle.words_core.specs.Cutting.{lines_of_trace}
 use Rattle.world_core.specs.Output.{shown_lines, output_of, events_of, lines_for, texts_for, line_feed, with_line_feeds, ended_lines}
 
 -- what was told, and the machine that is left, are the private run of these entries
-pub record IsPrivateRun (limit order : ℕ) (entries : List Entry) (before : Machine) (told : List Body) (after : Option Machine) : Type 0 where
+pub record IsPrivateRun (limit order : ℕ) (entries : List Entry) (before : Machine) (told : List Body)
+    (after : Option Machine) : Type 0 where
   pub replies : told ≡ (private_run limit order entries before).replies
   pub machine : after ≡ Some (private_run limit order entries before).machine
 
@@ -29,16 +30,19 @@ OwnRun = (limit order superblocks tenants t : ℕ) (events : List Event) → t <
     (slice_get (world_after limit order (opening_world superblocks tenants) events).machines t)
 
 -- two runs, of worlds of any size, in which the tenant's own lists are equal
-pub record HaveSameOwnList (limit order superblocks tenants superblocks' tenants' t : ℕ) (events events' : List Event) : Type 0 where
+pub record HaveSameOwnList (limit order superblocks tenants superblocks' tenants' t : ℕ)
+    (events events' : List Event) : Type 0 where
   pub tenant : t < tenants
   pub tenant' : t < tenants'
-  pub own : own_list t (opening_history limit order superblocks tenants events) ≡ own_list t (opening_history limit order superblocks' tenants' events')
+  pub own : own_list t (opening_history limit order superblocks tenants events)
+      ≡ own_list t (opening_history limit order superblocks' tenants' events')
 
 -- then it is told the same, whatever all others did
 abbrev pub SameReplies : Type 0
 SameReplies = (limit order superblocks tenants superblocks' tenants' t : ℕ) (events events' : List Event) →
     HaveSameOwnList limit order superblocks tenants superblocks' tenants' t events events' →
-    replies_to t (opening_history limit order superblocks tenants events) ≡ replies_to t (opening_history limit order superblocks' tenants' events')
+    replies_to t (opening_history limit order superblocks tenants events)
+    ≡ replies_to t (opening_history limit order superblocks' tenants' events')
 
 -- and byte for byte
 abbrev pub SameTexts : Type 0
@@ -64,12 +68,15 @@ private_lines limit order superblocks tenants t trace =
 -- (Below 2 ^ 64 different numbers have different decimals, so no tenant's line passes for another's.)
 abbrev pub OwnLines : Type 0
 OwnLines = (limit order superblocks tenants t : ℕ) (trace : List ℕ) → tenants ≤ 2 ^ 64 → t < tenants →
-    lines_for t (output_of limit order trace (opening_world superblocks tenants)) ≡ private_lines limit order superblocks tenants t trace
+    lines_for t (output_of limit order trace (opening_world superblocks tenants))
+    ≡ private_lines limit order superblocks tenants t trace
 
 -- So two traces in which a tenant's own lists are equal have the same lines for it.
 abbrev pub SameLines : Type 0
-SameLines = (limit order superblocks tenants superblocks' tenants' t : ℕ) (trace trace' : List ℕ) → tenants ≤ 2 ^ 64 → tenants' ≤ 2 ^ 64 →
-    HaveSameOwnList limit order superblocks tenants superblocks' tenants' t (events_of (lines_of_trace trace)) (events_of (lines_of_trace trace')) →
+SameLines = (limit order superblocks tenants superblocks' tenants' t : ℕ) (trace trace' : List ℕ) →
+    tenants ≤ 2 ^ 64 → tenants' ≤ 2 ^ 64 →
+    HaveSameOwnList limit order superblocks tenants superblocks' tenants' t
+    (events_of (lines_of_trace trace)) (events_of (lines_of_trace trace')) →
     lines_for t (output_of limit order trace (opening_world superblocks tenants))
     ≡ lines_for t (output_of limit order trace' (opening_world superblocks' tenants'))
 
@@ -100,4 +107,5 @@ EndedLinesStay = (given more : List ℕ) → (rest : List (List ℕ)) × (lines_
 -- .. and what they show is a beginning of what it shows.
 abbrev pub ShownStays : Type 0
 ShownStays = (only : Option ℕ) (limit order : ℕ) (given more : List ℕ) (w : World) →
-    (rest : List ℕ) × (shown_lines only limit order (lines_of_trace (given ++ more)) w ≡ shown_lines only limit order (ended_lines given) w ++ rest)
+    (rest : List ℕ) × (shown_lines only limit order (lines_of_trace (given ++ more)) w
+    ≡ shown_lines only limit order (ended_lines given) w ++ rest)

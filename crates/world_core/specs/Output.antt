@@ -49,7 +49,8 @@ shown_line only limit order line w = shown_reading only limit order (reading_of 
 abbrev pub shown_lines : Option ℕ → ℕ → ℕ → List (List ℕ) → World → List ℕ
 shown_lines only limit order [] w = []
 shown_lines only limit order (line ∷ lines) w =
-    shown_line only limit order line w ++ shown_lines only limit order lines (world_after limit order w (event_in (reading_of line)))
+    shown_line only limit order line w
+    ++ shown_lines only limit order lines (world_after limit order w (event_in (reading_of line)))
 
 -- all that a trace writes, from a world
 unfoldable pub output_of : ℕ → ℕ → List ℕ → World → List ℕ

@@ -7,6 +7,7 @@ use Rattle.world_core.specs.PrivateStep.{Entry, Told, private_step}
 abbrev pub private_run : ℕ → ℕ → List Entry → Machine → Told
 private_run limit order [] m = record { replies = []; machine = m }
 private_run limit order (entry ∷ entries) m = record {
-  replies = (private_step limit order entry m).replies ++ (private_run limit order entries (private_step limit order entry m).machine).replies;
+  replies = (private_step limit order entry m).replies
+      ++ (private_run limit order entries (private_step limit order entry m).machine).replies;
   machine = (private_run limit order entries (private_step limit order entry m).machine).machine;
 }

@@ -4,7 +4,7 @@ use Rattle.model_core.specs.Layouts.{Layout, layout_of}
 use Rattle.model_core.specs.Machine.{Machine, empty_machine}
 use Rattle.model_core.specs.Operations.{Step, alloc_step, free_step, read_step, write_step, after_grant, take_back_step}
 use Rattle.model_core.specs.CacheOperations.{cache_step, destroy_step, take_step, give_step, reap_step}
-use Rattle.model_core.specs.Reports.{frames_held, frames_taken, frames_free, greatest_free, split_share, order_rows, rows_of}
+use Rattle.model_core.specs.Reports.{frames_held, frames_taken, frames_free, greatest_free, split_share, order_rows, rows_of_caches}
 use Rattle.model_core.specs.declared.refusals.AllocRefusal.{AllocRefusal}
 use Rattle.model_core.specs.declared.refusals.ReadRefusal.{ReadRefusal}
 use Rattle.model_core.specs.declared.refusals.CacheRefusal.{CacheRefusal}
@@ -72,7 +72,7 @@ figures_of order m = record {
   top = greatest_free order m;
   split = split_share (frames_free order m) (greatest_free order m);
   orders = record { items = order_rows order m (order + 1) };
-  caches = record { items = rows_of m };
+  caches = record { items = rows_of_caches m };
 }
 
 -- a report, which changes nothing
@@ -90,7 +90,8 @@ command_step limit order (Asked.Alloc k) m = told_by alloc_body (alloc_step orde
 command_step limit order (Asked.Free frame) m = told_by free_body (free_step frame m)
 command_step limit order (Asked.Read place len) m = told_by read_body (read_step place len m)
 command_step limit order (Asked.Write place bytes) m = told_by write_body (write_step place bytes.items m)
-command_step limit order (Asked.Cache size align pattern) m = told_by (cache_body size align) (cache_step limit size align pattern.items m)
+command_step limit order (Asked.Cache size align pattern) m =
+    told_by (cache_body size align) (cache_step limit size align pattern.items m)
 command_step limit order (Asked.Destroy number) m = told_by destroy_body (destroy_step number m)
 command_step limit order (Asked.Take number) m = told_by take_body (take_step order number m)
 command_step limit order (Asked.Give number place) m = told_by give_body (give_step number place m)

@@ -1,6 +1,7 @@
 -- The machines that private runs leave, and what the model's laws say of them.
 use Rattle.std.specs.Prelude.{◌≡◌, ◌↔◌, ℕ, ◌+◌, ◌*◌, ◌/◌, ◌^◌, ◌<◌, ◌≤◌, true, List, [], ◌∷◌, ◌++◌, Some, Ok, slice_get}
 use Rattle.std.specs.List.{flat_map}
+use Rattle.model_core.specs.declared.limits.TheConstants.{FRAME_BYTES, RECORD_OFFSET}
 use Rattle.model_core.specs.Blocks.{Block, block, HasFrame, IsTaken, IsFree, IsChoice, IsSound}
 use Rattle.model_core.specs.BlockLaws.{IsFreeOnceSplit, JoinsTo, IsFreeOnceJoined}
 use Rattle.model_core.specs.Layouts.{is_small, pattern_byte}
@@ -80,7 +81,8 @@ ReachedFreeOnce = (limit order x : ℕ) (entries : List Entry) → let m = reach
 -- An `alloc` that answers a frame splits the free block that is chosen, of some order j, of those that there are once empty
 -- slabs are given back by need.
 abbrev pub ReachedSplits : Type 0
-ReachedSplits = (limit order k first : ℕ) (entries : List Entry) → AreAsked entries → let m = reached_machine limit order entries in
+ReachedSplits = (limit order k first : ℕ) (entries : List Entry) → AreAsked entries →
+    let m = reached_machine limit order entries in
     let n = by_need order k m in
     (alloc_step order k m).answer ≡ Ok first →
     (j : ℕ) × IsChoice order (holds n) (taken_in n) k (block first j) × ((b : Block) →
@@ -88,7 +90,8 @@ ReachedSplits = (limit order k first : ℕ) (entries : List Entry) → AreAsked 
 
 -- A `free` that answers an order joins the block with its buddies as long as they are free, up to some order j.
 abbrev pub ReachedJoins : Type 0
-ReachedJoins = (limit order first k : ℕ) (entries : List Entry) → AreAsked entries → let m = reached_machine limit order entries in
+ReachedJoins = (limit order first k : ℕ) (entries : List Entry) → AreAsked entries →
+    let m = reached_machine limit order entries in
     (free_step first m).answer ≡ Some k →
     (j : ℕ) × JoinsTo order (holds m) (taken_in m) first k j × ((b : Block) →
     (IsFreeIn order (free_step first m).machine b ↔ IsFreeOnceJoined (IsFreeIn order m) first k j b))
@@ -98,11 +101,12 @@ abbrev pub ReachedApart : Type 0
 ReachedApart = (limit order : ℕ) (entries : List Entry) → AreAsked entries → let m = reached_machine limit order entries in
     (a b : Object) → IsObject m a → IsObject m b → (place : ℕ) → HasByte a place → HasByte b place → a ≡ b
 
--- .. and those of small slabs stay below the last 32 bytes of their frame.
+-- .. and those of small slabs stay below the control record of their frame.
 abbrev pub ReachedRecordsFree : Type 0
 ReachedRecordsFree = (limit order : ℕ) (entries : List Entry) → AreAsked entries → let m = reached_machine limit order entries in
     (object : Object) → IsObject m object → is_small (layout object.cache).chunk ≡ true
-    → (place : ℕ) → HasByte object place → (4096 * object.slab.first ≤ place) × (place < 4096 * object.slab.first + 4064)
+    → (place : ℕ) → HasByte object place
+    → (FRAME_BYTES * object.slab.first ≤ place) × (place < FRAME_BYTES * object.slab.first + RECORD_OFFSET)
 
 -- An object that was not handed out since its slab was made reads as its cache's pattern ..
 abbrev pub ReachedConstructed : Type 0
@@ -127,7 +131,8 @@ ReachedRoom = (limit order k : ℕ) (entries : List Entry) → AreAsked entries 
 
 -- .. nor an object of a cache whose slabs have that order.
 abbrev pub ReachedObjectRoom : Type 0
-ReachedObjectRoom = (limit order number : ℕ) (entries : List Entry) (c : Cache) → AreAsked entries → let m = reached_machine limit order entries in
+ReachedObjectRoom = (limit order number : ℕ) (entries : List Entry) (c : Cache) → AreAsked entries →
+    let m = reached_machine limit order entries in
     cache_of m number ≡ Some c → IsAmple order (layout c).order m
     → (place : ℕ) × ((command_step limit order (Asked.Take number) m).answer ≡ Say.Object place)
 
@@ -137,4 +142,5 @@ abbrev pub NobodyStarves : Type 0
 NobodyStarves = (limit order superblocks tenants t k : ℕ) (trace : List ℕ) (m : Machine) → t < tenants →
     let w = world_after limit order (opening_world superblocks tenants) (events_of (lines_of_trace trace)) in
     slice_get w.machines t ≡ Some m → IsAmple order k m
-    → (first : ℕ) × ((world_step limit order (On.Tenant t (Asked.Alloc k)) w).reply ≡ record { addressee = To.Tenant t; body = Say.Frame first })
+    → (first : ℕ) × ((world_step limit order (On.Tenant t (Asked.Alloc k)) w).reply
+    ≡ record { addressee = To.Tenant t; body = Say.Frame first })

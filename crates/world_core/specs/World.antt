@@ -56,20 +56,21 @@ abbrev pub given_up : (Option Owner → Bool) → Option Owner → Option Owner
 given_up test owner = if test owner then None else owner
 
 -- the superblock under the slot has no owner any more, unless the tenant's machine refused; `after` is what became of it
-abbrev pub taken_back : ℕ → ℕ → World → Machine → Result (Unit {0}) TakeBackRefusal → WorldStep
-taken_back t slot w after (Ok done) = record {
+abbrev pub take_back_answered : ℕ → ℕ → World → Machine → Result (Unit {0}) TakeBackRefusal → WorldStep
+take_back_answered t slot w after (Ok done) = record {
   reply = record { addressee = To.Admin; body = TakenBack (position_or_len (is_owner t slot) w.owners) };
   world = record {
     owners = map (given_up (is_owner t slot)) w.owners;
     machines = slice_set w.machines t after;
   };
 }
-taken_back t slot w after (Err TakeBackRefusal.NoSlot) = answer To.Admin (Refused Refusal.NoSlot) w
-taken_back t slot w after (Err TakeBackRefusal.SlotBusy) = answer To.Admin (Refused Refusal.SlotBusy) w
+take_back_answered t slot w after (Err TakeBackRefusal.NoSlot) = answer To.Admin (Refused Refusal.NoSlot) w
+take_back_answered t slot w after (Err TakeBackRefusal.SlotBusy) = answer To.Admin (Refused Refusal.SlotBusy) w
 
 unfoldable pub slot_step : ℕ → ℕ → ℕ → World → Option Machine → WorldStep
 slot_step order t slot w None = answer To.Admin (Refused NoTenant) w
-slot_step order t slot w (Some m) = taken_back t slot w (take_back_step order slot m).machine (take_back_step order slot m).answer
+slot_step order t slot w (Some m) =
+    take_back_answered t slot w (take_back_step order slot m).machine (take_back_step order slot m).answer
 
 -- the tenant's machine is empty, and none of its superblocks has an owner
 unfoldable pub reset_step : ℕ → World → Option Machine → WorldStep
@@ -121,7 +122,8 @@ pub record Exchange : Type 0 where
 abbrev pub history : ℕ → ℕ → World → List Event → List Exchange
 history limit order w [] = []
 history limit order w (event ∷ events) =
-    record { event = event; reply = (world_step limit order event w).reply } ∷ history limit order (world_step limit order event w).world events
+    record { event = event; reply = (world_step limit order event w).reply }
+    ∷ history limit order (world_step limit order event w).world events
 
 abbrev pub world_after : ℕ → ℕ → World → List Event → World
 world_after limit order w [] = w

@@ -1,12 +1,13 @@
-use Rattle.std.proofs.Common.{◌≡◌, sym, ◌∙◌, ap, subst, ℕ, ◌+◌, ◌^◌, ◌<◌, Some, set, length}
+use Rattle.std.proofs.Common.{◌≡◌, sym, ◌∙◌, ap, subst, true, ℕ, ◌+◌, ◌^◌, ◌<◌, Some, set, length}
 use Rattle.std.specs.Prelude.{slice_index}
 use Rattle.std.proofs.lemmas.List.{get_or_read}
 use Rattle.buddy_core.specs.Content.{with_holding, with_slot}
-use Rattle.buddy_core.specs.Stored.{Sheet, Row, row_of, holding_shown, content_shown}
+use Rattle.buddy_core.specs.Stored.{StoredSuperblock, StoredTenant, stored_tenant, holding_shown, content_shown}
+use Rattle.buddy_core.specs.Tree.{Shows}
 use Rattle.buddy_core.specs.Kept.{IsKept}
-use Rattle.buddy_core.proofs.Shown.{shown_is, slot_at, blank_of, bare_of}
-use Rattle.buddy_core.proofs.Bounds.{free_room}
-use Rattle.buddy_core.proofs.Change.{kept_changed, shown_changed}
+use Rattle.buddy_core.proofs.ContentShown.{shown_is, slot_at, blank_of, bare_of}
+use Rattle.buddy_core.proofs.TenantCounts.{room}
+use Rattle.buddy_core.proofs.TenantChanged.{kept_changed, shown_changed}
 use Rattle.buddy_core.proofs.Granting.{grant_change, grant_holding}
 use Rattle.buddy_core.proofs.Buddy.add_slot.Goals as goal
 
@@ -14,15 +15,15 @@ pub add_slot-requires-clause-room : goal.add_slot-requires-clause-room
 add_slot-requires-clause-room c =
     let a = c.self.inside in
     let s = shown_is a.order a.superblocks.items a.tenants.items c.args.t c.args.self.now c.self.view_is c.requires.tenant in
-    let row = get_or_read a.tenants.items c.args.t c.index_mut-2.result.now s.tenant c.index_mut-2.ensures.value blank_of in
-    subst (λ (r : Row). slice_index r.free a.order + 1 < 2 ^ 32) (sym row) (free_room a.order a.superblocks.items a.tenants.items c.self.invariant c.args.t s.tenant a.order)
+    let tenant = get_or_read a.tenants.items c.args.t c.index_mut-2.result.now s.listed c.index_mut-2.ensures.value blank_of in
+    subst (λ (r : StoredTenant). slice_index r.free a.order + 1 < 2 ^ 32) (sym tenant) (room a.order a.superblocks.items a.tenants.items c.self.invariant c.args.t s.listed a.order).0
 
--- the row as the code leaves it
-row_written : (old row : Row) (slot m top : ℕ) (new : Row) → old ≡ row → new ≡ record old { slots = set old.slots slot (Some m); free = set old.free top (slice_index old.free top + 1) }
-    → new ≡ record row { slots = set row.slots slot (Some m); free = set row.free top (slice_index row.free top + 1) }
-row_written old row slot m top new e is = is ∙ ap (λ (r : Row). after r) e
+-- the tenant as the code leaves it
+tenant_written : (old tenant : StoredTenant) (slot m top : ℕ) (new : StoredTenant) → old ≡ tenant → new ≡ record old { slots = set old.slots slot (Some m); free = set old.free top (slice_index old.free top + 1) }
+    → new ≡ record tenant { slots = set tenant.slots slot (Some m); free = set tenant.free top (slice_index tenant.free top + 1) }
+tenant_written old tenant slot m top new e is = is ∙ ap (λ (r : StoredTenant). after r) e
   where
-    after : Row → Row
+    after : StoredTenant → StoredTenant
     after r = record r { slots = set r.slots slot (Some m); free = set r.free top (slice_index r.free top + 1) }
 
 pub invariant_of-self : goal.invariant_of-self
@@ -30,33 +31,38 @@ invariant_of-self c =
     let a = c.self.inside in
     let s = shown_is a.order a.superblocks.items a.tenants.items c.args.t c.args.self.now c.self.view_is c.requires.tenant in
     let at = slot_at a.order a.superblocks.items a.tenants.items c.args.self.now c.self.view_is in
-    let slot_lt : c.args.slot < length a.superblocks.items = subst (λ n. c.args.slot < n) s.superblocks c.requires.slot in
-    let m_lt : c.args.m < length a.superblocks.items = subst (λ n. c.args.m < n) s.superblocks c.requires.superblock in
-    let row = get_or_read a.tenants.items c.args.t c.index_mut-2.result.now s.tenant c.index_mut-2.ensures.value blank_of in
-    let sheet = get_or_read a.superblocks.items c.args.m c.index_mut.result.now m_lt c.index_mut.ensures.value bare_of in
-    let written = row_written c.index_mut-2.result.now (row_of c.args.t a.tenants.items) c.args.slot c.args.m a.order c.add_slot.new.self row c.add_slot.ensures in
-    subst (λ (r : Row). IsKept a.order (set a.superblocks.items c.args.m c.fill.new.self) (set a.tenants.items c.args.t r)) (sym written)
+    let slot_lt : c.args.slot < length a.superblocks.items = subst (λ n. c.args.slot < n) s.count c.requires.slot in
+    let m_lt : c.args.m < length a.superblocks.items = subst (λ n. c.args.m < n) s.count c.requires.superblock in
+    let tenant = get_or_read a.tenants.items c.args.t c.index_mut-2.result.now s.listed c.index_mut-2.ensures.value blank_of in
+    let superblock = get_or_read a.superblocks.items c.args.m c.index_mut.result.now m_lt c.index_mut.ensures.value bare_of in
+    let order = c.fill.ensures.order ∙ ap (λ (z : StoredSuperblock). z.tree.order) superblock in
+    let orders = c.fill.ensures.orders ∙ ap (λ (z : StoredSuperblock). z.orders) superblock in
+    let words = subst (λ n. Shows n (λ _. true) c.fill.new.self.tree.words) (ap (λ (z : StoredSuperblock). z.tree.order) superblock ∙ c.self.invariant.order c.args.m m_lt) c.fill.ensures.words in
+    let written = tenant_written c.index_mut-2.result.now (stored_tenant c.args.t a.tenants.items) c.args.slot c.args.m a.order c.add_slot.new.self tenant c.add_slot.ensures in
+    subst (λ (r : StoredTenant). IsKept a.order (set a.superblocks.items c.args.m c.fill.new.self) (set a.tenants.items c.args.t r)) (sym written)
     (kept_changed a.order a.superblocks.items a.tenants.items c.args.t c.args.m c.fill.new.self _ c.self.invariant
-    (grant_change a.order a.superblocks.items a.tenants.items c.self.invariant c.args.t s.tenant c.args.slot c.args.m slot_lt m_lt (sym (at c.args.t c.args.slot) ∙ c.requires.free)
-    (λ v w there. c.requires.unused v w (at v w ∙ there)) c.fill.new.self (c.fill.ensures.orders ∙ ap (λ (z : Sheet). z.orders) sheet) c.fill.ensures.words))
+    (grant_change a.order a.superblocks.items a.tenants.items c.self.invariant c.args.t s.listed c.args.slot c.args.m slot_lt m_lt (sym (at c.args.t c.args.slot) ∙ c.requires.free)
+    (λ v w there. c.requires.unused v w (at v w ∙ there)) c.fill.new.self order orders words))
 
 pub returns : goal.returns
 returns c =
     let a = c.self.inside in
     let s = shown_is a.order a.superblocks.items a.tenants.items c.args.t c.args.self.now c.self.view_is c.requires.tenant in
     let at = slot_at a.order a.superblocks.items a.tenants.items c.args.self.now c.self.view_is in
-    let slot_lt : c.args.slot < length a.superblocks.items = subst (λ n. c.args.slot < n) s.superblocks c.requires.slot in
-    let m_lt : c.args.m < length a.superblocks.items = subst (λ n. c.args.m < n) s.superblocks c.requires.superblock in
-    let row = get_or_read a.tenants.items c.args.t c.index_mut-2.result.now s.tenant c.index_mut-2.ensures.value blank_of in
-    let sheet = get_or_read a.superblocks.items c.args.m c.index_mut.result.now m_lt c.index_mut.ensures.value bare_of in
-    let written = row_written c.index_mut-2.result.now (row_of c.args.t a.tenants.items) c.args.slot c.args.m a.order c.add_slot.new.self row c.add_slot.ensures in
+    let slot_lt : c.args.slot < length a.superblocks.items = subst (λ n. c.args.slot < n) s.count c.requires.slot in
+    let m_lt : c.args.m < length a.superblocks.items = subst (λ n. c.args.m < n) s.count c.requires.superblock in
+    let tenant = get_or_read a.tenants.items c.args.t c.index_mut-2.result.now s.listed c.index_mut-2.ensures.value blank_of in
+    let superblock = get_or_read a.superblocks.items c.args.m c.index_mut.result.now m_lt c.index_mut.ensures.value bare_of in
+    let order = c.fill.ensures.order ∙ ap (λ (z : StoredSuperblock). z.tree.order) superblock in
+    let orders = c.fill.ensures.orders ∙ ap (λ (z : StoredSuperblock). z.orders) superblock in
+    let words = subst (λ n. Shows n (λ _. true) c.fill.new.self.tree.words) (ap (λ (z : StoredSuperblock). z.tree.order) superblock ∙ c.self.invariant.order c.args.m m_lt) c.fill.ensures.words in
+    let written = tenant_written c.index_mut-2.result.now (stored_tenant c.args.t a.tenants.items) c.args.slot c.args.m a.order c.add_slot.new.self tenant c.add_slot.ensures in
     let empty = sym (at c.args.t c.args.slot) ∙ c.requires.free in
-    let orders = c.fill.ensures.orders ∙ ap (λ (z : Sheet). z.orders) sheet in
-    let change = grant_change a.order a.superblocks.items a.tenants.items c.self.invariant c.args.t s.tenant c.args.slot c.args.m slot_lt m_lt empty
-    (λ v w there. c.requires.unused v w (at v w ∙ there)) c.fill.new.self orders c.fill.ensures.words in
-    let holding = grant_holding a.order a.superblocks.items a.tenants.items c.self.invariant c.args.t s.tenant c.args.slot c.args.m slot_lt m_lt empty
-    (λ v w there. c.requires.unused v w (at v w ∙ there)) c.fill.new.self orders c.fill.ensures.words in
-    ap (λ (r : Row). content_shown a.order (set a.superblocks.items c.args.m c.fill.new.self) (set a.tenants.items c.args.t r)) written
+    let change = grant_change a.order a.superblocks.items a.tenants.items c.self.invariant c.args.t s.listed c.args.slot c.args.m slot_lt m_lt empty
+    (λ v w there. c.requires.unused v w (at v w ∙ there)) c.fill.new.self order orders words in
+    let holding = grant_holding a.order a.superblocks.items a.tenants.items c.self.invariant c.args.t s.listed c.args.slot c.args.m slot_lt m_lt empty
+    (λ v w there. c.requires.unused v w (at v w ∙ there)) c.fill.new.self order orders words in
+    ap (λ (r : StoredTenant). content_shown a.order (set a.superblocks.items c.args.m c.fill.new.self) (set a.tenants.items c.args.t r)) written
     ∙ shown_changed a.order a.superblocks.items a.tenants.items c.args.t c.args.m c.fill.new.self _ c.self.invariant change _ holding
-    ∙ ap (λ y. with_holding c.args.t (with_slot c.args.slot c.args.m (holding_shown a.order a.superblocks.items (row_of c.args.t a.tenants.items))) y) c.self.view_is
+    ∙ ap (λ y. with_holding c.args.t (with_slot c.args.slot c.args.m (holding_shown a.order a.superblocks.items (stored_tenant c.args.t a.tenants.items))) y) c.self.view_is
     ∙ ap (λ g. with_holding c.args.t (with_slot c.args.slot c.args.m g) c.args.self.now) (sym s.holding)

@@ -3,9 +3,9 @@ use Rattle.std.proofs.lemmas.Bool.{cases_lt, both_ways, eq-eqb}
 use Rattle.std.specs.Option.{option_eq}
 use Rattle.std.proofs.Math.Nat.{div-mul-le_self}
 use Rattle.model_core.specs.Blocks.{HasFrame, block, Taken, IsSound}
-use Rattle.model_core.proofs.Bridge.{number_of_frame, first_is, number_is}
+use Rattle.model_core.proofs.BlocksByNumber.{number_of_frame, first_is, number_is}
 use Rattle.buddy_core.specs.Content.{holding_of, taken_of, IsSoundHolding}
-use Rattle.buddy_core.proofs.Shown.{shown_is, by_shown}
+use Rattle.buddy_core.proofs.ContentShown.{shown_is, by_shown}
 use Rattle.buddy_core.proofs.Buddy.block_of.Goals as goal
 
 -- the taken block that has a frame begins at the aligned block around it
@@ -22,7 +22,7 @@ returns-else-eq c (f, k, e, has) =
     let a = c.self.inside in
     let s = shown_is a.order a.superblocks.items a.tenants.items c.args.t c.args.self.now c.self.view_is c.requires in
     let sound : IsSoundHolding c.args.self.now.top (holding_of c.args.t c.args.self.now)
-    = by_shown IsSound a.order a.superblocks.items a.tenants.items c.args.t c.args.self.now s (c.self.invariant.each c.args.t s.tenant).sound in
+    = by_shown IsSound a.order a.superblocks.items a.tenants.items c.args.t c.args.self.now s (c.self.invariant.each c.args.t s.listed).sound in
     let placed = (sound.placed f k e).0 in
     let around = begins_around (taken_of (holding_of c.args.t c.args.self.now)) c.args.frame f k placed.1 e has in
     let within : k ≤ a.order = subst (λ n. k ≤ n) s.order placed.0 in

@@ -1,19 +1,18 @@
-use Rattle.std.proofs.Common.{◌≡◌, refl, sym, ◌∙◌, ap, subst, ℕ, ◌+◌, ◌*◌, ◌%◌, ◌^◌, ◌<◌, ◌≤◌, Option, Some, None, List, length, get_or, arith}
+use Rattle.std.proofs.Common.{◌≡◌, refl, sym, ◌∙◌, ap, subst, ℕ, ◌+◌, ◌*◌, ◌%◌, ◌^◌, ◌<◌, ◌≤◌, Option, Some, None, List, length, arith}
 use Rattle.std.specs.Prelude.{slice_index, IfNone}
-use Rattle.std.specs.Int.{bit_at}
 use Rattle.std.proofs.lemmas.List.{get_or_read}
-use Rattle.std.proofs.lemmas.Nat.{shl_whole}
+use Rattle.std.proofs.lemmas.Nat.{shl_whole, mul-le}
+use Rattle.std.proofs.Math.Pow.{pow_mono}
 use Rattle.model_core.specs.Blocks.{block, IsChoice, IsWithout}
 use Rattle.buddy_core.specs.Content.{holding_of, is_held, taken_of, with_holding, with_block}
-use Rattle.buddy_core.specs.Roots.{IsCounted, IsRooted, IsPlace, IsWithoutOrder}
-use Rattle.buddy_core.specs.Stored.{Sheet, Row, row_of, sheet_of, holding_shown}
-use Rattle.buddy_core.specs.Kept.{available_in}
-use Rattle.buddy_core.specs.Tree.{Shows}
-use Rattle.buddy_core.proofs.Shown.{IsShown, shown_is, by_shown, blank_of, bare_of}
-use Rattle.buddy_core.proofs.Bounds.{rooted, free_room, taken_room, slot_small}
-use Rattle.buddy_core.proofs.Change.{kept_changed, shown_changed}
-use Rattle.buddy_core.proofs.Steps.{IsStep, step_change, holding_now}
-use Rattle.buddy_core.proofs.Reserving.{Reserved, place_at, counted, none_without, order_within, IsFound, superblock_lt, is_choice, some_free, reserved_step}
+use Rattle.buddy_core.specs.Counts.{HasRoomForCounts}
+use Rattle.buddy_core.specs.Roots.{IsCounted, IsThere, IsSource, IsWithoutOrder}
+use Rattle.buddy_core.specs.Stored.{StoredTree, StoredSuperblock, StoredTenant, stored_tenant, superblock_of, holding_shown}
+use Rattle.buddy_core.proofs.ContentShown.{IsShown, shown_is, by_shown, blank_of, bare_of}
+use Rattle.buddy_core.proofs.TenantCounts.{room, slot_small}
+use Rattle.buddy_core.proofs.TenantChanged.{kept_changed, shown_changed}
+use Rattle.buddy_core.proofs.BlockSteps.{IsStep, step_change, holding_now}
+use Rattle.buddy_core.proofs.Reserving.{Reserved, source_at, counted, none_without, order_within, IsFound, found_at, superblock_lt, is_choice, some_free, reserved_step}
 use Rattle.buddy_core.proofs.Buddy.reserve.Goals as goal
 use Rattle.buddy_core.proofs.Buddy.reserve.Goals.{After-index, After-index_mut-superblock, After-search-first, After-index_mut, After-count_reserved}
 
@@ -21,42 +20,35 @@ use Rattle.buddy_core.proofs.Buddy.reserve.Goals.{After-index, After-index_mut-s
 shown : (c : After-index) → IsShown c.self.inside.order c.self.inside.superblocks.items c.self.inside.tenants.items c.args.t c.args.self.now
 shown c = shown_is c.self.inside.order c.self.inside.superblocks.items c.self.inside.tenants.items c.args.t c.args.self.now c.self.view_is c.requires.tenant
 
-row_read : (c : After-index) → c.index.result.now ≡ row_of c.args.t c.self.inside.tenants.items
-row_read c = get_or_read c.self.inside.tenants.items c.args.t c.index.result.now (shown c).tenant c.index.ensures blank_of
+tenant_read : (c : After-index) → c.index.result.now ≡ stored_tenant c.args.t c.self.inside.tenants.items
+tenant_read c = get_or_read c.self.inside.tenants.items c.args.t c.index.result.now (shown c).listed c.index.ensures blank_of
 
-pub find-requires-clause-orders : goal.find-requires-clause-orders
-find-requires-clause-orders c =
-    let before = (goal.at.find-requires-clause-orders c).After-index in
-    let size : length c.index.result.now.free ≡ c.self.inside.order + 1 = ap (λ (r : Row). length r.free) (row_read before) ∙ (c.self.invariant.each c.args.t (shown before).tenant).sizes.free in
-    let small = c.self.invariant.small in
-    omega arith
-
-pub find-requires-clause-rooted : goal.find-requires-clause-rooted
-find-requires-clause-rooted c =
+pub find-requires-clause-there : goal.find-requires-clause-there
+find-requires-clause-there c =
     let a = c.self.inside in
-    let before = (goal.at.find-requires-clause-rooted c).After-index in
-    subst (λ (r : Row). IsRooted c.deref.result.now r.slots) (sym (row_read before))
-    (subst (λ (xs : List Sheet). IsRooted xs (row_of c.args.t a.tenants.items).slots) (sym c.deref.ensures.value)
-    (rooted a.order a.superblocks.items a.tenants.items c.self.invariant c.args.t (shown before).tenant))
+    let before = (goal.at.find-requires-clause-there c).After-index in
+    subst (λ (r : StoredTenant). IsThere c.deref.result.now r.slots) (sym (tenant_read before))
+    (subst (λ (xs : List StoredSuperblock). IsThere xs (stored_tenant c.args.t a.tenants.items).slots) (sym c.deref.ensures.value)
+    (c.self.invariant.each c.args.t (shown before).listed).within)
 
 pub find-requires-clause-counted : goal.find-requires-clause-counted
 find-requires-clause-counted c =
     let a = c.self.inside in
     let before = (goal.at.find-requires-clause-counted c).After-index in
-    subst (λ (r : Row). IsCounted c.deref.result.now r) (sym (row_read before))
-    (subst (λ (xs : List Sheet). IsCounted xs (row_of c.args.t a.tenants.items)) (sym c.deref.ensures.value)
-    (counted a.order a.superblocks.items a.tenants.items c.self.invariant c.args.t (shown before).tenant))
+    subst (λ (r : StoredTenant). IsCounted c.deref.result.now r) (sym (tenant_read before))
+    (subst (λ (xs : List StoredSuperblock). IsCounted xs (stored_tenant c.args.t a.tenants.items)) (sym c.deref.ensures.value)
+    (counted a.order a.superblocks.items a.tenants.items c.self.invariant c.args.t (shown before).listed))
 
-pub returns-in_err-place-clause-refused : goal.returns-in_err-place-clause-refused
-returns-in_err-place-clause-refused c =
+pub returns-in_err-source-clause-refused : goal.returns-in_err-source-clause-refused
+returns-in_err-source-clause-refused c =
     let a = c.self.inside in
-    let before = (goal.at.returns-in_err-place-clause-refused c).After-index in
-    let none : IsWithoutOrder c.deref.result.now c.index.result.now.slots c.args.k = c.in_err-place.ensures in
-    let here : IsWithoutOrder a.superblocks.items (row_of c.args.t a.tenants.items).slots c.args.k
-    = subst (λ (r : Row). IsWithoutOrder a.superblocks.items r.slots c.args.k) (row_read before) (subst (λ (xs : List Sheet). IsWithoutOrder xs c.index.result.now.slots c.args.k) c.deref.ensures.value none) in
+    let before = (goal.at.returns-in_err-source-clause-refused c).After-index in
+    let none : IsWithoutOrder c.deref.result.now c.index.result.now.slots c.args.k = c.in_err-source.ensures in
+    let here : IsWithoutOrder a.superblocks.items (stored_tenant c.args.t a.tenants.items).slots c.args.k
+    = subst (λ (r : StoredTenant). IsWithoutOrder a.superblocks.items r.slots c.args.k) (tenant_read before) (subst (λ (xs : List StoredSuperblock). IsWithoutOrder xs c.index.result.now.slots c.args.k) c.deref.ensures.value none) in
     if_none c.from_residual.result _ (
       by_shown (λ top held taken. IsWithout top held taken c.args.k) a.order a.superblocks.items a.tenants.items c.args.t c.args.self.now (shown before)
-          (none_without a.order a.superblocks.items a.tenants.items c.self.invariant c.args.t (shown before).tenant c.args.k here),
+          (none_without a.order a.superblocks.items a.tenants.items c.self.invariant c.args.t (shown before).listed c.args.k here),
       refl,
     )
   where
@@ -64,138 +56,149 @@ returns-in_err-place-clause-refused c =
     if_none None P p = p
     if_none (Some x) P p = tt
 
--- the place that was found
-place : (c : After-index_mut-superblock) → c.index.result.now ≡ row_of c.args.t c.self.inside.tenants.items
-    → IsPlace c.self.inside.superblocks.items (row_of c.args.t c.self.inside.tenants.items).slots c.args.k c.in_ok-place.place
-place c row =
-    place_at c.deref.result.now c.self.inside.superblocks.items c.index.result.now.slots (row_of c.args.t c.self.inside.tenants.items).slots c.args.k c.in_ok-place.place
-    c.deref.ensures.value (ap (λ (r : Row). r.slots) row) c.in_ok-place.ensures
+-- the source that was found
+source : (c : After-index_mut-superblock) → c.index.result.now ≡ stored_tenant c.args.t c.self.inside.tenants.items
+    → IsSource c.self.inside.superblocks.items (stored_tenant c.args.t c.self.inside.tenants.items).slots c.args.k c.in_ok-source.source
+source c tenant =
+    source_at c.deref.result.now c.self.inside.superblocks.items c.index.result.now.slots (stored_tenant c.args.t c.self.inside.tenants.items).slots c.args.k c.in_ok-source.source
+    c.deref.ensures.value (ap (λ (r : StoredTenant). r.slots) tenant) c.in_ok-source.ensures
 
-pub search-first-requires-clause-order : goal.search-first-requires-clause-order
-search-first-requires-clause-order c =
+-- the superblock there, and the order of its tree
+superblock_read : (c : After-index_mut-superblock) → (source : IsSource c.self.inside.superblocks.items (stored_tenant c.args.t c.self.inside.tenants.items).slots c.args.k c.in_ok-source.source)
+    → c.args.t < length c.self.inside.tenants.items → c.index_mut-superblock.result.now ≡ superblock_of c.in_ok-source.source.superblock c.self.inside.superblocks.items
+superblock_read c source listed =
+    let p = c.in_ok-source.source in
+    get_or_read c.self.inside.superblocks.items p.superblock c.index_mut-superblock.result.now ((c.self.invariant.each c.args.t listed).within p.slot p.superblock source.at) c.index_mut-superblock.ensures.value bare_of
+
+order_read : (c : After-index_mut-superblock) → (source : IsSource c.self.inside.superblocks.items (stored_tenant c.args.t c.self.inside.tenants.items).slots c.args.k c.in_ok-source.source)
+    → c.args.t < length c.self.inside.tenants.items → c.index_mut-superblock.result.now.tree.order ≡ c.self.inside.order
+order_read c source listed =
+    let p = c.in_ok-source.source in
+    ap (λ (z : StoredSuperblock). z.tree.order) (superblock_read c source listed) ∙ c.self.invariant.order p.superblock ((c.self.invariant.each c.args.t listed).within p.slot p.superblock source.at)
+
+pub search-first-requires : goal.search-first-requires
+search-first-requires c =
     let a = c.self.inside in
-    let g = goal.at.search-first-requires-clause-order c in
-    order_within a.order a.superblocks.items a.tenants.items c.self.invariant c.args.t (shown g.After-index).tenant c.args.k c.in_ok-place.place
-    (place g.After-index_mut-superblock (row_read g.After-index))
+    let g = goal.at.search-first-requires c in
+    let listed = (shown g.After-index).listed in
+    let at = source g.After-index_mut-superblock (tenant_read g.After-index) in
+    let order = ap (λ (t : StoredTree). t.order) c.tree.ensures ∙ order_read g.After-index_mut-superblock at listed in
+    let within = order_within a.order a.superblocks.items a.tenants.items c.self.invariant c.args.t listed c.args.k c.in_ok-source.source at in
+    omega arith
 
 pub reserve_at-requires-clause-from : goal.reserve_at-requires-clause-from
 reserve_at-requires-clause-from c =
     let a = c.self.inside in
     let g = goal.at.reserve_at-requires-clause-from c in
-    order_within a.order a.superblocks.items a.tenants.items c.self.invariant c.args.t (shown g.After-index).tenant c.args.k c.in_ok-place.place
-    (place g.After-index_mut-superblock (row_read g.After-index))
+    let listed = (shown g.After-index).listed in
+    let at = source g.After-index_mut-superblock (tenant_read g.After-index) in
+    let order = order_read g.After-index_mut-superblock at listed in
+    let within = order_within a.order a.superblocks.items a.tenants.items c.self.invariant c.args.t listed c.args.k c.in_ok-source.source at in
+    omega arith
+
+pub reserve_at-requires-clause-first : goal.reserve_at-requires-clause-first
+reserve_at-requires-clause-first c = subst (λ (t : StoredTree). c.search-first.result < 2 ^ t.order) c.tree.ensures c.search-first.ensures.within
 
 -- the block that was found there
 found : (c : After-search-first) → c.args.t < length c.self.inside.tenants.items
-    → IsPlace c.self.inside.superblocks.items (row_of c.args.t c.self.inside.tenants.items).slots c.args.k c.in_ok-place.place
-    → IsFound c.self.inside.order c.self.inside.superblocks.items c.self.inside.tenants.items c.args.t c.args.k c.in_ok-place.place c.search-first.result
-found c tenant place =
+    → IsSource c.self.inside.superblocks.items (stored_tenant c.args.t c.self.inside.tenants.items).slots c.args.k c.in_ok-source.source
+    → IsFound c.self.inside.order c.self.inside.superblocks.items c.self.inside.tenants.items c.args.t c.args.k c.in_ok-source.source c.search-first.result
+found c listed at =
     let a = c.self.inside in
-    let p = c.in_ok-place.place in
-    let mine = c.self.invariant.each c.args.t tenant in
-    let sheet = get_or_read a.superblocks.items p.superblock c.index_mut-superblock.result.now (mine.within p.slot p.superblock place.at) c.index_mut-superblock.ensures.value bare_of in
-    let first = c.search-first.ensures.found (available_in a.order a.superblocks.items (row_of c.args.t a.tenants.items) p.slot)
-    (subst (λ (z : Sheet). Shows a.order (available_in a.order a.superblocks.items (row_of c.args.t a.tenants.items) p.slot) z.words) (sym sheet) (mine.shows p.slot p.superblock place.at))
-    (ap (λ (z : Sheet). bit_at (get_or z.words 0 0) p.order) sheet ∙ place.bit) in
-    record { tenant = tenant; place = place; inside = c.search-first.ensures.within; aligned = first.0; least = first.1 }
+    let p = c.in_ok-source.source in
+    found_at a.order a.superblocks.items a.tenants.items c.self.invariant c.args.t listed c.args.k p at c.tree.result.now
+    (c.tree.ensures ∙ ap (λ (z : StoredSuperblock). z.tree) (get_or_read a.superblocks.items p.superblock c.index_mut-superblock.result.now ((c.self.invariant.each c.args.t listed).within p.slot p.superblock at.at) c.index_mut-superblock.ensures.value bare_of)) c.search-first.result (c.search-first.ensures.within, c.search-first.ensures.found)
 
--- the tenant's row before it is changed
-row_before : (c : After-index_mut) → c.args.t < length c.self.inside.tenants.items → c.index_mut.result.now ≡ row_of c.args.t c.self.inside.tenants.items
-row_before c lt = get_or_read c.self.inside.tenants.items c.args.t c.index_mut.result.now lt c.index_mut.ensures.value blank_of
+-- the tenant before it is changed
+tenant_before : (c : After-index_mut) → c.args.t < length c.self.inside.tenants.items → c.index_mut.result.now ≡ stored_tenant c.args.t c.self.inside.tenants.items
+tenant_before c lt = get_or_read c.self.inside.tenants.items c.args.t c.index_mut.result.now lt c.index_mut.ensures.value blank_of
+
+pub count_reserved-requires-clause-from : goal.count_reserved-requires-clause-from
+count_reserved-requires-clause-from c =
+    let a = c.self.inside in
+    let g = goal.at.count_reserved-requires-clause-from c in
+    let listed = (shown g.After-index).listed in
+    let within = order_within a.order a.superblocks.items a.tenants.items c.self.invariant c.args.t listed c.args.k c.in_ok-source.source (source g.After-index_mut-superblock (tenant_read g.After-index)) in
+    let size : length c.index_mut.result.now.free ≡ a.order + 1 = ap (λ (r : StoredTenant). length r.free) (tenant_before g.After-index_mut listed) ∙ (c.self.invariant.each c.args.t listed).sizes.free in
+    omega arith
 
 pub count_reserved-requires-clause-free : goal.count_reserved-requires-clause-free
 count_reserved-requires-clause-free c =
-    let a = c.self.inside in
     let g = goal.at.count_reserved-requires-clause-free c in
-    let tenant = (shown g.After-index).tenant in
-    let within = order_within a.order a.superblocks.items a.tenants.items c.self.invariant c.args.t tenant c.args.k c.in_ok-place.place (place g.After-index_mut-superblock (row_read g.After-index)) in
-    let size : length c.index_mut.result.now.free ≡ a.order + 1 = ap (λ (r : Row). length r.free) (row_before g.After-index_mut tenant) ∙ (c.self.invariant.each c.args.t tenant).sizes.free in
-    omega arith
+    let listed = (shown g.After-index).listed in
+    subst (λ (r : StoredTenant). 0 < slice_index r.free c.in_ok-source.source.order) (sym (tenant_before g.After-index_mut listed))
+    (some_free c.self.invariant (found g.After-search-first listed (source g.After-index_mut-superblock (tenant_read g.After-index))))
 
-pub count_reserved-requires-clause-taken : goal.count_reserved-requires-clause-taken
-count_reserved-requires-clause-taken c =
+pub count_reserved-requires-clause-room : goal.count_reserved-requires-clause-room
+count_reserved-requires-clause-room c =
     let a = c.self.inside in
-    let g = goal.at.count_reserved-requires-clause-taken c in
-    let tenant = (shown g.After-index).tenant in
-    let within = order_within a.order a.superblocks.items a.tenants.items c.self.invariant c.args.t tenant c.args.k c.in_ok-place.place (place g.After-index_mut-superblock (row_read g.After-index)) in
-    let size : length c.index_mut.result.now.taken ≡ a.order + 1 = ap (λ (r : Row). length r.taken) (row_before g.After-index_mut tenant) ∙ (c.self.invariant.each c.args.t tenant).sizes.taken in
-    omega arith
-
-pub count_reserved-requires-clause-some : goal.count_reserved-requires-clause-some
-count_reserved-requires-clause-some c =
-    let g = goal.at.count_reserved-requires-clause-some c in
-    let tenant = (shown g.After-index).tenant in
-    subst (λ (r : Row). 0 < slice_index r.free c.in_ok-place.place.order) (sym (row_before g.After-index_mut tenant))
-    (some_free c.self.invariant (found g.After-search-first tenant (place g.After-index_mut-superblock (row_read g.After-index))))
-
-pub count_reserved-requires-clause-free_room : goal.count_reserved-requires-clause-free_room
-count_reserved-requires-clause-free_room c i =
-    let a = c.self.inside in
-    let g = goal.at.count_reserved-requires-clause-free_room c in
-    let tenant = (shown g.After-index).tenant in
-    subst (λ (r : Row). slice_index r.free i + 1 < 2 ^ 32) (sym (row_before g.After-index_mut tenant))
-    (free_room a.order a.superblocks.items a.tenants.items c.self.invariant c.args.t tenant i)
-
-pub count_reserved-requires-clause-taken_room : goal.count_reserved-requires-clause-taken_room
-count_reserved-requires-clause-taken_room c =
-    let a = c.self.inside in
-    let g = goal.at.count_reserved-requires-clause-taken_room c in
-    let s = shown g.After-index in
-    subst (λ (r : Row). slice_index r.taken c.args.k + 1 < 2 ^ 32) (sym (row_before g.After-index_mut s.tenant))
-    (taken_room a.order a.superblocks.items a.tenants.items c.self.invariant c.args.t s.tenant c.args.k (subst (λ n. c.args.k ≤ n) s.order c.requires.order))
+    let g = goal.at.count_reserved-requires-clause-room c in
+    let listed = (shown g.After-index).listed in
+    subst HasRoomForCounts (sym (tenant_before g.After-index_mut listed)) (room a.order a.superblocks.items a.tenants.items c.self.invariant c.args.t listed)
 
 -- what is written is the reservation of that block
 reserved : (c : After-count_reserved)
-    → (found : IsFound c.self.inside.order c.self.inside.superblocks.items c.self.inside.tenants.items c.args.t c.args.k c.in_ok-place.place c.search-first.result)
-    → c.index_mut.result.now ≡ row_of c.args.t c.self.inside.tenants.items
-    → IsStep c.self.inside.order c.self.inside.superblocks.items c.self.inside.tenants.items c.args.t c.in_ok-place.place.slot c.in_ok-place.place.superblock
+    → (found : IsFound c.self.inside.order c.self.inside.superblocks.items c.self.inside.tenants.items c.args.t c.args.k c.in_ok-source.source c.search-first.result)
+    → c.index_mut.result.now ≡ stored_tenant c.args.t c.self.inside.tenants.items
+    → IsStep c.self.inside.order c.self.inside.superblocks.items c.self.inside.tenants.items c.args.t c.in_ok-source.source.slot c.in_ok-source.source.superblock
     c.search-first.result c.reserve_at.new.self c.count_reserved.new.self (Some c.args.k)
-reserved c found row =
+reserved c found tenant =
     let a = c.self.inside in
-    let p = c.in_ok-place.place in
+    let p = c.in_ok-source.source in
     let x = c.search-first.result in
-    let sheet = get_or_read a.superblocks.items p.superblock c.index_mut-superblock.result.now (superblock_lt c.self.invariant found) c.index_mut-superblock.ensures.value bare_of in
-    let change : Reserved a.order p.order c.args.k x c.index_mut-superblock.result.now c.index_mut.result.now c.reserve_at.new.self c.count_reserved.new.self = record {
+    let superblock = get_or_read a.superblocks.items p.superblock c.index_mut-superblock.result.now (superblock_lt c.self.invariant found) c.index_mut-superblock.ensures.value bare_of in
+    let change : Reserved p.order c.args.k x c.index_mut-superblock.result.now c.index_mut.result.now c.reserve_at.new.self c.count_reserved.new.self = record {
+      order = c.reserve_at.ensures.order;
+      stored = c.reserve_at.ensures.inside;
       orders = c.reserve_at.ensures.orders;
       words = c.reserve_at.ensures.words;
-      slots = c.count_reserved.ensures.slots;
-      taken = c.count_reserved.ensures.taken;
-      size = c.count_reserved.ensures.size;
-      split = c.count_reserved.ensures.split;
-      halves = c.count_reserved.ensures.halves;
-      others = c.count_reserved.ensures.others;
+      counts = c.count_reserved.ensures;
     } in
     reserved_step c.self.invariant found c.reserve_at.new.self c.count_reserved.new.self
-    (subst (λ (r : Row). Reserved a.order p.order c.args.k x (sheet_of p.superblock a.superblocks.items) r c.reserve_at.new.self c.count_reserved.new.self) row
-    (subst (λ (z : Sheet). Reserved a.order p.order c.args.k x z c.index_mut.result.now c.reserve_at.new.self c.count_reserved.new.self) sheet change))
+    (subst (λ (r : StoredTenant). Reserved p.order c.args.k x (superblock_of p.superblock a.superblocks.items) r c.reserve_at.new.self c.count_reserved.new.self) tenant
+    (subst (λ (z : StoredSuperblock). Reserved p.order c.args.k x z c.index_mut.result.now c.reserve_at.new.self c.count_reserved.new.self) superblock change))
 
 pub invariant_of-self : goal.invariant_of-self
 invariant_of-self c =
     let a = c.self.inside in
-    let p = c.in_ok-place.place in
+    let p = c.in_ok-source.source in
     let g = goal.at.invariant_of-self c in
-    let tenant = (shown g.After-index).tenant in
-    let step = reserved g.After-count_reserved (found g.After-search-first tenant (place g.After-index_mut-superblock (row_read g.After-index))) (row_before g.After-index_mut tenant) in
+    let listed = (shown g.After-index).listed in
+    let step = reserved g.After-count_reserved (found g.After-search-first listed (source g.After-index_mut-superblock (tenant_read g.After-index))) (tenant_before g.After-index_mut listed) in
     kept_changed a.order a.superblocks.items a.tenants.items c.args.t p.superblock c.reserve_at.new.self c.count_reserved.new.self c.self.invariant
     (step_change a.order a.superblocks.items a.tenants.items c.args.t p.slot p.superblock c.search-first.result c.reserve_at.new.self c.count_reserved.new.self (Some c.args.k) c.self.invariant step)
+
+pub overflow_add-result : goal.overflow_add-result
+overflow_add-result c =
+    let a = c.self.inside in
+    let p = c.in_ok-source.source in
+    let g = goal.at.overflow_add-result c in
+    let listed = (shown g.After-index).listed in
+    let at = found g.After-search-first listed (source g.After-index_mut-superblock (tenant_read g.After-index)) in
+    let inside = at.inside in
+    let slot : p.slot ≤ 255 = omega (arith, slot_small a.order a.superblocks.items a.tenants.items c.self.invariant c.args.t listed p.slot p.superblock at.source.at) in
+    let size = pow_mono {i = a.order} {j = 8} c.self.invariant.small in
+    let first = mul-le p.slot (2 ^ a.order) 255 256 slot (omega arith) in
+    let same = ap (λ n. n * 2 ^ a.order) c.from.ensures in
+    omega arith
 
 pub returns-clause-done : goal.returns-clause-done
 returns-clause-done c =
     let a = c.self.inside in
-    let p = c.in_ok-place.place in
+    let p = c.in_ok-source.source in
     let x = c.search-first.result in
     let g = goal.at.returns-clause-done c in
     let s = shown g.After-index in
-    let at = found g.After-search-first s.tenant (place g.After-index_mut-superblock (row_read g.After-index)) in
-    let step = reserved g.After-count_reserved at (row_before g.After-index_mut s.tenant) in
+    let at = found g.After-search-first s.listed (source g.After-index_mut-superblock (tenant_read g.After-index)) in
+    let step = reserved g.After-count_reserved at (tenant_before g.After-index_mut s.listed) in
     let changed = step_change a.order a.superblocks.items a.tenants.items c.args.t p.slot p.superblock x c.reserve_at.new.self c.count_reserved.new.self (Some c.args.k) c.self.invariant step in
     let f = p.slot * 2 ^ a.order + x in
-    let slot_lt : p.slot < 256 = slot_small a.order a.superblocks.items a.tenants.items c.self.invariant c.args.t s.tenant p.slot p.superblock at.place.at in
+    let slot_lt : p.slot < 256 = slot_small a.order a.superblocks.items a.tenants.items c.self.invariant c.args.t s.listed p.slot p.superblock at.source.at in
     let f_is : c.from.result * 2 ^ a.order % 4294967296 + x ≡ p.slot * 2 ^ a.order + x
     = ap (λ n. n * 2 ^ a.order % 4294967296 + x) c.from.ensures ∙ ap (λ n. n + x) (shl_whole p.slot 8 a.order 32 (omega arith) (let small = c.self.invariant.small in omega arith)) in
     let choice = by_shown (λ top held taken. IsChoice top held taken c.args.k (block f p.order)) a.order a.superblocks.items a.tenants.items c.args.t c.args.self.now s
     (is_choice c.self.invariant at) in
-    let h = with_block f c.args.k (holding_shown a.order a.superblocks.items (row_of c.args.t a.tenants.items)) in
+    let h = with_block f c.args.k (holding_shown a.order a.superblocks.items (stored_tenant c.args.t a.tenants.items)) in
     let shown = shown_changed a.order a.superblocks.items a.tenants.items c.args.t p.superblock c.reserve_at.new.self c.count_reserved.new.self c.self.invariant changed h
     (holding_now a.order a.superblocks.items a.tenants.items c.args.t p.slot p.superblock x c.reserve_at.new.self c.count_reserved.new.self (Some c.args.k) c.self.invariant step) in (
       p.order,

@@ -3,56 +3,56 @@ use Rattle.std.proofs.lemmas.List.{get_or_read}
 use Rattle.std.proofs.lemmas.Option.{none-some}
 use Rattle.buddy_core.specs.declared.Buddy.TheInside.{Inside}
 use Rattle.buddy_core.specs.Content.{with_holding, nothing_held}
-use Rattle.buddy_core.specs.Stored.{Sheet, Row, blank_row, row_of, slot_of, content_shown}
-use Rattle.buddy_core.specs.Kept.{IsKept, HasSheetSizes, HasRowSizes}
-use Rattle.buddy_core.proofs.Shown.{shown_is, slot_read, blank_of, bare_of}
-use Rattle.buddy_core.proofs.Empty.{cleared_sheet, cleared_row}
-use Rattle.buddy_core.proofs.Resetting.{Cleared, cleared_none, cleared_past, cleared_more, next_sizes, reset_kept, reset_shown}
+use Rattle.buddy_core.specs.Stored.{StoredSuperblock, StoredTenant, bare_superblock, bare_tenant, stored_tenant, superblock_at, content_shown}
+use Rattle.buddy_core.specs.Kept.{IsKept, HasTenantSizes}
+use Rattle.buddy_core.proofs.ContentShown.{shown_is, slot_read, blank_of, bare_of}
+use Rattle.buddy_core.proofs.NothingHeld.{cleared_tenant}
+use Rattle.buddy_core.proofs.Resetting.{Cleared, cleared_none, cleared_past, cleared_more, next_order, reset_kept, reset_shown}
 use Rattle.buddy_core.proofs.Buddy.reset.Goals as goal
 use Rattle.buddy_core.proofs.Buddy.reset.Goals.{in-Some, in_default}
 
 pub loop-slot-init : goal.loop-slot-init
 loop-slot-init c =
     let a = c.self.inside in
-    (cleared_none a.order a.superblocks.items (row_of c.args.t a.tenants.items), refl, refl)
+    (cleared_none a.order a.superblocks.items (stored_tenant c.args.t a.tenants.items), refl, refl)
 
 pub loop-slot-preserved : goal.loop-slot-preserved
 loop-slot-preserved c =
     let a = c.self.inside in
     let s = shown_is a.order a.superblocks.items a.tenants.items c.args.t c.args.self.now c.self.view_is c.requires in
     let l = c.loop-slot in
-    let sheets = l.self-inside.superblocks.items in
-    let row = row_of c.args.t a.tenants.items in
-    let read : c.index.result.now ≡ get_or a.tenants.items c.args.t c.index.result.now = c.index.ensures ∙ ap (λ (xs : List Row). get_or xs c.args.t c.index.result.now) l.invariant.1 in
-    let apart = λ (w v i : ℕ) (p : slot_of row w ≡ Some i) (q : slot_of row v ≡ Some i). (c.self.invariant.apart c.args.t w c.args.t v i p q).1 in
-    elim c.match-superblock.branch [
+    let superblocks = l.self-inside.superblocks.items in
+    let tenant = stored_tenant c.args.t a.tenants.items in
+    let read : c.index.result.now ≡ get_or a.tenants.items c.args.t c.index.result.now = c.index.ensures ∙ ap (λ (xs : List StoredTenant). get_or xs c.args.t c.index.result.now) l.invariant.1 in
+    let apart = λ (w v i : ℕ) (p : superblock_at tenant w ≡ Some i) (q : superblock_at tenant v ≡ Some i). (c.self.invariant.apart c.args.t w c.args.t v i p q).1 in
+    elim c.match-superblock_at.branch [
       | in-Some w ↦
           let m = w.in-Some.m in
-          let at = slot_read a.tenants.items c.args.t c.index.result.now s.tenant read l.slot (Some m) w.in-Some.ensures in
-          let m_lt = (c.self.invariant.each c.args.t s.tenant).within l.slot m at in
-          let now_lt : m < length sheets = subst (λ n. m < n) (sym l.invariant.0.size) m_lt in
-          let sizes = next_sizes a.order a.superblocks.items sheets row l.slot m at (c.self.invariant.sizes m m_lt) apart l.invariant.0 in
-          let old = get_or_read sheets m w.index_mut.result.now now_lt w.index_mut.ensures.value bare_of in
-          let blank = cleared_sheet a.order w.index_mut.result.now w.clear.new.self (subst (HasSheetSizes a.order) (sym old) sizes) w.clear.ensures.words w.clear.ensures.orders in (
-            subst (λ (xs : List Sheet). Cleared a.order a.superblocks.items xs row (l.slot + 1)) (sym (ap (λ (z : Inside). z.superblocks.items) w.self-inside-is))
-                (cleared_more a.order a.superblocks.items sheets row l.slot m w.clear.new.self at m_lt blank apart l.invariant.0),
+          let at = slot_read a.tenants.items c.args.t c.index.result.now s.listed read l.slot (Some m) w.in-Some.ensures in
+          let m_lt = (c.self.invariant.each c.args.t s.listed).within l.slot m at in
+          let now_lt : m < length superblocks = subst (λ n. m < n) (sym l.invariant.0.size) m_lt in
+          let order = next_order a.order a.superblocks.items superblocks tenant l.slot m at (c.self.invariant.order m m_lt) apart l.invariant.0 in
+          let old = get_or_read superblocks m w.index_mut.result.now now_lt w.index_mut.ensures.value bare_of in
+          let blank = w.clear.ensures ∙ ap (λ (z : StoredSuperblock). bare_superblock z.tree.order) old ∙ ap bare_superblock order in (
+            subst (λ (xs : List StoredSuperblock). Cleared a.order a.superblocks.items xs tenant (l.slot + 1)) (sym (ap (λ (z : Inside). z.superblocks.items) w.self-inside-is))
+                (cleared_more a.order a.superblocks.items superblocks tenant l.slot m w.clear.new.self at m_lt blank apart l.invariant.0),
             ap (λ (z : Inside). z.tenants.items) w.self-inside-is ∙ l.invariant.1,
             ap (λ (z : Inside). z.order) w.self-inside-is ∙ l.invariant.2,
           )
       | in_default w ↦
-          let at = slot_read a.tenants.items c.args.t c.index.result.now s.tenant read l.slot None w.in_default.ensures in (
-            subst (λ (xs : List Sheet). Cleared a.order a.superblocks.items xs row (l.slot + 1)) (sym (ap (λ (z : Inside). z.superblocks.items) w.self-inside-is))
-                (cleared_past a.order a.superblocks.items sheets row l.slot (λ m there. none-some m (sym at ∙ there)) l.invariant.0),
+          let at = slot_read a.tenants.items c.args.t c.index.result.now s.listed read l.slot None w.in_default.ensures in (
+            subst (λ (xs : List StoredSuperblock). Cleared a.order a.superblocks.items xs tenant (l.slot + 1)) (sym (ap (λ (z : Inside). z.superblocks.items) w.self-inside-is))
+                (cleared_past a.order a.superblocks.items superblocks tenant l.slot (λ m there. none-some m (sym at ∙ there)) l.invariant.0),
             ap (λ (z : Inside). z.tenants.items) w.self-inside-is ∙ l.invariant.1,
             ap (λ (z : Inside). z.order) w.self-inside-is ∙ l.invariant.2,
           )
     ]
 
--- the tenant's row as the code leaves it
-row_cleared : (top n : ℕ) (now rows : List Row) (t : ℕ) (old new : Row) → now ≡ rows → t < length rows → old ≡ get_or now t old → HasRowSizes top n (row_of t rows)
-    → new.slots ≡ replicate (length old.slots) None → new.free ≡ replicate (length old.free) 0 → new.taken ≡ replicate (length old.taken) 0 → new ≡ blank_row top n
-row_cleared top n now rows t old new same lt read sizes slots free taken =
-    cleared_row top n old new (subst (HasRowSizes top n) (sym (get_or_read rows t old lt (read ∙ ap (λ (xs : List Row). get_or xs t old) same) blank_of)) sizes) slots free taken
+-- the tenant as the code leaves it
+tenant_cleared : (top n : ℕ) (now tenants : List StoredTenant) (t : ℕ) (old new : StoredTenant) → now ≡ tenants → t < length tenants → old ≡ get_or now t old → HasTenantSizes top n (stored_tenant t tenants)
+    → new.slots ≡ replicate (length old.slots) None → new.free ≡ replicate (length old.free) 0 → new.taken ≡ replicate (length old.taken) 0 → new ≡ bare_tenant top n
+tenant_cleared top n now tenants t old new same lt read sizes slots free taken =
+    cleared_tenant top n old new (subst (HasTenantSizes top n) (sym (get_or_read tenants t old lt (read ∙ ap (λ (xs : List StoredTenant). get_or xs t old) same) blank_of)) sizes) slots free taken
 
 pub invariant_of-self : goal.invariant_of-self
 invariant_of-self c =
@@ -60,12 +60,12 @@ invariant_of-self c =
     let s = shown_is a.order a.superblocks.items a.tenants.items c.args.t c.args.self.now c.self.view_is c.requires in
     let l = c.loop-slot in
     let all : length a.superblocks.items ≤ l.slot = omega (arith, a.superblocks.ok.0) in
-    let row = row_cleared a.order (length a.superblocks.items) l.self-inside.tenants.items a.tenants.items c.args.t c.index_mut-2.result.now c.clear-2.new.self l.invariant.1 s.tenant c.index_mut-2.ensures.value
-    (c.self.invariant.each c.args.t s.tenant).sizes c.clear-2.ensures.slots c.clear-2.ensures.free c.clear-2.ensures.taken in
-    let base = reset_kept a.order a.superblocks.items a.tenants.items c.self.invariant c.args.t s.tenant l.self-inside.superblocks.items l.slot all l.invariant.0 in
+    let tenant = tenant_cleared a.order (length a.superblocks.items) l.self-inside.tenants.items a.tenants.items c.args.t c.index_mut-2.result.now c.clear-2.new.self l.invariant.1 s.listed c.index_mut-2.ensures.value
+    (c.self.invariant.each c.args.t s.listed).sizes c.clear-2.ensures.slots c.clear-2.ensures.free c.clear-2.ensures.taken in
+    let base = reset_kept a.order a.superblocks.items a.tenants.items c.self.invariant c.args.t s.listed l.self-inside.superblocks.items l.slot all l.invariant.0 in
     subst (λ n. IsKept n l.self-inside.superblocks.items (set l.self-inside.tenants.items c.args.t c.clear-2.new.self)) (sym l.invariant.2)
-    (subst (λ (xs : List Row). IsKept a.order l.self-inside.superblocks.items (set xs c.args.t c.clear-2.new.self)) (sym l.invariant.1)
-    (subst (λ (r : Row). IsKept a.order l.self-inside.superblocks.items (set a.tenants.items c.args.t r)) (sym row) base))
+    (subst (λ (xs : List StoredTenant). IsKept a.order l.self-inside.superblocks.items (set xs c.args.t c.clear-2.new.self)) (sym l.invariant.1)
+    (subst (λ (r : StoredTenant). IsKept a.order l.self-inside.superblocks.items (set a.tenants.items c.args.t r)) (sym tenant) base))
 
 pub returns : goal.returns
 returns c =
@@ -73,13 +73,13 @@ returns c =
     let s = shown_is a.order a.superblocks.items a.tenants.items c.args.t c.args.self.now c.self.view_is c.requires in
     let l = c.loop-slot in
     let all : length a.superblocks.items ≤ l.slot = omega (arith, a.superblocks.ok.0) in
-    let row = row_cleared a.order (length a.superblocks.items) l.self-inside.tenants.items a.tenants.items c.args.t c.index_mut-2.result.now c.clear-2.new.self l.invariant.1 s.tenant c.index_mut-2.ensures.value
-    (c.self.invariant.each c.args.t s.tenant).sizes c.clear-2.ensures.slots c.clear-2.ensures.free c.clear-2.ensures.taken in
-    let shown = reset_shown a.order a.superblocks.items a.tenants.items c.self.invariant c.args.t s.tenant l.self-inside.superblocks.items l.slot all l.invariant.0 in
+    let tenant = tenant_cleared a.order (length a.superblocks.items) l.self-inside.tenants.items a.tenants.items c.args.t c.index_mut-2.result.now c.clear-2.new.self l.invariant.1 s.listed c.index_mut-2.ensures.value
+    (c.self.invariant.each c.args.t s.listed).sizes c.clear-2.ensures.slots c.clear-2.ensures.free c.clear-2.ensures.taken in
+    let shown = reset_shown a.order a.superblocks.items a.tenants.items c.self.invariant c.args.t s.listed l.self-inside.superblocks.items l.slot all l.invariant.0 in
     ap (λ n. content_shown n l.self-inside.superblocks.items (set l.self-inside.tenants.items c.args.t c.clear-2.new.self)) l.invariant.2
-    ∙ ap (λ (xs : List Row). content_shown a.order l.self-inside.superblocks.items (set xs c.args.t c.clear-2.new.self)) l.invariant.1
-    ∙ ap (λ (r : Row). content_shown a.order l.self-inside.superblocks.items (set a.tenants.items c.args.t r)) row
+    ∙ ap (λ (xs : List StoredTenant). content_shown a.order l.self-inside.superblocks.items (set xs c.args.t c.clear-2.new.self)) l.invariant.1
+    ∙ ap (λ (r : StoredTenant). content_shown a.order l.self-inside.superblocks.items (set a.tenants.items c.args.t r)) tenant
     ∙ shown
     ∙ ap (λ y. with_holding c.args.t (nothing_held a.order (length a.superblocks.items)) y) c.self.view_is
     ∙ ap (λ n. with_holding c.args.t (nothing_held n (length a.superblocks.items)) c.args.self.now) (sym s.order)
-    ∙ ap (λ n. with_holding c.args.t (nothing_held c.args.self.now.top n) c.args.self.now) (sym s.superblocks)
+    ∙ ap (λ n. with_holding c.args.t (nothing_held c.args.self.now.top n) c.args.self.now) (sym s.count)

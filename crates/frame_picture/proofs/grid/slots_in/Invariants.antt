@@ -1,6 +1,6 @@
 use Rattle.std.proofs.Common.{◌≡◌, ℕ, ◌^◌, ◌<◌, ◌≤◌, Some, slice_get}
 use Rattle.model_core.specs.declared.owner.Owner.{Owner}
-use Rattle.frame_cells.specs.declared.history.Sheet.{Sheet}
+use Rattle.frame_picture.specs.declared.history.Sheet.{Sheet}
 use Rattle.frame_picture.proofs.grid.slots_in.Given as goal
 
 -- above the slots so far

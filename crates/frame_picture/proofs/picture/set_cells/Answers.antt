@@ -1,9 +1,9 @@
 use Rattle.std.proofs.Common.{◌≡◌, ℕ, ◌<◌, List, Some, slice_get, slice_index_or, refl, subst, sym, ◌∙◌, arith}
 use Rattle.std.proofs.lemmas.Option.{slice_get_within, slice_get_read}
-use Rattle.frame_cells.specs.declared.cell.Cell.{Cell}
-use Rattle.frame_cells.specs.declared.cell.Cell.TheVariants.{NotHeld}
-use Rattle.frame_cells.specs.declared.history.Column.{Column}
-use Rattle.frame_cells.proofs.Filling.{more_filled}
+use Rattle.frame_picture.specs.declared.cell.Cell.{Cell}
+use Rattle.frame_picture.specs.declared.cell.Cell.TheVariants.{NotHeld}
+use Rattle.frame_picture.specs.declared.history.Column.{Column}
+use Rattle.frame_picture.proofs.Filling.{more_filled}
 use Rattle.frame_picture.specs.Rows.{IsRowKind}
 use Rattle.frame_picture.proofs.picture.set_cells.Goals as goal
 

@@ -1,7 +1,7 @@
 use Rattle.std.proofs.Common.{◌≡◌, ℕ, ◌<◌, List, Some, slice_get, slice_index_or}
-use Rattle.frame_cells.specs.declared.cell.Cell.{Cell}
-use Rattle.frame_cells.specs.declared.cell.Cell.TheVariants.{NotHeld}
-use Rattle.frame_cells.specs.declared.history.Column.{Column}
+use Rattle.frame_picture.specs.declared.cell.Cell.{Cell}
+use Rattle.frame_picture.specs.declared.cell.Cell.TheVariants.{NotHeld}
+use Rattle.frame_picture.specs.declared.history.Column.{Column}
 use Rattle.frame_picture.specs.Rows.{IsRowKind}
 use Rattle.frame_picture.proofs.picture.set_cells.Given as goal
 

@@ -1,7 +1,7 @@
 use Rattle.std.proofs.Common.{◌≡◌, ℕ, ◌+◌, ◌≤◌, ◌==◌, ◌++◌, List, length, take, get_or, count_by, ap, sym, ◌∙◌, arith, length-append}
 use Rattle.std.proofs.lemmas.List.Sums.{sum_by-append, count_by-le-length}
-use Rattle.frame_cells.specs.declared.cell.Cell.{Cell}
-use Rattle.frame_cells.specs.Cells.{rank_of}
+use Rattle.frame_picture.specs.declared.cell.Cell.{Cell}
+use Rattle.frame_picture.specs.Cells.{rank_of}
 use Rattle.frame_picture.specs.Rows.{row_cells}
 use Rattle.frame_picture.proofs.RowLemmas.{row_cells_more}
 use Rattle.frame_picture.proofs.rows.count_kinds.Goals as goal

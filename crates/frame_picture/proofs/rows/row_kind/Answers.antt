@@ -1,8 +1,8 @@
 use Rattle.std.proofs.Common.{◌≡◌, ℕ, ◌+◌, ◌-◌, ◌^◌, ◌<◌, ◌≤◌, ◌==◌, List, length, get_or, set, count_by, ap, ◌∙◌, arith}
 use Rattle.std.proofs.lemmas.List.Sums.{count_by-le-length}
 use Rattle.std.proofs.Math.ListN.{length-set}
-use Rattle.frame_cells.specs.declared.cell.Cell.{Cell}
-use Rattle.frame_cells.specs.Cells.{rank_of}
+use Rattle.frame_picture.specs.declared.cell.Cell.{Cell}
+use Rattle.frame_picture.specs.Cells.{rank_of}
 use Rattle.frame_picture.specs.Rows.{row_cells, first_of, end_of, kind_count}
 use Rattle.frame_picture.proofs.RowLemmas.{counted, most_common}
 use Rattle.frame_picture.proofs.rows.row_kind.Goals as goal

@@ -1,7 +1,7 @@
 use Rattle.std.proofs.Common.{ℕ, ◌<◌, ◌∙◌, arith}
 use Rattle.std.proofs.Math.ListN.{length-set}
-use Rattle.frame_cells.specs.declared.cell.Cell.{Cell}
-use Rattle.frame_cells.specs.declared.cell.Cell.TheVariants.{NotHeld}
+use Rattle.frame_picture.specs.declared.cell.Cell.{Cell}
+use Rattle.frame_picture.specs.declared.cell.Cell.TheVariants.{NotHeld}
 use Rattle.frame_picture.specs.Rows.{IsRowKind}
 use Rattle.frame_picture.proofs.RowLemmas.{more_set}
 use Rattle.frame_picture.proofs.rows.set_rows.Goals as goal

@@ -1,7 +1,7 @@
 use Rattle.model_core.specs.Owners.{owned_by}
 use Rattle.std.proofs.Common.{◌≡◌, Some, length, sym, ap, ◌∙◌, subst, arith}
+use Rattle.std.proofs.lemmas.Option.{same_Some}
 use Rattle.space_core.specs.Content.{owner_at, superblock_at}
-use Rattle.kernel_core.proofs.Owners.{same_some}
 use Rattle.kernel_core.proofs.GivingUp.{IsGivingUp, giving_takes, giving_ends}
 use Rattle.kernel_core.proofs.administering.give_up.Goals as goal
 
@@ -10,7 +10,7 @@ loop-m-preserved c =
     let own : owner_at c.loop-m.space.owners c.loop-m.m ≡ Some (owned_by c.args.t c.in-Some.owner.slot) =
     sym c.owner_of.ensures ∙ c.in-Some.is ∙ ap (λ x. Some (owned_by x c.in-Some.owner.slot)) c.if-owner-t.false in
     let same : c.in-Ok.field-0 ≡ c.loop-m.m =
-    same_some _ _ (sym c.in-Ok.ensures.superblock ∙ ap (λ u. superblock_at c.loop-m.space.slots c.args.t u) c.from.ensures
+    same_Some _ _ (sym c.in-Ok.ensures.superblock ∙ ap (λ u. superblock_at c.loop-m.space.slots c.args.t u) c.from.ensures
     ∙ (c.laws.ensures.facts.agree c.args.t c.in-Some.owner.slot c.loop-m.m).1 own) in
     rw (c.in-Ok.ensures.ok, c.from.ensures, same)
     (giving_takes c.args.space.now c.loop-m.space c.args.t c.in-Some.owner.slot c.loop-m.m c.loop-m.count c.loop-m.invariant c.laws.ensures.facts c.laws.ensures.others (omega arith) own)

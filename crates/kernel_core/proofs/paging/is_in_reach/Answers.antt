@@ -4,8 +4,8 @@ use Rattle.std.proofs.Math.Nat.{pow-le-pow_right, mod-eq_of_lt}
 use Rattle.space_core.specs.Content as spaces
 use Rattle.buddy_core.specs.Content as buddies
 use Rattle.slab_tables.specs.Content.{Content}
-use Rattle.slab_laws.specs.Shows.{Agree}
-use Rattle.slab_laws.specs.Steady.{IsSteady}
+use Rattle.parts_laws.specs.Shows.{Agree}
+use Rattle.parts_laws.specs.Steady.{IsSteady}
 use Rattle.slab_core.proofs.ObjectReach.{no_block, no_slab}
 use Rattle.kernel_core.proofs.paging.is_in_reach.Goals as goal
 
@@ -48,7 +48,7 @@ small_is r b s t first order a st top taken =
 small : (c : goal.After-row_known-1) → IsSmall c.in-Some.first c.in-Some.order
 small c =
     let x = c.args in
-    small_is x.space.now x.buddy.now x.slabs.now x.t c.in-Some.first c.in-Some.order c.requires.agree c.steady.ensures c.laws.ensures.sizes.small c.in-Some.ensures.0
+    small_is x.space.now x.buddy.now x.slabs.now x.t c.in-Some.first c.in-Some.order c.requires.agree c.laws_with.ensures.steady c.laws.ensures.sizes.small c.in-Some.ensures.0
 
 pub returns-then-len-eq0 : goal.returns-then-len-eq0
 returns-then-len-eq0 c = (λ e. absurd (false≢true e), λ reach. let some = reach.some in absurd (omega arith))
@@ -59,14 +59,14 @@ returns-in_default c =
       λ e. absurd (false≢true e),
       λ reach. absurd (neither reach.inside
           (c.block_tells.ensures.none x.space.now x.buddy.now x.slabs.now x.t x.place x.len reach.some c.in_default.ensures)
-          (λ o. no_block x.space.now x.buddy.now x.slabs.now x.t x.place x.len c.steady.ensures c.in_default.ensures o.0 o.1)),
+          (λ o. no_block x.space.now x.buddy.now x.slabs.now x.t x.place x.len c.laws_with.ensures.steady c.in_default.ensures o.0 o.1)),
     )
 
 pub returns-then-is_slab : goal.returns-then-is_slab
 returns-then-is_slab c =
     let x = c.args in
     let some : 0 < x.len = omega arith in
-    let tells = c.block_tells.ensures.taken x.space.now x.buddy.now x.slabs.now x.t x.place x.len c.in-Some.first c.in-Some.order c.steady.ensures some
+    let tells = c.block_tells.ensures.taken x.space.now x.buddy.now x.slabs.now x.t x.place x.len c.in-Some.first c.in-Some.order c.laws_with.ensures.steady some
     c.in-Some.ensures.0 c.in-Some.ensures.1 in (
       λ e. record { some = some; inside = inr (c.object_at.ensures.0 e) },
       λ reach. c.object_at.ensures.1 (only_second reach.inside (λ page. false≢true (sym (tells.0 page).0 ∙ sym c.if-is_slab.ensures))),
@@ -90,10 +90,10 @@ returns c =
     let x = c.args in
     let is = small c in
     let some : 0 < x.len = omega arith in
-    let tells = c.block_tells.ensures.taken x.space.now x.buddy.now x.slabs.now x.t x.place x.len c.in-Some.first c.in-Some.order c.steady.ensures some
+    let tells = c.block_tells.ensures.taken x.space.now x.buddy.now x.slabs.now x.t x.place x.len c.in-Some.first c.in-Some.order c.laws_with.ensures.steady some
     c.in-Some.ensures.0 c.in-Some.ensures.1 in
     rw (c.from.ensures, c.from-2.ensures, c.from-3.ensures, c.from-4.ensures, is.shift) (
       (λ fits. record { some = some; inside = inl (tells.1 (sym c.if-is_slab.ensures, leb-true _ _ fits)) }),
       (λ reach. le-leb _ _ (tells.0 (only_first reach.inside
-          (λ o. no_slab x.space.now x.buddy.now x.slabs.now x.t x.place x.len c.steady.ensures c.in-Some.first c.in-Some.order c.in-Some.ensures.0 c.in-Some.ensures.1 (sym c.if-is_slab.ensures) o.0 o.1))).1),
+          (λ o. no_slab x.space.now x.buddy.now x.slabs.now x.t x.place x.len c.laws_with.ensures.steady c.in-Some.first c.in-Some.order c.in-Some.ensures.0 c.in-Some.ensures.1 (sym c.if-is_slab.ensures) o.0 o.1))).1),
     )

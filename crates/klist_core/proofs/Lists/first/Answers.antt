@@ -14,7 +14,7 @@ returns-clause-head c =
     let k = c.in_ok-node.ensures.is.0 in
     let least = c.in_ok-node.ensures.is.1 in
     let same = rw least.here at c.key_of.ensures in
-    let rises = list_rises c.args.head 0 places (record { apart = λ i j key. c.facts.ensures.apart i j c.args.head key }) in
+    let rises = list_rises c.args.head 0 places (record { apart = λ i j key. c.laws.ensures.apart i j c.args.head key }) in
     ap (λ (x : ℕ). Some (x, c.in_ok-node.node)) same
     ∙ sym (first_of_rising 0 k c.in_ok-node.node (list_of places c.args.head) rises (listed places c.args.head k c.in_ok-node.node least.here)
     (λ x a. least.least x.1 x.0 (in_list places c.args.head x.0 x.1 a) (omega arith)))

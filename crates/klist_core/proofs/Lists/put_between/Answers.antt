@@ -18,17 +18,17 @@ known c =
     (rw (← c.self.view_is) at c.requires.previous) (rw (← c.self.view_is) at c.requires.next)
 
 pub of-requires : goal.of-requires
-of-requires c = omega (arith, c.requires.head, c.facts.ensures.few)
+of-requires c = omega (arith, c.requires.head, c.laws.ensures.few)
 
 pub of-requires-2 : goal.of-requires-2
 of-requires-2 c =
     let places = c.args.self.now.places in
-    linkable c.args.previous (length places) (nearest_within down places c.args.head (down c.args.key + 1) c.args.previous c.requires.previous) c.facts.ensures.small
+    linkable c.args.previous (length places) (nearest_within down places c.args.head (down c.args.key + 1) c.args.previous c.requires.previous) c.laws.ensures.small
 
 pub of-requires-3 : goal.of-requires-3
 of-requires-3 c =
     let places = c.args.self.now.places in
-    linkable c.args.next (length places) (nearest_within up places c.args.head (up c.args.key + 1) c.args.next c.requires.next) c.facts.ensures.small
+    linkable c.args.next (length places) (nearest_within up places c.args.head (up c.args.key + 1) c.args.next c.requires.next) c.laws.ensures.small
 
 -- what the writes leave, for the length m that the last one writes
 written : (c : After-index_mut-2) (m : ℕ)

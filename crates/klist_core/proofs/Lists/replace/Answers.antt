@@ -4,18 +4,18 @@ use Rattle.klist_core.specs.Links.{up, down}
 use Rattle.klist_core.proofs.Changes.{IsPut, kept_small}
 use Rattle.klist_core.proofs.Tables.{put_by_removal}
 use Rattle.klist_core.proofs.Lists.replace.Goals as goal
-use Rattle.klist_core.proofs.Lists.replace.Goals.{After-facts, In-Some}
+use Rattle.klist_core.proofs.Lists.replace.Goals.{After-laws, In-Some}
 
 stood : (c : In-Some) → place_at c.args.self.now.places c.args.node ≡ Some (c.in-Some.head, c.in-Some.key)
 stood c = sym c.place_of.ensures ∙ c.in-Some.is
 
 -- the table before and after the removal
 taken_out : (c : In-Some) → IsPut (place_at (removed c.args.self.now c.args.node).places) (place_at c.args.self.now.places) c.in-Some.head c.args.node c.in-Some.key
-taken_out c = put_by_removal c.args.self.now c.in-Some.head c.args.node c.in-Some.key c.facts.ensures (stood c)
+taken_out c = put_by_removal c.args.self.now c.in-Some.head c.args.node c.in-Some.key c.laws.ensures (stood c)
 
 pub put_between-requires-clause-head : goal.put_between-requires-clause-head
 put_between-requires-clause-head c =
-    rw c.remove.ensures (c.facts.ensures.headed c.args.node c.in-Some.head c.in-Some.key (stood (goal.at.put_between-requires-clause-head c).In-Some))
+    rw c.remove.ensures (c.laws.ensures.headed c.args.node c.in-Some.head c.in-Some.key (stood (goal.at.put_between-requires-clause-head c).In-Some))
 
 pub put_between-requires-clause-fresh : goal.put_between-requires-clause-fresh
 put_between-requires-clause-fresh c = let p = taken_out (goal.at.put_between-requires-clause-fresh c).In-Some in rw c.remove.ensures p.fresh

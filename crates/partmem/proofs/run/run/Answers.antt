@@ -8,7 +8,7 @@ returns-clause-ran g c =
     let said = c.replay-replayed.ensures in
     let ran = said.ran in
     let stays = c.shown_stays.ensures.shown in
-    let new = booted c.args.settings.now c.in-Ok.kernel c.in-Ok.ensures.parts c.in-Ok.ensures.shows in
+    let new = booted c.args.machine.now c.in-Ok.kernel c.in-Ok.ensures.parts c.in-Ok.ensures.shows in
     let appended = flushed _ _ _ ran.1 ran.3 c.flush-flushed.ensures.bytes in
     rw (c.outcome_of.ensures, c.tally_of.ensures, c.unwritten.ensures, c.send_failed.ensures) (
       ran.0,

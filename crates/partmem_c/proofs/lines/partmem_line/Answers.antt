@@ -1,7 +1,7 @@
 use Rattle.std.proofs.Common.{rules, sym, ◌∙◌, subst}
 use Rattle.words_core.specs.Grammar.{reading_of}
 use Rattle.kernel_core.specs.Parts.{Parts}
-use Rattle.partmem_c.specs.Lines.{Answers}
+use Rattle.partmem_c.specs.Lines.{AnswersLine}
 use Rattle.partmem_c.proofs.TextLemmas.{one_line}
 use Rattle.partmem_c.proofs.lines.partmem_line.Goals as goal
 
@@ -13,7 +13,7 @@ returns-clause-done c = λ done. record {
   was = c.take_out-kernel.ensures.held;
   is = search rules;
   one = one_line c.args.line.now (sym c.contains.ensures.value ∙ c.if-contains.false);
-  answers = subst (λ (k : Parts). Answers k (reading_of c.args.line.now) c.run_line.new.kernel c.run_line.ensures.0)
+  answers = subst (λ (k : Parts). AnswersLine k (reading_of c.args.line.now) c.run_line.new.kernel c.run_line.ensures.0)
       c.deref_mut.ensures.value c.run_line.ensures.1;
   puts = c.run_line.ensures.2;
 }

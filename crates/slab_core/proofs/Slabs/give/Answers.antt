@@ -3,16 +3,18 @@ use Rattle.std.specs.Prelude.{option_map, MatchOption}
 use Rattle.model_core.specs.Machine.{Machine}
 use Rattle.model_core.specs.CacheOperations.{give_step}
 use Rattle.model_core.specs.Operations.{refuse}
-use Rattle.model_core.specs.declared.refusals.GiveRefusal.TheVariants.{NoCache}
-use Rattle.slab_tables.specs.Content.{Content, IsSlabs, cache_at}
-use Rattle.slab_laws.specs.Shows.{ShowsMachine}
-use Rattle.slab_laws.specs.Changes.{Found, found}
-use Rattle.slab_laws.specs.Objects.{IsObject, IsNoObject}
-use Rattle.slab_laws.specs.Laws.{Gives}
+use Rattle.model_core.specs.declared.refusals.GiveRefusal.TheVariants.{NoCache, NotAnObject}
+use Rattle.slab_tables.specs.Content.{Content, cache_at}
+use Rattle.parts_laws.specs.Shows.{ShowsMachine}
+use Rattle.parts_laws.specs.Changes.{Found, found}
+use Rattle.parts_laws.specs.Objects.{IsObject, IsNoObject}
+use Rattle.parts_laws.specs.Laws.{Gives}
 use Rattle.slab_core.specs.Objects.{IsToCount}
 use Rattle.slab_core.proofs.ObjectGiven.{give_refused}
+use Rattle.parts_laws.proofs.Marked.{marked_shows}
+use Rattle.parts_laws.proofs.Objects.{found_gives, not_found_refuses}
 use Rattle.slab_core.proofs.Slabs.give.Goals as goal
-use Rattle.slab_core.proofs.Slabs.give.Goals.{After-from_residual, In_ok-cache, After-turn}
+use Rattle.slab_core.proofs.Slabs.give.Goals.{After-from_residual, In_ok-cache, After-from_residual-in_err-object, After-turn_bit}
 
 no_cache : (c : After-from_residual) → cache_at c.args.self.now c.args.t c.args.c ≡ None
 no_cache c =
@@ -34,62 +36,70 @@ cached c =
     sym (ap (λ (s : Content). cache_at s c.args.t c.args.c) c.self.view_is)
     ∙ (sym c.cache.ensures ∙ ap (option_map (λ x. x.now)) c.in_ok-cache.ensures.ok_part)
 
-pub returns-in_err-object-clause-shows : goal.returns-in_err-object-clause-shows
-returns-in_err-object-clause-shows c = λ m h.
+-- no object of it begins at the place
+not_found : (c : After-from_residual-in_err-object) (m : Machine) → ShowsMachine c.args.space.now c.args.buddy.now c.args.self.now c.args.t m
+    → give_step c.args.c c.args.place m ≡ refuse NotAnObject m
+not_found c m h =
     let none : IsNoObject c.args.space.now c.args.self.now c.args.t c.args.c c.args.place =
     subst (λ o. MatchOption o (IsNoObject c.args.space.now c.args.self.now c.args.t c.args.c c.args.place)
     (λ o. IsObject c.args.space.now c.args.self.now c.args.t c.args.c c.args.place (found c.in_ok-cache.field-0.now o.first o.node o.index)))
     c.in_err-object.ensures.ok_part c.find.ensures in
-    rw (c.not_found_refuses.ensures c.args.space.now c.args.buddy.now c.args.self.now c.args.t c.args.c c.args.place c.in_ok-cache.field-0.now m c.steady.ensures h
-    (cached (goal.at.returns-in_err-object-clause-shows c).In_ok-cache) none) h
+    not_found_refuses c.args.space.now c.args.buddy.now c.args.self.now c.args.t c.args.c c.args.place c.in_ok-cache.field-0.now m c.laws_with.ensures.steady h
+    (cached (goal.at.returns-in_err-object-clause-shows c).In_ok-cache) none
 
-object : After-turn → Found
+pub returns-in_err-object-clause-answer : goal.returns-in_err-object-clause-answer
+returns-in_err-object-clause-answer c = λ m h. let e = not_found c m h in rw e (search rules)
+
+pub returns-in_err-object-clause-shows : goal.returns-in_err-object-clause-shows
+returns-in_err-object-clause-shows c = λ m h. rw (not_found c m h) h
+
+object : After-turn_bit → Found
 object c = found c.in_ok-cache.field-0.now c.in_ok-object.object.first c.in_ok-object.object.node c.in_ok-object.object.index
 
-is_object : (c : After-turn) → IsObject c.args.space.now c.args.self.now c.args.t c.args.c c.args.place (object c)
+is_object : (c : After-turn_bit) → IsObject c.args.space.now c.args.self.now c.args.t c.args.c c.args.place (object c)
 unfolding object
 is_object c =
     subst (λ o. MatchOption o (IsNoObject c.args.space.now c.args.self.now c.args.t c.args.c c.args.place)
     (λ o. IsObject c.args.space.now c.args.self.now c.args.t c.args.c c.args.place (found c.in_ok-cache.field-0.now o.first o.node o.index)))
     c.in_ok-object.ensures.ok_part c.find.ensures
 
-gives : (c : After-turn) (m : Machine) → ShowsMachine c.args.space.now c.args.buddy.now c.args.self.now c.args.t m
+gives : (c : After-turn_bit) (m : Machine) → ShowsMachine c.args.space.now c.args.buddy.now c.args.self.now c.args.t m
     → Gives m c.args.c c.args.place c.in_ok-object.object.index c.in_ok-object.object.first
 unfolding object
-gives c m h = c.found_gives.ensures c.args.space.now c.args.buddy.now c.args.self.now c.args.t c.args.c c.args.place (object c) m c.steady.ensures h (is_object c)
+gives c m h = found_gives c.args.space.now c.args.buddy.now c.args.self.now c.args.t c.args.c c.args.place (object c) m c.laws_with.ensures.steady h (is_object c)
 
-to_count : (c : After-turn)
-    → IsToCount c.args.space.now c.turn.new.space c.args.buddy.now c.args.self.now c.turn.new.self c.args.t c.args.c (object c) false
+to_count : (c : After-turn_bit)
+    → IsToCount c.args.space.now c.turn_bit.new.space c.args.buddy.now c.args.self.now c.turn_bit.new.self c.args.t c.args.c (object c) false
 unfolding object
 to_count c =
     let o = is_object c in record {
       tenant = c.requires.tenant;
-      laws = c.laws.ensures;
-      slabs = subst IsSlabs c.self.view_is c.facts.ensures;
+      laws = c.laws_with.ensures.parts.space;
+      slabs = c.laws_with.ensures.parts.slabs;
       agree = c.requires.agree;
       slab = o.slab;
       index = o.index;
       was = o.live;
-      turned = c.turn.ensures;
+      turned = c.turn_bit.ensures;
     }
 
-pub count-requires : goal.count-requires
+pub recount-requires : goal.recount-requires
 unfolding object
-count-requires c = (c.args.space.now, (c.args.self.now, to_count (goal.at.count-requires c).After-turn))
+recount-requires c = (c.args.space.now, (c.args.self.now, to_count (goal.at.recount-requires c).After-turn_bit))
 
 pub returns-clause-spares : goal.returns-clause-spares
 unfolding object
-returns-clause-spares c = c.count.ensures.spares c.args.space.now c.args.self.now (to_count (goal.at.returns-clause-spares c).After-turn)
+returns-clause-spares c = c.recount.ensures.spares c.args.space.now c.args.self.now (to_count (goal.at.returns-clause-spares c).After-turn_bit)
 
 pub returns-clause-answer : goal.returns-clause-answer
-returns-clause-answer c = λ m h. rw (gives (goal.at.returns-clause-answer c).After-turn m h).step refl
+returns-clause-answer c = λ m h. rw (gives (goal.at.returns-clause-answer c).After-turn_bit m h).step refl
 
 pub returns-clause-shows : goal.returns-clause-shows
 unfolding object
 returns-clause-shows c = λ m h.
-    let a = (goal.at.returns-clause-shows c).After-turn in
+    let a = (goal.at.returns-clause-shows c).After-turn_bit in
     let g = gives a m h in
     let o = is_object a in
     rw g.step
-    (c.marked_shows.ensures c.args.space.now c.turn.new.space c.args.buddy.now c.args.self.now c.count.new.self c.args.t c.args.c (object a) false m g.cache g.slab
-    (c.count.ensures.marked c.args.space.now c.args.self.now (to_count a)) c.steady.ensures o.slab o.index g.cached g.standing h)
+    (marked_shows c.args.space.now c.turn_bit.new.space c.args.buddy.now c.args.self.now c.recount.new.self c.args.t c.args.c (object a) false m g.cache g.slab
+    (c.recount.ensures.marked c.args.space.now c.args.self.now (to_count a)) c.laws_with.ensures.steady o.slab o.index g.cached g.standing h)

@@ -1,12 +1,12 @@
 use Rattle.std.proofs.Common.{◌≡◌, ◌+◌, true, Some, None, sym, ◌∙◌, subst, arith}
-use Rattle.slab_tables.specs.Content.{IsSlabs, cache_at}
-use Rattle.slab_core.proofs.ReturnMany.{giving_none, giving_all, none_any, below_same, below_next, below_none}
+use Rattle.slab_tables.specs.Content.{cache_at}
+use Rattle.slab_core.proofs.ReturnMany.{giving_none, giving_all, still_apart, none_any, below_same, below_next, below_none}
 use Rattle.slab_core.proofs.Slabs.give_back_all.Goals as goal
 use Rattle.slab_core.proofs.Slabs.give_back_all.Goals.{in-Some, in_default}
 
 pub loop-c-init : goal.loop-c-init
 loop-c-init c = record {
-  giving = giving_none (λ i. true) c.args.space.now c.args.buddy.now c.args.self.now c.args.t c.requires.agree;
+  giving = giving_none (λ i. true) c.args.space.now c.args.buddy.now c.args.self.now c.args.t c.requires.agree c.laws_with.ensures.parts.slabs;
   lists = λ d less. absurd (omega arith);
 }
 
@@ -21,22 +21,23 @@ loop-c-preserved c = elim c.match-copied.branch [
       below_same c.args.space.now w.give_back_empty.new.space c.match-copied.space c.args.buddy.now w.give_back_empty.new.buddy c.match-copied.buddy
       c.args.self.now w.give_back_empty.new.self c.match-copied.self c.args.t (c.loop-c.c + 1) w.space-is w.buddy-is w.self-is
       (below_next c.args.space.now c.loop-c.space w.give_back_empty.new.space c.args.buddy.now c.loop-c.buddy w.give_back_empty.new.buddy
-      c.args.self.now c.loop-c.self w.give_back_empty.new.self c.args.t c.loop-c.c c.steady.ensures c.loop-c.invariant
-      w.give_back_empty.ensures.returned w.give_back_empty.ensures.spares w.give_back_empty.ensures.agree
+      c.args.self.now c.loop-c.self w.give_back_empty.new.self c.args.t c.loop-c.c c.laws_with.ensures.steady c.loop-c.invariant
+      w.give_back_empty.ensures.returned w.give_back_empty.ensures.spares w.give_back_empty.ensures.agree w.give_back_empty.ensures.tables
       w.give_back_empty.ensures.empty w.give_back_empty.ensures.lists)
   | in_default w ↦
       below_same c.args.space.now c.loop-c.space c.match-copied.space c.args.buddy.now c.loop-c.buddy c.match-copied.buddy
       c.args.self.now c.loop-c.self c.match-copied.self c.args.t (c.loop-c.c + 1) w.space-is w.buddy-is w.self-is
       (below_none c.args.space.now c.loop-c.space c.args.buddy.now c.loop-c.buddy c.args.self.now c.loop-c.self c.args.t c.loop-c.c c.loop-c.invariant
-      (subst IsSlabs c.self-in-loop-c.view_is c.facts.ensures) (omega (arith, c.loop-c-test.true, c.from-c-end.ensures))
+      (omega (arith, c.loop-c-test.true, c.from-c-end.ensures))
       (subst (λ s. cache_at s c.args.t c.loop-c.c ≡ None) c.self-in-loop-c.view_is
       (sym c.cache.ensures ∙ sym c.copied.ensures ∙ w.in_default.is)))
 ]
 
 pub returns-clause-returned : goal.returns-clause-returned
 returns-clause-returned c =
-    let w : IsSlabs c.loop-c.self = subst IsSlabs c.self-2.view_is c.facts-2.ensures in
+    let g = c.loop-c.invariant.giving in
     giving_all (λ i. true) c.args.space.now c.loop-c.space c.args.buddy.now c.loop-c.buddy c.args.self.now c.loop-c.self c.args.t
-    c.steady.ensures c.loop-c.invariant.giving
-    (none_any c.loop-c.space c.loop-c.buddy c.loop-c.self c.args.t w c.loop-c.invariant.giving.agree c.steady-2.ensures
-    (λ d less. c.loop-c.invariant.lists d (omega (arith, c.loop-c-test.false, c.from-c-end.ensures))))
+    c.laws_with.ensures.steady g
+    (none_any c.loop-c.space c.loop-c.buddy c.loop-c.self c.args.t g.tables g.agree
+    (still_apart _ _ _ _ _ _ _ _ c.laws_with.ensures.steady g c.laws_with.ensures.parts.space.apart)
+    (λ d less. c.loop-c.invariant.lists d (omega (arith, less, c.loop-c-test.false, c.from-c-end.ensures))))

@@ -2,10 +2,10 @@ use Rattle.std.proofs.Common.{◌≡◌, true, sym, ap, ◌∙◌, subst, arith}
 use Rattle.std.specs.Prelude.{is_some}
 use Rattle.model_core.specs.Machine.{Machine, choice}
 use Rattle.model_core.specs.Slabs.{reaped}
-use Rattle.slab_tables.specs.Content.{IsSlabs, numbers}
-use Rattle.slab_laws.specs.Shows.{ShowsMachine}
-use Rattle.slab_laws.specs.Room.{HasRoom}
-use Rattle.slab_laws.specs.Changes.{IsReturned}
+use Rattle.slab_tables.specs.Content.{layout_numbers}
+use Rattle.parts_laws.specs.Shows.{ShowsMachine}
+use Rattle.parts_laws.specs.Room.{HasRoom}
+use Rattle.parts_laws.specs.Changes.{IsReturned}
 use Rattle.slab_core.specs.Calls.{idle_at}
 use Rattle.slab_core.proofs.GrowNeed.{choice_above, need_none, unmoved, grown_by_need, chosen_by_need, grown_at_once, is_there}
 use Rattle.slab_core.proofs.ReserveByNeed.{found_choice, next_choice, room_free}
@@ -14,12 +14,12 @@ use Rattle.slab_core.proofs.Slabs.grow.Goals as goal
 use Rattle.slab_core.proofs.Slabs.grow.Goals.{then-order-via-then-order, then-order-via-else-order+then-not-would_fit}
 
 pub returns-in-Some-clause-chosen : goal.returns-in-Some-clause-chosen
-returns-in-Some-clause-chosen c = λ m h. sym (found_choice c.args.self.now.top (numbers c.args.cache.now).order m c.in-Some.slab.0 (sym (c.in-Some.ensures.chosen m h)))
+returns-in-Some-clause-chosen c = λ m h. sym (found_choice c.args.self.now.top (layout_numbers c.args.cache.now).order m c.in-Some.slab.0 (sym (c.in-Some.ensures.chosen m h)))
 
 pub returns-in-Some-clause-shows : goal.returns-in-Some-clause-shows
 returns-in-Some-clause-shows c =
     let x = c.args in
-    grown_at_once x.space.now c.make_slab.new.space x.buddy.now c.make_slab.new.buddy x.self.now c.make_slab.new.self x.t x.c (numbers x.cache.now).order
+    grown_at_once x.space.now c.make_slab.new.space x.buddy.now c.make_slab.new.buddy x.self.now c.make_slab.new.self x.t x.c (layout_numbers x.cache.now).order
     c.in-Some.slab.0 c.in-Some.ensures.chosen c.in-Some.ensures.shows
 
 pub returns-then-order-clause-chosen : goal.returns-then-order-clause-chosen
@@ -27,17 +27,17 @@ returns-then-order-clause-chosen c =
     let x = c.args in
     elim c.then-order.branch [
       | then-order-via-then-order w ↦ λ m h.
-          next_choice x.self.now.top (numbers x.cache.now).order m (sym (c.in_default.ensures.chosen m h))
-          ∙ choice_above x.self.now.top (numbers x.cache.now).order (reaped m)
+          next_choice x.self.now.top (layout_numbers x.cache.now).order m (sym (c.in_default.ensures.chosen m h))
+          ∙ choice_above x.self.now.top (layout_numbers x.cache.now).order (reaped m)
           (omega (arith, w.if-order.true, c.order.ensures, c.order-order.ensures, c.requires.agree.order, ap (λ b. b.top) c.in_default.ensures.refused.1.0))
       | then-order-via-else-order+then-not-would_fit w ↦ λ m h.
           let answer = unmoved
           (λ r b s. (m : Machine) → ShowsMachine r b s x.t m → w.would_fit.result ≡ is_some (choice s.top (reaped m) c.order-order.result))
           x.space.now c.make_slab.new.space x.buddy.now c.make_slab.new.buddy x.self.now c.make_slab.new.self c.in_default.ensures.refused
           w.would_fit.ensures.answer in
-          let same : w.would_fit.result ≡ is_some (choice x.self.now.top (reaped m) (numbers x.cache.now).order) =
+          let same : w.would_fit.result ≡ is_some (choice x.self.now.top (reaped m) (layout_numbers x.cache.now).order) =
           answer m h ∙ ap (λ k. is_some (choice x.self.now.top (reaped m) k)) c.order-order.ensures in
-          need_none x.self.now.top (numbers x.cache.now).order m (c.in_default.ensures.chosen m h) (sym same ∙ w.if-not-would_fit.true)
+          need_none x.self.now.top (layout_numbers x.cache.now).order m (c.in_default.ensures.chosen m h) (sym same ∙ w.if-not-would_fit.true)
     ]
 
 returned : (c : goal.After-make_slab-2) → IsReturned c.args.space.now c.give_back_all.new.space c.args.buddy.now c.give_back_all.new.buddy
@@ -52,16 +52,16 @@ pub returns-clause-chosen : goal.returns-clause-chosen
 returns-clause-chosen c =
     let x = c.args in
     chosen_by_need x.space.now c.give_back_all.new.space x.buddy.now c.give_back_all.new.buddy x.self.now c.give_back_all.new.self x.t
-    (subst IsSlabs c.self.view_is c.facts.ensures) c.requires.agree c.steady.ensures (returned c)
-    c.make_slab-2.new.space c.make_slab-2.new.buddy c.make_slab-2.new.self x.c (numbers x.cache.now).order c.requires.full c.make_slab-2.result
+    c.laws_with.ensures.parts.slabs c.requires.agree c.laws_with.ensures.steady (returned c)
+    c.make_slab-2.new.space c.make_slab-2.new.buddy c.make_slab-2.new.self x.c (layout_numbers x.cache.now).order c.requires.full c.make_slab-2.result
     c.in_default.ensures.chosen c.make_slab-2.ensures.chosen
 
 pub returns-clause-shows : goal.returns-clause-shows
 returns-clause-shows c =
     let x = c.args in
     grown_by_need x.space.now c.give_back_all.new.space x.buddy.now c.give_back_all.new.buddy x.self.now c.give_back_all.new.self x.t
-    (subst IsSlabs c.self.view_is c.facts.ensures) c.requires.agree c.steady.ensures (returned c)
-    c.make_slab-2.new.space c.make_slab-2.new.buddy c.make_slab-2.new.self x.c (numbers x.cache.now).order c.requires.full c.make_slab-2.result
+    c.laws_with.ensures.parts.slabs c.requires.agree c.laws_with.ensures.steady (returned c)
+    c.make_slab-2.new.space c.make_slab-2.new.buddy c.make_slab-2.new.self x.c (layout_numbers x.cache.now).order c.requires.full c.make_slab-2.result
     c.in_default.ensures.chosen c.make_slab-2.ensures.chosen c.make_slab-2.ensures.shows
 
 pub returns-clause-spares : goal.returns-clause-spares
@@ -75,11 +75,11 @@ returns-clause-spares c =
 pub returns-clause-refused : goal.returns-clause-refused
 returns-clause-refused c =
     let x = c.args in
-    let room : HasRoom x.space.now x.buddy.now x.self.now x.t (numbers x.cache.now).order =
+    let room : HasRoom x.space.now x.buddy.now x.self.now x.t (layout_numbers x.cache.now).order =
     subst (λ k. HasRoom x.space.now x.buddy.now x.self.now x.t k) c.order-order.ensures
     (unmoved (λ r b s. HasRoom r b s x.t c.order-order.result)
     x.space.now c.make_slab.new.space x.buddy.now c.make_slab.new.buddy x.self.now c.make_slab.new.self c.in_default.ensures.refused
     (c.would_fit.ensures.room.0 c.if-not-would_fit.false)) in
     is_there _ c.make_slab-2.result
     (c.make_slab-2.ensures.free.1 (room_free x.space.now c.give_back_all.new.space x.buddy.now c.give_back_all.new.buddy x.self.now c.give_back_all.new.self x.t
-    (numbers x.cache.now).order c.steady.ensures (returned c) c.give_back_all.ensures.agree room))
+    (layout_numbers x.cache.now).order c.laws_with.ensures.steady (returned c) c.give_back_all.ensures.agree room))

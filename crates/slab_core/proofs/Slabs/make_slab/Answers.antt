@@ -1,147 +1,142 @@
 use Rattle.std.proofs.Common.{◌≡◌, ℕ, ◌<◌, length, Some, None, refl, sym, ap, ◌∙◌, subst, arith}
 use Rattle.std.specs.Prelude.{option_map}
 use Rattle.std.proofs.lemmas.List.{length-set}
-use Rattle.model_core.specs.Blocks.{block, IsChoice, IsWithout}
+use Rattle.model_core.specs.Blocks.{IsWithout}
 use Rattle.klist_core.specs.Places.{place_at}
 use Rattle.buddy_core.specs.Content.{is_held, taken_of, holding_of, with_holding, with_block}
-use Rattle.slab_tables.specs.Content.{IsSlabs, numbers, kept_at, head_of}
+use Rattle.slab_tables.specs.Content.{layout_numbers, kept_at, head_of}
 use Rattle.slab_tables.specs.Changes.{fresh_kept, with_slab}
 use Rattle.slab_core.specs.Calls.{IsConstructed}
 use Rattle.slab_core.proofs.Slabs.make_slab.Goals as goal
-use Rattle.slab_core.proofs.GrowOne.{has_node, choice_some, choice_none, choice_large, none_large, none_free, some_free, in_reach, few, vacant, fresh, node_within, kept_now, IsMade, made}
+use Rattle.slab_core.proofs.Slabs.make_slab.Goals.{Then-order, In_err-first, In-Some, After-kept_of-colour, After-construct}
+use Rattle.slab_core.proofs.GrowOne.{has_node, choice_some, choice_none, choice_large, none_large, chosen_for, none_free, some_free, IsChosen, cut, in_reach, few, vacant, fresh, node_within, kept_now, IsMade, made}
+
+-- No block is large enough
+
+above : (c : Then-order) → c.args.buddy.now.top < (layout_numbers c.args.cache.now).order
+above c = omega (arith, c.if-order.true, c.order.ensures, c.order-order.ensures)
 
 pub returns-then-order-clause-chosen : goal.returns-then-order-clause-chosen
 returns-then-order-clause-chosen c = λ m h.
-    choice_large c.args.space.now c.args.buddy.now c.args.self.now c.args.t (numbers c.args.cache.now).order c.requires.agree c.choices_meet.ensures c.taken_meets.ensures c.steady.ensures m h
-    (omega (arith, c.if-order.true, c.order.ensures, c.order-order.ensures))
+    let a = (goal.at.returns-then-order-clause-chosen c).Then-order in
+    choice_large c.args.space.now c.args.buddy.now c.args.self.now c.args.t (layout_numbers c.args.cache.now).order c.requires.agree c.laws_with.ensures.steady m h (above a)
+
+pub returns-then-order-clause-free : goal.returns-then-order-clause-free
+returns-then-order-clause-free c =
+    let a = (goal.at.returns-then-order-clause-free c).Then-order in
+    none_free c.args.buddy.now c.args.t (layout_numbers c.args.cache.now).order
+    (none_large c.args.space.now c.args.buddy.now c.args.self.now c.args.t (layout_numbers c.args.cache.now).order c.requires.agree (above a)) None refl
+
+-- None is free
+
+without : (c : In_err-first) → IsWithout c.args.buddy.now.top (is_held (holding_of c.args.t c.args.buddy.now)) (taken_of (holding_of c.args.t c.args.buddy.now)) (layout_numbers c.args.cache.now).order
+without c =
+    subst (IsWithout c.args.buddy.now.top (is_held (holding_of c.args.t c.args.buddy.now)) (taken_of (holding_of c.args.t c.args.buddy.now)))
+    c.order-order.ensures c.in_err-first.ensures.refused.0
 
 pub returns-in_err-first-clause-chosen : goal.returns-in_err-first-clause-chosen
 returns-in_err-first-clause-chosen c = λ m h.
-    choice_none c.args.space.now c.args.buddy.now c.args.self.now c.args.t (numbers c.args.cache.now).order c.requires.agree c.choices_meet.ensures c.taken_meets.ensures c.steady.ensures m h
-    (subst (λ k. IsWithout c.args.buddy.now.top (is_held (holding_of c.args.t c.args.buddy.now)) (taken_of (holding_of c.args.t c.args.buddy.now)) k) c.order-order.ensures c.in_err-first.ensures.refused.0)
+    let a = (goal.at.returns-in_err-first-clause-chosen c).In_err-first in
+    choice_none c.args.space.now c.args.buddy.now c.args.self.now c.args.t (layout_numbers c.args.cache.now).order c.requires.agree c.laws_with.ensures.steady m h (without a)
     ∙ sym (ap (option_map (λ o. o.0)) c.from_residual.ensures)
+
+pub returns-in_err-first-clause-free : goal.returns-in_err-first-clause-free
+returns-in_err-first-clause-free c =
+    let a = (goal.at.returns-in_err-first-clause-free c).In_err-first in
+    none_free c.args.buddy.now c.args.t (layout_numbers c.args.cache.now).order (without a) c.from_residual.result c.from_residual.ensures
+
+-- A block is chosen
 
 pub unreachable-unreachable : goal.unreachable-unreachable
 unreachable-unreachable c =
-    has_node c.args.space.now c.args.buddy.now c.args.self.now c.args.t (numbers c.args.cache.now).order c.requires.agree c.reserved_is_untaken.ensures
-    c.in_ok-first.first c.in_ok-first.ensures.done.0
-    (subst (λ k. IsChoice c.args.buddy.now.top (is_held (holding_of c.args.t c.args.buddy.now)) (taken_of (holding_of c.args.t c.args.buddy.now)) k (block c.in_ok-first.first c.in_ok-first.ensures.done.0)) c.order-order.ensures c.in_ok-first.ensures.done.1.0)
+    has_node c.args.space.now c.args.buddy.now c.args.self.now c.args.t (layout_numbers c.args.cache.now).order c.requires.agree
+    c.in_ok-first.first c.in_ok-first.ensures.done.0 (chosen_for c.args.buddy.now c.args.t _ _ _ _ c.order-order.ensures c.in_ok-first.ensures.done.1.0)
     (sym c.node.ensures.value ∙ c.in_default.is)
 
-pub stand-requires-clause-node : goal.stand-requires-clause-node
-stand-requires-clause-node c = subst (λ s. c.in-Some.node < length s.lists.places) (sym c.self.view_is) (node_within c.args.space.now c.args.buddy.now c.args.self.now c.args.t c.args.c c.args.cache.now
-    (subst IsSlabs c.self.view_is c.facts.ensures) c.requires.agree c.steady.ensures c.laws.ensures c.laws-2.ensures c.requires.tenant c.requires.cache
-    c.reserved_is_untaken.ensures c.in_ok-first.first c.in_ok-first.ensures.done.0 c.in-Some.node
-    (subst (λ k. IsChoice c.args.buddy.now.top (is_held (holding_of c.args.t c.args.buddy.now)) (taken_of (holding_of c.args.t c.args.buddy.now)) k (block c.in_ok-first.first c.in_ok-first.ensures.done.0)) c.order-order.ensures c.in_ok-first.ensures.done.1.0)
-    (sym c.node.ensures.value ∙ c.in-Some.is))
+chosen : (c : In-Some) → IsChosen c.args.space.now c.args.buddy.now c.args.self.now c.args.t c.args.c c.args.cache.now
+    c.in_ok-first.first c.in_ok-first.ensures.done.0 c.in-Some.node
+chosen c = record {
+  parts = c.laws_with.ensures.parts;
+  steady = c.laws_with.ensures.steady;
+  tenant = c.requires.tenant;
+  cached = c.requires.cache;
+  block = chosen_for c.args.buddy.now c.args.t _ _ _ _ c.order-order.ensures c.in_ok-first.ensures.done.1.0;
+  under = sym c.node.ensures.value ∙ c.in-Some.is;
+}
 
-pub stand-requires-clause-free : goal.stand-requires-clause-free
-stand-requires-clause-free c = subst (λ s. place_at s.lists.places c.in-Some.node ≡ None) (sym c.self.view_is) (vacant c.args.space.now c.args.buddy.now c.args.self.now c.args.t c.args.c c.args.cache.now
-    (subst IsSlabs c.self.view_is c.facts.ensures) c.requires.agree c.steady.ensures c.laws.ensures c.laws-2.ensures c.requires.tenant c.requires.cache
-    c.reserved_is_untaken.ensures c.in_ok-first.first c.in_ok-first.ensures.done.0 c.in-Some.node
-    (subst (λ k. IsChoice c.args.buddy.now.top (is_held (holding_of c.args.t c.args.buddy.now)) (taken_of (holding_of c.args.t c.args.buddy.now)) k (block c.in_ok-first.first c.in_ok-first.ensures.done.0)) c.order-order.ensures c.in_ok-first.ensures.done.1.0)
-    (sym c.node.ensures.value ∙ c.in-Some.is))
+pub add_slab-requires-clause-node : goal.add_slab-requires-clause-node
+add_slab-requires-clause-node c = subst (λ s. c.in-Some.node < length s.lists.places) (sym c.self.view_is) (node_within (chosen (goal.at.add_slab-requires-clause-node c).In-Some))
 
-pub stand-requires-clause-fresh : goal.stand-requires-clause-fresh
-stand-requires-clause-fresh c =
-    subst (λ s. (n : ℕ) → place_at s.lists.places n ≡ Some (head_of c.args.t c.args.c 2, c.in_ok-first.first) → ⊥) (sym c.self.view_is) (fresh c.args.space.now c.args.buddy.now c.args.self.now c.args.t c.args.c c.args.cache.now
-    (subst IsSlabs c.self.view_is c.facts.ensures) c.requires.agree c.steady.ensures c.laws.ensures c.laws-2.ensures c.requires.tenant c.requires.cache
-    c.reserved_is_untaken.ensures c.in_ok-first.first c.in_ok-first.ensures.done.0 c.in-Some.node
-    (subst (λ k. IsChoice c.args.buddy.now.top (is_held (holding_of c.args.t c.args.buddy.now)) (taken_of (holding_of c.args.t c.args.buddy.now)) k (block c.in_ok-first.first c.in_ok-first.ensures.done.0)) c.order-order.ensures c.in_ok-first.ensures.done.1.0)
-    (sym c.node.ensures.value ∙ c.in-Some.is))
+pub add_slab-requires-clause-free : goal.add_slab-requires-clause-free
+add_slab-requires-clause-free c = subst (λ s. place_at s.lists.places c.in-Some.node ≡ None) (sym c.self.view_is) (vacant (chosen (goal.at.add_slab-requires-clause-free c).In-Some))
+
+pub add_slab-requires-clause-fresh : goal.add_slab-requires-clause-fresh
+add_slab-requires-clause-fresh c =
+    subst (λ s. (n : ℕ) → place_at s.lists.places n ≡ Some (head_of c.args.t c.args.c 2, c.in_ok-first.first) → ⊥) (sym c.self.view_is)
+    (fresh (chosen (goal.at.add_slab-requires-clause-fresh c).In-Some))
 
 pub construct-requires-clause-in_reach : goal.construct-requires-clause-in_reach
-construct-requires-clause-in_reach c = in_reach c.args.space.now c.args.buddy.now c.args.self.now c.args.t c.args.c c.args.cache.now
-    (subst IsSlabs c.self.view_is c.facts.ensures) c.requires.agree c.steady.ensures c.laws.ensures c.laws-2.ensures c.requires.tenant c.requires.cache
-    c.reserved_is_untaken.ensures c.in_ok-first.first c.in_ok-first.ensures.done.0 c.in-Some.node
-    (subst (λ k. IsChoice c.args.buddy.now.top (is_held (holding_of c.args.t c.args.buddy.now)) (taken_of (holding_of c.args.t c.args.buddy.now)) k (block c.in_ok-first.first c.in_ok-first.ensures.done.0)) c.order-order.ensures c.in_ok-first.ensures.done.1.0)
-    (sym c.node.ensures.value ∙ c.in-Some.is)
+construct-requires-clause-in_reach c = in_reach (chosen (goal.at.construct-requires-clause-in_reach c).In-Some)
 
 pub construct-requires-clause-first : goal.construct-requires-clause-first
-construct-requires-clause-first c = few c.args.space.now c.args.buddy.now c.args.self.now c.args.t c.args.c c.args.cache.now
-    (subst IsSlabs c.self.view_is c.facts.ensures) c.requires.agree c.steady.ensures c.laws.ensures c.laws-2.ensures c.requires.tenant c.requires.cache
-    c.reserved_is_untaken.ensures c.in_ok-first.first c.in_ok-first.ensures.done.0 c.in-Some.node
-    (subst (λ k. IsChoice c.args.buddy.now.top (is_held (holding_of c.args.t c.args.buddy.now)) (taken_of (holding_of c.args.t c.args.buddy.now)) k (block c.in_ok-first.first c.in_ok-first.ensures.done.0)) c.order-order.ensures c.in_ok-first.ensures.done.1.0)
-    (sym c.node.ensures.value ∙ c.in-Some.is)
+construct-requires-clause-first c = few (chosen (goal.at.construct-requires-clause-first c).In-Some)
+
+pub construct-requires-clause-layout : goal.construct-requires-clause-layout
+construct-requires-clause-layout c = cut (chosen (goal.at.construct-requires-clause-layout c).In-Some)
 
 pub returns-clause-chosen : goal.returns-clause-chosen
 returns-clause-chosen c = λ m h.
-    choice_some c.args.space.now c.args.buddy.now c.args.self.now c.args.t (numbers c.args.cache.now).order c.requires.agree c.choices_meet.ensures c.taken_meets.ensures c.steady.ensures m h
-    c.in_ok-first.first c.in_ok-first.ensures.done.0
-    (subst (λ k. IsChoice c.args.buddy.now.top (is_held (holding_of c.args.t c.args.buddy.now)) (taken_of (holding_of c.args.t c.args.buddy.now)) k (block c.in_ok-first.first c.in_ok-first.ensures.done.0)) c.order-order.ensures c.in_ok-first.ensures.done.1.0)
+    choice_some c.args.space.now c.args.buddy.now c.args.self.now c.args.t (layout_numbers c.args.cache.now).order c.requires.agree c.laws_with.ensures.steady m h
+    c.in_ok-first.first c.in_ok-first.ensures.done.0 (chosen (goal.at.returns-clause-chosen c).In-Some).block
 
-colour_is : (c : goal.After-construct) → c.into.result ≡ (fresh_kept c.args.cache.now).colour
+pub returns-clause-free : goal.returns-clause-free
+returns-clause-free c =
+    some_free c.args.buddy.now c.args.t (layout_numbers c.args.cache.now).order c.in_ok-first.first c.in_ok-first.ensures.done.0
+    (chosen (goal.at.returns-clause-free c).In-Some).block (c.in_ok-first.first, c.in-Some.node)
+
+-- A slab is made
+
+tables : (c : After-kept_of-colour) → c.add_slab.new.self ≡ with_slab c.args.self.now c.args.t c.args.c c.args.cache.now c.in_ok-first.first c.in-Some.node
+tables c = c.add_slab.ensures ∙ ap (λ s. with_slab s c.args.t c.args.c c.args.cache.now c.in_ok-first.first c.in-Some.node) c.self.view_is
+
+colour_is : (c : After-construct) → c.into.result ≡ (fresh_kept c.args.cache.now).colour
 colour_is c =
-    c.into.ensures ∙ ap (λ x. x.colour) (c.kept-colour.ensures ∙ ap (λ s. kept_at s.kept c.in-Some.node) (c.stand.ensures ∙ ap (λ s. with_slab s c.args.t c.args.c c.args.cache.now c.in_ok-first.first c.in-Some.node) c.self.view_is)
-    ∙ kept_now c.args.space.now c.args.buddy.now c.args.self.now c.args.t c.args.c c.args.cache.now
-    (subst IsSlabs c.self.view_is c.facts.ensures) c.requires.agree c.steady.ensures c.laws.ensures c.laws-2.ensures c.requires.tenant c.requires.cache
-    c.reserved_is_untaken.ensures c.in_ok-first.first c.in_ok-first.ensures.done.0 c.in-Some.node
-    (subst (λ k. IsChoice c.args.buddy.now.top (is_held (holding_of c.args.t c.args.buddy.now)) (taken_of (holding_of c.args.t c.args.buddy.now)) k (block c.in_ok-first.first c.in_ok-first.ensures.done.0)) c.order-order.ensures c.in_ok-first.ensures.done.1.0)
-    (sym c.node.ensures.value ∙ c.in-Some.is))
+    c.into.ensures ∙ ap (λ x. x.colour) (c.kept_of-colour.ensures ∙ ap (λ s. kept_at s.kept c.in-Some.node) (tables (goal.at.returns-clause-grown c).After-kept_of-colour)
+    ∙ kept_now (chosen (goal.at.returns-clause-grown c).In-Some))
 
-pub kept-colour-requires : goal.kept-colour-requires
-kept-colour-requires c =
-    subst (λ s. c.in-Some.node < length s.lists.places) (sym c.stand.ensures)
+pub kept_of-colour-requires : goal.kept_of-colour-requires
+kept_of-colour-requires c =
+    subst (λ s. c.in-Some.node < length s.lists.places) (sym c.add_slab.ensures)
     (subst (λ l. c.in-Some.node < l) (sym (length-set c.self.inside.tables.lists.places c.in-Some.node (Some (head_of c.args.t c.args.c 2, c.in_ok-first.first))))
-    (subst (λ s. c.in-Some.node < length s.lists.places) (sym c.self.view_is) (node_within c.args.space.now c.args.buddy.now c.args.self.now c.args.t c.args.c c.args.cache.now
-    (subst IsSlabs c.self.view_is c.facts.ensures) c.requires.agree c.steady.ensures c.laws.ensures c.laws-2.ensures c.requires.tenant c.requires.cache
-    c.reserved_is_untaken.ensures c.in_ok-first.first c.in_ok-first.ensures.done.0 c.in-Some.node
-    (subst (λ k. IsChoice c.args.buddy.now.top (is_held (holding_of c.args.t c.args.buddy.now)) (taken_of (holding_of c.args.t c.args.buddy.now)) k (block c.in_ok-first.first c.in_ok-first.ensures.done.0)) c.order-order.ensures c.in_ok-first.ensures.done.1.0)
-    (sym c.node.ensures.value ∙ c.in-Some.is))))
+    (subst (λ s. c.in-Some.node < length s.lists.places) (sym c.self.view_is) (node_within (chosen (goal.at.kept_of-colour-requires c).In-Some))))
 
 pub construct-requires-clause-colour : goal.construct-requires-clause-colour
 construct-requires-clause-colour c = (
   c.args.cache.now.made,
-  c.into.ensures ∙ ap (λ x. x.colour) (c.kept-colour.ensures ∙ ap (λ s. kept_at s.kept c.in-Some.node) (c.stand.ensures ∙ ap (λ s. with_slab s c.args.t c.args.c c.args.cache.now c.in_ok-first.first c.in-Some.node) c.self.view_is)
-      ∙ kept_now c.args.space.now c.args.buddy.now c.args.self.now c.args.t c.args.c c.args.cache.now
-      (subst IsSlabs c.self.view_is c.facts.ensures) c.requires.agree c.steady.ensures c.laws.ensures c.laws-2.ensures c.requires.tenant c.requires.cache
-      c.reserved_is_untaken.ensures c.in_ok-first.first c.in_ok-first.ensures.done.0 c.in-Some.node
-      (subst (λ k. IsChoice c.args.buddy.now.top (is_held (holding_of c.args.t c.args.buddy.now)) (taken_of (holding_of c.args.t c.args.buddy.now)) k (block c.in_ok-first.first c.in_ok-first.ensures.done.0)) c.order-order.ensures c.in_ok-first.ensures.done.1.0)
-      (sym c.node.ensures.value ∙ c.in-Some.is)),
+  c.into.ensures ∙ ap (λ x. x.colour) (c.kept_of-colour.ensures
+      ∙ ap (λ s. kept_at s.kept c.in-Some.node) (tables (goal.at.construct-requires-clause-colour c).After-kept_of-colour)
+      ∙ kept_now (chosen (goal.at.construct-requires-clause-colour c).In-Some)),
 )
 
-given : (c : goal.After-construct) → IsMade c.args.space.now c.args.buddy.now c.args.self.now c.args.t c.args.c c.args.cache.now
-    (subst IsSlabs c.self.view_is c.facts.ensures) c.requires.agree c.steady.ensures c.laws.ensures c.laws-2.ensures c.requires.tenant c.requires.cache
-    c.reserved_is_untaken.ensures c.in_ok-first.first c.in_ok-first.ensures.done.0 c.in-Some.node
-    (subst (λ k. IsChoice c.args.buddy.now.top (is_held (holding_of c.args.t c.args.buddy.now)) (taken_of (holding_of c.args.t c.args.buddy.now)) k (block c.in_ok-first.first c.in_ok-first.ensures.done.0)) c.order-order.ensures c.in_ok-first.ensures.done.1.0)
-    (sym c.node.ensures.value ∙ c.in-Some.is)
-    c.construct.new.space c.fits.ensures (subst (λ x. IsConstructed c.args.space.now c.construct.new.space c.args.t c.args.cache.now c.in_ok-first.first x (numbers c.args.cache.now).count) (colour_is c) c.construct.ensures) c.reserve.new.self c.stand.new.self
-given c =
-    made c.args.space.now c.args.buddy.now c.args.self.now c.args.t c.args.c c.args.cache.now
-    (subst IsSlabs c.self.view_is c.facts.ensures) c.requires.agree c.steady.ensures c.laws.ensures c.laws-2.ensures c.requires.tenant c.requires.cache
-    c.reserved_is_untaken.ensures c.in_ok-first.first c.in_ok-first.ensures.done.0 c.in-Some.node
-    (subst (λ k. IsChoice c.args.buddy.now.top (is_held (holding_of c.args.t c.args.buddy.now)) (taken_of (holding_of c.args.t c.args.buddy.now)) k (block c.in_ok-first.first c.in_ok-first.ensures.done.0)) c.order-order.ensures c.in_ok-first.ensures.done.1.0)
-    (sym c.node.ensures.value ∙ c.in-Some.is)
-    c.construct.new.space c.fits.ensures (subst (λ x. IsConstructed c.args.space.now c.construct.new.space c.args.t c.args.cache.now c.in_ok-first.first x (numbers c.args.cache.now).count) (colour_is c) c.construct.ensures) c.reserve.new.self c.stand.new.self
+built : (c : After-construct) → IsConstructed c.args.space.now c.construct.new.space c.args.t c.args.cache.now c.in_ok-first.first (fresh_kept c.args.cache.now).colour (layout_numbers c.args.cache.now).count
+built c =
+    subst (λ x. IsConstructed c.args.space.now c.construct.new.space c.args.t c.args.cache.now c.in_ok-first.first x (layout_numbers c.args.cache.now).count)
+    (colour_is c) c.construct.ensures
+
+is_made : (c : After-construct) → IsMade (chosen (goal.at.returns-clause-grown c).In-Some) (built c) c.reserve.new.self c.add_slab.new.self
+is_made c =
+    made (chosen (goal.at.returns-clause-grown c).In-Some) (built c) c.reserve.new.self c.add_slab.new.self
     (c.in_ok-first.ensures.done.1.1 ∙ ap (λ k. with_holding c.args.t (with_block c.in_ok-first.first k (holding_of c.args.t c.args.buddy.now)) c.args.buddy.now) c.order-order.ensures)
-    (c.stand.ensures ∙ ap (λ s. with_slab s c.args.t c.args.c c.args.cache.now c.in_ok-first.first c.in-Some.node) c.self.view_is)
+    (tables (goal.at.returns-clause-grown c).After-kept_of-colour)
 
 pub returns-clause-grown : goal.returns-clause-grown
-returns-clause-grown c = (given c).grown
+returns-clause-grown c = (is_made c).grown
 
 pub returns-clause-spares : goal.returns-clause-spares
-returns-clause-spares c = (given c).spares
+returns-clause-spares c = (is_made c).spares
 
 pub returns-clause-agree : goal.returns-clause-agree
-returns-clause-agree c = (given c).agree
+returns-clause-agree c = (is_made c).agree
 
 pub returns-clause-shows : goal.returns-clause-shows
-returns-clause-shows c = (given c).shows
-
-pub returns-then-order-clause-free : goal.returns-then-order-clause-free
-returns-then-order-clause-free c =
-    none_free c.args.buddy.now c.args.t (numbers c.args.cache.now).order
-    (none_large c.args.space.now c.args.buddy.now c.args.self.now c.args.t (numbers c.args.cache.now).order c.requires.agree
-    (omega (arith, c.if-order.true, c.order.ensures, c.order-order.ensures))) None refl
-
-pub returns-in_err-first-clause-free : goal.returns-in_err-first-clause-free
-returns-in_err-first-clause-free c =
-    none_free c.args.buddy.now c.args.t (numbers c.args.cache.now).order
-    (subst (λ k. IsWithout c.args.buddy.now.top (is_held (holding_of c.args.t c.args.buddy.now)) (taken_of (holding_of c.args.t c.args.buddy.now)) k) c.order-order.ensures c.in_err-first.ensures.refused.0)
-    c.from_residual.result c.from_residual.ensures
-
-pub returns-clause-free : goal.returns-clause-free
-returns-clause-free c =
-    some_free c.args.buddy.now c.args.t (numbers c.args.cache.now).order c.in_ok-first.first c.in_ok-first.ensures.done.0
-    (subst (λ k. IsChoice c.args.buddy.now.top (is_held (holding_of c.args.t c.args.buddy.now)) (taken_of (holding_of c.args.t c.args.buddy.now)) k (block c.in_ok-first.first c.in_ok-first.ensures.done.0)) c.order-order.ensures c.in_ok-first.ensures.done.1.0)
-    (c.in_ok-first.first, c.in-Some.node)
+returns-clause-shows c = (is_made c).shows

@@ -2,10 +2,10 @@ use Rattle.slab_core.proofs.Slabs.reserve.Goals as goal
 use Rattle.slab_core.proofs.ReserveOne.{IsServed, is_served}
 
 served : (c : goal.After-reserve) → IsServed c.args.space.now c.args.buddy.now c.args.self.now c.args.t c.args.k
-    c.requires.agree c.laws.ensures c.requires.tenant c.reserve.new.self c.reserve.result
+    c.requires.agree c.laws_with.ensures.parts.buddy c.requires.tenant c.reserve.new.self c.reserve.result
 served c =
-    is_served c.args.space.now c.args.buddy.now c.args.self.now c.args.t c.args.k c.requires.agree c.laws.ensures c.requires.tenant
-    c.reserved_is_untaken.ensures c.choices_meet.ensures c.taken_meets.ensures c.reserved_shows.ensures c.steady.ensures
+    is_served c.args.space.now c.args.buddy.now c.args.self.now c.args.t c.args.k c.requires.agree c.laws_with.ensures.parts.buddy c.requires.tenant
+    c.laws_with.ensures.steady
     c.reserve.new.self c.reserve.result c.reserve.ensures.refused c.reserve.ensures.done
 
 pub returns-clause-answer : goal.returns-clause-answer

@@ -4,11 +4,10 @@ use Rattle.std.proofs.lemmas.Bool.{false≢true}
 use Rattle.model_core.specs.Machine.{Machine, choice}
 use Rattle.model_core.specs.Operations.{alloc_step}
 use Rattle.model_core.specs.Slabs.{reaped}
-use Rattle.slab_tables.specs.Content.{IsSlabs}
-use Rattle.slab_laws.specs.Shows.{ShowsMachine}
-use Rattle.slab_laws.specs.Keeps.{Spares}
-use Rattle.slab_laws.specs.Changes.{IsReturned}
-use Rattle.slab_laws.specs.Room.{HasRoom}
+use Rattle.parts_laws.specs.Shows.{ShowsMachine}
+use Rattle.parts_laws.specs.Keeps.{Spares}
+use Rattle.parts_laws.specs.Changes.{IsReturned}
+use Rattle.parts_laws.specs.Room.{HasRoom}
 use Rattle.slab_core.specs.Calls.{idle_at}
 use Rattle.slab_core.proofs.ReturnMany.{spares_twice}
 use Rattle.slab_core.proofs.ReserveByNeed.{found_choice, found_step, free_room, next_choice, no_choice, refused_step, is_there, IsServedThen, served_then}
@@ -21,7 +20,7 @@ returns-in-Some-clause-answer c = λ m h. found_choice c.args.self.now.top c.arg
 pub returns-in-Some-clause-shows : goal.returns-in-Some-clause-shows
 returns-in-Some-clause-shows c = λ m h.
     subst (ShowsMachine c.args.space.now c.reserve.new.buddy c.args.self.now c.args.t)
-    (sym (found_step c.args.self.now.top c.args.k m c.reaps_by_need.ensures.alloc c.requires.order c.in-Some.first (c.in-Some.ensures.answer m h)))
+    (sym (found_step c.args.self.now.top c.args.k m c.requires.order c.in-Some.first (c.in-Some.ensures.answer m h)))
     (c.in-Some.ensures.shows m h)
 
 pub returns-in-Some-clause-room : goal.returns-in-Some-clause-room
@@ -47,7 +46,7 @@ pub returns-then-not-would_fit-clause-shows : goal.returns-then-not-would_fit-cl
 returns-then-not-would_fit-clause-shows c = λ m h.
     subst (λ b. ShowsMachine c.args.space.now b c.args.self.now c.args.t (alloc_step c.args.self.now.top c.args.k m).machine) (sym c.in_default.ensures.refused)
     (subst (ShowsMachine c.args.space.now c.args.buddy.now c.args.self.now c.args.t)
-    (sym (refused_step c.args.self.now.top c.args.k m c.reaps_by_need.ensures.alloc c.requires.order (c.in_default.ensures.answer m h) (still_none c m h))) h)
+    (sym (refused_step c.args.self.now.top c.args.k m c.requires.order (c.in_default.ensures.answer m h) (still_none c m h))) h)
 
 pub returns-then-not-would_fit-clause-room : goal.returns-then-not-would_fit-clause-room
 returns-then-not-would_fit-clause-room c = (
@@ -69,11 +68,11 @@ room c =
     (c.would_fit.ensures.room.0 c.if-not-would_fit.false)
 
 served : (c : goal.After-reserve-2) → IsServedThen c.args.space.now c.give_back_all.new.space c.args.buddy.now c.give_back_all.new.buddy
-    c.args.self.now c.give_back_all.new.self c.args.t c.args.k c.steady.ensures (gone c) c.reserve-2.new.buddy c.reserve-2.result
+    c.args.self.now c.give_back_all.new.self c.args.t c.args.k c.laws_with.ensures.steady (gone c) c.reserve-2.new.buddy c.reserve-2.result
 served c =
     served_then c.args.space.now c.give_back_all.new.space c.args.buddy.now c.give_back_all.new.buddy c.args.self.now c.give_back_all.new.self
-    c.args.t c.args.k c.steady.ensures (gone c) (subst IsSlabs c.self.view_is c.facts.ensures) c.requires.agree c.give_back_all.ensures.agree
-    c.requires.order c.reaps_by_need.ensures.alloc c.reaped_shows.ensures (room c) c.in_default.ensures.answer c.reserve-2.new.buddy
+    c.args.t c.args.k c.laws_with.ensures.steady (gone c) c.laws_with.ensures.parts.slabs c.requires.agree c.give_back_all.ensures.agree
+    c.requires.order (room c) c.in_default.ensures.answer c.reserve-2.new.buddy
     c.reserve-2.result c.reserve-2.ensures.answer c.reserve-2.ensures.shows c.reserve-2.ensures.free
 
 pub returns-clause-answer : goal.returns-clause-answer

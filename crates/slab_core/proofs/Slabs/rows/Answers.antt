@@ -1,7 +1,7 @@
 use Rattle.std.proofs.Common.{◌≡◌, ℕ, map, length, sym, ap, ◌∙◌, arith}
 use Rattle.model_core.specs.Machine.{Cache}
 use Rattle.model_core.specs.Slabs.{cache_of}
-use Rattle.model_core.specs.Reports.{row_of}
+use Rattle.model_core.specs.Reports.{row_of_cache}
 use Rattle.slab_core.proofs.ObjectReport.{below, none_below, below_more, pushed, not_pushed, all_caches}
 use Rattle.slab_core.proofs.Slabs.rows.Goals as goal
 use Rattle.slab_core.proofs.Slabs.rows.Goals.{in-Some, in_default}
@@ -9,7 +9,7 @@ use Rattle.slab_core.proofs.Slabs.rows.Goals.{in-Some, in_default}
 pub loop-c-init : goal.loop-c-init
 loop-c-init c = (
   omega (arith, ap length c.new-rows.ensures),
-  λ r b m a st h. c.new-rows.ensures ∙ ap (map row_of) (sym (none_below (λ (x : Cache). x.number) 0 0 m.caches h.caches_rise (omega arith))),
+  λ r b m a st h. c.new-rows.ensures ∙ ap (map row_of_cache) (sym (none_below (λ (x : Cache). x.number) 0 0 m.caches h.caches_rise (omega arith))),
 )
 
 pub loop-c-preserved : goal.loop-c-preserved
@@ -20,7 +20,7 @@ loop-c-preserved c = elim c.match-row.branch [
         ap (λ v. v.items) w.rows-is ∙ (w.push.ensures.items
         ∙ (pushed c.loop-c.rows.items w.in-Some.row (below (λ (x : Cache). x.number) c.loop-c.c m.caches) (cache_of m c.loop-c.c) (w.in-Some.ensures r b m a st h)
         (c.loop-c.invariant.1 r b m a st h)
-        ∙ ap (map row_of) (sym (below_more (λ (x : Cache). x.number) c.loop-c.c 0 m.caches h.caches_rise)))),
+        ∙ ap (map row_of_cache) (sym (below_more (λ (x : Cache). x.number) c.loop-c.c 0 m.caches h.caches_rise)))),
   )
   | in_default w ↦ (
     omega (arith, c.loop-c.invariant.0, ap (λ v. length v.items) w.rows-is),
@@ -28,7 +28,7 @@ loop-c-preserved c = elim c.match-row.branch [
         ap (λ v. v.items) w.rows-is
         ∙ (not_pushed c.loop-c.rows.items (below (λ (x : Cache). x.number) c.loop-c.c m.caches) (cache_of m c.loop-c.c) (w.in_default.ensures r b m a st h)
         (c.loop-c.invariant.1 r b m a st h)
-        ∙ ap (map row_of) (sym (below_more (λ (x : Cache). x.number) c.loop-c.c 0 m.caches h.caches_rise))),
+        ∙ ap (map row_of_cache) (sym (below_more (λ (x : Cache). x.number) c.loop-c.c 0 m.caches h.caches_rise))),
   )
 ]
 
@@ -36,4 +36,4 @@ pub returns : goal.returns
 returns c = λ r b m a st h.
     let last : c.loop-c.c ≡ 32 = omega arith in
     c.loop-c.invariant.1 r b m a st h
-    ∙ ap (map row_of) (ap (λ (n : ℕ). below (λ (x : Cache). x.number) n m.caches) last ∙ all_caches r b c.args.self.now c.args.t m h)
+    ∙ ap (map row_of_cache) (ap (λ (n : ℕ). below (λ (x : Cache). x.number) n m.caches) last ∙ all_caches r b c.args.self.now c.args.t m h)

@@ -3,9 +3,9 @@ use Rattle.arrayvec.specs.ArrayVec.{array_vec_len}
 use Rattle.model_core.specs.Machine.{Machine}
 use Rattle.space_core.specs.Content as spaces
 use Rattle.buddy_core.specs.Content as buddies
-use Rattle.slab_laws.specs.Shows.{Agree, ShowsMachine}
-use Rattle.slab_laws.specs.Steady.{IsSteady}
-use Rattle.model_core.specs.Reports.{row_of}
+use Rattle.parts_laws.specs.Shows.{Agree, ShowsMachine}
+use Rattle.parts_laws.specs.Steady.{IsSteady}
+use Rattle.model_core.specs.Reports.{row_of_cache}
 use Rattle.slab_core.proofs.ObjectReport.{below}
 use Rattle.slab_core.proofs.Slabs.rows.Given as goal
 
@@ -13,4 +13,4 @@ abbrev pub invariant-loop-c : goal.invariant-loop-c
 invariant-loop-c l =
     (array_vec_len l.rows ≤ l.c)
     × ((r : spaces.Content) (b : buddies.Content) (m : Machine) → Agree r b l.self → IsSteady r b l.self l.t → ShowsMachine r b l.self l.t m
-    → l.rows.items ≡ map row_of (below (λ x. x.number) l.c m.caches))
+    → l.rows.items ≡ map row_of_cache (below (λ x. x.number) l.c m.caches))

@@ -5,16 +5,16 @@ use Rattle.slab_core.proofs.Building.{one_more, object_held}
 
 pub fill-requires-clause-in_reach : goal.fill-requires-clause-in_reach
 fill-requires-clause-in_reach c =
-    object_held c.args.cache.now c.args.first c.args.colour c.fits.ensures c.requires.colour c.args.space.now c.args.t c.args.i
+    object_held c.args.cache.now c.args.first c.args.colour c.requires.layout c.requires.colour c.args.space.now c.args.t c.args.i
     (4096 * c.args.first + c.offset.result) c.size.result c.laws.ensures.facts.some c.requires.in_reach c.requires.object
     (ap (λ n. 4096 * c.args.first + n) c.offset.ensures) c.size.ensures
 
 pub returns : goal.returns
 returns c = λ before built.
     let place : ℕ = 4096 * c.args.first + c.offset.result in
-    one_more c.args.cache.now c.args.first c.args.colour c.fits.ensures c.requires.colour before c.args.space.now c.fill.new.space
+    one_more c.args.cache.now c.args.first c.args.colour c.requires.layout c.requires.colour before c.args.space.now c.fill.new.space
     c.args.t c.args.i place (ap (λ n. 4096 * c.args.first + n) c.offset.ensures) c.laws.ensures
-    (object_held c.args.cache.now c.args.first c.args.colour c.fits.ensures c.requires.colour c.args.space.now c.args.t c.args.i
+    (object_held c.args.cache.now c.args.first c.args.colour c.requires.layout c.requires.colour c.args.space.now c.args.t c.args.i
     place _ c.laws.ensures.facts.some c.requires.in_reach c.requires.object
     (ap (λ n. 4096 * c.args.first + n) c.offset.ensures) refl)
     c.requires.object

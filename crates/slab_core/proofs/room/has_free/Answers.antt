@@ -17,5 +17,5 @@ pub returns-else-free_count-gt0 : goal.returns-else-free_count-gt0
 returns-else-free_count-gt0 c =
     let none = none_to_next c.args.buddy.now c.args.t c.args.k c.loop-order.order c.loop-order.invariant (omega arith) in (
       λ e. absurd (false≢true e),
-      λ h. absurd (none_free c.args.buddy.now c.args.t c.args.k c.laws.ensures.sizes c.requires (c.loop-order.order + 1) (omega arith) none h),
+      λ h. absurd (none_free c.args.buddy.now c.args.t c.args.k c.requires.laws.sizes c.requires.tenant (c.loop-order.order + 1) (omega arith) none h),
     )

@@ -1,7 +1,7 @@
 use Rattle.std.proofs.Common.{[], replicate, ap, refl, sym, ◌∙◌, arith}
 use Rattle.std.proofs.lemmas.List.{get_or-set_same}
-use Rattle.space_core.specs.Storage.{shown}
-use Rattle.space_core.specs.Tables.{bytes_of}
+use Rattle.space_core.specs.Storage.{shown_banks}
+use Rattle.space_core.specs.Tables.{stored_bytes}
 use Rattle.space_core.specs.contracts.Space.{the_view}
 use Rattle.space_core.proofs.Changed.{granted-IsSpace}
 use Rattle.space_core.proofs.Stored.{shown-set}
@@ -18,7 +18,7 @@ invariant_of-self c =
     let least = rw (← c.self.view_is) at c.least_slot-u.ensures.slot in
     let short = rw (← c.self.view_is) at c.least_slot-u.ensures.below in
     let unowned = unowned-from_position s.owners c.in_ok-m.m found in
-    let banks = ap (shown s.unit) (rw c.from.ensures at c.clear_bank.ensures.bytes) ∙ shown-set s.unit (bytes_of c.self.inside.banks) c.in_ok-m.m [] in
+    let banks = ap (shown_banks s.unit) (rw c.from.ensures at c.clear_bank.ensures.bytes) ∙ shown-set s.unit (stored_bytes c.self.inside.banks) c.in_ok-m.m [] in
     rw (c.from-2.ensures, c.from-3.ensures, rw c.from-4.ensures at c.set_slot.ensures, banks) (
       granted-IsSpace facts c.args.t c.least_slot-u.result c.in_ok-m.m tenant short within least.vacant unowned,
       record { room = c.clear_bank.ensures.room s.unit c.self.invariant.1.room; blank = c.self.invariant.1.blank },
@@ -27,12 +27,12 @@ invariant_of-self c =
 pub returns-clause-ok : goal.returns-clause-ok
 returns-clause-ok c =
     let s = the_view c.self.inside in
-    let banks = ap (shown s.unit) (rw c.from.ensures at c.clear_bank.ensures.bytes) ∙ shown-set s.unit (bytes_of c.self.inside.banks) c.in_ok-m.m [] in
+    let banks = ap (shown_banks s.unit) (rw c.from.ensures at c.clear_bank.ensures.bytes) ∙ shown-set s.unit (stored_bytes c.self.inside.banks) c.in_ok-m.m [] in
     rw (← c.self.view_is, c.from-2.ensures, c.from-3.ensures, rw c.from-4.ensures at c.set_slot.ensures, banks) refl
 
 pub returns-clause-fresh : goal.returns-clause-fresh
 returns-clause-fresh c =
     let s = the_view c.self.inside in
     let within = rw (← c.self.view_is) at (rw c.in_ok-m.ensures.ok_part at c.least_unowned.ensures.below) in
-    let banks = ap (shown s.unit) (rw c.from.ensures at c.clear_bank.ensures.bytes) ∙ shown-set s.unit (bytes_of c.self.inside.banks) c.in_ok-m.m [] in
+    let banks = ap (shown_banks s.unit) (rw c.from.ensures at c.clear_bank.ensures.bytes) ∙ shown-set s.unit (stored_bytes c.self.inside.banks) c.in_ok-m.m [] in
     rw banks (get_or-set_same s.banks c.in_ok-m.m (replicate s.unit 0) [] (omega (arith, within, c.self.invariant.0.paired)))

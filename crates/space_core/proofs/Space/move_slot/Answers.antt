@@ -5,7 +5,7 @@ use Rattle.std.proofs.lemmas.List.Edits.{swap_is}
 use Rattle.model_core.specs.declared.owner.Owner.{Owner}
 use Rattle.model_core.specs.Owners.{owned_by}
 use Rattle.space_core.specs.Content.{owner_at}
-use Rattle.space_core.specs.Storage.{shown}
+use Rattle.space_core.specs.Storage.{shown_banks}
 use Rattle.space_core.specs.contracts.Space.{the_view}
 use Rattle.space_core.proofs.TableLemmas.{lists_of}
 use Rattle.space_core.proofs.Mapping.{superblock-lt}
@@ -52,7 +52,7 @@ invariant_of-self c =
     let owned = (facts.agree c.args.t c.args.slot from).0 under in
     let there : from < length stored = omega (arith, superblock-lt facts c.args.t c.args.slot from under, facts.paired, length-shown s.unit stored) in
     let bytes = rw (c.from-source.ensures, c.from-target.ensures) at c.copy_bank.ensures.bytes in
-    let banks = ap (shown s.unit) bytes ∙ shown-copied s.unit stored from to there in
+    let banks = ap (shown_banks s.unit) bytes ∙ shown-copied s.unit stored from to there in
     let within = superblock-lt facts c.args.t c.args.slot from under in
     let owners = rw (c.from-source.ensures, c.from-target.ensures) at c.swap.ensures.items ∙ owner_passes s.owners from to (owned_by c.args.t c.args.slot) within below owned unowned in
     rw (c.from-source.ensures, c.from-target.ensures, c.set_slot.ensures, banks, owners) (
@@ -71,7 +71,7 @@ returns-clause-ok c =
     let owned = (facts.agree c.args.t c.args.slot from).0 under in
     let there : from < length stored = omega (arith, superblock-lt facts c.args.t c.args.slot from under, facts.paired, length-shown s.unit stored) in
     let bytes = rw (c.from-source.ensures, c.from-target.ensures) at c.copy_bank.ensures.bytes in
-    let banks = ap (shown s.unit) bytes ∙ shown-copied s.unit stored from to there in
+    let banks = ap (shown_banks s.unit) bytes ∙ shown-copied s.unit stored from to there in
     let within = superblock-lt facts c.args.t c.args.slot from under in
     let found = rw (← c.self.view_is) at (sym c.least_unowned.ensures.value ∙ c.in_ok-to.ensures.ok_part) in
     let below = rw (← c.self.view_is) at (rw c.in_ok-to.ensures.ok_part at c.least_unowned.ensures.below) in

@@ -2,7 +2,7 @@ use Rattle.std.proofs.Common.{◌≡◌, ◌*◌, ◌^◌, ◌≤◌, ◌%◌, a
 use Rattle.std.proofs.Math.Nat.{pow-le-pow_right}
 use Rattle.std.proofs.lemmas.Nat.{pow_pos}
 use Rattle.model_core.specs.declared.limits.TheConstants.{MOST_ORDER}
-use Rattle.space_core.specs.Storage.{shown}
+use Rattle.space_core.specs.Storage.{shown_banks}
 use Rattle.space_core.proofs.Empty.{empty_space-IsSpace}
 use Rattle.space_core.proofs.Stored.{shown-none}
 use Rattle.space_core.proofs.Space.new.Goals as goal
@@ -15,7 +15,7 @@ invariant_of-result c =
     let owners = rw c.from.ensures at (c.in_ok-owners.ensures.items_if_clones_equal (λ y same. search rules)) in
     let slots = rw (c.from-2.ensures, c.from-3.ensures) at c.in_ok-slots.ensures in
     let stored = rw c.from-4.ensures at c.in_ok-banks.ensures.bytes in
-    let banks = ap (shown unit) stored ∙ shown-none unit c.args.superblocks in
+    let banks = ap (shown_banks unit) stored ∙ shown-none unit c.args.superblocks in
     let marks = rw c.from-5.ensures at (c.in_ok-marks.ensures.items_if_clones_equal (λ y same. search rules)) in
     let zeros = c.in_ok-zeros.ensures.items_if_clones_equal (λ y same. search rules) in
     rw (owners, slots, banks, marks) (
@@ -30,7 +30,7 @@ returns c =
     let owners = rw c.from.ensures at (c.in_ok-owners.ensures.items_if_clones_equal (λ y same. search rules)) in
     let slots = rw (c.from-2.ensures, c.from-3.ensures) at c.in_ok-slots.ensures in
     let stored = rw c.from-4.ensures at c.in_ok-banks.ensures.bytes in
-    let banks = ap (shown unit) stored ∙ shown-none unit c.args.superblocks in
+    let banks = ap (shown_banks unit) stored ∙ shown-none unit c.args.superblocks in
     let marks = rw c.from-5.ensures at (c.in_ok-marks.ensures.items_if_clones_equal (λ y same. search rules)) in
     let whole : unit ≡ 4096 * 2 ^ c.args.order = omega (arith, most) in
     rw (owners, slots, banks, marks, whole) refl

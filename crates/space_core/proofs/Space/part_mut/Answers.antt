@@ -3,22 +3,22 @@ use Rattle.std.specs.Global.{Vec}
 use Rattle.std.proofs.Math.ListN.{set}
 use Rattle.std.specs.Vec.{with_items_from}
 use Rattle.space_core.specs.Content.{IsSpace}
-use Rattle.space_core.specs.Storage.{shown}
+use Rattle.space_core.specs.Storage.{shown_banks}
 use Rattle.space_core.specs.Windows.{put_within}
 use Rattle.space_core.specs.contracts.Space.{the_view}
 use Rattle.space_core.proofs.TableLemmas.{lists_of, lists_of-set, length-lists_of}
-use Rattle.space_core.proofs.Banks.{with_banks, with_bank-IsSpace, items-with_items_from, length-put_within}
+use Rattle.space_core.proofs.BankLemmas.{with_banks, with_bank-IsSpace, items-with_items_from, length-put_within}
 use Rattle.space_core.proofs.Stored.{shown-read, length-shown, length-shown_read, shown-set, or_zeros-full, full-from_length, shown-written_out, written_out-full}
 use Rattle.std.proofs.lemmas.List.Elements.{All-set}
 use Rattle.space_core.proofs.Space.part_mut.Goals as goal
 
--- what is shown once a part of one superblock was written
-shown-written : (unit : ℕ) (banks : List (Vec ℕ)) (m : ℕ) (read : Vec ℕ) (i : ℕ) (w : List ℕ) → 0 < read.len → i ≤ read.len → shown unit (lists_of (set banks m (with_items_from read i w))) ≡ set (shown unit (lists_of banks)) m (put_within read.items i w)
+-- what is shown_banks once a part of one superblock was written
+shown-written : (unit : ℕ) (banks : List (Vec ℕ)) (m : ℕ) (read : Vec ℕ) (i : ℕ) (w : List ℕ) → 0 < read.len → i ≤ read.len → shown_banks unit (lists_of (set banks m (with_items_from read i w))) ≡ set (shown_banks unit (lists_of banks)) m (put_within read.items i w)
 shown-written unit banks m read i w some within =
     let items = items-with_items_from read i w within in
     let full = full-from_length (put_within read.items i w) (omega (arith, read.ok.0, length-put_within read.items i w (omega (arith, read.ok.0)))) in
-    ap (shown unit) (lists_of-set banks m (with_items_from read i w) ∙ ap (λ bytes. set (lists_of banks) m bytes) items)
-    ∙ (shown-set unit (lists_of banks) m (put_within read.items i w) ∙ ap (λ bytes. set (shown unit (lists_of banks)) m bytes) (or_zeros-full unit (put_within read.items i w) full))
+    ap (shown_banks unit) (lists_of-set banks m (with_items_from read i w) ∙ ap (λ bytes. set (lists_of banks) m bytes) items)
+    ∙ (shown-set unit (lists_of banks) m (put_within read.items i w) ∙ ap (λ bytes. set (shown_banks unit (lists_of banks)) m bytes) (or_zeros-full unit (put_within read.items i w) full))
 
 pub invariant_of-self-lent : goal.invariant_of-self-lent
 invariant_of-self-lent c = λ w.
@@ -30,7 +30,7 @@ invariant_of-self-lent c = λ w.
     let before = lists_of c.self.inside.banks.items in
     let banks = c.write_out.new.banks.items in
     let read = c.index_mut-bank.result.now in
-    let whole : shown s.unit (lists_of banks) ≡ s.banks = ap (shown s.unit) c.write_out.ensures.banks ∙ shown-written_out s.unit before c.args.m in
+    let whole : shown_banks s.unit (lists_of banks) ≡ s.banks = ap (shown_banks s.unit) c.write_out.ensures.banks ∙ shown-written_out s.unit before c.args.m in
     let short : c.args.m < length banks = omega (arith, facts.paired, ap length whole, length-shown s.unit (lists_of banks), length-lists_of banks) in
     let there : c.args.m < length before = omega (arith, facts.paired, length-shown s.unit before) in
     let full = subst (λ (stored : List (List ℕ)). get_or stored c.args.m [] ≢ []) (sym c.write_out.ensures.banks) (written_out-full s.unit before c.args.m facts.some there) in
@@ -55,7 +55,7 @@ returns c =
     let before = lists_of c.self.inside.banks.items in
     let banks = c.write_out.new.banks.items in
     let read = c.index_mut-bank.result.now in
-    let whole : shown s.unit (lists_of banks) ≡ s.banks = ap (shown s.unit) c.write_out.ensures.banks ∙ shown-written_out s.unit before c.args.m in
+    let whole : shown_banks s.unit (lists_of banks) ≡ s.banks = ap (shown_banks s.unit) c.write_out.ensures.banks ∙ shown-written_out s.unit before c.args.m in
     let short : c.args.m < length banks = omega (arith, facts.paired, ap length whole, length-shown s.unit (lists_of banks), length-lists_of banks) in
     let there : c.args.m < length before = omega (arith, facts.paired, length-shown s.unit before) in
     let full = subst (λ (stored : List (List ℕ)). get_or stored c.args.m [] ≢ []) (sym c.write_out.ensures.banks) (written_out-full s.unit before c.args.m facts.some there) in
@@ -79,7 +79,7 @@ slice_mut-requires-clause-in_bounds c =
     let before = lists_of c.self.inside.banks.items in
     let banks = c.write_out.new.banks.items in
     let read = c.index_mut-bank.result.now in
-    let whole : shown s.unit (lists_of banks) ≡ s.banks = ap (shown s.unit) c.write_out.ensures.banks ∙ shown-written_out s.unit before c.args.m in
+    let whole : shown_banks s.unit (lists_of banks) ≡ s.banks = ap (shown_banks s.unit) c.write_out.ensures.banks ∙ shown-written_out s.unit before c.args.m in
     let short : c.args.m < length banks = omega (arith, facts.paired, ap length whole, length-shown s.unit (lists_of banks), length-lists_of banks) in
     let there : c.args.m < length before = omega (arith, facts.paired, length-shown s.unit before) in
     let full = subst (λ (stored : List (List ℕ)). get_or stored c.args.m [] ≢ []) (sym c.write_out.ensures.banks) (written_out-full s.unit before c.args.m facts.some there) in

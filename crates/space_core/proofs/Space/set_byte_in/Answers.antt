@@ -3,11 +3,11 @@ use Rattle.std.proofs.Math.ListN.{set}
 use Rattle.std.proofs.lemmas.List.{length-set}
 use Rattle.space_core.specs.Content.{IsSpace, owner_at}
 use Rattle.space_core.specs.Windows.{banks_with_byte}
-use Rattle.space_core.specs.Storage.{shown}
+use Rattle.space_core.specs.Storage.{shown_banks}
 use Rattle.space_core.specs.contracts.Space.{the_view}
 use Rattle.space_core.proofs.TableLemmas.{lists_of, length-lists_of}
 use Rattle.space_core.proofs.Mapping.{superblock-lt}
-use Rattle.space_core.proofs.Banks.{with_banks, with_bank-IsSpace}
+use Rattle.space_core.proofs.BankLemmas.{with_banks, with_bank-IsSpace}
 use Rattle.space_core.proofs.Stored.{length-shown, bank-shown_full, shown-set_byte, shown-written_out, written_out-full}
 use Rattle.space_core.proofs.Space.set_byte_in.Goals as goal
 
@@ -25,10 +25,10 @@ invariant_of-self c =
     let has_owner : owner_at s.owners m ≢ None = λ none. cc in
     let there : m < length before = omega (arith, facts.paired, length-shown s.unit before) in
     let full = subst (λ (banks : List (List ℕ)). get_or banks m [] ≢ []) (sym c.write_out.ensures.banks) (written_out-full s.unit before m facts.some there) in
-    let whole : shown s.unit stored ≡ s.banks = ap (shown s.unit) c.write_out.ensures.banks ∙ shown-written_out s.unit before m in
+    let whole : shown_banks s.unit stored ≡ s.banks = ap (shown_banks s.unit) c.write_out.ensures.banks ∙ shown-written_out s.unit before m in
     let written = shown-set_byte s.unit stored m i c.args.byte full ∙ ap (λ (banks : List (List ℕ)). set banks m (set (get_or banks m []) i c.args.byte)) whole in
     let size : length (set (get_or s.banks m []) i c.args.byte) ≡ s.unit = length-set (get_or s.banks m []) i c.args.byte ∙ facts.sized m (omega (arith, facts.paired)) in
-    let same = ap (shown s.unit) c.set_byte_at.ensures.bytes ∙ written in (
+    let same = ap (shown_banks s.unit) c.set_byte_at.ensures.bytes ∙ written in (
       subst (λ bs. IsSpace (with_banks s bs)) (sym same) (with_bank-IsSpace facts m has_owner within (set (get_or s.banks m []) i c.args.byte) size),
       record { room = c.set_byte_at.ensures.room s.unit c.write_out.ensures.room; blank = c.self.invariant.1.blank },
     )
@@ -45,9 +45,9 @@ returns c =
     let within = superblock-lt facts c.args.t (c.args.place / s.unit) m under in
     let there : m < length before = omega (arith, within, facts.paired, length-shown s.unit before) in
     let full = subst (λ (banks : List (List ℕ)). get_or banks m [] ≢ []) (sym c.write_out.ensures.banks) (written_out-full s.unit before m facts.some there) in
-    let whole : shown s.unit stored ≡ s.banks = ap (shown s.unit) c.write_out.ensures.banks ∙ shown-written_out s.unit before m in
+    let whole : shown_banks s.unit stored ≡ s.banks = ap (shown_banks s.unit) c.write_out.ensures.banks ∙ shown-written_out s.unit before m in
     let written = shown-set_byte s.unit stored m i c.args.byte full ∙ ap (λ (banks : List (List ℕ)). set banks m (set (get_or banks m []) i c.args.byte)) whole in
-    let same = ap (shown s.unit) c.set_byte_at.ensures.bytes ∙ written in
+    let same = ap (shown_banks s.unit) c.set_byte_at.ensures.bytes ∙ written in
     rw (← c.self.view_is) (ap (with_banks s) same ∙ ap (λ (o : Option ℕ). with_banks s (banks_with_byte s.banks i c.args.byte o)) (sym under))
 
 pub set_byte_at-requires-clause-byte : goal.set_byte_at-requires-clause-byte
@@ -61,7 +61,7 @@ set_byte_at-requires-clause-byte c =
     let within = superblock-lt facts c.args.t (c.args.place / s.unit) m under in
     let there : m < length before = omega (arith, within, facts.paired, length-shown s.unit before) in
     let full = subst (λ (banks : List (List ℕ)). get_or banks m [] ≢ []) (sym c.write_out.ensures.banks) (written_out-full s.unit before m facts.some there) in
-    let whole : shown s.unit stored ≡ s.banks = ap (shown s.unit) c.write_out.ensures.banks ∙ shown-written_out s.unit before m in
+    let whole : shown_banks s.unit stored ≡ s.banks = ap (shown_banks s.unit) c.write_out.ensures.banks ∙ shown-written_out s.unit before m in
     let size : length (get_or stored m []) ≡ s.unit = ap length (sym (bank-shown_full s.unit stored m full) ∙ ap (λ (banks : List (List ℕ)). get_or banks m []) whole) ∙ facts.sized m (omega (arith, within, facts.paired)) in
     omega (arith, size, facts.some)
 
@@ -80,5 +80,5 @@ set_byte_at-requires-clause-bank c =
     let before = c.self.inside.banks in
     let after = c.write_out.new.banks in
     let below = superblock-lt facts c.args.t (c.args.place / s.unit) c.args.m (rw (← c.self.view_is) at c.requires) in
-    let stored = ap length (ap (shown s.unit) c.write_out.ensures.banks ∙ shown-written_out s.unit (lists_of before.items) c.from-m.result) in
+    let stored = ap length (ap (shown_banks s.unit) c.write_out.ensures.banks ∙ shown-written_out s.unit (lists_of before.items) c.from-m.result) in
     omega (arith, below, c.from-m.ensures, facts.paired, stored, length-shown s.unit (lists_of after.items), length-lists_of after.items, after.ok.0)

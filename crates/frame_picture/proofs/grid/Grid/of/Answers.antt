@@ -2,7 +2,7 @@ use Rattle.std.proofs.Common.{◌≡◌, ℕ, ◌+◌, ◌*◌, ◌%◌, ◌^◌
 use Rattle.std.proofs.Math.Nat.{mul-le-mul_right}
 use Rattle.std.proofs.Math.Pow.{pow_mono}
 use Rattle.std.proofs.lemmas.Option.{slice_get_within}
-use Rattle.frame_cells.specs.Histories.{columns_of}
+use Rattle.frame_picture.specs.Histories.{columns_of}
 use Rattle.frame_picture.proofs.grid.Grid.of.Goals as goal
 
 -- so many slots of so many frames fit

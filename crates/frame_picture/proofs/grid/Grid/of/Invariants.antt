@@ -1,8 +1,8 @@
 use Rattle.std.proofs.Common.{◌≡◌, ℕ, ◌^◌, ◌<◌, ◌≤◌, Some, slice_get}
 use Rattle.model_core.specs.declared.owner.Owner.{Owner}
-use Rattle.frame_cells.specs.declared.history.Column.{Column}
-use Rattle.frame_cells.specs.declared.history.Sheet.{Sheet}
-use Rattle.frame_cells.specs.Histories.{columns_of}
+use Rattle.frame_picture.specs.declared.history.Column.{Column}
+use Rattle.frame_picture.specs.declared.history.Sheet.{Sheet}
+use Rattle.frame_picture.specs.Histories.{columns_of}
 use Rattle.frame_picture.proofs.grid.Grid.of.Given as goal
 
 -- above the slots of the columns so far

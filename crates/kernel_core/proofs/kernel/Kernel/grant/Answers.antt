@@ -1,8 +1,8 @@
 use Rattle.std.proofs.Common.{arith}
-use Rattle.kernel_core.proofs.Owners.{unowned_at}
+use Rattle.space_core.proofs.Vacancy.{unowned-from_position}
 use Rattle.words_core.specs.declared.event.Event.TheVariants as On
 use Rattle.words_core.specs.declared.event.AdminCommand.TheVariants as Do
-use Rattle.part_laws.proofs.SlotBare.{unowned_is_spare}
+use Rattle.parts_laws.proofs.SlotBare.{unowned_is_spare}
 use Rattle.kernel_core.specs.Parts.{Parts, parts_of}
 use Rattle.kernel_core.proofs.Worlds.{agree_viewed, steps_viewed}
 use Rattle.kernel_core.proofs.Changing.{together}
@@ -20,16 +20,16 @@ returns-in_default c =
 pub add_slot-requires-clause-unused : goal.add_slot-requires-clause-unused
 add_slot-requires-clause-unused c =
     (unowned_is_spare c.self.inside.space c.self.inside.buddy c.self.inside.slabs c.in-Ok.superblock
-    (together (parts_of c.self.inside.space c.self.inside.buddy c.self.inside.slabs) c.self.invariant c.laws.ensures c.laws-2.ensures c.facts.ensures)
-    (unowned_at c.self.inside.space.owners c.in-Ok.superblock c.in-Ok.ensures.superblock)).unused
+    (together (parts_of c.self.inside.space c.self.inside.buddy c.self.inside.slabs) c.self.invariant c.laws.ensures c.laws-2.ensures c.laws-3.ensures)
+    (unowned-from_position c.self.inside.space.owners c.in-Ok.superblock c.in-Ok.ensures.superblock)).unused
 
 pub invariant_of-self-2 : goal.invariant_of-self-2
 invariant_of-self-2 c =
     let inside : Parts = parts_of c.self.inside.space c.self.inside.buddy c.self.inside.slabs in
     let grantable : IsGrantable inside c.args.tenant c.in-Ok.slot c.in-Ok.superblock = record {
       agree = c.self.invariant;
-      together = together inside c.self.invariant c.laws.ensures c.laws-2.ensures c.facts.ensures;
-      space_after = rw c.in-Ok.ensures.ok at c.laws-3.ensures.facts;
+      together = together inside c.self.invariant c.laws.ensures c.laws-2.ensures c.laws-3.ensures;
+      space_after = rw c.in-Ok.ensures.ok at c.laws-4.ensures.facts;
       tenant = omega arith;
       free = c.in-Ok.ensures.superblock;
       least = c.in-Ok.ensures.slot;
@@ -44,8 +44,8 @@ returns c =
     let inside : Parts = parts_of c.self.inside.space c.self.inside.buddy c.self.inside.slabs in
     let grantable : IsGrantable inside c.args.tenant c.in-Ok.slot c.in-Ok.superblock = record {
       agree = c.self.invariant;
-      together = together inside c.self.invariant c.laws.ensures c.laws-2.ensures c.facts.ensures;
-      space_after = rw c.in-Ok.ensures.ok at c.laws-3.ensures.facts;
+      together = together inside c.self.invariant c.laws.ensures c.laws-2.ensures c.laws-3.ensures;
+      space_after = rw c.in-Ok.ensures.ok at c.laws-4.ensures.facts;
       tenant = omega arith;
       free = c.in-Ok.ensures.superblock;
       least = c.in-Ok.ensures.slot;

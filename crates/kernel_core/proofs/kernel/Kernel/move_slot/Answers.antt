@@ -26,26 +26,26 @@ returns-in-Err-PoolEmpty c =
 pub move_slot-requires-2-clause-unused : goal.move_slot-requires-2-clause-unused
 move_slot-requires-2-clause-unused c =
     let inside : Parts = parts_of c.self.inside.space c.self.inside.buddy c.self.inside.slabs in
-    (to_spare inside c.in-Ok.superblocks.1 (together inside c.self.invariant c.laws.ensures c.laws-2.ensures c.facts.ensures) c.in-Ok.ensures.to).unused
+    (to_spare inside c.in-Ok.superblocks.1 (together inside c.self.invariant c.laws.ensures c.laws-2.ensures c.laws-3.ensures) c.in-Ok.ensures.to).unused
 
 pub move_slot-requires-3-clause-apart : goal.move_slot-requires-3-clause-apart
 move_slot-requires-3-clause-apart c = λ same.
     let inside : Parts = parts_of c.self.inside.space c.self.inside.buddy c.self.inside.slabs in
-    (to_spare inside c.in-Ok.superblocks.1 (together inside c.self.invariant c.laws.ensures c.laws-2.ensures c.facts.ensures) c.in-Ok.ensures.to).unused
+    (to_spare inside c.in-Ok.superblocks.1 (together inside c.self.invariant c.laws.ensures c.laws-2.ensures c.laws-3.ensures) c.in-Ok.ensures.to).unused
     c.args.tenant c.args.slot (c.self.invariant.agree.slots c.args.tenant c.args.slot ∙ c.in-Ok.ensures.from ∙ ap (λ m. Some m) same)
 
 pub move_slot-requires-3-clause-free : goal.move_slot-requires-3-clause-free
 move_slot-requires-3-clause-free c =
     let inside : Parts = parts_of c.self.inside.space c.self.inside.buddy c.self.inside.slabs in
-    (to_spare inside c.in-Ok.superblocks.1 (together inside c.self.invariant c.laws.ensures c.laws-2.ensures c.facts.ensures) c.in-Ok.ensures.to).bare
+    (to_spare inside c.in-Ok.superblocks.1 (together inside c.self.invariant c.laws.ensures c.laws-2.ensures c.laws-3.ensures) c.in-Ok.ensures.to).bare
 
 pub invariant_of-self-2 : goal.invariant_of-self-2
 invariant_of-self-2 c =
     let inside : Parts = parts_of c.self.inside.space c.self.inside.buddy c.self.inside.slabs in
     let movable : IsMovable inside c.move_slot-3.new.self c.args.tenant c.args.slot c.in-Ok.superblocks.0 c.in-Ok.superblocks.1 = record {
       agree = c.self.invariant;
-      together = together inside c.self.invariant c.laws.ensures c.laws-2.ensures c.facts.ensures;
-      space_after = rw c.in-Ok.ensures.ok at c.laws-3.ensures.facts;
+      together = together inside c.self.invariant c.laws.ensures c.laws-2.ensures c.laws-3.ensures;
+      space_after = rw c.in-Ok.ensures.ok at c.laws-4.ensures.facts;
       tenant = omega arith;
       here = c.in-Ok.ensures.from;
       below = c.in-Ok.ensures.below.0;
@@ -62,8 +62,8 @@ returns c =
     let inside : Parts = parts_of c.self.inside.space c.self.inside.buddy c.self.inside.slabs in
     let movable : IsMovable inside c.move_slot-3.new.self c.args.tenant c.args.slot c.in-Ok.superblocks.0 c.in-Ok.superblocks.1 = record {
       agree = c.self.invariant;
-      together = together inside c.self.invariant c.laws.ensures c.laws-2.ensures c.facts.ensures;
-      space_after = rw c.in-Ok.ensures.ok at c.laws-3.ensures.facts;
+      together = together inside c.self.invariant c.laws.ensures c.laws-2.ensures c.laws-3.ensures;
+      space_after = rw c.in-Ok.ensures.ok at c.laws-4.ensures.facts;
       tenant = omega arith;
       here = c.in-Ok.ensures.from;
       below = c.in-Ok.ensures.below.0;

@@ -23,7 +23,7 @@ use Rattle.std.specs.contracts.alloc.Global as heap
 use Rattle.std.proofs.alloc.Global.TheLaws as heap_laws
 use Rattle.std.specs.contracts.impls.GlobalAllocator.TheImpl.{ghosts}
 use Rattle.std_alloc.specs.Box.Ownership.{box_owns}
-use Rattle.raw_box.proofs.Values.{both, Raw, raw_good, raw_out}
+use Rattle.partmem_c.proofs.RawBoxValues.{both, Raw, raw_good, raw_out}
 use Rattle.kernel_core.specs.contracts.kernel.Kernel.{the_row}
 use Rattle.partmem_c.proofs.SlotSteps.{word, slot_in}
 use Rattle.partmem_c.specs.contracts.slot.Slot.park as f

@@ -26,7 +26,7 @@ use Rattle.std.specs.contracts.alloc.Global as heap
 use Rattle.std.proofs.alloc.Global.TheLaws as heap_laws
 use Rattle.std.specs.contracts.impls.GlobalAllocator.TheImpl.{ghosts}
 use Rattle.std_alloc.specs.Box.Ownership.{box_owns}
-use Rattle.raw_box.proofs.Values.{both, raw_good, raw_in}
+use Rattle.partmem_c.proofs.RawBoxValues.{both, raw_good, raw_in}
 use Rattle.kernel_core.specs.contracts.kernel.Kernel.{the_row}
 use Rattle.kernel_core.specs.Parts.{Parts}
 use Rattle.partmem_c.specs.Slots.{slot_owns}

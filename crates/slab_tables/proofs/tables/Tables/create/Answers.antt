@@ -9,4 +9,4 @@ invariant_of-self c =
     rw (c.index_of.ensures, c.into.ensures)
     (slabs_more (shown c.self.inside) c.args.t c.in_ok-c.c (new_cache c.args.layout c.args.pattern) c.self.invariant free.below
     (cache_within (shown c.self.inside) c.args.t c.in_ok-c.c (rw (← c.self.view_is) at c.requires) free.below) free.vacant
-    (record { layout = c.fits.ensures; pattern = c.as_slice-bytes.ensures.pattern; made = c.fits.ensures.colours }))
+    (record { size = c.laws.ensures.size; align = c.laws.ensures.align; layout = c.laws.ensures.fits; pattern = c.as_slice-bytes.ensures.pattern; made = c.laws.ensures.fits.colours }))

@@ -1,0 +1,12 @@
+use Rattle.std.proofs.Common.{◌≡◌, ℕ, ◌+◌, ◌-◌, ◌^◌, Bool, set, length}
+use Rattle.buddy_core.specs.Tree.{Shows, IsLess, Mended, IsNode}
+use Rattle.buddy_core.proofs.tree.Tree.join.Given as goal
+
+-- with its own word, which is yet to be written, the block of order `level` is one free block
+abbrev pub invariant-loop-level : goal.invariant-loop-level
+invariant-loop-level l = record {
+  size : length l.words + 1 ≡ 2 ^ (l.fn.self.order + 1);
+  node : IsNode l.fn.self.order l.level l.first l.node;
+  mended : (small large : ℕ → Bool) → Shows l.fn.self.order small l.fn.self.words → IsLess small large l.order l.first
+      → Mended l.fn.self.order l.level l.first small large (set l.words (l.node - 1) (2 ^ l.level));
+}

@@ -1,0 +1,64 @@
+use Rattle.std.proofs.Common.{◌≡◌, ℕ, List, ◌+◌, ◌-◌, ◌*◌, ◌%◌, ◌^◌, ap, subst, sym, ◌∙◌, length, get_or, arith}
+use Rattle.std.specs.Int.{bit_at}
+use Rattle.std.proofs.lemmas.Bool.{both_ways}
+use Rattle.buddy_core.specs.Stored.{StoredTree}
+use Rattle.buddy_core.specs.Tree.{Shows}
+use Rattle.buddy_core.proofs.TreeNodes.{tree_is}
+use Rattle.buddy_core.proofs.TreeSearch.{Reached, reached_first, reached_low, reached_high, reached_last, reached_stored, first_of, found_first}
+use Rattle.buddy_core.proofs.tree.Tree.search.Goals as goal
+use Rattle.buddy_core.proofs.tree.Tree.search.Goals.{then-not-has, else-not-has}
+
+pub loop-level-init : goal.loop-level-init
+loop-level-init c = reached_first c.args.self.now.order c.args.order _ c.as_slice-words.result.now (omega arith)
+
+pub bounds-words-node : goal.bounds-words-node
+bounds-words-node c =
+    let top = c.args.self.now.order in
+    let same = ap (λ (t : StoredTree). t.order) c.self.view_is in
+    let size = ap (λ (ws : List ℕ). length ws + 1) c.as_slice-words.ensures.value ∙ ap (λ (t : StoredTree). length t.words + 1) c.self.view_is ∙ (tree_is _ _ _ c.self.view_is c.self.invariant).size in
+    let stored = reached_stored top c.args.order (c.loop-level._level - c.args.order) c.loop-level.node c.as_slice-words.result.now size (omega arith) c.loop-level.invariant in
+    omega arith
+
+pub loop-level-preserved : goal.loop-level-preserved
+loop-level-preserved c =
+    let l = c.loop-level in
+    let top = c.args.self.now.order in
+    let same = ap (λ (t : StoredTree). t.order) c.self.view_is in
+    let words = c.as_slice-words.result.now in
+    let d = l._level - c.args.order in
+    elim c.if-not-has.branch [
+      | then-not-has w ↦ subst (λ n. Reached top c.args.order (l._level + 1 - c.args.order) n words) (sym w.node-is)
+          (reached_high top c.args.order d l.node (l.node * 2) _ words (omega arith) (omega arith) (omega arith) (λ b. both_ways c.has.result w.if-not-has.true (c.has.ensures.1 b)) l.invariant)
+      | else-not-has w ↦ subst (λ n. Reached top c.args.order (l._level + 1 - c.args.order) n words) (sym w.node-is)
+          (reached_low top c.args.order d l.node (l.node * 2) _ words (omega arith) (omega arith) (omega arith) (c.has.ensures.0 w.if-not-has.false) l.invariant)
+    ]
+
+pub overflow_sub-result : goal.overflow_sub-result
+overflow_sub-result c =
+    let top = c.args.self.now.order in
+    let same = ap (λ (t : StoredTree). t.order) c.self.view_is in
+    let shift = ap (λ (t : StoredTree). 1 * 2 ^ t.order % 4294967296) c.self.view_is in
+    let way = reached_last top c.args.order _ c.loop-level.node c.as_slice-words.result.now (omega arith) c.loop-level.invariant in
+    let first = first_of top c.args.order c.loop-level.node c.requires (tree_is _ _ _ c.self.view_is c.self.invariant).small way.least way.depth in
+    omega arith
+
+pub returns-clause-within : goal.returns-clause-within
+returns-clause-within c =
+    let top = c.args.self.now.order in
+    let same = ap (λ (t : StoredTree). t.order) c.self.view_is in
+    let shift = ap (λ (t : StoredTree). 1 * 2 ^ t.order % 4294967296) c.self.view_is in
+    let way = reached_last top c.args.order _ c.loop-level.node c.as_slice-words.result.now (omega arith) c.loop-level.invariant in
+    let first = first_of top c.args.order c.loop-level.node c.requires (tree_is _ _ _ c.self.view_is c.self.invariant).small way.least way.depth in
+    omega arith
+
+pub returns-clause-found : goal.returns-clause-found
+returns-clause-found c ok shows bit =
+    let top = c.args.self.now.order in
+    let words = c.as_slice-words.result.now in
+    let same = ap (λ (t : StoredTree). t.order) c.self.view_is in
+    let shift = ap (λ (t : StoredTree). 1 * 2 ^ t.order % 4294967296) c.self.view_is in
+    let here : c.args.self.now.words ≡ words = ap (λ (t : StoredTree). t.words) (sym c.self.view_is) ∙ sym c.as_slice-words.ensures.value in
+    let way = reached_last top c.args.order _ c.loop-level.node words (omega arith) c.loop-level.invariant in
+    let first = first_of top c.args.order c.loop-level.node c.requires (tree_is _ _ _ c.self.view_is c.self.invariant).small way.least way.depth in
+    found_first top c.args.order (top - c.args.order) c.loop-level.node _ words c.requires (omega arith) (omega arith) way
+    ok (subst (λ (ws : List ℕ). Shows top ok ws) here shows) (ap (λ (ws : List ℕ). bit_at (get_or ws 0 0) c.args.order) (sym here) ∙ bit)

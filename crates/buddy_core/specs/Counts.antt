@@ -1,0 +1,18 @@
+-- A tenant's counts of free and taken blocks, by order, when a block is taken or released.
+use Rattle.std.specs.Prelude.{◌≡◌, ◌⊎◌, ℕ, ◌+◌, ◌^◌, ◌<◌, ◌≤◌, length, slice_index}
+use Rattle.buddy_core.specs.Stored.{StoredTenant}
+
+-- one more of each order can be counted
+abbrev pub HasRoomForCounts : StoredTenant → Type 0
+HasRoomForCounts tenant = (i : ℕ) → (slice_index tenant.free i + 1 < 2 ^ 32) × (slice_index tenant.taken i + 1 < 2 ^ 32)
+
+-- `part` counts what `whole` counts once a block of order k is taken out of a free one of order j: the halves between are free
+pub record IsTakenOut (k j : ℕ) (whole part : StoredTenant) : Type 0 where
+  pub slots : part.slots ≡ whole.slots
+  pub free_size : length part.free ≡ length whole.free
+  pub taken_size : length part.taken ≡ length whole.taken
+  pub split : slice_index part.free j + 1 ≡ slice_index whole.free j
+  pub halves : (i : ℕ) → k ≤ i → i < j → slice_index part.free i ≡ slice_index whole.free i + 1
+  pub others : (i : ℕ) → (i < k) ⊎ (j < i) → slice_index part.free i ≡ slice_index whole.free i
+  pub taken : slice_index part.taken k ≡ slice_index whole.taken k + 1
+  pub rest : (i : ℕ) → (i ≡ k → ⊥) → slice_index part.taken i ≡ slice_index whole.taken i

@@ -1,0 +1,125 @@
+//! The arguments that programs have in common.
+
+ghost use Rattle.std.specs.Prelude.{◌≡◌, ◌≤◌, ◌<◌, false, None, IfOk, map, option_map};
+ghost use Rattle.std.specs.String.{string_bytes};
+ghost use Rattle.clap.specs.Words.{HasMatchesOf, app_of, first_value, found_of, one_text, rule_of};
+ghost use Rattle.command_line.specs.Arguments.{machine_command, number_rule, positional_rule};
+ghost use Rattle.command_line.specs.Machine.{Writes};
+
+use crate::refused::{Refused, not_parsed};
+use clap::{Arg, ArgAction, ArgMatches, Command, value_parser};
+use model_core::limits::{LEAST_ORDER, MOST_ORDER, MOST_SUPERBLOCKS, MOST_TENANTS};
+use std::alloc::{AllocError, Global};
+
+/// What `--version` tells.
+const VERSION: &str = "1.0.0";
+
+/// What a program that runs a trace tells of itself.
+#[derive(Clone, Copy, Debug)]
+pub struct Program<'a> {
+    /// The word that it is called by.
+    pub name: &'a str,
+    /// What it does.
+    pub about: &'a str,
+    /// What it does with the tenant of `--only`.
+    pub only: &'a str,
+    /// What help has below the arguments.
+    pub after_help: &'a str,
+    /// What is told where its output could not be written.
+    pub unwritten: &'a str,
+}
+
+/// The command of a program that asks for a machine: the sizes with their ranges, and `--only`. The program's own arguments
+/// are added to it.
+pub fn command<'a>(alloc: Global, program: Program<'a>) -> Result<Command<'a>, AllocError>
+    ensures { IfOk result (λ command. app_of command ≡ machine_command program.entry.name.now) }
+{
+    let order = number(
+        alloc,
+        "order",
+        "S",
+        u32::from(LEAST_ORDER),
+        u32::from(MOST_ORDER),
+    )
+    .help("A superblock has 2^S frames of 4096 bytes: 3 to 8");
+    let superblocks = number(alloc, "superblocks", "N", 1, u32::from(MOST_SUPERBLOCKS)).help(
+        "How many there are: 1 to 256",
+    );
+    let tenants = number(alloc, "tenants", "T", 1, u32::from(MOST_TENANTS)).help(
+        "How many share the machine: 1 to 64",
+    );
+    let only = number(alloc, "only", "T", 0, u32::MAX)
+        .help(program.only)
+        .required(false);
+    Command::new(alloc, program.name)
+        .version(VERSION)
+        .about(program.about)
+        .after_help(program.after_help)
+        .no_binary_name(true)
+        .arg(order)?
+        .arg(superblocks)?
+        .arg(tenants)?
+        .arg(only)
+}
+
+/// A required argument `--name NUMBER`, a number from `least` to `most`.
+pub fn number<'a>(alloc: Global, name: &'a str, value: &'a str, least: u32, most: u32) -> Arg<'a>
+    ensures rule { rule_of result ≡ number_rule name.entry.now least most }
+    ensures local { result.global ≡ false }
+{
+    Arg::new(alloc, name)
+        .long(name)
+        .value_name(value)
+        .required(true)
+        .action(ArgAction::Set)
+        .value_parser(value_parser!(u32).range(i64::from(least)..=i64::from(most)))
+}
+
+/// An argument that is known by its place, as a file.
+pub fn positional<'a>(alloc: Global, name: &'a str, help: &'a str) -> Arg<'a>
+    ensures rule { rule_of result ≡ positional_rule name.entry.now }
+    ensures local { result.global ≡ false }
+{
+    Arg::new(alloc, name).help(help).action(ArgAction::Set)
+}
+
+/// What the command finds in these words, without the program's name.
+///
+/// Refused with `Help`, `Version`, `BadLine` or `NoMemory`.
+pub fn parse<'a>(
+    alloc: Global,
+    command: Command<'a>,
+    words: &'a [String],
+) -> Result<ArgMatches<'a>, Refused>
+    // Which word stands under which name is as clap's model says.
+    ensures found { IfOk result (HasMatchesOf (app_of command.entry) (map (λ word. string_bytes word) words.entry.now)) }
+{
+    match command.try_get_matches_from(words) {
+        Ok(matches) => Ok(matches),
+        Err(error) => Err(not_parsed(alloc, &error)),
+    }
+}
+
+/// The number of a required argument; 0, which no range has, where it is missing.
+pub(crate) fn number_of(matches: &ArgMatches<'_>, name: &str) -> u32
+    ensures missing { one_text (found_of matches.now) name.now ≡ None → result ≡ 0 }
+    ensures value { 0 < result → Writes (one_text (found_of matches.now) name.now) result }
+{
+    matches.get_one::<u32>(name).unwrap_or(0)
+}
+
+/// The path under this name, as it was written.
+///
+/// Refused with `NoMemory`.
+pub fn path_of(
+    alloc: Global,
+    matches: &ArgMatches<'_>,
+    name: &str,
+) -> Result<Option<String>, Refused>
+    ensures { IfOk result (λ path. option_map (λ bytes. string_bytes bytes) path ≡ first_value (found_of matches.now) name.now) }
+{
+    match matches.get_str(name) {
+        None => Ok(None),
+        Some(path) => Ok(Some(String::from_str(alloc, path)?)),
+    }
+}

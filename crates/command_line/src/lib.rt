@@ -1,0 +1,18 @@
+//! What programs that run a trace have in common: the machine that a command line asks for, the words that are refused, the
+//! trace that is opened, and the exits with what is told of them.
+//!
+//! Such a program has the arguments of `command`, and adds those of its own by `Command::arg`; from what is found in
+//! the words it takes `Machine::found` and, of the rest, what is its own.
+#![tactic(auto)]
+
+mod arguments;
+mod exit;
+mod machine;
+mod process;
+mod refused;
+
+pub use arguments::{Program, command, number, parse, path_of, positional};
+pub use exit::{Exit, Line, Outcome};
+pub use machine::Machine;
+pub use process::{hand_out, open, tell, words_given};
+pub use refused::Refused;

@@ -1,4 +1,0 @@
-pub mod Cells
-pub mod Even
-pub mod Filling
-pub mod Splits

@@ -1,6 +1,0 @@
-use Rattle.std.proofs.Common.{◌≡◌, vec_len}
-use Rattle.frame_cells.proofs.history.History.new.Given as goal
-
--- a column a round
-abbrev pub invariant-loop-column : goal.invariant-loop-column
-invariant-loop-column l = vec_len l.columns ≡ l._column

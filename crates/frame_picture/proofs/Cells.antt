@@ -1,0 +1,87 @@
+-- What the parts tell of a frame is what it is in the machine that they show.
+use Rattle.std.proofs.Common.{◌≡◌, ℕ, ◌+◌, ◌*◌, ◌/◌, ◌%◌, ◌<◌, false, cond, Some, None, sym, ap, ◌∙◌, subst, arith, lit<}
+use Rattle.model_core.specs.Blocks.{block, HasFrame, IsTaken}
+use Rattle.model_core.specs.Machine.{Machine, order_in, taken_in}
+use Rattle.model_core.specs.Slabs.{slab_of}
+use Rattle.model_core.specs.Layouts.{Layout}
+use Rattle.klist_core.specs.Places.{place_at}
+use Rattle.space_core.specs.Content as spaces
+use Rattle.buddy_core.specs.Content as buddies
+use Rattle.slab_tables.specs.Content.{Content, IsSlabs, layout_numbers, head_of, index_of_cache}
+use Rattle.parts_laws.specs.Shows.{node_of, has_slab, ShowsMachine, Agree}
+use Rattle.parts_laws.specs.Steady.{IsSteady}
+use Rattle.parts_laws.specs.Laws.{is_kind}
+use Rattle.parts_laws.proofs.Lookups.{some_same}
+use Rattle.parts_laws.proofs.Facts.{cache_shown}
+use Rattle.parts_laws.proofs.Steady.{placed_as}
+use Rattle.parts_laws.proofs.ByKind.{from_list}
+use Rattle.parts_laws.proofs.Taken.{taken_meets}
+use Rattle.frame_picture.specs.declared.cell.Cell.{Cell}
+use Rattle.frame_picture.specs.declared.cell.Cell.TheVariants.{NotHeld, Free, Page, Full, Partial, Empty}
+use Rattle.frame_picture.specs.Cells.{IsInSlab, IsCell, IsSlabCell}
+
+head_is : (head index kind : ℕ) → head / 3 ≡ index → head % 3 ≡ kind → head ≡ 3 * index + kind
+head_is head index kind e e' = omega arith
+
+module _ (r : spaces.Content) (b : buddies.Content) (s : Content) (t : ℕ) (st : IsSteady r b s t) (m : Machine) (h : ShowsMachine r b s t m) (f : ℕ) where
+  -- where no block is taken
+  pub none_taken : (IsTaken (buddies.taken_of (buddies.holding_of t b)) f → ⊥) → IsTaken (taken_in m) f → ⊥
+  none_taken none (g, k, taken, here) = none (g, k, sym (taken_meets r b s t m st h g) ∙ taken, here)
+
+  -- a taken block that is no slab's is a page block
+  pub in_page : (first k : ℕ) → buddies.taken_of (buddies.holding_of t b) first ≡ Some k → HasFrame (block first k) f
+      → has_slab s (node_of s.top r.slots t first) ≡ false → IsTaken (order_in m.blocks) f
+  in_page first k taken here none =
+      (first, k, h.blocks first ∙ ap (λ v. cond v None (buddies.taken_of (buddies.holding_of t b) first)) none ∙ taken, here)
+
+  -- a taken block on which a slab stands is the block of a slab of the kind of its list
+  pub in_slab : IsSlabs s → Agree r b s → (first k : ℕ) → buddies.taken_of (buddies.holding_of t b) first ≡ Some k → HasFrame (block first k) f
+      → (node head key kind : ℕ) → node_of s.top r.slots t first ≡ Some node → place_at s.lists.places node ≡ Some (head, key)
+      → kind < 3 → head % 3 ≡ kind → IsInSlab m f (is_kind kind)
+  in_slab w a first k taken here node head key kind under place less is =
+      let q = st.listed first node head key under place in
+      let p = placed_as r s t q.0 first node q.1 q.2 in
+      let same : p.head ≡ head = ap (λ (z : ℕ × ℕ). z.0) (some_same (sym p.place ∙ place)) in
+      let x = cache_shown r b s t m h q.0 q.1 q.2.cached in
+      let head_there : p.head ≡ head_of t q.0 kind = head_is p.head (index_of_cache t q.0) kind p.index (ap (λ z. z % 3) same ∙ is) in
+      let y = from_list r b s w a t q.0 kind less m x.shown h x.cached first node
+      (p.place ∙ ap (λ (z : ℕ). Some (z, first)) head_there) in
+      let order : k ≡ (layout_numbers q.1).order = some_same (sym taken ∙ (st.stands q.0 first node q.1 q.2).taken) in
+      record {
+        number = q.0;
+        cache = x.shown;
+        slab = y.slab;
+        cached = x.cached;
+        standing = ap (slab_of x.shown) y.begins ∙ y.standing;
+        here = subst (λ (l : Layout). HasFrame (block y.slab.first l.order) f) (sym x.layout)
+            (subst (λ g. HasFrame (block g (layout_numbers q.1).order) f) (sym y.begins) (subst (λ (j : ℕ). HasFrame (block first j) f) order here));
+        passes = y.passes;
+      }
+
+-- The same, of parts that are these.
+module _ (r r' : spaces.Content) (b b' : buddies.Content) (s s' : Content) (t : ℕ) (same_space : r' ≡ r) (same_buddy : b' ≡ b) (same_slabs : s' ≡ s)
+    (st' : IsSteady r' b' s' t) (m : Machine) (h : ShowsMachine r b s t m) (f : ℕ) where
+  st : IsSteady r b s t
+  st =
+      subst (λ x. IsSteady x b s t) same_space (subst (λ y. IsSteady r' y s t) same_buddy (subst (λ z. IsSteady r' b' z t) same_slabs st'))
+
+  pub free_told : (IsTaken (buddies.taken_of (buddies.holding_of t b')) f → ⊥) → IsTaken (taken_in m) f → ⊥
+  free_told none = none_taken r b s t st m h f (subst (λ y. IsTaken (buddies.taken_of (buddies.holding_of t y)) f → ⊥) same_buddy none)
+
+  pub slab_told : IsSlabs s' → Agree r b s → (first k : ℕ) → buddies.taken_of (buddies.holding_of t b') first ≡ Some k → HasFrame (block first k) f
+      → (list : ℕ) → ((node key : ℕ) × (node_of s.top r.slots t first ≡ Some node) × (place_at s.lists.places node ≡ Some (list, key)))
+      → (order : ℕ) (cell : Cell) → IsSlabCell list cell → IsCell order m f cell
+  slab_told w a first k taken here list (node, key, under, place) order cell is = go cell is
+    where
+      among : (kind : ℕ) → kind < 3 → list % 3 ≡ kind → IsInSlab m f (is_kind kind)
+      among kind less same =
+          in_slab r b s t st m h f (subst (λ z. IsSlabs z) same_slabs w) a first k
+          (subst (λ y. buddies.taken_of (buddies.holding_of t y) first ≡ Some k) same_buddy taken) here node list key kind under place less same
+
+      go : (c : Cell) → IsSlabCell list c → IsCell order m f c
+      go NotHeld never = absurd never
+      go Free never = absurd never
+      go Page never = absurd never
+      go Full same = among 0 (lit< tt) same
+      go Partial same = among 1 (lit< tt) same
+      go Empty same = among 2 (lit< tt) same

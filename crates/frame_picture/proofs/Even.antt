@@ -1,0 +1,104 @@
+-- Which lines have columns, from line to line.
+use Rattle.std.proofs.Common.{◌≡◌, ◌≢◌, ℕ, ◌+◌, ◌*◌, ◌/◌, ◌%◌, ◌<◌, ◌≤◌, List, Some, length, slice_get, subst, sym, ◌∙◌, ap, arith, ◌⊎◌, inl, inr}
+use Rattle.std.proofs.Math.Nat.{mul-le-mul_right, mul-mod_left}
+use Rattle.std.proofs.lemmas.Bool.{cases_order}
+use Rattle.std.proofs.lemmas.Option.{slice_get_within}
+use Rattle.frame_picture.specs.declared.history.Column.{Column}
+use Rattle.frame_picture.specs.Histories.{IsEven}
+
+-- of two multiples of w the factors are in the order of these
+factor_below : (a b w : ℕ) → a * w < b * w → a < b
+factor_below a b w less = go (cases_order a b)
+  where
+    go : (a ≡ b) ⊎ ((a < b) ⊎ (b < a)) → a < b
+    go (inl e) = let same : a * w ≡ b * w = ap (λ x. x * w) e in absurd (omega arith)
+    go (inr (inl below)) = below
+    go (inr (inr above)) =
+        let le : b ≤ a = omega arith in
+        let more : b * w ≤ a * w = mul-le-mul_right w le in
+        absurd (omega arith)
+
+-- the next line after n columns, where it is a multiple of the width
+pub next_multiple : (n w l : ℕ) → n * w ≤ l → l < (n + 1) * w → (l + 1) % w ≡ 0 → l + 1 ≡ (n + 1) * w
+next_multiple n w l some all zero =
+    let q : ℕ = (l + 1) / w in
+    let is : q * w ≡ l + 1 = grind arith in
+    let above : n < q = factor_below n q w (omega arith) in
+    let most : q < n + 2 = factor_below q (n + 2) w (grind arith) in
+    let e : q ≡ n + 1 = omega arith in
+    sym is ∙ ap (λ x. x * w) e
+
+-- a width of which some lines are short is some
+positive : (n w l : ℕ) → l < (n + 1) * w → 0 < w
+positive n w l all = go (cases_order 0 w)
+  where
+    go : (0 ≡ w) ⊎ ((0 < w) ⊎ (w < 0)) → 0 < w
+    go (inl e) = let none : l < (n + 1) * 0 = subst (λ x. l < (n + 1) * x) (sym e) all in absurd (omega arith)
+    go (inr (inl pos)) = pos
+    go (inr (inr below)) = absurd (omega arith)
+
+-- half of n columns of twice the width reach as far, where the next line is due in the one after all
+half_reach : (n h w l : ℕ) → 0 < w → l + 1 ≡ (n + 1) * w → h ≡ n / 2 → (h * (2 * w) ≤ l) × (l < (h + 1) * (2 * w))
+half_reach n h w l pos is half = go (cases_order n (2 * h))
+  where
+    go : (n ≡ 2 * h) ⊎ ((n < 2 * h) ⊎ (2 * h < n)) → (h * (2 * w) ≤ l) × (l < (h + 1) * (2 * w))
+    go (inl e) = let at : l + 1 ≡ (2 * h + 1) * w = subst (λ x. l + 1 ≡ (x + 1) * w) e is in (omega arith, omega arith)
+    go (inr (inl below)) = absurd (omega arith)
+    go (inr (inr above)) =
+        let e : n ≡ 2 * h + 1 = omega arith in
+        let at : l + 1 ≡ (2 * h + 1 + 1) * w = subst (λ x. l + 1 ≡ (x + 1) * w) e is in
+        (omega arith, omega arith)
+
+-- of equal numbers
+pub moved : (columns : List Column) (w w' l l' : ℕ) → w' ≡ w → l' ≡ l → IsEven columns w l → IsEven columns w' l'
+moved columns w w' l l' e e' even = subst (λ x. IsEven columns x l') (sym e) (subst (IsEven columns w) (sym e') even)
+
+module _ (columns : List Column) (w l : ℕ) (even : IsEven columns w l) where
+  pos : 0 < w
+  pos = positive (length columns) w l even.all
+
+  -- a line that is no multiple
+  pub waits : (l + 1) % w ≢ 0 → IsEven columns w (l + 1)
+  waits other = record {
+    some = omega (arith, even.some);
+    all =
+        let same : l + 1 ≡ (length columns + 1) * w → ⊥ = λ e. other (ap (λ x. x % w) e ∙ mul-mod_left (length columns + 1) w) in
+        omega (arith, even.all, same);
+    each = even.each;
+  }
+
+  -- a line that is one, and gets a column
+  pub keeps : (l + 1) % w ≡ 0 → (more : List Column) → length more ≡ length columns + 1
+      → ((i : ℕ) → i < length columns → slice_get more i ≡ slice_get columns i)
+      → ((column : Column) → slice_get more (length columns) ≡ Some column → column.line ≡ l + 1)
+      → IsEven more w (l + 1)
+  keeps zero more one before last = record {
+    some = rw one (omega (arith, is));
+    all = rw one (grind (arith, is));
+    each = λ i column there. go i column there (cases_order i (length columns));
+  }
+    where
+      is : l + 1 ≡ (length columns + 1) * w
+      is = next_multiple (length columns) w l even.some even.all zero
+
+      go : (i : ℕ) (column : Column) → slice_get more i ≡ Some column → (i ≡ length columns) ⊎ ((i < length columns) ⊎ (length columns < i))
+          → column.line ≡ (i + 1) * w
+      go i column there (inl e) =
+          last column (subst (λ j. slice_get more j ≡ Some column) e there) ∙ is ∙ ap (λ j. (j + 1) * w) (sym e)
+      go i column there (inr (inl below)) = even.each i column (sym (before i below) ∙ there)
+      go i column there (inr (inr above)) = absurd (omega (arith, slice_get_within more i column there))
+
+  -- every second column is given up
+  pub halves : (l + 1) % w ≡ 0 → (half : List Column) → length half ≡ length columns / 2
+      → ((i : ℕ) → i < length half → slice_get half i ≡ slice_get columns (2 * i + 1))
+      → IsEven half (2 * w) l
+  halves zero half few second = record {
+    some = (half_reach (length columns) (length half) w l pos is few).0;
+    all = (half_reach (length columns) (length half) w l pos is few).1;
+    each = λ i column there.
+        let e = even.each (2 * i + 1) column (sym (second i (slice_get_within half i column there)) ∙ there) in
+        grind (arith, e);
+  }
+    where
+      is : l + 1 ≡ (length columns + 1) * w
+      is = next_multiple (length columns) w l even.some even.all zero

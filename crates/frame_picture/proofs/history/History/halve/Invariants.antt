@@ -1,0 +1,15 @@
+use Rattle.std.proofs.Common.{◌≡◌, ℕ, ◌+◌, ◌*◌, ◌<◌, ◌≤◌, slice_get, vec_len}
+use Rattle.frame_picture.proofs.history.History.halve.Given as goal
+
+-- what was passed stands for two columns each, and the columns ahead are as they were
+abbrev pub invariant-loop-i : goal.invariant-loop-i
+invariant-loop-i l = record {
+  lines : l.self.lines ≡ l.initial.self.lines;
+  width : l.self.width ≡ l.initial.self.width;
+  kept : l.self.kept ≡ l.initial.self.kept;
+  order : l.self.order ≡ l.initial.self.order;
+  tenants : l.self.tenants ≡ l.initial.self.tenants;
+  room : vec_len l.self.columns ≡ vec_len l.initial.self.columns;
+  passed : (j : ℕ) → j < l.i → slice_get l.self.columns.items j ≡ slice_get l.initial.self.columns.items (2 * j + 1);
+  ahead : (j : ℕ) → 2 * l.i ≤ j → slice_get l.self.columns.items j ≡ slice_get l.initial.self.columns.items j;
+}

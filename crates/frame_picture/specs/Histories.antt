@@ -1,0 +1,39 @@
+-- What a history is to its callers, and which columns it has after how many lines.
+use Rattle.std.specs.Prelude.{◌≡◌, ℕ, ◌+◌, ◌*◌, ◌<◌, ◌≤◌, List, length, take, vec_len, Some, slice_get}
+use Rattle.frame_picture.specs.declared.history.Column.{Column}
+use Rattle.frame_picture.specs.declared.history.History.{History}
+
+-- a superblock has 2 ^ order frames
+abbrev pub order_of : History → ℕ
+order_of h = h.order
+
+abbrev pub tenants_of : History → ℕ
+tenants_of h = h.tenants
+
+-- the columns in use
+abbrev pub columns_of : History → List Column
+columns_of h = take h.kept h.columns.items
+
+-- how many columns there is room for
+abbrev pub room_of : History → ℕ
+room_of h = vec_len h.columns
+
+-- how many lines a column stands for
+abbrev pub width_of : History → ℕ
+width_of h = h.width
+
+-- how many lines have been run
+abbrev pub line_count : History → ℕ
+line_count h = h.lines
+
+-- the machine and the room are as they were
+pub record SameShape (old new : History) : Type 0 where
+  pub order : order_of new ≡ order_of old
+  pub tenants : tenants_of new ≡ tenants_of old
+  pub room : room_of new ≡ room_of old
+
+-- After so many lines, each line that is a multiple of the width has a column, and no other line has one.
+pub record IsEven (columns : List Column) (width lines : ℕ) : Type 0 where
+  pub some : length columns * width ≤ lines
+  pub all : lines < (length columns + 1) * width
+  pub each : (i : ℕ) (column : Column) → slice_get columns i ≡ Some column → column.line ≡ (i + 1) * width

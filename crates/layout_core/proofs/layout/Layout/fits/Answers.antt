@@ -1,5 +1,0 @@
-use Rattle.model_core.proofs.Layouts.{layouts_fit}
-use Rattle.layout_core.proofs.layout.Layout.fits.Goals as goal
-
-pub returns : goal.returns
-returns c = rw (← c.self.view_is) (layouts_fit _ _ c.self.invariant.accepted_size c.self.invariant.accepted_align)

@@ -1,0 +1,41 @@
+//! A box taken apart: its pointer and its allocator's handle, which together still own the value.
+//!
+//! A `#[repr(C)]` struct can hold the pointer, where it could not hold the box.
+
+ghost use Rattle.std.specs.Prelude.{◌≡◌};
+ghost use Rattle.std_alloc.specs.Box.Ownership.{box_owns};
+
+use std::alloc::Allocator;
+use std::marker::Model;
+
+/// The pointer of a box with the handle that frees its block; a clause reads what lies there as `value`.
+///
+/// It is no `Drop`, so a whole one can't be let go of. Who takes it apart into its fields, or forgets the box that `into_box`
+/// makes again, loses the value and its block, and no contract says so.
+pub struct RawBox<T, A: Allocator> {
+    pub at: *mut T,
+    pub alloc: A,
+    pub ghost value: { T },
+}
+
+impl<T, A: Allocator> Model for RawBox<T, A> {
+    ghost also_owns = { λ b. box_owns (A.dealloc_token b.alloc) T.row b.at b.value };
+}
+
+impl<T: Drop, A: Allocator> RawBox<T, A> {
+    /// The box taken apart.
+    pub fn of(value: Box<T, A>) -> RawBox<T, A>
+        ensures { result.value ≡ value.value }
+    {
+        let (at, alloc) = Box::into_raw_with_allocator(value);
+        RawBox { at, alloc }
+    }
+
+    /// The box put together again.
+    pub fn into_box(self) -> Box<T, A>
+        ensures { result.value ≡ self.value }
+    {
+        let RawBox { at, alloc } = self;
+        unsafe { Box::from_raw(alloc, at) }
+    }
+}

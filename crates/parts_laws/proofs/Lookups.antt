@@ -1,0 +1,151 @@
+-- Look-ups by a key in lists of which one element is replaced, put in, or left out.
+use Rattle.std.proofs.Common.{◌≡◌, ◌≢◌, ℕ, ◌+◌, ◌≤◌, Bool, true, false, not, cond, eqb, ltb, List, [], ◌∷◌, map, Some, None, refl, sym, ap, ◌∙◌, subst, inl, inr, ⊎_elim, arith}
+use Rattle.std.specs.Prelude.{find, filter, Option, option_map}
+use Rattle.std.proofs.lemmas.Bool.{false≢true, eqb-true, eq-eqb, ne_eqb, cases_eq}
+use Rattle.model_core.specs.Machine.{put_rising}
+use Rattle.model_core.specs.WellFormed.{RisesFrom}
+use Rattle.model_core.proofs.Lists.{IsIn, find_in}
+
+pub some_none : {A : Type 0} {x : A} → Some x ≡ None → ⊥
+some_none {A} {x} e = cc
+
+pub some_same : {A : Type 0} {x y : A} → Some x ≡ Some y → x ≡ y
+some_same {A} {x} {y} e = cc
+
+pub eq_turned : (a b : ℕ) → eqb a b ≡ eqb b a
+eq_turned a b =
+    ⊎_elim (λ e. eq-eqb a b e ∙ sym (eq-eqb b a (sym e))) (λ differ. ne_eqb a b differ ∙ sym (ne_eqb b a (λ e. differ (sym e)))) (cases_eq a b)
+
+module _ {X : Type 0} (key : X → ℕ) where
+  -- the first element with this key
+  abbrev pub at : ℕ → List X → Option X
+  at n xs = find (λ x. eqb (key x) n) xs
+
+  -- the element with the key of the new one replaced by it
+  abbrev pub replaced : X → List X → List X
+  replaced new xs = map (λ x. cond (eqb (key x) (key new)) new x) xs
+
+  -- what is found has the key
+  pub found_key : (n : ℕ) (xs : List X) (x : X) → at n xs ≡ Some x → key x ≡ n
+  found_key n xs x e = eqb-true (key x) n (find_in (λ y. eqb (key y) n) x xs e).1
+
+  -- at the head of a list
+  pub at_here : (n : ℕ) (x : X) (xs : List X) → key x ≡ n → at n (x ∷ xs) ≡ Some x
+  at_here n x xs e = ap (λ b. cond b (Some x) (at n xs)) (eq-eqb (key x) n e)
+
+  pub at_past : (n : ℕ) (x : X) (xs : List X) → key x ≢ n → at n (x ∷ xs) ≡ at n xs
+  at_past n x xs differ = ap (λ b. cond b (Some x) (at n xs)) (ne_eqb (key x) n differ)
+
+  same_key : (new x : X) (b : Bool) → eqb (key x) (key new) ≡ b → key (cond b new x) ≡ key x
+  same_key new x true is = sym (eqb-true (key x) (key new) is)
+  same_key new x false is = refl
+
+  -- the keys stay
+  pub keys_replaced : (new : X) (xs : List X) → map key (replaced new xs) ≡ map key xs
+  keys_replaced new [] = refl
+  keys_replaced new (x ∷ xs) =
+      ap (λ k. k ∷ map key (replaced new xs)) (same_key new x (eqb (key x) (key new)) refl) ∙ ap (λ ks. key x ∷ ks) (keys_replaced new xs)
+
+  -- at the key of the new element it is found, where one was
+  pub found_new : (new old : X) (xs : List X) → at (key new) xs ≡ Some old → at (key new) (replaced new xs) ≡ Some new
+  found_new new old [] e = absurd (some_none (sym e))
+  found_new new old (x ∷ xs) e = go (eqb (key x) (key new)) refl e (found_new new old xs)
+    where
+      go : (b : Bool) → eqb (key x) (key new) ≡ b → cond b (Some x) (at (key new) xs) ≡ Some old
+          → (at (key new) xs ≡ Some old → at (key new) (replaced new xs) ≡ Some new)
+          → at (key new) (cond b new x ∷ replaced new xs) ≡ Some new
+      go true is _ _ = at_here (key new) new (replaced new xs) refl
+      go false is e more = at_past (key new) x (replaced new xs) (λ same. false≢true (sym is ∙ eq-eqb (key x) (key new) same)) ∙ more e
+
+  -- at another key nothing changes
+  pub found_other : (new : X) (n : ℕ) (xs : List X) → n ≢ key new → at n (replaced new xs) ≡ at n xs
+  found_other new n [] differ = refl
+  found_other new n (x ∷ xs) differ = go (eqb (key x) (key new)) refl (found_other new n xs differ)
+    where
+      go : (b : Bool) → eqb (key x) (key new) ≡ b → at n (replaced new xs) ≡ at n xs
+          → at n (cond b new x ∷ replaced new xs) ≡ at n (x ∷ xs)
+      go true is more =
+          at_past n new (replaced new xs) (λ same. differ (sym same)) ∙ more
+          ∙ sym (at_past n x xs (λ same. differ (sym same ∙ eqb-true (key x) (key new) is)))
+      go false is more = ap (λ o. cond (eqb (key x) n) (Some x) o) more
+
+  pub key_above : (n : ℕ) (x : X) (xs : List X) → RisesFrom n (map key xs) → IsIn x xs → n ≤ key x
+  key_above n x [] rises i = elim i [ ]
+  key_above n x (y ∷ ys) (low, rises) (inl same) = subst (λ z. n ≤ key z) same low
+  key_above n x (y ∷ ys) (low, rises) (inr i) = let above : key y + 1 ≤ key x = key_above (key y + 1) x ys rises i in omega arith
+
+  -- an element of a rising list is found by its key
+  pub in_found : (n : ℕ) (x : X) (xs : List X) → RisesFrom n (map key xs) → IsIn x xs → at (key x) xs ≡ Some x
+  in_found n x [] rises i = elim i [ ]
+  in_found n x (y ∷ ys) (low, rises) (inl same) =
+      subst (λ z. at (key z) (y ∷ ys) ≡ Some z) same (at_here (key y) y ys refl)
+  in_found n x (y ∷ ys) (low, rises) (inr i) =
+      let above : key y + 1 ≤ key x = key_above (key y + 1) x ys rises i in
+      at_past (key x) y ys (λ same. absurd (omega arith)) ∙ in_found (key y + 1) x ys rises i
+
+  -- look-ups in a list whose elements were changed under their keys
+  pub found_mapped : (g : X → X) (n : ℕ) (xs : List X) → ((x : X) → key (g x) ≡ key x) → at n (map g xs) ≡ option_map g (at n xs)
+  found_mapped g n [] same = refl
+  found_mapped g n (x ∷ xs) same =
+      ap (λ k. cond (eqb k n) (Some (g x)) (at n (map g xs))) (same x) ∙ go (eqb (key x) n) (found_mapped g n xs same)
+    where
+      go : (b : Bool) → at n (map g xs) ≡ option_map g (at n xs)
+          → cond b (Some (g x)) (at n (map g xs)) ≡ option_map g (cond b (Some x) (at n xs))
+      go true more = refl
+      go false more = more
+
+  pub keys_mapped : (g : X → X) (xs : List X) → ((x : X) → key (g x) ≡ key x) → map key (map g xs) ≡ map key xs
+  keys_mapped g [] same = refl
+  keys_mapped g (x ∷ xs) same = ap (λ k. k ∷ map key (map g xs)) (same x) ∙ ap (λ ks. key x ∷ ks) (keys_mapped g xs same)
+
+  none_either : (b : Bool) → at 0 [] ≡ cond b None (at 0 [])
+  none_either true = refl
+  none_either false = refl
+
+  -- look-ups in a list of which the elements with some keys are left out
+  pub found_kept : (gone : ℕ → Bool) (n : ℕ) (xs : List X) → at n (filter (λ x. not (gone (key x))) xs) ≡ cond (gone n) None (at n xs)
+  found_kept gone n [] = none_either (gone n)
+  found_kept gone n (x ∷ xs) = ⊎_elim (here (found_kept gone n xs)) (elsewhere (found_kept gone n xs)) (cases_eq (key x) n)
+    where
+      rest : List X
+      rest = filter (λ y. not (gone (key y))) xs
+
+      kept : (b : Bool) → gone n ≡ b → at n rest ≡ cond b None (at n xs) → key x ≡ n
+          → at n (cond (not b) (x ∷ rest) rest) ≡ cond b None (at n (x ∷ xs))
+      kept true is more same = more
+      kept false is more same = at_here n x rest same ∙ sym (at_here n x xs same)
+
+      here : at n rest ≡ cond (gone n) None (at n xs) → key x ≡ n
+          → at n (filter (λ y. not (gone (key y))) (x ∷ xs)) ≡ cond (gone n) None (at n (x ∷ xs))
+      here more same = ap (λ k. at n (cond (not (gone k)) (x ∷ rest) rest)) same ∙ kept (gone n) refl more same
+
+      past : (b : Bool) → key x ≢ n → at n (cond b (x ∷ rest) rest) ≡ at n rest
+      past true differ = at_past n x rest differ
+      past false differ = refl
+
+      elsewhere : at n rest ≡ cond (gone n) None (at n xs) → key x ≢ n
+          → at n (filter (λ y. not (gone (key y))) (x ∷ xs)) ≡ cond (gone n) None (at n (x ∷ xs))
+      elsewhere more differ = past (not (gone (key x))) differ ∙ more ∙ ap (λ o. cond (gone n) None o) (sym (at_past n x xs differ))
+
+  differ_from : (new x : X) (xs : List X) → at (key new) (x ∷ xs) ≡ None → key x ≢ key new
+  differ_from new x xs absent same = some_none (sym (at_here (key new) x xs same) ∙ absent)
+
+  -- look-ups in a list with an element put in under a new key
+  pub found_put : (new : X) (n : ℕ) (xs : List X) → at (key new) xs ≡ None → at n (put_rising key new xs) ≡ cond (eqb (key new) n) (Some new) (at n xs)
+  found_put new n [] absent = refl
+  found_put new n (x ∷ xs) absent =
+      go (ltb (key new) (key x)) (found_put new n xs (sym (at_past (key new) x xs (differ_from new x xs absent)) ∙ absent))
+    where
+      swap : (a b : Bool) → (a ≡ true → b ≡ true → ⊥) → cond a (Some x) (cond b (Some new) (at n xs)) ≡ cond b (Some new) (cond a (Some x) (at n xs))
+      swap true true apart = absurd (apart refl refl)
+      swap true false apart = refl
+      swap false true apart = refl
+      swap false false apart = refl
+
+      go : (b : Bool) → at n (put_rising key new xs) ≡ cond (eqb (key new) n) (Some new) (at n xs)
+          → at n (cond b (new ∷ (x ∷ xs)) (x ∷ put_rising key new xs)) ≡ cond (eqb (key new) n) (Some new) (at n (x ∷ xs))
+      go true _ = refl
+      go false more =
+          ap (λ o. cond (eqb (key x) n) (Some x) o) more
+          ∙ swap (eqb (key x) n) (eqb (key new) n)
+          (λ a b. differ_from new x xs absent (eqb-true (key x) n a ∙ sym (eqb-true (key new) n b)))

@@ -1,0 +1,11 @@
+pub mod Records
+pub mod Shows
+pub mod Keeps
+pub mod Steady
+pub mod Changes
+pub mod Objects
+pub mod Room
+pub mod Laws
+pub mod Slots
+pub mod Pages
+pub mod Figures

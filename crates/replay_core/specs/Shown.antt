@@ -1,0 +1,12 @@
+-- What becomes of the text of a reply.
+use Rattle.std.specs.Prelude.{◌≡◌, ℕ, ◌+◌, ◌≤◌, Bool, List, Option, Result}
+use Rattle.replay_core.specs.declared.feed.Stopped.{Stopped}
+use Rattle.replay_core.specs.declared.replies.Replies.{Replies}
+use Rattle.replay_core.specs.Pushes.{most_reply_bytes, HasPushed}
+
+-- a text of one reply at most was pushed, to a drain that has then failed or not
+pub record HasShown (old new : Option (List ℕ)) (failing : Bool) (text : List ℕ) (replies replies' : Replies)
+    (result : Result (Unit {0}) Stopped) : Type 0 where
+  pub pushed : HasPushed old new failing text replies.written replies'.written result
+  pub few : replies'.written ≤ replies.written + most_reply_bytes
+  pub same : replies'.only ≡ replies.only

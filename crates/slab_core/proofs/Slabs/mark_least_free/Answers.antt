@@ -1,0 +1,89 @@
+use Rattle.std.proofs.Common.{◌≡◌, ◌+◌, ◌*◌, ◌^◌, ◌%◌, ◌<◌, ◌≤◌, not, Some, refl, sym, ap, ◌∙◌, subst, arith}
+use Rattle.std.specs.Prelude.{IsSome}
+use Rattle.std.specs.List.{position_or_len}
+use Rattle.parts_laws.specs.Shows.{live_of}
+use Rattle.std.specs.Int.Bits.{bit_xor}
+use Rattle.slab_tables.specs.declared.cache.Kept.{Kept}
+use Rattle.slab_tables.specs.Content.{Content, layout_numbers, kept_at}
+use Rattle.slab_tables.specs.Changes.{with_outside}
+use Rattle.parts_laws.specs.Changes.{found}
+use Rattle.slab_core.specs.Objects.{IsTurned}
+use Rattle.slab_core.proofs.ObjectSlabs.{node_within, slab_cache}
+use Rattle.slab_core.proofs.MarkTurned.{turned_window, turned_outside}
+use Rattle.slab_core.proofs.TakeBits.{IsClear, clear_half}
+use Rattle.slab_core.proofs.TakeNext.{record_home, has_clear, claimed_inside, claimed_outside}
+use Rattle.slab_core.proofs.Slabs.mark_least_free.Goals as goal
+use Rattle.slab_core.proofs.Slabs.mark_least_free.Goals.{After-trailing_ones-index}
+
+pub superblock-superblock-requires-clause-node : goal.superblock-superblock-requires-clause-node
+superblock-superblock-requires-clause-node c =
+    node_within c.args.space.now c.args.self.now c.args.t c.requires.slab.0 c.args.first c.args.node c.args.cache.now c.requires.slab.1
+
+pub raise_in_record-requires-clause-home : goal.raise_in_record-requires-clause-home
+raise_in_record-requires-clause-home c =
+    record_home c.args.space.now c.args.self.now c.args.t c.requires.slab.0 c.args.first c.args.node c.record_place.result c.args.cache.now c.requires.slab.1 c.requires.unit
+    (omega (arith, c.record_place.ensures))
+    ∙ ap (λ x. Some x) (sym c.superblock-superblock.ensures)
+
+pub raise_in_record-requires-clause-clear : goal.raise_in_record-requires-clause-clear
+raise_in_record-requires-clause-clear c = λ bytes e.
+    has_clear c.args.space.now c.args.t c.args.cache.now (kept_at c.args.self.now.kept c.args.node) c.args.first c.requires.free
+    (sym c.in_page.ensures ∙ c.if-in_page.true) (slab_cache c.args.space.now c.args.self.now c.args.t c.requires.slab.0 c.args.first c.args.node c.args.cache.now c.requires.tables c.requires.slab.1).few c.requires.laws.own_bytes c.record_place.result
+    (omega (arith, c.record_place.ensures)) bytes e
+
+pub returns-then-in_page-clause-least : goal.returns-then-in_page-clause-least
+returns-then-in_page-clause-least c =
+    claimed_inside c.args.space.now c.args.t c.args.cache.now (kept_at c.args.self.now.kept c.args.node) c.args.first c.requires.free
+    (sym c.in_page.ensures ∙ c.if-in_page.true) (slab_cache c.args.space.now c.args.self.now c.args.t c.requires.slab.0 c.args.first c.args.node c.args.cache.now c.requires.tables c.requires.slab.1).few c.requires.laws.own_bytes c.record_place.result
+    (omega (arith, c.record_place.ensures)) c.raise_in_record.new.space c.raise_in_record.result c.raise_in_record.ensures
+
+pub returns-then-in_page-clause-turned : goal.returns-then-in_page-clause-turned
+returns-then-in_page-clause-turned c =
+    let place : c.record_place.result ≡ 4096 * c.args.first + 4064 = omega (arith, c.record_place.ensures) in
+    let least = claimed_inside c.args.space.now c.args.t c.args.cache.now (kept_at c.args.self.now.kept c.args.node) c.args.first c.requires.free
+    (sym c.in_page.ensures ∙ c.if-in_page.true) (slab_cache c.args.space.now c.args.self.now c.args.t c.requires.slab.0 c.args.first c.args.node c.args.cache.now c.requires.tables c.requires.slab.1).few c.requires.laws.own_bytes c.record_place.result
+    place c.raise_in_record.new.space c.raise_in_record.result c.raise_in_record.ensures in
+    let few = (slab_cache c.args.space.now c.args.self.now c.args.t c.requires.slab.0 c.args.first c.args.node c.args.cache.now c.requires.tables c.requires.slab.1).few in
+    turned_window c.args.space.now c.args.self.now c.args.t (found c.args.cache.now c.args.first c.args.node c.raise_in_record.result)
+    c.raise_in_record.new.space c.requires.laws (omega (arith, few, c.requires.free)) (sym c.in_page.ensures ∙ c.if-in_page.true) c.record_place.result place
+    (subst (λ o. IsSome o) (sym (record_home c.args.space.now c.args.self.now c.args.t c.requires.slab.0 c.args.first c.args.node c.record_place.result c.args.cache.now c.requires.slab.1 c.requires.unit place)) refl)
+    c.raise_in_record.ensures
+
+-- where the record is kept outside
+few_large : (c : After-trailing_ones-index) → (layout_numbers c.args.cache.now).count ≤ 16
+few_large c =
+    (slab_cache c.args.space.now c.args.self.now c.args.t c.requires.slab.0 c.args.first c.args.node c.args.cache.now c.requires.tables c.requires.slab.1).few_large
+    (sym c.in_page.ensures ∙ c.if-in_page.false)
+
+kept_is : (c : After-trailing_ones-index) → c.kept_of-outside.result ≡ kept_at c.args.self.now.kept c.args.node
+kept_is c = c.kept_of-outside.ensures ∙ ap (λ (s : Content). kept_at s.kept c.args.node) c.self.view_is
+
+least : (c : After-trailing_ones-index) → c.trailing_ones-index.result ≡ position_or_len not (live_of c.args.space.now c.args.t c.args.cache.now (kept_at c.args.self.now.kept c.args.node) c.args.first)
+least c =
+    let fits : c.from.result < 65536 = omega (arith, c.kept_of-outside.type_inv) in
+    let word : c.from.result ≡ (kept_at c.args.self.now.kept c.args.node).outside = c.from.ensures ∙ ap (λ (x : Kept). x.outside) (kept_is c) in
+    let is : IsClear 16 (kept_at c.args.self.now.kept c.args.node).outside c.trailing_ones-index.result =
+    subst (λ x. IsClear 16 x c.trailing_ones-index.result) word
+    (subst (IsClear 16 c.from.result) (sym c.trailing_ones-index.ensures) (clear_half c.from.result fits)) in
+    claimed_outside c.args.space.now c.args.t c.args.cache.now (kept_at c.args.self.now.kept c.args.node) c.args.first c.requires.free
+    c.trailing_ones-index.result (sym c.in_page.ensures ∙ c.if-in_page.false) (few_large c) is
+
+pub overflow_shl-index : goal.overflow_shl-index
+overflow_shl-index c =
+    let a = (goal.at.overflow_shl-index c).After-trailing_ones-index in
+    omega (arith, least a, few_large a, c.requires.free)
+
+pub returns-else-in_page-clause-least : goal.returns-else-in_page-clause-least
+returns-else-in_page-clause-least c = least (goal.at.returns-else-in_page-clause-least c).After-trailing_ones-index
+
+pub returns-else-in_page-clause-turned : goal.returns-else-in_page-clause-turned
+returns-else-in_page-clause-turned c =
+    let a = (goal.at.returns-else-in_page-clause-turned c).After-trailing_ones-index in
+    let i = c.trailing_ones-index.result in
+    let node = node_within c.args.space.now c.args.self.now c.args.t c.requires.slab.0 c.args.first c.args.node c.args.cache.now c.requires.slab.1 in
+    let paired = c.requires.tables.paired in
+    subst (λ (s : Content). IsTurned c.args.space.now c.args.space.now c.args.self.now s c.args.t (found c.args.cache.now c.args.first c.args.node i))
+    (sym (c.set_outside.ensures ∙ ap (λ (s : Content). with_outside s c.args.node (bit_xor c.kept_of-outside.result.outside (1 * 2 ^ i % 65536))) c.self.view_is))
+    (turned_outside c.args.space.now c.args.self.now c.args.t (found c.args.cache.now c.args.first c.args.node i)
+    (sym c.in_page.ensures ∙ c.if-in_page.false) (omega (arith, least a, few_large a, c.requires.free)) (omega (arith, node, paired)) _
+    (ap (λ (k : Kept). bit_xor k.outside (1 * 2 ^ i % 65536)) (kept_is a)))

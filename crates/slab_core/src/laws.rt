@@ -1,0 +1,25 @@
+//! What parts that agree lend.
+
+ghost use Rattle.std.specs.Prelude.{◌<◌, length};
+ghost use Rattle.parts_laws.specs.Shows.{Agree};
+ghost use Rattle.parts_laws.specs.Slots.{HoldTogether};
+ghost use Rattle.parts_laws.specs.Steady.{IsSteady};
+
+use crate::Slabs;
+use buddy_core::Buddy;
+use space_core::Space;
+
+impl Slabs {
+    /// Parts that agree lend what holds of each of them, and of each tenant what the laws of the parts ask for. The call does
+    /// nothing.
+    pub fn laws_with(&self, space: &Space, buddy: &Buddy, t: u8)
+        requires tenant { t < length space.now.slots }
+        requires agree { Agree space.now buddy.now self.now }
+        ensures parts { HoldTogether space.now buddy.now self.now }
+        ensures steady { IsSteady space.now buddy.now self.now t }
+    {
+        self.tables.laws();
+        space.laws();
+        buddy.laws();
+    }
+}

@@ -1,9 +1,0 @@
-use Rattle.klist_core.proofs.Tables.{some_within}
-use Rattle.slab_tables.proofs.Reading.{shown}
-use Rattle.slab_tables.proofs.Keeping.{slabs_without}
-use Rattle.slab_tables.proofs.tables.Tables.forget.Goals as goal
-
-pub invariant_of-self : goal.invariant_of-self
-invariant_of-self c =
-    rw c.remove.ensures
-    (slabs_without (shown c.self.inside) c.args.node c.self.invariant (some_within _ c.args.node (rw (← c.self.view_is) at c.requires.placed)) (rw (← c.self.view_is) at c.requires.empty))

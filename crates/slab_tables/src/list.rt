@@ -1,0 +1,56 @@
+//! The lists of slabs, by number among those of all caches.
+
+ghost use Rattle.std.specs.Prelude.{◌≡◌, ◌<◌, ◌/◌, ◌%◌, ◌==◌};
+ghost use Rattle.model_core.specs.declared.limits.TheConstants.{MOST_CACHES};
+ghost use Rattle.slab_tables.specs.Content.{index_of_cache, head_of, kind_number};
+
+use crate::kind::Kind;
+use crate::places::index_of;
+use model_core::limits::MOST_CACHES;
+
+/// The list of the slabs of one kind of one cache of one tenant: `3 * (32 * tenant + cache)` for the full ones, and the next two
+/// numbers for the partial and the empty ones.
+#[derive(Clone, Copy, Debug, PartialEq, Eq)]
+pub struct ListId {
+    pub number: u32,
+}
+
+impl ListId {
+    /// The list of the slabs of a kind of cache `c` of tenant `t`.
+    #[inline(always)]
+    pub fn of(t: u8, c: u32, kind: Kind) -> ListId
+        requires { c < MOST_CACHES }
+        ensures { result.number ≡ head_of t c (kind_number kind) }
+    {
+        ListId {
+            number: 3 * index_of(t, c) as u32 + kind.number(),
+        }
+    }
+
+    /// The number of its cache among those of its tenant.
+    pub fn cache(self) -> u32
+        ensures { result ≡ self.number / 3 % MOST_CACHES }
+    {
+        self.number / 3 % u32::from(MOST_CACHES)
+    }
+
+    /// Whether it is one of the lists of cache `c` of tenant `t`.
+    #[inline(always)]
+    pub fn is_of(self, t: u8, c: u32) -> bool
+        requires { c < MOST_CACHES }
+        ensures { result ≡ (self.number / 3 == index_of_cache t c) }
+    {
+        self.number / 3 == index_of(t, c) as u32
+    }
+
+    /// The kind of its slabs.
+    pub fn kind(self) -> Kind
+        ensures { kind_number result ≡ self.number % 3 }
+    {
+        match self.number % 3 {
+            0 => Kind::Full,
+            1 => Kind::Partial,
+            _ => Kind::Empty,
+        }
+    }
+}

@@ -1,0 +1,104 @@
+//! The stored bytes of the superblocks: a vector for each, empty while its superblock reads as zero.
+
+ghost use Rattle.std.specs.Prelude.{◌≡◌, ◌≢◌, ◌<◌, ◌≤◌, length, replicate, IfOk, slice_set, vec_len, vec_capacity, ℕ, []};
+ghost use Rattle.space_core.specs.Content.{bank};
+ghost use Rattle.space_core.specs.Tables.{stored_bytes};
+ghost use Rattle.space_core.specs.Storage.{HaveRoom, or_zeros};
+
+use std::alloc::{AllocError, Global};
+
+/// Superblock `m` has no bytes any more, and reads as zero.
+pub(crate) fn clear_bank(banks: &mut Vec<Vec<u8>>, m: usize)
+    requires { m < vec_len banks.old }
+    ensures bytes { stored_bytes banks.new ≡ slice_set (stored_bytes banks.old) m [] }
+    ensures room { (unit : ℕ) → HaveRoom unit banks.old.items → HaveRoom unit banks.new.items }
+{
+    banks[m].clear();
+}
+
+/// Writes the zeros out that superblock `m` reads as, where it has no bytes yet.
+#[inline(always)]
+pub(crate) fn write_out(banks: &mut Vec<Vec<u8>>, m: usize, unit: usize)
+    requires bank { m < vec_len banks.old }
+    requires room { HaveRoom unit banks.old.items }
+    ensures banks { stored_bytes banks.new
+        ≡ slice_set (stored_bytes banks.old) m (or_zeros unit (bank (stored_bytes banks.old) m)) }
+    ensures room { HaveRoom unit banks.new.items }
+{
+    if banks[m].is_empty() {
+        zero_fill(&mut banks[m], unit);
+    }
+}
+
+/// So many bytes are zeroed at once. More than 2 KiB are left to one string instruction, which is no faster.
+const CLEARED: usize = 1536;
+
+/// Makes the bytes `unit` zeros.
+#[cold]
+#[inline(never)]
+fn zero_fill(bytes: &mut Vec<u8>, unit: usize)
+    requires { unit ≤ vec_capacity bytes.old }
+    ensures items { bytes.new.items ≡ replicate unit 0 }
+    ensures room { unit ≤ vec_capacity bytes.new }
+{
+    bytes.clear();
+    for i in 0..unit / CLEARED {
+        bytes.resize((i + 1) * CLEARED, 0).unwrap();
+    }
+    bytes.resize(unit, 0).unwrap();
+}
+
+/// Copies the bytes of superblock `from` to superblock `to`.
+pub(crate) fn copy_bank(banks: &mut Vec<Vec<u8>>, from: usize, to: usize)
+    requires from { from < vec_len banks.old }
+    requires to { to < vec_len banks.old }
+    requires apart { from ≢ to }
+    requires room { HaveRoom (length (bank (stored_bytes banks.old) from)) banks.old.items }
+    ensures bytes { stored_bytes banks.new ≡ slice_set (stored_bytes banks.old) to (bank (stored_bytes banks.old) from) }
+    ensures room { (unit : ℕ) → HaveRoom unit banks.old.items → HaveRoom unit banks.new.items }
+{
+    if from < to {
+        let (low, high) = banks.split_at_mut(to);
+        copy_bytes(&mut high[0], &low[from]);
+    } else {
+        let (low, high) = banks.split_at_mut(from);
+        copy_bytes(&mut low[to], &high[0]);
+    }
+}
+
+/// Makes the bytes those of `source`.
+fn copy_bytes(bytes: &mut Vec<u8>, source: &[u8])
+    requires { length source.now ≤ vec_capacity bytes.old }
+    ensures items { bytes.new.items ≡ source.now }
+    ensures room { vec_capacity bytes.old ≤ vec_capacity bytes.new }
+{
+    bytes.clear();
+    bytes.extend_from_slice(source).unwrap();
+}
+
+/// Sets byte `i` of superblock `m`, whose bytes are written out.
+pub(crate) fn set_byte_at(banks: &mut Vec<Vec<u8>>, m: usize, i: usize, byte: u8)
+    requires bank { m < vec_len banks.old }
+    requires byte { i < length (bank (stored_bytes banks.old) m) }
+    ensures bytes { stored_bytes banks.new
+        ≡ slice_set (stored_bytes banks.old) m (slice_set (bank (stored_bytes banks.old) m) i byte) }
+    ensures room { (unit : ℕ) → HaveRoom unit banks.old.items → HaveRoom unit banks.new.items }
+{
+    banks[m][i] = byte;
+}
+
+/// For each of `count` superblocks no bytes yet, and room for `unit` of them.
+pub(crate) fn make_banks(
+    alloc: Global,
+    count: usize,
+    unit: usize,
+) -> Result<Vec<Vec<u8>>, AllocError>
+    ensures bytes { IfOk result (λ banks. stored_bytes banks ≡ replicate count []) }
+    ensures room { IfOk result (λ banks. HaveRoom unit banks.items) }
+{
+    let mut banks = Vec::with_capacity(alloc, count)?;
+    for _ in 0..count {
+        banks.push(Vec::with_capacity(alloc, unit)?)?;
+    }
+    Ok(banks)
+}

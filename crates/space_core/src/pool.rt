@@ -1,0 +1,204 @@
+//! The pool, and the mapping both ways: superblocks with their owners and marks, and the slots of each tenant.
+
+ghost use Rattle.std.specs.Prelude.{◌≡◌, ◌<◌, ◌↔◌, Some, None, length, position, is_none, count_by, replicate, option_map, IsSome, IfSome, IfOk, OnErr, MatchResult, vec_len};
+ghost use Rattle.space_core.specs.Content.{bank, owner_at, mark_at, slots_of, superblock_at};
+ghost use Rattle.space_core.specs.Changes.{IsLeastSlot, with_entry, with_grant, with_take_back, with_move};
+ghost use Rattle.space_core.specs.Tables.{stored_slots};
+
+use crate::banks::{clear_bank, copy_bank};
+use crate::{MoveRefusal, NoSlot, PoolEmpty, Space};
+use model_core::owner::Owner;
+use std::alloc::{AllocError, Global};
+
+impl Space {
+    /// Gives the least superblock without owner to tenant `t`, as the least slot that it does not hold,
+    /// and answers slot and superblock. The slot reads as zero, whatever the superblock held.
+    pub fn grant(&mut self, t: u8) -> Result<(u16, u16), PoolEmpty>
+        requires { t < length self.old.slots }
+        ensures superblock { MatchResult result
+            (λ p. position is_none self.old.owners ≡ Some p.1) (λ _. position is_none self.old.owners ≡ None) }
+        ensures slot { IfOk result (λ p. IsLeastSlot self.old.slots t p.0) }
+        ensures below { IfOk result (λ p. (p.0 < length self.old.owners) × (p.1 < length self.old.owners)) }
+        ensures ok { IfOk result (λ p. self.new ≡ with_grant self.old t p.0 p.1) }
+        ensures fresh { IfOk result (λ p. bank self.new.banks p.1 ≡ replicate self.new.unit 0) }
+        ensures err { OnErr result (self.new ≡ self.old) }
+    {
+        let m = self.least_unowned().ok_or(PoolEmpty)?;
+        let u = self.least_slot(t);
+        clear_bank(&mut self.banks, usize::from(m));
+        self.marks[usize::from(m)] = false;
+        self.owners[usize::from(m)] = Some(Owner { tenant: t, slot: u });
+        set_slot(&mut self.slots, t, usize::from(u), Some(m));
+        Ok((u, m))
+    }
+
+    /// Takes the superblock under a slot back from tenant `t`, and answers it. It keeps its bytes and
+    /// is marked, so that it is scrubbed before it is granted again.
+    pub fn take_back(&mut self, t: u8, slot: u32) -> Result<u16, NoSlot>
+        requires { t < length self.old.slots }
+        ensures superblock { MatchResult result
+            (λ m. superblock_at self.old.slots t slot ≡ Some m) (λ _. superblock_at self.old.slots t slot ≡ None) }
+        ensures below { IfOk result (λ m. m < length self.old.owners) }
+        ensures ok { IfOk result (λ m. self.new ≡ with_take_back self.old t slot m) }
+        ensures err { OnErr result (self.new ≡ self.old) }
+    {
+        let m = self.machine_of(t, slot).ok_or(NoSlot)?;
+        self.marks[usize::from(m)] = true;
+        self.owners[usize::from(m)] = None;
+        set_slot(&mut self.slots, t, slot as usize, None);
+        Ok(m)
+    }
+
+    /// Moves a slot of tenant `t` to the least superblock without owner, and answers the superblock
+    /// that stood under it and the one that does now. All bytes are copied, so the tenant reads what it
+    /// read before. The superblock that it left keeps its bytes and is marked, so that it is scrubbed
+    /// before it is granted again.
+    ///
+    /// `NoSlot` where the tenant does not hold the slot, else `PoolEmpty` where each superblock has an
+    /// owner.
+    pub fn move_slot(&mut self, t: u8, slot: u32) -> Result<(u16, u16), MoveRefusal>
+        requires { t < length self.old.slots }
+        ensures from { IfOk result (λ p. superblock_at self.old.slots t slot ≡ Some p.0) }
+        ensures to { IfOk result (λ p. position is_none self.old.owners ≡ Some p.1) }
+        ensures below { IfOk result (λ p. (p.0 < length self.old.owners) × (p.1 < length self.old.owners)) }
+        ensures ok { IfOk result (λ p. self.new ≡ with_move self.old t slot p.0 p.1) }
+        ensures no_slot { (result ≡ Err MoveRefusal.NoSlot) ↔ (superblock_at self.old.slots t slot ≡ None) }
+        ensures pool_empty { (result ≡ Err MoveRefusal.PoolEmpty)
+            ↔ (IsSome (superblock_at self.old.slots t slot) × (position is_none self.old.owners ≡ None)) }
+        ensures err { OnErr result (self.new ≡ self.old) }
+    {
+        let from = self.machine_of(t, slot).ok_or(MoveRefusal::NoSlot)?;
+        let to = self.least_unowned().ok_or(MoveRefusal::PoolEmpty)?;
+        let (source, target) = (usize::from(from), usize::from(to));
+        copy_bank(&mut self.banks, source, target);
+        self.marks[source] = true;
+        self.marks[target] = false;
+        self.owners.swap(source, target);
+        set_slot(&mut self.slots, t, slot as usize, Some(to));
+        Ok((from, to))
+    }
+
+    /// The superblock under a slot of tenant `t`, None where it does not hold the slot.
+    pub fn machine_of(&self, t: u8, slot: u32) -> Option<u16>
+        requires { t < length self.now.slots }
+        ensures value { result ≡ superblock_at self.now.slots t slot }
+        ensures below { IfSome result (λ m. m < length self.now.owners) }
+    {
+        self.laws();
+        self.row(t).get(slot as usize).copied().flatten()
+    }
+
+    /// The owner of superblock `m`, None where it has none.
+    pub fn owner_of(&self, m: u16) -> Option<Owner>
+        requires { m < length self.now.owners }
+        ensures { result ≡ owner_at self.now.owners m }
+    {
+        self.owners[usize::from(m)]
+    }
+
+    /// The owner of superblock `m` as tenant and slot, None where it has none.
+    pub fn owner(&self, m: u16) -> Option<(u8, u16)>
+        requires { m < length self.now.owners }
+        ensures { result ≡ option_map (λ owner. (owner.tenant, owner.slot)) (owner_at self.now.owners m) }
+    {
+        self.owner_of(m).map(|owner| (owner.tenant, owner.slot))
+    }
+
+    /// The owners by superblock.
+    pub fn owners(&self) -> &[Option<Owner>]
+        ensures { result.now ≡ self.now.owners }
+    {
+        self.owners.as_slice()
+    }
+
+    /// Whether superblock `m` is scrubbed before it is granted again.
+    pub fn is_marked(&self, m: u16) -> bool
+        requires { m < length self.now.owners }
+        ensures { result ≡ mark_at self.now.marks m }
+    {
+        self.marks[usize::from(m)]
+    }
+
+    /// How many superblocks have no owner.
+    pub fn unowned(&self) -> u16
+        ensures { result ≡ count_by is_none self.now.owners }
+    {
+        self.owners.iter().filter(|owner| owner.is_none()).count() as u16
+    }
+
+    /// How many superblocks there are, `MOST_SUPERBLOCKS` at most.
+    pub fn superblocks(&self) -> u16
+        ensures { result ≡ length self.now.owners }
+    {
+        self.laws();
+        self.owners.len() as u16
+    }
+
+    /// How many tenants there are, `MOST_TENANTS` at most.
+    pub fn tenants(&self) -> u8
+        ensures { result ≡ length self.now.slots }
+    {
+        self.laws();
+        self.slots.len() as u8
+    }
+
+    /// The slots of tenant `t`.
+    fn row(&self, t: u8) -> &[Option<u16>]
+        requires { t < length self.now.slots }
+        ensures { result.now ≡ slots_of self.now.slots t }
+    {
+        self.slots[usize::from(t)].as_slice()
+    }
+
+    /// The least superblock without owner.
+    fn least_unowned(&self) -> Option<u16>
+        ensures value { result ≡ position is_none self.now.owners }
+        ensures below { IfSome result (λ m. m < length self.now.owners) }
+    {
+        let m = first_none(&self.owners)?;
+        Some(m as u16)
+    }
+
+    /// The least slot that tenant `t` does not hold. There is one where a superblock has no owner.
+    fn least_slot(&self, t: u8) -> u16
+        requires tenant { t < length self.now.slots }
+        requires pool { IsSome (position is_none self.now.owners) }
+        ensures slot { IsLeastSlot self.now.slots t result }
+        ensures below { result < length self.now.owners }
+    {
+        self.laws();
+        first_none(self.row(t)).unwrap() as u16
+    }
+}
+
+/// The index of the first `None`.
+fn first_none<T>(items: &[Option<T>]) -> Option<usize>
+    ensures value { result ≡ position is_none items.now }
+    ensures below { IfSome result (λ i. i < length items.now) }
+{
+    items.iter().position(|item| item.is_none())
+}
+
+/// Puts a superblock, or none, under slot `u` of tenant `t`.
+pub(crate) fn set_slot(slots: &mut Vec<Vec<Option<u16>>>, t: u8, u: usize, to: Option<u16>)
+    requires tenant { t < vec_len slots.old }
+    requires slot { u < length (slots_of (stored_slots slots.old) t) }
+    ensures { stored_slots slots.new ≡ with_entry (stored_slots slots.old) t u to }
+{
+    slots[usize::from(t)][u] = to;
+}
+
+/// For each of `tenants` tenants `superblocks` slots, with nothing under them.
+pub(crate) fn make_rows(
+    alloc: Global,
+    tenants: usize,
+    superblocks: usize,
+) -> Result<Vec<Vec<Option<u16>>>, AllocError>
+    ensures { IfOk result (λ rows. stored_slots rows ≡ replicate tenants (replicate superblocks None)) }
+{
+    let mut rows = Vec::with_capacity(alloc, tenants)?;
+    for _ in 0..tenants {
+        rows.push(vec![in alloc; None; superblocks]?)?;
+    }
+    Ok(rows)
+}

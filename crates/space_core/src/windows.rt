@@ -1,0 +1,170 @@
+//! The bytes of a tenant, by its places: windows on them, lent to be read or written, and single bytes.
+
+ghost use Rattle.std.specs.Prelude.{◌≡◌, ◌≢◌, ◌+◌, ◌/◌, ◌<◌, ◌≤◌, Some, None, length, replicate, option_map, IsSome, IfSome, slice_range};
+ghost use Rattle.std.specs.Borrow.{sem};
+ghost use Rattle.space_core.specs.Content.{bank, owner_at, superblock_at};
+ghost use Rattle.space_core.specs.Windows.{home_of, window_of, with_window, byte_at, with_byte};
+ghost use Rattle.space_core.specs.Lending.{LendsWindow, LendsPart};
+
+use crate::Space;
+use crate::banks::{set_byte_at, write_out};
+
+impl Space {
+    /// The bytes of tenant `t` from `place` on, `len` of them. None for a range of no bytes, and for
+    /// one that does not lie in one slot that the tenant holds.
+    pub fn window(&self, t: u8, place: u32, len: u32) -> Option<&[u8]>
+        requires { t < length self.now.slots }
+        ensures value { option_map (λ bytes. bytes.now) result ≡ window_of self.now t place len }
+        ensures len { IfSome result (λ bytes. length bytes.now ≡ len) }
+    {
+        let at = place % self.unit;
+        if len == 0 || u64::from(at) + u64::from(len) > u64::from(self.unit) {
+            return None;
+        }
+        let m = self.machine_of(t, place / self.unit)?;
+        Some(part(self.bytes(usize::from(m)), at as usize, len as usize))
+    }
+
+    /// The bytes of tenant `t` from `place` on, to be written. When the borrow ends the range holds
+    /// what was written, and all else of RAM is as before.
+    pub fn window_mut(&mut self, t: u8, place: u32, len: u32) -> &mut [u8]
+        requires tenant { t < length self.old.slots }
+        requires in_reach { IsSome (home_of self.old t place len) }
+        ensures* writes_back { sem 𝓛 (LendsWindow self.entry t place len result) }
+        ensures value { window_of self.old t place len ≡ Some result.now }
+        ensures len { length result.now ≡ len }
+    {
+        let m = self.held(t, place / self.unit);
+        self.window_in(m, t, place, len)
+    }
+
+    /// As [`Space::window_mut`], where the caller knows that superblock `m` stands there; `t` is named for the contract alone.
+    #[inline(always)]
+    pub fn window_in(&mut self, m: u16, t: u8, place: u32, len: u32) -> &mut [u8]
+        requires { home_of self.old t place len ≡ Some m }
+        ensures* writes_back { sem 𝓛 (LendsWindow self.entry t place len result) }
+        ensures value { window_of self.old t place len ≡ Some result.now }
+        ensures len { length result.now ≡ len }
+    {
+        let _ = t;
+        let at = place % self.unit;
+        self.part_mut(usize::from(m), at as usize, len as usize)
+    }
+
+    /// Sets the bytes of tenant `t` from `place` on to zero, `len` of them.
+    pub fn zero(&mut self, t: u8, place: u32, len: u32)
+        requires tenant { t < length self.old.slots }
+        requires in_reach { IsSome (home_of self.old t place len) }
+        ensures { self.new ≡ with_window self.old t place len (replicate len 0) }
+    {
+        self.window_mut(t, place, len).fill(0);
+    }
+
+    /// The byte at a place of tenant `t`.
+    pub fn byte(&self, t: u8, place: u32) -> u8
+        requires tenant { t < length self.now.slots }
+        requires held { IsSome (superblock_at self.now.slots t (place / self.now.unit)) }
+        ensures { byte_at self.now t place ≡ Some result }
+    {
+        let m = self.held(t, place / self.unit);
+        self.byte_in(m, t, place)
+    }
+
+    /// As [`Space::byte`], where the caller knows that superblock `m` stands there; `t` is named for the contract alone.
+    #[inline(always)]
+    pub fn byte_in(&self, m: u16, t: u8, place: u32) -> u8
+        requires { superblock_at self.now.slots t (place / self.now.unit) ≡ Some m }
+        ensures { byte_at self.now t place ≡ Some result }
+    {
+        let _ = t;
+        let at = place % self.unit;
+        let m = usize::from(m);
+        self.bytes(m)[at as usize]
+    }
+
+    /// Writes one byte at a place of tenant `t`.
+    pub fn set_byte(&mut self, t: u8, place: u32, byte: u8)
+        requires tenant { t < length self.old.slots }
+        requires held { IsSome (superblock_at self.old.slots t (place / self.old.unit)) }
+        ensures { self.new ≡ with_byte self.old t place byte }
+    {
+        let m = self.held(t, place / self.unit);
+        self.set_byte_in(m, t, place, byte);
+    }
+
+    /// As [`Space::set_byte`], where the caller knows that superblock `m` stands there; `t` is named for the contract alone.
+    #[inline(always)]
+    pub fn set_byte_in(&mut self, m: u16, t: u8, place: u32, byte: u8)
+        requires { superblock_at self.old.slots t (place / self.old.unit) ≡ Some m }
+        ensures { self.new ≡ with_byte self.old t place byte }
+    {
+        let _ = t;
+        let at = place % self.unit;
+        let m = usize::from(m);
+        write_out(&mut self.banks, m, self.unit as usize);
+        set_byte_at(&mut self.banks, m, at as usize, byte);
+    }
+
+    /// How many bytes a superblock has.
+    pub fn unit(&self) -> u32
+        ensures { result ≡ self.now.unit }
+    {
+        self.unit
+    }
+
+    /// All bytes of superblock `m`.
+    pub fn machine_bytes(&self, m: u16) -> &[u8]
+        requires { m < length self.now.owners }
+        ensures value { result.now ≡ bank self.now.banks m }
+        ensures len { length result.now ≡ self.now.unit }
+    {
+        self.bytes(usize::from(m))
+    }
+
+    /// The superblock under a slot that the tenant holds.
+    fn held(&self, t: u8, slot: u32) -> u16
+        requires tenant { t < length self.now.slots }
+        requires held { IsSome (superblock_at self.now.slots t slot) }
+        ensures value { superblock_at self.now.slots t slot ≡ Some result }
+        ensures below { result < length self.now.owners }
+    {
+        self.machine_of(t, slot).unwrap()
+    }
+
+    /// All bytes of superblock `m`.
+    fn bytes(&self, m: usize) -> &[u8]
+        requires { m < length self.now.owners }
+        ensures value { result.now ≡ bank self.now.banks m }
+        ensures len { length result.now ≡ self.now.unit }
+    {
+        let stored = self.banks[m].as_slice();
+        if stored.is_empty() {
+            self.zeros.as_slice()
+        } else {
+            stored
+        }
+    }
+
+    /// The bytes of superblock `m` from `from` on, `len` of them, to be written.
+    fn part_mut(&mut self, m: usize, from: usize, len: usize) -> &mut [u8]
+        requires in_bounds { m < length self.old.owners }
+        requires owned { owner_at self.old.owners m ≢ None }
+        requires within { from + len ≤ self.old.unit }
+        ensures* writes_back { sem 𝓛 (LendsPart self.entry m from result) }
+        ensures value { result.now ≡ slice_range (bank self.old.banks m) from (from + len) }
+        ensures len { length result.now ≡ len }
+    {
+        write_out(&mut self.banks, m, self.unit as usize);
+        let bank = &mut self.banks[m];
+        bank.slice_mut(from..from + len)
+    }
+}
+
+/// `len` bytes from `from` on.
+fn part(bytes: &[u8], from: usize, len: usize) -> &[u8]
+    requires { from + len ≤ length bytes.now }
+    ensures value { result.now ≡ slice_range bytes.now from (from + len) }
+    ensures len { length result.now ≡ len }
+{
+    &bytes[from..from + len]
+}

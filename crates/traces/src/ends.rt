@@ -1,0 +1,329 @@
+//! Ends that fail, and replies that go out before the trace is asked for more.
+
+ghost use Rattle.std.specs.Prelude.{◌≡◌, false, IfOk};
+
+use crate::pieces::{in_pieces, taking};
+use crate::running::{ALL, line_end};
+use crate::tables::MACHINE;
+use kernel_core::Kernel;
+use replay_core::{Drain, Feed, ReaderFeed, ReplayError, Tally, WriterDrain, replay};
+use std::alloc::Global;
+use std::cell::Cell;
+use std::io::{self, ErrorKind, Read, Write};
+use std::test::Fail;
+
+const TRACE: &[u8] = b"admin grant 0\n0 alloc 0\n0 read 0 4\n";
+
+/// Each line is an event here, and none is faulty.
+fn tally(lines: u64, written: u128) -> Tally {
+    Tally {
+        lines,
+        events: lines,
+        faults: 0,
+        written,
+    }
+}
+
+/// How a replay ends.
+#[derive(Clone, Copy)]
+enum End {
+    Done,
+    FeedFails,
+    DrainFails,
+}
+
+/// Whether a replay ended so, after so many lines and with so much written.
+fn is_ended(ran: Result<Tally, ReplayError>, end: End, lines: u64, written: u128) -> bool {
+    let tally = tally(lines, written);
+    match (ran, end) {
+        (Ok(done), End::Done) => done == tally,
+        (Err(ReplayError::Feed(done)), End::FeedFails) => done == tally,
+        (Err(ReplayError::Drain(done)), End::DrainFails) => done == tally,
+        _ => false,
+    }
+}
+
+/// Good pulls, and what is told then: lines and bytes written.
+const FAILING_FEEDS: [(u32, u64, u128); 4] = [(0, 0, 0), (14, 1, 37), (19, 1, 37), (24, 2, 48)];
+
+/// After a failed feed the lines that ended are done, and the unfinished one is not.
+#[test]
+fn feed_fails(rt: HostRuntime) -> Result<(), Fail> {
+    for (good_pulls, lines, written) in FAILING_FEEDS {
+        let mut kernel = Kernel::boot(rt.alloc(), MACHINE)?;
+        let mut feed = in_pieces(TRACE, 1, good_pulls);
+        let ran = replay(&mut kernel, &mut feed, &mut taking(100, ALL), None);
+        let fits = is_ended(ran, End::FeedFails, lines, written);
+        assert!(rt; fits, "after {good_pulls} pulls");
+    }
+    Ok(())
+}
+
+/// Good pushes, what is told then, and the reply to a next line.
+const FAILING_DRAINS: [(u32, u64, u128, &[u8]); 2] = [
+    (1, 1, 10, b"0> frame 0\n"),
+    (4, 2, 37, b"0> frame 1\n"),
+];
+
+const NEXT_LINE: &[u8] = b"0 alloc 0";
+
+/// After a failed drain the kernel stands after the line whose reply was cut.
+#[test]
+fn drain_fails(rt: HostRuntime) -> Result<(), Fail> {
+    for (good_pushes, lines, written, next) in FAILING_DRAINS {
+        let mut kernel = Kernel::boot(rt.alloc(), MACHINE)?;
+        let mut feed = in_pieces(TRACE, 100, ALL);
+        let ran = replay(&mut kernel, &mut feed, &mut taking(10, good_pushes), None);
+        let fits = is_ended(ran, End::DrainFails, lines, written);
+        let mut drain = taking(100, ALL);
+        let mut feed = in_pieces(NEXT_LINE, 100, ALL);
+        replay(&mut kernel, &mut feed, &mut drain, None)?;
+        assert!(rt; fits && drain.taken() == next, "after {good_pushes} pushes");
+    }
+    Ok(())
+}
+
+/// How much less or more room than the trace needs, how the replay ends then, and what is told.
+const ROOMS: [(u64, End, u64, u128); 4] = [
+    (0, End::FeedFails, 0, 0),
+    (LEN - 1, End::FeedFails, 2, 48),
+    (LEN, End::Done, 3, 66),
+    (LEN + 1, End::Done, 3, 66),
+];
+
+/// The bytes of the trace.
+const LEN: u64 = TRACE.len() as u64;
+
+/// A reader that has used up the room of its feed is asked once more: the feed has ended where the reader has, and
+/// failed where it has more.
+#[test]
+fn room_ends(rt: HostRuntime) -> Result<(), Fail> {
+    for (room, end, lines, written) in ROOMS {
+        let mut kernel = Kernel::boot(rt.alloc(), MACHINE)?;
+        let mut feed = ReaderFeed::with_room(TRACE, room);
+        let ran = replay(&mut kernel, &mut feed, &mut taking(100, ALL), None);
+        let fits = is_ended(ran, end, lines, written)
+            && feed.ended() == ran.is_ok()
+            && feed.failed() == ran.is_err()
+            && feed.room() == room.saturating_sub(LEN);
+        assert!(rt; fits, "room for {room} bytes");
+    }
+    Ok(())
+}
+
+/// What a reader and a writer tell of one another.
+#[derive(Drop)]
+struct Log {
+    /// Calls of the writer that were good.
+    writes: Cell<u32>,
+    flushes: Cell<u32>,
+    /// Bytes were written after the last flush.
+    unsent: Cell<bool>,
+    /// The reader was called while they were.
+    late: Cell<bool>,
+}
+
+fn no_calls() -> Log {
+    Log {
+        writes: Cell::new(0),
+        flushes: Cell::new(0),
+        unsent: Cell::new(false),
+        late: Cell::new(false),
+    }
+}
+
+/// Gives a line a read. One read is interrupted, and the next gives that line.
+#[derive(Drop)]
+struct LineReader<'a> {
+    rest: &'a [u8],
+    good_reads: u32,
+    log: &'a Log,
+}
+
+impl Read for LineReader<'_> {
+    fn read(&mut self, buf: &mut [u8]) -> io::Result<usize> {
+        if self.log.unsent.get() {
+            self.log.late.set(true);
+        }
+        if self.good_reads == 0 {
+            self.good_reads = ALL;
+            return Err(ErrorKind::Interrupted.into());
+        }
+        self.good_reads -= 1;
+        let line = match line_end(self.rest) {
+            Some(end) => end + 1,
+            None => self.rest.len(),
+        };
+        let count = buf.len().min(line);
+        buf[..count].copy_from_slice(&self.rest[..count]);
+        self.rest = &self.rest[count..];
+        Ok(count)
+    }
+}
+
+/// Takes all, and counts its calls. One write takes no byte, or one flush is interrupted, and the next is good.
+#[derive(Drop)]
+struct LogWriter<'a> {
+    good_writes: u32,
+    good_flushes: u32,
+    log: &'a Log,
+}
+
+impl Write for LogWriter<'_> {
+    fn write(&mut self, buf: &[u8]) -> io::Result<usize> {
+        if self.good_writes == 0 {
+            self.good_writes = ALL;
+            return Ok(0);
+        }
+        self.good_writes -= 1;
+        self.log.writes.set(self.log.writes.get().saturating_add(1));
+        self.log.unsent.set(true);
+        Ok(buf.len())
+    }
+
+    fn flush(&mut self) -> io::Result<()> {
+        if self.good_flushes == 0 {
+            self.good_flushes = ALL;
+            return Err(ErrorKind::Interrupted.into());
+        }
+        self.good_flushes -= 1;
+        self.log
+            .flushes
+            .set(self.log.flushes.get().saturating_add(1));
+        self.log.unsent.set(false);
+        Ok(())
+    }
+}
+
+/// How many reads, writes and flushes are good.
+type Good = (u32, u32, u32);
+
+/// The room of a drain, in bytes: none, less than a reply, less than two, and more than are written.
+const ROOMS_HELD: [usize; 4] = [0, 16, 64, 4096];
+
+/// A drain that holds so many bytes; with 0, one that holds none.
+fn drain_into<'a>(
+    alloc: Global,
+    room: usize,
+    writer: LogWriter<'a>,
+) -> Result<WriterDrain<LogWriter<'a>>, Fail>
+    ensures { IfOk result (λ drain. ⟦<WriterDrain<LogWriter<'a>> as Drain>⟧.has_failed drain ≡ false) }
+{
+    if room == 0 {
+        return Ok(WriterDrain::new(writer));
+    }
+    Ok(WriterDrain::holding(writer, Vec::with_capacity(alloc, room)?))
+}
+
+/// How a replay ended, whether the flush at its end was good, and how many bytes were then not written.
+#[derive(Drop)]
+struct Told {
+    ran: Result<Tally, ReplayError>,
+    flushed: bool,
+    unwritten: usize,
+}
+
+/// A replay between such ends.
+fn between(alloc: Global, trace: &[u8], room: usize, log: &Log, good: Good) -> Result<Told, Fail> {
+    let (good_reads, good_writes, good_flushes) = good;
+    let mut kernel = Kernel::boot(alloc, MACHINE)?;
+    let mut feed = ReaderFeed::new(LineReader {
+        rest: trace,
+        good_reads,
+        log,
+    });
+    let mut drain = drain_into(
+        alloc,
+        room,
+        LogWriter {
+            good_writes,
+            good_flushes,
+            log,
+        },
+    )?;
+    let ran = replay(&mut kernel, &mut feed, &mut drain, None);
+    let flushed = ran.is_ok() && drain.flush().is_ok();
+    Ok(Told {
+        ran,
+        flushed,
+        unwritten: drain.unwritten(),
+    })
+}
+
+/// How a replay ends, what is told, whether the flush at its end was good, and how many bytes were not written.
+type Ending = (End, u64, u128, bool, usize);
+
+/// Good reads, writes and flushes, and the ending of a drain that holds none, 16, 64 and 4,096 bytes. With 16 the second of the
+/// three replies is held until it is sent, with more each.
+const STAYING: [(Good, [Ending; 4]); 9] = [
+    ((ALL, ALL, ALL), [(End::Done, 3, 66, true, 0); 4]),
+    ((0, ALL, ALL), [(End::FeedFails, 0, 0, false, 0); 4]),
+    ((2, ALL, ALL), [(End::FeedFails, 2, 48, false, 0); 4]),
+    ((3, ALL, ALL), [(End::FeedFails, 3, 66, false, 0); 4]),
+    (
+        (ALL, 0, ALL),
+        [
+            (End::DrainFails, 1, 0, false, 0),
+            (End::DrainFails, 1, 0, false, 0),
+            (End::DrainFails, 2, 37, false, 37),
+            (End::DrainFails, 2, 37, false, 37),
+        ],
+    ),
+    (
+        (ALL, 1, ALL),
+        [
+            (End::DrainFails, 2, 37, false, 0),
+            (End::DrainFails, 3, 48, false, 11),
+            (End::DrainFails, 3, 48, false, 11),
+            (End::DrainFails, 3, 48, false, 11),
+        ],
+    ),
+    ((ALL, ALL, 0), [(End::DrainFails, 2, 37, false, 0); 4]),
+    ((ALL, ALL, 2), [(End::Done, 3, 66, false, 0); 4]),
+    ((ALL, ALL, 3), [(End::Done, 3, 66, false, 0); 4]),
+];
+
+/// A failed read, a write that took nothing and a failed flush are not tried again, though they would be good. One that failed
+/// while the drain sent is told by the next push, or by the flush at the end.
+#[test]
+fn failures_stay(rt: HostRuntime) -> Result<(), Fail> {
+    for (good, endings) in STAYING {
+        for (room, ending) in ROOMS_HELD.into_iter().zip(endings) {
+            let (end, lines, written, flushed, unwritten) = ending;
+            let told = between(rt.alloc(), TRACE, room, &no_calls(), good)?;
+            let fits = is_ended(told.ran, end, lines, written)
+                && told.flushed == flushed
+                && told.unwritten == unwritten;
+            let (good_reads, good_writes, good_flushes) = good;
+            assert!(rt;
+                fits,
+                "{good_reads} {good_writes} {good_flushes}, room for {room} bytes"
+            );
+        }
+    }
+    Ok(())
+}
+
+/// Traces, and how often is written and flushed for them.
+const CALLS: [(&[u8], u32, u32); 4] = [
+    (TRACE, 3, 4),
+    (b"", 0, 1),
+    (b"# note\n\n# note\n", 0, 1),
+    (b"# note\nfrob\n\n# note\n", 1, 2),
+];
+
+/// Each reply has gone out when the reader is called again, and where nothing was pushed nothing is flushed.
+#[test]
+fn answers_at_once(rt: HostRuntime) -> Result<(), Fail> {
+    for (trace, writes, flushes) in CALLS {
+        for room in ROOMS_HELD {
+            let log = no_calls();
+            let told = between(rt.alloc(), trace, room, &log, (ALL, ALL, ALL))?;
+            assert!(rt; told.ran.is_ok() && told.flushed);
+            assert!(rt; !log.late.get());
+            assert!(rt; log.writes.get() == writes);
+            assert!(rt; log.flushes.get() == flushes);
+        }
+    }
+    Ok(())
+}

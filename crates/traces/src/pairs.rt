@@ -1,0 +1,111 @@
+//! Pairs of worlds in which one tenant does the same: it is told the same, whatever comes between.
+
+use crate::running::{WHOLE, replayed};
+use crate::tables::own::ROWS;
+use crate::tables::{MACHINE, WIDER};
+use std::alloc::Global;
+use std::process::Abort;
+use std::test::Fail;
+
+/// The gaps of its trace: before, between and behind the lines.
+const GAPS: usize = 7;
+
+/// What others do, as far as they get.
+const NOISE: [&[u8]; 7] = [
+    b"admin grant 1\n",
+    b"1 cache 16 8 ee\n",
+    b"1 take 0\n",
+    b"1 write 0 ff\n",
+    b"admin pool\n",
+    b"frob\n",
+    b"admin reset 1\n",
+];
+
+/// What is done with the tenant itself, and told to the administrator alone.
+const QUIET: [&[u8]; 2] = [b"admin takeback 0 1\n", b"admin move 0 0\n"];
+
+/// The trace `alone` with these lines in the gaps from `first` to `last`.
+fn among(
+    alloc: Global,
+    alone: &[u8],
+    noise: &[&[u8]],
+    first: usize,
+    last: usize,
+) -> Result<Vec<u8>, Fail> {
+    let mut trace = Vec::new(alloc);
+    let mut own = alone.split_inclusive(|byte| *byte == b'\n');
+    for gap in 0..GAPS {
+        if (first..=last).contains(&gap) {
+            for line in noise {
+                trace.extend_from_slice(line)?;
+            }
+        }
+        if let Some(line) = own.next() {
+            trace.extend_from_slice(line)?;
+        }
+    }
+    Ok(trace)
+}
+
+/// A tenant that is alone, with six lines, is told the same with these lines in these gaps.
+fn is_told_alike(
+    rt: &(impl AllocGlobal + Abort),
+    noise: &[&[u8]],
+    first: usize,
+    last: usize,
+) -> Result<(), Fail> {
+    let alone = ROWS.first().expect(rt, "a tenant alone");
+    let trace = among(rt.alloc(), alone.trace, noise, first, last)?;
+    for config in [MACHINE, WIDER] {
+        for piece in [1, WHOLE] {
+            let (drain, _) = replayed(rt.alloc(), config, &trace, piece, Some(0))?;
+            assert!(rt; drain.taken() == alone.output, "{trace:?}");
+        }
+    }
+    begins_alike(rt, &trace, alone.output)
+}
+
+/// Of each beginning of the trace the tenant is told what its lines that ended are answered, a beginning of the whole, and
+/// at most one line more: a last line that was cut is a line too.
+fn begins_alike(rt: &(impl AllocGlobal + Abort), trace: &[u8], output: &[u8]) -> Result<(), Fail> {
+    let (mut ended, _) = replayed(rt.alloc(), MACHINE, b"", WHOLE, Some(0))?;
+    for len in 0..=trace.len() {
+        let beginning = &trace[..len];
+        let (drain, _) = replayed(rt.alloc(), MACHINE, beginning, WHOLE, Some(0))?;
+        assert!(rt;
+            drain.taken().starts_with(ended.taken()),
+            "of {len} bytes of {trace:?}"
+        );
+        if beginning.ends_with(b"\n") {
+            assert!(rt;
+                output.starts_with(drain.taken()),
+                "of {len} bytes of {trace:?}"
+            );
+            ended = drain;
+        }
+    }
+    Ok(())
+}
+
+/// Each beginning of the noise in each gap, and all of it in every gap.
+#[test]
+fn others_make_noise(rt: HostRuntime) -> Result<(), Fail> {
+    for count in 0..=NOISE.len() {
+        for gap in 0..GAPS {
+            is_told_alike(&rt, &NOISE[..count], gap, gap)?;
+        }
+    }
+    is_told_alike(&rt, &NOISE, 0, GAPS)
+}
+
+/// A take-back that is refused, and a move of all that the tenant has, in each gap and in every gap.
+#[test]
+fn administrator_is_quiet(rt: HostRuntime) -> Result<(), Fail> {
+    for line in &QUIET {
+        for gap in 0..GAPS {
+            is_told_alike(&rt, &[line], gap, gap)?;
+        }
+        is_told_alike(&rt, &[line], 0, GAPS)?;
+    }
+    is_told_alike(&rt, &QUIET, 0, GAPS)
+}

@@ -1,0 +1,88 @@
+//! Worked traces with all that they write, by what they show.
+
+mod caches;
+mod limits;
+mod lines;
+mod moves;
+pub mod own;
+mod pages;
+mod reaping;
+mod slots;
+
+use kernel_core::Config;
+
+/// The small machine, on which most rows run.
+pub const MACHINE: Config = Config {
+    order: 3,
+    superblocks: 2,
+    tenants: 2,
+};
+
+/// One with more superblocks and tenants.
+pub const WIDER: Config = Config {
+    superblocks: 3,
+    tenants: 3,
+    ..MACHINE
+};
+
+/// One with as many of both as there may be.
+pub const WIDEST: Config = Config {
+    superblocks: 256,
+    tenants: 64,
+    ..MACHINE
+};
+
+/// A trace, and what it writes.
+pub struct Row {
+    pub trace: &'static [u8],
+    pub output: &'static [u8],
+}
+
+/// Rows that run on machines of one size.
+#[derive(Clone, Copy)]
+pub struct Table {
+    pub name: &'static str,
+    pub config: Config,
+    /// The tenant whose lines alone are written; all lines without it.
+    pub only: Option<u8>,
+    pub rows: &'static [Row],
+}
+
+/// All rows.
+pub fn tables() -> [Table; 10] {
+    [
+        of_all("lines", &lines::ROWS),
+        of_all("pages", &pages::ROWS),
+        of_all("slots", &slots::ROWS),
+        of_all("caches", &caches::ROWS),
+        of_all("reaping", &reaping::ROWS),
+        of_all("moves", &moves::ROWS),
+        of_tenant(0, MACHINE, &own::ROWS),
+        of_tenant(1, MACHINE, &own::OTHER_ROWS),
+        of_tenant(0, WIDER, &own::THREE_ROWS),
+        Table {
+            config: WIDEST,
+            ..of_all("limits", &limits::ROWS)
+        },
+    ]
+}
+
+/// All that is written on the small machine.
+fn of_all(name: &'static str, rows: &'static [Row]) -> Table {
+    Table {
+        name,
+        config: MACHINE,
+        only: None,
+        rows,
+    }
+}
+
+/// The lines for one tenant.
+fn of_tenant(tenant: u8, config: Config, rows: &'static [Row]) -> Table {
+    Table {
+        name: "of a tenant",
+        config,
+        only: Some(tenant),
+        rows,
+    }
+}

@@ -1,0 +1,82 @@
+//! Page blocks, and their bytes.
+
+use super::Row;
+
+pub static ROWS: [Row; 10] = [
+    // A new machine's bytes are zero.
+    Row {
+        trace: b"admin grant 0\n0 alloc 0\n0 read 0 4\n",
+        output: b"admin> granted 0 slot 0 superblock 0\n0> frame 0\n0> bytes 00000000\n",
+    },
+    // An empty machine has no frames.
+    Row {
+        trace: b"0 alloc 0\n0 report\n",
+        output: b"0> refused 1 NoFrames\n0> frames 0 live 0 free 0 top none split 0\n\
+            0> order 0 free 0 taken 0\n0> order 1 free 0 taken 0\n0> order 2 free 0 taken 0\n\
+            0> order 3 free 0 taken 0\n",
+    },
+    // Splits, then exhaustion.
+    Row {
+        trace: b"admin grant 0\n0 alloc 0\n0 alloc 1\n0 alloc 2\n0 alloc 0\n0 alloc 0\n\
+            0 alloc 4\n",
+        output: b"admin> granted 0 slot 0 superblock 0\n0> frame 0\n0> frame 2\n0> frame 4\n\
+            0> frame 1\n0> refused 1 NoFrames\n0> refused 2 BadOrder\n",
+    },
+    // Released blocks join through all orders.
+    Row {
+        trace: b"admin grant 0\n0 alloc 0\n0 alloc 1\n0 alloc 2\n0 alloc 0\n0 alloc 0\n\
+            0 alloc 4\n0 free 0\n0 free 1\n0 free 2\n0 free 4\n0 report\n",
+        output: b"admin> granted 0 slot 0 superblock 0\n0> frame 0\n0> frame 2\n0> frame 4\n\
+            0> frame 1\n0> refused 1 NoFrames\n0> refused 2 BadOrder\n0> freed 0\n0> freed 0\n\
+            0> freed 1\n0> freed 2\n0> frames 8 live 0 free 8 top 3 split 0\n\
+            0> order 0 free 0 taken 0\n0> order 1 free 0 taken 0\n0> order 2 free 0 taken 0\n\
+            0> order 3 free 1 taken 0\n",
+    },
+    // A free block that is too small is passed over; a report counts blocks by order, and the share of free frames
+    // outside a greatest block.
+    Row {
+        trace: b"admin grant 0\n0 alloc 0\n0 alloc 1\n0 alloc 2\n0 alloc 0\n0 alloc 0\n\
+            0 alloc 4\n0 free 0\n0 free 4\n0 alloc 1\n0 report\n0 alloc 0\n",
+        output: b"admin> granted 0 slot 0 superblock 0\n0> frame 0\n0> frame 2\n0> frame 4\n\
+            0> frame 1\n0> refused 1 NoFrames\n0> refused 2 BadOrder\n0> freed 0\n0> freed 2\n\
+            0> frame 4\n0> frames 8 live 5 free 3 top 1 split 334\n0> order 0 free 1 taken 1\n\
+            0> order 1 free 1 taken 2\n0> order 2 free 0 taken 0\n0> order 3 free 0 taken 0\n\
+            0> frame 0\n",
+    },
+    // A block joins its buddy only where all of that is free.
+    Row {
+        trace: b"admin grant 0\n0 alloc 0\n0 alloc 0\n0 alloc 0\n0 free 0\n0 free 2\n0 alloc 1\n",
+        output: b"admin> granted 0 slot 0 superblock 0\n0> frame 0\n0> frame 1\n0> frame 2\n\
+            0> freed 0\n0> freed 0\n0> frame 2\n",
+    },
+    // The block of least order is split, not the one at the least frame. Only a block that begins at the frame is
+    // freed.
+    Row {
+        trace: b"admin grant 0\n0 alloc 2\n0 alloc 0\n0 free 0\n0 free 1\n0 alloc 0\n0 free 4\n\
+            0 free 5\n0 alloc 3\n",
+        output: b"admin> granted 0 slot 0 superblock 0\n0> frame 0\n0> frame 4\n0> freed 2\n\
+            0> refused 3 NotABlock\n0> frame 5\n0> freed 0\n0> freed 0\n0> frame 0\n",
+    },
+    // A freed block keeps its bytes for its tenant.
+    Row {
+        trace: b"admin grant 0\n0 alloc 0\n0 write 0 0a0B\n0 read 0 3\n0 free 0\n0 alloc 0\n\
+            0 read 0 2\n",
+        output: b"admin> granted 0 slot 0 superblock 0\n0> frame 0\n0> written 2\n\
+            0> bytes 0a0b00\n0> freed 0\n0> frame 0\n0> bytes 0a0b\n",
+    },
+    // A range lies in one page block; its length is tested before its reach.
+    Row {
+        trace: b"admin grant 0\n0 alloc 0\n0 alloc 0\n0 read 4095 2\n0 read 4095 1\n\
+            0 read 4294967295 64\n0 read 0 0\n0 read 4294967295 65\n",
+        output: b"admin> granted 0 slot 0 superblock 0\n0> frame 0\n0> frame 1\n\
+            0> refused 4 OutOfReach\n0> bytes 00\n0> refused 4 OutOfReach\n\
+            0> refused 5 BadLength\n0> refused 5 BadLength\n",
+    },
+    // A write out of reach stores nothing at all.
+    Row {
+        trace: b"admin grant 0\n0 alloc 0\n0 alloc 0\n0 write 4095 aabb\n0 read 4095 1\n\
+            0 write 4095 aa\n",
+        output: b"admin> granted 0 slot 0 superblock 0\n0> frame 0\n0> frame 1\n\
+            0> refused 4 OutOfReach\n0> bytes 00\n0> written 1\n",
+    },
+];
