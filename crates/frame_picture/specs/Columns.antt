@@ -5,7 +5,7 @@ use Rattle.model_core.specs.Reports.{frames_free, greatest_free, split_share}
 use Rattle.model_core.specs.declared.owner.Owner.{Owner}
 use Rattle.space_core.specs.Content.{owner_at}
 use Rattle.world_core.specs.World.{World}
-use Rattle.kernel_core.specs.Parts.{Parts}
+use Rattle.parts_core.specs.Parts.{Parts}
 use Rattle.kernel_core.specs.Shows.{Shows}
 use Rattle.frame_picture.specs.Cells.{IsCell}
 use Rattle.frame_picture.specs.declared.cell.Cell.{Cell}

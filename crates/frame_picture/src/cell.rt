@@ -4,11 +4,12 @@ ghost use Rattle.std.specs.Prelude.{◌≡◌, ℕ, ◌<◌, ◌/◌, ◌^◌, f
 ghost use Rattle.model_core.specs.Machine.{Machine};
 ghost use Rattle.klist_core.specs.Places.{place_at};
 ghost use Rattle.parts_laws.specs.Shows.{node_of, has_slab};
-ghost use Rattle.kernel_core.specs.Parts.{superblock_at};
-ghost use Rattle.kernel_core.specs.Shows.{ShowsMachine};
+ghost use Rattle.parts_core.specs.Parts.{superblock_at};
+ghost use Rattle.parts_core.specs.Shows.{ShowsMachine};
 ghost use Rattle.frame_picture.specs.Cells.{rank_of, IsCell, IsSlabCell};
 
 use kernel_core::Kernel;
+use slab_tables::{Kind, ListId};
 
 /// What a frame of a tenant is.
 #[derive(Clone, Copy, Debug, PartialEq, Eq)]
@@ -89,21 +90,18 @@ pub fn cell_of(kernel: &Kernel, t: u8, frame: u32) -> Cell
     };
     match list_at(kernel, t, first) {
         None => Cell::Page,
-        Some(list) => slab_cell(list),
+        Some(number) => slab_cell(ListId { number }),
     }
 }
 
-/// What the frames of a slab are that stands in this list: each cache has three, of its full, partial and empty slabs.
-fn slab_cell(list: u32) -> Cell
-    ensures { IsSlabCell list result }
+/// What the frames of a slab are that stands in this list.
+fn slab_cell(list: ListId) -> Cell
+    ensures { IsSlabCell list.number result }
 {
-    let kind = list % 3;
-    if kind == 0 {
-        Cell::Full
-    } else if kind == 1 {
-        Cell::Partial
-    } else {
-        Cell::Empty
+    match list.kind() {
+        Kind::Full => Cell::Full,
+        Kind::Partial => Cell::Partial,
+        Kind::Empty => Cell::Empty,
     }
 }
 

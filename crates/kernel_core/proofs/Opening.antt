@@ -6,13 +6,13 @@ use Rattle.std.proofs.lemmas.Option.{slice_get_within, same_Some}
 use Rattle.std.specs.Prelude.{replicate}
 use Rattle.model_core.specs.Machine.{empty_machine}
 use Rattle.model_core.specs.declared.limits.TheConstants.{LEAST_ORDER, MOST_ORDER, MOST_SUPERBLOCKS, MOST_TENANTS}
-use Rattle.space_core.specs.Content as spaces
 use Rattle.parts_laws.proofs.SlotEmpty.{opening_shows}
 use Rattle.world_core.specs.World.{opening_world}
 use Rattle.world_core.proofs.MachineLists.{slice_get-replicate}
+use Rattle.parts_core.specs.Parts.{PartsAgree, opening_parts}
+use Rattle.parts_core.specs.Shows.{ShowsMachine}
 use Rattle.kernel_core.specs.declared.kernel.Config.{Config}
-use Rattle.kernel_core.specs.Parts.{PartsAgree, opening_parts}
-use Rattle.kernel_core.specs.Shows.{ShowsMachine, Shows}
+use Rattle.kernel_core.specs.Shows.{Shows}
 use Rattle.kernel_core.specs.Booting.{is_between, is_bootable}
 
 -- the sizes are within the limits
@@ -25,25 +25,11 @@ bootable c is =
       leb-true c.tenants MOST_TENANTS (and_parts (nat_le 1 c.tenants) (nat_le c.tenants MOST_TENANTS) second.1).1,
     )
 
-pub opening_agrees : (order superblocks tenants : ℕ) → order ≤ MOST_ORDER → superblocks ≤ MOST_SUPERBLOCKS → tenants ≤ MOST_TENANTS
-    → spaces.IsSpace (spaces.empty_space (4096 * 2 ^ order) superblocks tenants) → PartsAgree (opening_parts order superblocks tenants)
-unfolding opening_parts
-opening_agrees order superblocks tenants small few many space = record {
-  space = space;
-  order = small;
-  few = few;
-  tenants = many;
-  top = refl;
-  sheets = refl;
-  holdings = length-replicate tenants _;
-  agree = (opening_shows order superblocks tenants).agree;
-}
-
-pub opening_world_shown : (order superblocks tenants : ℕ) → order ≤ MOST_ORDER → superblocks ≤ MOST_SUPERBLOCKS → tenants ≤ MOST_TENANTS
-    → spaces.IsSpace (spaces.empty_space (4096 * 2 ^ order) superblocks tenants) → Shows (opening_parts order superblocks tenants) (opening_world superblocks tenants)
+pub opening_world_shown : (order superblocks tenants : ℕ) → PartsAgree (opening_parts order superblocks tenants)
+    → Shows (opening_parts order superblocks tenants) (opening_world superblocks tenants)
 unfolding opening_parts opening_world
-opening_world_shown order superblocks tenants small few many space = record {
-  agree = opening_agrees order superblocks tenants small few many space;
+opening_world_shown order superblocks tenants agree = record {
+  agree = agree;
   owners = refl;
   tenants = length-replicate tenants empty_machine;
   machines = λ t m here.

@@ -1,22 +1,17 @@
 -- Which superblocks have which owner.
 use Rattle.model_core.specs.declared.owner.Owner.{Owner}
-use Rattle.std.proofs.Common.{◌≡◌, ◌≢◌, ℕ, ◌<◌, ◌==◌, ◌&&◌, true, false, if◌then◌else◌, Option, Some, None, is_none, List, length, map, position, slice_index_or, slice_set, refl, sym, ap, ◌∙◌, ⊎_elim, arith}
+use Rattle.std.proofs.Common.{◌≡◌, ◌≢◌, ℕ, ◌<◌, ◌==◌, ◌&&◌, true, false, if◌then◌else◌, Option, Some, None, List, length, map, slice_index_or, slice_set, refl, sym, ap, ◌∙◌, ⊎_elim, arith}
 use Rattle.std.specs.List.{position_or_len}
-use Rattle.std.proofs.lemmas.Bool.{false≢true, cases_eq, eqb-true, and_parts, false_from_ne_true}
-use Rattle.std.proofs.lemmas.List.{length-set, get_or-set_same, get_or-set_other, get_or-map, get_or_default, same_lists}
+use Rattle.std.proofs.lemmas.Bool.{false≢true, cases_eq, cases_lt, eqb-true, and_parts, false_from_ne_true}
+use Rattle.std.proofs.lemmas.List.{length-set, get_or-set_same, get_or-set_other, get_or-map, get_or_default, get_or_past, same_lists}
 use Rattle.std.proofs.lemmas.List.Sums.{position_or_len_is}
-use Rattle.std.proofs.lemmas.List.Quantifiers.{position-Some}
 use Rattle.std.proofs.Math.ListN.{length-map}
-use Rattle.std.proofs.lemmas.Option.{same_Some}
 use Rattle.space_core.specs.Content as spaces
 use Rattle.space_core.specs.Content.{IsSpace, owner_at}
 use Rattle.model_core.specs.Owners.{owned_by, is_owner}
 use Rattle.world_core.specs.World.{given_up}
-use Rattle.kernel_core.proofs.Rising.{is_same}
-
-pub was_none : (o : Option Owner) → is_none o ≡ true → o ≡ None
-was_none None _ = refl
-was_none (Some o) fails = absurd (false≢true fails)
+use Rattle.parts_laws.proofs.Lookups.{some_none, some_same}
+use Rattle.parts_core.proofs.Numbers.{is_same}
 
 -- an owner is one tenant with one slot
 pub owner_is : (t u : ℕ) (o : Option Owner) → is_owner t u o ≡ true → o ≡ Some (owned_by t u)
@@ -36,12 +31,14 @@ pub record IsUnder (s : spaces.Content) (t u m : ℕ) : Type 0 where
   pub owner : owner_at s.owners m ≡ Some (owned_by t u)
   pub only : (n : ℕ) → n ≢ m → is_owner t u (owner_at s.owners n) ≡ false
 
-pub is_under : (s : spaces.Content) (t u m : ℕ) → IsSpace s → m < length s.owners → spaces.superblock_at s.slots t u ≡ Some m → IsUnder s t u m
-is_under s t u m space within here = record {
-  within = within;
+pub is_under : (s : spaces.Content) (t u m : ℕ) → IsSpace s → spaces.superblock_at s.slots t u ≡ Some m → IsUnder s t u m
+is_under s t u m space here = record {
+  within = ⊎_elim (λ less. less)
+      (λ past. absurd (some_none (sym ((space.agree t u m).0 here) ∙ get_or_past s.owners m None past)))
+      (cases_lt m (length s.owners));
   owner = (space.agree t u m).0 here;
   only = λ n other. false_from_ne_true (is_owner t u (owner_at s.owners n)) (λ owns.
-      other (same_Some n m (sym ((space.agree t u n).1 (owner_is t u (owner_at s.owners n) owns)) ∙ here)));
+      other (some_same (sym ((space.agree t u n).1 (owner_is t u (owner_at s.owners n) owns)) ∙ here)));
 }
 
 -- its number is found by its owner

@@ -1,16 +1,40 @@
 -- The figures of a report, by those of the tenant in the buddy system.
-use Rattle.std.proofs.Common.{◌≡◌, ◌≢◌, ℕ, ◌+◌, ◌*◌, ◌%◌, ◌^◌, cond, List, Option, None, sym, ap, ap₂, ◌∙◌, arith}
+use Rattle.std.proofs.Common.{◌≡◌, ◌≢◌, ℕ, ◌+◌, ◌*◌, ◌%◌, ◌^◌, ◌<◌, ◌≤◌, length, cond, List, Option, None, sym, ap, ap₂, ◌∙◌, arith}
 use Rattle.std.proofs.lemmas.Bool.{eq-eqb, ne_eqb}
 use Rattle.model_core.specs.declared.report.OrderRow.{OrderRow}
 use Rattle.model_core.specs.declared.report.CacheRow.{CacheRow}
 use Rattle.model_core.specs.Machine.{Machine}
 use Rattle.model_core.specs.Reports.{frames_held, frames_taken, frames_free, greatest, greatest_free, free_count, split_share, order_rows, rows_of_caches}
 use Rattle.buddy_core.specs.Content as buddies
-use Rattle.parts_laws.specs.Figures.{HasFigures, AreWithin}
+use Rattle.parts_laws.specs.Figures.{HasFigures, AreWithin, frames_below}
+use Rattle.parts_laws.specs.Slots.{HoldTogether}
+use Rattle.parts_laws.proofs.FigureBounds.{figures_fit}
+use Rattle.parts_laws.proofs.FigureMeets.{figures_meet}
 use Rattle.words_core.specs.declared.report.Report.{Report}
 use Rattle.world_core.specs.PrivateStep.{figures_of}
+use Rattle.parts_core.specs.Parts.{Parts, PartsAgree}
+use Rattle.parts_core.specs.Shows.{ShowsMachine}
+use Rattle.parts_core.proofs.Changing.{steady}
 
--- the frames of the held slots fit a word
+-- the figures of a tenant that there is are small
+pub within : (k : Parts) (t : ℕ) → PartsAgree k → HoldTogether k.space k.buddy k.slabs → t < k.tenants → AreWithin k.buddy t
+within k t agree holds known = figures_fit k.buddy t holds.buddy (omega (arith, agree.holdings))
+
+-- and they are those of the machine that the parts show
+pub meet : (k : Parts) (t : ℕ) (m : Machine) → PartsAgree k → HoldTogether k.space k.buddy k.slabs → t < k.tenants → ShowsMachine k t m → HasFigures k.buddy t m
+meet k t m agree holds known shown =
+    let inside : t < length k.buddy.tenants = omega (arith, agree.holdings) in
+    figures_meet k.space k.buddy k.slabs t m holds.agree (steady k.space k.buddy k.slabs t holds inside) holds.buddy inside shown
+
+-- the frames of the held slots fit a word, and those of the taken blocks are not more
+pub live_below : (b : buddies.Content) (t slots order live : ℕ) → AreWithin b t → slots ≡ buddies.held_slots (buddies.holding_of t b) → order ≡ b.top
+    → live ≡ frames_below (buddies.holding_of t b) (b.top + 1) → live ≤ slots * 2 ^ order % 4294967296
+live_below b t slots order live small e e' live_is =
+    let product : slots * 2 ^ order ≡ buddies.held_slots (buddies.holding_of t b) * 2 ^ b.top = ap₂ (λ n k. n * 2 ^ k) e e' in
+    let few = small.held in
+    let all = small.frames (b.top + 1) (omega arith) in
+    omega arith
+
 pub frames_read : (b : buddies.Content) (t : ℕ) (m : Machine) (slots order : ℕ) → HasFigures b t m → AreWithin b t
     → slots ≡ buddies.held_slots (buddies.holding_of t b) → order ≡ b.top → slots * 2 ^ order % 4294967296 ≡ frames_held b.top m
 frames_read b t m slots order has within e e' =

@@ -1,15 +1,8 @@
 -- All that a tenant has is taken from it; and who owns each superblock.
 use Rattle.model_core.specs.declared.owner.Owner.{Owner}
-use Rattle.std.proofs.Common.{◌≡◌, ℕ, ◌<◌, ◌≤◌, Option, Some, List, length, map, count_by, slice_get, slice_set, refl, sym, ap, ◌∙◌, arith}
-use Rattle.std.proofs.Math.ListN.{length-map}
+use Rattle.std.proofs.Common.{◌≡◌, ℕ, ◌<◌, ◌≤◌, Option, Some, List, map, count_by, slice_get, slice_set, refl, sym, ap, ◌∙◌, subst, arith}
 use Rattle.model_core.specs.Machine.{Machine, empty_machine}
 use Rattle.model_core.specs.Owners.{is_of}
-use Rattle.space_core.specs.Content as spaces
-use Rattle.buddy_core.specs.Content as buddies
-use Rattle.slab_tables.specs.Content as tables
-use Rattle.slab_tables.specs.Changes.{IsReset}
-use Rattle.parts_laws.specs.Slots.{HoldTogether, ChangesFor}
-use Rattle.parts_laws.proofs.SlotEmptied.{emptied_shows}
 use Rattle.words_core.specs.declared.event.Event.TheVariants as On
 use Rattle.words_core.specs.declared.event.AdminCommand.TheVariants as Do
 use Rattle.words_core.specs.declared.reply.Reply.{Reply}
@@ -18,74 +11,34 @@ use Rattle.words_core.specs.declared.reply.Body.TheVariants.{WasReset, Owners, R
 use Rattle.words_core.specs.declared.reply.Refusal.TheVariants.{NoTenant}
 use Rattle.world_core.specs.Limits.{cache_limit}
 use Rattle.world_core.specs.World.{World, WorldStep, answer, given_up, reset_step, world_step}
-use Rattle.kernel_core.specs.Parts.{Parts, PartsAgree}
-use Rattle.kernel_core.specs.GivenUp.{GivesUp}
+use Rattle.parts_core.specs.Parts.{Parts, PartsAgree}
+use Rattle.parts_core.specs.Does.{Does}
+use Rattle.parts_core.specs.Does as calls
+use Rattle.parts_core.specs.GivenUp.{owner_without}
 use Rattle.kernel_core.specs.Shows.{Shows}
 use Rattle.kernel_core.specs.Steps.{Steps}
-use Rattle.kernel_core.proofs.Worlds.{get_past, steps_changed, steps_answered}
-use Rattle.kernel_core.proofs.Changing.{changed, agree_changed, has_row, unnamed}
-
--- tenant t has given up all its superblocks, this many, and has no cache any more
-pub record IsEmptying (k : Parts) (r : spaces.Content) (s : tables.Content) (t told : ℕ) : Type 0 where
-  pub agree : PartsAgree k
-  pub together : HoldTogether k.space k.buddy k.slabs
-  pub space_after : spaces.IsSpace r
-  pub tenant : t < k.tenants
-  pub gives : GivesUp k.space r t told
-  pub caches : IsReset k.slabs s t
-
--- the parts afterwards
-abbrev pub after : ℕ → spaces.Content → tables.Content → Parts → Parts
-after t r s k = changed k r t (buddies.nothing_held k.buddy.top k.buddy.superblocks) s
-
-changes : (k : Parts) (r : spaces.Content) (s : tables.Content) (t told : ℕ) → IsEmptying k r s t told
-    → ChangesFor t k.space r k.buddy (after t r s k).buddy k.slabs s (λ m. empty_machine)
-changes k r s t told g =
-    emptied_shows k.space r k.buddy k.slabs s t g.together (has_row k t g.agree g.tenant)
-    (record {
-      unit = g.gives.unit;
-      superblocks = ap length g.gives.owners ∙ length-map k.space.owners (given_up (is_of t));
-      rows = g.gives.rows;
-      slots = g.gives.slots;
-      others = g.gives.others;
-    })
-    g.caches
-
-pub agree_reset : (k : Parts) (r : spaces.Content) (s : tables.Content) (t told : ℕ) → IsEmptying k r s t told → PartsAgree (after t r s k)
-agree_reset k r s t told g = agree_changed k r t _ s g.agree g.space_after (changes k r s t told g).agree
+use Rattle.kernel_core.proofs.Worlds.{get_past, steps_done, steps_answered, unnamed}
 
 -- the reply
 abbrev pub reset_reply : ℕ → ℕ → Reply
 reset_reply t told = record { addressee = To.Admin; body = WasReset t told }
 
-reset_is : (k : Parts) (w : World) (t : ℕ) (m : Machine) → Shows k w → slice_get w.machines t ≡ Some m
-    → world_step cache_limit k.order (On.Admin (Do.Reset t)) w
-    ≡ record { reply = reset_reply t (count_by (is_of t) k.space.owners); world = record { owners = map (given_up (is_of t)) k.space.owners; machines = slice_set w.machines t empty_machine } }
-unfolding world_step reset_step
-reset_is k w t m shown here =
-    ap (λ o. reset_step t w o) here
-    ∙ ap (λ os. reset_world os) shown.owners
-  where
-    reset_world : List (Option Owner) → WorldStep
-    reset_world os = record { reply = reset_reply t (count_by (is_of t) os); world = record { owners = map (given_up (is_of t)) os; machines = slice_set w.machines t empty_machine } }
+-- the world after it
+abbrev reset_world : World → ℕ → ℕ → List (Option Owner) → WorldStep
+reset_world w t told os = record { reply = reset_reply t told; world = record { owners = map (given_up (is_of t)) os; machines = slice_set w.machines t empty_machine } }
 
-pub steps_reset : (k : Parts) (r : spaces.Content) (s : tables.Content) (t told : ℕ) → IsEmptying k r s t told
-    → Steps k (On.Admin (Do.Reset t)) (after t r s k) (reset_reply t told)
-steps_reset k r s t told g =
-    steps_changed k (after t r s k) (On.Admin (Do.Reset t)) (reset_reply t told) t (λ m. empty_machine)
-    (record {
-      tenant = g.tenant;
-      sizes = record { order = refl; superblocks = refl; tenants = refl };
-      agree = agree_reset k r s t told g;
-      changes = changes k r s t told g;
-      step = λ w m shown shows here. reset_is k w t m shown here
-          ∙ ap (λ n. record { reply = reset_reply t n; world = record { owners = map (given_up (is_of t)) k.space.owners; machines = slice_set w.machines t empty_machine } }) (sym g.gives.count)
-          ∙ ap (λ os. record { reply = reset_reply t told; world = record { owners = os; machines = slice_set w.machines t empty_machine } }) (sym g.gives.owners);
-      only = λ v named. unnamed t v named;
-      done = refl;
-      marks = g.gives.marks;
-      spare = λ m _. ap (λ banks. spaces.bank banks m) g.gives.banks;
-    })
+reset_is : (k : Parts) (w : World) (t : ℕ) (m : Machine) → Shows k w → slice_get w.machines t ≡ Some m
+    → world_step cache_limit k.order (On.Admin (Do.Reset t)) w ≡ reset_world w t (count_by (is_of t) k.space.owners) k.space.owners
+unfolding world_step reset_step
+reset_is k w t m shown here = ap (λ o. reset_step t w o) here ∙ ap (λ os. reset_world w t (count_by (is_of t) os) os) shown.owners
+
+pub steps_reset : (k k' : Parts) (t n told : ℕ) → t ≡ n → t < k.tenants → PartsAgree k' → told ≡ count_by (is_of t) k.space.owners
+    → Does k t calls.machine_reset_step (map (owner_without t) k.space.owners) k' tt
+    → Steps k (On.Admin (Do.Reset n)) k' (reset_reply t told)
+steps_reset k k' t n told same known agree count does = subst (λ v. Steps k (On.Admin (Do.Reset v)) k' (reset_reply t told)) same
+    (steps_done k k' (On.Admin (Do.Reset t)) (reset_reply t told) t calls.machine_reset_step (map (owner_without t) k.space.owners) tt known agree does
+    (λ w m shown shows here. reset_is k w t m shown here ∙ ap (λ c. reset_world w t c k.space.owners) (sym count))
+    (λ v named. unnamed t v named) refl)
 
 pub reset_without_tenant : (k : Parts) (t : ℕ) → k.tenants ≤ t → Steps k (On.Admin (Do.Reset t)) k (record { addressee = To.Admin; body = Refused NoTenant })
 unfolding world_step reset_step

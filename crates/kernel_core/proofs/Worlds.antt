@@ -3,12 +3,9 @@ use Rattle.model_core.specs.declared.owner.Owner.{Owner}
 use Rattle.std.proofs.Common.{◌≡◌, ◌≢◌, ℕ, zero, suc, ◌<◌, ◌≤◌, ◌==◌, Bool, true, false, Option, Some, None, List, [], ◌∷◌, length, slice_get, slice_set, refl, sym, ap, ◌∙◌, subst, ⊎_elim, arith}
 use Rattle.std.proofs.lemmas.Bool.{cases_eq, eq-eqb}
 use Rattle.std.proofs.lemmas.List.{length-set}
-use Rattle.std.proofs.lemmas.Option.{same_Some}
 use Rattle.model_core.specs.Machine.{Machine}
-use Rattle.space_core.specs.Laws.{IsSameFor}
-use Rattle.space_core.specs.Content as spaces
-use Rattle.buddy_core.specs.Content as buddies
-use Rattle.slab_tables.specs.Content as tables
+use Rattle.model_core.specs.Operations.{Step}
+use Rattle.parts_laws.proofs.Lookups.{some_same}
 use Rattle.parts_laws.proofs.Untouched.{kept_shows_same}
 use Rattle.words_core.specs.declared.event.Event.TheVariants as On
 use Rattle.words_core.specs.declared.event.Command.{Command}
@@ -23,13 +20,14 @@ use Rattle.world_core.specs.Limits.{cache_limit}
 use Rattle.world_core.specs.PrivateStep.{command_step}
 use Rattle.world_core.specs.World.{World, WorldStep, answer, tenant_step, world_step}
 use Rattle.world_core.specs.OwnList.{is_refused}
-use Rattle.space_core.specs.Laws.{SpareStays}
-use Rattle.parts_laws.specs.Slots.{ChangesFor}
-use Rattle.kernel_core.specs.Parts.{Parts, PartsAgree, SameSizes, MarksFollow, parts_of, Keeps}
-use Rattle.kernel_core.specs.Shows.{ShowsMachine, Shows}
-use Rattle.kernel_core.specs.Steps.{is_named, Steps, StepsMachine}
 use Rattle.world_core.proofs.MachineLists.{slice_get-set_same, slice_get-set_other}
-use Rattle.kernel_core.proofs.Marks.{marks_kept}
+use Rattle.parts_core.specs.Parts.{Parts, PartsAgree, Keeps}
+use Rattle.parts_core.specs.Shows.{ShowsMachine}
+use Rattle.parts_core.specs.Does.{Does}
+use Rattle.parts_core.proofs.Calls.{keeps_all}
+use Rattle.parts_core.proofs.Marks.{marks_kept}
+use Rattle.kernel_core.specs.Shows.{Shows}
+use Rattle.kernel_core.specs.Steps.{is_named, Steps, StepsMachine}
 
 pub get_past : {A : Type 0} (xs : List A) (i : ℕ) → length xs ≤ i → slice_get xs i ≡ None
 get_past [] i past = refl
@@ -43,33 +41,6 @@ get_within (x ∷ xs) (suc i) within = get_within xs i (omega arith)
 
 pub false_is : (b : Bool) → b ≡ false → b ≡ true → ⊥
 false_is b isnt is = cc
-
--- a space that stays is the same for all
-pub same_all : (t : ℕ) (s : spaces.Content) → IsSameFor t s s
-same_all t s = record { slots = λ u. refl; banks = λ u m here. refl; bytes = λ place. refl; windows = λ place len. refl }
-
--- parts that agree are what their memory, their buddy systems and their caches tell
-pub same_parts : (k : Parts) → PartsAgree k → parts_of k.space k.buddy k.slabs ≡ k
-same_parts k agree =
-    λ i. record { order = agree.top i; superblocks = agree.sheets i; tenants = agree.holdings i; space = k.space; buddy = k.buddy; slabs = k.slabs }
-
-pub agree_viewed : (k : Parts) → PartsAgree k → PartsAgree (parts_of k.space k.buddy k.slabs)
-agree_viewed k agree = subst PartsAgree (sym (same_parts k agree)) agree
-
-pub steps_viewed : (k k' : Parts) (event : Event) (reply : Reply) → PartsAgree k' → Steps k event k' reply → Steps k event (parts_of k'.space k'.buddy k'.slabs) reply
-steps_viewed k k' event reply agree steps = subst (λ (x : Parts). Steps k event x reply) (sym (same_parts k' agree)) steps
-
--- parts that stay keep all
-pub keeps_all : (k : Parts) (t : ℕ) → Keeps k k t
-keeps_all k t = record {
-  space = same_all t k.space;
-  buddy = refl;
-  slabs = record { top = refl; caches = λ c. refl; lists = λ f n under. refl; kept = λ f n under. refl };
-}
-
--- other contents, of the same sizes
-pub same_sizes : (k : Parts) (s : spaces.Content) (b : buddies.Content) (x : tables.Content) → SameSizes k (record k { space = s; buddy = b; slabs = x })
-same_sizes k s b x = record { order = refl; superblocks = refl; tenants = refl }
 
 -- parts that keep what a tenant has show the same machine for it
 pub keeps_shows : (k k' : Parts) (t : ℕ) (m : Machine) → Keeps k k' t → ShowsMachine k t m → ShowsMachine k' t m
@@ -85,7 +56,7 @@ shows_changed k k' w t m m' owners shown agree same_tenants same_owners here sho
   machines = λ u n there. ⊎_elim
       (λ same.
       let now = sym (slice_get-set_same w.machines t m m' here) ∙ ap (λ v. slice_get (slice_set w.machines t m') v) (sym same) ∙ there in
-      subst (λ v. ShowsMachine k' v n) (sym same) (subst (λ x. ShowsMachine k' t x) (same_Some m' n now) shown'))
+      subst (λ v. ShowsMachine k' v n) (sym same) (subst (λ x. ShowsMachine k' t x) (some_same now) shown'))
       (λ other.
       let before = sym (slice_get-set_other w.machines t u m' (λ e. other (sym e))) ∙ there in
       keeps_shows k k' u n (keeps u other) (shown.machines u n before))
@@ -98,7 +69,7 @@ pub steps_answered : (k : Parts) (event : Event) (to : Addressee) (body : Body)
     → Steps k event k (record { addressee = to; body = body })
 unfolding answer
 steps_answered k event to body same = record {
-  sizes = same_sizes k _ _ _;
+  sizes = record { order = refl; superblocks = refl; tenants = refl };
   shows = λ w shown. subst (λ (s : WorldStep). Shows k s.world) (sym (same w shown)) shown;
   answer = λ w shown. sym (ap (λ (s : WorldStep). s.reply) (same w shown));
   refused = λ _. refl;
@@ -107,36 +78,32 @@ steps_answered k event to body same = record {
   spare = λ _ _. refl;
 }
 
--- The machine of one tenant changes, and with it the parts, for that tenant alone; and the owners.
-pub record IsOneStep (k k' : Parts) (event : Event) (reply : Reply) (t : ℕ) (change : Machine → Machine) : Type 0 where
-  pub tenant : t < k.tenants
-  pub sizes : SameSizes k k'
-  pub agree : PartsAgree k'
-  pub changes : ChangesFor t k.space k'.space k.buddy k'.buddy k.slabs k'.slabs change
-  pub step : (w : World) (m : Machine) → Shows k w → ShowsMachine k t m → slice_get w.machines t ≡ Some m
-      → world_step cache_limit k.order event w
-      ≡ record { reply = reply; world = record { owners = k'.space.owners; machines = slice_set w.machines t (change m) } }
-  pub only : (u : ℕ) → is_named u event ≡ false → u ≢ t
-  pub done : is_refused reply.body ≡ false
-  pub marks : MarksFollow k.space k'.space
-  pub spare : SpareStays k.space k'.space
-
-pub steps_changed : (k k' : Parts) (event : Event) (reply : Reply) (t : ℕ) (change : Machine → Machine) → IsOneStep k k' event reply t change → Steps k event k' reply
-steps_changed k k' event reply t change g = record {
-  sizes = g.sizes;
+-- What a call for one tenant does to the parts is the event's step of the world: of that tenant's machine, and of the owners.
+pub steps_done : {A : Type 0} (k k' : Parts) (event : Event) (reply : Reply) (t : ℕ) (step : Machine → Step A) (owned : List (Option Owner)) (told : A)
+    → t < k.tenants → PartsAgree k' → Does k t step owned k' told
+    → ((w : World) (m : Machine) → Shows k w → ShowsMachine k t m → slice_get w.machines t ≡ Some m
+    → world_step cache_limit k.order event w
+    ≡ record { reply = reply; world = record { owners = owned; machines = slice_set w.machines t (step m).machine } })
+    → ((u : ℕ) → is_named u event ≡ false → u ≢ t) → is_refused reply.body ≡ false → Steps k event k' reply
+steps_done k k' event reply t step owned told known agree does same only done = record {
+  sizes = does.sizes;
   shows = λ w shown.
-      let (m, here) = get_within w.machines t (omega (arith, shown.tenants, g.tenant)) in
-      subst (λ (s : WorldStep). Shows k' s.world) (sym (g.step w m shown (shown.machines t m here) here))
-      (shows_changed k k' w t m (change m) k'.space.owners shown g.agree g.sizes.tenants refl here
-      (g.changes.shows m (shown.machines t m here)) g.changes.others);
+      let (m, here) = get_within w.machines t (omega (arith, shown.tenants)) in
+      subst (λ (s : WorldStep). Shows k' s.world) (sym (same w m shown (shown.machines t m here) here))
+      (shows_changed k k' w t m (step m).machine owned shown agree does.sizes.tenants (sym does.owners) here
+      (does.shows m (shown.machines t m here)) does.others);
   answer = λ w shown.
-      let (m, here) = get_within w.machines t (omega (arith, shown.tenants, g.tenant)) in
-      sym (ap (λ (s : WorldStep). s.reply) (g.step w m shown (shown.machines t m here) here));
-  refused = λ refused. absurd (false_is (is_refused reply.body) g.done refused);
-  others = λ u unnamed. g.changes.others u (g.only u unnamed);
-  marks = g.marks;
-  spare = g.spare;
+      let (m, here) = get_within w.machines t (omega (arith, shown.tenants)) in
+      sym (ap (λ (s : WorldStep). s.reply) (same w m shown (shown.machines t m here) here));
+  refused = λ refused. absurd (false_is (is_refused reply.body) done refused);
+  others = λ u unnamed. does.others u (only u unnamed);
+  marks = does.marks;
+  spare = does.spare;
 }
+
+-- a tenant that is not named is another one
+pub unnamed : (t u : ℕ) → (t == u) ≡ false → u ≢ t
+unnamed t u named same = false_is (t == u) named (eq-eqb t u (sym same))
 
 -- the tenant has no machine
 pub unknown_tenant : (k : Parts) (t : ℕ) (command : Command) → k.tenants ≤ t
@@ -147,22 +114,22 @@ unknown_tenant k t command past =
     (λ w shown. ap (λ o. tenant_step cache_limit k.order t command w o) (get_past w.machines t (omega (arith, shown.tenants))))
 
 -- a command of a tenant is a step of its machine
-pub steps_asked : (k k' : Parts) (t : ℕ) (command : Command) (body : Body) → t < k.tenants → StepsMachine k t command k' body
-    → Steps k (On.Tenant t command) k' (record { addressee = To.Tenant t; body = body })
+pub steps_asked : (k k' : Parts) (t u : ℕ) (command : Command) (body : Body) → t ≡ u → t < k.tenants → ((w : World) → Shows k w → PartsAgree k')
+    → StepsMachine k t command k' body → Steps k (On.Tenant u command) k' (record { addressee = To.Tenant t; body = body })
 unfolding world_step tenant_step
-steps_asked k k' t command body known steps = record {
-  sizes = steps.sizes;
+steps_asked k k' t u command body same known agree steps = subst (λ v. Steps k (On.Tenant v command) k' (record { addressee = To.Tenant t; body = body })) same (record {
+  sizes = steps.does.sizes;
   shows = λ w shown.
       let (m, here) = get_within w.machines t (omega (arith, shown.tenants)) in
       subst (λ o. Shows k' (tenant_step cache_limit k.order t command w o).world) (sym here)
-      (shows_changed k k' w t m (command_step cache_limit k.order command m).machine w.owners shown steps.agree steps.sizes.tenants
-      (shown.owners ∙ sym steps.owners) here (steps.shows m (shown.machines t m here)) steps.others);
+      (shows_changed k k' w t m (command_step cache_limit k.order command m).machine w.owners shown (agree w shown) steps.does.sizes.tenants
+      (shown.owners ∙ sym steps.does.owners) here (steps.does.shows m (shown.machines t m here)) steps.does.others);
   answer = λ w shown.
       let (m, here) = get_within w.machines t (omega (arith, shown.tenants)) in
       subst (λ o. record { addressee = To.Tenant t; body = body } ≡ (tenant_step cache_limit k.order t command w o).reply) (sym here)
-      (ap (λ b. record { addressee = To.Tenant t; body = b }) (steps.answer m (shown.machines t m here)));
+      (ap (λ b. record { addressee = To.Tenant t; body = b }) (steps.does.answer m (shown.machines t m here)));
   refused = steps.refused;
-  others = λ u named. steps.others u (λ same. false_is (t == u) named (eq-eqb t u (sym same)));
-  marks = marks_kept k.space k'.space steps.owners steps.marks;
-  spare = steps.spare;
-}
+  others = λ v named. steps.does.others v (unnamed t v named);
+  marks = steps.does.marks;
+  spare = steps.does.spare;
+})

@@ -1,5 +1,5 @@
 -- What one event does to a kernel, and what one command of a tenant does to what that tenant has.
-use Rattle.std.specs.Prelude.{◌≡◌, ◌≢◌, ℕ, ◌==◌, Bool, true, false, Result, Ok, Err}
+use Rattle.std.specs.Prelude.{◌≡◌, ℕ, ◌==◌, Bool, true, false, Result, Ok, Err}
 use Rattle.words_core.specs.declared.event.Event.{Event}
 use Rattle.words_core.specs.declared.event.Event.TheVariants as On
 use Rattle.words_core.specs.declared.event.AdminCommand.TheVariants as Do
@@ -10,14 +10,14 @@ use Rattle.words_core.specs.declared.reply.Body.{Body}
 use Rattle.words_core.specs.declared.reply.Body.TheVariants.{Refused}
 use Rattle.words_core.specs.declared.reply.Refusal.{Refusal}
 use Rattle.words_core.specs.declared.reply.Reply.{Reply}
-use Rattle.model_core.specs.Machine.{Machine}
 use Rattle.world_core.specs.Limits.{cache_limit}
 use Rattle.world_core.specs.PrivateStep.{command_step}
 use Rattle.world_core.specs.World.{World, world_step}
 use Rattle.world_core.specs.OwnList.{is_refused}
 use Rattle.space_core.specs.Laws.{SpareStays}
-use Rattle.kernel_core.specs.Parts.{Parts, PartsAgree, SameSizes, MarksFollow, Keeps}
-use Rattle.kernel_core.specs.Shows.{Shows, ShowsMachine}
+use Rattle.parts_core.specs.Parts.{Parts, SameSizes, MarksFollow, Keeps}
+use Rattle.parts_core.specs.Does.{Does}
+use Rattle.kernel_core.specs.Shows.{Shows}
 
 -- the event names tenant t
 abbrev pub is_named : ℕ → Event → Bool
@@ -54,15 +54,8 @@ pub record Steps (old : Parts) (event : Event) (new : Parts) (reply : Reply) : T
 
 -- the command is a step of whichever machine the parts show for the tenant
 pub record StepsMachine (old : Parts) (t : ℕ) (command : Command) (new : Parts) (body : Body) : Type 0 where
-  pub sizes : SameSizes old new
-  pub owners : new.space.owners ≡ old.space.owners
-  pub marks : new.space.marks ≡ old.space.marks
-  pub spare : SpareStays old.space new.space
-  pub agree : PartsAgree new
-  pub shows : (m : Machine) → ShowsMachine old t m → ShowsMachine new t (command_step cache_limit old.order command m).machine
-  pub answer : (m : Machine) → ShowsMachine old t m → body ≡ (command_step cache_limit old.order command m).answer
+  pub does : Does old t (command_step cache_limit old.order command) old.space.owners new body
   pub refused : is_refused body ≡ true → new ≡ old
-  pub others : (u : ℕ) → u ≢ t → Keeps old new u
 
 -- what a reply says of what a command gave, or of why it was refused
 abbrev pub body_of : {A : Type 0} → (A → Body) → Result A Refusal → Body

@@ -5,9 +5,10 @@ ghost use Rattle.model_core.specs.declared.limits.TheConstants.{FRAME_BYTES};
 ghost use Rattle.world_core.specs.Limits.{cache_limit};
 ghost use Rattle.world_core.specs.World.{World, opening_world, world_step};
 
-use crate::paging::copied;
+use crate::commands::copied;
 use buddy_core::Buddy;
 use model_core::limits::{LEAST_ORDER, MOST_ORDER, MOST_SUPERBLOCKS, MOST_TENANTS};
+use parts_core::Parts;
 use slab_core::Slabs;
 use space_core::Space;
 use std::alloc::Global;
@@ -37,25 +38,18 @@ pub enum BootError {
     Memory,
 }
 
-/// A machine shared by tenants.
-///
-/// The memory's mapping and the buddy systems have the same superblock under each slot of each tenant, and each slab is a taken
-/// block of its tenant.
+/// A machine shared by tenants: its parts, run by events.
 #[derive(Drop)]
 pub struct Kernel {
-    pub(crate) space: Space,
-    pub(crate) buddy: Buddy,
-    pub(crate) slabs: Slabs,
+    pub(crate) parts: Parts,
 }
 
 impl Model for Kernel {
-    ghost use Rattle.kernel_core.specs.Parts.{Parts, PartsAgree, parts_of};
+    ghost use Rattle.parts_core.specs.Parts.{Parts as Content};
 
-    ghost Value = { Parts };
+    ghost Value = { Content };
 
-    ghost view = { λ k. parts_of k.space k.buddy k.slabs };
-
-    ghost invariant = { λ k. PartsAgree (parts_of k.space k.buddy k.slabs) };
+    ghost view = { λ k. k.parts };
 }
 
 impl Config {
@@ -75,10 +69,10 @@ impl Kernel {
     ghost use Rattle.std.specs.Prelude.{MatchOption, Option, Some};
     ghost use Rattle.kernel_core.specs.Booting.{is_bootable};
     ghost use Rattle.world_core.specs.OwnList.{is_refused};
-    ghost use Rattle.kernel_core.specs.Parts.{Parts, PartsAgree, SameSizes, MarksFollow, opening_parts, superblock_at, superblock_bytes, Keeps};
+    ghost use Rattle.parts_core.specs.Parts.{PartsAgree, SameSizes, MarksFollow, opening_parts, superblock_at, superblock_bytes, Keeps};
     ghost use Rattle.space_core.specs.Laws.{SpareStays};
-    ghost use Rattle.kernel_core.specs.Records.{RecordsStand};
-    ghost use Rattle.kernel_core.specs.Shows.{Shows, ShowsMachine};
+    ghost use Rattle.parts_core.specs.Records.{RecordsStand};
+    ghost use Rattle.kernel_core.specs.Shows.{Shows};
     ghost use Rattle.kernel_core.specs.Steps.{is_named, HasPattern, Steps, StepsMachine};
     ghost use Rattle.words_core.specs.Answers.{body_of_said, reply_of};
     ghost use Rattle.space_core.specs.Content.{mark_at, owner_at};
@@ -99,21 +93,11 @@ impl Kernel {
         let order = config.order as u8;
         let superblocks = config.superblocks as u16;
         let tenants = config.tenants as u8;
-        let Ok(space) = Space::new(alloc, order, superblocks, tenants) else {
+        let Ok(parts) = Parts::new(alloc, order, superblocks, tenants) else {
             return Err(BootError::Memory);
         };
-        space.laws();
-        let Ok(buddy) = Buddy::new(alloc, order, superblocks, tenants) else {
-            return Err(BootError::Memory);
-        };
-        let Ok(slabs) = Slabs::new(alloc, order, superblocks, tenants) else {
-            return Err(BootError::Memory);
-        };
-        Ok(Kernel {
-            space,
-            buddy,
-            slabs,
-        })
+        parts.laws();
+        Ok(Kernel { parts })
     }
 
     /// Runs one event, and answers it. A refused event changes nothing.
@@ -151,13 +135,15 @@ impl Kernel {
     pub fn administer(&mut self, command: &AdminCommand) -> Reply
         ensures { Steps self.old (Event.Admin command.now) self.new result }
     {
-        match command {
+        let reply = match command {
             AdminCommand::Grant { tenant } => self.grant(*tenant),
             AdminCommand::TakeBack { tenant, slot } => self.take_back(*tenant, *slot),
             AdminCommand::Reset { tenant } => self.reset(*tenant),
             AdminCommand::Move { tenant, slot } => self.move_slot(*tenant, *slot),
             AdminCommand::Pool => self.pool(),
-        }
+        };
+        self.parts_agree();
+        reply
     }
 
     /// Runs a command of a tenant, be there such a tenant or not: [`Kernel::step`] of that event, with an answer of few bytes.
@@ -168,16 +154,17 @@ impl Kernel {
         ensures { MatchOption result ((command.now ≡ Command.Report) × (self.new ≡ self.old))
             (λ answer. Steps self.old (Event.Tenant tenant command.now) self.new (reply_of answer)) }
     {
-        if tenant >= u32::from(self.buddy.tenants()) {
+        let Some(t) = self.tenant(tenant) else {
             return Some(Answer {
                 addressee: Addressee::Nobody,
                 said: Said::Refused(Refusal::NoTenant),
             });
-        }
-        let t = tenant as u8;
+        };
+        let said = self.run(t, command)?;
+        self.parts_agree();
         Some(Answer {
             addressee: Addressee::Tenant(t),
-            said: self.run(t, command)?,
+            said,
         })
     }
 
@@ -187,17 +174,27 @@ impl Kernel {
     pub fn report(&self, tenant: u32) -> Reply
         ensures { Steps self.now (Event.Tenant tenant Command.Report) self.now result }
     {
-        if tenant >= u32::from(self.buddy.tenants()) {
+        let Some(t) = self.tenant(tenant) else {
             return Reply {
                 addressee: Addressee::Nobody,
                 body: Body::Refused(Refusal::NoTenant),
             };
-        }
-        let t = tenant as u8;
+        };
         Reply {
             addressee: Addressee::Tenant(t),
             body: Body::Report(self.figures(t)),
         }
+    }
+
+    /// The tenant of this number, if there is one.
+    #[inline(always)]
+    pub(crate) fn tenant(&self, tenant: u32) -> Option<u8>
+        ensures { MatchOption result (self.now.tenants ≤ tenant) (λ t. (t ≡ tenant) × (t < self.now.tenants)) }
+    {
+        if tenant >= u32::from(self.parts.tenants()) {
+            return None;
+        }
+        Some(tenant as u8)
     }
 
     /// Runs a command of a tenant that there is; None, and nothing is done, for a report.
@@ -254,10 +251,7 @@ impl Kernel {
         ensures value { result ≡ superblock_at self.now t slot }
         ensures owner { (m : ℕ) → (result ≡ Some m) ↔ (owner_at self.now.space.owners m ≡ Some (owned_by t slot)) }
     {
-        if t >= self.buddy.tenants() {
-            return None;
-        }
-        self.space.machine_of(t, slot)
+        self.parts.superblock_of(t, slot)
     }
 
     /// The bytes of superblock `superblock`, `2^order * 4096` of them.
@@ -266,7 +260,7 @@ impl Kernel {
         ensures value { result.now ≡ superblock_bytes self.now superblock }
         ensures len { length result.now ≡ FRAME_BYTES * 2 ^ self.now.order }
     {
-        self.space.machine_bytes(superblock)
+        self.parts.machine_bytes(superblock)
     }
 
     /// Whether superblock `superblock` keeps bytes of an earlier owner, so that it is set to zero before it is granted.
@@ -274,56 +268,56 @@ impl Kernel {
         requires { superblock < self.now.superblocks }
         ensures { result ≡ mark_at self.now.space.marks superblock }
     {
-        self.space.is_marked(superblock)
+        self.parts.is_marked(superblock)
     }
 
     /// A superblock has `2^order` frames of 4096 bytes.
     pub fn order(&self) -> u32
         ensures { result ≡ self.now.order }
     {
-        u32::from(self.buddy.order())
+        u32::from(self.parts.order())
     }
 
     /// How many superblocks the machine has.
     pub fn superblocks(&self) -> u32
         ensures { result ≡ self.now.superblocks }
     {
-        u32::from(self.buddy.superblocks())
+        u32::from(self.parts.superblocks())
     }
 
     /// How many tenants share the machine, numbered from 0.
     pub fn tenants(&self) -> u32
         ensures { result ≡ self.now.tenants }
     {
-        u32::from(self.buddy.tenants())
+        u32::from(self.parts.tenants())
     }
 
     /// The memory, with its pool and its mapping.
     pub fn space(&self) -> &Space
         ensures { result.now ≡ self.now.space }
     {
-        &self.space
+        self.parts.space()
     }
 
     /// The buddy systems: the held slots and the taken blocks of each tenant.
     pub fn buddy(&self) -> &Buddy
         ensures { result.now ≡ self.now.buddy }
     {
-        &self.buddy
+        self.parts.buddy()
     }
 
     /// The caches and slabs of all tenants.
     pub fn slabs(&self) -> &Slabs
         ensures { result.now ≡ self.now.slabs }
     {
-        &self.slabs
+        self.parts.slabs()
     }
 
     /// A law: what holds between the parts of every kernel. It costs nothing.
     pub fn parts_agree(&self)
         ensures { PartsAgree self.now }
     {
-        let _ = &self.space;
+        self.parts.laws();
     }
 
     /// A law: in the memory, the last 32 bytes of each frame that is a slab of small objects are the bitmap of its live objects,
@@ -331,6 +325,6 @@ impl Kernel {
     pub fn records_stand(&self)
         ensures { RecordsStand self.now }
     {
-        self.parts_agree();
+        self.parts.laws();
     }
 }

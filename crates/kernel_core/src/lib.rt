@@ -24,11 +24,11 @@
 #![tactic(auto)]
 
 mod administering;
-mod caching;
+mod commands;
 mod kernel;
 pub mod laws;
-mod paging;
 mod quick;
+mod refusals;
 mod reporting;
 
 pub use kernel::{BootError, Config, Kernel};

@@ -26,11 +26,10 @@ impl Kernel {
             (λ answer. (answer.0 ≡ tenant)
             × Steps self.old (Event.Tenant tenant (quick_command command)) self.new (reply_of_told tenant answer.1)) }
     {
-        if tenant >= u32::from(self.buddy.tenants()) {
-            return None;
-        }
-        let t = tenant as u8;
-        Some((t, self.run_quick(t, command)))
+        let t = self.tenant(tenant)?;
+        let told = self.run_quick(t, command);
+        self.parts_agree();
+        Some((t, told))
     }
 
     /// Lends the `asked` bytes of a tenant from its byte number `place` on, where they lie: [`Kernel::step`] of the event that reads
@@ -53,10 +52,7 @@ impl Kernel {
             (record { addressee = Addressee.Tenant answer.0; body = body_of (λ bytes. Bytes (record { items = bytes.now })) answer.1 })) }
         ensures few { IfSome result (λ answer. IfOk answer.1 (λ bytes. length bytes.now ≤ MOST_BYTES)) }
     {
-        if tenant >= u32::from(self.buddy.tenants()) {
-            return None;
-        }
-        let t = tenant as u8;
+        let t = self.tenant(tenant)?;
         Some((t, self.read(t, place, asked)))
     }
 
@@ -81,11 +77,10 @@ impl Kernel {
             (record { addressee = Addressee.Tenant answer.0; body = body_of Written answer.1 })) }
         ensures count { IfSome result (λ answer. IfOk answer.1 (λ count. count ≡ length bytes.now)) }
     {
-        if tenant >= u32::from(self.buddy.tenants()) {
-            return None;
-        }
-        let t = tenant as u8;
-        Some((t, self.write(t, place, bytes)))
+        let t = self.tenant(tenant)?;
+        let stored = self.write(t, place, bytes);
+        self.parts_agree();
+        Some((t, stored))
     }
 
     /// Runs a command of a tenant that there is.

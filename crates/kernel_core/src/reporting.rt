@@ -4,16 +4,15 @@ ghost use Rattle.std.specs.Prelude.{◌≡◌, ◌+◌, ◌<◌, ◌≤◌, leng
 ghost use Rattle.model_core.specs.Machine.{Machine};
 ghost use Rattle.model_core.specs.Reports.{free_count, greatest, order_rows, split_share as share};
 ghost use Rattle.buddy_core.specs.Content.{holding_of};
-ghost use Rattle.parts_laws.specs.Figures.{HasFigures, frames_below};
+ghost use Rattle.parts_laws.specs.Figures.{HasFigures, AreWithin, frames_below};
 ghost use Rattle.world_core.specs.PrivateStep.{figures_of};
-ghost use Rattle.kernel_core.specs.Shows.{ShowsMachine};
+ghost use Rattle.parts_core.specs.Shows.{ShowsMachine};
 
 use crate::Kernel;
 use arrayvec::ArrayVec;
 use buddy_core::Buddy;
 use model_core::limits::MOST_ORDER;
 use model_core::report::OrderRow;
-use parts_laws::figures::{figures_fit, figures_meet};
 use words_core::{ORDERS, Report};
 
 /// What a tenant's blocks of all orders are, read once.
@@ -33,12 +32,10 @@ impl Kernel {
         requires { t < self.now.tenants }
         ensures { (m : Machine) → ShowsMachine self.now t m → result ≡ figures_of self.now.order m }
     {
-        self.buddy.laws();
-        self.slabs.laws_with(&self.space, &self.buddy, t);
-        figures_meet();
-        figures_fit();
-        let blocks = orders_of(&self.buddy, t);
-        let frames = self.buddy.slots(t) << self.buddy.order();
+        self.parts.laws();
+        let buddy = self.parts.buddy();
+        let blocks = orders_of(buddy, t);
+        let frames = buddy.slots(t) << buddy.order();
         let free = frames - blocks.live;
         // Without a free frame there is no free block, and no share of the free frames.
         let top = if free == 0 { None } else { blocks.top };
@@ -49,21 +46,21 @@ impl Kernel {
             top,
             split: split_share(free, top),
             orders: blocks.orders,
-            caches: self.slabs.rows(t),
+            caches: self.parts.slabs().rows(t),
         }
     }
 }
 
 /// The blocks of tenant `t`: a row for each order, the frames of the taken ones, and the greatest order of a free one.
 fn orders_of(buddy: &Buddy, t: u8) -> Blocks
-    requires { t < length buddy.now.tenants }
+    requires tenant { t < length buddy.now.tenants }
+    requires fit { AreWithin buddy.now t }
+    requires small { buddy.now.top ≤ MOST_ORDER }
     ensures live { result.live ≡ frames_below (holding_of t buddy.now) (buddy.now.top + 1) }
     ensures short { IfSome result.top (λ k. k ≤ MOST_ORDER) }
     ensures orders { (m : Machine) → HasFigures buddy.now t m → result.orders.items ≡ order_rows buddy.now.top m (buddy.now.top + 1) }
     ensures top { (m : Machine) → HasFigures buddy.now t m → result.top ≡ greatest (free_count buddy.now.top m) (buddy.now.top + 1) }
 {
-    buddy.laws();
-    figures_fit();
     let mut orders = ArrayVec::new();
     let mut live = 0;
     let mut top = None;

@@ -1,2 +1,3 @@
+pub mod Promising
 pub mod Reading
 pub mod Writing

@@ -8,7 +8,7 @@ use Rattle.kernel_core.specs.declared.kernel.Config.{Config}
 use Rattle.world_core.specs.Limits.{cache_limit}
 use Rattle.world_core.specs.Output.{shown_lines, ended_lines, lines_for, with_line_feeds}
 use Rattle.world_core.specs.Laws.{private_lines, ShownStays}
-use Rattle.kernel_core.specs.Parts.{Parts, opening_parts}
+use Rattle.parts_core.specs.Parts.{Parts, opening_parts}
 use Rattle.kernel_core.specs.Shows.{Shows}
 use Rattle.world_core.specs.World.{World, opening_world}
 use Rattle.world_core.proofs.Showing.{shown_first}

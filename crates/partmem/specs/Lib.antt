@@ -1,3 +1,4 @@
 pub mod Outcome
+pub mod Promised
 pub mod Run
 pub mod Settings

@@ -2,6 +2,7 @@
 
 ghost use Rattle.std.specs.Prelude.{◌≡◌, ◌≤◌, ℕ, true, false, not, List, [], length, IfSome};
 ghost use Rattle.std.specs.Io.KnownBytes.{Appends, Consumes, Keeps};
+ghost use Rattle.partmem.specs.Promised.{WritesAllowed};
 ghost use Rattle.partmem.specs.Run.{Answers, EndsAs, HasReached, IsOfTrace, Tallies};
 
 use crate::outcome::{Ended, outcome_of, tally_of};
@@ -32,6 +33,14 @@ pub fn run<F: Feed, W: Write>(
         × Tallies result.outcome result.tally (F.has_ended feed.new) given sent
         × (length given ≤ F.room_left feed.old)
         × IfSome (F.remaining feed.old) (λ trace. IsOfTrace machine.now result.outcome trace given written) }
+    // Each of these replies keeps the promises, the ones that are not shown too.
+    ensures promises { (given : List ℕ) × (written : List ℕ) × (sent : List ℕ)
+        × Consumes (F.remaining feed.old) (F.remaining feed.new) given
+        × Appends (⟦<WriterDrain<W> as Drain>⟧.contents drain.old) (⟦<WriterDrain<W> as Drain>⟧.contents drain.new) written
+        × HasReached result.outcome (⟦<WriterDrain<W> as Drain>⟧.has_failed drain.new) (⟦<WriterDrain<W> as Drain>⟧.contents drain.old)
+        (W.contents drain.new.writer) (⟦<WriterDrain<W> as Drain>⟧.held_back drain.new) written sent
+        × WritesAllowed machine.now result.outcome given written
+        × Tallies result.outcome result.tally (F.has_ended feed.new) given sent }
     ensures ended { EndsAs result.outcome (F.has_ended feed.new) (F.has_failed feed.new)
         (⟦<WriterDrain<W> as Drain>⟧.has_failed drain.new) (⟦<WriterDrain<W> as Drain>⟧.has_failed_to_send drain.new) }
 {

@@ -13,7 +13,7 @@ use Rattle.world_core.specs.Output.{event_in, events_of, shown_reading, shown_li
 use Rattle.world_core.specs.Laws as world
 use Rattle.world_core.specs.Laws.{HaveSameOwnList}
 use Rattle.world_core.proofs.Worlds.{world_both, opening_tenants}
-use Rattle.kernel_core.specs.Parts.{Parts}
+use Rattle.parts_core.specs.Parts.{Parts}
 use Rattle.kernel_core.specs.Shows.{Shows}
 use Rattle.replay_core.specs.Standing.{AreLines}
 use Rattle.replay_core.proofs.LineLemmas.{lines_cut}

@@ -13,7 +13,7 @@ use denote.RawPtr.{Ptr, block_ptr, null_ptr, ptr_val}
 use denote.Steps.{nothing}
 use denote.Struct.Struct.{within}
 use denote.Struct.Owning.{shape}
-use Rattle.kernel_core.specs.Parts.{Parts}
+use Rattle.parts_core.specs.Parts.{Parts}
 use Rattle.partmem_c.specs.Slots.{slot_owns}
 use Rattle.partmem_c.specs.contracts.slot.Slot as slot
 

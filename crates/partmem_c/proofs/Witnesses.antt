@@ -19,7 +19,7 @@ use Rattle.world_core.specs.PrivateStep.{command_step}
 use Rattle.world_core.specs.World.{World, opening_world, answer, tenant_step, world_step, world_after}
 use Rattle.world_core.specs.Output.{events_of, lines_for}
 use Rattle.world_core.specs.Laws.{HaveSameOwnList, opening_history, private_lines}
-use Rattle.kernel_core.specs.Parts.{Parts, opening_parts}
+use Rattle.parts_core.specs.Parts.{Parts, opening_parts}
 use Rattle.kernel_core.specs.Shows.{Shows}
 use Rattle.kernel_core.specs.Steps.{Steps}
 use Rattle.kernel_core.proofs.Worlds.{steps_answered}

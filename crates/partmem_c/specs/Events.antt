@@ -12,7 +12,7 @@ use Rattle.words_core.specs.declared.reply.Body.TheVariants.{Granted, TakenBack,
 use Rattle.words_core.specs.declared.reply.Reply.{Reply}
 use Rattle.words_core.specs.Texts.{number_of_refusal}
 use Rattle.model_core.specs.declared.limits.TheConstants.{MOST_BYTES, MOST_PATTERN}
-use Rattle.kernel_core.specs.Parts.{Parts}
+use Rattle.parts_core.specs.Parts.{Parts}
 use Rattle.kernel_core.specs.Steps.{Steps}
 use Rattle.partmem_c.specs.declared.status.TheConstants.{DONE, NO_MACHINE, NOT_AN_EVENT, NO_ROOM}
 use Rattle.partmem_c.specs.declared.kinds.TheConstants as kind

@@ -6,7 +6,7 @@ use Rattle.world_core.specs.Limits.{cache_limit}
 use Rattle.world_core.specs.World.{World, opening_world, world_after}
 use Rattle.world_core.specs.Output.{events_of, lines_for, with_line_feeds}
 use Rattle.world_core.specs.Laws.{HaveSameOwnList, private_lines}
-use Rattle.kernel_core.specs.Parts.{Parts}
+use Rattle.parts_core.specs.Parts.{Parts}
 use Rattle.kernel_core.specs.Shows.{Shows}
 use Rattle.replay_core.specs.Standing.{IsOneLine}
 use Rattle.partmem_c.specs.Lines.{AnswersLine}

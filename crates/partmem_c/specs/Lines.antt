@@ -9,7 +9,7 @@ use Rattle.words_core.specs.declared.reply.Reply.{Reply}
 use Rattle.words_core.specs.Grammar.{reading_of}
 use Rattle.words_core.specs.Texts.{text_of}
 use Rattle.world_core.specs.Output.{line_feed}
-use Rattle.kernel_core.specs.Parts.{Parts}
+use Rattle.parts_core.specs.Parts.{Parts}
 use Rattle.kernel_core.specs.Steps.{Steps}
 use Rattle.replay_core.specs.Pushes.{most_reply_bytes}
 use Rattle.replay_core.specs.Standing.{IsOneLine}

@@ -2,7 +2,7 @@
 use Rattle.std.specs.Prelude.{ℕ, nat_lt, true, false, not, if◌then◌else◌, List, [], length, Option, Some, None, is_some}
 use Rattle.model_core.specs.declared.owner.Owner as model
 use Rattle.space_core.specs.Content.{owner_at}
-use Rattle.kernel_core.specs.Parts.{Parts}
+use Rattle.parts_core.specs.Parts.{Parts}
 use Rattle.partmem_c.specs.declared.owners.Owner.{Owner}
 use Rattle.partmem_c.specs.declared.status.TheConstants.{DONE, NO_MACHINE, NO_SUPERBLOCK}
 

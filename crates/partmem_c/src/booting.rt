@@ -2,7 +2,7 @@
 
 ghost use Rattle.std.specs.Prelude.{◌≡◌, ◌≢◌, ◌↔◌, false, if◌then◌else◌, is_some, IsSome, IfSome, Some, None};
 ghost use Rattle.kernel_core.specs.Booting.{is_bootable};
-ghost use Rattle.kernel_core.specs.Parts.{opening_parts};
+ghost use Rattle.parts_core.specs.Parts.{opening_parts};
 ghost use Rattle.kernel_core.specs.Shows.{Shows};
 ghost use Rattle.world_core.specs.World.{opening_world};
 

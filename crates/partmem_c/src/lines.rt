@@ -5,7 +5,7 @@ ghost use Rattle.words_core.specs.Grammar.{reading_of};
 ghost use Rattle.words_core.specs.Texts.{text_of};
 ghost use Rattle.replay_core.specs.Pushes.{most_reply_bytes};
 ghost use Rattle.replay_core.specs.Standing.{IsRunnable};
-ghost use Rattle.kernel_core.specs.Parts.{Parts};
+ghost use Rattle.parts_core.specs.Parts.{Parts};
 ghost use Rattle.partmem_c.specs.Lines.{has_line_feed, line_status, AnswersLine, IsTextWritten, RunsLine};
 
 use crate::machine::Machine;

@@ -2,7 +2,7 @@
 
 ghost use Rattle.std.specs.Prelude.{◌≡◌, IsSome, Option, Some, None};
 ghost use Rattle.std.specs.Coded.{coded_option};
-ghost use Rattle.kernel_core.specs.Parts.{Parts};
+ghost use Rattle.parts_core.specs.Parts.{Parts};
 ghost use Rattle.kernel_core.specs.contracts.kernel.Kernel.{the_row};
 ghost use Rattle.partmem_c.specs.Slots.{slot_owns};
 

@@ -1,16 +1,18 @@
 -- What is live lies apart and in held slots, by induction over the exchanges.
-use Rattle.std.proofs.Common.{◌≡◌, ℕ, ◌+◌, ◌*◌, ◌/◌, ◌^◌, ◌<◌, ◌≤◌, Bool, true, false, not, List, [], ◌∷◌, map, length, Option, Some, None, Result, Ok, Err, is_none, slice_get, refl, ap, sym, subst, ◌∙◌, ◌⊎◌, inl, inr, arith}
+use Rattle.std.proofs.Common.{◌≡◌, ℕ, ◌+◌, ◌-◌, ◌*◌, ◌/◌, ◌%◌, ◌^◌, ◌<◌, ◌≤◌, Bool, true, false, not, List, [], ◌∷◌, map, length, Option, Some, None, Result, Ok, Err, is_none, slice_get, refl, ap, sym, subst, ◌∙◌, ◌⊎◌, inl, inr, arith}
 use Rattle.std.specs.Prelude.{if◌then◌else◌, filter, find, flat_map, nat_lt, ◌==◌}
 use Rattle.std.specs.Option.{option_map_or}
 use Rattle.std.proofs.Math.Nat.{div-mul-le_self, lt-div-mul-add}
 use Rattle.std.proofs.lemmas.Nat.{pow_pos}
 use Rattle.std.proofs.lemmas.Bool.{eq-eqb, ne_eqb, eqb-true, false≢true, or_cases, and_from, and_parts, leb-true, lt-ltb, not-true, not-false}
+use Rattle.arrayvec.specs.ArrayVec.{ArrayVec}
 use Rattle.model_core.specs.Blocks.{Block, block, HasFrame, IsAligned, slot_block}
+use Rattle.model_core.specs.Layouts.{is_size, is_alignment}
 use Rattle.model_core.specs.Machine.{put_rising}
 use Rattle.model_core.specs.Operations.{overlaps}
 use Rattle.model_core.proofs.Lists.{IsIn, find_in, filter_in, in_filter, some_any, any_in, in_left, in_right, map_in, in_map}
 use Rattle.model_core.proofs.ObjectsApart.{contains_in}
-use Rattle.model_core.proofs.Apart.{overlap_from}
+use Rattle.model_core.proofs.Apart.{overlap_from, has_first}
 use Rattle.words_core.specs.declared.event.Event.{Event}
 use Rattle.words_core.specs.declared.event.Event.TheVariants as On
 use Rattle.words_core.specs.declared.event.AdminCommand.TheVariants as Do
@@ -27,6 +29,7 @@ use Rattle.promise_core.specs.Promises.{first_due, due, refusals, blocks, object
 use Rattle.promise_core.specs.Laws.{Uses, LiveApart}
 use Rattle.promise_core.proofs.Allowed.{ok_same, allowed_is}
 use Rattle.promise_core.proofs.Confined.{in_put, replicated, some_state, states_at}
+use Rattle.promise_core.proofs.Grids.{IsFitted, IsGridded, live_in, new_gridded, given_gridded, taken_gridded}
 
 -- Lists
 
@@ -114,15 +117,27 @@ vacant_apart : (h : Holdings) (n : Block) → is_vacant h n ≡ true → (by : O
 vacant_apart h n e by b x u hb hn =
     false≢true (sym (not-true _ e) ∙ any_in (overlaps n) b (told_blocks h) (used_taken h by b u) (overlap_from n b x hn hb))
 
-record CanStand (order : ℕ) (h : Holdings) (b : Block) : Type 0 where
-  aligned : IsAligned order b
-  held : has_slot h (b.first / 2 ^ order) ≡ true
-  vacant : is_vacant h b ≡ true
+pub record CanStand (order : ℕ) (h : Holdings) (b : Block) : Type 0 where
+  pub aligned : IsAligned order b
+  pub held : has_slot h (b.first / 2 ^ order) ≡ true
+  pub vacant : is_vacant h b ≡ true
 
-can_stand_is : (order : ℕ) (h : Holdings) (b : Block) → can_stand order h b ≡ true → CanStand order h b
+pub can_stand_is : (order : ℕ) (h : Holdings) (b : Block) → can_stand order h b ≡ true → CanStand order h b
 unfolding can_stand
 can_stand_is order h b e = let p = and_parts _ _ e in let q = and_parts _ _ p.0 in let r = and_parts _ _ p.1 in
     record { aligned = (leb-true b.order order q.0, eqb-true _ 0 q.1); held = r.0; vacant = r.1 }
+
+-- a vacant block has no live object of a cache of its order
+pub empty_slab : (order : ℕ) (h : Holdings) (c : ToldCache) → IsIn c h.caches → (f : ℕ) → is_vacant h (block f c.order) ≡ true → length (live_in c f) ≡ 0
+empty_slab order h c i f vacant = go (live_in c f) refl
+  where
+    go : (ps : List ℕ) → live_in c f ≡ ps → length ps ≡ 0
+    go [] is = refl
+    go (p ∷ ps) is =
+        let at : IsIn p c.live × (((slab_around c p).first == f) ≡ true) = filter_in (λ q. (slab_around c q).first == f) p c.live (subst (IsIn p) (sym is) (inl refl)) in
+        let same : slab_around c p ≡ block f c.order = ap (λ x. block x c.order) (eqb-true (slab_around c p).first f at.1) in
+        absurd (vacant_apart h (block f c.order) vacant (Some c.number) (block f c.order) f (c, p, i, at.0, refl, sym same)
+        (has_first (block f c.order)) (has_first (block f c.order)))
 
 -- Live objects changed
 
@@ -343,10 +358,95 @@ step w (On.Admin (Do.Move i u)) (Say.Moved told slot superblock) s s' e f b o c 
 step w (On.Admin Do.Pool) (Say.Owners owners) s s' e f b o c l = subst (λ y. IsLaid w.order y.has) (some_state e) l
 step w event body s s' e f b o c l = absurd (cc)
 
+-- The grids of each cache
+
+abbrev AllGridded : ℕ → Holdings → Type 0
+AllGridded order h = (c : ToldCache) → IsIn c h.caches → IsGridded order c
+
+nothing_gridded : (order : ℕ) → AllGridded order opening_state.has
+unfolding opening_state
+nothing_gridded order c i = elim i [ ]
+
+three_none : (a b c : Bool) (r q p : Refusal) → is_none (first_due ((a, r) ∷ (b, q) ∷ (c, p) ∷ [])) ≡ true → (a ≡ false) × (b ≡ false)
+three_none true b c r q p e = absurd (false≢true e)
+three_none false true c r q p e = absurd (false≢true e)
+three_none false false c r q p e = (refl, refl)
+
+-- caches of which one has its live objects changed
+live_gridded : (order number : ℕ) (change : List ℕ → List ℕ) (h : Holdings) → AllGridded order h
+    → ((c : ToldCache) → IsIn c h.caches → c.number ≡ number → IsGridded order (record c { live = change c.live })) → AllGridded order (with_live_places number change h)
+live_gridded order number change h g changed c i =
+    let x : (y : ToldCache) × IsIn y h.caches × ((if y.number == number then record y { live = change y.live } else y) ≡ c) = map_in _ c h.caches i in
+    subst (IsGridded order) x.2 (go x.0 x.1 (x.0.number == number) refl)
+  where
+    go : (y : ToldCache) → IsIn y h.caches → (test : Bool) → (y.number == number) ≡ test → IsGridded order (if test then record y { live = change y.live } else y)
+    go y m true e = changed y m (eqb-true _ _ e)
+    go y m false e = g y m
+
+second_fits : (a b n : ℕ) → a + b ≤ n → b ≤ n
+second_fits a b n e = omega (arith, e)
+
+-- the reply told such a layout
+told_fits : (w : Known) (t size align : ℕ) (pattern : ArrayVec ℕ) (number chunk q n colours : ℕ) (s : State)
+    → is_none (due (On.Tenant t (Asked.Cache size align pattern)) w s) ≡ true
+    → new_layout (On.Tenant t (Asked.Cache size align pattern)) (Say.Cache number chunk q n colours) w s ≡ true
+    → IsFitted w.order (record { number = number; size = size; align = align; pattern = pattern.items; chunk = chunk; order = q; count = n; live = [] })
+unfolding due
+told_fits w t size align pattern number chunk q n colours s none fits =
+    let asked = three_none (not (is_size size)) (not (is_alignment align)) _ Refusal.BadSize Refusal.BadAlign Refusal.NoCacheSlot none in
+    let p = and_parts _ _ (and_parts _ _ fits).1 in
+    let sizes = and_parts _ _ p.0 in
+    let counts = and_parts _ _ p.1 in
+    let inside : align * (colours - 1) + n * chunk ≤ 4096 * 2 ^ q = leb-true (align * (colours - 1) + n * chunk) (4096 * 2 ^ q) counts.1 in
+    record {
+      of_slot = leb-true q w.order (and_parts _ _ sizes.1).1;
+      sized = leb-true 1 size (and_parts _ _ (not-false (is_size size) asked.0)).0;
+      chunked = leb-true size chunk sizes.0;
+      some = leb-true 1 n (and_parts _ _ counts.0).0;
+      room = second_fits (align * (colours - 1)) (n * chunk) (4096 * 2 ^ q) inside;
+      steps = eqb-true (chunk % align) 0 (and_parts _ _ sizes.1).0;
+      aligned = not-false (is_alignment align) asked.1;
+    }
+
+grid_step : (w : Known) (event : Event) (body : Body) (s s' : State) → state_after w.order event body s ≡ Some s' → refusals event body w s ≡ true
+    → objects event body w s ≡ true → new_layout event body w s ≡ true → HaveOwnNumbers s.has → AllGridded w.order s.has → AllGridded w.order s'.has
+unfolding state_after
+grid_step w event (Say.Refused r) s s' e f o c own g = subst (λ y. AllGridded w.order y.has) (some_state e) g
+grid_step w (On.Tenant i (Asked.Alloc k)) (Say.Frame first) s s' e f o c own g = subst (λ y. AllGridded w.order y.has) (some_state e) g
+grid_step w (On.Tenant i (Asked.Free first)) (Say.Freed k) s s' e f o c own g = subst (λ y. AllGridded w.order y.has) (some_state e) g
+grid_step w (On.Tenant i (Asked.Read begin len)) (Say.Bytes told) s s' e f o c own g = subst (λ y. AllGridded w.order y.has) (some_state e) g
+grid_step w (On.Tenant i (Asked.Write begin new)) (Say.Written count) s s' e f o c own g = subst (λ y. AllGridded w.order y.has) (some_state e) g
+grid_step w (On.Tenant i (Asked.Cache size align pattern)) (Say.Cache number chunk q n colours) s s' e f o c own g = subst (λ y. AllGridded w.order y.has) (some_state e)
+    (λ d m. elim (in_put (λ x. x.number) new d s.has.caches m) [
+      | inl same ↦ subst (IsGridded w.order) same (new_gridded w.order new refl (told_fits w i size align pattern number chunk q n colours s f c))
+      | inr old ↦ g d old
+    ])
+  where
+    new : ToldCache
+    new = record { number = number; size = size; align = align; pattern = pattern.items; chunk = chunk; order = q; count = n; live = [] }
+grid_step w (On.Tenant i (Asked.Destroy number)) (Say.Destroyed frames) s s' e f o c own g = subst (λ y. AllGridded w.order y.has) (some_state e)
+    (λ d m. g d (filter_in (λ x. not (x.number == number)) d s.has.caches m).0)
+grid_step w (On.Tenant i (Asked.Take number)) (Say.Object place) s s' e f o c own g =
+    let v = value_of _ (cache_told s.has number) o in
+    let at = find_in (λ y. y.number == number) v.0 s.has.caches v.1 in
+    subst (λ y. AllGridded w.order y.has) (some_state e) (live_gridded w.order number (put_rising (λ p. p) place) s.has g
+    (λ d m is. subst (λ y. IsGridded w.order (record y { live = put_rising (λ p. p) place y.live })) (own v.0 d at.0 m (eqb-true _ _ at.1 ∙ sym is))
+    (taken_gridded w.order s.has v.0 place (g v.0 at.0) v.2)))
+grid_step w (On.Tenant i (Asked.Give number place)) Say.Given s s' e f o c own g = subst (λ y. AllGridded w.order y.has) (some_state e)
+    (live_gridded w.order number (filter (λ p. not (p == place))) s.has g (λ d m is. given_gridded w.order d (λ p. not (p == place)) (g d m)))
+grid_step w (On.Tenant i Asked.Reap) (Say.Reaped frames) s s' e f o c own g = subst (λ y. AllGridded w.order y.has) (some_state e) g
+grid_step w (On.Tenant i Asked.Report) (Say.Report r) s s' e f o c own g = subst (λ y. AllGridded w.order y.has) (some_state e) g
+grid_step w (On.Admin (Do.Grant i)) (Say.Granted told u superblock) s s' e f o c own g = subst (λ y. AllGridded w.order y.has) (some_state e) g
+grid_step w (On.Admin (Do.TakeBack i u)) (Say.TakenBack superblock) s s' e f o c own g = subst (λ y. AllGridded w.order y.has) (some_state e) g
+grid_step w (On.Admin (Do.Reset i)) (Say.WasReset told superblocks) s s' e f o c own g = subst (λ y. AllGridded w.order y.has) (some_state e) (nothing_gridded w.order)
+grid_step w (On.Admin (Do.Move i u)) (Say.Moved told slot superblock) s s' e f o c own g = subst (λ y. AllGridded w.order y.has) (some_state e) g
+grid_step w (On.Admin Do.Pool) (Say.Owners owners) s s' e f o c own g = subst (λ y. AllGridded w.order y.has) (some_state e) g
+grid_step w event body s s' e f o c own g = absurd (cc)
+
 -- Whole runs
 
 abbrev AllLaid : ℕ → Known → Type 0
-AllLaid order w = (w.order ≡ order) × ((t : ℕ) (s : State) → slice_get w.states t ≡ Some s → IsLaid order s.has)
+AllLaid order w = (w.order ≡ order) × ((t : ℕ) (s : State) → slice_get w.states t ≡ Some s → IsLaid order s.has × AllGridded order s.has)
 
 allowed_laid : (order : ℕ) (event : Event) (reply : Reply) (w v : Known) → allowed event reply w ≡ Ok v → AllLaid order w → AllLaid order v
 allowed_laid order event reply w v e (o, l) = elim (allowed_is event reply w v e) [
@@ -354,9 +454,13 @@ allowed_laid order event reply w v e (o, l) = elim (allowed_is event reply w v e
   | inr a ↦ (
     ap (λ k. k.order) a.is ∙ o,
     λ t x h. elim (states_at t (named event) w.states a.after x (subst (λ k. slice_get k.states t ≡ Some x) a.is h)) [
-      | inl (same, is) ↦ subst (λ y. IsLaid order y.has) (sym is) (subst (λ k. IsLaid k a.after.has) o
-          (step w event reply.body a.state a.after a.next a.refusals a.blocks a.objects a.layout (subst (λ k. IsLaid k a.state.has) (sym o)
-          (l t a.state (subst (λ n. option_map_or (slice_get w.states) n (Some opening_state) ≡ Some a.state) same a.here)))))
+      | inl (same, is) ↦
+          let before : IsLaid w.order a.state.has × AllGridded w.order a.state.has = subst (λ k. IsLaid k a.state.has × AllGridded k a.state.has) (sym o)
+          (l t a.state (subst (λ n. option_map_or (slice_get w.states) n (Some opening_state) ≡ Some a.state) same a.here)) in
+          subst (λ y. IsLaid order y.has × AllGridded order y.has) (sym is) (subst (λ k. IsLaid k a.after.has × AllGridded k a.after.has) o (
+            step w event reply.body a.state a.after a.next a.refusals a.blocks a.objects a.layout before.0,
+            grid_step w event reply.body a.state a.after a.next a.refusals a.objects a.layout before.0.numbers before.1,
+          ))
       | inr (other, was) ↦ l t x was
     ],
   )
@@ -374,15 +478,23 @@ run order (x ∷ xs) w v e l = go (allowed x.event x.reply w) refl e (λ u r m. 
 opening_laid : (limit order superblocks tenants : ℕ) → AllLaid order (opening limit order superblocks tenants)
 unfolding opening
 opening_laid limit order superblocks tenants =
-    (refl, λ t s h. subst (λ y. IsLaid order y.has) (sym (replicated tenants t opening_state s h)) (nothing_laid order))
+    (refl, λ t s h. subst (λ y. IsLaid order y.has × AllGridded order y.has) (sym (replicated tenants t opening_state s h)) (nothing_laid order, nothing_gridded order))
 
 used_of : (h : Holdings) (by : Option ℕ) (b : Block) → Uses h by b → Used h by b
 used_of h None b i = contains_in h.pages b i
 used_of h (Some n) b (c, p, i, j, e, is) = (c, p, contains_in h.caches c i, contains_in c.live p j, e, is)
 
+reached : (limit order superblocks tenants : ℕ) (es : List Exchange) (w : Known) → all_allowed es (Ok (opening limit order superblocks tenants)) ≡ Ok w → AllLaid order w
+reached limit order superblocks tenants es w e = run order es (opening limit order superblocks tenants) w e (opening_laid limit order superblocks tenants)
+
+pub reached_gridded : (limit order superblocks tenants t : ℕ) (es : List Exchange) (w : Known) (s : State) → all_allowed es (Ok (opening limit order superblocks tenants)) ≡ Ok w
+    → slice_get w.states t ≡ Some s → (c : ToldCache) → IsIn c s.has.caches → IsGridded w.order c
+reached_gridded limit order superblocks tenants t es w s e h c i =
+    let r = reached limit order superblocks tenants es w e in subst (λ k. IsGridded k c) (sym r.0) ((r.1 t s h).1 c i)
+
 pub live_apart : LiveApart
 live_apart limit order superblocks tenants t es w s e h =
-    let l = (run order es (opening limit order superblocks tenants) w e (opening_laid limit order superblocks tenants)).1 t s h in
+    let l = ((reached limit order superblocks tenants es w e).1 t s h).0 in
     record {
       placed = λ by b u. l.placed by b (used_of s.has by b u);
       apart = λ by other a b x ua ub. l.apart by other a b x (used_of s.has by a ua) (used_of s.has other b ub);

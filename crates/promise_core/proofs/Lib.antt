@@ -1,7 +1,9 @@
 pub mod Allowed
 pub mod Explained
 pub mod Confined
+pub mod Grids
 pub mod Laid
 pub mod Causes
+pub mod Answered
 pub mod Examples
 pub mod Witnesses

@@ -1,16 +1,18 @@
 -- For each law a run in which its premises hold and it says something.
+use Rattle.std.specs.Prelude.{is_ok}
 use Rattle.std.proofs.Common.{◌≡◌, ℕ, true, false, [], ◌∷◌, Option, Some, None, Result, Ok, Err, slice_get, unwrap_or, refl, arith}
 use Rattle.model_core.specs.Blocks.{block, HasFrame}
 use Rattle.words_core.specs.declared.event.Event.TheVariants as On
 use Rattle.words_core.specs.declared.event.Command.TheVariants as Asked
 use Rattle.words_core.specs.declared.reply.Addressee.TheVariants as To
 use Rattle.words_core.specs.declared.reply.Body.TheVariants as Say
+use Rattle.words_core.specs.declared.reply.Reply.{Reply}
 use Rattle.promise_core.specs.declared.promise.Promise.{Promise}
 use Rattle.promise_core.specs.Holdings.{ToldCache, told_blocks, can_stand, vacant_blocks, can_be_taken}
 use Rattle.promise_core.specs.Bytes.{holder_of}
 use Rattle.promise_core.specs.State.{State, Known, opening_state, opening, state_after, owners_after}
 use Rattle.promise_core.specs.Promises.{due, allowed, all_allowed}
-use Rattle.promise_core.specs.Laws.{LiveApart, is_own, Confined, may_tell, RefusedForCause}
+use Rattle.promise_core.specs.Laws.{LiveApart, is_own, Confined, may_tell, RefusedForCause, TakeRefusedForCause, UseAnswerable}
 use Rattle.promise_core.proofs.Examples.{begun}
 
 abbrev known_of : Result Known Promise → Known
@@ -50,3 +52,13 @@ not_own = refl
 RefusedForCause-met : RefusedForCause → (f : ℕ) × (may_tell known 0 (Asked.Alloc 0) (Say.Frame f) ≡ true)
 unfolding opening opening_state told_blocks can_stand vacant_blocks can_be_taken holder_of state_after owners_after due allowed
 RefusedForCause-met law = (law known the_state 0 0 refl (omega arith)).answered refl
+
+-- and the second object of the slab, or one elsewhere
+TakeRefusedForCause-met : TakeRefusedForCause → (place : ℕ) × (may_tell known 0 (Asked.Take 0) (Say.Object place) ≡ true)
+unfolding opening opening_state told_blocks can_stand vacant_blocks can_be_taken holder_of state_after owners_after due allowed
+TakeRefusedForCause-met law = (law 32 3 3 2 0 0 begun known the_state the_cache refl refl refl).answered refl
+
+-- the object can be given back
+UseAnswerable-met : UseAnswerable → (reply : Reply) × (is_ok (allowed (On.Tenant 0 (Asked.Give 0 0)) reply known) ≡ true)
+unfolding opening opening_state told_blocks can_stand vacant_blocks can_be_taken holder_of state_after owners_after due allowed
+UseAnswerable-met law = law 32 3 3 2 0 (Asked.Give 0 0) begun known refl refl

@@ -14,8 +14,9 @@ use Rattle.words_core.specs.declared.reply.Addressee.TheVariants as To
 use Rattle.words_core.specs.declared.reply.Body.{Body}
 use Rattle.words_core.specs.declared.reply.Body.TheVariants as Say
 use Rattle.words_core.specs.declared.reply.Refusal.{Refusal}
+use Rattle.words_core.specs.declared.reply.Reply.{Reply}
 use Rattle.world_core.specs.World.{Exchange}
-use Rattle.promise_core.specs.Holdings.{ToldCache, Holdings, has_slot, slab_around}
+use Rattle.promise_core.specs.Holdings.{ToldCache, Holdings, has_slot, cache_told, slab_around}
 use Rattle.promise_core.specs.State.{State, Known, opening}
 use Rattle.promise_core.specs.Promises.{allowed, all_allowed}
 
@@ -78,13 +79,34 @@ LiveApart = (limit order superblocks tenants t : ℕ) (es : List Exchange) (w : 
 abbrev pub may_tell : Known → ℕ → Command → Body → Bool
 may_tell w t command body = is_ok (allowed (On.Tenant t command) (record { addressee = To.Tenant t; body = body }) w)
 
--- a frame can be answered to a request for a block, unless it can be refused for want of frames, and never both
-pub record IsRefusedForCause (w : Known) (t k : ℕ) : Type 0 where
-  pub answered : may_tell w t (Asked.Alloc k) (Say.Refused Refusal.NoFrames) ≡ false
-      → (f : ℕ) × (may_tell w t (Asked.Alloc k) (Say.Frame f) ≡ true)
-  pub refused : (f : ℕ) → may_tell w t (Asked.Alloc k) (Say.Refused Refusal.NoFrames) ≡ true
-      → may_tell w t (Asked.Alloc k) (Say.Frame f) ≡ false
+-- a number can be answered to the tenant's command, unless it can be refused for want of frames, and never both
+pub record IsRefusedForCause (w : Known) (t : ℕ) (command : Command) (answer : ℕ → Body) : Type 0 where
+  pub answered : may_tell w t command (Say.Refused Refusal.NoFrames) ≡ false → (n : ℕ) × (may_tell w t command (answer n) ≡ true)
+  pub refused : (n : ℕ) → may_tell w t command (Say.Refused Refusal.NoFrames) ≡ true → may_tell w t command (answer n) ≡ false
 
--- so it is for every order up to that of a slot, in whatever state
+-- so it is for a block of every order up to that of a slot, in whatever state
 abbrev pub RefusedForCause : Type 0
-RefusedForCause = (w : Known) (s : State) (t k : ℕ) → slice_get w.states t ≡ Some s → k ≤ w.order → IsRefusedForCause w t k
+RefusedForCause = (w : Known) (s : State) (t k : ℕ) → slice_get w.states t ≡ Some s → k ≤ w.order
+    → IsRefusedForCause w t (Asked.Alloc k) Say.Frame
+
+-- and for an object of a cache that is there, whatever was asked and answered before, if each reply was allowed
+abbrev pub TakeRefusedForCause : Type 0
+TakeRefusedForCause = (limit order superblocks tenants t number : ℕ) (es : List Exchange) (w : Known) (s : State) (c : ToldCache)
+    → all_allowed es (Ok (opening limit order superblocks tenants)) ≡ Ok w → slice_get w.states t ≡ Some s
+    → cache_told s.has number ≡ Some c → IsRefusedForCause w t (Asked.Take number) Say.Object
+
+-- the commands by which a tenant uses its memory
+abbrev pub uses_memory : Command → Bool
+uses_memory (Asked.Alloc k) = true
+uses_memory (Asked.Free f) = true
+uses_memory (Asked.Read place len) = true
+uses_memory (Asked.Write place bytes) = true
+uses_memory (Asked.Take number) = true
+uses_memory (Asked.Give number place) = true
+uses_memory command = false
+
+-- to each of these there is an allowed reply, whatever was asked and answered before, if each reply was allowed
+abbrev pub UseAnswerable : Type 0
+UseAnswerable = (limit order superblocks tenants t : ℕ) (command : Command) (es : List Exchange) (w : Known)
+    → all_allowed es (Ok (opening limit order superblocks tenants)) ≡ Ok w → uses_memory command ≡ true
+    → (reply : Reply) × (is_ok (allowed (On.Tenant t command) reply w) ≡ true)

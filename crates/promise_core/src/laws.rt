@@ -1,7 +1,7 @@
 //! What follows from the promises alone. Each law is the contract of a function that does nothing: a caller has the law by the
 //! call, for every program whose replies keep the promises.
 
-ghost use Rattle.promise_core.specs.Laws.{LiveApart, Confined, RefusedForCause};
+ghost use Rattle.promise_core.specs.Laws.{LiveApart, Confined, RefusedForCause, TakeRefusedForCause, UseAnswerable};
 
 /// The page blocks of a tenant and the slabs of its live objects are aligned, lie in slots that it holds, and share no frame.
 pub fn live_apart()
@@ -18,4 +18,16 @@ pub fn confined()
 /// never both: whatever was done before, the request has an allowed reply.
 pub fn refused_for_cause()
     ensures { RefusedForCause }
+{}
+
+/// To a request for an object of a cache that is there a place can be answered, unless it can be refused for want of frames, and
+/// never both: no allowed reply leads to a state in which there is none.
+pub fn take_refused_for_cause()
+    ensures { TakeRefusedForCause }
+{}
+
+/// To each request for a block or an object, each free and give, each read and each write there is an allowed reply: no allowed
+/// replies lead to a state in which a tenant's use of its memory has none.
+pub fn use_answerable()
+    ensures { UseAnswerable }
 {}

@@ -20,14 +20,11 @@ use Rattle.model_core.proofs.Laid.{laid, all_laid, laid_block, Placed, IsLaidOut
 use Rattle.model_core.proofs.CacheSteps.{in_all_laid}
 use Rattle.model_core.proofs.Objects.{in_append}
 use Rattle.promise_core.specs.Holdings.{ToldCache, Holdings, slab_around, told_blocks, can_stand, are_apart, is_grid, can_be_taken}
+use Rattle.promise_core.proofs.Grids.{all_from}
 use Rattle.promise_kept.specs.Meets.{told_cache, holdings_of}
 use Rattle.promise_kept.proofs.Stand.{flat_in, overlap_shares}
 use Rattle.promise_kept.proofs.Live.{IsLivePlace, live_place}
 use Rattle.promise_kept.proofs.Beside.{places_in, less_count, some_count, IsBeside, beside_at, is_slab, slab_here, slab_of_live, beside_is}
-
-pub all_from : {X : Type 0} (p : X → Bool) (xs : List X) → ((x : X) → IsIn x xs → p x ≡ true) → list_all p xs ≡ true
-all_from p [] f = refl
-all_from p (x ∷ xs) f = and_from (p x) (list_all p xs) (f x (inl refl)) (all_from p xs (λ y i. f y (inr i)))
 
 -- a flag that is set is one of these
 flag_any : (flags : List Bool) (i : ℕ) → get_or flags i false ≡ true → list_any (λ live. live) flags ≡ true

@@ -30,4 +30,5 @@ pub mod Owning
 pub mod SlotsMeet
 pub mod World
 pub mod WorldSteps
+pub mod Written
 pub mod Witnesses

@@ -4,7 +4,7 @@ use Rattle.std.specs.Prelude.{if◌then◌else◌, filter, flat_map, is_some, op
 use Rattle.std.specs.List.{list_any, range_with_len, AllByRecursion as Each}
 use Rattle.std.proofs.Math.Nat.{div-div-eq-div-mul, div-eq_of_lt-le, mul-div_cancel}
 use Rattle.std.proofs.lemmas.Nat.{pow_pos, pow-add}
-use Rattle.std.proofs.lemmas.Bool.{false≢true, and_parts, and_from, not-true, not-false, not_from_false, false_from_ne_true, ltb-true, le-leb, lt-ltb, eqb-true, eq-eqb, cases_lt}
+use Rattle.std.proofs.lemmas.Bool.{false≢true, and_parts, and_from, not-true, not-false, not_from_false, false_from_ne_true, ltb-true, le-leb, eqb-true, eq-eqb, cases_lt}
 use Rattle.model_core.specs.Blocks.{Block, block, HasFrame, around}
 use Rattle.model_core.specs.Choice.{choose}
 use Rattle.model_core.specs.Layouts.{object_place}
@@ -14,7 +14,7 @@ use Rattle.model_core.specs.Slabs.{LiveObject, live_from, live_in, live_objects,
 use Rattle.model_core.specs.Operations.{overlaps}
 use Rattle.model_core.specs.WellFormed.{IsApart, IsWellFormed}
 use Rattle.model_core.proofs.Lists.{IsIn, each_in, each_from, filter_in, any_none, none_any, any_in, in_left, in_right, in_map, map_in}
-use Rattle.model_core.proofs.BlocksByNumber.{number_is, number_of_frame, aligned_first, first_is}
+use Rattle.model_core.proofs.BlocksByNumber.{aligned_first}
 use Rattle.model_core.proofs.Apart.{in_block-true, overlap_from}
 use Rattle.model_core.proofs.Laid.{Laid, laid, all_laid, laid_block, IsCutLaid, IsLaidOut, laid_out}
 use Rattle.model_core.proofs.CacheSteps.{in_all_laid}
@@ -25,6 +25,7 @@ use Rattle.model_core.proofs.PageSteps.{by_need_kept}
 use Rattle.model_core.proofs.Vacant.{IsVacant, some_choice}
 use Rattle.promise_core.specs.Holdings.{slab_around, told_blocks, is_vacant, can_stand, blocks_of_slot, vacant_blocks, has_room}
 pub use Rattle.promise_core.proofs.Causes.{flat_in, in_flat, range_in}
+use Rattle.promise_core.proofs.Grids.{around_is}
 use Rattle.promise_kept.specs.Meets.{told_cache, holdings_of}
 use Rattle.promise_kept.proofs.Seen.{holdings_reaped}
 
@@ -44,11 +45,6 @@ overlap_shares a b e apart =
     let high : b.first < a.first + 2 ^ a.order = ltb-true b.first (a.first + 2 ^ a.order) p.1 in
     ⊎_elim (λ less. apart b.first (omega arith, high) (omega arith, omega (arith, pow_pos b.order)))
     (λ more. apart a.first (omega arith, omega (arith, pow_pos a.order)) (more, low)) (cases_lt a.first b.first)
-
--- the block around a frame of an aligned one is that one
-pub around_is : (b : Block) (x : ℕ) → b.first % 2 ^ b.order ≡ 0 → HasFrame b x → around x b.order ≡ b
-around_is b x aligned has = ap (λ f. block f b.order)
-    (ap (λ n. n * 2 ^ b.order) (sym (number_is b.order x) ∙ number_of_frame b.first b.order x aligned has) ∙ first_is b.first b.order aligned)
 
 pub order_in_listed : (bs : List Block) (f k : ℕ) → order_in bs f ≡ Some k → IsIn (block f k) bs
 order_in_listed [] f k e = absurd (cc)

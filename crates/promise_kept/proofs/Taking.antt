@@ -32,7 +32,7 @@ use Rattle.promise_kept.proofs.Live.{IsSlab, IsLivePlace, live_place}
 use Rattle.promise_kept.proofs.Known.{seen_is, cache_seen}
 use Rattle.promise_kept.proofs.Give.{none_any}
 use Rattle.promise_kept.proofs.Beside.{full_count, is_slab, beside_is}
-use Rattle.promise_kept.proofs.Handed.{all_from}
+use Rattle.promise_core.proofs.Grids.{all_from}
 use Rattle.promise_kept.proofs.Take.{hidden, handed}
 use Rattle.promise_kept.proofs.Growth.{none_set, grown_meets}
 

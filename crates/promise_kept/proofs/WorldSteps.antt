@@ -262,7 +262,7 @@ read_asked : (line : List ℕ) (event : Event) → reading_of line ≡ Ok (Some 
 read_asked line (On.Tenant t command) e = reading_possible line (On.Tenant t command) e
 read_asked line (On.Admin command) e = tt
 
-lines_asked : (lines : List (List ℕ)) → Each CanBeAsked (events_of lines)
+pub lines_asked : (lines : List (List ℕ)) → Each CanBeAsked (events_of lines)
 lines_asked [] = tt
 lines_asked (line ∷ lines) = each_append CanBeAsked (event_in (reading_of line)) (events_of lines) (go (reading_of line) refl) (lines_asked lines)
   where

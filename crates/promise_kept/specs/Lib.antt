@@ -3,3 +3,4 @@ pub mod MeetsWorld
 pub mod Laws
 pub mod ObjectLaws
 pub mod WorldLaws
+pub mod Written

@@ -2,6 +2,7 @@ pub mod LineLemmas
 pub mod MoveLemmas
 pub mod OwnLemmas
 pub mod PendingLemmas
+pub mod PromiseLemmas
 pub mod PushLemmas
 pub mod QuickLemmas
 pub mod RunLemmas

@@ -1,14 +1,12 @@
 -- A tenant's own lines in what is shown.
-use Rattle.std.proofs.Common.{◌≡◌, ℕ, ◌<◌, List, Option, Some, None, length, ap, ◌∙◌, arith}
-use Rattle.std.proofs.lemmas.List.{length-replicate}
-use Rattle.model_core.specs.Machine.{empty_machine}
+use Rattle.std.proofs.Common.{ℕ, ◌<◌, List, Option, Some, None, ap, ◌∙◌, arith}
 use Rattle.words_core.specs.Cutting.{lines_of_trace}
 use Rattle.world_core.specs.Limits.{cache_limit}
 use Rattle.world_core.specs.World.{World, opening_world}
 use Rattle.world_core.specs.Output.{output_of, lines_for, with_line_feeds}
 use Rattle.world_core.specs.Laws.{OwnLines, OwnShown}
 use Rattle.world_core.proofs.Worlds.{opening_tenants}
-use Rattle.kernel_core.specs.Parts.{Parts}
+use Rattle.parts_core.specs.Parts.{Parts}
 use Rattle.replay_core.specs.declared.replaying.Tally.{Tally}
 use Rattle.replay_core.specs.Runs.{HasRun, HasOwnLines}
 

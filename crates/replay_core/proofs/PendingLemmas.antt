@@ -2,11 +2,9 @@
 use Rattle.std.proofs.Common.{◌≡◌, ℕ, ◌+◌, ◌-◌, ◌<◌, ◌≤◌, inl, inr, Bool, true, false, List, ◌++◌, Result, Ok, Err, OnOk, length, take, refl, sym, ap, ◌∙◌, arith}
 use Rattle.std.specs.Prelude.{nat_lt, nat_eq, slice_index, if◌then◌else◌}
 use Rattle.std.specs.Result.{is_ok}
-use Rattle.std.specs.Str.Lines.{strip_carriage_return}
 use Rattle.words_core.specs.declared.event.LineFault.TheVariants.{Long}
 use Rattle.words_core.specs.Grammar.{reading_of}
 use Rattle.words_core.proofs.LineLemmas.{reading_of-long}
-use Rattle.std.proofs.lemmas.Bool.Decides.{nat_tests}
 use Rattle.std.proofs.lemmas.Bool.{cases_lt, ltb-true, ltb-false, lt-ltb, le-ltb}
 use Rattle.std.proofs.lemmas.List.{append-nil, take_all, take-append-le, length-take, length-append}
 use Rattle.std.proofs.Math.Seq.{take-append-add}

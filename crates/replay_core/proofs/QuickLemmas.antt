@@ -3,14 +3,13 @@ use Rattle.std.proofs.Common.{◌≡◌, ℕ, cond, zero, suc, ◌+◌, ◌-◌,
 use Rattle.std.specs.Prelude.{◌==◌, IfSome, Result, Ok, Err}
 use Rattle.std.specs.List.{position_from}
 use Rattle.std.proofs.lemmas.Iterator.Adapters.{position_from-zero}
-use Rattle.std.proofs.lemmas.List.{nil_from_length, length-take}
 use Rattle.words_core.specs.declared.event.Event.{Event}
 use Rattle.words_core.specs.declared.event.Event.TheVariants.{Tenant}
 use Rattle.words_core.specs.declared.event.LineFault.{LineFault}
 use Rattle.words_core.specs.Grammar.{reading_of}
 use Rattle.world_core.specs.Output.{line_feed}
 use Rattle.words_core.specs.declared.event.Command.{Command}
-use Rattle.kernel_core.specs.Parts.{Parts}
+use Rattle.parts_core.specs.Parts.{Parts}
 use Rattle.quick_core.specs.declared.window.TheConstants.{WINDOW}
 use Rattle.quick_core.specs.Lines.{ReadsAs}
 use Rattle.replay_core.specs.declared.feed.Stopped.{Stopped}

@@ -9,10 +9,10 @@ use Rattle.words_core.specs.declared.event.LineFault.{LineFault}
 use Rattle.words_core.specs.Cutting.{lines_of_trace}
 use Rattle.words_core.specs.Grammar.{reading_of}
 use Rattle.world_core.specs.Limits.{cache_limit}
-use Rattle.world_core.specs.World.{World, world_step, world_after}
+use Rattle.world_core.specs.World.{World, world_after}
 use Rattle.world_core.specs.Output.{event_in, events_of, shown_reading, shown_line, shown_lines, with_line_feeds, ended_lines}
 use Rattle.world_core.proofs.Worlds.{world_both}
-use Rattle.kernel_core.specs.Parts.{Parts, SameSizes}
+use Rattle.parts_core.specs.Parts.{Parts, SameSizes}
 use Rattle.kernel_core.specs.Shows.{Shows}
 use Rattle.replay_core.specs.declared.feed.Stopped.{Stopped}
 use Rattle.replay_core.specs.declared.pending.Pending.{Pending}

@@ -2,6 +2,7 @@ pub mod Bounds
 pub mod Held
 pub mod Moves
 pub mod Pending
+pub mod Promised
 pub mod Pushes
 pub mod Runs
 pub mod Shown

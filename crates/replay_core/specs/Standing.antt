@@ -4,7 +4,7 @@ use Rattle.std.specs.Prelude.{Option, Some, None, Result, Ok, Err, is_err}
 use Rattle.std.specs.Io.KnownBytes.{Appends}
 use Rattle.words_core.specs.declared.event.Event.{Event}
 use Rattle.words_core.specs.declared.event.LineFault.{LineFault}
-use Rattle.kernel_core.specs.Parts.{Parts, SameSizes}
+use Rattle.parts_core.specs.Parts.{Parts, SameSizes}
 use Rattle.kernel_core.specs.Shows.{Shows}
 use Rattle.kernel_core.specs.Steps.{HasPattern}
 use Rattle.world_core.specs.Limits.{cache_limit}

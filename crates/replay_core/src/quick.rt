@@ -6,7 +6,7 @@ ghost use Rattle.words_core.specs.declared.event.Event.TheVariants.{Tenant};
 ghost use Rattle.words_core.specs.declared.event.Command.TheVariants.{Read, Write};
 ghost use Rattle.quick_core.specs.Lines.{ReadsAs};
 ghost use Rattle.quick_core.specs.Quick.{quick_command};
-ghost use Rattle.kernel_core.specs.Parts.{Parts};
+ghost use Rattle.parts_core.specs.Parts.{Parts};
 ghost use Rattle.replay_core.specs.declared.pending.Pending.{Pending};
 ghost use Rattle.replay_core.specs.Pending.{HoldsNothing};
 ghost use Rattle.replay_core.specs.Standing.{IsReady, HasAnswered, Stands, HasStopped};

@@ -3,6 +3,7 @@
 ghost use Rattle.std.specs.Prelude.{◌≡◌, ℕ, ◌+◌, true, false, List, length, OnOk};
 ghost use Rattle.std.specs.Io.KnownBytes.{Consumes, Appends, IsAtEnd};
 ghost use Rattle.replay_core.specs.Runs.{Replays, HasOwnLines, IsDone, NamesFailed};
+ghost use Rattle.replay_core.specs.Promised.{TakesAllowed};
 
 use crate::drain::Drain;
 use crate::feed::Feed;
@@ -59,6 +60,11 @@ pub fn replay<F: Feed, D: Drain>(
         × Replays (F.has_ended feed.new) only kernel.old kernel.new given taken result
         × OnOk result (HasOwnLines only kernel.old given taken)
         × (F.room_left feed.new + length given ≡ F.room_left feed.old) }
+    // From an opening world each of these replies keeps the promises, the ones that are not shown too.
+    ensures promises { (given : List ℕ) × (taken : List ℕ)
+        × Consumes (F.remaining feed.old) (F.remaining feed.new) given
+        × Appends (D.contents drain.old) (D.contents drain.new) taken
+        × TakesAllowed (F.has_ended feed.new) only kernel.old given taken result }
     ensures ended { IsDone result (F.has_ended feed.new) }
     // Then what was given is all that it had.
     ensures whole { F.has_ended feed.new ≡ true → IsAtEnd (F.remaining feed.new) }

@@ -1,7 +1,7 @@
 //! Lines of a trace, run one after the other.
 
 ghost use Rattle.std.specs.Prelude.{◌≡◌, ℕ, List, [], Option, length, is_err, MatchResult};
-ghost use Rattle.kernel_core.specs.Parts.{Parts};
+ghost use Rattle.parts_core.specs.Parts.{Parts};
 ghost use Rattle.replay_core.specs.Bounds.{IsBounded};
 
 use crate::drain::Drain;

@@ -1,6 +1,6 @@
 use Rattle.std.proofs.Common.{◌≡◌, ℕ, ◌+◌, ◌-◌, ◌*◌, ◌^◌, ◌<◌, Some, slice_get, min}
 use Rattle.model_core.specs.Machine.{Machine}
-use Rattle.kernel_core.specs.Shows.{ShowsMachine}
+use Rattle.parts_core.specs.Shows.{ShowsMachine}
 use Rattle.frame_picture.specs.Cells.{IsCell}
 use Rattle.frame_picture.specs.declared.cell.Cell.{Cell}
 use Rattle.frame_picture.proofs.showing.show_cells.Given as goal

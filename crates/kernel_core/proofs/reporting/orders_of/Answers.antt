@@ -1,20 +1,17 @@
 use Rattle.std.proofs.Common.{◌+◌, ◌<◌, ℕ, sym, subst, ◌∙◌, IfSome, Option, arith}
 use Rattle.model_core.specs.Reports.{free_count}
-use Rattle.parts_laws.specs.Figures.{AreWithin}
 use Rattle.kernel_core.proofs.ReportOrders.{rows_more, greatest_some, greatest_none, live_more, row_is, below_more}
 use Rattle.kernel_core.proofs.reporting.orders_of.Goals as goal
 use Rattle.kernel_core.proofs.reporting.orders_of.Goals.{then-row-ne0, else-row-ne0}
 
 pub overflow_add-live : goal.overflow_add-live
 overflow_add-live c =
-    let within : AreWithin c.args.buddy.now c.args.t = c.figures_fit.ensures c.args.buddy.now c.args.t c.laws.ensures c.requires in
-    let more = live_more c.args.buddy.now c.args.t c.loop-k.k c.loop-k.live c.taken_count.result within (omega arith) c.loop-k.invariant.1 c.taken_count.ensures in
+    let more = live_more c.args.buddy.now c.args.t c.loop-k.k c.loop-k.live c.taken_count.result c.requires.fit (omega arith) c.loop-k.invariant.1 c.taken_count.ensures in
     omega arith
 
 pub loop-k-preserved : goal.loop-k-preserved
 loop-k-preserved c =
-    let within : AreWithin c.args.buddy.now c.args.t = c.figures_fit.ensures c.args.buddy.now c.args.t c.laws.ensures c.requires in
-    let more = live_more c.args.buddy.now c.args.t c.loop-k.k c.loop-k.live c.taken_count.result within (omega arith) c.loop-k.invariant.1 c.taken_count.ensures in (
+    let more = live_more c.args.buddy.now c.args.t c.loop-k.k c.loop-k.live c.taken_count.result c.requires.fit (omega arith) c.loop-k.invariant.1 c.taken_count.ensures in (
       omega arith,
       more.0,
       elim c.if-row-ne0.branch [

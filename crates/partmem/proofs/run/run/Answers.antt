@@ -1,4 +1,5 @@
 use Rattle.std.proofs.Common.{[], refl, arith, rules}
+use Rattle.partmem.proofs.Promising.{promises_kept}
 use Rattle.partmem.proofs.Writing.{booted, answers, given_so_far, traced, flushed, tallied, reached, ends, nothing_of}
 use Rattle.replay_core.proofs.MoveLemmas.{consumes_nothing, appends_nothing}
 use Rattle.partmem.proofs.run.run.Goals as goal
@@ -33,3 +34,12 @@ returns-clause-ended g c =
 pub returns-in-Err-Memory-clause-ran : goal.returns-in-Err-Memory-clause-ran
 returns-in-Err-Memory-clause-ran g c =
     rw c.at_once.ensures ([], [], [], consumes_nothing _, appends_nothing _, refl, (refl, refl), refl, omega arith, nothing_of _ _)
+
+pub returns-clause-promises : goal.returns-clause-promises
+returns-clause-promises g c =
+    let ran = returns-clause-ran g c in
+    (ran.0, ran.1, ran.2, ran.3, ran.4, ran.5, promises_kept c.args.machine.now _ ran.0 ran.1 (assumption c.well_formed) ran.6, ran.7)
+
+pub returns-in-Err-Memory-clause-promises : goal.returns-in-Err-Memory-clause-promises
+returns-in-Err-Memory-clause-promises g c =
+    rw c.at_once.ensures ([], [], [], consumes_nothing _, appends_nothing _, refl, (refl, refl), refl)

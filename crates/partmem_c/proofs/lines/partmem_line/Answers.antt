@@ -1,6 +1,6 @@
 use Rattle.std.proofs.Common.{rules, sym, ◌∙◌, subst}
 use Rattle.words_core.specs.Grammar.{reading_of}
-use Rattle.kernel_core.specs.Parts.{Parts}
+use Rattle.parts_core.specs.Parts.{Parts}
 use Rattle.partmem_c.specs.Lines.{AnswersLine}
 use Rattle.partmem_c.proofs.TextLemmas.{one_line}
 use Rattle.partmem_c.proofs.lines.partmem_line.Goals as goal

@@ -4,6 +4,7 @@ use Rattle.std.proofs.lemmas.Bool.{eqb-true}
 use Rattle.std.proofs.lemmas.List.{length-take-le}
 use Rattle.replay_core.proofs.MoveLemmas.{consumes_nothing, consumes_more, consumes_kept, consumes_end, room_at_end}
 use Rattle.replay_core.proofs.OwnLemmas.{own_lines_taken}
+use Rattle.replay_core.proofs.PromiseLemmas.{all_promised, part_promised}
 use Rattle.replay_core.proofs.PushLemmas.{some_left}
 use Rattle.replay_core.proofs.RunLemmas.{stands_first, stands_given, stands_sent, stands_few, ended_are_done, all_are_done, last_is_done, stopped_before, stopped_at_last, ended_at, err_of, ok_of, is_ok_of, is_err_of}
 use Rattle.replay_core.proofs.replaying.replay.Goals as goal
@@ -141,3 +142,18 @@ returns-then-is_empty-clause-ran g c =
 
 pub returns-then-is_empty-clause-failed : goal.returns-then-is_empty-clause-failed
 returns-then-is_empty-clause-failed g c = (c.in-Ok.ensures.failed, c.send.ensures.failed ∙ c.pulls.invariant.5)
+
+pub returns-in_default-clause-promises : goal.returns-in_default-clause-promises
+returns-in_default-clause-promises g c = let ran = returns-in_default-clause-ran g c in (ran.0, ran.1, ran.2, ran.3, all_promised _ _ _ _ _ _ ran.4)
+
+pub returns-clause-promises : goal.returns-clause-promises
+returns-clause-promises g c = let ran = returns-clause-ran g c in (ran.0, ran.1, ran.2, ran.3, all_promised _ _ _ _ _ _ ran.4)
+
+pub returns-then-is_empty-clause-promises : goal.returns-then-is_empty-clause-promises
+returns-then-is_empty-clause-promises g c = let ran = returns-then-is_empty-clause-ran g c in (ran.0, ran.1, ran.2, ran.3, all_promised _ _ _ _ _ _ ran.4)
+
+pub returns-then-is_err-clause-promises : goal.returns-then-is_err-clause-promises
+returns-then-is_err-clause-promises g c = let ran = returns-then-is_err-clause-ran g c in (ran.0, ran.1, ran.2, ran.3, part_promised _ c.args.only c.args.kernel.now _ ran.0 ran.1 _ ran.4)
+
+pub returns-then-is_err-2-clause-promises : goal.returns-then-is_err-2-clause-promises
+returns-then-is_err-2-clause-promises g c = let ran = returns-then-is_err-2-clause-ran g c in (ran.0, ran.1, ran.2, ran.3, part_promised _ c.args.only c.args.kernel.now _ ran.0 ran.1 _ ran.4)

@@ -1,13 +1,9 @@
-use Rattle.std.proofs.Common.{length, ◌<◌, subst, arith}
-use Rattle.kernel_core.specs.Parts.{Parts}
 use Rattle.kernel_core.proofs.Worlds.{unknown_tenant, steps_asked}
 use Rattle.kernel_core.proofs.kernel.Kernel.ask.Goals as goal
 
-pub returns-then-tenant-from : goal.returns-then-tenant-from
-returns-then-tenant-from c = rw (← c.self.view_is) (unknown_tenant _ c.args.tenant c.args.command.now (omega arith))
+pub returns-in_default : goal.returns-in_default
+returns-in_default c = unknown_tenant _ c.args.tenant c.args.command.now c.in_default.ensures
 
 pub returns : goal.returns
 returns c =
-    let inside : c.args.tenant < length c.self.inside.buddy.tenants = omega arith in
-    let known : c.args.tenant < c.args.self.now.tenants = subst (λ (k : Parts). c.args.tenant < k.tenants) c.self.view_is inside in
-    steps_asked _ _ c.args.tenant c.args.command.now _ known c.in_ok-run.ensures
+    steps_asked _ _ c.in-Some.t c.args.tenant c.args.command.now _ c.in-Some.ensures.0 c.in-Some.ensures.1 (λ _ _. c.parts_agree.ensures) c.in_ok-said.ensures

@@ -1,19 +1,19 @@
-use Rattle.std.proofs.Common.{◌≡◌, sym, ap, ◌∙◌}
+use Rattle.std.proofs.Common.{◌≡◌, refl, sym, ap, ◌∙◌}
+use Rattle.model_core.specs.CacheOperations.{destroy_step}
+use Rattle.words_core.specs.declared.event.Command.TheVariants as Asked
 use Rattle.words_core.specs.declared.reply.Body.TheVariants.{Destroyed}
-use Rattle.model_core.specs.declared.refusals.DestroyRefusal.TheVariants.{NoCache, CacheInUse}
-use Rattle.world_core.specs.PrivateStep.{destroy_body}
+use Rattle.world_core.specs.PrivateStep.{command_step, destroy_body}
 use Rattle.kernel_core.specs.Steps.{body_of}
-use Rattle.kernel_core.proofs.CacheSteps.{by_refusal, destroyed}
+use Rattle.kernel_core.proofs.Commanding.{commanded, by_err}
 use Rattle.kernel_core.proofs.kernel.Kernel.destroy.Goals as goal
-use Rattle.kernel_core.proofs.kernel.Kernel.destroy.Goals.{in-Ok, in-Err-NoCache, in-Err-CacheInUse}
+use Rattle.kernel_core.proofs.kernel.Kernel.destroy.Goals.{in-Ok, in-Err}
 
 pub returns : goal.returns
+unfolding command_step
 returns c =
-    let told : destroy_body c.destroy-result.result ≡ body_of Destroyed c.match-result.result = elim c.match-result.branch [
+    let told : destroy_body c.destroy.result ≡ body_of Destroyed c.match-destroy.result = elim c.match-destroy.branch [
       | in-Ok w ↦ ap destroy_body w.in-Ok.is ∙ sym (ap (body_of Destroyed) w.result-is)
-      | in-Err-NoCache w ↦ by_refusal destroy_body c.destroy-result.result w.in-Err-NoCache.field-0 NoCache w.in-Err-NoCache.is (rw w.in-Err-NoCache.is at w.in-Err-NoCache.field-0-is) ∙ sym (ap (body_of Destroyed) w.result-is)
-      | in-Err-CacheInUse w ↦ by_refusal destroy_body c.destroy-result.result w.in-Err-CacheInUse.field-0 CacheInUse w.in-Err-CacheInUse.is (rw w.in-Err-CacheInUse.is at w.in-Err-CacheInUse.field-0-is) ∙ sym (ap (body_of Destroyed) w.result-is)
+      | in-Err w ↦ ap destroy_body w.in-Err.is ∙ sym w.of_destroy.ensures ∙ sym (ap (body_of Destroyed) w.result-is)
     ] in
-    rw (← told, ← c.self.view_is) (destroyed _ _ _ _ _ _ c.args.t
-    (record { before = c.self.invariant; space = c.laws.ensures.facts; spares = c.destroy-result.ensures.spares; agree = c.destroy-result.ensures.agree })
-    c.args.cache c.destroy-result.result c.destroy-result.ensures.answer c.destroy-result.ensures.shows c.destroy-result.ensures.refused)
+    rw (← told, ← c.self.view_is) (commanded _ _ c.args.t (Asked.Destroy c.args.cache) destroy_body (destroy_step c.args.cache) c.destroy.result (λ m. refl) c.destroy.ensures.does
+    (by_err destroy_body c.destroy.result (λ done. refl) c.destroy.ensures.refused))

@@ -1,29 +1,54 @@
-use Rattle.std.proofs.Common.{◌≡◌, ◌*◌, ◌-◌, ◌%◌, ◌^◌, ◌<◌, ap₂, sym, subst, ◌∙◌, length}
-use Rattle.model_core.specs.Reports.{frames_held, frames_taken, frames_free, greatest_free}
+use Rattle.std.proofs.Common.{◌≡◌, ℕ, ◌*◌, ◌-◌, ◌%◌, ◌^◌, ◌<◌, length, ap, ap₂, sym, subst, ◌∙◌, arith}
+use Rattle.model_core.specs.Reports.{frames_held, frames_taken, frames_free, greatest_free, rows_of_caches}
+use Rattle.buddy_core.specs.Content as buddies
+use Rattle.slab_tables.specs.Content as tables
 use Rattle.parts_laws.specs.Figures.{HasFigures, AreWithin}
-use Rattle.kernel_core.specs.Parts.{Parts}
-use Rattle.kernel_core.proofs.ReportFigures.{frames_read, top_none, top_some, figures_are}
+use Rattle.parts_laws.specs.Shows as showing
+use Rattle.parts_laws.specs.Steady.{IsSteady}
+use Rattle.world_core.specs.PrivateStep.{figures_of}
+use Rattle.parts_core.specs.Parts.{Parts}
+use Rattle.parts_core.proofs.Changing.{steady}
+use Rattle.kernel_core.proofs.ReportFigures.{within, meet, live_below, frames_read, top_none, top_some, figures_are}
 use Rattle.kernel_core.proofs.kernel.Kernel.figures.Goals as goal
 use Rattle.kernel_core.proofs.kernel.Kernel.figures.Goals.{then-free-eq0, else-free-eq0}
 
+pub orders_of-blocks-requires-clause-fit : goal.orders_of-blocks-requires-clause-fit
+orders_of-blocks-requires-clause-fit c =
+    let known : c.args.t < c.self.inside.parts.tenants = subst (λ (k : Parts). c.args.t < k.tenants) (sym c.self.view_is) c.requires in
+    rw c.buddy-buddy.ensures (within c.self.inside.parts c.args.t c.laws.ensures.agree c.laws.ensures.together known)
+
+pub overflow_sub-free : goal.overflow_sub-free
+overflow_sub-free c =
+    let known : c.args.t < c.self.inside.parts.tenants = subst (λ (k : Parts). c.args.t < k.tenants) (sym c.self.view_is) c.requires in
+    let small : AreWithin c.buddy-buddy.result.now c.args.t
+    = rw c.buddy-buddy.ensures (within c.self.inside.parts c.args.t c.laws.ensures.agree c.laws.ensures.together known) in
+    live_below c.buddy-buddy.result.now c.args.t c.slots.result c.order.result c.orders_of-blocks.result.live small
+    c.slots.ensures c.order.ensures c.orders_of-blocks.ensures.live
+
 pub returns : goal.returns
 returns c =
-    let b = c.self.inside.buddy in
+    let k = c.self.inside.parts in
+    let b = c.buddy-buddy.result.now in
     let t = c.args.t in
-    let agree = c.self.invariant.agree in
-    let known : t < length b.tenants = subst (λ (k : Parts). t < k.tenants) (sym c.self.view_is) c.requires in
-    let within : AreWithin b t = c.figures_fit.ensures b t c.laws.ensures known in
+    let agree = c.laws.ensures.agree in
+    let holds = c.laws.ensures.together in
+    let known : t < k.tenants = subst (λ (x : Parts). t < x.tenants) (sym c.self.view_is) c.requires in
+    let small : AreWithin b t = rw c.buddy-buddy.ensures (within k t agree holds known) in
+    let inside : t < length k.buddy.tenants = omega (arith, agree.holdings) in
     rw (← c.self.view_is) (λ m shown.
-    let has : HasFigures b t m = c.figures_meet.ensures c.self.inside.space b c.self.inside.slabs t m agree c.laws_with.ensures.steady c.laws.ensures known shown in
+    let has : HasFigures b t m = subst (λ (x : buddies.Content). HasFigures x t m) (sym c.buddy-buddy.ensures) (meet k t m agree holds known shown) in
     let frames_is : c.slots.result * 2 ^ c.order.result % 4294967296 ≡ frames_held b.top m
-    = frames_read b t m c.slots.result c.order.result has within c.slots.ensures c.order.ensures in
+    = frames_read b t m c.slots.result c.order.result has small c.slots.ensures c.order.ensures in
     let live_is : c.orders_of-blocks.result.live ≡ frames_taken m = c.orders_of-blocks.ensures.live ∙ sym has.frames in
     let free_is : c.slots.result * 2 ^ c.order.result % 4294967296 - c.orders_of-blocks.result.live ≡ frames_free b.top m
-    = ap₂ (λ n k. n - k) frames_is live_is in
+    = ap₂ (λ n j. n - j) frames_is live_is in
     let top_is : c.if-free-eq0.top ≡ greatest_free b.top m = elim c.if-free-eq0.branch [
       | then-free-eq0 w ↦ top_none b.top m _ c.if-free-eq0.top free_is w.if-free-eq0.true w.top-is
       | else-free-eq0 w ↦ top_some b.top m _ c.if-free-eq0.top free_is w.if-free-eq0.false (w.top-is ∙ c.orders_of-blocks.ensures.top m has)
     ] in
+    let rows : c.rows.result.items ≡ rows_of_caches m = subst (λ (s : tables.Content). showing.Agree k.space k.buddy s → IsSteady k.space k.buddy s t
+    → showing.ShowsMachine k.space k.buddy s t m → c.rows.result.items ≡ rows_of_caches m) c.slabs.ensures (c.rows.ensures k.space k.buddy m)
+    holds.agree (steady k.space k.buddy k.slabs t holds inside) shown in
     figures_are b.top m _ c.orders_of-blocks.result.live _ c.if-free-eq0.top c.split_share.result c.orders_of-blocks.result.orders.items c.rows.result.items
-    frames_is live_is free_is top_is c.split_share.ensures (c.orders_of-blocks.ensures.orders m has)
-    (c.rows.ensures c.self.inside.space b m agree c.laws_with.ensures.steady shown))
+    frames_is live_is free_is top_is c.split_share.ensures (c.orders_of-blocks.ensures.orders m has) rows
+    ∙ ap (λ order. figures_of order m) (ap (λ (x : buddies.Content). x.top) c.buddy-buddy.ensures ∙ agree.top))

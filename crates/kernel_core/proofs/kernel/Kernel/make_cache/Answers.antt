@@ -1,39 +1,29 @@
-use Rattle.std.proofs.Common.{Err, sym, ap, ◌∙◌}
-use Rattle.kernel_core.proofs.CacheSteps.{has_layout, cache_bad_size, cache_bad_align, create_agrees, created, cache_told, told_cache}
+use Rattle.std.proofs.Common.{◌≡◌, Ok, Err, refl, sym, ap, ◌∙◌}
+use Rattle.std.proofs.lemmas.Bool.{false≢true}
+use Rattle.model_core.specs.declared.limits.TheConstants.{MOST_CACHES}
+use Rattle.model_core.specs.CacheOperations.{cache_step}
+use Rattle.words_core.specs.declared.event.Command.TheVariants as Asked
+use Rattle.world_core.specs.PrivateStep.{command_step, told_by, cache_body}
+use Rattle.kernel_core.proofs.Commanding.{commanded, made}
 use Rattle.kernel_core.proofs.kernel.Kernel.make_cache.Goals as goal
 
-pub returns-in-Err-BadSize : goal.returns-in-Err-BadSize
-returns-in-Err-BadSize c =
-    cache_bad_size c.args.self.now c.args.t c.args.size c.args.align c.args.pattern.now c.parts_agree.ensures
-    (sym c.in-Err-BadSize.ensures ∙ ap (λ x. Err x) c.in-Err-BadSize.field-0-is)
-
-pub returns-in-Err-BadAlign : goal.returns-in-Err-BadAlign
-returns-in-Err-BadAlign c =
-    cache_bad_align c.args.self.now c.args.t c.args.size c.args.align c.args.pattern.now c.parts_agree.ensures
-    (sym c.in-Err-BadAlign.ensures ∙ ap (λ x. Err x) c.in-Err-BadAlign.field-0-is)
-
-pub returns-in_default : goal.returns-in_default
-returns-in_default c =
-    let held = (rw c.unwrap-pattern.ensures at c.new.ensures.value) ∙ c.as_slice.ensures.value in
-    let told = ap (cache_told c.args.size c.args.align) c.in_default.is in
-    rw (← told, ← c.self.view_is) (created _ _ _ _ c.args.t
-    (record { before = c.self.invariant; others = c.create.ensures.others _ _; agree = c.create.ensures.agree _ _ c.self.invariant.agree })
-    c.args.size c.args.align c.args.pattern.now c.in-Ok.layout c.unwrap-pattern.result c.create.result
-    (has_layout c.args.size c.args.align c.in-Ok.layout (sym c.in-Ok.ensures)) held
-    (c.create.ensures.answer _ _) (c.create.ensures.shows _ _) c.create.ensures.refused)
-
-pub invariant_of-self-2 : goal.invariant_of-self-2
-invariant_of-self-2 c = create_agrees _ _ _ _ c.args.t
-    (record { before = c.self.invariant; others = c.create.ensures.others _ _; agree = c.create.ensures.agree _ _ c.self.invariant.agree })
+pub returns-in-Err : goal.returns-in-Err
+unfolding command_step
+returns-in-Err c =
+    let held : c.unwrap-pattern.result ≡ c.args.pattern.now.items = (rw c.unwrap-pattern.ensures at c.new.ensures.value) ∙ c.as_slice.ensures.value in
+    rw (c.of_cache.ensures c.args.size c.args.align, c.in-Err.ensures.refused, ← c.self.view_is)
+    (commanded _ _ c.args.t (Asked.Cache c.args.size c.args.align c.args.pattern.now) (cache_body c.args.size c.args.align)
+    (cache_step MOST_CACHES c.args.size c.args.align c.unwrap-pattern.result) (Err c.in-Err.refusal)
+    (λ m. ap (λ xs. told_by (cache_body c.args.size c.args.align) (cache_step MOST_CACHES c.args.size c.args.align xs m)) (sym held))
+    c.in-Err.ensures.why (λ _. refl))
 
 pub returns : goal.returns
+unfolding command_step
 returns c =
-    let held = (rw c.unwrap-pattern.ensures at c.new.ensures.value) ∙ c.as_slice.ensures.value in
-    let has = has_layout c.args.size c.args.align c.in-Ok.layout (sym c.in-Ok.ensures) in
-    let told = ap (cache_told c.args.size c.args.align) c.in-Some.is
-    ∙ told_cache c.args.size c.args.align c.in-Some.cache c.chunk.result c.order.result c.count.result c.colours.result c.in-Ok.layout has
+    let held : c.unwrap-pattern.result ≡ c.args.pattern.now.items = (rw c.unwrap-pattern.ensures at c.new.ensures.value) ∙ c.as_slice.ensures.value in
+    let told = made c.args.size c.args.align c.in-Ok.made.0 c.chunk.result c.order.result c.count.result c.colours.result c.in-Ok.made.1 c.in-Ok.ensures.layout
     c.chunk.ensures c.order.ensures c.count.ensures c.colours.ensures in
-    rw (← told, ← c.self.view_is) (created _ _ _ _ c.args.t
-    (record { before = c.self.invariant; others = c.create.ensures.others _ _; agree = c.create.ensures.agree _ _ c.self.invariant.agree })
-    c.args.size c.args.align c.args.pattern.now c.in-Ok.layout c.unwrap-pattern.result c.create.result has held
-    (c.create.ensures.answer _ _) (c.create.ensures.shows _ _) c.create.ensures.refused)
+    rw (← told, ← c.self.view_is) (commanded _ _ c.args.t (Asked.Cache c.args.size c.args.align c.args.pattern.now) (cache_body c.args.size c.args.align)
+    (cache_step MOST_CACHES c.args.size c.args.align c.unwrap-pattern.result) (Ok c.in-Ok.made.0)
+    (λ m. ap (λ xs. told_by (cache_body c.args.size c.args.align) (cache_step MOST_CACHES c.args.size c.args.align xs m)) (sym held))
+    c.in-Ok.ensures.does (λ is. absurd (false≢true is)))

@@ -1,5 +1,8 @@
+use Rattle.std.proofs.Common.{ap, ◌∙◌}
+use Rattle.space_core.specs.Content as spaces
 use Rattle.kernel_core.proofs.Resetting.{steps_told}
 use Rattle.kernel_core.proofs.kernel.Kernel.pool.Goals as goal
 
 pub returns : goal.returns
-returns c = rw (c.to_admin.ensures, ← c.self.view_is) (steps_told _ c.owners.result.items c.owners.ensures)
+returns c = rw (c.to_admin.ensures, ← c.self.view_is)
+    (steps_told _ c.owners.result.items (c.owners.ensures ∙ ap (λ (s : spaces.Content). s.owners) c.space.ensures))

@@ -1,27 +1,18 @@
-use Rattle.std.proofs.Common.{sym, arith}
-use Rattle.parts_laws.proofs.PageHolds.{reach_held}
-use Rattle.kernel_core.proofs.Worlds.{false_is}
-use Rattle.kernel_core.proofs.PageBytes.{read_bad, read_beyond, read_done, window_some}
+use Rattle.std.proofs.Common.{Ok, Err, refl}
+use Rattle.model_core.specs.Operations.{read_step}
+use Rattle.words_core.specs.declared.event.Command.TheVariants as Asked
+use Rattle.world_core.specs.PrivateStep.{command_step, read_body}
+use Rattle.kernel_core.proofs.Commanding.{commanded}
 use Rattle.kernel_core.proofs.kernel.Kernel.read.Goals as goal
 
-pub returns-then-len-lt1-clause-steps : goal.returns-then-len-lt1-clause-steps
-returns-then-len-lt1-clause-steps c = rw (← c.self.view_is) (read_bad _ c.args.t c.args.place c.args.len c.self.invariant (λ low high. omega arith))
+pub returns-in-Ok-clause-steps : goal.returns-in-Ok-clause-steps
+unfolding command_step
+returns-in-Ok-clause-steps c =
+    rw (← c.self.view_is) (commanded _ _ c.args.t (Asked.Read c.args.place c.args.len) read_body (read_step c.args.place c.args.len) (Ok c.in-Ok.bytes.now)
+    (λ m. refl) c.in-Ok.ensures.does (λ _. refl))
 
-pub returns-then-not-is_in_reach-clause-steps : goal.returns-then-not-is_in_reach-clause-steps
-returns-then-not-is_in_reach-clause-steps c =
-    rw (← c.self.view_is) (read_beyond _ c.args.t c.args.place c.args.len c.self.invariant c.laws_with.ensures.steady (omega arith) (omega arith)
-    (λ reach. false_is c.is_in_reach.result c.if-not-is_in_reach.true (c.is_in_reach.ensures.1 reach)))
-
-pub unreachable-requires : goal.unreachable-requires
-unreachable-requires c =
-    let inside = c.self.inside in
-    window_some inside.space c.args.t c.args.place c.args.len
-    (reach_held inside.space inside.buddy inside.slabs c.args.t c.args.place c.args.len c.self.invariant.agree c.laws_with.ensures.steady
-    (c.is_in_reach.ensures.0 c.if-not-is_in_reach.false))
-    (sym (c.in_default.ensures.value))
-
-pub returns-clause-steps : goal.returns-clause-steps
-returns-clause-steps c =
-    let window = c.laws.ensures.own_bytes.read c.args.t c.args.place c.args.len c.in-Some.bytes.now (sym c.in-Some.ensures.value) in
-    rw (← c.self.view_is) (read_done _ c.args.t c.args.place c.args.len c.in-Some.bytes.now c.self.invariant c.laws_with.ensures.steady (omega arith) (omega arith)
-    (c.is_in_reach.ensures.0 c.if-not-is_in_reach.false) window)
+pub returns-in-Err-clause-steps : goal.returns-in-Err-clause-steps
+unfolding command_step
+returns-in-Err-clause-steps c =
+    rw (c.of_read.ensures, ← c.self.view_is) (commanded _ _ c.args.t (Asked.Read c.args.place c.args.len) read_body (read_step c.args.place c.args.len)
+    (Err c.in-Err.refusal) (λ m. refl) c.in-Err.ensures.why (λ _. refl))

@@ -1,8 +1,14 @@
-use Rattle.kernel_core.proofs.CacheSteps.{reaped}
+use Rattle.std.proofs.Common.{refl}
+use Rattle.std.proofs.lemmas.Bool.{false≢true}
+use Rattle.model_core.specs.CacheOperations.{reap_step}
+use Rattle.words_core.specs.declared.event.Command.TheVariants as Asked
+use Rattle.words_core.specs.declared.reply.Body.TheVariants.{Reaped}
+use Rattle.world_core.specs.PrivateStep.{command_step}
+use Rattle.kernel_core.proofs.Commanding.{commanded}
 use Rattle.kernel_core.proofs.kernel.Kernel.reap.Goals as goal
 
 pub returns : goal.returns
+unfolding command_step
 returns c =
-    rw (← c.self.view_is) (reaped _ _ _ _ _ _ c.args.t
-    (record { before = c.self.invariant; space = c.laws.ensures.facts; spares = c.reap-frames.ensures.spares; agree = c.reap-frames.ensures.agree })
-    c.reap-frames.result c.reap-frames.ensures.answer c.reap-frames.ensures.shows)
+    rw (← c.self.view_is) (commanded _ _ c.args.t Asked.Reap (λ frames. Reaped frames) reap_step c.reap.result (λ m. refl) c.reap.ensures
+    (λ is. absurd (false≢true is)))

@@ -2,7 +2,7 @@ use Rattle.std.proofs.Common.{◌≡◌, ℕ, List}
 use Rattle.words_core.specs.declared.event.Command.TheVariants.{Read, Write}
 use Rattle.words_core.specs.declared.reply.Body.{Body}
 use Rattle.words_core.specs.declared.reply.Body.TheVariants.{Bytes}
-use Rattle.kernel_core.specs.Parts.{Parts}
+use Rattle.parts_core.specs.Parts.{Parts}
 use Rattle.kernel_core.specs.Steps.{StepsMachine}
 use Rattle.kernel_core.proofs.kernel.Kernel.run.Goals as goal
 use Rattle.kernel_core.proofs.kernel.Kernel.run.Goals.{in-Alloc+in-Ok, in-Alloc+in-Err, in-Free+in-Ok-free, in-Free+in-Err-free, in-Read+in-Ok-read, in-Read+in-Err-read, in-Write+in-Ok-write, in-Write+in-Err-write, in-Cache+in-Ok-make_cache, in-Cache+in-Err-make_cache, in-Destroy+in-Ok-destroy, in-Destroy+in-Err-destroy, in-Take+in-Ok-take, in-Take+in-Err-take, in-Give+in-Ok-give, in-Give+in-Err-give, in-Reap}

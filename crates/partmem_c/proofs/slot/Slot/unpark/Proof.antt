@@ -28,7 +28,7 @@ use Rattle.std.specs.contracts.impls.GlobalAllocator.TheImpl.{ghosts}
 use Rattle.std_alloc.specs.Box.Ownership.{box_owns}
 use Rattle.partmem_c.proofs.RawBoxValues.{both, raw_good, raw_in}
 use Rattle.kernel_core.specs.contracts.kernel.Kernel.{the_row}
-use Rattle.kernel_core.specs.Parts.{Parts}
+use Rattle.parts_core.specs.Parts.{Parts}
 use Rattle.partmem_c.specs.Slots.{slot_owns}
 use Rattle.partmem_c.specs.contracts.slot.Slot as slot
 use Rattle.partmem_c.proofs.SlotSteps.{word, holds, slot_out}

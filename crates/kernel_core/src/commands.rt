@@ -1,0 +1,141 @@
+//! A tenant's commands as calls of the parts, with the refusals in words.
+
+ghost use Rattle.std.specs.Prelude.{◌≡◌, ◌<◌, ◌≤◌, length, IfOk, true};
+ghost use Rattle.model_core.specs.Layouts.{is_pattern};
+ghost use Rattle.words_core.specs.Answers.{body_of_said};
+ghost use Rattle.words_core.specs.declared.event.Command.TheVariants as Command;
+ghost use Rattle.words_core.specs.declared.reply.Body.TheVariants.{Frame, Freed, Bytes, Written, Destroyed, Object, Given, Reaped};
+ghost use Rattle.kernel_core.specs.Steps.{StepsMachine, body_of};
+
+use crate::Kernel;
+use crate::refusals::{of_alloc, of_cache, of_destroy, of_give, of_read, of_take};
+use arrayvec::ArrayVec;
+use layout_core::Pattern;
+use model_core::limits::{MOST_BYTES, MOST_PATTERN};
+use words_core::{Refusal, Said};
+
+impl Kernel {
+    /// Takes a page block of `2^order` frames.
+    #[inline(always)]
+    pub(crate) fn alloc(&mut self, t: u8, order: u32) -> Result<u32, Refusal>
+        requires { t < self.old.tenants }
+        ensures { StepsMachine self.old t (Command.Alloc order) self.new (body_of Frame result) }
+    {
+        match self.parts.alloc(t, order) {
+            Ok(frame) => Ok(frame),
+            Err(refusal) => Err(of_alloc(refusal)),
+        }
+    }
+
+    /// Releases the page block that begins at a frame.
+    #[inline(always)]
+    pub(crate) fn free(&mut self, t: u8, frame: u32) -> Result<u8, Refusal>
+        requires { t < self.old.tenants }
+        ensures { StepsMachine self.old t (Command.Free frame) self.new (body_of Freed result) }
+    {
+        self.parts.free(t, frame).ok_or(Refusal::NotABlock)
+    }
+
+    /// Lends bytes where they lie.
+    #[inline(always)]
+    pub(crate) fn read(&self, t: u8, place: u32, len: u32) -> Result<&[u8], Refusal>
+        requires { t < self.now.tenants }
+        ensures steps { StepsMachine self.now t (Command.Read place len) self.now (body_of (λ bytes. Bytes (record { items = bytes.now })) result) }
+        ensures few { IfOk result (λ bytes. length bytes.now ≤ MOST_BYTES) }
+    {
+        match self.parts.read(t, place, len) {
+            Ok(bytes) => Ok(bytes),
+            Err(refusal) => Err(of_read(refusal)),
+        }
+    }
+
+    /// Stores bytes, and answers how many.
+    #[inline(always)]
+    pub(crate) fn write(&mut self, t: u8, place: u32, bytes: &[u8]) -> Result<u32, Refusal>
+        requires tenant { t < self.old.tenants }
+        requires few { length bytes.now ≤ MOST_BYTES }
+        ensures steps { StepsMachine self.old t (Command.Write place (record { items = bytes.now })) self.new (body_of Written result) }
+        ensures count { IfOk result (λ count. count ≡ length bytes.now) }
+    {
+        self.parts.write(t, place, bytes).ok_or(Refusal::OutOfReach)
+    }
+
+    /// Makes a cache for objects of `size` bytes.
+    pub(crate) fn make_cache(
+        &mut self,
+        t: u8,
+        size: u32,
+        align: u32,
+        pattern: &ArrayVec<u8, MOST_PATTERN>,
+    ) -> Result<Said, Refusal>
+        requires tenant { t < self.old.tenants }
+        requires pattern { is_pattern pattern.now.items ≡ true }
+        ensures { StepsMachine self.old t (Command.Cache size align pattern.now) self.new (body_of body_of_said result) }
+    {
+        let pattern = Pattern::new(pattern.as_slice()).unwrap();
+        let (cache, layout) = match self.parts.make_cache(t, size, align, pattern) {
+            Ok(made) => made,
+            Err(refusal) => return Err(of_cache(refusal)),
+        };
+        Ok(Said::Cache {
+            cache,
+            chunk: layout.chunk(),
+            order: layout.order(),
+            objects: layout.count(),
+            colours: layout.colours(),
+        })
+    }
+
+    /// Destroys a cache, and answers how many frames its slabs had.
+    pub(crate) fn destroy(&mut self, t: u8, cache: u32) -> Result<u32, Refusal>
+        requires { t < self.old.tenants }
+        ensures { StepsMachine self.old t (Command.Destroy cache) self.new (body_of Destroyed result) }
+    {
+        match self.parts.destroy(t, cache) {
+            Ok(frames) => Ok(frames),
+            Err(refusal) => Err(of_destroy(refusal)),
+        }
+    }
+
+    /// Takes an object of a cache, and answers its first place.
+    pub(crate) fn take(&mut self, t: u8, cache: u32) -> Result<u32, Refusal>
+        requires { t < self.old.tenants }
+        ensures { StepsMachine self.old t (Command.Take cache) self.new (body_of Object result) }
+    {
+        match self.parts.take(t, cache) {
+            Ok(place) => Ok(place),
+            Err(refusal) => Err(of_take(refusal)),
+        }
+    }
+
+    /// Gives an object of a cache back.
+    pub(crate) fn give(&mut self, t: u8, cache: u32, place: u32) -> Result<(), Refusal>
+        requires { t < self.old.tenants }
+        ensures { StepsMachine self.old t (Command.Give cache place) self.new (body_of (λ done. Given) result) }
+    {
+        match self.parts.give(t, cache, place) {
+            Ok(()) => Ok(()),
+            Err(refusal) => Err(of_give(refusal)),
+        }
+    }
+
+    /// Gives all empty slabs back, and answers how many frames they had.
+    pub(crate) fn reap(&mut self, t: u8) -> u32
+        requires { t < self.old.tenants }
+        ensures { StepsMachine self.old t Command.Reap self.new (Reaped result) }
+    {
+        self.parts.reap(t)
+    }
+}
+
+/// These bytes, as a value of their own.
+pub(crate) fn copied(bytes: &[u8]) -> ArrayVec<u8, MOST_BYTES>
+    requires { length bytes.now ≤ MOST_BYTES }
+    ensures { result.items ≡ bytes.now }
+{
+    let mut copied = ArrayVec::new();
+    for byte in bytes {
+        copied.push(*byte);
+    }
+    copied
+}

@@ -1,0 +1,22 @@
+-- That what a run of the program writes keeps the promises, which leave open what the machine of the definitions decides: which
+-- block, which object, which frames are given back.
+use Rattle.std.specs.Prelude.{◌≡◌, ℕ, List, [], ◌++◌}
+use Rattle.words_core.specs.Cutting.{lines_of_trace}
+use Rattle.world_core.specs.Limits.{cache_limit}
+use Rattle.world_core.specs.Output.{ended_lines}
+use Rattle.promise_kept.specs.Written.{IsAllowedText}
+use Rattle.command_line.specs.declared.exit.Outcome.{Outcome}
+use Rattle.command_line.specs.declared.exit.Outcome.TheVariants.{Done, Unreadable, Unwritable, NoMemory}
+use Rattle.command_line.specs.declared.machine.Machine.{Machine}
+
+-- on a new machine the text is that of allowed replies to these lines: of all replies, or of those to one tenant
+abbrev pub AreAllowed : Machine → List (List ℕ) → List ℕ → Type 0
+AreAllowed m lines text =
+    IsAllowedText m.only cache_limit m.config.order m.config.superblocks m.config.tenants lines text
+
+-- what was written of the bytes that were given, when the run ended so
+abbrev pub WritesAllowed : Machine → Outcome → List ℕ → List ℕ → Type 0
+WritesAllowed m Done given written = AreAllowed m (lines_of_trace given) written
+WritesAllowed m Unreadable given written = AreAllowed m (ended_lines given) written
+WritesAllowed m Unwritable given written = (rest : List ℕ) × AreAllowed m (lines_of_trace given) (written ++ rest)
+WritesAllowed m NoMemory given written = (given ≡ []) × (written ≡ [])

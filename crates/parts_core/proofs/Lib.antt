@@ -1,0 +1,14 @@
+pub mod Numbers
+pub mod Marks
+pub mod Calls
+pub mod Changing
+pub mod Granting
+pub mod TakingBack
+pub mod GivingUp
+pub mod Resetting
+pub mod Moving
+pub mod Opening
+pub mod Records
+pub mod PageBlocks
+pub mod PageBytes
+pub mod CacheCalls

@@ -1,0 +1,107 @@
+use Rattle.std.proofs.Common.{◌≡◌, ◌⊎◌, ℕ, ◌*◌, ◌^◌, ◌<◌, ◌≤◌, ◌%◌, Some, inl, inr, sym, ap, ◌∙◌, arith}
+use Rattle.std.proofs.lemmas.Bool.{false≢true, le-leb, leb-true}
+use Rattle.std.proofs.Math.Nat.{pow-le-pow_right, mod-eq_of_lt}
+use Rattle.space_core.specs.Content as spaces
+use Rattle.buddy_core.specs.Content as buddies
+use Rattle.slab_tables.specs.Content.{Content}
+use Rattle.parts_laws.specs.Steady.{IsSteady}
+use Rattle.slab_core.proofs.ObjectReach.{no_block, no_slab}
+use Rattle.parts_laws.specs.Slots.{HoldTogether}
+use Rattle.parts_laws.proofs.PageBlocks.{block_tells, no_block_tells}
+use Rattle.parts_core.proofs.Changing.{steady, opened, known}
+use Rattle.parts_core.proofs.parts.Parts.is_in_reach.Goals as goal
+
+-- neither of the two
+neither : {P Q : Type 0} → P ⊎ Q → (P → ⊥) → (Q → ⊥) → ⊥
+neither (inl p) first second = first p
+neither (inr q) first second = second q
+
+only_first : {P Q : Type 0} → P ⊎ Q → (Q → ⊥) → P
+only_first (inl p) second = p
+only_first (inr q) second = absurd (second q)
+
+only_second : {P Q : Type 0} → P ⊎ Q → (P → ⊥) → Q
+only_second (inl p) first = absurd (first p)
+only_second (inr q) first = q
+
+-- a taken block has at most 256 frames
+record IsSmall (first order : ℕ) : Type 0 where
+  few : order ≤ 8
+  frames : 2 ^ order ≤ 256
+  shift : 1 * 2 ^ order % 18446744073709551616 ≡ 2 ^ order
+  below : first < 65536
+
+small_is : (r : spaces.Content) (b : buddies.Content) (s : Content) (t first order : ℕ) → HoldTogether r b s → IsSteady r b s t
+    → buddies.taken_of (buddies.holding_of t b) first ≡ Some order → IsSmall first order
+small_is r b s t first order holds st taken =
+    let below = (st.sound.placed first order taken).0.0 in
+    let same = holds.agree.order in
+    let top = holds.buddy.sizes.small in
+    let small : order ≤ 8 = omega arith in
+    let two : 0 < 2 = omega arith in
+    let frames : 2 ^ order ≤ 256 = pow-le-pow_right two small in
+    let one : 1 * 2 ^ order ≡ 2 ^ order = omega arith in
+    record {
+      few = small;
+      frames = frames;
+      shift = ap (λ n. n % 18446744073709551616) one ∙ mod-eq_of_lt (omega (arith, frames));
+      below = st.few first order taken;
+    }
+
+lent : (c : goal.After-row_known-1) → IsSteady c.self.inside.space c.self.inside.buddy c.self.inside.slabs c.args.t
+lent c = steady _ _ _ c.args.t (opened _ _ _ _ c.self.view_is c.laws.ensures.together) (known _ _ _ _ c.args.t c.self.view_is c.requires)
+
+small : (c : goal.After-row_known-1) → IsSmall c.in-Some.first c.in-Some.order
+small c = small_is c.self.inside.space c.self.inside.buddy c.self.inside.slabs c.args.t c.in-Some.first c.in-Some.order (opened _ _ _ _ c.self.view_is c.laws.ensures.together) (lent c) c.in-Some.ensures.0
+
+pub returns-in_default-clause-reach : goal.returns-in_default-clause-reach
+returns-in_default-clause-reach c =
+    let x = c.args in
+    let k = c.self.inside in
+    let lends : IsSteady k.space k.buddy k.slabs x.t = steady _ _ _ x.t (opened _ _ _ _ c.self.view_is c.laws.ensures.together) (known _ _ _ _ x.t c.self.view_is c.requires) in
+    rw (← c.self.view_is) (
+      (λ e. absurd (false≢true e)),
+      (λ reach. absurd (neither reach.inside
+          (no_block_tells k.space k.buddy k.slabs x.t x.place x.len reach.some c.in_default.ensures)
+          (λ o. no_block k.space k.buddy k.slabs x.t x.place x.len lends c.in_default.ensures o.0 o.1))),
+    )
+
+pub returns-then-is_slab-clause-reach : goal.returns-then-is_slab-clause-reach
+returns-then-is_slab-clause-reach c =
+    let x = c.args in
+    let k = c.self.inside in
+    let lends : IsSteady k.space k.buddy k.slabs x.t = steady _ _ _ x.t (opened _ _ _ _ c.self.view_is c.laws.ensures.together) (known _ _ _ _ x.t c.self.view_is c.requires) in
+    let some : 0 < x.len = omega arith in
+    let tells = block_tells k.space k.buddy k.slabs x.t x.place x.len c.in-Some.first c.in-Some.order lends some
+    c.in-Some.ensures.0 c.in-Some.ensures.1 in
+    rw (← c.self.view_is) (
+      (λ e. record { some = some; inside = inr (c.object_at.ensures.0 e) }),
+      (λ reach. c.object_at.ensures.1 (only_second reach.inside (λ page. false≢true (sym (tells.0 page).0 ∙ sym c.if-is_slab.ensures)))),
+    )
+
+pub overflow_shl-result : goal.overflow_shl-result
+overflow_shl-result c = let is = (small c).few in omega arith
+
+pub overflow_add-result : goal.overflow_add-result
+overflow_add-result c =
+    let is = small c in
+    omega (arith, is.shift, is.frames, is.below, c.from-4.ensures)
+
+pub overflow_mul-result : goal.overflow_mul-result
+overflow_mul-result c =
+    let is = small c in
+    rw (c.from-3.ensures, c.from-4.ensures, is.shift) (omega (arith, is.frames, is.below))
+
+pub returns-clause-reach : goal.returns-clause-reach
+returns-clause-reach c =
+    let x = c.args in
+    let k = c.self.inside in
+    let is = small c in
+    let some : 0 < x.len = omega arith in
+    let tells = block_tells k.space k.buddy k.slabs x.t x.place x.len c.in-Some.first c.in-Some.order (lent c) some
+    c.in-Some.ensures.0 c.in-Some.ensures.1 in
+    rw (c.from.ensures, c.from-2.ensures, c.from-3.ensures, c.from-4.ensures, is.shift, ← c.self.view_is) (
+      (λ fits. record { some = some; inside = inl (tells.1 (sym c.if-is_slab.ensures, leb-true _ _ fits)) }),
+      (λ reach. le-leb _ _ (tells.0 (only_first reach.inside
+          (λ o. no_slab k.space k.buddy k.slabs x.t x.place x.len (lent c) c.in-Some.first c.in-Some.order c.in-Some.ensures.0 c.in-Some.ensures.1 (sym c.if-is_slab.ensures) o.0 o.1))).1),
+    )

@@ -1,0 +1,5 @@
+pub mod Parts
+pub mod Shows
+pub mod Does
+pub mod GivenUp
+pub mod Records

@@ -1,0 +1,34 @@
+-- That what a replay takes keeps the promises, which leave open what the machine of the definitions decides: which block, which
+-- object, which frames are given back.
+use Rattle.std.specs.Prelude.{ℕ, ◌≤◌, Bool, List, ◌++◌, Option, Result, Ok, Err}
+use Rattle.words_core.specs.Cutting.{lines_of_trace}
+use Rattle.parts_core.specs.Parts.{Parts}
+use Rattle.kernel_core.specs.Shows.{Shows}
+use Rattle.world_core.specs.Limits.{cache_limit}
+use Rattle.world_core.specs.World.{opening_world}
+use Rattle.world_core.specs.Output.{ended_lines}
+use Rattle.promise_kept.specs.Written.{IsAllowedText}
+use Rattle.replay_core.specs.declared.replaying.Tally.{Tally}
+use Rattle.replay_core.specs.declared.replaying.ReplayError.{ReplayError}
+use Rattle.replay_core.specs.declared.replaying.ReplayError.TheVariants as Of
+use Rattle.replay_core.specs.Runs.{Counts, HasCome}
+
+-- From an opening world, whose slots have at least 8 frames, the text is that of allowed replies to these lines ..
+abbrev pub TellsAllowed : Option ℕ → Parts → List (List ℕ) → List ℕ → Type 0
+TellsAllowed only before lines text = (superblocks tenants : ℕ) → Shows before (opening_world superblocks tenants) → 3 ≤ before.order
+    → IsAllowedText only cache_limit before.order superblocks tenants lines text
+
+-- .. or a beginning of it.
+abbrev pub BeginsAllowed : Option ℕ → Parts → List (List ℕ) → List ℕ → Type 0
+BeginsAllowed only before lines part = (superblocks tenants : ℕ) → Shows before (opening_world superblocks tenants) → 3 ≤ before.order
+    → (rest : List ℕ) × IsAllowedText only cache_limit before.order superblocks tenants lines (part ++ rest)
+
+-- Of what was given these lines were run and counted, and what was taken is the text of allowed replies; a beginning of it where
+-- the drain failed.
+abbrev pub TakesAllowed : Bool → Option ℕ → Parts → List ℕ → List ℕ → Result Tally ReplayError → Type 0
+TakesAllowed ended only before given taken (Ok tally) =
+    Counts tally (lines_of_trace given) taken × TellsAllowed only before (lines_of_trace given) taken
+TakesAllowed ended only before given taken (Err (Of.Feed tally)) =
+    Counts tally (ended_lines given) taken × TellsAllowed only before (ended_lines given) taken
+TakesAllowed ended only before given taken (Err (Of.Drain tally)) = (lines : List (List ℕ)) × HasCome ended given lines
+    × Counts tally lines taken × BeginsAllowed only before lines taken
