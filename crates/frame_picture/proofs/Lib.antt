@@ -1,4 +1,3 @@
-pub mod Cells
 pub mod Even
 pub mod Filling
 pub mod RowLemmas

@@ -4,13 +4,13 @@ use Rattle.std.proofs.lemmas.Bool.{cases_order, eq-eqb}
 use Rattle.std.proofs.lemmas.Bool.Decides.{eqb_tells}
 use Rattle.std.proofs.lemmas.List.{take_more, get_or-set_same, get_or-set_other}
 use Rattle.model_core.specs.declared.owner.Owner.{Owner}
-use Rattle.frame_picture.specs.declared.cell.Cell.{Cell}
+use Rattle.parts_core.specs.declared.frames.FrameKind.{FrameKind}
 use Rattle.frame_picture.specs.declared.history.Sheet.{Sheet}
-use Rattle.frame_picture.specs.Cells.{rank_of}
+use Rattle.frame_picture.specs.Kinds.{rank_of}
 use Rattle.frame_picture.specs.Rows.{cells_between, owned_cells, cells_in, row_cells, kind_count, IsMostCommon}
 
 -- the cells of a slot that the tenant holds
-pub owned : (order t first end : ℕ) (owner : Owner) (cells : List Cell) → owner.tenant ≡ t
+pub owned : (order t first end : ℕ) (owner : Owner) (cells : List FrameKind) → owner.tenant ≡ t
     → owned_cells order t first end (Some owner) cells ≡ cells_between (owner.slot * 2 ^ order) first end cells
 owned order t first end owner cells mine =
     ap (λ b. cond b (cells_between (owner.slot * 2 ^ order) first end cells) []) (eq-eqb owner.tenant t mine)
@@ -22,7 +22,7 @@ row_cells-append order t first end (x ∷ xs) ys =
     ap (λ cells. cells_in order t first end x ++ cells) (row_cells-append order t first end xs ys)
     ∙ sym (append_assoc (cells_in order t first end x) (row_cells order t first end xs) (row_cells order t first end ys))
 
-append_none : (xs : List Cell) → xs ++ [] ≡ xs
+append_none : (xs : List FrameKind) → xs ++ [] ≡ xs
 append_none [] = refl
 append_none (x ∷ xs) = ap (λ ys. x ∷ ys) (append_none xs)
 
@@ -36,7 +36,7 @@ row_cells_more order t first end sheets i sheet within is =
     ∙ ap (λ cells. row_cells order t first end (take i sheets) ++ cells) (append_none (cells_in order t first end sheet))
 
 -- the counts of the cells, to the last of which the frames are added that have none
-pub counted : (counts : List ℕ) (cells : List Cell) (frames v : ℕ) → length counts ≡ 6
+pub counted : (counts : List ℕ) (cells : List FrameKind) (frames v : ℕ) → length counts ≡ 6
     → ((k : ℕ) → k < 6 → get_or counts k 0 ≡ count_by (λ cell. rank_of cell == k) cells)
     → v ≡ get_or counts 5 0 + (frames - length cells)
     → (k : ℕ) → k < 6 → get_or (set counts 5 v) k 0 ≡ kind_count cells frames k

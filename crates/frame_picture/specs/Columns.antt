@@ -7,16 +7,16 @@ use Rattle.space_core.specs.Content.{owner_at}
 use Rattle.world_core.specs.World.{World}
 use Rattle.parts_core.specs.Parts.{Parts}
 use Rattle.kernel_core.specs.Shows.{Shows}
-use Rattle.frame_picture.specs.Cells.{IsCell}
-use Rattle.frame_picture.specs.declared.cell.Cell.{Cell}
+use Rattle.parts_core.specs.Frames.{IsFrame}
+use Rattle.parts_core.specs.declared.frames.FrameKind.{FrameKind}
 use Rattle.frame_picture.specs.declared.history.Sheet.{Sheet}
 use Rattle.frame_picture.specs.declared.history.Column.{Column}
 
 -- cell k of a superblock with this owner is what frame k of its slot is in the owner's private machine
-abbrev pub AreCells : ℕ → World → Option Owner → List Cell → Type 0
-AreCells order w holder cells = (owner : Owner) (m : Machine) (k : ℕ) (cell : Cell) → holder ≡ Some owner
+abbrev pub AreCells : ℕ → World → Option Owner → List FrameKind → Type 0
+AreCells order w holder cells = (owner : Owner) (m : Machine) (k : ℕ) (cell : FrameKind) → holder ≡ Some owner
     → slice_get w.machines owner.tenant ≡ Some m → owner.slot * 2 ^ order + k < 2 ^ 32 → slice_get cells k ≡ Some cell
-    → IsCell order m (owner.slot * 2 ^ order + k) cell
+    → IsFrame order m (owner.slot * 2 ^ order + k) cell
 
 -- the share of its free frames that lie outside one greatest free block, as a report tells it
 abbrev pub split_of : ℕ → Machine → ℕ

@@ -1,4 +1,4 @@
-pub mod Cells
+pub mod Kinds
 pub mod Columns
 pub mod Curve
 pub mod Histories

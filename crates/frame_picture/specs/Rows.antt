@@ -1,33 +1,33 @@
 -- The kind of a row of a tenant's band in a column.
 use Rattle.std.specs.Prelude.{ℕ, ◌+◌, ◌-◌, ◌*◌, ◌^◌, ◌<◌, ◌≤◌, ◌==◌, min, if◌then◌else◌, List, [], ◌∷◌, ◌++◌, Option, Some, None, length, count_by, slice_range}
 use Rattle.model_core.specs.declared.owner.Owner.{Owner}
-use Rattle.frame_picture.specs.declared.cell.Cell.{Cell}
-use Rattle.frame_picture.specs.declared.cell.Cell.TheVariants.{NotHeld}
+use Rattle.parts_core.specs.declared.frames.FrameKind.{FrameKind}
+use Rattle.parts_core.specs.declared.frames.FrameKind.TheVariants.{NotHeld}
 use Rattle.frame_picture.specs.declared.history.Sheet.{Sheet}
 use Rattle.frame_picture.specs.declared.history.Column.{Column}
-use Rattle.frame_picture.specs.Cells.{rank_of}
+use Rattle.frame_picture.specs.Kinds.{rank_of}
 use Rattle.frame_picture.specs.declared.grid.Grid.{Grid}
 
 -- of the cells of a slot that begins at frame base, those of the frames from first on and below end
-abbrev pub cells_between : ℕ → ℕ → ℕ → List Cell → List Cell
+abbrev pub cells_between : ℕ → ℕ → ℕ → List FrameKind → List FrameKind
 cells_between base first end cells = slice_range cells (min (length cells) (first - base)) (min (length cells) (end - base))
 
 -- those of tenant t, where a slot with this owner has the cells; slots have 2 ^ order frames
-abbrev pub owned_cells : ℕ → ℕ → ℕ → ℕ → Option Owner → List Cell → List Cell
+abbrev pub owned_cells : ℕ → ℕ → ℕ → ℕ → Option Owner → List FrameKind → List FrameKind
 owned_cells order t first end None cells = []
 owned_cells order t first end (Some owner) cells =
     if owner.tenant == t then cells_between (owner.slot * 2 ^ order) first end cells else []
 
-abbrev pub cells_in : ℕ → ℕ → ℕ → ℕ → Sheet → List Cell
+abbrev pub cells_in : ℕ → ℕ → ℕ → ℕ → Sheet → List FrameKind
 cells_in order t first end sheet = owned_cells order t first end sheet.owner sheet.cells.items
 
 -- the cells of the frames of tenant t from first on and below end, by superblock
-abbrev pub row_cells : ℕ → ℕ → ℕ → ℕ → List Sheet → List Cell
+abbrev pub row_cells : ℕ → ℕ → ℕ → ℕ → List Sheet → List FrameKind
 row_cells order t first end [] = []
 row_cells order t first end (sheet ∷ sheets) = cells_in order t first end sheet ++ row_cells order t first end sheets
 
 -- how many of so many frames have the kind of this rank: those that have no cell are not held
-abbrev pub kind_count : List Cell → ℕ → ℕ → ℕ
+abbrev pub kind_count : List FrameKind → ℕ → ℕ → ℕ
 kind_count cells frames k =
     count_by (λ cell. rank_of cell == k) cells + (if k == rank_of NotHeld then frames - length cells else 0)
 
@@ -45,6 +45,6 @@ abbrev pub end_of : Grid → ℕ → ℕ
 end_of grid row = min (row * grid.frames_per_row + grid.frames_per_row) grid.frames
 
 -- the kind is that which most frames of the row have
-pub record IsRowKind (column : Column) (t : ℕ) (grid : Grid) (row : ℕ) (kind : Cell) : Type 0 where
+pub record IsRowKind (column : Column) (t : ℕ) (grid : Grid) (row : ℕ) (kind : FrameKind) : Type 0 where
   pub most : let cells = row_cells grid.order t (first_of grid row) (end_of grid row) column.sheets.items in
       length cells + 2 ^ 32 < 2 ^ 64 → IsMostCommon (kind_count cells (end_of grid row - first_of grid row)) (rank_of kind)

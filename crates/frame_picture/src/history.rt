@@ -3,9 +3,8 @@
 ghost use Rattle.std.specs.Prelude.{◌≡◌, ℕ, ◌+◌, ◌*◌, ◌/◌, ◌%◌, ◌^◌, ◌<◌, ◌≤◌, ◌⊎◌, IfOk, Option, Some, length, slice_get, vec_len};
 ghost use Rattle.model_core.specs.declared.limits.TheConstants.{MOST_ORDER, MOST_TENANTS};
 
-use crate::cell::Cell;
 use crate::showing::{show_sheets, show_splits};
-use kernel_core::Kernel;
+use kernel_core::{FrameKind, Kernel};
 use model_core::owner::Owner;
 use std::alloc::{AllocError, Global};
 
@@ -18,7 +17,7 @@ pub struct Sheet {
     /// Its owner, if it has one.
     pub owner: Option<Owner>,
     /// What each of its frames is, where it has an owner.
-    pub cells: Vec<Cell>,
+    pub cells: Vec<FrameKind>,
 }
 
 /// The machine after some line.
@@ -238,7 +237,7 @@ impl Column {
         for _ in 0..kernel.superblocks() {
             sheets.push(Sheet {
                 owner: None,
-                cells: vec![in alloc; Cell::NotHeld; 1 << kernel.order()]?,
+                cells: vec![in alloc; FrameKind::NotHeld; 1 << kernel.order()]?,
             })?;
         }
         Ok(Column {

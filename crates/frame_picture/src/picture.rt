@@ -1,16 +1,16 @@
 //! The picture of a trace, in SVG.
 
 ghost use Rattle.std.specs.Prelude.{◌≡◌, ℕ, ◌+◌, ◌<◌, IfOk, IfSome, IfNone, slice_get, slice_index_or, List, Some, vec_len};
-ghost use Rattle.frame_picture.specs.declared.cell.Cell.{Cell};
+ghost use Rattle.parts_core.specs.declared.frames.FrameKind.{FrameKind};
 ghost use Rattle.frame_picture.specs.declared.history.Column.{Column};
 ghost use Rattle.frame_picture.specs.Histories.{columns_of, room_of, tenants_of};
 ghost use Rattle.frame_picture.specs.Rows.{IsRowKind};
 
-use crate::cell::Cell;
 use crate::grid::Grid;
 use crate::history::{Column, History};
 use crate::rows::{MOST_ROWS, set_rows};
 use crate::svg::{HEAD, band_height, draw_band, draw_head, draw_opening};
+use kernel_core::FrameKind;
 use std::alloc::{AllocError, Global};
 use std::io::{self, Write};
 use std::ops::Range;
@@ -24,7 +24,7 @@ pub struct Picture {
     /// The first tenant who is drawn, and the number above the last.
     first: u8,
     end: u8,
-    cells: Vec<[Cell; MOST_ROWS]>,
+    cells: Vec<[FrameKind; MOST_ROWS]>,
 }
 
 impl Picture {
@@ -41,7 +41,7 @@ impl Picture {
         Ok(Picture {
             first,
             end,
-            cells: vec![in alloc; [Cell::NotHeld; MOST_ROWS]; history.room()]?,
+            cells: vec![in alloc; [FrameKind::NotHeld; MOST_ROWS]; history.room()]?,
         })
     }
 
@@ -75,9 +75,9 @@ impl Picture {
 }
 
 /// Sets the rows of tenant `t` in each of the columns that there is room for.
-fn set_cells(cells: &mut [[Cell; MOST_ROWS]], columns: &[Column], t: u8, grid: Grid)
-    ensures { (at row : ℕ) (column : Column) (rows : List Cell) → slice_get columns.now at ≡ Some column → slice_get cells.new at ≡ Some rows
-        → row < 256 → row < grid.rows → IsRowKind column t grid row (slice_index_or rows row Cell.NotHeld) }
+fn set_cells(cells: &mut [[FrameKind; MOST_ROWS]], columns: &[Column], t: u8, grid: Grid)
+    ensures { (at row : ℕ) (column : Column) (rows : List FrameKind) → slice_get columns.now at ≡ Some column → slice_get cells.new at ≡ Some rows
+        → row < 256 → row < grid.rows → IsRowKind column t grid row (slice_index_or rows row FrameKind.NotHeld) }
 {
     for at in 0..cells.len().min(columns.len()) {
         set_rows(&mut cells[at], &columns[at], t, grid);

@@ -4,8 +4,9 @@ ghost use Rattle.std.specs.Prelude.{◌≡◌, ◌≢◌, ℕ, ◌+◌, ◌-◌,
 ghost use Rattle.std.specs.List.{prefix_len};
 ghost use Rattle.frame_picture.specs.Rectangles.{is_cell_kind, run_at, run_in, IsRectangle, GoesOn};
 
-use crate::cell::Cell;
+use crate::kinds::rank;
 use crate::rows::MOST_ROWS;
+use kernel_core::FrameKind;
 
 /// A rectangle of cells of one kind.
 #[derive(Clone, Copy, Debug, PartialEq, Eq)]
@@ -23,8 +24,8 @@ pub struct Rectangle {
 /// The rectangle of a kind that begins in a row and ends before column `end`, if there is one: its run of rows is the same in
 /// all its columns, and not in those beside it.
 pub fn rectangle_at(
-    columns: &[[Cell; MOST_ROWS]],
-    kind: Cell,
+    columns: &[[FrameKind; MOST_ROWS]],
+    kind: FrameKind,
     rows: usize,
     row: usize,
     end: usize,
@@ -55,8 +56,8 @@ pub fn rectangle_at(
 
 /// How many rows from this one on are of the kind in a column, where the row below isn't; 0 elsewhere.
 fn run_in(
-    columns: &[[Cell; MOST_ROWS]],
-    kind: Cell,
+    columns: &[[FrameKind; MOST_ROWS]],
+    kind: FrameKind,
     rows: usize,
     row: usize,
     column: usize,
@@ -70,15 +71,15 @@ fn run_in(
 }
 
 /// How many cells from this row on are of the kind, where the one below isn't; 0 elsewhere.
-fn run_at(kind: Cell, cells: &[Cell], row: usize) -> usize
+fn run_at(kind: FrameKind, cells: &[FrameKind], row: usize) -> usize
     requires { row < length cells.now }
     ensures { result ≡ run_at kind cells.now row }
 {
-    if row > 0 && cells[row - 1].rank() == kind.rank() {
+    if row > 0 && rank(cells[row - 1]) == rank(kind) {
         return 0;
     }
     for at in row..cells.len() {
-        if cells[at].rank() != kind.rank() {
+        if rank(cells[at]) != rank(kind) {
             return at - row;
         }
     }

@@ -6,13 +6,12 @@ ghost use Rattle.model_core.specs.declared.owner.Owner.{Owner};
 ghost use Rattle.space_core.specs.Content.{owner_at};
 ghost use Rattle.world_core.specs.World.{World};
 ghost use Rattle.kernel_core.specs.Shows.{Shows};
-ghost use Rattle.frame_picture.specs.Cells.{IsCell};
+ghost use Rattle.parts_core.specs.Frames.{IsFrame};
 ghost use Rattle.frame_picture.specs.Columns.{AreCells, split_of};
 ghost use Rattle.frame_picture.specs.declared.history.Sheet.{Sheet};
 
-use crate::cell::{Cell, cell_of};
 use crate::history::Sheet;
-use kernel_core::Kernel;
+use kernel_core::{FrameKind, Kernel};
 use model_core::owner::Owner;
 use words_core::Body;
 
@@ -41,10 +40,10 @@ fn show_sheet(sheet: &mut Sheet, kernel: &Kernel, owner: Option<Owner>)
 }
 
 /// Shows what the frames of a tenant's slot are.
-fn show_cells(cells: &mut [Cell], kernel: &Kernel, t: u8, slot: u16)
-    ensures { (w : World) (m : Machine) (k : ℕ) (cell : Cell) → Shows kernel.now w → slice_get w.machines t ≡ Some m
+fn show_cells(cells: &mut [FrameKind], kernel: &Kernel, t: u8, slot: u16)
+    ensures { (w : World) (m : Machine) (k : ℕ) (cell : FrameKind) → Shows kernel.now w → slice_get w.machines t ≡ Some m
         → slot * 2 ^ kernel.now.order + k < 2 ^ 32 → slice_get cells.new k ≡ Some cell
-        → IsCell kernel.now.order m (slot * 2 ^ kernel.now.order + k) cell }
+        → IsFrame kernel.now.order m (slot * 2 ^ kernel.now.order + k) cell }
 {
     kernel.parts_agree();
     if u32::from(t) >= kernel.tenants() {
@@ -52,7 +51,7 @@ fn show_cells(cells: &mut [Cell], kernel: &Kernel, t: u8, slot: u16)
     }
     let mut frame = u32::from(slot) << kernel.order();
     for cell in cells.iter_mut() {
-        *cell = cell_of(kernel, t, frame);
+        *cell = kernel.frame_at(t, frame);
         frame = frame.saturating_add(1);
     }
 }

@@ -2,12 +2,13 @@
 
 ghost use Rattle.std.specs.Prelude.{◌<◌, ◌≤◌, length};
 
-use crate::cell::Cell;
 use crate::curve::turn_at;
 use crate::grid::{Grid, MOST_SLOT_LINES};
 use crate::history::{Column, History, MOST_COLUMNS};
+use crate::kinds::ALL;
 use crate::rectangles::{Rectangle, rectangle_at};
 use crate::rows::MOST_ROWS;
+use kernel_core::FrameKind;
 use std::fmt;
 use std::io::{self, Write};
 
@@ -85,26 +86,26 @@ impl fmt::Display for Decimal {
 }
 
 /// The class of a kind of cells.
-fn class_of(cell: Cell) -> &'static str {
+fn class_of(cell: FrameKind) -> &'static str {
     match cell {
-        Cell::NotHeld => "none",
-        Cell::Free => "free",
-        Cell::Page => "page",
-        Cell::Full => "full",
-        Cell::Partial => "partial",
-        Cell::Empty => "empty",
+        FrameKind::NotHeld => "none",
+        FrameKind::Free => "free",
+        FrameKind::Page => "page",
+        FrameKind::Full => "full",
+        FrameKind::Partial => "partial",
+        FrameKind::Empty => "empty",
     }
 }
 
 /// What the legend calls a kind of cells.
-fn name_of(cell: Cell) -> &'static str {
+fn name_of(cell: FrameKind) -> &'static str {
     match cell {
-        Cell::NotHeld => "not held",
-        Cell::Free => "free",
-        Cell::Page => "page block",
-        Cell::Full => "full slab",
-        Cell::Partial => "partial slab",
-        Cell::Empty => "empty slab",
+        FrameKind::NotHeld => "not held",
+        FrameKind::Free => "free",
+        FrameKind::Page => "page block",
+        FrameKind::Full => "full slab",
+        FrameKind::Partial => "partial slab",
+        FrameKind::Empty => "empty slab",
     }
 }
 
@@ -136,7 +137,7 @@ pub fn draw_head<W: Write>(out: &mut W, history: &History) -> io::Result<()> {
         "<text x=\"{LEFT}\" y=\"50\">Superblocks: {superblocks}, of {frames} frames each. Lines to a column: {width}; it shows the machine after the last of them.</text>"
     )?;
     let mut x = LEFT;
-    for cell in Cell::ALL {
+    for cell in ALL {
         let class = class_of(cell);
         let name = name_of(cell);
         draw_swatch(out, x, class, name)?;
@@ -156,7 +157,7 @@ pub fn draw_band<W: Write>(
     history: &History,
     t: u8,
     grid: Grid,
-    cells: &[[Cell; MOST_ROWS]],
+    cells: &[[FrameKind; MOST_ROWS]],
     top: u32,
 ) -> io::Result<()> {
     let height = rows_height(grid);
@@ -177,7 +178,7 @@ pub fn draw_band<W: Write>(
 /// Draws the cells of a band over a foot.
 fn draw_rows<W: Write>(
     out: &mut W,
-    columns: &[[Cell; MOST_ROWS]],
+    columns: &[[FrameKind; MOST_ROWS]],
     grid: Grid,
     foot: u32,
 ) -> io::Result<()> {
@@ -187,8 +188,8 @@ fn draw_rows<W: Write>(
         column_width(columns.len()),
         row_height(grid)
     )?;
-    for kind in Cell::ALL {
-        if kind != Cell::NotHeld {
+    for kind in ALL {
+        if kind != FrameKind::NotHeld {
             write!(out, "<path class=\"{}\" d=\"", class_of(kind))?;
             draw_cells(out, kind, columns, MOST_ROWS.min(grid.rows as usize))?;
             out.write_all(b"\"/>\n")?;
@@ -200,8 +201,8 @@ fn draw_rows<W: Write>(
 /// Draws all cells of a kind, as rectangles. The columns are units to the right, and the rows units upwards.
 fn draw_cells<W: Write>(
     out: &mut W,
-    kind: Cell,
-    columns: &[[Cell; MOST_ROWS]],
+    kind: FrameKind,
+    columns: &[[FrameKind; MOST_ROWS]],
     rows: usize,
 ) -> io::Result<()>
     requires { rows ≤ MOST_ROWS }
@@ -215,8 +216,8 @@ fn draw_cells<W: Write>(
 /// Draws the rectangles of a kind that end before column `end`, by their rows.
 fn draw_ended<W: Write>(
     out: &mut W,
-    kind: Cell,
-    columns: &[[Cell; MOST_ROWS]],
+    kind: FrameKind,
+    columns: &[[FrameKind; MOST_ROWS]],
     rows: usize,
     end: usize,
 ) -> io::Result<()>

@@ -1,5 +1,5 @@
 -- A superblock without owner is given to a tenant.
-use Rattle.std.proofs.Common.{◌≡◌, ℕ, ◌<◌, ◌≤◌, false, Some, None, is_none, position, slice_get, slice_set, refl, sym, ap, ◌∙◌, subst, arith}
+use Rattle.std.proofs.Common.{◌≡◌, ℕ, ◌<◌, ◌≤◌, Some, None, is_none, position, slice_get, slice_set, refl, sym, ap, ◌∙◌, subst, arith}
 use Rattle.model_core.specs.Machine.{Machine}
 use Rattle.model_core.specs.Operations.{next_slot, after_grant}
 use Rattle.model_core.specs.Owners.{owned_by}

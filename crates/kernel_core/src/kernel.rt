@@ -1,6 +1,7 @@
 //! The kernel: the memory of the machine with its pool, the buddy systems of all tenants over it, and their caches.
 
 ghost use Rattle.std.specs.Prelude.{◌≡◌, ◌≢◌, ◌↔◌, ℕ, ◌+◌, ◌*◌, ◌^◌, ◌<◌, ◌≤◌, length, IfOk, IsSome, true, false};
+ghost use Rattle.model_core.specs.Machine.{Machine};
 ghost use Rattle.model_core.specs.declared.limits.TheConstants.{FRAME_BYTES};
 ghost use Rattle.world_core.specs.Limits.{cache_limit};
 ghost use Rattle.world_core.specs.World.{World, opening_world, world_step};
@@ -8,7 +9,7 @@ ghost use Rattle.world_core.specs.World.{World, opening_world, world_step};
 use crate::commands::copied;
 use buddy_core::Buddy;
 use model_core::limits::{LEAST_ORDER, MOST_ORDER, MOST_SUPERBLOCKS, MOST_TENANTS};
-use parts_core::Parts;
+use parts_core::{FrameKind, Parts};
 use slab_core::Slabs;
 use space_core::Space;
 use std::alloc::Global;
@@ -71,7 +72,9 @@ impl Kernel {
     ghost use Rattle.world_core.specs.OwnList.{is_refused};
     ghost use Rattle.parts_core.specs.Parts.{PartsAgree, SameSizes, MarksFollow, opening_parts, superblock_at, superblock_bytes, Keeps};
     ghost use Rattle.space_core.specs.Laws.{SpareStays};
+    ghost use Rattle.parts_core.specs.Frames.{IsFrame};
     ghost use Rattle.parts_core.specs.Records.{RecordsStand};
+    ghost use Rattle.parts_core.specs.Shows.{ShowsMachine};
     ghost use Rattle.kernel_core.specs.Shows.{Shows};
     ghost use Rattle.kernel_core.specs.Steps.{is_named, HasPattern, Steps, StepsMachine};
     ghost use Rattle.words_core.specs.Answers.{body_of_said, reply_of};
@@ -252,6 +255,14 @@ impl Kernel {
         ensures owner { (m : ℕ) → (result ≡ Some m) ↔ (owner_at self.now.space.owners m ≡ Some (owned_by t slot)) }
     {
         self.parts.superblock_of(t, slot)
+    }
+
+    /// What frame `frame` of tenant `t` is.
+    pub fn frame_at(&self, t: u8, frame: u32) -> FrameKind
+        requires { t < self.now.tenants }
+        ensures { (m : Machine) → ShowsMachine self.now t m → IsFrame self.now.order m frame result }
+    {
+        self.parts.frame_at(t, frame)
     }
 
     /// The bytes of superblock `superblock`, `2^order * 4096` of them.

@@ -18,7 +18,7 @@
 //! assert_eq!(rt; refused.body, Body::Refused(Refusal::NoFrames));
 //! ```
 //!
-//! The test `boots_and_answers` of crate `rows` runs it. Another crate has the line `NAME: kernel_core words_core` in crates.txt, and
+//! Another crate has the line `NAME: kernel_core words_core` in crates.txt, and
 //! `use kernel_core::{Config, Kernel};` and `use words_core::{Addressee, AdminCommand, Body, Command, Event, Refusal};`.
 //! `step` asks for a proof that the pattern of a cache has a byte; of other commands it follows from their form.
 #![tactic(auto)]
@@ -32,3 +32,4 @@ mod refusals;
 mod reporting;
 
 pub use kernel::{BootError, Config, Kernel};
+pub use parts_core::FrameKind;

@@ -1,5 +1,5 @@
 -- A call of the object layer is a command on caches of the tenant's machine.
-use Rattle.std.proofs.Common.{◌≡◌, ◌≢◌, ℕ, Bool, true, false, List, Option, Some, None, Result, Ok, Err, if◌then◌else◌, refl, sym, ap, ◌∙◌, subst}
+use Rattle.std.proofs.Common.{◌≡◌, ◌≢◌, ℕ, Bool, true, false, List, Option, Result, Ok, Err, if◌then◌else◌, refl, sym, ap, ◌∙◌, subst}
 use Rattle.std.specs.Prelude.{ok_or}
 use Rattle.model_core.specs.Layouts.{is_size, is_alignment}
 use Rattle.model_core.specs.Machine.{Machine}

@@ -2,7 +2,6 @@
 use Rattle.std.proofs.Common.{◌≡◌, ℕ, ◌<◌, ◌≤◌, None, [], length, slice_index_or, refl, sym, ap, subst, arith}
 use Rattle.std.proofs.lemmas.List.{length-set, get_or_past}
 use Rattle.space_core.specs.Content as spaces
-use Rattle.space_core.specs.Laws.{SpaceLaws}
 use Rattle.buddy_core.specs.Content as buddies
 use Rattle.slab_tables.specs.Content as tables
 use Rattle.parts_laws.specs.Shows.{Agree}

@@ -14,7 +14,7 @@ use Rattle.parts_laws.specs.Slots.{HoldTogether, IsSpare, ChangesFor}
 use Rattle.parts_laws.proofs.SlotGranted.{granted_shows}
 use Rattle.parts_laws.proofs.SlotNext.{next_meets}
 use Rattle.parts_laws.proofs.SlotBare.{unowned_is_spare}
-use Rattle.parts_core.specs.Parts.{Parts, parts_of, mark_after}
+use Rattle.parts_core.specs.Parts.{parts_of, mark_after}
 use Rattle.parts_core.specs.Shows.{ShowsMachine}
 use Rattle.parts_core.specs.Does.{Does, slot_grant_step}
 use Rattle.parts_core.proofs.Marks.{marks_kept, marks_replaced}

@@ -12,3 +12,4 @@ pub mod Records
 pub mod PageBlocks
 pub mod PageBytes
 pub mod CacheCalls
+pub mod FrameKinds

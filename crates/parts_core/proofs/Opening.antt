@@ -1,12 +1,10 @@
 -- The parts before the first call.
-use Rattle.std.proofs.Common.{◌≡◌, ℕ, refl}
+use Rattle.std.proofs.Common.{◌≡◌, ℕ}
 use Rattle.std.proofs.lemmas.List.{length-replicate}
-use Rattle.space_core.specs.Content as spaces
 use Rattle.buddy_core.specs.Content as buddies
-use Rattle.slab_tables.specs.Content as tables
 use Rattle.parts_laws.specs.Shows.{Agree}
 use Rattle.parts_laws.proofs.SlotEmpty.{opening_shows}
-use Rattle.parts_core.specs.Parts.{Parts, parts_of, opening_parts}
+use Rattle.parts_core.specs.Parts.{parts_of, opening_parts}
 
 pub opening_agrees : (order superblocks tenants : ℕ)
     → Agree (opening_parts order superblocks tenants).space (opening_parts order superblocks tenants).buddy (opening_parts order superblocks tenants).slabs

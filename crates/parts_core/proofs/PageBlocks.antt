@@ -1,5 +1,5 @@
 -- Page blocks taken and released: steps of the private machine.
-use Rattle.std.proofs.Common.{◌≡◌, ℕ, ◌≤◌, nat_lt, true, false, if◌then◌else◌, Option, Some, None, IfNone, OnSome, Result, Ok, Err, OnErr, ok_or, refl, sym, ap, ◌∙◌, subst}
+use Rattle.std.proofs.Common.{◌≡◌, ℕ, ◌≤◌, nat_lt, true, false, if◌then◌else◌, Option, Some, None, IfNone, OnSome, Err, OnErr, ok_or, refl, sym, ap, ◌∙◌, subst}
 use Rattle.model_core.specs.Machine.{Machine, order_in}
 use Rattle.model_core.specs.Slabs.{by_need, choice_by_need}
 use Rattle.model_core.specs.Operations.{Step, alloc_at, alloc_step, free_step, without_block}

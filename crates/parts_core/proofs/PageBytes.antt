@@ -8,7 +8,6 @@ use Rattle.model_core.specs.Reach.{in_reach}
 use Rattle.model_core.specs.declared.refusals.ReadRefusal.{ReadRefusal}
 use Rattle.space_core.specs.Content as spaces
 use Rattle.space_core.specs.Windows.{home_of, window_of, bytes_under}
-use Rattle.space_core.specs.Laws.{IsRead}
 use Rattle.buddy_core.specs.Content as buddies
 use Rattle.slab_tables.specs.Content as tables
 use Rattle.parts_laws.specs.Steady.{IsSteady}

@@ -1,5 +1,5 @@
 -- All that a tenant has is taken from it.
-use Rattle.std.proofs.Common.{◌≡◌, ℕ, ◌<◌, length, map, refl, ap, ◌∙◌}
+use Rattle.std.proofs.Common.{ℕ, ◌<◌, length, map, refl, ap, ◌∙◌}
 use Rattle.std.proofs.Math.ListN.{length-map}
 use Rattle.model_core.specs.Machine.{empty_machine}
 use Rattle.space_core.specs.Content as spaces

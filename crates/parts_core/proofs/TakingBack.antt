@@ -1,5 +1,5 @@
 -- A superblock is taken back from a tenant.
-use Rattle.std.proofs.Common.{◌≡◌, ℕ, ◌<◌, Bool, true, false, Some, None, is_some, Result, Ok, Err, length, slice_set, refl, sym, ap, ◌∙◌, subst, arith}
+use Rattle.std.proofs.Common.{◌≡◌, ℕ, ◌<◌, true, false, Some, None, is_some, Result, Ok, Err, length, slice_set, refl, sym, ap, ◌∙◌, subst, arith}
 use Rattle.std.proofs.lemmas.Bool.{false_from_ne_true}
 use Rattle.model_core.specs.Blocks.{slot_block, HasTaken}
 use Rattle.model_core.specs.Machine.{Machine, holds}

@@ -3,3 +3,4 @@ pub mod Shows
 pub mod Does
 pub mod GivenUp
 pub mod Records
+pub mod Frames

@@ -7,8 +7,10 @@
 #![tactic(auto)]
 
 mod caches;
+mod frames;
 mod pages;
 mod parts;
 mod slots;
 
+pub use frames::FrameKind;
 pub use parts::Parts;

@@ -1,7 +1,7 @@
 use Rattle.std.proofs.Common.{◌≡◌, ℕ, ◌<◌, List, Some, slice_get, slice_index_or, refl, subst, sym, ◌∙◌, arith}
 use Rattle.std.proofs.lemmas.Option.{slice_get_within, slice_get_read}
-use Rattle.frame_picture.specs.declared.cell.Cell.{Cell}
-use Rattle.frame_picture.specs.declared.cell.Cell.TheVariants.{NotHeld}
+use Rattle.parts_core.specs.declared.frames.FrameKind.{FrameKind}
+use Rattle.parts_core.specs.declared.frames.FrameKind.TheVariants.{NotHeld}
 use Rattle.frame_picture.specs.declared.history.Column.{Column}
 use Rattle.frame_picture.proofs.Filling.{more_filled}
 use Rattle.frame_picture.specs.Rows.{IsRowKind}
@@ -10,7 +10,7 @@ use Rattle.frame_picture.proofs.picture.set_cells.Goals as goal
 pub loop-at-preserved : goal.loop-at-preserved
 loop-at-preserved c = λ i row column rows less there here few shown.
     more_filled
-    (λ (k : ℕ) (x : List Cell). (r : ℕ) (y : Column) → slice_get c.args.columns.now k ≡ Some y → r < 256 → r < c.args.grid.rows
+    (λ (k : ℕ) (x : List FrameKind). (r : ℕ) (y : Column) → slice_get c.args.columns.now k ≡ Some y → r < 256 → r < c.args.grid.rows
     → IsRowKind y c.args.t c.args.grid r (slice_index_or x r NotHeld))
     c.loop-at.cells c.loop-at.at c.set_rows.new.rows (omega arith)
     (λ k x below at r y of few' shown'. c.loop-at.invariant k r y x below of at few' shown')

@@ -1,11 +1,11 @@
 use Rattle.std.proofs.Common.{◌≡◌, ℕ, ◌<◌, List, Some, slice_get, slice_index_or}
-use Rattle.frame_picture.specs.declared.cell.Cell.{Cell}
-use Rattle.frame_picture.specs.declared.cell.Cell.TheVariants.{NotHeld}
+use Rattle.parts_core.specs.declared.frames.FrameKind.{FrameKind}
+use Rattle.parts_core.specs.declared.frames.FrameKind.TheVariants.{NotHeld}
 use Rattle.frame_picture.specs.declared.history.Column.{Column}
 use Rattle.frame_picture.specs.Rows.{IsRowKind}
 use Rattle.frame_picture.proofs.picture.set_cells.Given as goal
 
 -- the columns so far
 abbrev pub invariant-loop-at : goal.invariant-loop-at
-invariant-loop-at l = (i row : ℕ) (column : Column) (rows : List Cell) → i < l.at → slice_get l.columns i ≡ Some column
+invariant-loop-at l = (i row : ℕ) (column : Column) (rows : List FrameKind) → i < l.at → slice_get l.columns i ≡ Some column
     → slice_get l.cells i ≡ Some rows → row < 256 → row < l.grid.rows → IsRowKind column l.t l.grid row (slice_index_or rows row NotHeld)

@@ -1,7 +1,7 @@
 use Rattle.std.proofs.Common.{◌≡◌, ℕ, ◌-◌, ◌*◌, ◌%◌, ◌^◌, ◌<◌, ◌≤◌, min, length, ap, sym, ◌∙◌, arith, slice_range, List}
 use Rattle.std.proofs.Math.Nat.{mul-le-mul_right}
 use Rattle.std.proofs.Math.Pow.{pow_mono}
-use Rattle.frame_picture.specs.declared.cell.Cell.{Cell}
+use Rattle.parts_core.specs.declared.frames.FrameKind.{FrameKind}
 use Rattle.frame_picture.specs.Rows.{cells_between, owned_cells}
 use Rattle.frame_picture.proofs.RowLemmas.{owned}
 use Rattle.frame_picture.proofs.rows.cells_of.Goals as goal
@@ -20,7 +20,7 @@ returns c =
     let base : slot * 2 ^ order % 2 ^ 32 ≡ slot * 2 ^ order = base_fits slot (2 ^ order) (omega arith) (pow_mono c.requires.order) in
     let first : ℕ = c.args.first in
     let end : ℕ = c.args.end in
-    let xs : List Cell = c.as_slice-cells.result.now in
+    let xs : List FrameKind = c.as_slice-cells.result.now in
     let begins : c.from.result * 2 ^ order % 2 ^ 32 ≡ slot * 2 ^ order = ap (λ s. s * 2 ^ order % 2 ^ 32) c.from.ensures ∙ base in
     let from : c.min-from.result ≡ min (length xs) (first - slot * 2 ^ order) =
     c.min-from.ensures ∙ ap (λ x. min (length xs) x) (c.saturating_sub.ensures ∙ ap (λ b. first - b) begins) in

@@ -1,5 +1,5 @@
 use Rattle.std.proofs.Common.{◌≡◌, ℕ, ◌+◌, ◌^◌, ◌<◌, ◌==◌, length, take, get_or, count_by}
-use Rattle.frame_picture.specs.Cells.{rank_of}
+use Rattle.frame_picture.specs.Kinds.{rank_of}
 use Rattle.frame_picture.proofs.rows.count_cells.Given as goal
 
 -- the cells so far

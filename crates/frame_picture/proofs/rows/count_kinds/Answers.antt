@@ -1,7 +1,7 @@
 use Rattle.std.proofs.Common.{◌≡◌, ℕ, ◌+◌, ◌≤◌, ◌==◌, ◌++◌, List, length, take, get_or, count_by, ap, sym, ◌∙◌, arith, length-append}
 use Rattle.std.proofs.lemmas.List.Sums.{sum_by-append, count_by-le-length}
-use Rattle.frame_picture.specs.declared.cell.Cell.{Cell}
-use Rattle.frame_picture.specs.Cells.{rank_of}
+use Rattle.parts_core.specs.declared.frames.FrameKind.{FrameKind}
+use Rattle.frame_picture.specs.Kinds.{rank_of}
 use Rattle.frame_picture.specs.Rows.{row_cells}
 use Rattle.frame_picture.proofs.RowLemmas.{row_cells_more}
 use Rattle.frame_picture.proofs.rows.count_kinds.Goals as goal
@@ -9,8 +9,8 @@ use Rattle.frame_picture.proofs.rows.count_kinds.Goals as goal
 pub loop-sheet-preserved : goal.loop-sheet-preserved
 loop-sheet-preserved c =
     let cells = λ (n : ℕ). row_cells c.args.order c.args.t c.args.first c.args.end (take n c.args.sheets.now) in
-    let before : List Cell = cells c.loop-sheet.sheet-index in
-    let here : List Cell = c.cells_of-cells.result.now in
+    let before : List FrameKind = cells c.loop-sheet.sheet-index in
+    let here : List FrameKind = c.cells_of-cells.result.now in
     let more : cells (c.loop-sheet.sheet-index + 1) ≡ before ++ here =
     row_cells_more c.args.order c.args.t c.args.first c.args.end c.args.sheets.now c.loop-sheet.sheet-index c.sheet-item.result (omega arith) c.sheet-item.is
     ∙ ap (λ x. before ++ x) (sym c.cells_of-cells.ensures) in
@@ -18,7 +18,7 @@ loop-sheet-preserved c =
     record {
       long = c.count_cells.array_long;
       kinds = λ k less fits.
-          let test = λ (cell : Cell). rank_of cell == k in
+          let test = λ (cell : FrameKind). rank_of cell == k in
           let old : get_or c.loop-sheet.counts k 0 ≡ count_by test before = c.loop-sheet.invariant.kinds k less (omega (arith, fits, long)) in
           let few : count_by test before ≤ length before = count_by-le-length test before in
           let new = c.count_cells.ensures k less (omega (arith, fits, long, old, few)) in

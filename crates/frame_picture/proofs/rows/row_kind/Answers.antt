@@ -1,8 +1,8 @@
 use Rattle.std.proofs.Common.{◌≡◌, ℕ, ◌+◌, ◌-◌, ◌^◌, ◌<◌, ◌≤◌, ◌==◌, List, length, get_or, set, count_by, ap, ◌∙◌, arith}
 use Rattle.std.proofs.lemmas.List.Sums.{count_by-le-length}
 use Rattle.std.proofs.Math.ListN.{length-set}
-use Rattle.frame_picture.specs.declared.cell.Cell.{Cell}
-use Rattle.frame_picture.specs.Cells.{rank_of}
+use Rattle.parts_core.specs.declared.frames.FrameKind.{FrameKind}
+use Rattle.frame_picture.specs.Kinds.{rank_of}
 use Rattle.frame_picture.specs.Rows.{row_cells, first_of, end_of, kind_count}
 use Rattle.frame_picture.proofs.RowLemmas.{counted, most_common}
 use Rattle.frame_picture.proofs.rows.row_kind.Goals as goal
@@ -14,9 +14,9 @@ returns c = λ shown. record {
       let first : ℕ = first_of c.args.grid c.args.row in
       let end : ℕ = end_of c.args.grid c.args.row in
       let frames : ℕ = end - first in
-      let cells : List Cell = row_cells order c.args.t first end c.args.column.now.sheets.items in
+      let cells : List FrameKind = row_cells order c.args.t first end c.args.column.now.sheets.items in
       let counts : List ℕ = c.count_kinds-shown.result.0 in
-      let given : List Cell = row_cells order c.args.t c.frames_of-frames.result.start c.frames_of-frames.result.end c.deref.result.now in
+      let given : List FrameKind = row_cells order c.args.t c.frames_of-frames.result.start c.frames_of-frames.result.end c.deref.result.now in
       let same : given ≡ cells =
       ap (λ f. row_cells order c.args.t f c.frames_of-frames.result.end c.deref.result.now) c.frames_of-frames.ensures.start
       ∙ ap (λ e. row_cells order c.args.t first e c.deref.result.now) c.frames_of-frames.ensures.end
@@ -24,7 +24,7 @@ returns c = λ shown. record {
       let long : length given ≡ length cells = ap length same in
       let few : length given < 2 ^ 64 = omega (arith, short, long) in
       let each : (k : ℕ) → k < 6 → get_or counts k 0 ≡ count_by (λ cell. rank_of cell == k) cells =
-      λ k less. c.count_kinds-shown.ensures.kinds k less few ∙ ap (count_by (λ (cell : Cell). rank_of cell == k)) same in
+      λ k less. c.count_kinds-shown.ensures.kinds k less few ∙ ap (count_by (λ (cell : FrameKind). rank_of cell == k)) same in
       let all : c.count_kinds-shown.result.1 ≡ length cells = c.count_kinds-shown.ensures.all few ∙ long in
       let place : c.rank-not_held.result ≡ 5 = c.rank-not_held.ensures.value in
       let read : get_or counts c.rank-not_held.result 0 ≡ get_or counts 5 0 = ap (λ j. get_or counts j 0) place in

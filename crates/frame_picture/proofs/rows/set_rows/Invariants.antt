@@ -1,5 +1,5 @@
 use Rattle.std.proofs.Common.{◌≡◌, ℕ, ◌<◌, length, slice_index_or}
-use Rattle.frame_picture.specs.declared.cell.Cell.TheVariants.{NotHeld}
+use Rattle.parts_core.specs.declared.frames.FrameKind.TheVariants.{NotHeld}
 use Rattle.frame_picture.specs.Rows.{IsRowKind}
 use Rattle.frame_picture.proofs.rows.set_rows.Given as goal
 

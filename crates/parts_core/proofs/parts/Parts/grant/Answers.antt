@@ -1,4 +1,3 @@
-use Rattle.std.proofs.Common.{◌<◌, length, sym, subst}
 use Rattle.parts_core.proofs.Changing.{opened, known}
 use Rattle.parts_core.proofs.Granting.{IsGrantable, free_is_spare, changes, does_granted}
 use Rattle.parts_core.proofs.parts.Parts.grant.Goals as goal

@@ -1,4 +1,4 @@
-use Rattle.std.proofs.Common.{Some, ap, ◌∙◌, ◌<◌, sym, subst}
+use Rattle.std.proofs.Common.{Some, ap, ◌∙◌}
 use Rattle.parts_core.proofs.Changing.{opened, known}
 use Rattle.parts_core.proofs.Granting.{free_is_spare}
 use Rattle.parts_core.proofs.Moving.{IsMovable, changes, moves}

@@ -1,4 +1,3 @@
-use Rattle.std.proofs.Common.{◌<◌, sym, subst}
 use Rattle.parts_core.proofs.Changing.{opened, known}
 use Rattle.parts_core.proofs.Resetting.{IsEmptying, changes, does_reset}
 use Rattle.parts_core.proofs.parts.Parts.reset.Goals as goal

@@ -1,4 +1,4 @@
-use Rattle.std.proofs.Common.{◌≡◌, ◌≤◌, length, Some, ◌∙◌, sym, subst, arith}
+use Rattle.std.proofs.Common.{◌∙◌, sym, arith}
 use Rattle.parts_laws.proofs.Lookups.{some_none}
 use Rattle.parts_core.proofs.Changing.{opened, no_row}
 use Rattle.parts_core.proofs.parts.Parts.superblock_of.Goals as goal

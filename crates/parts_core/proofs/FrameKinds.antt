@@ -1,5 +1,5 @@
 -- What the parts tell of a frame is what it is in the machine that they show.
-use Rattle.std.proofs.Common.{◌≡◌, ℕ, ◌+◌, ◌*◌, ◌/◌, ◌%◌, ◌<◌, false, cond, Some, None, sym, ap, ◌∙◌, subst, arith, lit<}
+use Rattle.std.proofs.Common.{◌≡◌, ℕ, ◌+◌, ◌*◌, ◌/◌, ◌%◌, ◌<◌, false, cond, Some, None, sym, ap, ◌∙◌, subst, arith}
 use Rattle.model_core.specs.Blocks.{block, HasFrame, IsTaken}
 use Rattle.model_core.specs.Machine.{Machine, order_in, taken_in}
 use Rattle.model_core.specs.Slabs.{slab_of}
@@ -8,7 +8,8 @@ use Rattle.klist_core.specs.Places.{place_at}
 use Rattle.space_core.specs.Content as spaces
 use Rattle.buddy_core.specs.Content as buddies
 use Rattle.slab_tables.specs.Content.{Content, IsSlabs, layout_numbers, head_of, index_of_cache}
-use Rattle.parts_laws.specs.Shows.{node_of, has_slab, ShowsMachine, Agree}
+use Rattle.parts_laws.specs.Shows as showing
+use Rattle.parts_laws.specs.Shows.{node_of, has_slab, Agree}
 use Rattle.parts_laws.specs.Steady.{IsSteady}
 use Rattle.parts_laws.specs.Laws.{is_kind}
 use Rattle.parts_laws.proofs.Lookups.{some_same}
@@ -16,14 +17,16 @@ use Rattle.parts_laws.proofs.Facts.{cache_shown}
 use Rattle.parts_laws.proofs.Steady.{placed_as}
 use Rattle.parts_laws.proofs.ByKind.{from_list}
 use Rattle.parts_laws.proofs.Taken.{taken_meets}
-use Rattle.frame_picture.specs.declared.cell.Cell.{Cell}
-use Rattle.frame_picture.specs.declared.cell.Cell.TheVariants.{NotHeld, Free, Page, Full, Partial, Empty}
-use Rattle.frame_picture.specs.Cells.{IsInSlab, IsCell, IsSlabCell}
+use Rattle.parts_laws.specs.Slots.{HoldTogether}
+use Rattle.parts_core.specs.Parts.{Parts, parts_of}
+use Rattle.parts_core.specs.Shows.{ShowsMachine}
+use Rattle.parts_core.specs.Frames.{IsInSlab}
+use Rattle.parts_core.proofs.Changing.{steady, opened, known}
 
 head_is : (head index kind : ℕ) → head / 3 ≡ index → head % 3 ≡ kind → head ≡ 3 * index + kind
 head_is head index kind e e' = omega arith
 
-module _ (r : spaces.Content) (b : buddies.Content) (s : Content) (t : ℕ) (st : IsSteady r b s t) (m : Machine) (h : ShowsMachine r b s t m) (f : ℕ) where
+module _ (r : spaces.Content) (b : buddies.Content) (s : Content) (t : ℕ) (st : IsSteady r b s t) (m : Machine) (h : showing.ShowsMachine r b s t m) (f : ℕ) where
   -- where no block is taken
   pub none_taken : (IsTaken (buddies.taken_of (buddies.holding_of t b)) f → ⊥) → IsTaken (taken_in m) f → ⊥
   none_taken none (g, k, taken, here) = none (g, k, sym (taken_meets r b s t m st h g) ∙ taken, here)
@@ -58,30 +61,27 @@ module _ (r : spaces.Content) (b : buddies.Content) (s : Content) (t : ℕ) (st 
         passes = y.passes;
       }
 
--- The same, of parts that are these.
-module _ (r r' : spaces.Content) (b b' : buddies.Content) (s s' : Content) (t : ℕ) (same_space : r' ≡ r) (same_buddy : b' ≡ b) (same_slabs : s' ≡ s)
-    (st' : IsSteady r' b' s' t) (m : Machine) (h : ShowsMachine r b s t m) (f : ℕ) where
+-- the list has the slab that begins at a frame
+abbrev pub IsListed : Parts → ℕ → ℕ → ℕ → Type 0
+IsListed k t first list = (node key : ℕ) × (node_of k.slabs.top k.space.slots t first ≡ Some node) × (place_at k.slabs.lists.places node ≡ Some (list, key))
+
+-- The same, of the fields and of what they show.
+module _ (r : spaces.Content) (b : buddies.Content) (s : Content) (t : ℕ) (k : Parts) (is : parts_of r b s ≡ k) (holds : HoldTogether k.space k.buddy k.slabs)
+    (less : t < k.tenants) (m : Machine) (h : ShowsMachine k t m) (f : ℕ) where
+  together : HoldTogether r b s
+  together = opened r b s k is holds
+
   st : IsSteady r b s t
-  st =
-      subst (λ x. IsSteady x b s t) same_space (subst (λ y. IsSteady r' y s t) same_buddy (subst (λ z. IsSteady r' b' z t) same_slabs st'))
+  st = steady r b s t together (known r b s k t is less)
 
-  pub free_told : (IsTaken (buddies.taken_of (buddies.holding_of t b')) f → ⊥) → IsTaken (taken_in m) f → ⊥
-  free_told none = none_taken r b s t st m h f (subst (λ y. IsTaken (buddies.taken_of (buddies.holding_of t y)) f → ⊥) same_buddy none)
+  shown : showing.ShowsMachine r b s t m
+  shown = subst (λ (x : Parts). ShowsMachine x t m) (sym is) h
 
-  pub slab_told : IsSlabs s' → Agree r b s → (first k : ℕ) → buddies.taken_of (buddies.holding_of t b') first ≡ Some k → HasFrame (block first k) f
-      → (list : ℕ) → ((node key : ℕ) × (node_of s.top r.slots t first ≡ Some node) × (place_at s.lists.places node ≡ Some (list, key)))
-      → (order : ℕ) (cell : Cell) → IsSlabCell list cell → IsCell order m f cell
-  slab_told w a first k taken here list (node, key, under, place) order cell is = go cell is
-    where
-      among : (kind : ℕ) → kind < 3 → list % 3 ≡ kind → IsInSlab m f (is_kind kind)
-      among kind less same =
-          in_slab r b s t st m h f (subst (λ z. IsSlabs z) same_slabs w) a first k
-          (subst (λ y. buddies.taken_of (buddies.holding_of t y) first ≡ Some k) same_buddy taken) here node list key kind under place less same
+  pub free_told : (IsTaken (buddies.taken_of (buddies.holding_of t b)) f → ⊥) → IsTaken (taken_in m) f → ⊥
+  free_told = none_taken r b s t st m shown f
 
-      go : (c : Cell) → IsSlabCell list c → IsCell order m f c
-      go NotHeld never = absurd never
-      go Free never = absurd never
-      go Page never = absurd never
-      go Full same = among 0 (lit< tt) same
-      go Partial same = among 1 (lit< tt) same
-      go Empty same = among 2 (lit< tt) same
+  pub slab_told : (first order : ℕ) → buddies.taken_of (buddies.holding_of t b) first ≡ Some order → HasFrame (block first order) f
+      → (list kind : ℕ) → IsListed k t first list → kind < 3 → kind ≡ list % 3 → IsInSlab m f (is_kind kind)
+  slab_told first order taken here list kind listed small same =
+      let (node, key, under, place) = subst (λ (x : Parts). IsListed x t first list) (sym is) listed in
+      in_slab r b s t st m shown f together.slabs together.agree first order taken here node list key kind under place small (sym same)
