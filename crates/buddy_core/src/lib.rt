@@ -221,9 +221,11 @@ impl Buddy {
         ensures { MatchOption result (IsTaken (taken_of (holding_of t self.now)) frame → ⊥)
             (λ b. (taken_of (holding_of t self.now) b.0 ≡ Some b.1) × HasFrame (block b.0 b.1) frame) }
     {
+        let m = self.tenants[t as usize].superblock_at(frame >> self.order)?;
+        let superblock = &self.superblocks[m as usize];
         for k in 0..=self.order {
             let first = frame >> k << k;
-            if self.live_order(t, first) == Some(k) {
+            if superblock.order_at(first % (1 << self.order)) == Some(k) {
                 return Some((first, k));
             }
         }
