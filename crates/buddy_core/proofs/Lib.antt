@@ -20,3 +20,4 @@ pub mod Moving
 pub mod NothingHeld
 pub mod Resetting
 pub mod Holdings
+pub mod Bounding

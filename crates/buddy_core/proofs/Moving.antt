@@ -1,5 +1,6 @@
 -- A slot comes to stand over a superblock that stood under none: the two superblocks are stored in each other's place.
-use Rattle.std.proofs.Common.{◌≡◌, ◌⊎◌, inl, inr, refl, sym, ◌∙◌, ap, ap₂, subst, ℕ, ◌*◌, ◌^◌, ◌<◌, ◌≤◌, Some, List, length, set, map, length-set}
+use Rattle.std.proofs.Common.{◌≡◌, ◌⊎◌, inl, inr, refl, sym, ◌∙◌, ap, ap₂, subst, ℕ, ◌*◌, ◌^◌, ◌<◌, ◌≤◌, Some, List, length, get_or, set, map, length-set}
+use Rattle.std.specs.Int.{bit_at}
 use Rattle.std.specs.Prelude.{is_some}
 use Rattle.std.specs.List.{SwappedAt, range_with_len}
 use Rattle.std.proofs.lemmas.List.{get_or-set_same, get_or-set_other}
@@ -9,8 +10,11 @@ use Rattle.model_core.specs.declared.limits.TheConstants.{MOST_SUPERBLOCKS, MOST
 use Rattle.model_core.specs.Blocks.{Taken}
 use Rattle.buddy_core.specs.Content.{Holding, with_holding, with_slot}
 use Rattle.buddy_core.specs.Stored.{StoredSuperblock, StoredTenant, bare_superblock, superblock_of, stored_tenant, superblock_at, held_by, holding_shown, content_shown}
+use Rattle.buddy_core.specs.Roots.{HasBit}
+use Rattle.buddy_core.specs.Bands.{AreBounded}
 use Rattle.buddy_core.specs.Kept.{IsKept, IsTenantKept}
 use Rattle.buddy_core.proofs.ContentShown.{slot_within, StandsAsBefore, taken_as_before, blank_of, bare_of, content_replaced}
+use Rattle.buddy_core.proofs.Bounding.{bounded_still}
 use Rattle.buddy_core.proofs.TenantChanged.{tenant_stays, tenant_kept_as_before}
 
 module _ (top : ℕ) (superblocks : List StoredSuperblock) (tenants : List StoredTenant) (kept : IsKept top superblocks tenants) (t : ℕ) (listed : t < length tenants) (slot from m : ℕ)
@@ -115,3 +119,15 @@ module _ (top : ℕ) (superblocks : List StoredSuperblock) (tenants : List Store
     where
       shows : Taken → ℕ → Holding
       shows taken n = record { slots = set (stored_tenant t tenants).slots slot (Some m); taken = map taken (range_with_len 0 (n * 2 ^ top)) }
+
+  -- the superblock that a slot stands over has the orders that it had
+  pub move_bounded : (bands : List (List ℕ)) → AreBounded superblocks tenants bands → AreBounded after (set tenants t moved) bands
+  move_bounded bands bounded = bounded_still bounded after (set tenants t moved) (length-set tenants t moved) (λ v u i j at bit. go v u i j at bit (cases_eq v t))
+    where
+      go : (v u i j : ℕ) → superblock_at (stored_tenant v (set tenants t moved)) u ≡ Some i → HasBit after i j → (v ≡ t) ⊎ (v ≡ t → ⊥) → (was : ℕ) × (superblock_at (stored_tenant v tenants) u ≡ Some was) × HasBit superblocks was j
+      go v u i j at bit (inl e) =
+          let before = same u i (ap (λ r. superblock_at r u) (sym (tenant_same v e)) ∙ at) (cases_eq u slot) in
+          (before.0, ap (λ n. superblock_at (stored_tenant n tenants) u) e ∙ before.1, ap (λ (z : StoredSuperblock). bit_at (get_or z.tree.words 0 0) j) (sym before.2) ∙ bit)
+      go v u i j at bit (inr ne) =
+          let before = ap (λ r. superblock_at r u) (sym (tenant_other v ne)) ∙ at in
+          (i, before, ap (λ (z : StoredSuperblock). bit_at (get_or z.tree.words 0 0) j) (sym (other_slot v u i (λ both. ne both.0) before)) ∙ bit)

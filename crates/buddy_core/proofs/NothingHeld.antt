@@ -68,7 +68,7 @@ module _ (top superblocks tenants : ℕ) where
   size : length (replicate superblocks (bare_superblock top)) ≡ superblocks
   size = length-replicate superblocks (bare_superblock top)
 
-  any_slot : (t u : ℕ) → superblock_at (stored_tenant t (replicate tenants (bare_tenant top superblocks))) u ≡ None
+  pub any_slot : (t u : ℕ) → superblock_at (stored_tenant t (replicate tenants (bare_tenant top superblocks))) u ≡ None
   any_slot t u = go (cases_lt t tenants)
     where
       go : (t < tenants) ⊎ (tenants ≤ t) → superblock_at (stored_tenant t (replicate tenants (bare_tenant top superblocks))) u ≡ None

@@ -1,13 +1,17 @@
 -- One tenant loses all that it holds.
-use Rattle.std.proofs.Common.{◌≡◌, ◌⊎◌, inl, inr, refl, sym, ◌∙◌, ap, subst, ℕ, zero, suc, ◌+◌, ◌<◌, ◌≤◌, Option, Some, None, List, length, set, arith, length-set}
+use Rattle.std.proofs.Common.{◌≡◌, ◌⊎◌, inl, inr, refl, sym, ◌∙◌, ap, subst, ℕ, zero, suc, ◌+◌, ◌<◌, ◌≤◌, Option, Some, None, List, length, get_or, set, arith, length-set}
+use Rattle.std.specs.Int.{bit_at}
 use Rattle.std.proofs.lemmas.List.{get_or-set_same, get_or-set_other}
 use Rattle.std.proofs.lemmas.Option.{none-some, same_Some}
 use Rattle.std.proofs.lemmas.Bool.{cases_lt, cases_eq}
 use Rattle.model_core.specs.declared.limits.TheConstants.{MOST_SUPERBLOCKS, MOST_TENANTS}
 use Rattle.buddy_core.specs.Content.{with_holding, nothing_held}
 use Rattle.buddy_core.specs.Stored.{StoredSuperblock, StoredTenant, bare_superblock, bare_tenant, superblock_of, stored_tenant, superblock_at, taken_by, content_shown}
+use Rattle.buddy_core.specs.Roots.{HasBit}
+use Rattle.buddy_core.specs.Bands.{AreBounded}
 use Rattle.buddy_core.specs.Kept.{IsKept, IsTenantKept}
 use Rattle.buddy_core.proofs.ContentShown.{taken_as_before, blank_of, bare_of, content_replaced, slot_within}
+use Rattle.buddy_core.proofs.Bounding.{bounded_still}
 use Rattle.buddy_core.proofs.TenantChanged.{tenant_stays}
 use Rattle.buddy_core.proofs.Granting.{none_there}
 use Rattle.buddy_core.proofs.NothingHeld.{blank_kept, blank_holding}
@@ -145,3 +149,14 @@ module _ (top : ℕ) (superblocks : List StoredSuperblock) (tenants : List Store
   pub reset_shown : content_shown top after (set tenants t (bare_tenant top (length superblocks))) ≡ with_holding t (nothing_held top (length superblocks)) (content_shown top superblocks tenants)
   reset_shown = content_replaced top superblocks tenants t after (bare_tenant top (length superblocks)) (nothing_held top (length superblocks)) c.size
       (λ v ne lt. other_taken v ne) (blank_holding top after (length superblocks))
+
+  -- no slot has an order that it did not have
+  pub reset_bounded : (bands : List (List ℕ)) → AreBounded superblocks tenants bands → AreBounded after (set tenants t (bare_tenant top (length superblocks))) bands
+  reset_bounded bands bounded = bounded_still bounded after (set tenants t (bare_tenant top (length superblocks))) (length-set tenants t (bare_tenant top (length superblocks))) (λ v u i j at bit. go v u i j at bit (cases_eq v t))
+    where
+      go : (v u i j : ℕ) → superblock_at (stored_tenant v (set tenants t (bare_tenant top (length superblocks)))) u ≡ Some i → HasBit after i j → (v ≡ t) ⊎ (v ≡ t → ⊥)
+          → (was : ℕ) × (superblock_at (stored_tenant v tenants) u ≡ Some was) × HasBit superblocks was j
+      go v u i j at bit (inl e) = absurd (none_here v u i e at)
+      go v u i j at bit (inr ne) =
+          let before = ap (λ r. superblock_at r u) (sym (tenant_other v ne)) ∙ at in
+          (i, before, ap (λ (z : StoredSuperblock). bit_at (get_or z.tree.words 0 0) j) (sym (other_superblock v u i ne before)) ∙ bit)

@@ -16,11 +16,13 @@ ghost use Rattle.model_core.specs.Blocks.{Block, block, HasFrame, IsTaken, HasTa
 ghost use Rattle.buddy_core.specs.Content.{Content, empty_buddy, nothing_held, holding_of, with_holding, superblock_at, is_held, taken_of, with_block, without_block, with_slot, without_slot, BuddyLaws, free_block_count, taken_block_count, held_slots};
 ghost use Rattle.buddy_core.specs.Table.{IsTable};
 
+mod bands;
 mod find;
 mod superblock;
 mod tenant;
 mod tree;
 
+use crate::bands::Bands;
 use crate::superblock::Superblock;
 use crate::tenant::Tenant;
 use std::alloc::{AllocError, Global};
@@ -36,6 +38,8 @@ pub struct Buddy {
     order: u8,
     superblocks: Vec<Superblock>,
     tenants: Vec<Tenant>,
+    // By tenant, which slots a search passes over.
+    bands: Vec<Bands>,
 }
 
 impl Model for Buddy {
@@ -45,10 +49,12 @@ impl Model for Buddy {
 
     ghost use Rattle.buddy_core.specs.Stored.{content_shown};
     ghost use Rattle.buddy_core.specs.Kept.{IsKept};
+    ghost use Rattle.buddy_core.specs.Bands.{AreBounded};
 
     ghost view = { λ a. content_shown a.order a.superblocks.items a.tenants.items };
 
-    ghost invariant = { λ a. IsKept a.order a.superblocks.items a.tenants.items };
+    ghost invariant = { λ a. IsKept a.order a.superblocks.items a.tenants.items
+        × AreBounded a.superblocks.items a.tenants.items a.bands.items };
 }
 
 impl Buddy {
@@ -60,8 +66,10 @@ impl Buddy {
         ensures { IfOk result (λ b. b ≡ empty_buddy order superblocks tenants) }
     {
         let mut all_tenants = Vec::new(alloc);
+        let mut bands = Vec::new(alloc);
         for _tenant in 0..tenants {
             all_tenants.push(Tenant::new(alloc, order, superblocks)?)?;
+            bands.push(Bands::new(alloc)?)?;
         }
         let mut all_superblocks = Vec::new(alloc);
         for _superblock in 0..superblocks {
@@ -71,6 +79,7 @@ impl Buddy {
             order,
             superblocks: all_superblocks,
             tenants: all_tenants,
+            bands,
         })
     }
 
@@ -113,7 +122,9 @@ impl Buddy {
         ensures { self.new ≡ with_holding t (with_slot slot m (holding_of t self.old)) self.old }
     {
         let order = self.order;
-        self.superblocks[m as usize].fill();
+        let superblock = &mut self.superblocks[m as usize];
+        superblock.fill();
+        self.bands[t as usize].note(u32::from(slot), superblock.tree().root());
         self.tenants[t as usize].add_slot(slot, m, order);
     }
 
@@ -181,12 +192,15 @@ impl Buddy {
             × (IsChoice self.old.top (is_held (holding_of t self.old)) (taken_of (holding_of t self.old)) k (block f j)
             × (self.new ≡ with_holding t (with_block f k (holding_of t self.old)) self.old))) }
     {
-        let source = find::find(&self.superblocks, &self.tenants[t as usize], k)?;
+        let bands = &mut self.bands[t as usize];
+        let source = find::find(&self.superblocks, &self.tenants[t as usize], bands, k)?;
         let superblock = &mut self.superblocks[source.superblock as usize];
         let first = superblock.tree().search(source.order);
         superblock.reserve_at(first, source.order, k);
+        let slot = u32::from(source.slot);
+        bands.note(slot, superblock.tree().root());
         self.tenants[t as usize].count_reserved(source.order, k);
-        Some((u32::from(source.slot) << self.order) + first)
+        Some((slot << self.order) + first)
     }
 
     /// The order of the taken block of tenant `t` that begins at `frame`, which is free now, joined at
@@ -202,6 +216,8 @@ impl Buddy {
         let k = self.superblocks[m as usize].order_at(first)?;
         let joined = self.superblocks[m as usize].release_at(first, k);
         self.tenants[t as usize].count_released(k, joined);
+        let root = self.superblocks[m as usize].tree().root();
+        self.bands[t as usize].note(frame >> self.order, root);
         Some(k)
     }
 

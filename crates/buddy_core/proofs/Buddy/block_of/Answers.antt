@@ -40,7 +40,7 @@ shown c = shown_is c.self.inside.order c.self.inside.superblocks.items c.self.in
 within : (c : In_ok-m) → c.in_ok-m.m < length c.self.inside.superblocks.items
 within c =
     let s = shown c in
-    (c.self.invariant.each c.args.t s.listed).within _ _ (slot_read c.self.inside.tenants.items c.args.t c.index.result.now s.listed c.index.ensures (c.args.frame / 2 ^ c.self.inside.order) (Some c.in_ok-m.m) c.in_ok-m.ensures)
+    (c.self.invariant.0.each c.args.t s.listed).within _ _ (slot_read c.self.inside.tenants.items c.args.t c.index.result.now s.listed c.index.ensures (c.args.frame / 2 ^ c.self.inside.order) (Some c.in_ok-m.m) c.in_ok-m.ensures)
 
 read : (c : In_ok-m) (z : StoredSuperblock) → z ≡ get_or c.self.inside.superblocks.items c.in_ok-m.m z → z ≡ superblock_of c.in_ok-m.m c.self.inside.superblocks.items
 read c z e = get_or_read c.self.inside.superblocks.items c.in_ok-m.m z (within c) e bare_of
@@ -55,7 +55,7 @@ entry c s superblock =
     c.order_at.ensures
     ∙ ap (λ (z : StoredSuperblock). get_or z.orders (first % 4294967296 % (1 * 2 ^ a.order % 4294967296)) None) superblock
     ∙ ap (λ n. get_or (superblock_of c.in_ok-m.m a.superblocks.items).orders (n % (1 * 2 ^ a.order % 4294967296)) None) (no_wrap c.args.frame c.loop-k.k c.ranges.frame.fits)
-    ∙ begins_at a.order a.superblocks.items a.tenants.items c.self.invariant.small c.args.t c.args.self.now s first c.index.result.now c.index.ensures (Some c.in_ok-m.m)
+    ∙ begins_at a.order a.superblocks.items a.tenants.items c.self.invariant.0.small c.args.t c.args.self.now s first c.index.result.now c.index.ensures (Some c.in_ok-m.m)
     (c.in_ok-m.ensures ∙ ap (λ u. get_or c.index.result.now.slots u None) (sym (same_slot a.order c.args.frame c.loop-k.k c.loop-k-test.true)))
 
 same_order : (o : Option ℕ) (k : ℕ) → option_eq eqb o (Some k) ≡ true → o ≡ Some k
@@ -68,11 +68,11 @@ returns-in_err-m c =
     let s = shown_is a.order a.superblocks.items a.tenants.items c.args.t c.args.self.now c.self.view_is c.requires in
     subst (λ o. MatchOption o (IsTaken (taken_of (holding_of c.args.t c.args.self.now)) c.args.frame → ⊥) (λ b. (taken_of (holding_of c.args.t c.args.self.now) b.0 ≡ Some b.1) × HasFrame (block b.0 b.1) c.args.frame)) (sym c.from_residual.ensures)
     (λ (f, k, e, has).
-    let sound = by_shown IsSound a.order a.superblocks.items a.tenants.items c.args.t c.args.self.now s (c.self.invariant.each c.args.t s.listed).sound in
+    let sound = by_shown IsSound a.order a.superblocks.items a.tenants.items c.args.t c.args.self.now s (c.self.invariant.0.each c.args.t s.listed).sound in
     let placed = (sound.placed f k e).0 in
     let around = begins_around (taken_of (holding_of c.args.t c.args.self.now)) c.args.frame f k placed.1 e has in
     let slot = same_slot a.order c.args.frame k (subst (λ n. k ≤ n) s.order placed.0) in
-    none-some k (begins_at a.order a.superblocks.items a.tenants.items c.self.invariant.small c.args.t c.args.self.now s (c.args.frame / 2 ^ k * 2 ^ k) c.index.result.now c.index.ensures None
+    none-some k (begins_at a.order a.superblocks.items a.tenants.items c.self.invariant.0.small c.args.t c.args.self.now s (c.args.frame / 2 ^ k * 2 ^ k) c.index.result.now c.index.ensures None
     (c.in_err-m.ensures ∙ ap (λ u. get_or c.index.result.now.slots u None) (sym slot)) ∙ around))
 
 pub index-superblock-requires : goal.index-superblock-requires
@@ -83,8 +83,8 @@ index-superblock-requires c =
 pub order_at-requires : goal.order_at-requires
 order_at-requires c =
     let g = (goal.at.order_at-requires c).In_ok-m in
-    let order = ap (λ (y : StoredSuperblock). 2 ^ y.tree.order) (read g c.index-superblock.result.now c.index-superblock.ensures) ∙ ap (λ n. 2 ^ n) (c.self.invariant.order c.in_ok-m.m (within g)) in
-    omega (arith, order, size_is c.self.inside.order c.self.invariant.small, mod_below (c.args.frame / 2 ^ c.loop-k.k * 2 ^ c.loop-k.k % 2 ^ 32) (2 ^ c.self.inside.order) (pow_pos c.self.inside.order))
+    let order = ap (λ (y : StoredSuperblock). 2 ^ y.tree.order) (read g c.index-superblock.result.now c.index-superblock.ensures) ∙ ap (λ n. 2 ^ n) (c.self.invariant.0.order c.in_ok-m.m (within g)) in
+    omega (arith, order, size_is c.self.inside.order c.self.invariant.0.small, mod_below (c.args.frame / 2 ^ c.loop-k.k * 2 ^ c.loop-k.k % 2 ^ 32) (2 ^ c.self.inside.order) (pow_pos c.self.inside.order))
 
 pub returns-then-eq : goal.returns-then-eq
 returns-then-eq c =
@@ -109,7 +109,7 @@ returns-else-eq c (f, k, e, has) =
     let s = shown g.In_ok-m in
     let is = entry g.After-order_at s (read g.In_ok-m c.index-superblock.result.now c.index-superblock.ensures) in
     let sound : IsSoundHolding c.args.self.now.top (holding_of c.args.t c.args.self.now)
-    = by_shown IsSound a.order a.superblocks.items a.tenants.items c.args.t c.args.self.now s (c.self.invariant.each c.args.t s.listed).sound in
+    = by_shown IsSound a.order a.superblocks.items a.tenants.items c.args.t c.args.self.now s (c.self.invariant.0.each c.args.t s.listed).sound in
     let placed = (sound.placed f k e).0 in
     let around = begins_around (taken_of (holding_of c.args.t c.args.self.now)) c.args.frame f k placed.1 e has in
     let within : k ≤ a.order = subst (λ n. k ≤ n) s.order placed.0 in

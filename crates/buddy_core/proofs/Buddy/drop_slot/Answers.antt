@@ -1,14 +1,15 @@
-use Rattle.std.proofs.Common.{◌≡◌, refl, sym, ◌∙◌, ap, subst, ℕ, ◌+◌, ◌-◌, ◌<◌, Some, None, length, set, arith}
+use Rattle.std.proofs.Common.{◌≡◌, refl, sym, ◌∙◌, ap, subst, ℕ, ◌+◌, ◌-◌, ◌^◌, ◌<◌, Some, None, length, set, arith}
 use Rattle.std.specs.Prelude.{slice_index, is_some}
-use Rattle.std.proofs.lemmas.List.{get_or_read}
-use Rattle.std.proofs.lemmas.Nat.{one_shl}
+use Rattle.std.proofs.lemmas.List.{get_or_read, get_or-replicate}
+use Rattle.std.proofs.lemmas.Nat.{one_shl, pow_pos, pow_below}
 use Rattle.model_core.specs.Blocks.{HasTaken, slot_block}
 use Rattle.buddy_core.specs.Content.{with_holding, without_slot}
 use Rattle.buddy_core.specs.Stored.{StoredTree, StoredSuperblock, StoredTenant, bare_superblock, stored_tenant, superblock_of, superblock_at, held_by, taken_by, holding_shown, content_shown}
 use Rattle.buddy_core.specs.Kept.{IsKept}
-use Rattle.buddy_core.proofs.ContentShown.{IsShown, shown_is, slot_read, by_shown, blank_of, bare_of}
+use Rattle.buddy_core.proofs.ContentShown.{IsShown, slot_within, shown_is, slot_read, by_shown, blank_of, bare_of}
 use Rattle.buddy_core.proofs.TenantChanged.{kept_changed, shown_changed}
 use Rattle.buddy_core.proofs.Dropping.{quiet, busy, dropped, some_free, drop_change, drop_holding}
+use Rattle.buddy_core.proofs.Bounding.{bounded_dropped}
 use Rattle.buddy_core.proofs.Buddy.drop_slot.Goals as goal
 use Rattle.buddy_core.proofs.Buddy.drop_slot.Goals.{After-unwrap-m, After-root, Else-root-order, After-drop_slot}
 
@@ -40,8 +41,8 @@ returns-then-root-order-clause-busy c =
     let g = goal.at.returns-then-root-order-clause-busy c in
     let s = shown g.After-unwrap-m in
     let at = under g.After-unwrap-m in
-    let mine = c.self.invariant.each c.args.t s.listed in
-    let small = c.self.invariant.small in
+    let mine = c.self.invariant.0.each c.args.t s.listed in
+    let small = c.self.invariant.0.small in
     let one = one_shl a.order 16 (omega arith) in
     let held = held_by (stored_tenant c.args.t a.tenants.items) in
     let taken = taken_by a.order a.superblocks.items (stored_tenant c.args.t a.tenants.items) in (
@@ -57,17 +58,17 @@ none_taken : (c : Else-root-order) → c.args.t < length c.self.inside.tenants.i
     → HasTaken (taken_by c.self.inside.order c.self.inside.superblocks.items (stored_tenant c.args.t c.self.inside.tenants.items)) (slot_block c.self.inside.order c.args.slot) → ⊥
 none_taken c listed at root =
     let a = c.self.inside in
-    let small = c.self.invariant.small in
+    let small = c.self.invariant.0.small in
     let one = one_shl a.order 16 (omega arith) in
     quiet a.order (held_by (stored_tenant c.args.t a.tenants.items)) (taken_by a.order a.superblocks.items (stored_tenant c.args.t a.tenants.items)) c.args.slot
-    (superblock_of c.unwrap-m.result a.superblocks.items).tree.words ((c.self.invariant.each c.args.t listed).shows c.args.slot c.unwrap-m.result at) (sym root ∙ c.if-root-order.false ∙ one)
+    (superblock_of c.unwrap-m.result a.superblocks.items).tree.words ((c.self.invariant.0.each c.args.t listed).shows c.args.slot c.unwrap-m.result at) (sym root ∙ c.if-root-order.false ∙ one)
 
 pub drop_slot-requires-clause-order : goal.drop_slot-requires-clause-order
 drop_slot-requires-clause-order c =
     let a = c.self.inside in
     let s = shown (goal.at.drop_slot-requires-clause-order c).After-unwrap-m in
     let tenant = get_or_read a.tenants.items c.args.t c.index_mut-2.result.now s.listed c.index_mut-2.ensures.value blank_of in
-    let size : length c.index_mut-2.result.now.free ≡ a.order + 1 = ap (λ (r : StoredTenant). length r.free) tenant ∙ (c.self.invariant.each c.args.t s.listed).sizes.free in
+    let size : length c.index_mut-2.result.now.free ≡ a.order + 1 = ap (λ (r : StoredTenant). length r.free) tenant ∙ (c.self.invariant.0.each c.args.t s.listed).sizes.free in
     omega arith
 
 pub drop_slot-requires-clause-some : goal.drop_slot-requires-clause-some
@@ -76,17 +77,17 @@ drop_slot-requires-clause-some c =
     let g = goal.at.drop_slot-requires-clause-some c in
     let s = shown g.After-unwrap-m in
     let at = under g.After-unwrap-m in
-    let none = none_taken g.Else-root-order s.listed at (first_word g.After-root ((c.self.invariant.each c.args.t s.listed).within c.args.slot c.unwrap-m.result at)) in
+    let none = none_taken g.Else-root-order s.listed at (first_word g.After-root ((c.self.invariant.0.each c.args.t s.listed).within c.args.slot c.unwrap-m.result at)) in
     let tenant = get_or_read a.tenants.items c.args.t c.index_mut-2.result.now s.listed c.index_mut-2.ensures.value blank_of in
     subst (λ (r : StoredTenant). 0 < slice_index r.free a.order) (sym tenant)
-    (some_free a.order a.superblocks.items a.tenants.items c.self.invariant c.args.t s.listed c.args.slot c.unwrap-m.result at none)
+    (some_free a.order a.superblocks.items a.tenants.items c.self.invariant.0 c.args.t s.listed c.args.slot c.unwrap-m.result at none)
 
 -- what is written: a blank superblock, and the tenant without the slot
 blank : (c : After-drop_slot) → c.unwrap-m.result < length c.self.inside.superblocks.items → c.clear.new.self ≡ bare_superblock c.self.inside.order
 blank c lt =
     let a = c.self.inside in
     let old = get_or_read a.superblocks.items c.unwrap-m.result c.index_mut.result.now lt c.index_mut.ensures.value bare_of in
-    c.clear.ensures ∙ ap (λ (z : StoredSuperblock). bare_superblock z.tree.order) old ∙ ap bare_superblock (c.self.invariant.order c.unwrap-m.result lt)
+    c.clear.ensures ∙ ap (λ (z : StoredSuperblock). bare_superblock z.tree.order) old ∙ ap bare_superblock (c.self.invariant.0.order c.unwrap-m.result lt)
 
 written : (c : After-drop_slot) → c.args.t < length c.self.inside.tenants.items
     → c.drop_slot.new.self ≡ record (stored_tenant c.args.t c.self.inside.tenants.items) {
@@ -104,12 +105,17 @@ invariant_of-self c =
     let g = goal.at.invariant_of-self c in
     let s = shown g.After-unwrap-m in
     let at = under g.After-unwrap-m in
-    let m_lt = (c.self.invariant.each c.args.t s.listed).within c.args.slot c.unwrap-m.result at in
+    let m_lt = (c.self.invariant.0.each c.args.t s.listed).within c.args.slot c.unwrap-m.result at in
     let none = none_taken g.Else-root-order s.listed at (first_word g.After-root m_lt) in
-    subst (λ (r : StoredTenant). IsKept a.order (set a.superblocks.items c.unwrap-m.result c.clear.new.self) (set a.tenants.items c.args.t r)) (sym (written g.After-drop_slot s.listed))
-    (subst (λ (z : StoredSuperblock). IsKept a.order (set a.superblocks.items c.unwrap-m.result z) (set a.tenants.items c.args.t (dropped a.order a.superblocks.items a.tenants.items c.self.invariant c.args.t s.listed c.args.slot c.unwrap-m.result at none))) (sym (blank g.After-drop_slot m_lt))
-    (kept_changed a.order a.superblocks.items a.tenants.items c.args.t c.unwrap-m.result (bare_superblock a.order) _ c.self.invariant
-    (drop_change a.order a.superblocks.items a.tenants.items c.self.invariant c.args.t s.listed c.args.slot c.unwrap-m.result at none)))
+    let slots = (stored_tenant c.args.t a.tenants.items).slots in
+    let blanked = ap (λ (z : StoredSuperblock). slice_index z.tree.words 0) (blank g.After-drop_slot m_lt) ∙ get_or-replicate (2 ^ (a.order + 1) - 1) 0 0 0 (let some = pow_pos (a.order + 1) in let two = pow_below 0 (a.order + 1) (omega arith) in omega arith) in (
+      subst (λ (r : StoredTenant). IsKept a.order (set a.superblocks.items c.unwrap-m.result c.clear.new.self) (set a.tenants.items c.args.t r)) (sym (written g.After-drop_slot s.listed))
+          (subst (λ (z : StoredSuperblock). IsKept a.order (set a.superblocks.items c.unwrap-m.result z) (set a.tenants.items c.args.t (dropped a.order a.superblocks.items a.tenants.items c.self.invariant.0 c.args.t s.listed c.args.slot c.unwrap-m.result at none))) (sym (blank g.After-drop_slot m_lt))
+          (kept_changed a.order a.superblocks.items a.tenants.items c.args.t c.unwrap-m.result (bare_superblock a.order) _ c.self.invariant.0
+          (drop_change a.order a.superblocks.items a.tenants.items c.self.invariant.0 c.args.t s.listed c.args.slot c.unwrap-m.result at none))),
+      bounded_dropped c.self.invariant.1 a.order c.unwrap-m.result c.args.t c.args.slot c.clear.new.self c.drop_slot.new.self s.listed m_lt blanked
+          (slot_within slots c.args.slot c.unwrap-m.result at) (ap (λ (r : StoredTenant). r.slots) (written g.After-drop_slot s.listed)),
+    )
 
 pub returns-clause-done : goal.returns-clause-done
 returns-clause-done c =
@@ -117,14 +123,14 @@ returns-clause-done c =
     let g = goal.at.returns-clause-done c in
     let s = shown g.After-unwrap-m in
     let at = under g.After-unwrap-m in
-    let m_lt = (c.self.invariant.each c.args.t s.listed).within c.args.slot c.unwrap-m.result at in
+    let m_lt = (c.self.invariant.0.each c.args.t s.listed).within c.args.slot c.unwrap-m.result at in
     let none = none_taken g.Else-root-order s.listed at (first_word g.After-root m_lt) in
-    let change = drop_change a.order a.superblocks.items a.tenants.items c.self.invariant c.args.t s.listed c.args.slot c.unwrap-m.result at none in (
+    let change = drop_change a.order a.superblocks.items a.tenants.items c.self.invariant.0 c.args.t s.listed c.args.slot c.unwrap-m.result at none in (
       by_shown (λ top held taken. HasTaken taken (slot_block top c.args.slot) → ⊥) a.order a.superblocks.items a.tenants.items c.args.t c.args.self.now s none,
       ap (λ (r : StoredTenant). content_shown a.order (set a.superblocks.items c.unwrap-m.result c.clear.new.self) (set a.tenants.items c.args.t r)) (written g.After-drop_slot s.listed)
-          ∙ ap (λ (z : StoredSuperblock). content_shown a.order (set a.superblocks.items c.unwrap-m.result z) (set a.tenants.items c.args.t (dropped a.order a.superblocks.items a.tenants.items c.self.invariant c.args.t s.listed c.args.slot c.unwrap-m.result at none))) (blank g.After-drop_slot m_lt)
-          ∙ shown_changed a.order a.superblocks.items a.tenants.items c.args.t c.unwrap-m.result (bare_superblock a.order) _ c.self.invariant change _
-          (drop_holding a.order a.superblocks.items a.tenants.items c.self.invariant c.args.t s.listed c.args.slot c.unwrap-m.result at none)
+          ∙ ap (λ (z : StoredSuperblock). content_shown a.order (set a.superblocks.items c.unwrap-m.result z) (set a.tenants.items c.args.t (dropped a.order a.superblocks.items a.tenants.items c.self.invariant.0 c.args.t s.listed c.args.slot c.unwrap-m.result at none))) (blank g.After-drop_slot m_lt)
+          ∙ shown_changed a.order a.superblocks.items a.tenants.items c.args.t c.unwrap-m.result (bare_superblock a.order) _ c.self.invariant.0 change _
+          (drop_holding a.order a.superblocks.items a.tenants.items c.self.invariant.0 c.args.t s.listed c.args.slot c.unwrap-m.result at none)
           ∙ ap (λ y. with_holding c.args.t (without_slot c.args.slot (holding_shown a.order a.superblocks.items (stored_tenant c.args.t a.tenants.items))) y) c.self.view_is
           ∙ ap (λ g. with_holding c.args.t (without_slot c.args.slot g) c.args.self.now) (sym s.holding),
     )

@@ -14,7 +14,7 @@ returns c =
     let top = a.order in
     let superblocks = a.superblocks.items in
     let tenants = a.tenants.items in
-    let kept = c.self.invariant in
+    let kept = c.self.invariant.0 in
     subst (λ (k : Content). BuddyLaws k) c.self.view_is record {
       sizes = record {
         small = kept.small;

@@ -1,15 +1,18 @@
-use Rattle.std.proofs.Common.{◌≡◌, refl, sym, ◌∙◌, ap, subst, ◌+◌, ◌*◌, ◌/◌, ◌%◌, ◌^◌, ◌<◌, Some, None, length, get_or, arith}
+use Rattle.std.proofs.Common.{◌≡◌, refl, sym, ◌∙◌, ap, subst, ℕ, ◌+◌, ◌*◌, ◌/◌, ◌%◌, ◌^◌, ◌<◌, List, [], Option, Some, None, length, get_or, set, length-set, arith}
+use Rattle.std.specs.Int.{bit_at}
 use Rattle.std.specs.Prelude.{slice_index}
 use Rattle.std.proofs.lemmas.Nat.{pow_pos, mod_below}
-use Rattle.std.proofs.lemmas.List.{get_or_read}
+use Rattle.std.proofs.lemmas.List.{get_or_read, get_or-set_same}
 use Rattle.buddy_core.specs.Content.{holding_of, taken_of, with_holding, without_block}
+use Rattle.buddy_core.specs.Bands.{IsBounded}
 use Rattle.buddy_core.specs.Counts.{HasRoomForCounts}
-use Rattle.buddy_core.specs.Stored.{StoredSuperblock, StoredTenant, stored_tenant, superblock_of, superblock_at, holding_shown}
+use Rattle.buddy_core.specs.Stored.{StoredTree, StoredSuperblock, StoredTenant, stored_tenant, superblock_of, superblock_at, holding_shown}
 use Rattle.buddy_core.proofs.ContentShown.{IsShown, shown_is, slot_read, size_is, blank_of, bare_of}
-use Rattle.buddy_core.proofs.TenantCounts.{room}
+use Rattle.buddy_core.proofs.TenantCounts.{room, slot_small}
 use Rattle.buddy_core.proofs.TenantChanged.{kept_changed, shown_changed}
 use Rattle.buddy_core.proofs.BlockSteps.{IsStep, step_change, holding_now}
 use Rattle.buddy_core.proofs.Releasing.{IsAt, begins_at, at_frame, superblock_lt, order_le, Released, joined_order, joined_is, joined_le, rises, some_taken, some_buddies, released_step}
+use Rattle.buddy_core.proofs.Bounding.{bounded_noted}
 use Rattle.buddy_core.proofs.Buddy.release.Goals as goal
 use Rattle.buddy_core.proofs.Buddy.release.Goals.{In_ok-m, In_ok-k, After-release_at-joined, After-index_mut-2, After-count_released}
 
@@ -21,26 +24,26 @@ under : (c : In_ok-m) → superblock_at (stored_tenant c.args.t c.self.inside.te
 under c = slot_read c.self.inside.tenants.items c.args.t c.index.result.now (shown c).listed c.index.ensures (c.args.frame / 2 ^ c.self.inside.order) (Some c.in_ok-m.m) c.in_ok-m.ensures
 
 within : (c : In_ok-m) → c.in_ok-m.m < length c.self.inside.superblocks.items
-within c = (c.self.invariant.each c.args.t (shown c).listed).within _ _ (under c)
+within c = (c.self.invariant.0.each c.args.t (shown c).listed).within _ _ (under c)
 
 superblock_read : (c : In_ok-m) (z : StoredSuperblock) → z ≡ get_or c.self.inside.superblocks.items c.in_ok-m.m z
     → (z ≡ superblock_of c.in_ok-m.m c.self.inside.superblocks.items) × (z.tree.order ≡ c.self.inside.order)
 superblock_read c z e =
     let read = get_or_read c.self.inside.superblocks.items c.in_ok-m.m z (within c) e bare_of in
-    (read, ap (λ (y : StoredSuperblock). y.tree.order) read ∙ c.self.invariant.order c.in_ok-m.m (within c))
+    (read, ap (λ (y : StoredSuperblock). y.tree.order) read ∙ c.self.invariant.0.order c.in_ok-m.m (within c))
 
 begins : (c : In_ok-m) (z : StoredSuperblock) → z ≡ get_or c.self.inside.superblocks.items c.in_ok-m.m z
     → get_or z.orders (c.args.frame % (1 * 2 ^ c.self.inside.order % 4294967296)) None ≡ taken_of (holding_of c.args.t c.args.self.now) c.args.frame
 begins c z e =
     let a = c.self.inside in
     ap (λ (y : StoredSuperblock). get_or y.orders (c.args.frame % (1 * 2 ^ a.order % 4294967296)) None) (superblock_read c z e).0
-    ∙ begins_at a.order a.superblocks.items a.tenants.items c.self.invariant.small c.args.t c.args.self.now (shown c) c.args.frame c.index.result.now c.index.ensures (Some c.in_ok-m.m) c.in_ok-m.ensures
+    ∙ begins_at a.order a.superblocks.items a.tenants.items c.self.invariant.0.small c.args.t c.args.self.now (shown c) c.args.frame c.index.result.now c.index.ensures (Some c.in_ok-m.m) c.in_ok-m.ensures
 
 pub returns-in_err-m-clause-answer : goal.returns-in_err-m-clause-answer
 returns-in_err-m-clause-answer c =
     let a = c.self.inside in
     let s = shown_is a.order a.superblocks.items a.tenants.items c.args.t c.args.self.now c.self.view_is c.requires in
-    c.from_residual.ensures ∙ begins_at a.order a.superblocks.items a.tenants.items c.self.invariant.small c.args.t c.args.self.now s c.args.frame c.index.result.now c.index.ensures None c.in_err-m.ensures
+    c.from_residual.ensures ∙ begins_at a.order a.superblocks.items a.tenants.items c.self.invariant.0.small c.args.t c.args.self.now s c.args.frame c.index.result.now c.index.ensures None c.in_err-m.ensures
 
 pub index-requires-2 : goal.index-requires-2
 index-requires-2 c =
@@ -55,7 +58,7 @@ index_mut-requires c =
 pub order_at-requires : goal.order_at-requires
 order_at-requires c =
     let order = ap (λ n. 2 ^ n) (superblock_read (goal.at.order_at-requires c).In_ok-m c.index-2.result.now c.index-2.ensures).1 in
-    omega (arith, order, size_is c.self.inside.order c.self.invariant.small, mod_below c.args.frame (2 ^ c.self.inside.order) (pow_pos c.self.inside.order))
+    omega (arith, order, size_is c.self.inside.order c.self.invariant.0.small, mod_below c.args.frame (2 ^ c.self.inside.order) (pow_pos c.self.inside.order))
 
 pub returns-in_err-k-clause-answer : goal.returns-in_err-k-clause-answer
 returns-in_err-k-clause-answer c =
@@ -69,7 +72,7 @@ block_at : (c : In_ok-k) → IsShown c.self.inside.order c.self.inside.superbloc
     → Some c.in_ok-k.k ≡ taken_of (holding_of c.args.t c.args.self.now) c.args.frame
     → IsAt c.self.inside.order c.self.inside.superblocks.items c.self.inside.tenants.items c.args.t c.args.frame c.in_ok-k.k c.in_ok-m.m (c.args.frame % (1 * 2 ^ c.self.inside.order % 4294967296))
 block_at c s is =
-    at_frame c.self.inside.order c.self.inside.superblocks.items c.self.inside.tenants.items c.self.invariant.small c.args.t c.args.self.now s
+    at_frame c.self.inside.order c.self.inside.superblocks.items c.self.inside.tenants.items c.self.invariant.0.small c.args.t c.args.self.now s
     c.args.frame c.in_ok-k.k c.in_ok-m.m _ c.index.result.now c.index.ensures c.in_ok-m.ensures is refl
 
 pub release_at-joined-requires-clause-order : goal.release_at-joined-requires-clause-order
@@ -77,7 +80,7 @@ release_at-joined-requires-clause-order c =
     let g = goal.at.release_at-joined-requires-clause-order c in
     let at = block_at g.In_ok-k (shown g.In_ok-m) (c.in_ok-k.ensures ∙ begins g.In_ok-m c.index-2.result.now c.index-2.ensures) in
     let order = (superblock_read g.In_ok-m c.index_mut.result.now c.index_mut.ensures.value).1 in
-    let within = order_le c.self.invariant at in
+    let within = order_le c.self.invariant.0 at in
     omega arith
 
 pub release_at-joined-requires-clause-first : goal.release_at-joined-requires-clause-first
@@ -89,10 +92,10 @@ release_at-joined-requires-clause-first c =
 -- the order that is answered is that of the joined block
 joined : (c : After-release_at-joined)
     → (at : IsAt c.self.inside.order c.self.inside.superblocks.items c.self.inside.tenants.items c.args.t c.args.frame c.in_ok-k.k c.in_ok-m.m (c.args.frame % (1 * 2 ^ c.self.inside.order % 4294967296)))
-    → c.release_at-joined.result ≡ joined_order c.self.invariant at
+    → c.release_at-joined.result ≡ joined_order c.self.invariant.0 at
 joined c at =
-    joined_is c.self.invariant at c.release_at-joined.result c.index_mut.result.now
-    (get_or_read c.self.inside.superblocks.items c.in_ok-m.m c.index_mut.result.now (superblock_lt c.self.invariant at) c.index_mut.ensures.value bare_of)
+    joined_is c.self.invariant.0 at c.release_at-joined.result c.index_mut.result.now
+    (get_or_read c.self.inside.superblocks.items c.in_ok-m.m c.index_mut.result.now (superblock_lt c.self.invariant.0 at) c.index_mut.ensures.value bare_of)
     c.release_at-joined.ensures.joined
 
 -- the tenant as it was
@@ -104,7 +107,7 @@ count_released-requires-clause-order c =
     let g = goal.at.count_released-requires-clause-order c in
     let at = block_at g.In_ok-k (shown g.In_ok-m) (c.in_ok-k.ensures ∙ begins g.In_ok-m c.index-2.result.now c.index-2.ensures) in
     let is = joined g.After-release_at-joined at in
-    let up = rises c.self.invariant at in
+    let up = rises c.self.invariant.0 at in
     omega arith
 
 pub count_released-requires-clause-to : goal.count_released-requires-clause-to
@@ -112,40 +115,40 @@ count_released-requires-clause-to c =
     let g = goal.at.count_released-requires-clause-to c in
     let at = block_at g.In_ok-k (shown g.In_ok-m) (c.in_ok-k.ensures ∙ begins g.In_ok-m c.index-2.result.now c.index-2.ensures) in
     let is = joined g.After-release_at-joined at in
-    let le = joined_le c.self.invariant at in
-    let size : length c.index_mut-2.result.now.free ≡ c.self.inside.order + 1 = ap (λ (r : StoredTenant). length r.free) (tenant_read g.After-index_mut-2 at.listed) ∙ (c.self.invariant.each c.args.t at.listed).sizes.free in
+    let le = joined_le c.self.invariant.0 at in
+    let size : length c.index_mut-2.result.now.free ≡ c.self.inside.order + 1 = ap (λ (r : StoredTenant). length r.free) (tenant_read g.After-index_mut-2 at.listed) ∙ (c.self.invariant.0.each c.args.t at.listed).sizes.free in
     omega arith
 
 pub count_released-requires-clause-taken : goal.count_released-requires-clause-taken
 count_released-requires-clause-taken c =
     let g = goal.at.count_released-requires-clause-taken c in
     let at = block_at g.In_ok-k (shown g.In_ok-m) (c.in_ok-k.ensures ∙ begins g.In_ok-m c.index-2.result.now c.index-2.ensures) in
-    subst (λ (r : StoredTenant). 0 < slice_index r.taken c.in_ok-k.k) (sym (tenant_read g.After-index_mut-2 at.listed)) (some_taken c.self.invariant at)
+    subst (λ (r : StoredTenant). 0 < slice_index r.taken c.in_ok-k.k) (sym (tenant_read g.After-index_mut-2 at.listed)) (some_taken c.self.invariant.0 at)
 
 pub count_released-requires-clause-buddies : goal.count_released-requires-clause-buddies
 count_released-requires-clause-buddies c i up lt =
     let g = goal.at.count_released-requires-clause-buddies c in
     let at = block_at g.In_ok-k (shown g.In_ok-m) (c.in_ok-k.ensures ∙ begins g.In_ok-m c.index-2.result.now c.index-2.ensures) in
     subst (λ (r : StoredTenant). 0 < slice_index r.free i) (sym (tenant_read g.After-index_mut-2 at.listed))
-    (some_buddies c.self.invariant at i up (subst (λ n. i < n) (joined g.After-release_at-joined at) lt))
+    (some_buddies c.self.invariant.0 at i up (subst (λ n. i < n) (joined g.After-release_at-joined at) lt))
 
 pub count_released-requires-clause-room : goal.count_released-requires-clause-room
 count_released-requires-clause-room c =
     let a = c.self.inside in
     let g = goal.at.count_released-requires-clause-room c in
     let at = block_at g.In_ok-k (shown g.In_ok-m) (c.in_ok-k.ensures ∙ begins g.In_ok-m c.index-2.result.now c.index-2.ensures) in
-    subst HasRoomForCounts (sym (tenant_read g.After-index_mut-2 at.listed)) (room a.order a.superblocks.items a.tenants.items c.self.invariant c.args.t at.listed)
+    subst HasRoomForCounts (sym (tenant_read g.After-index_mut-2 at.listed)) (room a.order a.superblocks.items a.tenants.items c.self.invariant.0 c.args.t at.listed)
 
 -- what is written is the release of that block
 released : (c : After-count_released)
     → (at : IsAt c.self.inside.order c.self.inside.superblocks.items c.self.inside.tenants.items c.args.t c.args.frame c.in_ok-k.k c.in_ok-m.m (c.args.frame % (1 * 2 ^ c.self.inside.order % 4294967296)))
-    → c.release_at-joined.result ≡ joined_order c.self.invariant at → c.index_mut-2.result.now ≡ stored_tenant c.args.t c.self.inside.tenants.items
+    → c.release_at-joined.result ≡ joined_order c.self.invariant.0 at → c.index_mut-2.result.now ≡ stored_tenant c.args.t c.self.inside.tenants.items
     → IsStep c.self.inside.order c.self.inside.superblocks.items c.self.inside.tenants.items c.args.t (c.args.frame / 2 ^ c.self.inside.order) c.in_ok-m.m
     (c.args.frame % (1 * 2 ^ c.self.inside.order % 4294967296)) c.release_at-joined.new.self c.count_released.new.self None
 released c at order tenant =
     let a = c.self.inside in
     let x = c.args.frame % (1 * 2 ^ a.order % 4294967296) in
-    let superblock = get_or_read a.superblocks.items c.in_ok-m.m c.index_mut.result.now (superblock_lt c.self.invariant at) c.index_mut.ensures.value bare_of in
+    let superblock = get_or_read a.superblocks.items c.in_ok-m.m c.index_mut.result.now (superblock_lt c.self.invariant.0 at) c.index_mut.ensures.value bare_of in
     let change : Released c.release_at-joined.result c.in_ok-k.k x c.index_mut.result.now c.index_mut-2.result.now c.release_at-joined.new.self c.count_released.new.self = record {
       order = c.release_at-joined.ensures.order;
       stored = c.release_at-joined.ensures.inside;
@@ -153,7 +156,7 @@ released c at order tenant =
       words = c.release_at-joined.ensures.words;
       counts = c.count_released.ensures;
     } in
-    released_step c.self.invariant at c.release_at-joined.new.self c.count_released.new.self
+    released_step c.self.invariant.0 at c.release_at-joined.new.self c.count_released.new.self
     (subst (λ n. Released n c.in_ok-k.k x (superblock_of c.in_ok-m.m a.superblocks.items) (stored_tenant c.args.t a.tenants.items) c.release_at-joined.new.self c.count_released.new.self) order
     (subst (λ (r : StoredTenant). Released c.release_at-joined.result c.in_ok-k.k x (superblock_of c.in_ok-m.m a.superblocks.items) r c.release_at-joined.new.self c.count_released.new.self) tenant
     (subst (λ (z : StoredSuperblock). Released c.release_at-joined.result c.in_ok-k.k x z c.index_mut-2.result.now c.release_at-joined.new.self c.count_released.new.self) superblock change)))
@@ -164,8 +167,25 @@ invariant_of-self c =
     let g = goal.at.invariant_of-self c in
     let at = block_at g.In_ok-k (shown g.In_ok-m) (c.in_ok-k.ensures ∙ begins g.In_ok-m c.index-2.result.now c.index-2.ensures) in
     let step = released g.After-count_released at (joined g.After-release_at-joined at) (tenant_read g.After-index_mut-2 at.listed) in
-    kept_changed a.order a.superblocks.items a.tenants.items c.args.t c.in_ok-m.m c.release_at-joined.new.self c.count_released.new.self c.self.invariant
-    (step_change a.order a.superblocks.items a.tenants.items c.args.t (c.args.frame / 2 ^ a.order) c.in_ok-m.m (c.args.frame % (1 * 2 ^ a.order % 4294967296)) c.release_at-joined.new.self c.count_released.new.self None c.self.invariant step)
+    let kept = kept_changed a.order a.superblocks.items a.tenants.items c.args.t c.in_ok-m.m c.release_at-joined.new.self c.count_released.new.self c.self.invariant.0
+    (step_change a.order a.superblocks.items a.tenants.items c.args.t (c.args.frame / 2 ^ a.order) c.in_ok-m.m (c.args.frame % (1 * 2 ^ a.order % 4294967296)) c.release_at-joined.new.self c.count_released.new.self None c.self.invariant.0 step) in
+    let m_lt = superblock_lt c.self.invariant.0 at in
+    let band = get_or_read a.bands.items c.args.t c.index_mut-3.result.now (let size = c.self.invariant.1.size in let lt = at.listed in omega arith) c.index_mut-3.ensures.value [] in
+    let superblock = get_or_read (set a.superblocks.items c.in_ok-m.m c.release_at-joined.new.self) c.in_ok-m.m c.index-3.result.now (subst (λ n. c.in_ok-m.m < n) (sym (length-set a.superblocks.items c.in_ok-m.m c.release_at-joined.new.self)) m_lt) c.index-3.ensures bare_of
+    ∙ get_or-set_same a.superblocks.items c.in_ok-m.m c.release_at-joined.new.self bare_of m_lt in
+    let root = c.root-root.ensures ∙ ap (λ (z : StoredTree). slice_index z.words 0) (c.tree.ensures ∙ ap (λ (z : StoredSuperblock). z.tree) superblock) in (
+      kept,
+      bounded_noted c.self.invariant.1 a.order c.in_ok-m.m c.args.t (c.args.frame / 2 ^ a.order) c.release_at-joined.new.self c.count_released.new.self c.note.new.self at.listed m_lt kept
+          (ap (λ (ss : List (Option ℕ)). get_or ss (c.args.frame / 2 ^ a.order) None) step.slots ∙ at.slot) (λ u ne. ap (λ (ss : List (Option ℕ)). get_or ss u None) step.slots)
+          (λ j bit. c.note.ensures.noted j (ap (λ w. bit_at w j) root ∙ bit))
+          c.index_mut-3.result.now (subst (λ (ws : List ℕ). IsBounded a.superblocks.items (stored_tenant c.args.t a.tenants.items).slots ws) (sym band) (c.self.invariant.1.each c.args.t)) c.note.ensures.kept,
+    )
+
+pub note-requires : goal.note-requires
+note-requires c =
+    let a = c.self.inside in
+    let g = goal.at.note-requires c in
+    slot_small a.order a.superblocks.items a.tenants.items c.self.invariant.0 c.args.t (shown g.In_ok-m).listed (c.args.frame / 2 ^ a.order) c.in_ok-m.m (under g.In_ok-m)
 
 pub returns-clause-done : goal.returns-clause-done
 returns-clause-done c =
@@ -176,10 +196,10 @@ returns-clause-done c =
     let x = c.args.frame % (1 * 2 ^ a.order % 4294967296) in
     let u = c.args.frame / 2 ^ a.order in
     let step = released g.After-count_released at (joined g.After-release_at-joined at) (tenant_read g.After-index_mut-2 at.listed) in
-    let changed = step_change a.order a.superblocks.items a.tenants.items c.args.t u c.in_ok-m.m x c.release_at-joined.new.self c.count_released.new.self None c.self.invariant step in
+    let changed = step_change a.order a.superblocks.items a.tenants.items c.args.t u c.in_ok-m.m x c.release_at-joined.new.self c.count_released.new.self None c.self.invariant.0 step in
     let h = without_block (u * 2 ^ a.order + x) (holding_shown a.order a.superblocks.items (stored_tenant c.args.t a.tenants.items)) in
-    shown_changed a.order a.superblocks.items a.tenants.items c.args.t c.in_ok-m.m c.release_at-joined.new.self c.count_released.new.self c.self.invariant changed h
-    (holding_now a.order a.superblocks.items a.tenants.items c.args.t u c.in_ok-m.m x c.release_at-joined.new.self c.count_released.new.self None c.self.invariant step)
+    shown_changed a.order a.superblocks.items a.tenants.items c.args.t c.in_ok-m.m c.release_at-joined.new.self c.count_released.new.self c.self.invariant.0 changed h
+    (holding_now a.order a.superblocks.items a.tenants.items c.args.t u c.in_ok-m.m x c.release_at-joined.new.self c.count_released.new.self None c.self.invariant.0 step)
     ∙ ap (λ y. with_holding c.args.t h y) c.self.view_is
     ∙ ap (λ g. with_holding c.args.t (without_block (u * 2 ^ a.order + x) g) c.args.self.now) (sym s.holding)
     ∙ ap (λ n. with_holding c.args.t (without_block n (holding_of c.args.t c.args.self.now)) c.args.self.now) at.whole

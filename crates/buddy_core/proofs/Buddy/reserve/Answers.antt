@@ -1,4 +1,5 @@
-use Rattle.std.proofs.Common.{◌≡◌, refl, sym, ◌∙◌, ap, subst, ℕ, ◌+◌, ◌*◌, ◌%◌, ◌^◌, ◌<◌, ◌≤◌, Option, Some, None, List, length, arith}
+use Rattle.std.proofs.Common.{◌≡◌, sym, ◌∙◌, ap, subst, ℕ, ◌+◌, ◌*◌, ◌/◌, ◌%◌, ◌^◌, ◌<◌, ◌≤◌, Option, Some, None, List, [], length, get_or, arith}
+use Rattle.std.specs.Int.{bit_at}
 use Rattle.std.specs.Prelude.{slice_index, IfNone}
 use Rattle.std.proofs.lemmas.List.{get_or_read}
 use Rattle.std.proofs.lemmas.Nat.{shl_whole, mul-le}
@@ -6,6 +7,7 @@ use Rattle.std.proofs.Math.Pow.{pow_mono}
 use Rattle.model_core.specs.Blocks.{block, IsChoice, IsWithout}
 use Rattle.buddy_core.specs.Content.{holding_of, is_held, taken_of, with_holding, with_block}
 use Rattle.buddy_core.specs.Counts.{HasRoomForCounts}
+use Rattle.buddy_core.specs.Bands.{IsBounded}
 use Rattle.buddy_core.specs.Roots.{IsCounted, IsThere, IsSource, IsWithoutOrder}
 use Rattle.buddy_core.specs.Stored.{StoredTree, StoredSuperblock, StoredTenant, stored_tenant, superblock_of, holding_shown}
 use Rattle.buddy_core.proofs.ContentShown.{IsShown, shown_is, by_shown, blank_of, bare_of}
@@ -13,8 +15,9 @@ use Rattle.buddy_core.proofs.TenantCounts.{room, slot_small}
 use Rattle.buddy_core.proofs.TenantChanged.{kept_changed, shown_changed}
 use Rattle.buddy_core.proofs.BlockSteps.{IsStep, step_change, holding_now}
 use Rattle.buddy_core.proofs.Reserving.{Reserved, source_at, counted, none_without, order_within, IsFound, found_at, superblock_lt, is_choice, some_free, reserved_step}
+use Rattle.buddy_core.proofs.Bounding.{bounded_by, bounded_noted}
 use Rattle.buddy_core.proofs.Buddy.reserve.Goals as goal
-use Rattle.buddy_core.proofs.Buddy.reserve.Goals.{After-index, After-index_mut-superblock, After-search-first, After-index_mut, After-count_reserved}
+use Rattle.buddy_core.proofs.Buddy.reserve.Goals.{After-find, After-index, After-index_mut-superblock, After-search-first, After-index_mut, After-count_reserved}
 
 -- the tenant as it is
 shown : (c : After-index) → IsShown c.self.inside.order c.self.inside.superblocks.items c.self.inside.tenants.items c.args.t c.args.self.now
@@ -29,7 +32,7 @@ find-requires-clause-there c =
     let before = (goal.at.find-requires-clause-there c).After-index in
     subst (λ (r : StoredTenant). IsThere c.deref.result.now r.slots) (sym (tenant_read before))
     (subst (λ (xs : List StoredSuperblock). IsThere xs (stored_tenant c.args.t a.tenants.items).slots) (sym c.deref.ensures.value)
-    (c.self.invariant.each c.args.t (shown before).listed).within)
+    (c.self.invariant.0.each c.args.t (shown before).listed).within)
 
 pub find-requires-clause-counted : goal.find-requires-clause-counted
 find-requires-clause-counted c =
@@ -37,19 +40,19 @@ find-requires-clause-counted c =
     let before = (goal.at.find-requires-clause-counted c).After-index in
     subst (λ (r : StoredTenant). IsCounted c.deref.result.now r) (sym (tenant_read before))
     (subst (λ (xs : List StoredSuperblock). IsCounted xs (stored_tenant c.args.t a.tenants.items)) (sym c.deref.ensures.value)
-    (counted a.order a.superblocks.items a.tenants.items c.self.invariant c.args.t (shown before).listed))
+    (counted a.order a.superblocks.items a.tenants.items c.self.invariant.0 c.args.t (shown before).listed))
 
 pub returns-in_err-source-clause-refused : goal.returns-in_err-source-clause-refused
 returns-in_err-source-clause-refused c =
     let a = c.self.inside in
     let before = (goal.at.returns-in_err-source-clause-refused c).After-index in
-    let none : IsWithoutOrder c.deref.result.now c.index.result.now.slots c.args.k = c.in_err-source.ensures in
+    let none : IsWithoutOrder c.deref.result.now c.index.result.now.slots c.args.k = c.in_err-source.ensures.found in
     let here : IsWithoutOrder a.superblocks.items (stored_tenant c.args.t a.tenants.items).slots c.args.k
     = subst (λ (r : StoredTenant). IsWithoutOrder a.superblocks.items r.slots c.args.k) (tenant_read before) (subst (λ (xs : List StoredSuperblock). IsWithoutOrder xs c.index.result.now.slots c.args.k) c.deref.ensures.value none) in
     if_none c.from_residual.result _ (
       by_shown (λ top held taken. IsWithout top held taken c.args.k) a.order a.superblocks.items a.tenants.items c.args.t c.args.self.now (shown before)
-          (none_without a.order a.superblocks.items a.tenants.items c.self.invariant c.args.t (shown before).listed c.args.k here),
-      refl,
+          (none_without a.order a.superblocks.items a.tenants.items c.self.invariant.0 c.args.t (shown before).listed c.args.k here),
+      c.self.view_is,
     )
   where
     if_none : (o : Option ℕ) (P : Type 0) → P → IfNone o P
@@ -61,20 +64,20 @@ source : (c : After-index_mut-superblock) → c.index.result.now ≡ stored_tena
     → IsSource c.self.inside.superblocks.items (stored_tenant c.args.t c.self.inside.tenants.items).slots c.args.k c.in_ok-source.source
 source c tenant =
     source_at c.deref.result.now c.self.inside.superblocks.items c.index.result.now.slots (stored_tenant c.args.t c.self.inside.tenants.items).slots c.args.k c.in_ok-source.source
-    c.deref.ensures.value (ap (λ (r : StoredTenant). r.slots) tenant) c.in_ok-source.ensures
+    c.deref.ensures.value (ap (λ (r : StoredTenant). r.slots) tenant) c.in_ok-source.ensures.found
 
 -- the superblock there, and the order of its tree
 superblock_read : (c : After-index_mut-superblock) → (source : IsSource c.self.inside.superblocks.items (stored_tenant c.args.t c.self.inside.tenants.items).slots c.args.k c.in_ok-source.source)
     → c.args.t < length c.self.inside.tenants.items → c.index_mut-superblock.result.now ≡ superblock_of c.in_ok-source.source.superblock c.self.inside.superblocks.items
 superblock_read c source listed =
     let p = c.in_ok-source.source in
-    get_or_read c.self.inside.superblocks.items p.superblock c.index_mut-superblock.result.now ((c.self.invariant.each c.args.t listed).within p.slot p.superblock source.at) c.index_mut-superblock.ensures.value bare_of
+    get_or_read c.self.inside.superblocks.items p.superblock c.index_mut-superblock.result.now ((c.self.invariant.0.each c.args.t listed).within p.slot p.superblock source.at) c.index_mut-superblock.ensures.value bare_of
 
 order_read : (c : After-index_mut-superblock) → (source : IsSource c.self.inside.superblocks.items (stored_tenant c.args.t c.self.inside.tenants.items).slots c.args.k c.in_ok-source.source)
     → c.args.t < length c.self.inside.tenants.items → c.index_mut-superblock.result.now.tree.order ≡ c.self.inside.order
 order_read c source listed =
     let p = c.in_ok-source.source in
-    ap (λ (z : StoredSuperblock). z.tree.order) (superblock_read c source listed) ∙ c.self.invariant.order p.superblock ((c.self.invariant.each c.args.t listed).within p.slot p.superblock source.at)
+    ap (λ (z : StoredSuperblock). z.tree.order) (superblock_read c source listed) ∙ c.self.invariant.0.order p.superblock ((c.self.invariant.0.each c.args.t listed).within p.slot p.superblock source.at)
 
 pub search-first-requires : goal.search-first-requires
 search-first-requires c =
@@ -83,7 +86,7 @@ search-first-requires c =
     let listed = (shown g.After-index).listed in
     let at = source g.After-index_mut-superblock (tenant_read g.After-index) in
     let order = ap (λ (t : StoredTree). t.order) c.tree.ensures ∙ order_read g.After-index_mut-superblock at listed in
-    let within = order_within a.order a.superblocks.items a.tenants.items c.self.invariant c.args.t listed c.args.k c.in_ok-source.source at in
+    let within = order_within a.order a.superblocks.items a.tenants.items c.self.invariant.0 c.args.t listed c.args.k c.in_ok-source.source at in
     omega arith
 
 pub reserve_at-requires-clause-from : goal.reserve_at-requires-clause-from
@@ -93,7 +96,7 @@ reserve_at-requires-clause-from c =
     let listed = (shown g.After-index).listed in
     let at = source g.After-index_mut-superblock (tenant_read g.After-index) in
     let order = order_read g.After-index_mut-superblock at listed in
-    let within = order_within a.order a.superblocks.items a.tenants.items c.self.invariant c.args.t listed c.args.k c.in_ok-source.source at in
+    let within = order_within a.order a.superblocks.items a.tenants.items c.self.invariant.0 c.args.t listed c.args.k c.in_ok-source.source at in
     omega arith
 
 pub reserve_at-requires-clause-first : goal.reserve_at-requires-clause-first
@@ -106,8 +109,8 @@ found : (c : After-search-first) → c.args.t < length c.self.inside.tenants.ite
 found c listed at =
     let a = c.self.inside in
     let p = c.in_ok-source.source in
-    found_at a.order a.superblocks.items a.tenants.items c.self.invariant c.args.t listed c.args.k p at c.tree.result.now
-    (c.tree.ensures ∙ ap (λ (z : StoredSuperblock). z.tree) (get_or_read a.superblocks.items p.superblock c.index_mut-superblock.result.now ((c.self.invariant.each c.args.t listed).within p.slot p.superblock at.at) c.index_mut-superblock.ensures.value bare_of)) c.search-first.result (c.search-first.ensures.within, c.search-first.ensures.found)
+    found_at a.order a.superblocks.items a.tenants.items c.self.invariant.0 c.args.t listed c.args.k p at c.tree.result.now
+    (c.tree.ensures ∙ ap (λ (z : StoredSuperblock). z.tree) (get_or_read a.superblocks.items p.superblock c.index_mut-superblock.result.now ((c.self.invariant.0.each c.args.t listed).within p.slot p.superblock at.at) c.index_mut-superblock.ensures.value bare_of)) c.search-first.result (c.search-first.ensures.within, c.search-first.ensures.found)
 
 -- the tenant before it is changed
 tenant_before : (c : After-index_mut) → c.args.t < length c.self.inside.tenants.items → c.index_mut.result.now ≡ stored_tenant c.args.t c.self.inside.tenants.items
@@ -118,8 +121,8 @@ count_reserved-requires-clause-from c =
     let a = c.self.inside in
     let g = goal.at.count_reserved-requires-clause-from c in
     let listed = (shown g.After-index).listed in
-    let within = order_within a.order a.superblocks.items a.tenants.items c.self.invariant c.args.t listed c.args.k c.in_ok-source.source (source g.After-index_mut-superblock (tenant_read g.After-index)) in
-    let size : length c.index_mut.result.now.free ≡ a.order + 1 = ap (λ (r : StoredTenant). length r.free) (tenant_before g.After-index_mut listed) ∙ (c.self.invariant.each c.args.t listed).sizes.free in
+    let within = order_within a.order a.superblocks.items a.tenants.items c.self.invariant.0 c.args.t listed c.args.k c.in_ok-source.source (source g.After-index_mut-superblock (tenant_read g.After-index)) in
+    let size : length c.index_mut.result.now.free ≡ a.order + 1 = ap (λ (r : StoredTenant). length r.free) (tenant_before g.After-index_mut listed) ∙ (c.self.invariant.0.each c.args.t listed).sizes.free in
     omega arith
 
 pub count_reserved-requires-clause-free : goal.count_reserved-requires-clause-free
@@ -127,14 +130,14 @@ count_reserved-requires-clause-free c =
     let g = goal.at.count_reserved-requires-clause-free c in
     let listed = (shown g.After-index).listed in
     subst (λ (r : StoredTenant). 0 < slice_index r.free c.in_ok-source.source.order) (sym (tenant_before g.After-index_mut listed))
-    (some_free c.self.invariant (found g.After-search-first listed (source g.After-index_mut-superblock (tenant_read g.After-index))))
+    (some_free c.self.invariant.0 (found g.After-search-first listed (source g.After-index_mut-superblock (tenant_read g.After-index))))
 
 pub count_reserved-requires-clause-room : goal.count_reserved-requires-clause-room
 count_reserved-requires-clause-room c =
     let a = c.self.inside in
     let g = goal.at.count_reserved-requires-clause-room c in
     let listed = (shown g.After-index).listed in
-    subst HasRoomForCounts (sym (tenant_before g.After-index_mut listed)) (room a.order a.superblocks.items a.tenants.items c.self.invariant c.args.t listed)
+    subst HasRoomForCounts (sym (tenant_before g.After-index_mut listed)) (room a.order a.superblocks.items a.tenants.items c.self.invariant.0 c.args.t listed)
 
 -- what is written is the reservation of that block
 reserved : (c : After-count_reserved)
@@ -146,7 +149,7 @@ reserved c found tenant =
     let a = c.self.inside in
     let p = c.in_ok-source.source in
     let x = c.search-first.result in
-    let superblock = get_or_read a.superblocks.items p.superblock c.index_mut-superblock.result.now (superblock_lt c.self.invariant found) c.index_mut-superblock.ensures.value bare_of in
+    let superblock = get_or_read a.superblocks.items p.superblock c.index_mut-superblock.result.now (superblock_lt c.self.invariant.0 found) c.index_mut-superblock.ensures.value bare_of in
     let change : Reserved p.order c.args.k x c.index_mut-superblock.result.now c.index_mut.result.now c.reserve_at.new.self c.count_reserved.new.self = record {
       order = c.reserve_at.ensures.order;
       stored = c.reserve_at.ensures.inside;
@@ -154,19 +157,59 @@ reserved c found tenant =
       words = c.reserve_at.ensures.words;
       counts = c.count_reserved.ensures;
     } in
-    reserved_step c.self.invariant found c.reserve_at.new.self c.count_reserved.new.self
+    reserved_step c.self.invariant.0 found c.reserve_at.new.self c.count_reserved.new.self
     (subst (λ (r : StoredTenant). Reserved p.order c.args.k x (superblock_of p.superblock a.superblocks.items) r c.reserve_at.new.self c.count_reserved.new.self) tenant
     (subst (λ (z : StoredSuperblock). Reserved p.order c.args.k x z c.index_mut.result.now c.reserve_at.new.self c.count_reserved.new.self) superblock change))
 
+-- the words of the tenant's bands, before and after the search
+pub find-requires-clause-bounded : goal.find-requires-clause-bounded
+find-requires-clause-bounded c =
+    let a = c.self.inside in
+    let s = shown (goal.at.find-requires-clause-bounded c).After-index in
+    let words = get_or_read a.bands.items c.args.t c.index_mut-bands.result.now (let size = c.self.invariant.1.size in let lt = s.listed in omega arith) c.index_mut-bands.ensures.value [] in
+    subst (λ (r : StoredTenant). IsBounded c.deref.result.now r.slots c.index_mut-bands.result.now) (sym (tenant_read (goal.at.find-requires-clause-bounded c).After-index))
+    (subst (λ (xs : List StoredSuperblock). IsBounded xs (stored_tenant c.args.t a.tenants.items).slots c.index_mut-bands.result.now) (sym c.deref.ensures.value)
+    (subst (λ (ws : List ℕ). IsBounded a.superblocks.items (stored_tenant c.args.t a.tenants.items).slots ws) (sym words) (c.self.invariant.1.each c.args.t)))
+
+told : (c : After-find) → c.index.result.now ≡ stored_tenant c.args.t c.self.inside.tenants.items → IsBounded c.deref.result.now c.index.result.now.slots c.find.new.bands
+    → IsBounded c.self.inside.superblocks.items (stored_tenant c.args.t c.self.inside.tenants.items).slots c.find.new.bands
+told c tenant still =
+    subst (λ (r : StoredTenant). IsBounded c.self.inside.superblocks.items r.slots c.find.new.bands) tenant
+    (subst (λ (xs : List StoredSuperblock). IsBounded xs c.index.result.now.slots c.find.new.bands) c.deref.ensures.value still)
+
+-- nothing was found
 pub invariant_of-self : goal.invariant_of-self
 invariant_of-self c =
-    let a = c.self.inside in
-    let p = c.in_ok-source.source in
     let g = goal.at.invariant_of-self c in
     let listed = (shown g.After-index).listed in
-    let step = reserved g.After-count_reserved (found g.After-search-first listed (source g.After-index_mut-superblock (tenant_read g.After-index))) (tenant_before g.After-index_mut listed) in
-    kept_changed a.order a.superblocks.items a.tenants.items c.args.t p.superblock c.reserve_at.new.self c.count_reserved.new.self c.self.invariant
-    (step_change a.order a.superblocks.items a.tenants.items c.args.t p.slot p.superblock c.search-first.result c.reserve_at.new.self c.count_reserved.new.self (Some c.args.k) c.self.invariant step)
+    (c.self.invariant.0, bounded_by c.self.invariant.1 c.args.t c.find.new.bands listed (told g.After-find (tenant_read g.After-index) c.in_err-source.ensures.bounded))
+
+pub note-requires : goal.note-requires
+note-requires c =
+    let a = c.self.inside in
+    let p = c.in_ok-source.source in
+    let g = goal.at.note-requires c in
+    let listed = (shown g.After-index).listed in
+    let small = slot_small a.order a.superblocks.items a.tenants.items c.self.invariant.0 c.args.t listed p.slot p.superblock (source g.After-index_mut-superblock (tenant_read g.After-index)).at in
+    omega (arith, c.from-slot.ensures)
+
+pub invariant_of-self-2 : goal.invariant_of-self-2
+invariant_of-self-2 c =
+    let a = c.self.inside in
+    let p = c.in_ok-source.source in
+    let g = goal.at.invariant_of-self-2 c in
+    let listed = (shown g.After-index).listed in
+    let at = found g.After-search-first listed (source g.After-index_mut-superblock (tenant_read g.After-index)) in
+    let step = reserved g.After-count_reserved at (tenant_before g.After-index_mut listed) in
+    let kept = kept_changed a.order a.superblocks.items a.tenants.items c.args.t p.superblock c.reserve_at.new.self c.count_reserved.new.self c.self.invariant.0
+    (step_change a.order a.superblocks.items a.tenants.items c.args.t p.slot p.superblock c.search-first.result c.reserve_at.new.self c.count_reserved.new.self (Some c.args.k) c.self.invariant.0 step) in
+    let root = c.root.ensures ∙ ap (λ (t : StoredTree). slice_index t.words 0) c.tree-2.ensures in (
+      kept,
+      bounded_noted c.self.invariant.1 a.order p.superblock c.args.t p.slot c.reserve_at.new.self c.count_reserved.new.self c.note.new.self listed (superblock_lt c.self.invariant.0 at) kept
+          (ap (λ (ss : List (Option ℕ)). get_or ss p.slot None) step.slots ∙ at.source.at) (λ u ne. ap (λ (ss : List (Option ℕ)). get_or ss u None) step.slots)
+          (λ j bit. ap (λ n. bit_at (get_or c.note.new.self (n / 16) 0) j) (sym c.from-slot.ensures) ∙ c.note.ensures.noted j (ap (λ w. bit_at w j) root ∙ bit))
+          c.find.new.bands (told g.After-find (tenant_read g.After-index) c.in_ok-source.ensures.bounded) c.note.ensures.kept,
+    )
 
 pub overflow_add-result : goal.overflow_add-result
 overflow_add-result c =
@@ -176,10 +219,10 @@ overflow_add-result c =
     let listed = (shown g.After-index).listed in
     let at = found g.After-search-first listed (source g.After-index_mut-superblock (tenant_read g.After-index)) in
     let inside = at.inside in
-    let slot : p.slot ≤ 255 = omega (arith, slot_small a.order a.superblocks.items a.tenants.items c.self.invariant c.args.t listed p.slot p.superblock at.source.at) in
-    let size = pow_mono {i = a.order} {j = 8} c.self.invariant.small in
+    let slot : p.slot ≤ 255 = omega (arith, slot_small a.order a.superblocks.items a.tenants.items c.self.invariant.0 c.args.t listed p.slot p.superblock at.source.at) in
+    let size = pow_mono {i = a.order} {j = 8} c.self.invariant.0.small in
     let first = mul-le p.slot (2 ^ a.order) 255 256 slot (omega arith) in
-    let same = ap (λ n. n * 2 ^ a.order) c.from.ensures in
+    let same = ap (λ n. n * 2 ^ a.order) c.from-slot.ensures in
     omega arith
 
 pub returns-clause-done : goal.returns-clause-done
@@ -191,16 +234,16 @@ returns-clause-done c =
     let s = shown g.After-index in
     let at = found g.After-search-first s.listed (source g.After-index_mut-superblock (tenant_read g.After-index)) in
     let step = reserved g.After-count_reserved at (tenant_before g.After-index_mut s.listed) in
-    let changed = step_change a.order a.superblocks.items a.tenants.items c.args.t p.slot p.superblock x c.reserve_at.new.self c.count_reserved.new.self (Some c.args.k) c.self.invariant step in
+    let changed = step_change a.order a.superblocks.items a.tenants.items c.args.t p.slot p.superblock x c.reserve_at.new.self c.count_reserved.new.self (Some c.args.k) c.self.invariant.0 step in
     let f = p.slot * 2 ^ a.order + x in
-    let slot_lt : p.slot < 256 = slot_small a.order a.superblocks.items a.tenants.items c.self.invariant c.args.t s.listed p.slot p.superblock at.source.at in
-    let f_is : c.from.result * 2 ^ a.order % 4294967296 + x ≡ p.slot * 2 ^ a.order + x
-    = ap (λ n. n * 2 ^ a.order % 4294967296 + x) c.from.ensures ∙ ap (λ n. n + x) (shl_whole p.slot 8 a.order 32 (omega arith) (let small = c.self.invariant.small in omega arith)) in
+    let slot_lt : p.slot < 256 = slot_small a.order a.superblocks.items a.tenants.items c.self.invariant.0 c.args.t s.listed p.slot p.superblock at.source.at in
+    let f_is : c.from-slot.result * 2 ^ a.order % 4294967296 + x ≡ p.slot * 2 ^ a.order + x
+    = ap (λ n. n * 2 ^ a.order % 4294967296 + x) c.from-slot.ensures ∙ ap (λ n. n + x) (shl_whole p.slot 8 a.order 32 (omega arith) (let small = c.self.invariant.0.small in omega arith)) in
     let choice = by_shown (λ top held taken. IsChoice top held taken c.args.k (block f p.order)) a.order a.superblocks.items a.tenants.items c.args.t c.args.self.now s
-    (is_choice c.self.invariant at) in
+    (is_choice c.self.invariant.0 at) in
     let h = with_block f c.args.k (holding_shown a.order a.superblocks.items (stored_tenant c.args.t a.tenants.items)) in
-    let shown = shown_changed a.order a.superblocks.items a.tenants.items c.args.t p.superblock c.reserve_at.new.self c.count_reserved.new.self c.self.invariant changed h
-    (holding_now a.order a.superblocks.items a.tenants.items c.args.t p.slot p.superblock x c.reserve_at.new.self c.count_reserved.new.self (Some c.args.k) c.self.invariant step) in (
+    let shown = shown_changed a.order a.superblocks.items a.tenants.items c.args.t p.superblock c.reserve_at.new.self c.count_reserved.new.self c.self.invariant.0 changed h
+    (holding_now a.order a.superblocks.items a.tenants.items c.args.t p.slot p.superblock x c.reserve_at.new.self c.count_reserved.new.self (Some c.args.k) c.self.invariant.0 step) in (
       p.order,
       (
         subst (λ n. IsChoice c.args.self.now.top (is_held (holding_of c.args.t c.args.self.now)) (taken_of (holding_of c.args.t c.args.self.now)) c.args.k (block n p.order)) (sym f_is) choice,

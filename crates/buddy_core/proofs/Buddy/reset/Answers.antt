@@ -4,17 +4,18 @@ use Rattle.std.proofs.lemmas.Option.{none-some}
 use Rattle.buddy_core.specs.declared.Buddy.TheInside.{Inside}
 use Rattle.buddy_core.specs.Content.{with_holding, nothing_held}
 use Rattle.buddy_core.specs.Stored.{StoredSuperblock, StoredTenant, bare_superblock, bare_tenant, stored_tenant, superblock_at, content_shown}
+use Rattle.buddy_core.specs.Bands.{AreBounded}
 use Rattle.buddy_core.specs.Kept.{IsKept, HasTenantSizes}
 use Rattle.buddy_core.proofs.ContentShown.{shown_is, slot_read, blank_of, bare_of}
 use Rattle.buddy_core.proofs.NothingHeld.{cleared_tenant}
-use Rattle.buddy_core.proofs.Resetting.{Cleared, cleared_none, cleared_past, cleared_more, next_order, reset_kept, reset_shown}
+use Rattle.buddy_core.proofs.Resetting.{Cleared, cleared_none, cleared_past, cleared_more, next_order, reset_kept, reset_shown, reset_bounded}
 use Rattle.buddy_core.proofs.Buddy.reset.Goals as goal
 use Rattle.buddy_core.proofs.Buddy.reset.Goals.{in-Some, in_default}
 
 pub loop-slot-init : goal.loop-slot-init
 loop-slot-init c =
     let a = c.self.inside in
-    (cleared_none a.order a.superblocks.items (stored_tenant c.args.t a.tenants.items), refl, refl)
+    (cleared_none a.order a.superblocks.items (stored_tenant c.args.t a.tenants.items), refl, refl, refl)
 
 pub loop-slot-preserved : goal.loop-slot-preserved
 loop-slot-preserved c =
@@ -24,20 +25,21 @@ loop-slot-preserved c =
     let superblocks = l.self-inside.superblocks.items in
     let tenant = stored_tenant c.args.t a.tenants.items in
     let read : c.index.result.now ≡ get_or a.tenants.items c.args.t c.index.result.now = c.index.ensures ∙ ap (λ (xs : List StoredTenant). get_or xs c.args.t c.index.result.now) l.invariant.1 in
-    let apart = λ (w v i : ℕ) (p : superblock_at tenant w ≡ Some i) (q : superblock_at tenant v ≡ Some i). (c.self.invariant.apart c.args.t w c.args.t v i p q).1 in
+    let apart = λ (w v i : ℕ) (p : superblock_at tenant w ≡ Some i) (q : superblock_at tenant v ≡ Some i). (c.self.invariant.0.apart c.args.t w c.args.t v i p q).1 in
     elim c.match-superblock_at.branch [
       | in-Some w ↦
           let m = w.in-Some.m in
           let at = slot_read a.tenants.items c.args.t c.index.result.now s.listed read l.slot (Some m) w.in-Some.ensures in
-          let m_lt = (c.self.invariant.each c.args.t s.listed).within l.slot m at in
+          let m_lt = (c.self.invariant.0.each c.args.t s.listed).within l.slot m at in
           let now_lt : m < length superblocks = subst (λ n. m < n) (sym l.invariant.0.size) m_lt in
-          let order = next_order a.order a.superblocks.items superblocks tenant l.slot m at (c.self.invariant.order m m_lt) apart l.invariant.0 in
+          let order = next_order a.order a.superblocks.items superblocks tenant l.slot m at (c.self.invariant.0.order m m_lt) apart l.invariant.0 in
           let old = get_or_read superblocks m w.index_mut.result.now now_lt w.index_mut.ensures.value bare_of in
           let blank = w.clear.ensures ∙ ap (λ (z : StoredSuperblock). bare_superblock z.tree.order) old ∙ ap bare_superblock order in (
             subst (λ (xs : List StoredSuperblock). Cleared a.order a.superblocks.items xs tenant (l.slot + 1)) (sym (ap (λ (z : Inside). z.superblocks.items) w.self-inside-is))
                 (cleared_more a.order a.superblocks.items superblocks tenant l.slot m w.clear.new.self at m_lt blank apart l.invariant.0),
             ap (λ (z : Inside). z.tenants.items) w.self-inside-is ∙ l.invariant.1,
             ap (λ (z : Inside). z.order) w.self-inside-is ∙ l.invariant.2,
+            ap (λ (z : Inside). z.bands.items) w.self-inside-is ∙ l.invariant.3,
           )
       | in_default w ↦
           let at = slot_read a.tenants.items c.args.t c.index.result.now s.listed read l.slot None w.in_default.ensures in (
@@ -45,6 +47,7 @@ loop-slot-preserved c =
                 (cleared_past a.order a.superblocks.items superblocks tenant l.slot (λ m there. none-some m (sym at ∙ there)) l.invariant.0),
             ap (λ (z : Inside). z.tenants.items) w.self-inside-is ∙ l.invariant.1,
             ap (λ (z : Inside). z.order) w.self-inside-is ∙ l.invariant.2,
+            ap (λ (z : Inside). z.bands.items) w.self-inside-is ∙ l.invariant.3,
           )
     ]
 
@@ -61,11 +64,16 @@ invariant_of-self c =
     let l = c.loop-slot in
     let all : length a.superblocks.items ≤ l.slot = omega (arith, a.superblocks.ok.0) in
     let tenant = tenant_cleared a.order (length a.superblocks.items) l.self-inside.tenants.items a.tenants.items c.args.t c.index_mut-2.result.now c.clear-2.new.self l.invariant.1 s.listed c.index_mut-2.ensures.value
-    (c.self.invariant.each c.args.t s.listed).sizes c.clear-2.ensures.slots c.clear-2.ensures.free c.clear-2.ensures.taken in
-    let base = reset_kept a.order a.superblocks.items a.tenants.items c.self.invariant c.args.t s.listed l.self-inside.superblocks.items l.slot all l.invariant.0 in
-    subst (λ n. IsKept n l.self-inside.superblocks.items (set l.self-inside.tenants.items c.args.t c.clear-2.new.self)) (sym l.invariant.2)
-    (subst (λ (xs : List StoredTenant). IsKept a.order l.self-inside.superblocks.items (set xs c.args.t c.clear-2.new.self)) (sym l.invariant.1)
-    (subst (λ (r : StoredTenant). IsKept a.order l.self-inside.superblocks.items (set a.tenants.items c.args.t r)) (sym tenant) base))
+    (c.self.invariant.0.each c.args.t s.listed).sizes c.clear-2.ensures.slots c.clear-2.ensures.free c.clear-2.ensures.taken in
+    let base = reset_kept a.order a.superblocks.items a.tenants.items c.self.invariant.0 c.args.t s.listed l.self-inside.superblocks.items l.slot all l.invariant.0 in
+    let bounded = reset_bounded a.order a.superblocks.items a.tenants.items c.self.invariant.0 c.args.t s.listed l.self-inside.superblocks.items l.slot all l.invariant.0 a.bands.items c.self.invariant.1 in (
+      subst (λ n. IsKept n l.self-inside.superblocks.items (set l.self-inside.tenants.items c.args.t c.clear-2.new.self)) (sym l.invariant.2)
+          (subst (λ (xs : List StoredTenant). IsKept a.order l.self-inside.superblocks.items (set xs c.args.t c.clear-2.new.self)) (sym l.invariant.1)
+          (subst (λ (r : StoredTenant). IsKept a.order l.self-inside.superblocks.items (set a.tenants.items c.args.t r)) (sym tenant) base)),
+      subst (λ (bs : List (List ℕ)). AreBounded l.self-inside.superblocks.items (set l.self-inside.tenants.items c.args.t c.clear-2.new.self) bs) (sym l.invariant.3)
+          (subst (λ (xs : List StoredTenant). AreBounded l.self-inside.superblocks.items (set xs c.args.t c.clear-2.new.self) a.bands.items) (sym l.invariant.1)
+          (subst (λ (r : StoredTenant). AreBounded l.self-inside.superblocks.items (set a.tenants.items c.args.t r) a.bands.items) (sym tenant) bounded)),
+    )
 
 pub returns : goal.returns
 returns c =
@@ -74,8 +82,8 @@ returns c =
     let l = c.loop-slot in
     let all : length a.superblocks.items ≤ l.slot = omega (arith, a.superblocks.ok.0) in
     let tenant = tenant_cleared a.order (length a.superblocks.items) l.self-inside.tenants.items a.tenants.items c.args.t c.index_mut-2.result.now c.clear-2.new.self l.invariant.1 s.listed c.index_mut-2.ensures.value
-    (c.self.invariant.each c.args.t s.listed).sizes c.clear-2.ensures.slots c.clear-2.ensures.free c.clear-2.ensures.taken in
-    let shown = reset_shown a.order a.superblocks.items a.tenants.items c.self.invariant c.args.t s.listed l.self-inside.superblocks.items l.slot all l.invariant.0 in
+    (c.self.invariant.0.each c.args.t s.listed).sizes c.clear-2.ensures.slots c.clear-2.ensures.free c.clear-2.ensures.taken in
+    let shown = reset_shown a.order a.superblocks.items a.tenants.items c.self.invariant.0 c.args.t s.listed l.self-inside.superblocks.items l.slot all l.invariant.0 in
     ap (λ n. content_shown n l.self-inside.superblocks.items (set l.self-inside.tenants.items c.args.t c.clear-2.new.self)) l.invariant.2
     ∙ ap (λ (xs : List StoredTenant). content_shown a.order l.self-inside.superblocks.items (set xs c.args.t c.clear-2.new.self)) l.invariant.1
     ∙ ap (λ (r : StoredTenant). content_shown a.order l.self-inside.superblocks.items (set a.tenants.items c.args.t r)) tenant

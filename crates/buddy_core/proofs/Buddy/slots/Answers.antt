@@ -11,8 +11,8 @@ held_slots-requires c =
     let a = c.self.inside in
     let s = shown_is a.order a.superblocks.items a.tenants.items c.args.t c.args.self.now c.self.view_is c.requires in
     let tenant = get_or_read a.tenants.items c.args.t c.index.result.now s.listed c.index.ensures blank_of in
-    let size : length c.index.result.now.slots ≡ length a.superblocks.items = ap (λ (r : StoredTenant). length r.slots) tenant ∙ (c.self.invariant.each c.args.t s.listed).sizes.slots in
-    let few = c.self.invariant.few in
+    let size : length c.index.result.now.slots ≡ length a.superblocks.items = ap (λ (r : StoredTenant). length r.slots) tenant ∙ (c.self.invariant.0.each c.args.t s.listed).sizes.slots in
+    let few = c.self.invariant.0.few in
     omega arith
 
 pub returns : goal.returns

@@ -14,7 +14,7 @@ use Rattle.buddy_core.proofs.Buddy.table.Goals as goal
 pub returns : goal.returns
 returns c =
     let a = c.self.inside in
-    let kept = c.self.invariant in
+    let kept = c.self.invariant.0 in
     let order = ap (λ (x : Content). x.top) (sym c.self.view_is) in
     let count = ap (λ (x : Content). x.superblocks) (sym c.self.view_is) in
     let m_lt : c.args.m < length a.superblocks.items = subst (λ n. c.args.m < n) count c.requires in

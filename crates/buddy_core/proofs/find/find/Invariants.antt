@@ -1,8 +1,11 @@
-use Rattle.std.proofs.Common.{◌≡◌, ℕ, ◌<◌, Some, None}
+use Rattle.std.proofs.Common.{◌≡◌, ℕ, ◌/◌, ◌<◌, Some, None}
 use Rattle.std.specs.Prelude.{slice_index_or}
 use Rattle.buddy_core.specs.Roots.{HasBit}
+use Rattle.buddy_core.specs.Bands.{IsBounded}
 use Rattle.buddy_core.proofs.find.find.Given as goal
 
--- no superblock under an earlier slot has a free block of the order
-abbrev pub invariant-loop-slot : goal.invariant-loop-slot
-invariant-loop-slot l = (u m : ℕ) → u < l.slot → slice_index_or l.slots u None ≡ Some m → HasBit l.superblocks m l.order → ⊥
+-- the words still tell all that the slots have, and no earlier band has a free block of the order
+abbrev pub invariant-loop-band : goal.invariant-loop-band
+invariant-loop-band l =
+    IsBounded l.superblocks l.slots l.bands
+    × ((u m : ℕ) → u / 16 < l.band → slice_index_or l.slots u None ≡ Some m → HasBit l.superblocks m l.order → ⊥)
