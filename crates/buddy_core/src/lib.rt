@@ -10,7 +10,7 @@
 //! superblock has a tree of words that tells the orders of the free blocks inside each of its blocks.
 #![tactic(auto)]
 
-ghost use Rattle.std.specs.Prelude.{◌≡◌, ℕ, ◌+◌, ◌*◌, ◌/◌, ◌^◌, ◌<◌, ◌≤◌, Some, None, List, length, slice_index, MatchOption, IfOk, OnOk, OnErr, IfNone, IfSome, OnSome, IsSome};
+ghost use Rattle.std.specs.Prelude.{◌≡◌, ℕ, ◌+◌, ◌*◌, ◌/◌, ◌%◌, ◌^◌, ◌<◌, ◌≤◌, Some, None, List, length, slice_index, slice_index_or, MatchOption, IfOk, OnOk, OnErr, IfNone, IfSome, OnSome, IsSome};
 ghost use Rattle.model_core.specs.declared.limits.TheConstants.{MOST_ORDER, MOST_SUPERBLOCKS, MOST_TENANTS};
 ghost use Rattle.model_core.specs.Blocks.{Block, block, HasFrame, IsTaken, HasTaken, slot_block, IsChoice, IsWithout};
 ghost use Rattle.buddy_core.specs.Content.{Content, empty_buddy, nothing_held, holding_of, with_holding, superblock_at, is_held, taken_of, with_block, without_block, with_slot, without_slot, BuddyLaws, free_block_count, taken_block_count, held_slots};
@@ -272,6 +272,18 @@ impl Buddy {
         ensures { result ≡ held_slots (holding_of t self.now) }
     {
         self.tenants[t as usize].held_slots()
+    }
+
+    /// At each frame of a slot that tenant `t` holds, from the slot's first on, the order of the taken block that begins there.
+    pub fn orders_under(&self, t: u8, slot: u32) -> &[Option<u8>]
+        requires tenant { t < length self.now.tenants }
+        requires held { IsSome (superblock_at (holding_of t self.now) slot) }
+        ensures size { length result.now ≡ 2 ^ self.now.top }
+        ensures orders { (f : ℕ) → f / 2 ^ self.now.top ≡ slot
+            → slice_index_or result.now (f % 2 ^ self.now.top) None ≡ taken_of (holding_of t self.now) f }
+    {
+        let m = self.tenants[t as usize].superblock_at(slot).unwrap();
+        self.superblocks[m as usize].orders()
     }
 
     /// The stored words of superblock `m`, node `i` at index `i - 1`. Node 1 is the whole superblock,

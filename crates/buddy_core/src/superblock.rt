@@ -55,6 +55,14 @@ impl Superblock {
         self.orders[frame as usize]
     }
 
+    /// At each frame the order of the taken block that begins there.
+    pub fn orders(&self) -> &[Option<u8>]
+        ensures same { result.now ≡ self.now.orders }
+        ensures size { length result.now ≡ 2 ^ self.now.tree.order }
+    {
+        &self.orders
+    }
+
     /// Takes the block of `order` that begins at `first` out of the free block of order `from` around it.
     pub fn reserve_at(&mut self, first: u32, from: u8, order: u8)
         requires order { order ≤ from }

@@ -28,6 +28,8 @@ pub mod ObjectRows
 pub mod ObjectReport
 pub mod RoomFree
 pub mod RoomFrames
+pub mod RoomWhole
+pub mod RoomSets
 pub mod RoomCache
 pub mod RoomFits
 pub mod ReserveOne

@@ -1,7 +1,8 @@
 -- Frames that are not taken, or lie in empty slabs.
-use Rattle.std.proofs.Common.{◌≡◌, ℕ, ◌+◌, ◌/◌, ◌^◌, ◌<◌, ◌≤◌, true, false, Some, refl, sym, ap, ◌∙◌, subst, arith}
+use Rattle.std.proofs.Common.{◌≡◌, ℕ, ◌+◌, ◌/◌, ◌^◌, ◌<◌, ◌≤◌, true, false, Some, None, refl, sym, ap, ◌∙◌, subst, ⊎_elim, arith}
 use Rattle.std.proofs.Math.Nat.{pow-le-pow_right}
-use Rattle.std.proofs.lemmas.Bool.{false≢true}
+use Rattle.std.proofs.lemmas.Bool.{false≢true, cases_lt}
+use Rattle.std.proofs.lemmas.Nat.{pow_pos}
 use Rattle.model_core.specs.Blocks.{block, HasFrame}
 use Rattle.model_core.specs.declared.limits.TheConstants.{MOST_CACHES}
 use Rattle.space_core.specs.Content as spaces
@@ -11,10 +12,10 @@ use Rattle.slab_tables.specs.Content.{Content, IsSlabs, layout_numbers, head_of}
 use Rattle.parts_laws.specs.Shows.{Agree}
 use Rattle.parts_laws.specs.Steady.{IsSteady}
 use Rattle.parts_laws.specs.Room.{IsIdle}
-use Rattle.parts_laws.proofs.Lookups.{some_same}
+use Rattle.parts_laws.proofs.Lookups.{some_none, some_same}
 use Rattle.parts_laws.proofs.Steady.{placed_as}
 use Rattle.slab_core.specs.Calls.{idle_at}
-use Rattle.slab_core.specs.Room.{IsUnusedFrame, IsUnusedTo}
+use Rattle.slab_core.specs.Room.{IsUnusedFrame, IsBorder, IsUnusedTo}
 use Rattle.slab_core.proofs.ReturnMany.{idle_tells, idle_is}
 
 -- a block of an order that a superblock may have is small
@@ -49,18 +50,62 @@ module _ (r : spaces.Content) (b : buddies.Content) (s : Content) (t : ℕ) (st 
         within = subst (λ j. HasFrame (block f j) x) order has;
       }
 
-  module _ (f k frame : ℕ) (taken : buddies.taken_of (buddies.holding_of t b) f ≡ Some k) (has : HasFrame (block f k) frame) where
-    pub unused_to : idle_at (λ n. true) r s t f ≡ true → IsUnusedTo r b s t frame (f + 2 ^ k)
-    unused_to idle =
-        let low = has.0 in
-        record { some = has.1; unused = λ x from to is. idle_in f k x taken (omega arith, to) idle }
+  -- where no taken block begins at a border, the frame is not taken, and the next is a border
+  module _ (f : ℕ) (none : buddies.taken_of (buddies.holding_of t b) f ≡ None) (border : IsBorder b t f) where
+    nothing_begins : (g j : ℕ) → buddies.taken_of (buddies.holding_of t b) g ≡ Some j → f ≤ g → g ≤ f → ⊥
+    nothing_begins g j is low high =
+        let same : g ≡ f = omega arith in
+        some_none (sym is ∙ ap (buddies.taken_of (buddies.holding_of t b)) same ∙ none)
 
-    pub not_unused : idle_at (λ n. true) r s t f ≡ false → IsUnusedFrame r b s t frame → ⊥
+    border_next : IsBorder b t (f + 1)
+    border_next g j is less = ⊎_elim
+        (λ before. let ends = border g j is before in omega arith)
+        (λ from. absurd (nothing_begins g j is from (omega arith)))
+        (cases_lt g f)
+
+    untaken_at : IsUnusedFrame r b s t f
+    untaken_at (g, j, is, has) = ⊎_elim
+        (λ before. let ends = border g j is before in let high = has.1 in absurd (omega arith))
+        (λ from. absurd (nothing_begins g j is from has.0))
+        (cases_lt g f)
+
+    pub unused_one : IsUnusedTo r b s t f (f + 1)
+    unused_one = record {
+      some = omega arith;
+      unused = λ x from to. let same : f ≡ x = omega arith in subst (IsUnusedFrame r b s t) same untaken_at;
+      border = border_next;
+    }
+
+  -- a taken block that begins at a border ends at one
+  module _ (f k : ℕ) (taken : buddies.taken_of (buddies.holding_of t b) f ≡ Some k) (border : IsBorder b t f) where
+    border_past : IsBorder b t (f + 2 ^ k)
+    border_past g j is less = ⊎_elim
+        (λ before. let ends = border g j is before in omega arith)
+        (λ from.
+        let size : 0 < 2 ^ j = pow_pos j in
+        let same : f ≡ g = st.sound.apart f k g j g taken is (from, less) (omega arith, omega arith) in
+        let order : j ≡ k = some_same (sym is ∙ ap (buddies.taken_of (buddies.holding_of t b)) (sym same) ∙ taken) in
+        let alike : 2 ^ j ≡ 2 ^ k = ap (λ n. 2 ^ n) order in
+        omega arith)
+        (cases_lt g f)
+
+    pub unused_to : idle_at (λ n. true) r s t f ≡ true → IsUnusedTo r b s t f (f + 2 ^ k)
+    unused_to idle =
+        let size : 0 < 2 ^ k = pow_pos k in
+        record {
+          some = omega arith;
+          unused = λ x from to is. idle_in f k x taken (from, to) idle;
+          border = border_past;
+        }
+
+    pub not_unused : idle_at (λ n. true) r s t f ≡ false → IsUnusedFrame r b s t f → ⊥
     not_unused busy unused =
+        let size : 0 < 2 ^ k = pow_pos k in
+        let has : HasFrame (block f k) f = (omega arith, omega arith) in
         let i = unused (f, k, taken, has) in
         let same : i.first ≡ f =
-        st.sound.apart i.first (layout_numbers i.cache).order f k frame (st.stands i.number i.first i.node i.cache i.slab).taken taken i.within has in
-        false≢true (sym busy ∙ ap (idle_at (λ n. true) r s t) (sym same) ∙ idle_begins r s t frame i)
+        st.sound.apart i.first (layout_numbers i.cache).order f k f (st.stands i.number i.first i.node i.cache i.slab).taken taken i.within has in
+        false≢true (sym busy ∙ ap (idle_at (λ n. true) r s t) (sym same) ∙ idle_begins r s t f i)
 
 -- what stands in the list of the empty slabs of a tenant's cache is a taken block of the tenant
 pub listed_taken : (r : spaces.Content) (b : buddies.Content) (s : Content) (t c f n : ℕ) → IsSlabs s → Agree r b s → c < MOST_CACHES

@@ -14,6 +14,7 @@ ghost use Rattle.model_core.specs.declared.limits.TheConstants.{MOST_ORDER, MOST
 ghost use Rattle.slab_tables.specs.Content.{IsSlabs, empty_tables};
 ghost use Rattle.parts_laws.specs.Laws.{ListsHold};
 
+mod block_set;
 mod creating;
 mod giving;
 mod growing;

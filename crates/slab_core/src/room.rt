@@ -1,7 +1,6 @@
 //! Whether there is room for a block, empty slabs left out of account.
 
 ghost use Rattle.std.specs.Prelude.{◌≡◌, ◌↔◌, ℕ, ◌-◌, ◌*◌, ◌^◌, ◌<◌, ◌≤◌, true, is_some, length, MatchOption};
-ghost use Rattle.model_core.specs.Blocks.{around};
 ghost use Rattle.model_core.specs.Machine.{Machine, choice};
 ghost use Rattle.model_core.specs.Slabs.{reaped};
 ghost use Rattle.model_core.specs.declared.limits.TheConstants.{MOST_CACHES, MOST_ORDER};
@@ -9,11 +8,12 @@ ghost use Rattle.parts_laws.specs.Room.{HasRoom};
 ghost use Rattle.parts_laws.specs.Shows.{ShowsMachine, Agree};
 ghost use Rattle.parts_laws.specs.Slots.{HoldTogether};
 ghost use Rattle.parts_laws.specs.Steady.{IsSteady};
-ghost use Rattle.buddy_core.specs.Content.{BuddyLaws};
+ghost use Rattle.buddy_core.specs.Content.{BuddyLaws, holding_of, taken_of};
 ghost use Rattle.slab_core.specs.Calls.{idle_at};
-ghost use Rattle.slab_core.specs.Room.{HasFreeBlock, IsUnusedFrame, IsUnusedTo, IsUnusedBlock, HasRoomAround, HasRoomInSlabs};
+ghost use Rattle.slab_core.specs.Room.{HasFreeBlock, IsUnusedFrame, IsBorder, IsUnusedTo, IsWhole, IsUnusedBlock, HasRoomAround, HasRoomInSlabs, AreRefused, has_number};
 
 use crate::Slabs;
+use crate::block_set::BlockSet;
 use buddy_core::Buddy;
 use model_core::limits::MOST_CACHES;
 use slab_tables::Kind;
@@ -31,14 +31,6 @@ fn has_free(buddy: &Buddy, t: u8, k: u8) -> bool
         }
     }
     false
-}
-
-/// The first frame of the aligned block of `2^k` frames that has the frame.
-fn first_around(frame: u32, k: u8) -> u32
-    requires { k ≤ MOST_ORDER }
-    ensures { result ≡ (around frame k).first }
-{
-    frame >> k << k
 }
 
 impl Slabs {
@@ -66,33 +58,44 @@ impl Slabs {
         requires steady { IsSteady space.now buddy.now self.now t }
         ensures { (result ≡ true) ↔ HasRoomInSlabs space.now buddy.now self.now t k }
     {
+        // Blocks that have been walked, so that none is walked once more for another cache.
+        let mut refused = BlockSet::new();
         for c in 0..u32::from(MOST_CACHES) {
-            if self.has_room_in_cache(space, buddy, t, c, k) {
+            if self.has_room_in_cache(space, buddy, t, c, k, &mut refused) {
                 return true;
             }
         }
         false
     }
 
-    /// Whether there is room for a block of order `k` around an empty slab of cache `c` of tenant `t`.
-    fn has_room_in_cache(&self, space: &Space, buddy: &Buddy, t: u8, c: u32, k: u8) -> bool
+    /// Whether there is room for a block of order `k` around an empty slab of cache `c` of tenant `t`. Blocks that were
+    /// refused are not looked at, and those that are refused now are put in.
+    fn has_room_in_cache(
+        &self,
+        space: &Space,
+        buddy: &Buddy,
+        t: u8,
+        c: u32,
+        k: u8,
+        refused: &mut BlockSet,
+    ) -> bool
         requires tenant { t < length space.now.slots }
         requires cache { c < MOST_CACHES }
         requires order { k ≤ self.now.top }
         requires parts { HoldTogether space.now buddy.now self.now }
         requires steady { IsSteady space.now buddy.now self.now t }
-        ensures { (result ≡ true) ↔ HasRoomAround space.now buddy.now self.now t c k }
+        requires refused { AreRefused space.now buddy.now self.now t k (has_number refused.old) }
+        ensures room { (result ≡ true) ↔ HasRoomAround space.now buddy.now self.now t c k }
+        ensures refused { AreRefused space.now buddy.now self.now t k (has_number refused.new) }
     {
         let mut next = self.tables.first(t, c, Kind::Empty);
-        // Slabs that begin before this frame are done with, so that no block is walked twice for one cache.
-        let mut done = 0;
         while let Some((slab, node)) = next {
-            if slab >= done {
-                let first = first_around(slab, k);
-                if self.is_unused_block(space, buddy, t, first, k) {
+            let number = slab >> k;
+            if !refused.has(number) {
+                if self.is_unused_block(space, buddy, t, number << k, k) {
                     return true;
                 }
-                done = first + (1 << k);
+                refused.add(number);
             }
             next = self.tables.lists().after(node);
         }
@@ -103,15 +106,18 @@ impl Slabs {
     fn is_unused_block(&self, space: &Space, buddy: &Buddy, t: u8, first: u32, k: u8) -> bool
         requires tenant { t < length space.now.slots }
         requires first { first < 65536 }
-        requires order { k ≤ self.now.top }
+        requires block { IsWhole buddy.now t first k }
         requires parts { HoldTogether space.now buddy.now self.now }
         requires steady { IsSteady space.now buddy.now self.now t }
         ensures { (result ≡ true) ↔ IsUnusedBlock space.now buddy.now self.now t first k }
     {
+        let order = buddy.order();
+        let orders = buddy.orders_under(t, first >> order);
         let end = first + (1 << k);
         let mut frame = first;
         while frame < end {
-            let Some(next) = self.past_unused(space, buddy, t, frame) else {
+            let begins = orders[(frame % (1 << order)) as usize];
+            let Some(next) = self.past_unused(space, buddy, t, frame, begins) else {
                 return false;
             };
             frame = next;
@@ -120,20 +126,30 @@ impl Slabs {
     }
 
     /// A frame up to which no frame of tenant `t` from this one on is taken, unless by an empty slab. None where this one is
-    /// taken otherwise.
-    fn past_unused(&self, space: &Space, buddy: &Buddy, t: u8, frame: u32) -> Option<u32>
+    /// taken otherwise. `begins` is the order of the taken block that begins here.
+    #[inline(always)]
+    fn past_unused(
+        &self,
+        space: &Space,
+        buddy: &Buddy,
+        t: u8,
+        frame: u32,
+        begins: Option<u8>,
+    ) -> Option<u32>
         requires tenant { t < length space.now.slots }
         requires frame { frame < 2 ^ 32 - 1 }
+        requires border { IsBorder buddy.now t frame }
+        requires begins { begins ≡ taken_of (holding_of t buddy.now) frame }
         requires parts { HoldTogether space.now buddy.now self.now }
         requires steady { IsSteady space.now buddy.now self.now t }
         ensures { MatchOption result (IsUnusedFrame space.now buddy.now self.now t frame → ⊥)
             (λ next. IsUnusedTo space.now buddy.now self.now t frame next) }
     {
-        let Some((first, order)) = buddy.block_of(t, frame) else {
+        let Some(order) = begins else {
             return Some(frame + 1);
         };
-        if self.is_idle(space, t, first) {
-            Some(first + (1 << order))
+        if self.is_idle(space, t, frame) {
+            Some(frame + (1 << order))
         } else {
             None
         }
