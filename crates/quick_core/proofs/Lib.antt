@@ -4,3 +4,4 @@ pub mod NumberLemmas
 pub mod WindowLemmas
 pub mod LineLemmas
 pub mod DecodeLemmas
+pub mod FrontLemmas

@@ -32,17 +32,19 @@ const READ: u32 = 0x6461_6572;
 /// Room for the longest answer to a read, its line feed included.
 pub const MOST_BYTES_TEXT: usize = 12 + 2 * MOST_BYTES;
 
-/// The line at the front of the window, where it is a read with its words parted by one blank, and ended by a line feed; `None`
-/// where it isn't, or where that is not sure.
+/// The line at the front of these bytes, where it is a read with its words parted by one blank, and ended by a line feed among the
+/// first `WINDOW` bytes; `None` where it isn't, or where that is not sure.
 #[inline(always)]
-pub fn read_bytes_line(window: &[u8; WINDOW]) -> Option<BytesLine>
-    // The first line feed (byte 10) ends it.
-    ensures line { IfSome result (λ line. position (λ b. b == 10) window.now ≡ Some (line.len - 1)) }
-    ensures some { IfSome result (λ line. 0 < line.len) }
-    // It reads as that event.
-    ensures reading { IfSome result
-        (λ line. reading_of (take (line.len - 1) window.now) ≡ Ok (Some (Tenant line.tenant (Read line.place line.asked)))) }
-    ensures within { IfSome result (λ line. line.len ≤ WINDOW) }
+pub fn read_bytes_line(bytes: &[u8]) -> Option<BytesLine>
+    ensures { IfSome result (λ line. ReadsAs bytes.now line.tenant (Read line.place line.asked) line.len) }
+{
+    let window = bytes.first_chunk::<WINDOW>()?;
+    read_in(window)
+}
+
+#[inline(always)]
+fn read_in(window: &[u8; WINDOW]) -> Option<BytesLine>
+    ensures { IfSome result (λ line. ReadsAs window.now line.tenant (Read line.place line.asked) line.len) }
 {
     let tenant = number_at(window, 0, MOST_TENANT_DIGITS)?;
     if window[tenant.end] != b' ' || four_at(window, tenant.end + 1) != READ {

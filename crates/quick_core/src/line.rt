@@ -34,17 +34,19 @@ const TAKE: u32 = 0x656b_6174;
 
 const GIVE: u32 = 0x6576_6967;
 
-/// The line at the front of the window, where it is one of the short path: its words parted by one blank, and ended by a line
-/// feed; `None` where it isn't, or where that is not sure.
+/// The line at the front of these bytes, where it is one of the short path: its words parted by one blank, and ended by a line
+/// feed among the first `WINDOW` bytes; `None` where it isn't, or where that is not sure.
 #[inline(always)]
-pub fn read_quick(window: &[u8; WINDOW]) -> Option<QuickLine>
-    // The first line feed (byte 10) ends it.
-    ensures line { IfSome result (λ line. position (λ b. b == 10) window.now ≡ Some (line.len - 1)) }
-    ensures some { IfSome result (λ line. 0 < line.len) }
-    // It reads as that event.
-    ensures reading { IfSome result
-        (λ line. reading_of (take (line.len - 1) window.now) ≡ Ok (Some (Tenant line.tenant (quick_command line.command)))) }
-    ensures within { IfSome result (λ line. line.len ≤ WINDOW) }
+pub fn read_quick(bytes: &[u8]) -> Option<QuickLine>
+    ensures { IfSome result (λ line. ReadsAs bytes.now line.tenant (quick_command line.command) line.len) }
+{
+    let window = bytes.first_chunk::<WINDOW>()?;
+    quick_in(window)
+}
+
+#[inline(always)]
+fn quick_in(window: &[u8; WINDOW]) -> Option<QuickLine>
+    ensures { IfSome result (λ line. ReadsAs window.now line.tenant (quick_command line.command) line.len) }
 {
     let tenant = number_at(window, 0, MOST_TENANT_DIGITS)?;
     if window[tenant.end] != b' ' {

@@ -27,25 +27,23 @@ pub struct WriteLine {
 /// The four bytes `writ`, the first of them the lowest.
 const WRIT: u32 = 0x7469_7277;
 
-/// The line at the front of `rest`, where it is a write with its words parted by one blank, and ended by a line feed: its bytes
-/// are the first `count` of `bytes` then. `None` where it isn't, or where that is not sure; `bytes` may be written all the same.
+/// The line at the front of these bytes, where it is a write with its words parted by one blank, and ended by a line feed: what it
+/// stores are the first `count` bytes of `room` then. `None` where it isn't, or where that is not sure; `room` may be written all
+/// the same.
 #[inline(always)]
-pub fn read_write_line(rest: &[u8], bytes: &mut [u8; MOST_BYTES]) -> Option<WriteLine>
-    requires { WINDOW ≤ length rest.now }
-    // The first line feed (byte 10) ends it.
-    ensures line { IfSome result (λ line. position (λ b. b == 10) rest.now ≡ Some (line.len - 1)) }
-    ensures some { IfSome result (λ line. 0 < line.len) }
-    // It reads as that event.
-    ensures reading { IfSome result (λ line. reading_of (take (line.len - 1) rest.now)
-        ≡ Ok (Some (Tenant line.tenant (Write line.place (record { items = take line.count bytes.new }))))) }
-    ensures within { IfSome result (λ line. line.len ≤ length rest.now) }
+pub fn read_write_line(bytes: &[u8], room: &mut [u8; MOST_BYTES]) -> Option<WriteLine>
+    ensures read { IfSome result
+        (λ line. ReadsAs bytes.now line.tenant (Write line.place (record { items = take line.count room.new })) line.len) }
     ensures few { IfSome result (λ line. line.count ≤ MOST_BYTES) }
 {
-    let tenant = number_at(rest, 0, MOST_TENANT_DIGITS)?;
-    if rest[tenant.end] != b' ' || four_at(rest, tenant.end + 1) != WRIT {
+    if bytes.len() < WINDOW {
         return None;
     }
-    rest_of_write(rest, tenant, bytes)
+    let tenant = number_at(bytes, 0, MOST_TENANT_DIGITS)?;
+    if bytes[tenant.end] != b' ' || four_at(bytes, tenant.end + 1) != WRIT {
+        return None;
+    }
+    rest_of_write(bytes, tenant, room)
 }
 
 #[inline(always)]

@@ -1,10 +1,9 @@
 //! The short path of a replay: the lines that make up a load, run one after the other.
 
-ghost use Rattle.std.specs.Prelude.{◌≡◌, ℕ, ◌+◌, ◌^◌, ◌<◌, ◌≤◌, List, Option, Some, Ok, length, take, is_err};
-ghost use Rattle.std.specs.Prelude.{IfSome, IfOk, MatchResult};
+ghost use Rattle.std.specs.Prelude.{◌≡◌, ℕ, ◌+◌, ◌^◌, ◌<◌, ◌≤◌, List, Option, Some, Ok, length, is_err};
+ghost use Rattle.std.specs.Prelude.{IfOk, MatchResult};
 ghost use Rattle.words_core.specs.declared.event.Event.TheVariants.{Tenant};
 ghost use Rattle.words_core.specs.declared.event.Command.TheVariants.{Read, Write};
-ghost use Rattle.quick_core.specs.Lines.{ReadsAs};
 ghost use Rattle.quick_core.specs.Quick.{quick_command};
 ghost use Rattle.parts_core.specs.Parts.{Parts};
 ghost use Rattle.replay_core.specs.declared.pending.Pending.{Pending};
@@ -17,7 +16,7 @@ use crate::run::Run;
 use kernel_core::Kernel;
 use model_core::limits::MOST_BYTES;
 use quick_core::{
-    BytesLine, QuickLine, Told, WINDOW, WriteLine, read_bytes_line, read_quick, read_write_line,
+    BytesLine, QuickLine, Told, WriteLine, read_bytes_line, read_quick, read_write_line,
 };
 
 impl Run {
@@ -43,13 +42,13 @@ impl Run {
         let mut room = [0; MOST_BYTES];
         let mut rest = piece;
         'lines: loop {
-            if let Some(line) = quick_line(rest) {
+            if let Some(line) = read_quick(rest) {
                 self.answer_quick(line, kernel, drain)?;
                 rest = &rest[line.len..];
-            } else if let Some(line) = line_of_read(rest) {
+            } else if let Some(line) = read_bytes_line(rest) {
                 self.answer_read(line, kernel, drain)?;
                 rest = &rest[line.len..];
-            } else if let Some(line) = line_of_write(rest, &mut room) {
+            } else if let Some(line) = read_write_line(rest, &mut room) {
                 self.answer_write(line, &room[..line.count], kernel, drain)?;
                 rest = &rest[line.len..];
             } else {
@@ -127,36 +126,4 @@ impl Run {
             None => self.replies.show_no_tenant(drain),
         }
     }
-}
-
-/// The line at the front of these bytes, where it is of the short path and lies in the first of them.
-#[inline(always)]
-fn quick_line(bytes: &[u8]) -> Option<QuickLine>
-    ensures { IfSome result (λ line. ReadsAs bytes.now line.tenant (quick_command line.command) line.len) }
-{
-    let window = bytes.first_chunk::<WINDOW>()?;
-    read_quick(window)
-}
-
-/// The read at the front of these bytes, where it is of the short path and lies in the first of them.
-#[inline(always)]
-fn line_of_read(bytes: &[u8]) -> Option<BytesLine>
-    ensures { IfSome result (λ line. ReadsAs bytes.now line.tenant (Read line.place line.asked) line.len) }
-{
-    let window = bytes.first_chunk::<WINDOW>()?;
-    read_bytes_line(window)
-}
-
-/// The write at the front of these bytes, where it is of the short path: what it stores are the first `count` bytes of
-/// `room` then.
-#[inline(always)]
-fn line_of_write(bytes: &[u8], room: &mut [u8; MOST_BYTES]) -> Option<WriteLine>
-    ensures read { IfSome result (λ line.
-        ReadsAs bytes.now line.tenant (Write line.place (record { items = take line.count room.new })) line.len) }
-    ensures few { IfSome result (λ line. line.count ≤ MOST_BYTES) }
-{
-    if bytes.len() < WINDOW {
-        return None;
-    }
-    read_write_line(bytes, room)
 }

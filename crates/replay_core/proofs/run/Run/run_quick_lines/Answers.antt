@@ -30,18 +30,18 @@ lines-preserved-in-Some g c =
 pub returns-in_err-answer_read-clause-ran : goal.returns-in_err-answer_read-clause-ran
 returns-in_err-answer_read-clause-ran g c only before given start pending holds stands =
     at_error _ _ c.from_residual-in_err-answer_read.result c.from_residual-in_err-answer_read.ensures.0
-    (λ _. line_stopped only before _ _ given c.lines.rest.now start _ _ _ _ _ _ c.in_err-answer_read.field-0.0 _ _ c.in-Some-line_of_read.line.len c.in-Some-line_of_read.ensures holds
+    (λ _. line_stopped only before _ _ given c.lines.rest.now start _ _ _ _ _ _ c.in_err-answer_read.field-0.0 _ _ c.in-Some-read_bytes_line.line.len c.in-Some-read_bytes_line.ensures holds
     (c.lines.invariant.0 only before given start pending holds stands) c.in_err-answer_read.ensures)
 
-pub lines-preserved-in-Some-line_of_read : goal.lines-preserved-in-Some-line_of_read
-lines-preserved-in-Some-line_of_read g c =
+pub lines-preserved-in-Some-read_bytes_line : goal.lines-preserved-in-Some-read_bytes_line
+lines-preserved-in-Some-read_bytes_line g c =
     let rest = c.lines.rest.now in
-    let read = c.in-Some-line_of_read.ensures in
+    let read = c.in-Some-read_bytes_line.ensures in
     let answered = c.in_ok-answer_read.ensures in
-    let left = left_over rest c.in-Some-line_of_read.line.len read.within in
-    rw (take_rest rest c.in-Some-line_of_read.line.len) (
+    let left = left_over rest c.in-Some-read_bytes_line.line.len read.within in
+    rw (take_rest rest c.in-Some-read_bytes_line.line.len) (
       λ only before given start pending holds stands.
-          line_done only before _ _ given rest start _ _ _ _ _ _ _ _ c.in-Some-line_of_read.line.len read holds (c.lines.invariant.0 only before given start pending holds stands) answered,
+          line_done only before _ _ given rest start _ _ _ _ _ _ _ _ c.in-Some-read_bytes_line.line.len read holds (c.lines.invariant.0 only before given start pending holds stands) answered,
       omega (arith, c.lines.invariant.1, left, read.some, answered.lines),
       omega (arith, c.lines.invariant.2, left),
       answered.failed,
@@ -50,18 +50,18 @@ lines-preserved-in-Some-line_of_read g c =
 pub returns-in_err-answer_write-clause-ran : goal.returns-in_err-answer_write-clause-ran
 returns-in_err-answer_write-clause-ran g c only before given start pending holds stands =
     at_error _ _ c.from_residual-in_err-answer_write.result c.from_residual-in_err-answer_write.ensures.0
-    (λ _. line_stopped only before _ _ given c.lines.rest.now start _ _ _ _ _ _ c.in_err-answer_write.field-0.0 _ _ c.in-Some-line_of_write.line.len c.in-Some-line_of_write.ensures.read holds
+    (λ _. line_stopped only before _ _ given c.lines.rest.now start _ _ _ _ _ _ c.in_err-answer_write.field-0.0 _ _ c.in-Some-read_write_line.line.len c.in-Some-read_write_line.ensures.read holds
     (c.lines.invariant.0 only before given start pending holds stands) c.in_err-answer_write.ensures)
 
 pub lines-preserved : goal.lines-preserved
 lines-preserved g c =
     let rest = c.lines.rest.now in
-    let read = c.in-Some-line_of_write.ensures.read in
+    let read = c.in-Some-read_write_line.ensures.read in
     let answered = c.in_ok-answer_write.ensures in
-    let left = left_over rest c.in-Some-line_of_write.line.len read.within in
-    rw (take_rest rest c.in-Some-line_of_write.line.len) (
+    let left = left_over rest c.in-Some-read_write_line.line.len read.within in
+    rw (take_rest rest c.in-Some-read_write_line.line.len) (
       λ only before given start pending holds stands.
-          line_done only before _ _ given rest start _ _ _ _ _ _ _ _ c.in-Some-line_of_write.line.len read holds (c.lines.invariant.0 only before given start pending holds stands) answered,
+          line_done only before _ _ given rest start _ _ _ _ _ _ _ _ c.in-Some-read_write_line.line.len read holds (c.lines.invariant.0 only before given start pending holds stands) answered,
       omega (arith, c.lines.invariant.1, left, read.some, answered.lines),
       omega (arith, c.lines.invariant.2, left),
       answered.failed,
