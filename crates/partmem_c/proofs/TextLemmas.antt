@@ -1,9 +1,16 @@
 -- A text written part by part.
-use Rattle.std.proofs.Common.{◌≡◌, ℕ, ◌+◌, ◌==◌, Bool, true, false, ◌||◌, List, [], ◌∷◌, ◌++◌, length, take, drop, refl, sym, ap, ◌∙◌, arith, append_assoc, length-append}
+use Rattle.std.proofs.Common.{◌≡◌, ℕ, ◌+◌, ◌-◌, ◌==◌, Bool, true, false, ◌||◌, List, [], ◌∷◌, ◌++◌, Some, Ok, length, take, drop, position, refl, sym, ap, ◌∙◌, arith, append_assoc, length-append}
 use Rattle.std.proofs.lemmas.List.{append-nil}
 use Rattle.std.proofs.lemmas.Slice.{drop-append-drop}
+use Rattle.std.specs.List.{position_from}
+use Rattle.std.proofs.lemmas.Iterator.Adapters.{position_from-zero}
+use Rattle.words_core.specs.Grammar.{reading_of}
+use Rattle.words_core.specs.declared.event.Command.{Command}
+use Rattle.words_core.specs.declared.event.Event.TheVariants.{Tenant}
+use Rattle.quick_core.specs.Lines.{ReadsAs}
+use Rattle.parts_core.specs.Parts.{Parts}
 use Rattle.replay_core.specs.Standing.{IsOneLine}
-use Rattle.partmem_c.specs.Lines.{has_line_feed, IsTextWritten}
+use Rattle.partmem_c.specs.Lines.{has_line_feed, AnswersLine, IsTextWritten}
 
 neither : (x y : Bool) → (x || y) ≡ false → (x ≡ false) × (y ≡ false)
 neither false y h = (refl, h)
@@ -43,3 +50,41 @@ written_more text rest line after room now then written written' had cut put cou
       )
           (sym (append_assoc had.front line (drop (length had.front + length line) room)));
     }
+
+-- a line with its line feed in front of other bytes
+pub ended_put : (line old mid out : List ℕ) → mid ≡ take 0 old ++ (line ++ drop (0 + length line) old)
+    → out ≡ take (length line) mid ++ (10 ∷ [] ++ drop (length line + 1) mid)
+    → out ≡ line ++ 10 ∷ drop (length line + 1) old
+ended_put line old mid out first second =
+    let from : 0 + length line ≡ length line = omega arith in
+    let line_first : mid ≡ line ++ drop (length line) old = first ∙ ap (λ n. line ++ drop n old) from in
+    let rest : drop (length line + 1) mid ≡ drop (length line + 1) old = ap (drop (length line + 1)) line_first
+    ∙ drop-append-drop (length line) old line (length line + 1) (omega arith) refl in
+    let front : take (length line) mid ≡ line = ap (take (length line)) line_first ∙ take-front line (drop (length line) old) in
+    second ∙ ap (λ xs. xs ++ 10 ∷ drop (length line + 1) mid) front ∙ ap (λ xs. line ++ 10 ∷ xs) rest
+
+-- where its line feed is found
+found_end : (k : ℕ) (line rest : List ℕ) → has_line_feed line ≡ false → position_from (λ b. b == 10) k (line ++ 10 ∷ rest) ≡ Some (k + length line)
+found_end k [] rest none = ap (λ n. Some n) (omega arith)
+found_end k (b ∷ line) rest none =
+    let facts = neither (b == 10) (has_line_feed line) none in
+    rw facts.0 (found_end (k + 1) line rest facts.1 ∙ ap (λ n. Some n) (omega arith))
+
+some_same : (n m : ℕ) → Some n ≡ Some m → n ≡ m
+some_same n m same = cc
+
+-- what is read of these bytes is what the line reads as
+pub line_reads : (line rest bytes : List ℕ) (tenant : ℕ) (command : Command) (len : ℕ) → has_line_feed line ≡ false
+    → bytes ≡ line ++ 10 ∷ rest → ReadsAs bytes tenant command len → reading_of line ≡ Ok (Some (Tenant tenant command))
+line_reads line rest bytes tenant command len none are read =
+    let at : position (λ b. b == 10) bytes ≡ Some (length line) =
+    ap (position (λ b. b == 10)) are ∙ position_from-zero (λ b. b == 10) (line ++ 10 ∷ rest) ∙ found_end 0 line rest none ∙ ap (λ n. Some n) (omega arith) in
+    let end : len - 1 ≡ length line = some_same _ _ (sym read.ended ∙ at) in
+    ap reading_of (sym (ap (take (len - 1)) are ∙ ap (λ n. take n (line ++ 10 ∷ rest)) end ∙ take-front line (10 ∷ rest))) ∙ read.reading
+
+-- so it is answered as that
+pub line_answered : (k k' : Parts) (line rest bytes text : List ℕ) (tenant : ℕ) (command : Command) (len : ℕ) → has_line_feed line ≡ false
+    → bytes ≡ line ++ 10 ∷ rest → ReadsAs bytes tenant command len
+    → AnswersLine k (Ok (Some (Tenant tenant command))) k' text → AnswersLine k (reading_of line) k' text
+line_answered k k' line rest bytes text tenant command len none are read answers =
+    rw (line_reads line rest bytes tenant command len none are read) answers

@@ -108,15 +108,19 @@ event_status held a bytes room =
     if not (is_some held) then NO_MACHINE
     else (if is_none (asked_event a bytes) then NOT_AN_EVENT else (if nat_lt (length room) MOST_BYTES then NO_ROOM else DONE))
 
--- the event was a step of the kernel that was held, and was answered by these told_of_numbers and bytes
+-- the event was a step of the kernel, and was answered by these numbers and bytes
+pub record AnswersEvent (old : Parts) (event : Event) (new : Parts) (told : Told) (room room' : List ℕ) : Type 0 where
+  pub reply : Reply
+  pub steps : Steps old event new reply
+  pub numbers_told : told ≡ told_of reply.body
+  pub over : room' ≡ answered_bytes reply.body ++ drop (length (answered_bytes reply.body)) room
+
+-- the numbers and bytes say an event, which was run on the kernel that was held
 pub record RunsEvent (old new : Option Parts) (a : Asked) (bytes : List ℕ) (told : Told) (room room' : List ℕ) : Type 0 where
   pub before : Parts
   pub after : Parts
   pub event : Event
-  pub reply : Reply
   pub was : old ≡ Some before
   pub is : new ≡ Some after
   pub says : asked_event a bytes ≡ Some event
-  pub steps : Steps before event after reply
-  pub numbers_told : told ≡ told_of reply.body
-  pub over : room' ≡ answered_bytes reply.body ++ drop (length (answered_bytes reply.body)) room
+  pub answers : AnswersEvent before event after told room room'

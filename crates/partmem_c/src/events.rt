@@ -1,15 +1,22 @@
 //! Events run one at a time, without words.
 
-ghost use Rattle.std.specs.Prelude.{◌≡◌, ◌≢◌};
-ghost use Rattle.partmem_c.specs.Events.{event_status, RunsEvent};
+ghost use Rattle.std.specs.Prelude.{◌≡◌, ◌≢◌, ◌≤◌, ℕ, List, length, IsSome, IfSome};
+ghost use Rattle.words_core.specs.declared.event.Event.TheVariants.{Tenant};
+ghost use Rattle.words_core.specs.declared.event.Command.TheVariants.{Read, Write};
+ghost use Rattle.quick_core.specs.Quick.{quick_command};
+ghost use Rattle.partmem_c.specs.Events.{asked_event, event_status, AnswersEvent, RunsEvent};
 
-use crate::asking::{Asked, event_of};
+use crate::asking::{Asked, event_of, is_event, quick_of};
+use crate::kinds::{READ, WRITE};
 use crate::lines::put;
 use crate::machine::Machine;
 use crate::status::{DONE, NO_MACHINE, NO_ROOM, NOT_AN_EVENT};
-use crate::telling::{Told, bytes_of, told_of};
+use crate::telling::{Told, bytes_of, read_told, refused, told_of, told_of_quick, written_told};
+use kernel_core::Kernel;
 use model_core::limits::MOST_BYTES;
+use quick_core::Quick;
 use std::alloc::Global;
+use words_core::Refusal;
 
 /// Runs an event that numbers say, with the bytes that it writes or constructs objects of, and tells its answer.
 ///
@@ -31,16 +38,81 @@ pub extern "C" fn partmem_event(
     if !machine.is_booted() {
         return NO_MACHINE;
     }
-    let Some(event) = event_of(asked, bytes) else {
+    if !is_event(asked, bytes) {
         return NOT_AN_EVENT;
-    };
+    }
     if room.len() < MOST_BYTES {
         return NO_ROOM;
     }
     let mut kernel = machine.take_out(alloc);
-    let reply = kernel.step(&event);
+    *told = run_event(&mut kernel, asked, bytes, room);
     machine.put_in(kernel);
-    put(bytes_of(&reply.body), room, 0);
-    *told = told_of(&reply.body);
     DONE
+}
+
+/// Runs the event that the numbers and bytes say, and tells its answer: the events of a load in few instructions.
+#[inline(always)]
+fn run_event(kernel: &mut Kernel, asked: &Asked, bytes: &[u8], room: &mut [u8]) -> Told
+    requires event { IsSome (asked_event asked.now bytes.now) }
+    requires room { MOST_BYTES ≤ length room.old }
+    ensures { IfSome (asked_event asked.now bytes.now) (λ event. AnswersEvent kernel.old event kernel.new result room.old room.new) }
+{
+    if let Some(command) = quick_of(asked) {
+        return ask(kernel, asked.tenant, command);
+    }
+    match asked.kind {
+        READ => read(kernel, asked.tenant, asked.first, asked.second, room),
+        WRITE => write(kernel, asked.tenant, asked.first, bytes),
+        _ => run_rare(kernel, asked, bytes, room),
+    }
+}
+
+#[inline(always)]
+fn ask(kernel: &mut Kernel, tenant: u32, command: Quick) -> Told
+    ensures { (room : List ℕ) → AnswersEvent kernel.old (Tenant tenant (quick_command command)) kernel.new result room room }
+{
+    match kernel.ask_quick(tenant, command) {
+        Some((_, told)) => told_of_quick(told),
+        None => refused(Refusal::NoTenant),
+    }
+}
+
+/// Puts the bytes that are read over the first of `room`.
+fn read(kernel: &Kernel, tenant: u32, place: u32, asked: u32, room: &mut [u8]) -> Told
+    requires { MOST_BYTES ≤ length room.old }
+    ensures { AnswersEvent kernel.now (Tenant tenant (Read place asked)) kernel.now result room.old room.new }
+{
+    match kernel.read_quick(tenant, place, asked) {
+        Some((_, Ok(bytes))) => {
+            put(bytes, room, 0);
+            read_told(bytes.len())
+        }
+        Some((_, Err(refusal))) => refused(refusal),
+        None => refused(Refusal::NoTenant),
+    }
+}
+
+fn write(kernel: &mut Kernel, tenant: u32, place: u32, bytes: &[u8]) -> Told
+    requires { length bytes.now ≤ MOST_BYTES }
+    ensures { (room : List ℕ) → AnswersEvent kernel.old (Tenant tenant (Write place (record { items = bytes.now }))) kernel.new result room room }
+{
+    match kernel.write_quick(tenant, place, bytes) {
+        Some((_, Ok(count))) => written_told(count),
+        Some((_, Err(refusal))) => refused(refusal),
+        None => refused(Refusal::NoTenant),
+    }
+}
+
+/// [`run_event`] by way of a reply, which has room for the owners of all superblocks; out of line, since all of it is cleared.
+#[cold]
+#[inline(never)]
+fn run_rare(kernel: &mut Kernel, asked: &Asked, bytes: &[u8], room: &mut [u8]) -> Told
+    requires event { IsSome (asked_event asked.now bytes.now) }
+    requires room { MOST_BYTES ≤ length room.old }
+    ensures { IfSome (asked_event asked.now bytes.now) (λ event. AnswersEvent kernel.old event kernel.new result room.old room.new) }
+{
+    let event = event_of(asked, bytes).unwrap();
+    let reply = kernel.step(&event);
+    put(bytes_of(&reply.body), room, 0);
+    told_of(&reply.body)
 }

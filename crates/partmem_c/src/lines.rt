@@ -1,8 +1,15 @@
 //! Lines of a trace, run one at a time.
 
-ghost use Rattle.std.specs.Prelude.{◌≡◌, ◌≢◌, ℕ, ◌+◌, ◌<◌, ◌≤◌, ◌++◌, List, length, take, drop};
+ghost use Rattle.std.specs.Prelude.{◌≡◌, ◌≢◌, ℕ, ◌+◌, ◌<◌, ◌≤◌, ◌∷◌, ◌++◌, false, List, length, take, drop, Some, Ok, MatchOption};
 ghost use Rattle.words_core.specs.Grammar.{reading_of};
 ghost use Rattle.words_core.specs.Texts.{text_of};
+ghost use Rattle.words_core.specs.Answers.{reply_of};
+ghost use Rattle.words_core.specs.declared.event.Event.TheVariants.{Tenant, Admin};
+ghost use Rattle.words_core.specs.declared.event.Command.TheVariants.{Read, Write, Report};
+ghost use Rattle.words_core.specs.declared.reply.Addressee.TheVariants as Addressee;
+ghost use Rattle.words_core.specs.declared.reply.Body.TheVariants as Body;
+ghost use Rattle.words_core.specs.declared.reply.Refusal.TheVariants.{NoTenant};
+ghost use Rattle.quick_core.specs.Quick.{quick_command, reply_of_told, reply_of_bytes, reply_of_written};
 ghost use Rattle.replay_core.specs.Pushes.{most_reply_bytes};
 ghost use Rattle.replay_core.specs.Standing.{IsRunnable};
 ghost use Rattle.parts_core.specs.Parts.{Parts};
@@ -12,10 +19,15 @@ use crate::machine::Machine;
 use crate::status::{DONE, NO_MACHINE, NO_ROOM, NOT_A_LINE};
 use arrayvec::ArrayVec;
 use kernel_core::Kernel;
+use model_core::limits::MOST_BYTES;
+use quick_core::{
+    BytesLine, MOST_BYTES_TEXT, QuickLine, Told, WINDOW, WriteLine, read_bytes_line, read_quick,
+    read_write_line, write_bytes, write_quick, write_written,
+};
 use std::alloc::Global;
 use words_core::{
-    Addressee, Body, Event, LineFault, MOST_REPLY_BYTES, MOST_ROWS, Reply, read_line, rows,
-    write_line,
+    Addressee, AdminCommand, Answer, Body, Event, LineFault, MOST_REPLY_BYTES, MOST_ROWS, Refusal,
+    Reply, Said, read_line, rows, write_answer, write_line,
 };
 
 /// No line is answered by more bytes than these: the owners of all superblocks, with a line in front of them.
@@ -54,37 +66,203 @@ pub extern "C" fn partmem_line(
     DONE
 }
 
+/// Room for a line of the short path with its line feed: a tenant, a word, a place, and bytes in hex.
+const MOST_SHORT_LINE: usize = 160;
+
 /// Runs a line on the kernel, writes what it is answered over the first bytes of `room`, and answers how many.
+#[inline(always)]
 fn run_line(kernel: &mut Kernel, line: &[u8], room: &mut [u8]) -> usize
-    requires { most_reply_bytes ≤ length room.old }
+    requires one { has_line_feed line.now ≡ false }
+    requires room { most_reply_bytes ≤ length room.old }
     ensures { (text : List ℕ) × AnswersLine kernel.old (reading_of line.now) kernel.new text × IsTextWritten text room.old room.new result }
 {
-    answer(read_line(line), kernel, room)
+    match run_short(kernel, line, room) {
+        Some(written) => written,
+        None => answer(read_line(line), kernel, room),
+    }
 }
 
-/// Runs a line that was read so.
+/// [`run_line`] of a line of the short path; None, and nothing is done, where it isn't one, or where that is not sure.
+#[inline(always)]
+fn run_short(kernel: &mut Kernel, line: &[u8], room: &mut [u8]) -> Option<usize>
+    requires one { has_line_feed line.now ≡ false }
+    requires room { most_reply_bytes ≤ length room.old }
+    ensures { MatchOption result ((kernel.new ≡ kernel.old) × (room.new ≡ room.old))
+        (λ written. (text : List ℕ) × AnswersLine kernel.old (reading_of line.now) kernel.new text × IsTextWritten text room.old room.new written) }
+{
+    if line.len() >= MOST_SHORT_LINE {
+        return None;
+    }
+    let mut ended = [0; MOST_SHORT_LINE];
+    put_ended(line, &mut ended);
+    if let Some(quick) = read_quick(&ended) {
+        return Some(answer_quick(quick, kernel, room));
+    }
+    if let Some(read) = read_bytes_line(&ended) {
+        return Some(answer_read(read, kernel, room));
+    }
+    let mut bytes = [0; MOST_BYTES];
+    let write = read_write_line(&ended, &mut bytes)?;
+    Some(answer_write(write, &bytes[..write.count], kernel, room))
+}
+
+/// Puts a line over the first bytes, and a line feed behind it.
+#[inline(always)]
+fn put_ended(line: &[u8], out: &mut [u8; MOST_SHORT_LINE])
+    requires { length line.now < MOST_SHORT_LINE }
+    ensures { out.new ≡ line.now ++ 10 ∷ drop (length line.now + 1) out.old }
+{
+    put(line, out, 0);
+    put(b"\n", out, line.len());
+}
+
+#[inline(always)]
+fn answer_quick(line: QuickLine, kernel: &mut Kernel, room: &mut [u8]) -> usize
+    requires { most_reply_bytes ≤ length room.old }
+    ensures { (text : List ℕ) × AnswersLine kernel.old (Ok (Some (Tenant line.tenant (quick_command line.command)))) kernel.new text
+        × IsTextWritten text room.old room.new result }
+{
+    match kernel.ask_quick(line.tenant, line.command) {
+        Some((tenant, told)) => put_told(tenant, told, room),
+        None => put_no_tenant(room),
+    }
+}
+
+fn answer_read(line: BytesLine, kernel: &Kernel, room: &mut [u8]) -> usize
+    requires { most_reply_bytes ≤ length room.old }
+    ensures { (text : List ℕ) × AnswersLine kernel.now (Ok (Some (Tenant line.tenant (Read line.place line.asked)))) kernel.now text
+        × IsTextWritten text room.old room.new result }
+{
+    match kernel.read_quick(line.tenant, line.place, line.asked) {
+        Some((tenant, Ok(bytes))) => put_read(tenant, bytes, room),
+        Some((tenant, Err(refusal))) => put_told(tenant, Told::Refused(refusal), room),
+        None => put_no_tenant(room),
+    }
+}
+
+fn answer_write(line: WriteLine, bytes: &[u8], kernel: &mut Kernel, room: &mut [u8]) -> usize
+    requires few { length bytes.now ≤ MOST_BYTES }
+    requires room { most_reply_bytes ≤ length room.old }
+    ensures { (text : List ℕ) × AnswersLine kernel.old (Ok (Some (Tenant line.tenant (Write line.place (record { items = bytes.now }))))) kernel.new text
+        × IsTextWritten text room.old room.new result }
+{
+    match kernel.write_quick(line.tenant, line.place, bytes) {
+        Some((tenant, Ok(count))) => put_written(tenant, count, room),
+        Some((tenant, Err(refusal))) => put_told(tenant, Told::Refused(refusal), room),
+        None => put_no_tenant(room),
+    }
+}
+
+/// Writes what a tenant is told over the first bytes of `room`, and answers how many they are; so do the others.
+#[inline(always)]
+fn put_told(tenant: u8, told: Told, room: &mut [u8]) -> usize
+    requires { most_reply_bytes ≤ length room.old }
+    ensures { IsTextWritten (text_of (reply_of_told tenant told)) room.old room.new result }
+{
+    let mut text = [0; WINDOW];
+    let len = write_quick(tenant, told, &mut text);
+    put(&text[..len], room, 0);
+    len
+}
+
+fn put_read(tenant: u8, bytes: &[u8], room: &mut [u8]) -> usize
+    requires few { length bytes.now ≤ MOST_BYTES }
+    requires room { most_reply_bytes ≤ length room.old }
+    ensures { IsTextWritten (text_of (reply_of_bytes tenant bytes.now)) room.old room.new result }
+{
+    let mut text = [0; MOST_BYTES_TEXT];
+    let len = write_bytes(tenant, bytes, &mut text);
+    put(&text[..len], room, 0);
+    len
+}
+
+fn put_written(tenant: u8, count: u32, room: &mut [u8]) -> usize
+    requires few { count < 1000 }
+    requires room { most_reply_bytes ≤ length room.old }
+    ensures { IsTextWritten (text_of (reply_of_written tenant count)) room.old room.new result }
+{
+    let mut text = [0; WINDOW];
+    let len = write_written(tenant, count, &mut text);
+    put(&text[..len], room, 0);
+    len
+}
+
+#[cold]
+#[inline(never)]
+fn put_no_tenant(room: &mut [u8]) -> usize
+    requires { most_reply_bytes ≤ length room.old }
+    ensures { IsTextWritten (text_of (record { addressee = Addressee.Nobody; body = Body.Refused NoTenant })) room.old room.new result }
+{
+    let answer = Answer {
+        addressee: Addressee::Nobody,
+        said: Said::Refused(Refusal::NoTenant),
+    };
+    put_answer(&answer, room)
+}
+
+/// Runs a line that was read so, and writes what it is answered.
+#[cold]
+#[inline(never)]
 fn answer(reading: Result<Option<Event>, LineFault>, kernel: &mut Kernel, room: &mut [u8]) -> usize
     requires runnable { IsRunnable reading }
     requires room { most_reply_bytes ≤ length room.old }
     ensures { (text : List ℕ) × AnswersLine kernel.old reading kernel.new text × IsTextWritten text room.old room.new result }
 {
-    let event = match reading {
-        Ok(None) => return 0,
-        Ok(Some(event)) => event,
-        Err(fault) => {
-            let reply = Reply {
-                addressee: Addressee::Nobody,
-                body: Body::Fault(fault),
-            };
-            return write_reply(&reply, room);
-        }
-    };
-    let reply = kernel.step(&event);
-    write_reply(&reply, room)
+    match reading {
+        Ok(None) => 0,
+        Ok(Some(Event::Tenant(tenant, command))) => match kernel.ask(tenant, &command) {
+            Some(answer) => put_answer(&answer, room),
+            None => put_report(tenant, kernel, room),
+        },
+        Ok(Some(Event::Admin(command))) => administer(&command, kernel, room),
+        Err(fault) => put_fault(fault, room),
+    }
 }
 
-/// Writes the text of a reply over the first bytes of `room`, and answers how many they are.
-fn write_reply(reply: &Reply, room: &mut [u8]) -> usize
+fn put_answer(answer: &Answer, room: &mut [u8]) -> usize
+    requires { most_reply_bytes ≤ length room.old }
+    ensures { IsTextWritten (text_of (reply_of answer.now)) room.old room.new result }
+{
+    let mut line = ArrayVec::new();
+    write_answer(answer, &mut line);
+    put(line.as_slice(), room, 0);
+    line.len()
+}
+
+/// By itself, as all that takes room for a reply, which no other line pays for.
+#[cold]
+#[inline(never)]
+fn put_report(tenant: u32, kernel: &Kernel, room: &mut [u8]) -> usize
+    requires { most_reply_bytes ≤ length room.old }
+    ensures { (text : List ℕ) × AnswersLine kernel.now (Ok (Some (Tenant tenant Report))) kernel.now text × IsTextWritten text room.old room.new result }
+{
+    put_reply(&kernel.report(tenant), room)
+}
+
+#[cold]
+#[inline(never)]
+fn administer(command: &AdminCommand, kernel: &mut Kernel, room: &mut [u8]) -> usize
+    requires { most_reply_bytes ≤ length room.old }
+    ensures { (text : List ℕ) × AnswersLine kernel.old (Ok (Some (Admin command.now))) kernel.new text × IsTextWritten text room.old room.new result }
+{
+    put_reply(&kernel.administer(command), room)
+}
+
+#[cold]
+#[inline(never)]
+fn put_fault(fault: LineFault, room: &mut [u8]) -> usize
+    requires { most_reply_bytes ≤ length room.old }
+    ensures { IsTextWritten (text_of (record { addressee = Addressee.Nobody; body = Body.Fault fault })) room.old room.new result }
+{
+    let reply = Reply {
+        addressee: Addressee::Nobody,
+        body: Body::Fault(fault),
+    };
+    put_reply(&reply, room)
+}
+
+/// Writes the text of a reply, line by line.
+fn put_reply(reply: &Reply, room: &mut [u8]) -> usize
     requires { most_reply_bytes ≤ length room.old }
     ensures { IsTextWritten (text_of reply.now) room.old room.new result }
 {
@@ -99,6 +277,7 @@ fn write_reply(reply: &Reply, room: &mut [u8]) -> usize
 }
 
 /// Puts bytes into the room, from number `at` on.
+#[inline(always)]
 pub(crate) fn put(bytes: &[u8], room: &mut [u8], at: usize)
     requires { at + length bytes.now ≤ length room.old }
     ensures { room.new ≡ take at room.old ++ (bytes.now ++ drop (at + length bytes.now) room.old) }

@@ -1,6 +1,8 @@
 //! A reply as numbers and bytes.
 
 ghost use Rattle.std.specs.Prelude.{◌≡◌, ◌≤◌, length};
+ghost use Rattle.words_core.specs.declared.reply.Body.TheVariants.{Written, Refused};
+ghost use Rattle.quick_core.specs.Quick.{body_of_told};
 ghost use Rattle.partmem_c.specs.Events.{told_of, answered_bytes, told_of_numbers, top_number};
 
 use crate::kinds::{
@@ -8,7 +10,7 @@ use crate::kinds::{
     REAPED, REFUSED, TAKEN_BACK, WAS_RESET, WRITTEN,
 };
 use model_core::limits::MOST_BYTES;
-use words_core::Body;
+use words_core::{Body, Refusal};
 
 /// What an event is answered, as numbers in the order that [`crate::kinds`] says of each kind; all others are 0.
 #[repr(C)]
@@ -83,17 +85,58 @@ pub fn told_of(body: &Body) -> Told
             fourth: top_number(report.top),
             fifth: report.split,
         },
-        Body::Refused(refusal) => one(REFUSED, u32::from(refusal.number())),
+        Body::Refused(refusal) => refused(*refusal),
         Body::Fault(_) => one(NOTHING, 0),
     }
 }
 
+/// An answer of the short path as numbers.
+#[inline(always)]
+pub fn told_of_quick(told: quick_core::Told) -> Told
+    ensures { result ≡ told_of (body_of_told told) }
+{
+    match told {
+        quick_core::Told::Frame(frame) => one(FRAME, frame),
+        quick_core::Told::Freed(order) => one(FREED, u32::from(order)),
+        quick_core::Told::Object(place) => one(OBJECT, place),
+        quick_core::Told::Given => one(GIVEN, 0),
+        quick_core::Told::Refused(refusal) => refused(refusal),
+    }
+}
+
+/// A refusal as numbers.
+#[inline(always)]
+pub fn refused(refusal: Refusal) -> Told
+    ensures { result ≡ told_of (Refused refusal) }
+{
+    one(REFUSED, u32::from(refusal.number()))
+}
+
+/// That so many bytes were read.
+#[inline(always)]
+pub fn read_told(count: usize) -> Told
+    requires { count ≤ MOST_BYTES }
+    ensures { result ≡ told_of_numbers BYTES count 0 0 0 0 }
+{
+    one(BYTES, count as u32)
+}
+
+/// That so many bytes were written.
+#[inline(always)]
+pub fn written_told(count: u32) -> Told
+    ensures { result ≡ told_of (Written count) }
+{
+    one(WRITTEN, count)
+}
+
+#[inline(always)]
 fn one(kind: u32, first: u32) -> Told
     ensures { result ≡ told_of_numbers kind first 0 0 0 0 }
 {
     three(kind, first, 0, 0)
 }
 
+#[inline(always)]
 fn three(kind: u32, first: u32, second: u32, third: u32) -> Told
     ensures { result ≡ told_of_numbers kind first second third 0 0 }
 {

@@ -5,6 +5,9 @@ use Rattle.partmem_c.specs.Lines.{AnswersLine}
 use Rattle.partmem_c.proofs.TextLemmas.{one_line}
 use Rattle.partmem_c.proofs.lines.partmem_line.Goals as goal
 
+pub run_line-requires-clause-one : goal.run_line-requires-clause-one
+run_line-requires-clause-one c = sym c.contains.ensures.value ∙ c.if-contains.false
+
 pub returns-clause-done : goal.returns-clause-done
 returns-clause-done c = λ done. record {
   before = c.take_out-kernel.result.value;

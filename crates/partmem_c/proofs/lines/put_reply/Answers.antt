@@ -2,7 +2,7 @@ use Rattle.std.proofs.Common.{◌+◌, length, Some, sym, ap, ◌∙◌, arith}
 use Rattle.words_core.specs.Texts.{lines_of, text_of}
 use Rattle.replay_core.proofs.PushLemmas.{row_next}
 use Rattle.partmem_c.proofs.TextLemmas.{written_more}
-use Rattle.partmem_c.proofs.lines.write_reply.Goals as goal
+use Rattle.partmem_c.proofs.lines.put_reply.Goals as goal
 
 pub loop-row-preserved : goal.loop-row-preserved
 loop-row-preserved c =

@@ -1,0 +1,225 @@
+/* Runs the lines of a trace by the static library, or by malloc and free, and prints the nanoseconds of a call.
+ *
+ *     library HOW ORDER SUPERBLOCKS TENANTS TRACE
+ *
+ * HOW is `event` (partmem_event), `line` (partmem_line) or `malloc`. The calls are made in turn on a machine just booted, with all
+ * that is passed to them made before, and what they answer is thrown away. For malloc a page block or an object is a block of as
+ * many bytes, whose first byte is written; lines that neither take nor give are left out. The allocator that is linked or
+ * preloaded is the one that is measured.
+ */
+#define _POSIX_C_SOURCE 200809L
+#include <stdio.h>
+#include <stdlib.h>
+#include <string.h>
+#include <time.h>
+
+#include "partmem.h"
+
+enum { MOST_CACHES = 32, MOST_TENANTS = 64, FRAME_BYTES = 4096 };
+
+/* what malloc has to do for a line */
+enum deed { NOTHING, TAKE, GIVE };
+
+struct call {
+    partmem_asked asked;
+    const char *line;
+    size_t line_len;
+    uint8_t bytes[PARTMEM_MOST_BYTES];
+    size_t bytes_len;
+    enum deed deed;
+    size_t block; /* how many blocks were taken before it */
+    size_t size;
+};
+
+static struct call *calls;
+static size_t call_count, block_count;
+static partmem_machine machine;
+static uint8_t room[PARTMEM_MOST_TEXT_BYTES];
+
+static void check(int holds, const char *what) {
+    if (!holds) {
+        fprintf(stderr, "library: %s\n", what);
+        exit(1);
+    }
+}
+
+static void *some(size_t count, size_t size) {
+    void *made = calloc(count ? count : 1, size);
+    check(made != NULL, "not enough memory");
+    return made;
+}
+
+static size_t from_hex(const char *hex, uint8_t *bytes) {
+    size_t count = strlen(hex) / 2;
+    check(count <= PARTMEM_MOST_BYTES, "too many bytes in a line");
+    for (size_t i = 0; i < count; i++) {
+        char pair[3] = {hex[2 * i], hex[2 * i + 1], 0};
+        bytes[i] = (uint8_t)strtoul(pair, NULL, 16);
+    }
+    return count;
+}
+
+/* The event of a line of a load. */
+static void understand(struct call *call) {
+    static const struct { const char *word; uint32_t kind; } kinds[] = {
+        {"alloc", PARTMEM_ALLOC}, {"free", PARTMEM_FREE}, {"read", PARTMEM_READ},       {"write", PARTMEM_WRITE},
+        {"cache", PARTMEM_CACHE}, {"take", PARTMEM_TAKE}, {"destroy", PARTMEM_DESTROY}, {"give", PARTMEM_GIVE},
+        {"reap", PARTMEM_REAP},   {"report", PARTMEM_REPORT},
+    };
+    char first[16], word[16], numbers[3][140] = {"", "", ""};
+    int found = sscanf(call->line, "%15s %15s %139s %139s %139s", first, word, numbers[0], numbers[1], numbers[2]);
+    check(found >= 2, "a line has too few words");
+    partmem_asked *asked = &call->asked;
+    if (strcmp(first, "admin") == 0) {
+        check(strcmp(word, "grant") == 0, "of the administrator a load has grants alone");
+        *asked = (partmem_asked){PARTMEM_GRANT, (uint32_t)atol(numbers[0]), 0, 0};
+        return;
+    }
+    *asked = (partmem_asked){0, (uint32_t)atol(first), (uint32_t)atol(numbers[0]), (uint32_t)atol(numbers[1])};
+    for (size_t i = 0; i < sizeof kinds / sizeof *kinds; i++) {
+        if (strcmp(word, kinds[i].word) == 0) {
+            asked->kind = kinds[i].kind;
+        }
+    }
+    if (asked->kind == PARTMEM_WRITE || asked->kind == PARTMEM_CACHE) {
+        call->bytes_len = from_hex(numbers[asked->kind == PARTMEM_WRITE ? 1 : 2], call->bytes);
+    }
+}
+
+static void read_trace(const char *path) {
+    FILE *file = fopen(path, "r");
+    char *line = NULL;
+    size_t size = 0, most = 0;
+    ssize_t len;
+    check(file != NULL, "the trace can't be opened");
+    while ((len = getline(&line, &size, file)) > 0) {
+        if (call_count == most) {
+            most = most ? 2 * most : 1024;
+            calls = realloc(calls, most * sizeof *calls);
+            check(calls != NULL, "not enough memory");
+        }
+        struct call *call = &calls[call_count++];
+        *call = (struct call){.line_len = (size_t)len - (line[len - 1] == '\n')};
+        char *held = some(call->line_len + 1, 1);
+        call->line = memcpy(held, line, call->line_len);
+        understand(call);
+    }
+    free(line);
+    fclose(file);
+}
+
+static void boot(char **sizes) {
+    check(partmem_boot(&machine, (uint32_t)atol(sizes[0]), (uint32_t)atol(sizes[1]), (uint32_t)atol(sizes[2])) == PARTMEM_DONE, "boot");
+}
+
+static partmem_told run(const struct call *call) {
+    partmem_told told;
+    check(partmem_event(&machine, &call->asked, call->bytes, call->bytes_len, &told, room, sizeof room) == PARTMEM_DONE, "event");
+    return told;
+}
+
+/* What malloc has to do for each line, by what the library answers it: which block begins at a frame, and which object at a place. */
+static void plan(char **sizes) {
+    size_t frames = (size_t)atol(sizes[1]) << atol(sizes[0]), granules = frames * FRAME_BYTES / 8;
+    static size_t chunk[MOST_TENANTS][MOST_CACHES];
+    uint32_t *of_frame[MOST_TENANTS], *of_place[MOST_TENANTS];
+    for (size_t tenant = 0; tenant < MOST_TENANTS; tenant++) {
+        of_frame[tenant] = some(frames, sizeof **of_frame);
+        of_place[tenant] = some(granules, sizeof **of_place);
+    }
+    boot(sizes);
+    for (size_t i = 0; i < call_count; i++) {
+        struct call *call = &calls[i];
+        const partmem_asked *asked = &call->asked;
+        partmem_told told = run(call);
+        check(asked->tenant < MOST_TENANTS, "a load has no such tenant");
+        uint32_t *frame = of_frame[asked->tenant], *place = of_place[asked->tenant];
+        switch (told.kind) {
+        case PARTMEM_FRAME:
+            frame[told.first] = (uint32_t)block_count;
+            call->deed = TAKE, call->block = block_count++, call->size = (size_t)FRAME_BYTES << asked->first;
+            break;
+        case PARTMEM_MADE:
+            chunk[asked->tenant][told.first] = asked->first;
+            break;
+        case PARTMEM_OBJECT:
+            place[told.first / 8] = (uint32_t)block_count;
+            call->deed = TAKE, call->block = block_count++, call->size = chunk[asked->tenant][asked->first];
+            break;
+        case PARTMEM_FREED:
+            call->deed = GIVE, call->block = frame[asked->first];
+            break;
+        case PARTMEM_GIVEN:
+            call->deed = GIVE, call->block = place[asked->second / 8];
+            break;
+        default:
+            break;
+        }
+    }
+    check(partmem_end(&machine) == PARTMEM_DONE, "end");
+    for (size_t tenant = 0; tenant < MOST_TENANTS; tenant++) {
+        free(of_frame[tenant]);
+        free(of_place[tenant]);
+    }
+}
+
+__attribute__((noinline)) static void run_events(void) {
+    for (size_t i = 0; i < call_count; i++) {
+        run(&calls[i]);
+    }
+}
+
+__attribute__((noinline)) static void run_lines(void) {
+    for (size_t i = 0; i < call_count; i++) {
+        size_t written;
+        uint32_t status = partmem_line(&machine, (const uint8_t *)calls[i].line, calls[i].line_len, room, sizeof room, &written);
+        check(status == PARTMEM_DONE, "line");
+    }
+}
+
+/* Answers how many calls of malloc and free there were. */
+__attribute__((noinline)) static size_t run_malloc(uint8_t **blocks) {
+    size_t count = 0;
+    for (size_t i = 0; i < call_count; i++) {
+        const struct call *call = &calls[i];
+        if (call->deed == TAKE) {
+            uint8_t *block = malloc(call->size);
+            check(block != NULL, "malloc");
+            *(volatile uint8_t *)block = 0;
+            blocks[call->block] = block;
+        } else if (call->deed == GIVE) {
+            free(blocks[call->block]);
+        }
+        count += call->deed != NOTHING;
+    }
+    return count;
+}
+
+static double processor_time(void) {
+    struct timespec now;
+    clock_gettime(CLOCK_PROCESS_CPUTIME_ID, &now);
+    return (double)now.tv_sec + 1e-9 * (double)now.tv_nsec;
+}
+
+int main(int argc, char **argv) {
+    check(argc == 6, "usage: library HOW ORDER SUPERBLOCKS TENANTS TRACE");
+    char **sizes = argv + 2;
+    read_trace(argv[5]);
+    if (strcmp(argv[1], "malloc") == 0) {
+        plan(sizes);
+    }
+    uint8_t **blocks = some(block_count, sizeof *blocks);
+    size_t count = call_count;
+    boot(sizes);
+    double start = processor_time();
+    if (strcmp(argv[1], "event") == 0) {
+        run_events();
+    } else if (strcmp(argv[1], "line") == 0) {
+        run_lines();
+    } else {
+        count = run_malloc(blocks);
+    }
+    double taken = processor_time() - start;
+    printf("%zu calls %.1f nanoseconds\n", count, count ? taken / (double)count * 1e9 : 0.0);
+    return 0;
+}
