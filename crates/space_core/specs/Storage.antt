@@ -1,5 +1,5 @@
 -- How the bytes of RAM are stored: a superblock has none from a grant to the first write, and reads as zero until then.
-use Rattle.std.specs.Prelude.{◌≡◌, ℕ, ◌≤◌, List, [], ◌∷◌, map, replicate}
+use Rattle.std.specs.Prelude.{◌≡◌, ℕ, ◌^◌, ◌<◌, ◌≤◌, List, [], ◌∷◌, map, replicate}
 use Rattle.std.specs.List.{All}
 use Rattle.std.specs.Global.{Vec}
 use Rattle.std.specs.Vec.{vec_capacity}
@@ -16,7 +16,9 @@ shown_banks unit stored = map (or_zeros unit) stored
 abbrev pub HaveRoom : ℕ → List (Vec ℕ) → Type 0
 HaveRoom unit banks = All (λ bank. unit ≤ vec_capacity bank) banks
 
--- what is true of the vectors of every `Space`
-pub record IsStored (unit : ℕ) (banks : List (Vec ℕ)) (zeros : List ℕ) : Type 0 where
+-- what is true of the vectors of every `Space`, and of the bits of a byte's number inside a superblock
+pub record IsStored (unit bits : ℕ) (banks : List (Vec ℕ)) (zeros : List ℕ) : Type 0 where
+  pub few : bits < 32
+  pub size : unit ≡ 2 ^ bits
   pub room : HaveRoom unit banks
   pub blank : zeros ≡ replicate unit 0

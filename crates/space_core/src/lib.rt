@@ -28,6 +28,9 @@ use model_core::owner::Owner;
 use std::alloc::{AllocError, Global};
 use std::marker::Model;
 
+// A frame has 2^12 bytes.
+const FRAME_BITS: u8 = 12;
+
 /// Every superblock has an owner.
 #[derive(Clone, Copy, Debug, PartialEq, Eq)]
 pub struct PoolEmpty;
@@ -52,6 +55,8 @@ pub enum MoveRefusal {
 #[derive(Drop)]
 pub struct Space {
     unit: u32,
+    // A superblock has 2^bits bytes, so that a place is cut by shifts: a division takes longer than all else of a short read.
+    bits: u8,
     owners: Vec<Option<Owner>>,
     slots: Vec<Vec<Option<u16>>>,
     // A superblock's vector has its bytes, or is empty, with room for them, while all of them are zero since it was granted.
@@ -83,7 +88,7 @@ impl Model for Space {
       banks = shown_banks s.unit (stored_bytes s.banks);
       marks = s.marks.items;
     })
-        × IsStored s.unit s.banks.items s.zeros.items };
+        × IsStored s.unit s.bits s.banks.items s.zeros.items };
 }
 
 impl Space {
@@ -98,6 +103,7 @@ impl Space {
         ensures { IfOk result (λ s. s ≡ empty_space (FRAME_BYTES * 2 ^ order) superblocks tenants) }
     {
         let unit = FRAME_BYTES << order;
+        let bits = FRAME_BITS + order;
         let owners = vec![in alloc; None; usize::from(superblocks)]?;
         let slots = make_rows(alloc, usize::from(tenants), usize::from(superblocks))?;
         let banks = make_banks(alloc, usize::from(superblocks), unit as usize)?;
@@ -105,6 +111,7 @@ impl Space {
         let zeros = vec![in alloc; 0; unit as usize]?;
         Ok(Space {
             unit,
+            bits,
             owners,
             slots,
             banks,

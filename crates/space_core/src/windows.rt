@@ -1,6 +1,6 @@
 //! The bytes of a tenant, by its places: windows on them, lent to be read or written, and single bytes.
 
-ghost use Rattle.std.specs.Prelude.{◌≡◌, ◌≢◌, ◌+◌, ◌/◌, ◌<◌, ◌≤◌, Some, None, length, replicate, option_map, IsSome, IfSome, slice_range};
+ghost use Rattle.std.specs.Prelude.{◌≡◌, ◌≢◌, ◌+◌, ◌/◌, ◌%◌, ◌<◌, ◌≤◌, Some, None, length, replicate, option_map, IsSome, IfSome, slice_range};
 ghost use Rattle.std.specs.Borrow.{sem};
 ghost use Rattle.space_core.specs.Content.{bank, owner_at, superblock_at};
 ghost use Rattle.space_core.specs.Windows.{home_of, window_of, with_window, byte_at, with_byte};
@@ -17,11 +17,11 @@ impl Space {
         ensures value { option_map (λ bytes. bytes.now) result ≡ window_of self.now t place len }
         ensures len { IfSome result (λ bytes. length bytes.now ≡ len) }
     {
-        let at = place % self.unit;
+        let at = self.within(place);
         if len == 0 || u64::from(at) + u64::from(len) > u64::from(self.unit) {
             return None;
         }
-        let m = self.machine_of(t, place / self.unit)?;
+        let m = self.machine_of(t, self.slot_of(place))?;
         Some(part(self.bytes(usize::from(m)), at as usize, len as usize))
     }
 
@@ -34,7 +34,7 @@ impl Space {
         ensures value { window_of self.old t place len ≡ Some result.now }
         ensures len { length result.now ≡ len }
     {
-        let m = self.held(t, place / self.unit);
+        let m = self.held(t, self.slot_of(place));
         self.window_in(m, t, place, len)
     }
 
@@ -47,7 +47,8 @@ impl Space {
         ensures len { length result.now ≡ len }
     {
         let _ = t;
-        let at = place % self.unit;
+        self.laws();
+        let at = self.within(place);
         self.part_mut(usize::from(m), at as usize, len as usize)
     }
 
@@ -66,7 +67,7 @@ impl Space {
         requires held { IsSome (superblock_at self.now.slots t (place / self.now.unit)) }
         ensures { byte_at self.now t place ≡ Some result }
     {
-        let m = self.held(t, place / self.unit);
+        let m = self.held(t, self.slot_of(place));
         self.byte_in(m, t, place)
     }
 
@@ -77,7 +78,8 @@ impl Space {
         ensures { byte_at self.now t place ≡ Some result }
     {
         let _ = t;
-        let at = place % self.unit;
+        self.laws();
+        let at = self.within(place);
         let m = usize::from(m);
         self.bytes(m)[at as usize]
     }
@@ -88,7 +90,7 @@ impl Space {
         requires held { IsSome (superblock_at self.old.slots t (place / self.old.unit)) }
         ensures { self.new ≡ with_byte self.old t place byte }
     {
-        let m = self.held(t, place / self.unit);
+        let m = self.held(t, self.slot_of(place));
         self.set_byte_in(m, t, place, byte);
     }
 
@@ -99,7 +101,7 @@ impl Space {
         ensures { self.new ≡ with_byte self.old t place byte }
     {
         let _ = t;
-        let at = place % self.unit;
+        let at = self.within(place);
         let m = usize::from(m);
         write_out(&mut self.banks, m, self.unit as usize);
         set_byte_at(&mut self.banks, m, at as usize, byte);
@@ -119,6 +121,22 @@ impl Space {
         ensures len { length result.now ≡ self.now.unit }
     {
         self.bytes(usize::from(m))
+    }
+
+    /// The slot of a place.
+    #[inline(always)]
+    fn slot_of(&self, place: u32) -> u32
+        ensures { result ≡ place / self.now.unit }
+    {
+        place >> self.bits
+    }
+
+    /// The number of a place's byte in its superblock.
+    #[inline(always)]
+    fn within(&self, place: u32) -> u32
+        ensures { result ≡ place % self.now.unit }
+    {
+        place % (1 << self.bits)
     }
 
     /// The superblock under a slot that the tenant holds.

@@ -57,7 +57,7 @@ invariant_of-self c =
     let owners = rw (c.from-source.ensures, c.from-target.ensures) at c.swap.ensures.items ∙ owner_passes s.owners from to (owned_by c.args.t c.args.slot) within below owned unowned in
     rw (c.from-source.ensures, c.from-target.ensures, c.set_slot.ensures, banks, owners) (
       moved-IsSpace facts c.args.t c.args.slot from to under below unowned,
-      record { room = c.copy_bank.ensures.room s.unit c.self.invariant.1.room; blank = c.self.invariant.1.blank },
+      record { few = c.self.invariant.1.few; size = c.self.invariant.1.size; room = c.copy_bank.ensures.room s.unit c.self.invariant.1.room; blank = c.self.invariant.1.blank },
     )
 
 pub returns-clause-ok : goal.returns-clause-ok

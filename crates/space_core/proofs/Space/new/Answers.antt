@@ -1,6 +1,6 @@
-use Rattle.std.proofs.Common.{◌≡◌, ◌*◌, ◌^◌, ◌≤◌, ◌%◌, ap, refl, ◌∙◌, rules, arith}
+use Rattle.std.proofs.Common.{◌≡◌, ◌*◌, ◌^◌, ◌≤◌, ◌%◌, ap, refl, sym, ◌∙◌, rules, arith}
 use Rattle.std.proofs.Math.Nat.{pow-le-pow_right}
-use Rattle.std.proofs.lemmas.Nat.{pow_pos}
+use Rattle.std.proofs.lemmas.Nat.{pow_pos, pow-add}
 use Rattle.model_core.specs.declared.limits.TheConstants.{MOST_ORDER}
 use Rattle.space_core.specs.Storage.{shown_banks}
 use Rattle.space_core.proofs.Empty.{empty_space-IsSpace}
@@ -20,7 +20,7 @@ invariant_of-result c =
     let zeros = c.in_ok-zeros.ensures.items_if_clones_equal (λ y same. search rules) in
     rw (owners, slots, banks, marks) (
       empty_space-IsSpace unit c.args.superblocks c.args.tenants (omega (arith, most)) (omega (arith, most)) c.requires.superblocks c.requires.tenants,
-      record { room = c.in_ok-banks.ensures.room; blank = zeros },
+      record { few = omega arith; size = (let whole : unit ≡ 2 ^ 12 * 2 ^ c.args.order = omega (arith, most) in whole ∙ sym (pow-add 2 12 c.args.order)); room = c.in_ok-banks.ensures.room; blank = zeros },
     )
 
 pub returns : goal.returns

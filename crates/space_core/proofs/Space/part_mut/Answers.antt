@@ -43,6 +43,8 @@ invariant_of-self-lent c = λ w.
       record {
         room = All-set (λ (bank : Vec ℕ). s.unit ≤ bank.cap) banks c.args.m (with_items_from read c.args.from w) room c.write_out.ensures.room;
         blank = c.self.invariant.1.blank;
+        few = c.self.invariant.1.few;
+        size = c.self.invariant.1.size;
       },
     )
 

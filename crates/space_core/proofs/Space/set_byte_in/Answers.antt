@@ -1,7 +1,7 @@
 use Rattle.std.proofs.Common.{◌≡◌, ◌≢◌, ℕ, ◌%◌, ◌/◌, ◌<◌, List, Option, Some, None, [], length, get_or, ap, sym, subst, ◌∙◌, arith}
 use Rattle.std.proofs.Math.ListN.{set}
 use Rattle.std.proofs.lemmas.List.{length-set}
-use Rattle.space_core.specs.Content.{IsSpace, owner_at}
+use Rattle.space_core.specs.Content.{Content, IsSpace, owner_at}
 use Rattle.space_core.specs.Windows.{banks_with_byte}
 use Rattle.space_core.specs.Storage.{shown_banks}
 use Rattle.space_core.specs.contracts.Space.{the_view}
@@ -16,7 +16,7 @@ invariant_of-self c =
     let s = the_view c.self.inside in
     let facts = c.self.invariant.0 in
     let m : ℕ = c.from-m.result in
-    let i = c.args.place % s.unit in
+    let i : ℕ = c.within-at.result in
     let before = lists_of c.self.inside.banks.items in
     let stored = lists_of c.write_out.new.banks.items in
     let under = rw (← c.self.view_is) at c.requires ∙ ap Some (sym c.from-m.ensures) in
@@ -30,7 +30,7 @@ invariant_of-self c =
     let size : length (set (get_or s.banks m []) i c.args.byte) ≡ s.unit = length-set (get_or s.banks m []) i c.args.byte ∙ facts.sized m (omega (arith, facts.paired)) in
     let same = ap (shown_banks s.unit) c.set_byte_at.ensures.bytes ∙ written in (
       subst (λ bs. IsSpace (with_banks s bs)) (sym same) (with_bank-IsSpace facts m has_owner within (set (get_or s.banks m []) i c.args.byte) size),
-      record { room = c.set_byte_at.ensures.room s.unit c.write_out.ensures.room; blank = c.self.invariant.1.blank },
+      record { few = c.self.invariant.1.few; size = c.self.invariant.1.size; room = c.set_byte_at.ensures.room s.unit c.write_out.ensures.room; blank = c.self.invariant.1.blank },
     )
 
 pub returns : goal.returns
@@ -38,7 +38,7 @@ returns c =
     let s = the_view c.self.inside in
     let facts = c.self.invariant.0 in
     let m : ℕ = c.from-m.result in
-    let i = c.args.place % s.unit in
+    let i : ℕ = c.within-at.result in
     let before = lists_of c.self.inside.banks.items in
     let stored = lists_of c.write_out.new.banks.items in
     let under = rw (← c.self.view_is) at c.requires ∙ ap Some (sym c.from-m.ensures) in
@@ -48,7 +48,8 @@ returns c =
     let whole : shown_banks s.unit stored ≡ s.banks = ap (shown_banks s.unit) c.write_out.ensures.banks ∙ shown-written_out s.unit before m in
     let written = shown-set_byte s.unit stored m i c.args.byte full ∙ ap (λ (banks : List (List ℕ)). set banks m (set (get_or banks m []) i c.args.byte)) whole in
     let same = ap (shown_banks s.unit) c.set_byte_at.ensures.bytes ∙ written in
-    rw (← c.self.view_is) (ap (with_banks s) same ∙ ap (λ (o : Option ℕ). with_banks s (banks_with_byte s.banks i c.args.byte o)) (sym under))
+    let place = c.within-at.ensures ∙ ap (λ (x : Content). c.args.place % x.unit) (sym c.self.view_is) in
+    rw (← c.self.view_is) (ap (with_banks s) same ∙ ap (λ (o : Option ℕ). with_banks s (banks_with_byte s.banks i c.args.byte o)) (sym under) ∙ ap (λ n. with_banks s (banks_with_byte s.banks n c.args.byte (get_or (get_or s.slots c.args.t []) (c.args.place / s.unit) None))) place)
 
 pub set_byte_at-requires-clause-byte : goal.set_byte_at-requires-clause-byte
 set_byte_at-requires-clause-byte c =
@@ -63,7 +64,8 @@ set_byte_at-requires-clause-byte c =
     let full = subst (λ (banks : List (List ℕ)). get_or banks m [] ≢ []) (sym c.write_out.ensures.banks) (written_out-full s.unit before m facts.some there) in
     let whole : shown_banks s.unit stored ≡ s.banks = ap (shown_banks s.unit) c.write_out.ensures.banks ∙ shown-written_out s.unit before m in
     let size : length (get_or stored m []) ≡ s.unit = ap length (sym (bank-shown_full s.unit stored m full) ∙ ap (λ (banks : List (List ℕ)). get_or banks m []) whole) ∙ facts.sized m (omega (arith, within, facts.paired)) in
-    omega (arith, size, facts.some)
+    let place = c.within-at.ensures ∙ ap (λ (x : Content). c.args.place % x.unit) (sym c.self.view_is) in
+    omega (arith, size, place, facts.some)
 
 pub write_out-requires-clause-bank : goal.write_out-requires-clause-bank
 write_out-requires-clause-bank c =

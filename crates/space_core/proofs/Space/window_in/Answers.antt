@@ -1,13 +1,11 @@
 use Rattle.std.proofs.Common.{◌/◌, arith}
-use Rattle.space_core.specs.contracts.Space.{the_view}
 use Rattle.space_core.proofs.Mapping.{superblock-lt}
 use Rattle.space_core.proofs.Own.{home_is}
 use Rattle.space_core.proofs.Space.window_in.Goals as goal
 
 pub part_mut-requires-clause-in_bounds : goal.part_mut-requires-clause-in_bounds
 part_mut-requires-clause-in_bounds c =
-    let s = the_view c.self.inside in
-    let home = rw (← c.self.view_is) at c.requires in
-    let under = (home_is s c.args.t c.args.place c.args.len c.args.m home).2 in
-    let below = superblock-lt c.self.invariant.0 c.args.t (c.args.place / s.unit) c.args.m under in
-    rw (← c.self.view_is) (omega (arith, below, c.from.ensures))
+    let s = c.args.self.now in
+    let under = (home_is s c.args.t c.args.place c.args.len c.args.m c.requires).2 in
+    let below = superblock-lt c.laws.ensures.facts c.args.t (c.args.place / s.unit) c.args.m under in
+    omega (arith, below, c.from.ensures)
