@@ -1,6 +1,6 @@
 //! The stored bytes of the superblocks: a vector for each, empty while its superblock reads as zero.
 
-ghost use Rattle.std.specs.Prelude.{◌≡◌, ◌≢◌, ◌<◌, ◌≤◌, length, replicate, IfOk, slice_set, vec_len, vec_capacity, ℕ, []};
+ghost use Rattle.std.specs.Prelude.{◌≡◌, ◌≢◌, ◌^◌, ◌<◌, ◌≤◌, length, replicate, IfOk, slice_set, vec_len, vec_capacity, ℕ, []};
 ghost use Rattle.space_core.specs.Content.{bank};
 ghost use Rattle.space_core.specs.Tables.{stored_bytes};
 ghost use Rattle.space_core.specs.Storage.{HaveRoom, or_zeros};
@@ -87,18 +87,23 @@ pub(crate) fn set_byte_at(banks: &mut Vec<Vec<u8>>, m: usize, i: usize, byte: u8
     banks[m][i] = byte;
 }
 
+/// Room behind the bytes of each superblock, so that they take a whole number of pages with the 16 bytes that `malloc` keeps of a
+/// block: all superblocks then begin at the same offset in a page, and to clear and copy them takes the same path.
+const SPARE: usize = 4096 - 16;
+
 /// For each of `count` superblocks no bytes yet, and room for `unit` of them.
 pub(crate) fn make_banks(
     alloc: Global,
     count: usize,
     unit: usize,
 ) -> Result<Vec<Vec<u8>>, AllocError>
+    requires { unit < 2 ^ 32 }
     ensures bytes { IfOk result (λ banks. stored_bytes banks ≡ replicate count []) }
     ensures room { IfOk result (λ banks. HaveRoom unit banks.items) }
 {
     let mut banks = Vec::with_capacity(alloc, count)?;
     for _ in 0..count {
-        banks.push(Vec::with_capacity(alloc, unit)?)?;
+        banks.push(Vec::with_capacity(alloc, unit + SPARE)?)?;
     }
     Ok(banks)
 }
