@@ -1,0 +1,342 @@
+/* Runs a trace through the library for C, and follows the commands that are marked instruction by instruction.
+ *
+ * same_path ORDER SUPERBLOCKS TENANTS talk         runs the lines of standard input; writes what each is answered, and a line "."
+ * same_path ORDER SUPERBLOCKS TENANTS step [N]     runs a trace from standard input; writes a row for each marked command, or all
+ *                                                  steps of marked command N
+ *
+ * A row of a trace begins with '.' for a line that is run at full speed, '+' for one that is followed, and '=' for an event that
+ * is followed: its kind, tenant, first and second number and the hex of its bytes. With '*' and '#' in their place the command is
+ * followed into the C library too. A row of the output has how many steps a command took, a hash of the addresses of its
+ * instructions, one of what they read and wrote, and one of what was answered.
+ *
+ * The processor traps after each instruction while its trap flag is set, and the handler of that signal sees all registers.
+ * So nothing of another process is read, which takes a fourth of the time of ptrace and no permission. The program runs with
+ * address randomisation off; it is to be linked statically, so that each instruction stands at the same address in every run.
+ *
+ * The file "operands", if there is one in the working folder, has the memory operand of each instruction (as .ci/same-path reads
+ * them from a disassembly). An access to a block that boot took is told by the block's size and the offset in it. Where the size
+ * is a multiple of the number of superblocks (of a block that grew in boot, of the power of two from there on) it is told by the
+ * offset in that part. Blocks and parts are numbered in each command as it meets them: so what is equal is equal but for the
+ * numbers of superblocks. Other accesses are told by their addresses.
+ */
+#define _GNU_SOURCE /* registers by name */
+#include <fcntl.h>
+#include <signal.h>
+#include <stdio.h>
+#include <stdlib.h>
+#include <string.h>
+#include <sys/mman.h>
+#include <sys/personality.h>
+#include <sys/stat.h>
+#include <ucontext.h>
+#include <unistd.h>
+
+#include "partmem.h"
+
+enum { MOST_BLOCKS = 1 << 12, MOST_PARTS = 1 << 18, MOST_SHOWN = 1 << 21, MOST_ROW = 1 << 10 };
+
+static void hold(bool holds, const char *what)
+{
+    if (holds) return;
+    fprintf(stderr, "same path: %s\n", what);
+    exit(1);
+}
+
+/* the blocks that boot took, by address */
+static struct block {
+    uint64_t start, size, part_bytes;
+    uint32_t first_part;
+    bool has_grown;
+} blocks[MOST_BLOCKS];
+static uint32_t block_count;
+static bool in_boot;
+
+static void add_block(void *start, size_t size, bool has_grown)
+{
+    if (!in_boot || !start) return;
+    hold(block_count < MOST_BLOCKS, "too many blocks");
+    blocks[block_count++] = (struct block){.start = (uint64_t)start, .size = size, .has_grown = has_grown};
+}
+
+void *__real_malloc(size_t size);
+void *__wrap_malloc(size_t size)
+{
+    void *block = __real_malloc(size);
+    add_block(block, size, false);
+    return block;
+}
+
+void *__real_realloc(void *old, size_t size);
+void *__wrap_realloc(void *old, size_t size)
+{
+    for (uint32_t i = 0; in_boot && i < block_count; i++) {
+        if (blocks[i].start == (uint64_t)old) blocks[i] = blocks[--block_count];
+    }
+    void *block = __real_realloc(old, size);
+    add_block(block, size, true);
+    return block;
+}
+
+static int by_start(const void *first, const void *second)
+{
+    uint64_t a = ((const struct block *)first)->start, b = ((const struct block *)second)->start;
+    return (a > b) - (a < b);
+}
+
+static void boot(partmem_machine *machine, uint32_t order, uint32_t superblocks, uint32_t tenants)
+{
+    in_boot = true;
+    hold(partmem_boot(machine, order, superblocks, tenants) == PARTMEM_DONE, "boot");
+    in_boot = false;
+    qsort(blocks, block_count, sizeof blocks[0], by_start);
+    uint32_t parts = 0, room = 1;
+    while (room < superblocks) room *= 2;
+    for (uint32_t i = 0; i < block_count; i++) {
+        uint32_t count = blocks[i].has_grown ? room : superblocks;
+        bool is_cut = blocks[i].size > 0 && blocks[i].size % count == 0;
+        blocks[i].first_part = parts;
+        blocks[i].part_bytes = is_cut ? blocks[i].size / count : UINT64_MAX;
+        parts += is_cut ? count : 1;
+    }
+    hold(parts <= MOST_PARTS, "too many parts of blocks");
+}
+
+/* the memory operand of the instruction at each address of the program's text, registers by their numbers in a signal frame */
+struct operand {
+    int32_t displacement;
+    uint8_t base, index, scale, is_there;
+};
+enum { NO_REGISTER = 255 };
+static const struct operand *operands;
+static uint64_t text_start, text_bytes;
+
+static void map_operands(void)
+{
+    struct stat found;
+    int file = open("operands", O_RDONLY);
+    if (file < 0) return;
+    hold(fstat(file, &found) == 0 && found.st_size >= 16, "the operands");
+    const uint64_t *mapped = mmap(NULL, (size_t)found.st_size, PROT_READ, MAP_PRIVATE, file, 0);
+    hold(mapped != MAP_FAILED, "the operands");
+    text_start = mapped[0];
+    text_bytes = mapped[1];
+    operands = (const struct operand *)(mapped + 2);
+    hold((uint64_t)found.st_size == 16 + text_bytes * sizeof(struct operand), "the operands");
+}
+
+/* what is known of the command that is followed */
+static struct {
+    uint64_t steps, path, data;
+    uint32_t command, touched;
+} now;
+static struct {
+    uint32_t command, number;
+} met[MOST_PARTS];
+static uint64_t shown[MOST_SHOWN][2];
+static uint32_t shown_command;
+
+static uint64_t mix(uint64_t hash, uint64_t value)
+{
+    hash = (hash ^ value) * 0x9e3779b97f4a7c15u;
+    return hash ^ hash >> 29;
+}
+
+static const struct block *block_of(uint64_t address)
+{
+    uint32_t low = 0, high = block_count;
+    while (low < high) {
+        uint32_t middle = (low + high) / 2;
+        if (blocks[middle].start <= address) low = middle + 1;
+        else high = middle;
+    }
+    return low > 0 && address - blocks[low - 1].start < blocks[low - 1].size ? &blocks[low - 1] : NULL;
+}
+
+static uint64_t told_of_address(uint64_t address)
+{
+    const struct block *block = block_of(address);
+    if (!block) return address;
+    uint64_t offset = address - block->start, part = block->first_part + offset / block->part_bytes;
+    if (met[part].command != now.command) {
+        met[part].command = now.command;
+        met[part].number = now.touched++;
+    }
+    return mix(mix(block->size, met[part].number), offset % block->part_bytes);
+}
+
+/* a step at an address, which read or wrote what is told so */
+static void count_step(uint64_t at, uint64_t told)
+{
+    now.path = mix(now.path, at);
+    if (told) now.data = mix(now.data, told);
+    if (now.command == shown_command && now.steps < MOST_SHOWN) {
+        shown[now.steps][0] = at;
+        shown[now.steps][1] = told;
+    }
+    now.steps++;
+}
+
+static void on_trap(int signal, siginfo_t *info, void *context)
+{
+    (void)signal, (void)info;
+    const greg_t *registers = ((ucontext_t *)context)->uc_mcontext.gregs;
+    uint64_t at = (uint64_t)registers[REG_RIP], told = 0;
+    if (at - text_start < text_bytes && operands[at - text_start].is_there) {
+        struct operand it = operands[at - text_start];
+        uint64_t address = (uint64_t)(int64_t)it.displacement;
+        if (it.base != NO_REGISTER) address += (uint64_t)registers[it.base];
+        if (it.index != NO_REGISTER) address += (uint64_t)registers[it.index] * it.scale;
+        told = told_of_address(address);
+        if (it.is_there == 2) told = mix(told, told_of_address((uint64_t)registers[REG_RDI]));
+    }
+    count_step(at, told);
+}
+
+static void catch_traps(void)
+{
+    static uint8_t room[1 << 16];
+    stack_t stack = {.ss_sp = room, .ss_size = sizeof room};
+    struct sigaction action = {.sa_sigaction = on_trap, .sa_flags = SA_SIGINFO | SA_ONSTACK};
+    hold(sigaltstack(&stack, NULL) == 0 && sigaction(SIGTRAP, &action, NULL) == 0, "the signal of a trap");
+}
+
+#define FOLLOW() __asm__ volatile("pushfq\n\torq $0x100, (%%rsp)\n\tpopfq" ::: "memory", "cc")
+#define LET_GO() __asm__ volatile("pushfq\n\tandq $~0x100, (%%rsp)\n\tpopfq" ::: "memory", "cc")
+
+/* What the C library copies and clears is followed inside where the row says so, and else told by its length, and by where what
+ * it writes and reads begins: in 64 bytes, for the path, and in its block. */
+static bool is_apart;
+
+static void tell_apart(const void *to, const void *from, size_t count)
+{
+    uint64_t lie = mix(count, ((uint64_t)to % 64) << 6 | (uint64_t)from % 64);
+    now.path = mix(now.path, lie);
+    count_step((uint64_t)tell_apart, mix(mix(lie, told_of_address((uint64_t)to)), from ? told_of_address((uint64_t)from) : 0));
+}
+
+#define APART(to, from, count, call) \
+    do { \
+        if (!is_apart) return call; \
+        LET_GO(); \
+        tell_apart(to, from, count); \
+        call; \
+        FOLLOW(); \
+        return to; \
+    } while (0)
+
+void *__real_memcpy(void *to, const void *from, size_t count);
+void *__wrap_memcpy(void *to, const void *from, size_t count)
+{
+    APART(to, from, count, __real_memcpy(to, from, count));
+}
+
+void *__real_memmove(void *to, const void *from, size_t count);
+void *__wrap_memmove(void *to, const void *from, size_t count)
+{
+    APART(to, from, count, __real_memmove(to, from, count));
+}
+
+void *__real_memset(void *to, int byte, size_t count);
+void *__wrap_memset(void *to, int byte, size_t count)
+{
+    APART(to, NULL, count, __real_memset(to, byte, count));
+}
+
+static partmem_machine machine;
+static char row[MOST_ROW];
+static uint8_t line[MOST_ROW], bytes[MOST_ROW], room[PARTMEM_MOST_TEXT_BYTES];
+static size_t line_len, bytes_len, written;
+static partmem_asked asked;
+static partmem_told told;
+
+/* Each command is run from the same place, with all that is passed in places that stay. */
+__attribute__((noinline)) static uint32_t follow_line(void)
+{
+    FOLLOW();
+    uint32_t status = partmem_line(&machine, line, line_len, room, sizeof room, &written);
+    LET_GO();
+    return status;
+}
+
+__attribute__((noinline)) static uint32_t follow_event(void)
+{
+    FOLLOW();
+    uint32_t status = partmem_event(&machine, &asked, bytes, bytes_len, &told, room, sizeof room);
+    LET_GO();
+    return status;
+}
+
+static uint64_t hash_of(const void *some, size_t count)
+{
+    uint64_t hash = count;
+    for (size_t i = 0; i < count; i++) hash = mix(hash, ((const uint8_t *)some)[i]);
+    return hash;
+}
+
+static void read_event(const char *text)
+{
+    char hex[MOST_ROW] = "";
+    hold(sscanf(text, "%u %u %u %u %1000s", &asked.kind, &asked.tenant, &asked.first, &asked.second, hex) >= 4, "an event");
+    bytes_len = strlen(hex) / 2;
+    for (size_t i = 0; i < bytes_len; i++) hold(sscanf(hex + 2 * i, "%2hhx", &bytes[i]) == 1, "the bytes of an event");
+}
+
+static void run_row(void)
+{
+    static uint32_t commands;
+    bool is_event = row[0] == '=' || row[0] == '#', is_followed = row[0] != '.', is_whole = row[0] == '*' || row[0] == '#';
+    line_len = strlen(row) - 1;
+    memcpy(line, row + 1, line_len);
+    if (!is_followed) {
+        hold(partmem_line(&machine, line, line_len, room, sizeof room, &written) == PARTMEM_DONE, "a line");
+        return;
+    }
+    memset(&now, 0, sizeof now);
+    memset(&told, 0, sizeof told);
+    now.command = ++commands;
+    written = 0;
+    if (is_event) read_event(row + 1);
+    is_apart = !is_whole;
+    uint32_t status = is_event ? follow_event() : follow_line();
+    is_apart = false;
+    hold(status == PARTMEM_DONE, is_event ? "an event that is followed" : "a line that is followed");
+    hold(now.steps > 0, "no step was trapped");
+    if (is_event) written = told.kind == PARTMEM_BYTES ? told.first : 0;
+    uint64_t answer = mix(hash_of(room, written), is_event ? hash_of(&told, sizeof told) : 0);
+    if (!shown_command) printf("%lu %016lx %016lx %016lx\n", now.steps, now.path, now.data, answer);
+    for (uint64_t i = 0; now.command == shown_command && i < now.steps && i < MOST_SHOWN; i++) {
+        printf("%lx %lx\n", shown[i][0], shown[i][1]);
+    }
+}
+
+static void talk_line(void)
+{
+    hold(partmem_line(&machine, (const uint8_t *)row, strlen(row), room, sizeof room, &written) == PARTMEM_DONE, "a line");
+    fwrite(room, 1, written, stdout);
+    puts(".");
+    fflush(stdout);
+}
+
+int main(int argc, char **argv)
+{
+    static char *none[] = {NULL};
+    int persona = personality(0xffffffff);
+    hold(persona != -1, "the personality of the process");
+    if (!(persona & ADDR_NO_RANDOMIZE)) {
+        hold(personality((unsigned long)persona | ADDR_NO_RANDOMIZE) != -1, "address randomisation stays on");
+        execve("/proc/self/exe", argv, none);
+        hold(false, "the program can't start itself");
+    }
+    hold(argc >= 5, "usage: same_path ORDER SUPERBLOCKS TENANTS talk|step [N]");
+    bool talks = strcmp(argv[4], "talk") == 0;
+    shown_command = argc > 5 ? (uint32_t)atol(argv[5]) : 0;
+    boot(&machine, (uint32_t)atol(argv[1]), (uint32_t)atol(argv[2]), (uint32_t)atol(argv[3]));
+    map_operands();
+    catch_traps();
+    while (fgets(row, sizeof row, stdin)) {
+        row[strcspn(row, "\n")] = 0;
+        if (talks) talk_line();
+        else run_row();
+    }
+    return partmem_end(&machine) == PARTMEM_DONE ? 0 : 1;
+}
