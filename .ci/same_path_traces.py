@@ -9,9 +9,9 @@ import random
 # The numbers of the tenants' commands in partmem.h.
 KINDS = dict(zip("alloc free read write cache destroy take give reap report".split(), range(6, 16)))
 # How often a tenant asks for each while it takes more than it gives back, and while it gives back more.
-FILLING = dict(zip(KINDS, (20, 5, 14, 14, 4, 2, 34, 10, 1, 1)))
-EMPTYING = FILLING | {"alloc": 4, "free": 20, "take": 8, "give": 34, "reap": 2}
-ADMIN = {"grant": 8, "takeback": 8, "reset": 1, "move": 12, "pool": 1, "broken": 4}
+FILLING = dict(zip(KINDS, (20, 5, 14, 14, 4, 2, 34, 10, .3, 1)))
+EMPTYING = FILLING | {"alloc": 4, "free": 20, "take": 8, "give": 34, "reap": .6}
+ADMIN = {"grant": 5, "takeback": 8, "reset": 1, "move": 12, "pool": 1, "broken": 4}
 BROKEN = ("0 alloc", "1 frob 2", "# nothing", "", "99 alloc 0", "0 alloc 4294967296", "0 write 0 abc", "admin grant", "0" * 300)
 FRAME_BYTES = 4096
 # The shares of a tenant's commands that are passed as events, and that are followed into the C library.
@@ -41,8 +41,12 @@ class Tenant:
             self.is_filling = not self.is_filling
         weights = FILLING if self.is_filling else EMPTYING
         kind = draw.choices(list(weights), weights.values())[0]
-        if not self.caches and kind in ("take", "give", "destroy"):
-            kind = draw.choice(("cache", kind))
+        if kind == "free" and not self.blocks:
+            kind = "alloc"
+        if kind == "give" and not self.objects:
+            kind = "take"
+        if kind == "take" and not self.caches:
+            kind = "cache"
         if draw.random() < 1 / 12:
             return [kind, *self.faulty(kind, draw)]
         return [kind, *self.sound(kind, draw)]
@@ -103,7 +107,7 @@ class Pair:
         self.mixed, self.alone = [], [[] for _ in range(tenants)]
         # Of each command that is followed in the mixed trace, whose it is, its text and what it was answered first.
         self.followed = []
-        for k in range(superblocks // 2):
+        for k in range(2 * tenants):
             self.grant(k % tenants)
         while len(self.followed) < commands:
             if self.draw.random() < .12:
