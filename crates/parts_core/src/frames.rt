@@ -78,8 +78,7 @@ impl Parts {
         ensures below { IfSome result (λ node. node < length self.now.slabs.lists.places) }
     {
         self.laws();
-        self.slabs.laws();
-        let order = self.slabs.order();
+        let order = self.order();
         let superblock = self.space.machine_of(t, frame >> order)?;
         Some((u32::from(superblock) << order) + frame % (1 << order))
     }

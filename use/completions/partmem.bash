@@ -1,0 +1,17 @@
+# Completions of partmem and framemap for bash.
+_partmem() {
+    local options='--order --superblocks --tenants --only --tally --help --version'
+    [ "${1##*/}" = framemap ] && options='--order --superblocks --tenants --only --columns --help --version'
+    COMPREPLY=()
+    case $3 in
+        --order) mapfile -t COMPREPLY < <(compgen -W '3 4 5 6 7 8' -- "$2") ;;
+        --superblocks | --tenants | --only | --columns) ;;
+        *)
+            case $2 in
+                -*) mapfile -t COMPREPLY < <(compgen -W "$options" -- "$2") ;;
+                *) mapfile -t COMPREPLY < <(compgen -f -- "$2") ;;
+            esac
+            ;;
+    esac
+}
+complete -o filenames -F _partmem partmem framemap
