@@ -10,3 +10,4 @@ pub mod Walks
 pub mod Calls
 pub mod Fresh
 pub mod Witnesses
+pub mod Before

@@ -52,3 +52,13 @@ pub record IsNext (places : List (Option (ℕ × ℕ))) (h b k i : ℕ) : Type 0
   pub here : place_at places i ≡ Some (h, k)
   pub above : b < k
   pub least : (j k' : ℕ) → place_at places j ≡ Some (h, k') → b < k' → k ≤ k'
+
+-- list h has no key below b
+abbrev pub NoneBelow : List (Option (ℕ × ℕ)) → ℕ → ℕ → Type 0
+NoneBelow places h b = (i k : ℕ) → place_at places i ≡ Some (h, k) → b ≤ k
+
+-- node i stands in list h under the key k, the greatest below b that the list has
+pub record IsPrevious (places : List (Option (ℕ × ℕ))) (h b k i : ℕ) : Type 0 where
+  pub here : place_at places i ≡ Some (h, k)
+  pub below : k < b
+  pub greatest : (j k' : ℕ) → place_at places j ≡ Some (h, k') → k' < b → k' ≤ k

@@ -9,7 +9,7 @@
 
 ghost use Rattle.std.specs.Prelude.{◌≡◌, ◌≢◌, ℕ, ◌+◌, ◌-◌, ◌^◌, ◌<◌, ◌≤◌, ◌↔◌, Some, None, length, IsTrue, IsSome, IfSome, IfOk, MatchOption, slice_get, replicate, count_by};
 ghost use Rattle.std.specs.Option.{ForSome};
-ghost use Rattle.klist_core.specs.Places.{ArePlaces, IsEmpty, IsFirst, NoneAbove, IsNext, place_at, is_in, inserted, removed, replaced};
+ghost use Rattle.klist_core.specs.Places.{ArePlaces, IsEmpty, IsFirst, NoneAbove, IsNext, NoneBelow, IsPrevious, place_at, is_in, inserted, removed, replaced};
 ghost use Rattle.klist_core.specs.Lists.{list_of};
 ghost use Rattle.klist_core.specs.Links.{free_node, up, down, IsNearest, IsAfter, IsStart};
 ghost use Rattle.klist_core.specs.Writes.{heads_linked_after, heads_linked_before, nodes_linked_after, nodes_linked_before};
@@ -149,6 +149,14 @@ impl Lists {
         let _heads = &self.heads;
     }
 
+    /// How many nodes there are, in lists and in none.
+    pub fn nodes(&self) -> u32
+        ensures { result ≡ length self.now.places }
+    {
+        self.laws();
+        self.nodes.len() as u32
+    }
+
     /// List and key of the node; None where it stands in no list.
     pub fn place_of(&self, node: u32) -> Option<(u32, u32)>
         requires { node < length self.now.places }
@@ -199,6 +207,18 @@ impl Lists {
     {
         let next = self.next_of(node)?;
         Some((self.key_of(next), next))
+    }
+
+    /// Key and node that come before the node in its list; None where it is the first.
+    pub fn before(&self, node: u32) -> Option<(u32, u32)>
+        requires node { node < length self.now.places }
+        requires placed { IsSome (place_at self.now.places node) }
+        ensures { IfSome (place_at self.now.places node) (λ p.
+            MatchOption result (NoneBelow self.now.places p.0 p.1) (λ q. IsPrevious self.now.places p.0 p.1 q.0 q.1)) }
+    {
+        self.laws();
+        let previous = self.previous_of(node)?;
+        Some((self.key_of(previous), previous))
     }
 
     /// Puts a node that stands in no list into the list, under a key that the list does not have.

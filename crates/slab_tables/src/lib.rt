@@ -9,6 +9,7 @@
 #![tactic(auto)]
 
 mod cache;
+mod groups;
 mod kind;
 mod list;
 mod places;

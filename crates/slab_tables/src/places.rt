@@ -1,13 +1,16 @@
-//! Where caches and their lists stand among those of all tenants, and changes of one list.
+//! Where caches and their lists stand among those of all tenants, and changes of the lists.
 
-ghost use Rattle.std.specs.Prelude.{◌≡◌, ◌≢◌, ℕ, ◌+◌, ◌*◌, ◌^◌, ◌<◌, ◌≤◌, Some, None, length, IsSome};
-ghost use Rattle.model_core.specs.declared.limits.TheConstants.{MOST_ORDER};
-ghost use Rattle.klist_core.specs.Places.{place_at, inserted, replaced};
+ghost use Rattle.std.specs.Prelude.{◌≡◌, ◌≢◌, ℕ, ◌+◌, ◌*◌, ◌^◌, ◌<◌, ◌≤◌, Some, None, length, replicate, IsSome, IfSome, IfOk, MatchOption};
+ghost use Rattle.model_core.specs.declared.limits.TheConstants.{MOST_ORDER, MOST_SUPERBLOCKS, MOST_TENANTS, MOST_CACHES};
+ghost use Rattle.klist_core.specs.Places.{IsEmpty, IsFirst, place_at, inserted, removed, replaced};
 ghost use Rattle.slab_tables.specs.Content.{index_of_cache};
 ghost use Rattle.slab_tables.specs.Changes.{IsEmptied};
 
+use crate::groups::Groups;
 use klist_core::Lists;
 use model_core::limits::MOST_CACHES;
+use std::alloc::{AllocError, Global};
+use std::marker::Model;
 
 /// Where cache `c` of tenant `t` stands among those of all tenants.
 pub(crate) fn index_of(t: u8, c: u32) -> usize
@@ -26,103 +29,218 @@ pub(crate) fn node_at(order: u8, superblock: u16, i: u32) -> u32
     (u32::from(superblock) << order) + i
 }
 
-/// How many nodes are looked at for one near another, at most.
-const MOST_LOOKS: u32 = 32;
-
-/// A list of fewer nodes is walked at once: `near_below` looks at an eighth as many nodes as the list has, so at none here.
+/// A list of fewer nodes is walked at once: an eighth as many nodes as it has are looked at before, so none here.
 const SHORT: u32 = 8;
 
-/// Moves the node, which stands in the list `from`, into the list `to` under the same key. Nothing is done where these are one.
-///
-/// `slab` and `superblock` are the orders of its slab and of the superblock around that: they decide the cost alone.
-#[inline(always)]
-pub(crate) fn relist(
-    lists: &mut Lists,
-    from: u32,
-    to: u32,
-    node: u32,
-    key: u32,
-    slab: u8,
-    superblock: u8,
-)
-    requires to { to < lists.old.heads }
-    requires slab { slab ≤ 3 }
-    requires superblock { superblock ≤ MOST_ORDER }
-    requires placed { place_at lists.old.places node ≡ Some (from, key) }
-    requires alone { (i : ℕ) → place_at lists.old.places i ≡ Some (to, key) → i ≡ node }
-    ensures { lists.new ≡ inserted lists.old to node key }
-{
-    if from != to {
-        move_to(lists, to, node, key, slab, superblock);
-    }
+/// In a list of fewer nodes no look is taken at its groups before it is walked.
+const LONG: u32 = 64;
+
+/// The lists of the slabs of all caches, and where to look for their slabs.
+#[derive(Drop)]
+pub(crate) struct SlabLists {
+    lists: Lists,
+    groups: Groups,
 }
 
-/// Moves the node, which stands in a list, into the list `head` under the same key.
-///
-/// A short list is walked, unless the node comes at an end of it. In a longer one, which node it follows is looked for among the
-/// nodes of its superblock below it where slabs of that order begin.
-#[inline(never)]
-fn move_to(lists: &mut Lists, head: u32, node: u32, key: u32, slab: u8, superblock: u8)
-    requires head { head < lists.old.heads }
-    requires slab { slab ≤ 3 }
-    requires superblock { superblock ≤ MOST_ORDER }
-    requires placed { IsSome (place_at lists.old.places node) }
-    requires alone { (i : ℕ) → place_at lists.old.places i ≡ Some (head, key) → i ≡ node }
-    ensures { lists.new ≡ inserted lists.old head node key }
-{
-    if lists.len(head) < SHORT {
-        lists.remove(node);
-        lists.insert(head, node, key);
-    } else {
-        let step = 1 << slab;
-        let room = node % (1 << superblock);
-        let near = near_below(lists, head, node, step, room);
-        lists.remove(node);
-        lists.insert_near(head, node, key, near);
-    }
+impl Model for SlabLists {
+    ghost use Rattle.klist_core.specs.Places.{Placed};
+
+    ghost Value = { Placed };
+
+    ghost view = { λ s. s.lists };
 }
 
-/// The first of `node - step`, `node - 2 * step` and so on that stands in the list; `node` itself where none is found. It looks
-/// as far as `room` below, but only at an eighth as many nodes as the list has: a short list is walked sooner.
-///
-/// A hint for [`Lists::insert_near`], which needs none to be right.
-fn near_below(lists: &Lists, head: u32, node: u32, step: u32, room: u32) -> u32
-    requires head { head < lists.now.heads }
-    requires node { node < length lists.now.places }
-    requires step { 0 < step }
-    requires room { room ≤ node }
-    ensures { result < length lists.now.places }
-{
-    let looks = (room / step).min(lists.len(head) / 8).min(MOST_LOOKS);
-    let mut below = node;
-    for _ in 0..looks {
-        below -= step;
-        if lists.is_in(below, head) {
-            return below;
+impl SlabLists {
+    /// Three empty lists for each cache of each tenant, and a node for each frame, which stands in none.
+    pub(crate) fn new(
+        alloc: Global,
+        order: u8,
+        superblocks: u16,
+        tenants: u8,
+    ) -> Result<SlabLists, AllocError>
+        requires order { order ≤ MOST_ORDER }
+        requires superblocks { superblocks ≤ MOST_SUPERBLOCKS }
+        requires tenants { tenants ≤ MOST_TENANTS }
+        ensures { IfOk result (λ s. s ≡ record { heads = MOST_CACHES * tenants * 3; places = replicate (superblocks * 2 ^ order) None }) }
+    {
+        let nodes = u32::from(superblocks) << order;
+        let caches = u32::from(MOST_CACHES) * u32::from(tenants);
+        Ok(SlabLists {
+            lists: Lists::new(alloc, nodes, caches * 3)?,
+            groups: Groups::new(alloc, order, superblocks, tenants)?,
+        })
+    }
+
+    /// The lists.
+    pub(crate) fn lists(&self) -> &Lists
+        ensures { result.now ≡ self.now }
+    {
+        &self.lists
+    }
+
+    /// Least key of the list and its node; None where the list is empty.
+    pub(crate) fn first(&self, head: u32) -> Option<(u32, u32)>
+        requires { head < self.now.heads }
+        ensures { MatchOption result (IsEmpty self.now.places head) (λ p. IsFirst self.now.places head p.0 p.1) }
+    {
+        self.lists.first(head)
+    }
+
+    /// As [`Lists::insert`].
+    pub(crate) fn insert(&mut self, head: u32, node: u32, key: u32)
+        requires head { head < self.old.heads }
+        requires node { node < length self.old.places }
+        requires free { place_at self.old.places node ≡ None }
+        requires fresh { (i : ℕ) → place_at self.old.places i ≢ Some (head, key) }
+        ensures { self.new ≡ inserted self.old head node key }
+    {
+        self.lists.insert(head, node, key);
+        self.groups.put(head, key, node);
+    }
+
+    /// As [`Lists::remove`].
+    pub(crate) fn remove(&mut self, node: u32)
+        requires node { node < length self.old.places }
+        requires placed { IsSome (place_at self.old.places node) }
+        ensures { self.new ≡ removed self.old node }
+    {
+        if let Some((list, key)) = self.lists.place_of(node)
+            && self.is_alone(node, key)
+        {
+            self.groups.take(list, key);
+        }
+        self.lists.remove(node);
+    }
+
+    /// Whether the node's neighbours in its list are of other groups than its key.
+    fn is_alone(&self, node: u32, key: u32) -> bool
+        requires node { node < length self.now.places }
+        requires placed { IsSome (place_at self.now.places node) }
+    {
+        if let Some((next, _)) = self.lists.after(node)
+            && self.groups.is_one(next, key)
+        {
+            return false;
+        }
+        match self.lists.before(node) {
+            Some((previous, _)) => !self.groups.is_one(previous, key),
+            None => true,
         }
     }
-    node
-}
 
-/// Takes all nodes out of the list.
-pub(crate) fn empty_list(lists: &mut Lists, head: u32)
-    requires { head < lists.old.heads }
-    ensures { IsEmptied lists.old lists.new head }
-{
-    while let Some((_, node)) = lists.first(head) {
-        lists.remove(node);
+    /// Moves the node, which stands in the list `from`, into the list `to` under the same key. Nothing is done where these are one.
+    ///
+    /// `slab` is the order of its slab: it decides the cost alone.
+    #[inline(always)]
+    pub(crate) fn relist(&mut self, from: u32, to: u32, node: u32, key: u32, slab: u8)
+        requires to { to < self.old.heads }
+        requires slab { slab ≤ 3 }
+        requires placed { place_at self.old.places node ≡ Some (from, key) }
+        requires alone { (i : ℕ) → place_at self.old.places i ≡ Some (to, key) → i ≡ node }
+        ensures { self.new ≡ inserted self.old to node key }
+    {
+        if from != to {
+            self.move_to(to, node, key, slab);
+        }
+    }
+
+    /// Moves the node, which stands in a list, into the list `head` under the same key.
+    ///
+    /// A short list is walked, unless the node comes at an end of it. In a longer one, a node that comes before it is looked for.
+    #[inline(never)]
+    fn move_to(&mut self, head: u32, node: u32, key: u32, slab: u8)
+        requires head { head < self.old.heads }
+        requires slab { slab ≤ 3 }
+        requires placed { IsSome (place_at self.old.places node) }
+        requires alone { (i : ℕ) → place_at self.old.places i ≡ Some (head, key) → i ≡ node }
+        ensures { self.new ≡ inserted self.old head node key }
+    {
+        if self.lists.len(head) < SHORT {
+            self.remove(node);
+            self.insert(head, node, key);
+        } else {
+            let near = self.near(head, node, key, 1 << slab);
+            self.remove(node);
+            self.lists.insert_near(head, node, key, near);
+            self.groups.put(head, key, node);
+        }
+    }
+
+    /// A node of the list whose key is below the key of the node and not far from it; the node itself where none is found.
+    ///
+    /// It is looked for below the node in its group, at an eighth as many nodes as the list has, since a short list is walked
+    /// sooner, and then in the last group before in which the list has a slab.
+    fn near(&self, head: u32, node: u32, key: u32, step: u32) -> u32
+        requires head { head < self.now.heads }
+        requires node { node < length self.now.places }
+        requires step { 0 < step }
+        ensures { result < length self.now.places }
+    {
+        let len = self.lists.len(head);
+        let room = node % self.groups.size();
+        if let Some(near) = near_below(&self.lists, head, node, step, room, len / 8) {
+            return near;
+        }
+        if len < LONG {
+            return node;
+        }
+        self.near_in_groups(head, key, step).unwrap_or(node)
+    }
+
+    /// The last node of the list in the last group before that of the key in which the list has a node.
+    fn near_in_groups(&self, head: u32, key: u32, step: u32) -> Option<u32>
+        requires head { head < self.now.heads }
+        requires step { 0 < step }
+        ensures { IfSome result (λ n. n < length self.now.places) }
+    {
+        let size = self.groups.size();
+        let first = self.groups.before(head, key)?;
+        let end = self.groups.node_of(head, first)?.checked_add(size)?;
+        if end > self.lists.nodes() {
+            return None;
+        }
+        near_below(&self.lists, head, end, step, size, size)
+    }
+
+    /// Puts the node `to`, which stands in no list, into the place of the node `from`, if that has one.
+    pub(crate) fn replace(&mut self, from: u32, to: u32)
+        requires from { from < length self.old.places }
+        requires to { to < length self.old.places }
+        requires free { place_at self.old.places to ≡ None }
+        requires apart { from ≢ to }
+        ensures { self.new ≡ replaced self.old from to }
+    {
+        if let Some((list, key)) = self.lists.place_of(from) {
+            self.lists.replace(from, to);
+            self.groups.see(list, key, to);
+        }
+    }
+
+    /// Takes all nodes out of the list.
+    pub(crate) fn clear(&mut self, head: u32)
+        requires { head < self.old.heads }
+        ensures { IsEmptied self.old self.new head }
+    {
+        while let Some((_, node)) = self.first(head) {
+            self.remove(node);
+        }
     }
 }
 
-/// Puts the node `to`, which stands in no list, into the place of the node `from`, if that has one.
-pub(crate) fn replace(lists: &mut Lists, from: u32, to: u32)
-    requires from { from < length lists.old.places }
-    requires to { to < length lists.old.places }
-    requires free { place_at lists.old.places to ≡ None }
-    requires apart { from ≢ to }
-    ensures { lists.new ≡ replaced lists.old from to }
+/// The first of `above - step`, `above - 2 * step` and so on that stands in the list, as far as `room` below and at most so many.
+fn near_below(lists: &Lists, head: u32, above: u32, step: u32, room: u32, most: u32) -> Option<u32>
+    requires head { head < lists.now.heads }
+    requires above { above ≤ length lists.now.places }
+    requires step { 0 < step }
+    requires room { room ≤ above }
+    ensures { IfSome result (λ n. n < length lists.now.places) }
 {
-    if lists.place_of(from).is_some() {
-        lists.replace(from, to);
+    let mut below = above;
+    for _ in 0..(room / step).min(most) {
+        below -= step;
+        if lists.is_in(below, head) {
+            return Some(below);
+        }
     }
+    None
 }

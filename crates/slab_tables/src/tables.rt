@@ -10,7 +10,7 @@ ghost use Rattle.slab_tables.specs.Changes.{with_slab, with_count, with_outside,
 use crate::cache::{Cache, Kept};
 use crate::kind::Kind;
 use crate::list::ListId;
-use crate::places::{empty_list, index_of, node_at, relist, replace};
+use crate::places::{SlabLists, index_of, node_at};
 use klist_core::Lists;
 use layout_core::{Layout, Pattern};
 use model_core::limits::MOST_CACHES;
@@ -21,7 +21,7 @@ use std::marker::Model;
 #[derive(Drop)]
 pub struct Tables {
     order: u8,
-    lists: Lists,
+    lists: SlabLists,
     kept: Vec<Kept>,
     caches: Vec<Option<Cache>>,
     live: Vec<u32>,
@@ -62,7 +62,7 @@ impl Tables {
         };
         Ok(Tables {
             order,
-            lists: Lists::new(alloc, nodes, caches * 3)?,
+            lists: SlabLists::new(alloc, order, superblocks, tenants)?,
             kept: vec![in alloc; blank; nodes as usize]?,
             caches: vec![in alloc; None; caches as usize]?,
             live: vec![in alloc; 0; caches as usize]?,
@@ -74,7 +74,7 @@ impl Tables {
         ensures slabs { IsSlabs self.now }
         ensures table { ArePlaces self.now.lists }
     {
-        self.lists.laws();
+        self.lists.lists().laws();
     }
 
     /// A superblock has `2^order` frames.
@@ -88,7 +88,7 @@ impl Tables {
     pub fn lists(&self) -> &Lists
         ensures { result.now ≡ self.now.lists }
     {
-        &self.lists
+        self.lists.lists()
     }
 
     /// Cache `c` of tenant `t`, if it stands; any number may be asked for.
@@ -115,7 +115,7 @@ impl Tables {
         requires { node < length self.now.lists.places }
         ensures { result ≡ place_at self.now.lists.places node }
     {
-        self.lists.place_of(node)
+        self.lists.lists().place_of(node)
     }
 
     /// First frame and node of the slab of least frame among those of one kind of cache `c` of tenant `t`.
@@ -135,7 +135,7 @@ impl Tables {
         requires cache { c < MOST_CACHES }
         ensures { result ≡ length (keys_of self.now.lists.places (head_of t c (kind_number kind))) }
     {
-        self.lists.len(ListId::of(t, c, kind).number)
+        self.lists.lists().len(ListId::of(t, c, kind).number)
     }
 
     /// How many objects of cache `c` of tenant `t` are live.
@@ -209,8 +209,8 @@ impl Tables {
     }
 
     /// Counts the live objects of the slab of cache `c` of tenant `t` that begins at frame `first` and node `node`: they are
-    /// `count` now. The slab goes to the list of its kind; where the kind stays, no list is touched. Its place in a list of eight or
-    /// more is looked for from the next slab below it in its superblock that stands in that list.
+    /// `count` now. The slab goes to the list of its kind; where the kind stays, no list is touched. Its place in a list is found in
+    /// a number of steps that does not grow with the list.
     #[inline(always)]
     pub fn set_count(&mut self, t: u8, c: u32, cache: &Cache, first: u32, node: u32, count: u32)
         requires tenant { IsTenant self.old t }
@@ -226,15 +226,7 @@ impl Tables {
         let from = ListId::of(t, c, Kind::of(total, before));
         let to = ListId::of(t, c, Kind::of(total, count));
         let slab = cache.layout.order();
-        relist(
-            &mut self.lists,
-            from.number,
-            to.number,
-            node,
-            first,
-            slab,
-            self.order,
-        );
+        self.lists.relist(from.number, to.number, node, first, slab);
         let kept = &mut self.kept[node as usize];
         kept.live = count as u16;
         let i = index_of(t, c);
@@ -274,9 +266,9 @@ impl Tables {
         requires cache { c < MOST_CACHES }
         ensures { IsCleared self.old self.new (λ n. n == index_of_cache t c) }
     {
-        empty_list(&mut self.lists, ListId::of(t, c, Kind::Full).number);
-        empty_list(&mut self.lists, ListId::of(t, c, Kind::Partial).number);
-        empty_list(&mut self.lists, ListId::of(t, c, Kind::Empty).number);
+        self.lists.clear(ListId::of(t, c, Kind::Full).number);
+        self.lists.clear(ListId::of(t, c, Kind::Partial).number);
+        self.lists.clear(ListId::of(t, c, Kind::Empty).number);
         let i = index_of(t, c);
         self.live[i] = 0;
         self.caches[i] = None;
@@ -305,7 +297,7 @@ impl Tables {
         requires free { place_at self.old.lists.places to ≡ None }
         ensures { self.new ≡ with_node_moved self.old from to }
     {
-        replace(&mut self.lists, from, to);
+        self.lists.replace(from, to);
         self.kept[to as usize] = self.kept[from as usize];
     }
 }

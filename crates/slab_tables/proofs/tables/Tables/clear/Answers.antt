@@ -8,13 +8,13 @@ use Rattle.slab_tables.proofs.tables.Tables.clear.Goals as goal
 pub invariant_of-self : goal.invariant_of-self
 invariant_of-self c =
     let i = index_of_cache c.args.t c.args.c in
-    let a = c.empty_list.new.lists in
-    let b = c.empty_list-2.new.lists in
-    let z = c.empty_list-3.new.lists in
+    let a = c.clear.new.self in
+    let b = c.clear-2.new.self in
+    let z = c.clear-3.new.self in
     let first : c.of.result.number ≡ 3 * i = omega (arith, c.of.ensures) in
-    let x : IsEmptied c.self.inside.lists a (3 * i) = subst (IsEmptied c.self.inside.lists a) first c.empty_list.ensures in
-    let y : IsEmptied a b (3 * i + 1) = rw c.of-2.ensures at c.empty_list-2.ensures in
-    let w : IsEmptied b z (3 * i + 2) = rw c.of-3.ensures at c.empty_list-3.ensures in
+    let x : IsEmptied c.self.inside.lists a (3 * i) = subst (IsEmptied c.self.inside.lists a) first c.clear.ensures in
+    let y : IsEmptied a b (3 * i + 1) = rw c.of-2.ensures at c.clear-2.ensures in
+    let w : IsEmptied b z (3 * i + 2) = rw c.of-3.ensures at c.clear-3.ensures in
     rw c.index_of-i.ensures
     (slabs_cleared (shown c.self.inside) i z c.self.invariant (cache_within (shown c.self.inside) c.args.t c.args.c (rw (← c.self.view_is) at c.requires.tenant) c.requires.cache)
     (w.heads ∙ (y.heads ∙ x.heads)) (w.nodes ∙ (y.nodes ∙ x.nodes))

@@ -1,7 +1,7 @@
 use Rattle.std.proofs.Common.{◌≡◌, ℕ, List, Option, Some, None, ap, ◌∙◌}
 use Rattle.std.proofs.lemmas.List.{set-set}
 use Rattle.klist_core.specs.Places.{Placed, inserted, removed}
-use Rattle.slab_tables.proofs.places.move_to.Goals as goal
+use Rattle.slab_tables.proofs.places.SlabLists.move_to.Goals as goal
 
 -- a node that is taken out and put in again is put in
 put_anew : (s t : Placed) (h i k : ℕ) → t ≡ removed s i → inserted t h i k ≡ inserted s h i k
@@ -10,7 +10,10 @@ put_anew s t h i k e =
     ap (λ x. inserted x h i k) e ∙ ap with_places (set-set s.places i None (Some (h, k)))
 
 pub returns-then-len-lt-SHORT : goal.returns-then-len-lt-SHORT
-returns-then-len-lt-SHORT c = c.insert.ensures ∙ put_anew c.args.lists.now _ c.args.head c.args.node c.args.key c.remove.ensures
+returns-then-len-lt-SHORT c = c.insert.ensures ∙ put_anew c.args.self.now _ c.args.head c.args.node c.args.key c.remove.ensures
 
 pub returns-else-len-lt-SHORT : goal.returns-else-len-lt-SHORT
-returns-else-len-lt-SHORT c = c.insert_near.ensures ∙ put_anew c.args.lists.now _ c.args.head c.args.node c.args.key c.remove-else-len-lt-SHORT.ensures
+returns-else-len-lt-SHORT c =
+    c.insert_near.ensures
+    ∙ put_anew c.args.self.now c.self-else-len-lt-SHORT.inside.lists c.args.head c.args.node c.args.key
+    (c.self-else-len-lt-SHORT.view_is ∙ c.remove-else-len-lt-SHORT.ensures)

@@ -1,0 +1,143 @@
+//! Where to look for the slabs of a list. Nothing rests on it but what a change of a list costs: who is told where a slab may
+//! stand looks whether it does.
+
+ghost use Rattle.std.specs.Prelude.{◌≡◌, ◌^◌, ◌<◌, ◌≤◌};
+ghost use Rattle.model_core.specs.declared.limits.TheConstants.{MOST_ORDER};
+
+use model_core::limits::{MOST_CACHES, MOST_SUPERBLOCKS};
+use std::alloc::{AllocError, Global};
+
+/// The order of a group of frames, or a superblock's where that is less: so a group lies in one slot.
+const GROUP_ORDER: u8 = 5;
+
+/// For each list the groups of its tenant's frames in which it has slabs, a bit each, and for each slot of a tenant the superblock
+/// that stood under it when a slab was put there.
+#[derive(Drop)]
+pub(crate) struct Groups {
+    /// A superblock has `2^order` frames.
+    order: u8,
+    /// A group has `2^group` frames.
+    group: u8,
+    /// A list has `2^span` words.
+    span: u8,
+    words: Vec<u64>,
+    superblocks: Vec<u32>,
+    ghost order_small: { order ≤ 8 },
+    ghost group_small: { group ≤ 5 },
+    ghost span_small: { span ≤ 32 },
+}
+
+impl Groups {
+    /// No slab, on a machine of `superblocks` superblocks of `2^order` frames and for `tenants` tenants.
+    pub(crate) fn new(
+        alloc: Global,
+        order: u8,
+        superblocks: u16,
+        tenants: u8,
+    ) -> Result<Groups, AllocError>
+        requires { order ≤ MOST_ORDER }
+    {
+        let group = order.min(GROUP_ORDER);
+        let groups = u32::from(superblocks) << (order - group);
+        let span = (32 - (groups.saturating_sub(1) / 64).leading_zeros()) as u8;
+        let lists = 3 * usize::from(MOST_CACHES) * usize::from(tenants);
+        let slots = usize::from(MOST_SUPERBLOCKS) * usize::from(tenants);
+        Ok(Groups {
+            order,
+            group,
+            span,
+            words: vec![in alloc; 0; lists << span]?,
+            superblocks: vec![in alloc; 0; slots]?,
+        })
+    }
+
+    /// How many frames a group has.
+    pub(crate) fn size(&self) -> u32
+        ensures { 0 < result }
+    {
+        1 << self.group
+    }
+
+    /// Whether two frames are of one group.
+    pub(crate) fn is_one(&self, frame: u32, other: u32) -> bool {
+        frame >> self.group == other >> self.group
+    }
+
+    /// A slab of the list begins at a frame, and there at a node.
+    pub(crate) fn put(&mut self, list: u32, frame: u32, node: u32) {
+        let group = frame >> self.group;
+        let i = self.word_of(list, group / 64);
+        if i < self.words.len() {
+            self.words[i] |= 1 << (group % 64);
+        }
+        self.see(list, frame, node);
+    }
+
+    /// No slab of the list begins in the group of the frame.
+    pub(crate) fn take(&mut self, list: u32, frame: u32) {
+        let group = frame >> self.group;
+        let i = self.word_of(list, group / 64);
+        if i < self.words.len() {
+            self.words[i] &= !(1 << (group % 64));
+        }
+    }
+
+    /// The frame of the list's tenant stands at the node.
+    pub(crate) fn see(&mut self, list: u32, frame: u32, node: u32) {
+        let i = self.slot_of(list, frame);
+        if i < self.superblocks.len() {
+            self.superblocks[i] = node >> self.order;
+        }
+    }
+
+    /// The first frame of the last group before that of the frame in which the list has a slab.
+    pub(crate) fn before(&self, list: u32, frame: u32) -> Option<u32> {
+        let group = frame >> self.group;
+        let own = self.word(list, group / 64) & !(u64::MAX << (group % 64));
+        if own != 0 {
+            return Some(self.last_of(group / 64, own));
+        }
+        for i in (0..group / 64).rev() {
+            let word = self.word(list, i);
+            if word != 0 {
+                return Some(self.last_of(i, word));
+            }
+        }
+        None
+    }
+
+    /// The node at which the frame of the list's tenant stood when a slab was last put into its slot.
+    pub(crate) fn node_of(&self, list: u32, frame: u32) -> Option<u32> {
+        let superblock = *self.superblocks.get(self.slot_of(list, frame))?;
+        Some(superblock << self.order | frame % (1 << self.order))
+    }
+
+    /// The first frame of the last group that has a bit in word `i` of its list.
+    fn last_of(&self, i: u32, word: u64) -> u32
+        requires { i < 2 ^ 26 }
+    {
+        let last = (64 - word.leading_zeros()).saturating_sub(1);
+        64 * i + last << self.group
+    }
+
+    /// Word `i` of the list, 0 where there is none.
+    fn word(&self, list: u32, i: u32) -> u64 {
+        let i = self.word_of(list, i);
+        if i < self.words.len() {
+            self.words[i]
+        } else {
+            0
+        }
+    }
+
+    /// The index of word `i` of the list.
+    fn word_of(&self, list: u32, i: u32) -> usize {
+        (list as usize) << self.span | i as usize
+    }
+
+    /// The index of the frame's slot among those of all tenants.
+    fn slot_of(&self, list: u32, frame: u32) -> usize {
+        let tenant = list as usize / (3 * usize::from(MOST_CACHES));
+        usize::from(MOST_SUPERBLOCKS) * tenant + (frame >> self.order) as usize
+    }
+}
