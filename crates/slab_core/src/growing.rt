@@ -58,7 +58,7 @@ impl Slabs {
             return Some(slab);
         }
         let order = cache.layout.order();
-        if order > buddy.order() || !self.would_fit(space, buddy, t, order) {
+        if order > buddy.order() || !self.fits_by_need(space, buddy, t, order) {
             return None;
         }
         self.give_back_all(space, buddy, t);

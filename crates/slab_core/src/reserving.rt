@@ -41,7 +41,7 @@ impl Slabs {
         if let Some(first) = self.reserve(space, buddy, t, k) {
             return Some(first);
         }
-        if !self.would_fit(space, buddy, t, k) {
+        if !self.fits_by_need(space, buddy, t, k) {
             return None;
         }
         self.give_back_all(space, buddy, t);

@@ -1,6 +1,6 @@
 //! Whether there is room for a block, empty slabs left out of account.
 
-ghost use Rattle.std.specs.Prelude.{◌≡◌, ◌↔◌, ℕ, ◌-◌, ◌*◌, ◌^◌, ◌<◌, ◌≤◌, true, is_some, length, MatchOption};
+ghost use Rattle.std.specs.Prelude.{◌≡◌, ◌↔◌, ℕ, ◌-◌, ◌*◌, ◌^◌, ◌<◌, ◌≤◌, true, false, is_some, length, MatchOption};
 ghost use Rattle.model_core.specs.Machine.{Machine, choice};
 ghost use Rattle.model_core.specs.Slabs.{reaped};
 ghost use Rattle.model_core.specs.declared.limits.TheConstants.{MOST_CACHES, MOST_ORDER};
@@ -8,6 +8,8 @@ ghost use Rattle.parts_laws.specs.Room.{HasRoom};
 ghost use Rattle.parts_laws.specs.Shows.{ShowsMachine, Agree};
 ghost use Rattle.parts_laws.specs.Slots.{HoldTogether};
 ghost use Rattle.parts_laws.specs.Steady.{IsSteady};
+ghost use Rattle.klist_core.specs.Places.{IsEmpty};
+ghost use Rattle.slab_tables.specs.Content.{IsTenant, head_of};
 ghost use Rattle.buddy_core.specs.Content.{BuddyLaws, holding_of, taken_of};
 ghost use Rattle.slab_core.specs.Calls.{idle_at};
 ghost use Rattle.slab_core.specs.Room.{HasFreeBlock, IsUnusedFrame, IsBorder, IsUnusedTo, IsWhole, IsUnusedBlock, HasRoomAround, HasRoomInSlabs, AreRefused, has_number};
@@ -47,11 +49,50 @@ impl Slabs {
             → result ≡ is_some (choice self.now.top (reaped m) k) }
     {
         self.laws_with(space, buddy, t);
-        has_free(buddy, t, k) || self.has_room_in_slabs(space, buddy, t, k)
+        has_free(buddy, t, k) || self.fits_by_need(space, buddy, t, k)
+    }
+
+    /// As [`Slabs::would_fit`], where no block is free that is large enough.
+    pub(crate) fn fits_by_need(&self, space: &Space, buddy: &Buddy, t: u8, k: u8) -> bool
+        requires tenant { t < length space.now.slots }
+        requires order { k ≤ self.now.top }
+        requires agree { Agree space.now buddy.now self.now }
+        requires none { HasFreeBlock buddy.now t k → ⊥ }
+        ensures room { (result ≡ true) ↔ HasRoom space.now buddy.now self.now t k }
+        ensures answer { (m : Machine) → ShowsMachine space.now buddy.now self.now t m
+            → result ≡ is_some (choice self.now.top (reaped m) k) }
+    {
+        self.laws_with(space, buddy, t);
+        self.has_room_in_slabs(space, buddy, t, k)
     }
 
     /// Whether there is room for a block of order `k` around an empty slab of tenant `t`.
     fn has_room_in_slabs(&self, space: &Space, buddy: &Buddy, t: u8, k: u8) -> bool
+        requires tenant { t < length space.now.slots }
+        requires order { k ≤ self.now.top }
+        requires parts { HoldTogether space.now buddy.now self.now }
+        requires steady { IsSteady space.now buddy.now self.now t }
+        ensures { (result ≡ true) ↔ HasRoomInSlabs space.now buddy.now self.now t k }
+    {
+        self.has_empty_slab(t) && self.has_room_around(space, buddy, t, k)
+    }
+
+    /// Whether a slab of tenant `t` is empty.
+    fn has_empty_slab(&self, t: u8) -> bool
+        requires { IsTenant self.now t }
+        ensures { (result ≡ false) ↔ ((c : ℕ) → c < MOST_CACHES → IsEmpty self.now.lists.places (head_of t c 2)) }
+    {
+        for c in 0..u32::from(MOST_CACHES) {
+            if self.tables.first(t, c, Kind::Empty).is_some() {
+                return true;
+            }
+        }
+        false
+    }
+
+    /// Whether there is room for a block of order `k` around an empty slab of tenant `t`: each block in which one begins is walked.
+    #[inline(never)]
+    fn has_room_around(&self, space: &Space, buddy: &Buddy, t: u8, k: u8) -> bool
         requires tenant { t < length space.now.slots }
         requires order { k ≤ self.now.top }
         requires parts { HoldTogether space.now buddy.now self.now }

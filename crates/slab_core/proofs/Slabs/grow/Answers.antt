@@ -1,5 +1,6 @@
 use Rattle.std.proofs.Common.{◌≡◌, true, sym, ap, ◌∙◌, subst, arith}
 use Rattle.std.specs.Prelude.{is_some}
+use Rattle.std.proofs.lemmas.Bool.{false≢true}
 use Rattle.model_core.specs.Machine.{Machine, choice}
 use Rattle.model_core.specs.Slabs.{reaped}
 use Rattle.slab_tables.specs.Content.{layout_numbers}
@@ -7,11 +8,12 @@ use Rattle.parts_laws.specs.Shows.{ShowsMachine}
 use Rattle.parts_laws.specs.Room.{HasRoom}
 use Rattle.parts_laws.specs.Changes.{IsReturned}
 use Rattle.slab_core.specs.Calls.{idle_at}
+use Rattle.slab_core.specs.Room.{HasFreeBlock}
 use Rattle.slab_core.proofs.GrowNeed.{choice_above, need_none, unmoved, grown_by_need, chosen_by_need, grown_at_once, is_there}
 use Rattle.slab_core.proofs.ReserveByNeed.{found_choice, next_choice, room_free}
 use Rattle.slab_core.proofs.ReturnMany.{spares_twice}
 use Rattle.slab_core.proofs.Slabs.grow.Goals as goal
-use Rattle.slab_core.proofs.Slabs.grow.Goals.{then-order-via-then-order, then-order-via-else-order+then-not-would_fit}
+use Rattle.slab_core.proofs.Slabs.grow.Goals.{then-order-via-then-order, then-order-via-else-order+then-not-fits_by_need}
 
 pub returns-in-Some-clause-chosen : goal.returns-in-Some-clause-chosen
 returns-in-Some-clause-chosen c = λ m h. sym (found_choice c.args.self.now.top (layout_numbers c.args.cache.now).order m c.in-Some.slab.0 (sym (c.in-Some.ensures.chosen m h)))
@@ -22,6 +24,12 @@ returns-in-Some-clause-shows c =
     grown_at_once x.space.now c.make_slab.new.space x.buddy.now c.make_slab.new.buddy x.self.now c.make_slab.new.self x.t x.c (layout_numbers x.cache.now).order
     c.in-Some.slab.0 c.in-Some.ensures.chosen c.in-Some.ensures.shows
 
+pub fits_by_need-requires-clause-none : goal.fits_by_need-requires-clause-none
+fits_by_need-requires-clause-none c = λ h.
+    let x = c.args in
+    false≢true (c.in_default.ensures.free.1 (subst (λ k. HasFreeBlock x.buddy.now x.t k) c.order-order.ensures
+    (subst (λ b. HasFreeBlock b x.t c.order-order.result) c.in_default.ensures.refused.1.0 h)))
+
 pub returns-then-order-clause-chosen : goal.returns-then-order-clause-chosen
 returns-then-order-clause-chosen c =
     let x = c.args in
@@ -30,14 +38,14 @@ returns-then-order-clause-chosen c =
           next_choice x.self.now.top (layout_numbers x.cache.now).order m (sym (c.in_default.ensures.chosen m h))
           ∙ choice_above x.self.now.top (layout_numbers x.cache.now).order (reaped m)
           (omega (arith, w.if-order.true, c.order.ensures, c.order-order.ensures, c.requires.agree.order, ap (λ b. b.top) c.in_default.ensures.refused.1.0))
-      | then-order-via-else-order+then-not-would_fit w ↦ λ m h.
+      | then-order-via-else-order+then-not-fits_by_need w ↦ λ m h.
           let answer = unmoved
-          (λ r b s. (m : Machine) → ShowsMachine r b s x.t m → w.would_fit.result ≡ is_some (choice s.top (reaped m) c.order-order.result))
+          (λ r b s. (m : Machine) → ShowsMachine r b s x.t m → w.fits_by_need.result ≡ is_some (choice s.top (reaped m) c.order-order.result))
           x.space.now c.make_slab.new.space x.buddy.now c.make_slab.new.buddy x.self.now c.make_slab.new.self c.in_default.ensures.refused
-          w.would_fit.ensures.answer in
-          let same : w.would_fit.result ≡ is_some (choice x.self.now.top (reaped m) (layout_numbers x.cache.now).order) =
+          w.fits_by_need.ensures.answer in
+          let same : w.fits_by_need.result ≡ is_some (choice x.self.now.top (reaped m) (layout_numbers x.cache.now).order) =
           answer m h ∙ ap (λ k. is_some (choice x.self.now.top (reaped m) k)) c.order-order.ensures in
-          need_none x.self.now.top (layout_numbers x.cache.now).order m (c.in_default.ensures.chosen m h) (sym same ∙ w.if-not-would_fit.true)
+          need_none x.self.now.top (layout_numbers x.cache.now).order m (c.in_default.ensures.chosen m h) (sym same ∙ w.if-not-fits_by_need.true)
     ]
 
 returned : (c : goal.After-make_slab-2) → IsReturned c.args.space.now c.give_back_all.new.space c.args.buddy.now c.give_back_all.new.buddy
@@ -79,7 +87,7 @@ returns-clause-refused c =
     subst (λ k. HasRoom x.space.now x.buddy.now x.self.now x.t k) c.order-order.ensures
     (unmoved (λ r b s. HasRoom r b s x.t c.order-order.result)
     x.space.now c.make_slab.new.space x.buddy.now c.make_slab.new.buddy x.self.now c.make_slab.new.self c.in_default.ensures.refused
-    (c.would_fit.ensures.room.0 c.if-not-would_fit.false)) in
+    (c.fits_by_need.ensures.room.0 c.if-not-fits_by_need.false)) in
     is_there _ c.make_slab-2.result
     (c.make_slab-2.ensures.free.1 (room_free x.space.now c.give_back_all.new.space x.buddy.now c.give_back_all.new.buddy x.self.now c.give_back_all.new.self x.t
     (layout_numbers x.cache.now).order c.laws_with.ensures.steady (returned c) c.give_back_all.ensures.agree room))

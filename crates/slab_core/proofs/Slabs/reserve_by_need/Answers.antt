@@ -9,6 +9,7 @@ use Rattle.parts_laws.specs.Keeps.{Spares}
 use Rattle.parts_laws.specs.Changes.{IsReturned}
 use Rattle.parts_laws.specs.Room.{HasRoom}
 use Rattle.slab_core.specs.Calls.{idle_at}
+use Rattle.slab_core.specs.Room.{HasFreeBlock}
 use Rattle.slab_core.proofs.ReturnMany.{spares_twice}
 use Rattle.slab_core.proofs.ReserveByNeed.{found_choice, found_step, free_room, next_choice, no_choice, refused_step, is_there, IsServedThen, served_then}
 use Rattle.slab_core.proofs.Slabs.reserve_by_need.Goals as goal
@@ -30,29 +31,33 @@ returns-in-Some-clause-room c =
       λ room. found,
     )
 
+pub fits_by_need-requires-clause-none : goal.fits_by_need-requires-clause-none
+fits_by_need-requires-clause-none c = λ h.
+    false≢true (c.in_default.ensures.free.1 (subst (λ b. HasFreeBlock b c.args.t c.args.k) c.in_default.ensures.refused h))
+
 -- not found after all empty slabs are given back either
-still_none : (c : goal.Then-not-would_fit) (m : Machine) → ShowsMachine c.args.space.now c.args.buddy.now c.args.self.now c.args.t m
+still_none : (c : goal.Then-not-fits_by_need) (m : Machine) → ShowsMachine c.args.space.now c.args.buddy.now c.args.self.now c.args.t m
     → false ≡ is_some (choice c.args.self.now.top (reaped m) c.args.k)
 still_none c m h =
-    sym c.if-not-would_fit.true
-    ∙ c.would_fit.ensures.answer m (subst (λ b. ShowsMachine c.args.space.now b c.args.self.now c.args.t m) (sym c.in_default.ensures.refused) h)
+    sym c.if-not-fits_by_need.true
+    ∙ c.fits_by_need.ensures.answer m (subst (λ b. ShowsMachine c.args.space.now b c.args.self.now c.args.t m) (sym c.in_default.ensures.refused) h)
 
-pub returns-then-not-would_fit-clause-answer : goal.returns-then-not-would_fit-clause-answer
-returns-then-not-would_fit-clause-answer c = λ m h.
+pub returns-then-not-fits_by_need-clause-answer : goal.returns-then-not-fits_by_need-clause-answer
+returns-then-not-fits_by_need-clause-answer c = λ m h.
     sym (next_choice c.args.self.now.top c.args.k m (c.in_default.ensures.answer m h)
     ∙ no_choice c.args.self.now.top c.args.k m (choice c.args.self.now.top (reaped m) c.args.k) (still_none c m h))
 
-pub returns-then-not-would_fit-clause-shows : goal.returns-then-not-would_fit-clause-shows
-returns-then-not-would_fit-clause-shows c = λ m h.
+pub returns-then-not-fits_by_need-clause-shows : goal.returns-then-not-fits_by_need-clause-shows
+returns-then-not-fits_by_need-clause-shows c = λ m h.
     subst (λ b. ShowsMachine c.args.space.now b c.args.self.now c.args.t (alloc_step c.args.self.now.top c.args.k m).machine) (sym c.in_default.ensures.refused)
     (subst (ShowsMachine c.args.space.now c.args.buddy.now c.args.self.now c.args.t)
     (sym (refused_step c.args.self.now.top c.args.k m c.requires.order (c.in_default.ensures.answer m h) (still_none c m h))) h)
 
-pub returns-then-not-would_fit-clause-room : goal.returns-then-not-would_fit-clause-room
-returns-then-not-would_fit-clause-room c = (
+pub returns-then-not-fits_by_need-clause-room : goal.returns-then-not-fits_by_need-clause-room
+returns-then-not-fits_by_need-clause-room c = (
   λ e. absurd (false≢true e),
-  λ room. sym c.if-not-would_fit.true
-      ∙ c.would_fit.ensures.room.1 (subst (λ b. HasRoom c.args.space.now b c.args.self.now c.args.t c.args.k) (sym c.in_default.ensures.refused) room),
+  λ room. sym c.if-not-fits_by_need.true
+      ∙ c.fits_by_need.ensures.room.1 (subst (λ b. HasRoom c.args.space.now b c.args.self.now c.args.t c.args.k) (sym c.in_default.ensures.refused) room),
 )
 
 -- found once they are given back
@@ -65,7 +70,7 @@ gone c =
 room : (c : goal.After-reserve-2) → HasRoom c.args.space.now c.args.buddy.now c.args.self.now c.args.t c.args.k
 room c =
     subst (λ b. HasRoom c.args.space.now b c.args.self.now c.args.t c.args.k) c.in_default.ensures.refused
-    (c.would_fit.ensures.room.0 c.if-not-would_fit.false)
+    (c.fits_by_need.ensures.room.0 c.if-not-fits_by_need.false)
 
 served : (c : goal.After-reserve-2) → IsServedThen c.args.space.now c.give_back_all.new.space c.args.buddy.now c.give_back_all.new.buddy
     c.args.self.now c.give_back_all.new.self c.args.t c.args.k c.laws_with.ensures.steady (gone c) c.reserve-2.new.buddy c.reserve-2.result

@@ -1,6 +1,6 @@
 use Rattle.std.proofs.Common.{ℕ, ◌<◌}
 use Rattle.slab_core.specs.Room.{HasRoomAround, AreRefused, has_number}
-use Rattle.slab_core.proofs.Slabs.has_room_in_slabs.Given as goal
+use Rattle.slab_core.proofs.Slabs.has_room_around.Given as goal
 
 abbrev pub invariant-loop-c : goal.invariant-loop-c
 invariant-loop-c l = record {
