@@ -1,14 +1,13 @@
 -- Calls one after another.
-use Rattle.std.proofs.Common.{◌≡◌, ℕ, ◌≤◌, List, [], ◌∷◌, ◌++◌, length, Option, Some, None, Result, Ok, Err, refl, sym, ap, subst, ◌∙◌, arith}
-use Rattle.std.proofs.lemmas.List.{append-nil, length-replicate}
-use Rattle.model_core.specs.Machine.{empty_machine}
+use Rattle.std.proofs.Common.{◌≡◌, ℕ, ◌≤◌, List, [], ◌∷◌, ◌++◌, Option, Some, None, Result, Ok, Err, refl, sym, ap, subst, ◌∙◌, arith}
+use Rattle.std.proofs.lemmas.List.{append-nil}
 use Rattle.words_core.specs.declared.event.Event.{Event}
 use Rattle.words_core.specs.declared.event.LineFault.{LineFault}
 use Rattle.words_core.specs.Cutting.{lines_of_trace}
 use Rattle.words_core.specs.Grammar.{reading_of}
 use Rattle.words_core.specs.Texts.{text_of}
 use Rattle.world_core.specs.Limits.{cache_limit}
-use Rattle.world_core.specs.World.{World, opening_world, world_step, world_after}
+use Rattle.world_core.specs.World.{World, opening_world, world_after}
 use Rattle.world_core.specs.Output.{event_in, events_of, shown_reading, shown_lines, output_of, lines_for, with_line_feeds}
 use Rattle.world_core.specs.Laws as world
 use Rattle.world_core.specs.Laws.{HaveSameOwnList}

@@ -1,6 +1,5 @@
 -- A text written part by part.
-use Rattle.std.proofs.Common.{◌≡◌, ℕ, ◌+◌, ◌-◌, ◌==◌, Bool, true, false, ◌||◌, List, [], ◌∷◌, ◌++◌, Some, Ok, length, take, drop, position, refl, sym, ap, ◌∙◌, arith, append_assoc, length-append}
-use Rattle.std.proofs.lemmas.List.{append-nil}
+use Rattle.std.proofs.Common.{◌≡◌, ℕ, cond, suc, ◌+◌, ◌-◌, ◌==◌, Bool, true, false, ◌||◌, List, [], ◌∷◌, ◌++◌, Some, Ok, length, take, drop, position, refl, sym, ap, ◌∙◌, arith, append_assoc, length-append}
 use Rattle.std.proofs.lemmas.Slice.{drop-append-drop}
 use Rattle.std.specs.List.{position_from}
 use Rattle.std.proofs.lemmas.Iterator.Adapters.{position_from-zero}
@@ -10,7 +9,7 @@ use Rattle.words_core.specs.declared.event.Event.TheVariants.{Tenant}
 use Rattle.quick_core.specs.Lines.{ReadsAs}
 use Rattle.parts_core.specs.Parts.{Parts}
 use Rattle.replay_core.specs.Standing.{IsOneLine}
-use Rattle.partmem_c.specs.Lines.{has_line_feed, AnswersLine, IsTextWritten}
+use Rattle.partmem_c.specs.Lines.{has_line_feed, AnswersLine}
 
 neither : (x y : Bool) → (x || y) ≡ false → (x ≡ false) × (y ≡ false)
 neither false y h = (refl, h)
@@ -82,9 +81,34 @@ line_reads line rest bytes tenant command len none are read =
     let end : len - 1 ≡ length line = some_same _ _ (sym read.ended ∙ at) in
     ap reading_of (sym (ap (take (len - 1)) are ∙ ap (λ n. take n (line ++ 10 ∷ rest)) end ∙ take-front line (10 ∷ rest))) ∙ read.reading
 
+-- a line that was read so is answered so
+pub answered_as : (k k' : Parts) (line text : List ℕ) (tenant : ℕ) (command : Command) → reading_of line ≡ Ok (Some (Tenant tenant command))
+    → AnswersLine k (Ok (Some (Tenant tenant command))) k' text → AnswersLine k (reading_of line) k' text
+answered_as k k' line text tenant command reads answers = rw reads answers
+
 -- so it is answered as that
 pub line_answered : (k k' : Parts) (line rest bytes text : List ℕ) (tenant : ℕ) (command : Command) (len : ℕ) → has_line_feed line ≡ false
     → bytes ≡ line ++ 10 ∷ rest → ReadsAs bytes tenant command len
     → AnswersLine k (Ok (Some (Tenant tenant command))) k' text → AnswersLine k (reading_of line) k' text
 line_answered k k' line rest bytes text tenant command len none are read answers =
-    rw (line_reads line rest bytes tenant command len none are read) answers
+    answered_as k k' line text tenant command (line_reads line rest bytes tenant command len none are read) answers
+
+no_longer : (k n : ℕ) → k ≡ k + suc n → ⊥
+no_longer k n e = omega (arith, e)
+
+-- bytes before the first line feed have none
+found_none : (k : ℕ) (line rest : List ℕ) → position_from (λ b. b == 10) k (line ++ rest) ≡ Some (k + length line) → has_line_feed line ≡ false
+found_none k [] rest found = refl
+found_none k (b ∷ line) rest found =
+    go (b == 10) (λ e. found_none (k + 1) line rest (e ∙ ap (λ n. Some n) (omega arith))) found
+  where
+    go : (test : Bool) → (position_from (λ b. b == 10) (k + 1) (line ++ rest) ≡ Some (k + length (b ∷ line)) → has_line_feed line ≡ false)
+        → cond test (Some k) (position_from (λ b. b == 10) (k + 1) (line ++ rest)) ≡ Some (k + length (b ∷ line)) → (test || has_line_feed line) ≡ false
+    go true later e = absurd (no_longer k (length line) (some_same _ _ e))
+    go false later e = later e
+
+pub line_ended : (line rest bytes : List ℕ) (tenant : ℕ) (command : Command) (len : ℕ) → len ≡ length line + 1
+    → bytes ≡ line ++ 10 ∷ rest → ReadsAs bytes tenant command len → has_line_feed line ≡ false
+line_ended line rest bytes tenant command len whole are read =
+    found_none 0 line (10 ∷ rest) (sym (position_from-zero (λ b. b == 10) (line ++ 10 ∷ rest)) ∙ sym (ap (position (λ b. b == 10)) are)
+    ∙ read.ended ∙ ap (λ n. Some n) (omega (arith, whole)))

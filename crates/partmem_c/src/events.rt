@@ -38,6 +38,33 @@ pub extern "C" fn partmem_event(
     if !machine.is_booted() {
         return NO_MACHINE;
     }
+    let Some(command) = quick_of(asked) else {
+        return run_other(alloc, machine, asked, bytes, told, room);
+    };
+    if room.len() < MOST_BYTES {
+        return NO_ROOM;
+    }
+    let mut kernel = machine.take_out(alloc);
+    *told = ask(&mut kernel, asked.tenant, command);
+    machine.put_in(kernel);
+    DONE
+}
+
+/// [`partmem_event`] of any event; out of line, since it needs more registers than the events of a load.
+#[inline(never)]
+fn run_other(
+    alloc: Global,
+    machine: &mut Machine,
+    asked: &Asked,
+    bytes: &[u8],
+    told: &mut Told,
+    room: &mut [u8],
+) -> u32
+    requires booted { IsSome machine.old.slot.held }
+    ensures status { result ≡ event_status machine.old.slot.held asked.now bytes.now room.old }
+    ensures done { result ≡ DONE → RunsEvent machine.old.slot.held machine.new.slot.held asked.now bytes.now told.new room.old room.new }
+    ensures not_done { result ≢ DONE → (machine.new.slot.held ≡ machine.old.slot.held) × (told.new ≡ told.old) × (room.new ≡ room.old) }
+{
     if !is_event(asked, bytes) {
         return NOT_AN_EVENT;
     }
@@ -50,16 +77,13 @@ pub extern "C" fn partmem_event(
     DONE
 }
 
-/// Runs the event that the numbers and bytes say, and tells its answer: the events of a load in few instructions.
+/// Runs the event that the numbers and bytes say, and tells its answer.
 #[inline(always)]
 fn run_event(kernel: &mut Kernel, asked: &Asked, bytes: &[u8], room: &mut [u8]) -> Told
     requires event { IsSome (asked_event asked.now bytes.now) }
     requires room { MOST_BYTES ≤ length room.old }
     ensures { IfSome (asked_event asked.now bytes.now) (λ event. AnswersEvent kernel.old event kernel.new result room.old room.new) }
 {
-    if let Some(command) = quick_of(asked) {
-        return ask(kernel, asked.tenant, command);
-    }
     match asked.kind {
         READ => read(kernel, asked.tenant, asked.first, asked.second, room),
         WRITE => write(kernel, asked.tenant, asked.first, bytes),

@@ -1,6 +1,6 @@
 //! Lines of a trace, run one at a time.
 
-ghost use Rattle.std.specs.Prelude.{◌≡◌, ◌≢◌, ℕ, ◌+◌, ◌<◌, ◌≤◌, ◌∷◌, ◌++◌, false, List, length, take, drop, Some, Ok, MatchOption};
+ghost use Rattle.std.specs.Prelude.{◌≡◌, ◌≢◌, ℕ, ◌+◌, ◌<◌, ◌≤◌, ◌∷◌, ◌++◌, false, List, length, take, drop, Some, Ok, IsSome, IfSome, MatchOption};
 ghost use Rattle.words_core.specs.Grammar.{reading_of};
 ghost use Rattle.words_core.specs.Texts.{text_of};
 ghost use Rattle.words_core.specs.Answers.{reply_of};
@@ -54,6 +54,33 @@ pub extern "C" fn partmem_line(
     if !machine.is_booted() {
         return NO_MACHINE;
     }
+    let Some(quick) = quick_line(line) else {
+        return run_other(alloc, machine, line, room, written);
+    };
+    if room.len() < MOST_TEXT_BYTES {
+        return NO_ROOM;
+    }
+    let mut kernel = machine.take_out(alloc);
+    *written = answer_quick(quick, &mut kernel, room);
+    machine.put_in(kernel);
+    DONE
+}
+
+/// [`partmem_line`] of any line; out of line, since it needs more registers than most lines of a load.
+#[inline(never)]
+fn run_other(
+    alloc: Global,
+    machine: &mut Machine,
+    line: &[u8],
+    room: &mut [u8],
+    written: &mut usize,
+) -> u32
+    requires booted { IsSome machine.old.slot.held }
+    requires none { written.old ≡ 0 }
+    ensures status { result ≡ line_status machine.old.slot.held line.now room.old }
+    ensures done { result ≡ DONE → RunsLine machine.old.slot.held machine.new.slot.held line.now room.old room.new written.new }
+    ensures not_done { result ≢ DONE → (machine.new.slot.held ≡ machine.old.slot.held) × (room.new ≡ room.old) × (written.new ≡ 0) }
+{
     if line.contains(&b'\n') {
         return NOT_A_LINE;
     }
@@ -76,15 +103,33 @@ fn run_line(kernel: &mut Kernel, line: &[u8], room: &mut [u8]) -> usize
     requires room { most_reply_bytes ≤ length room.old }
     ensures { (text : List ℕ) × AnswersLine kernel.old (reading_of line.now) kernel.new text × IsTextWritten text room.old room.new result }
 {
-    match run_short(kernel, line, room) {
+    match run_transfer(kernel, line, room) {
         Some(written) => written,
         None => answer(read_line(line), kernel, room),
     }
 }
 
-/// [`run_line`] of a line of the short path; None, and nothing is done, where it isn't one, or where that is not sure.
+/// The line, where it is an `alloc`, `free`, `take` or `give` of the short path; None where it isn't, or where that is not sure.
 #[inline(always)]
-fn run_short(kernel: &mut Kernel, line: &[u8], room: &mut [u8]) -> Option<usize>
+fn quick_line(line: &[u8]) -> Option<QuickLine>
+    ensures one { IfSome result (λ quick. has_line_feed line.now ≡ false) }
+    ensures reading { IfSome result (λ quick. reading_of line.now ≡ Ok (Some (Tenant quick.tenant (quick_command quick.command)))) }
+{
+    if line.len() >= WINDOW {
+        return None;
+    }
+    let mut ended = [0; WINDOW];
+    put_ended(line, &mut ended);
+    let quick = read_quick(&ended)?;
+    if quick.len != line.len() + 1 {
+        return None;
+    }
+    Some(quick)
+}
+
+/// [`run_line`] of a read or a write of the short path; None, and nothing is done, where it isn't one, or where that is not sure.
+#[inline(always)]
+fn run_transfer(kernel: &mut Kernel, line: &[u8], room: &mut [u8]) -> Option<usize>
     requires one { has_line_feed line.now ≡ false }
     requires room { most_reply_bytes ≤ length room.old }
     ensures { MatchOption result ((kernel.new ≡ kernel.old) × (room.new ≡ room.old))
@@ -95,9 +140,6 @@ fn run_short(kernel: &mut Kernel, line: &[u8], room: &mut [u8]) -> Option<usize>
     }
     let mut ended = [0; MOST_SHORT_LINE];
     put_ended(line, &mut ended);
-    if let Some(quick) = read_quick(&ended) {
-        return Some(answer_quick(quick, kernel, room));
-    }
     if let Some(read) = read_bytes_line(&ended) {
         return Some(answer_read(read, kernel, room));
     }
@@ -108,8 +150,8 @@ fn run_short(kernel: &mut Kernel, line: &[u8], room: &mut [u8]) -> Option<usize>
 
 /// Puts a line over the first bytes, and a line feed behind it.
 #[inline(always)]
-fn put_ended(line: &[u8], out: &mut [u8; MOST_SHORT_LINE])
-    requires { length line.now < MOST_SHORT_LINE }
+fn put_ended(line: &[u8], out: &mut [u8])
+    requires { length line.now < length out.old }
     ensures { out.new ≡ line.now ++ 10 ∷ drop (length line.now + 1) out.old }
 {
     put(line, out, 0);
