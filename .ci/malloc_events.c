@@ -59,6 +59,8 @@ int main(int words, char **unused)
         return 5;
     for (int some = 0; some < 4000; some++)
         free(malloc(1701));
+    if (dup(STDERR_FILENO) != 3)
+        return 6; /* a file of the log was left open */
     malloc(1601);
     raise(SIGKILL);
 }

@@ -104,13 +104,16 @@ class Tenant:
         self.machine, self.number = machine, len(machine.tenants)
         machine.tenants.append(self)
         self.used = {}      # how many blocks and objects lie in each slot that is held
-        self.things = {}    # by name: for each block or object of a thing, the line that gives it back, and its slot
+        self.things = {}    # by name: for each block or object of a thing, the line that gives it back, its slot, and what asked
         self.told = collections.Counter()
+        self.live, self.most = collections.Counter(), collections.Counter()     # what each line asked for, now and at a time
+        self.blocks = {}    # of each line, the order of the block that it takes, and how many things that has
         stands_for = merged(counts, CACHES)
         sizes = sorted(set(stands_for.values()))
         self.cache_of = {size: sizes.index(stands_for[size]) for size in counts}
         for cache, size in enumerate(sizes):
-            machine.ask(f'{self.number} cache {size} {min(max(size & -size, 8), 256)} {0xa0 + cache:x}')
+            words = machine.ask(f'{self.number} cache {size} {min(max(size & -size, 8), 256)} {0xa0 + cache:x}')
+            self.blocks[f'{self.number} take {cache}'] = int(words[5]), int(words[7])
 
     def request(self, line):
         """The frame or place that is answered, or None. A tenant that is short is granted a superblock, where one is left."""
@@ -119,9 +122,12 @@ class Tenant:
             words = self.machine.ask(line)
         return words and int(words[1])
 
-    def keep(self, parts, back, number, frame):
-        self.used[frame >> self.machine.order] += 1
-        parts.append((f'{self.number} {back} {number}', frame >> self.machine.order))
+    def keep(self, parts, asked, back, frame):
+        slot = frame >> self.machine.order
+        self.used[slot] += 1
+        self.live[asked] += 1
+        self.most[asked] = max(self.most[asked], self.live[asked])
+        parts.append((f'{self.number} {back}', slot, asked))
 
     def take(self, name, size):
         """An object. One that no cache can have is a page block."""
@@ -129,9 +135,10 @@ class Tenant:
             return self.alloc(name, -(-size // FRAME))
         self.give(name, AGAIN)
         parts, cache = self.things.setdefault(name, []), self.cache_of[size]
-        place = self.request(f'{self.number} take {cache}')
+        asked = f'{self.number} take {cache}'
+        place = self.request(asked)
         if place is not None:
-            self.keep(parts, f'give {cache}', place, place // FRAME)
+            self.keep(parts, asked, f'give {cache} {place}', place // FRAME)
         self.told['objects taken' if parts else 'objects refused for want of frames'] += 1
 
     def alloc(self, name, frames):
@@ -140,12 +147,14 @@ class Tenant:
         parts = self.things.setdefault(name, [])
         while frames > 0:
             order = min((frames - 1).bit_length(), self.machine.order)
-            frame = self.request(f'{self.number} alloc {order}')
+            asked = f'{self.number} alloc {order}'
+            frame = self.request(asked)
             if frame is None:
                 self.give(name)
                 self.things[name] = []
                 break
-            self.keep(parts, 'free', frame, frame)
+            self.blocks[asked] = order, 1
+            self.keep(parts, asked, f'free {frame}', frame)
             frames -= 2**order
         self.told['page blocks allocated' if self.things[name] else 'page blocks refused for want of frames'] += 1
 
@@ -155,8 +164,9 @@ class Tenant:
             return False
         if what:
             self.told[what] += 1
-        for line, slot in self.things.pop(name):
+        for line, slot, asked in self.things.pop(name):
             self.machine.ask(line)
+            self.live[asked] -= 1
             self.used[slot] -= 1
             if self.used[slot] == 0:
                 self.take_back(2)
@@ -174,6 +184,19 @@ class Tenant:
             self.machine.ask(line)
         del self.used[max(spare)]
         return True
+
+
+    def tell(self):
+        """What was done and left out; then what docs/capacity.md makes of the most blocks and objects that there were at a time:
+        a cache never has more slabs than these objects fill."""
+        for what, count in sorted((+self.told).items()):
+            print(f'{count:10} {what}', file=sys.stderr)
+        blocks = [(order, -(-self.most[asked] // things)) for asked, (order, things) in self.blocks.items() if self.most[asked]]
+        frames = sum(count * 2**order for order, count in blocks)
+        print(f'{frames:10} frames that the most blocks and objects at a time fill', file=sys.stderr)
+        for order in sorted({order for order, _ in blocks}):
+            needed = (frames - 2**order) // 2**(self.machine.order - order) + 1
+            print(f'{needed:10} superblocks, with which no block of order {order} is refused', file=sys.stderr)
 
 
 def convert(given, read, size_of, kind):
@@ -194,5 +217,4 @@ def convert(given, read, size_of, kind):
     machine.end()
     for tenant, path in zip(tenants, given.logs):
         print(f'tenant {tenant.number} is {path}', file=sys.stderr)
-        for what, count in sorted((+tenant.told).items()):
-            print(f'{count:10} {what}', file=sys.stderr)
+        tenant.tell()
