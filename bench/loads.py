@@ -7,14 +7,16 @@ import random
 
 # Bytes of the objects of each cache of a tenant, by its number.
 SIZES = (16, 24, 64, 100, 256, 500, 1000, 2000, 3000)
+# The cache of objects of a whole frame, which `mixed` makes after those.
+WHOLE = len(SIZES)
 BATCH = 256
 
 
 class Tenant:
     """What a tenant holds, as far as it was told."""
 
-    def __init__(self, number, frames):
-        self.number, self.frames = number, frames
+    def __init__(self, number, slots, order):
+        self.number, self.slots, self.frames = number, slots, slots << order
         self.blocks, self.objects, self.used = [], [], 0
 
     def drop(self, held, draw):
@@ -89,20 +91,66 @@ def transfers(draw, tenants):
                 yield tenant, f'{tenant.number} write {at} {draw.randbytes(count).hex()}', None
 
 
+def mixed(draw, tenants):
+    """Blocks and objects in turn, three in ten of the objects of a whole frame: the slabs of these are full or empty."""
+    for tenant in draw.choices(tenants, k=BATCH):
+        few = len(tenant.objects) + tenant.used < tenant.frames // 2
+        if draw.random() < (.55 if few else .4) or not tenant.objects or not tenant.blocks:
+            if draw.random() < .5:
+                order = draw.choices((0, 1, 2, 3), (8, 4, 2, 1))[0]
+                yield tenant, f'{tenant.number} alloc {order}', order
+            else:
+                yield took(tenant, WHOLE if draw.random() < .31 else draw.randrange(len(SIZES)))
+        elif draw.random() < .5:
+            frame, order = tenant.drop(tenant.blocks, draw)
+            tenant.used -= 1 << order
+            yield tenant, f'{tenant.number} free {frame}', None
+        else:
+            cache, place = tenant.drop(tenant.objects, draw)
+            yield tenant, f'{tenant.number} give {cache} {place}', None
+
+
+FAULTS = ('frobnicate 1', '{} alloc', '{} allot 1', '{} free x', '{} write 0 0', '{} alloc 0 0', '{} take 12345678901', '{} alloc 9')
+
+
+def faulty(draw, tenants):
+    """Half of the lines are no commands, or refused."""
+    for line in pages(draw, tenants):
+        yield line
+        tenant = draw.choice(tenants)
+        yield tenant, draw.choice(FAULTS).format(tenant.number), None
+
+
+def administered(draw, tenants):
+    """Every eighth line puts another superblock under a tenant's slot, as it lies."""
+    for at, line in enumerate(pages(draw, tenants)):
+        yield line
+        if at % 7 == 6:
+            tenant = draw.choice(tenants)
+            yield tenant, f'admin move {tenant.number} {draw.randrange(tenant.slots)}', None
+
+
 def object_of(held):
     cache, place = held
     return SIZES[cache], place
 
 
-LOADS = {'pages': pages, 'objects': objects, 'scattered': scattered, 'transfers': transfers}
+LOADS = {'pages': pages, 'objects': objects, 'scattered': scattered, 'transfers': transfers, 'mixed': mixed, 'faulty': faulty,
+         'administered': administered}
+# Of these no call of an allocator's has the like.
+LINES_ALONE = ('faulty', 'administered')
 
 
 def make(name, ask, lines, order, superblocks, tenants, seed=1):
     """All lines of a load; `ask` runs some and answers the replies, one to a line."""
     draw = random.Random(f'{name} {seed}')
-    made = grants(superblocks, tenants) + caches(draw, tenants)
+    # one superblock is left to move to
+    granted = superblocks - 1 if name == 'administered' else superblocks
+    made = grants(granted, tenants) + caches(draw, tenants)
+    if name == 'mixed':
+        made += [f'{t} cache 4096 8 00' for t in range(tenants)]
     ask(made)
-    holders = [Tenant(t, (superblocks - t + tenants - 1) // tenants << order) for t in range(tenants)]
+    holders = [Tenant(t, (granted - t + tenants - 1) // tenants, order) for t in range(tenants)]
     while len(made) < lines:
         batch = list(LOADS[name](draw, holders))
         for (tenant, line, kind), reply in zip(batch, ask([line for _, line, _ in batch])):
