@@ -11,7 +11,7 @@ KINDS = dict(zip("alloc free read write cache destroy take give reap report".spl
 # How often a tenant asks for each while it takes more than it gives back, and while it gives back more.
 FILLING = dict(zip(KINDS, (20, 5, 14, 14, 4, 2, 34, 10, .3, 1)))
 EMPTYING = FILLING | {"alloc": 4, "free": 20, "take": 8, "give": 34, "reap": .6}
-ADMIN = {"grant": 5, "takeback": 8, "reset": 1, "move": 12, "pool": 1, "broken": 4}
+ADMIN = {"grant": 5, "takeback": 8, "reset": 4, "move": 12, "pool": 1, "broken": 4}
 BROKEN = ("0 alloc", "1 frob 2", "# nothing", "", "99 alloc 0", "0 alloc 4294967296", "0 write 0 abc", "admin grant", "0" * 300)
 FRAME_BYTES = 4096
 # The shares of a tenant's commands that are passed as events, and that are followed into the C library.
