@@ -32,6 +32,8 @@ def arguments(description):
 
 def lines_of(path):
     """The lines of a log with their numbers. Bytes that are no UTF-8 are replaced: only names that nobody looks at have any."""
+    if not os.path.isfile(path):
+        fail(f'{path} could not be read: it is no file, which can be read twice')
     try:
         with (gzip.open if path.endswith('.gz') else open)(path, 'rt', encoding='utf-8', errors='replace') as file:
             yield from enumerate(file, 1)
