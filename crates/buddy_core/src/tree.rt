@@ -118,8 +118,8 @@ impl Tree {
             → IsOpen large self.old.order from (number_at from first) → IsLess small large order first
             → Shows self.old.order small self.new.words }
     {
-        self.split(first, from, order);
-        self.climb(first, from);
+        let node = self.split(first, from, order);
+        self.climb(node, first, from);
     }
 
     /// Makes the block of `order` around frame `first` available, and joins it at once with its buddy while that is one
@@ -133,8 +133,8 @@ impl Tree {
         ensures joined { (small large : ℕ → Bool) → Shows self.old.order small self.old.words → IsLess small large order first
             → (order ≤ result) × IsOpen large self.old.order result (number_at result first) }
     {
-        let joined = self.join(first, order);
-        self.climb(first, joined);
+        let (joined, node) = self.join(first, order);
+        self.climb(node, first, joined);
         joined
     }
 
@@ -148,16 +148,17 @@ impl Tree {
     }
 
     /// Writes the words of the blocks around the one of `order` that has frame `first`, each from those of its halves. Where
-    /// a word stays, all above it stay.
+    /// a word stays, all above it stay. The caller knows the node of that block; `first` is named for the contract alone.
     #[inline(always)]
-    fn climb(&mut self, first: u32, order: u8)
+    fn climb(&mut self, mut node: usize, first: u32, order: u8)
         requires order { order ≤ self.old.order }
+        requires node { IsNode self.old.order order first node }
         requires first { first < 2 ^ self.old.order }
         ensures order { self.new.order ≡ self.old.order }
         ensures words { (old new : ℕ → Bool) → Mended self.old.order order first old new self.old.words
             → IsConfined self.old.order order first old new → Shows self.old.order new self.new.words }
     {
-        let mut node = self.node_of(first, order);
+        let _ = first;
         let top = self.order;
         let words: &mut [u16] = &mut self.words;
         let mut word = words[node - 1];
@@ -172,8 +173,9 @@ impl Tree {
     }
 
     /// Writes the words inside the free block of order `from` around frame `first` once the block of `order` around that
-    /// frame is taken out of it: what is left is one free block of each order between.
-    fn split(&mut self, first: u32, from: u8, order: u8)
+    /// frame is taken out of it: what is left is one free block of each order between. The node of that free block.
+    #[inline(always)]
+    fn split(&mut self, first: u32, from: u8, order: u8) -> usize
         requires order { order ≤ from }
         requires from { from ≤ self.old.order }
         requires first { first < 2 ^ self.old.order }
@@ -181,6 +183,7 @@ impl Tree {
         ensures mended { (large small : ℕ → Bool) → Shows self.old.order large self.old.words
             → IsOpen large self.old.order from (number_at from first) → IsLess small large order first
             → Mended self.old.order from first large small self.new.words }
+        ensures node { IsNode self.old.order from first result }
     {
         let mut node = self.node_of(first, order);
         let words: &mut [u16] = &mut self.words;
@@ -192,19 +195,22 @@ impl Tree {
             node /= 2;
             words[node - 1] = word;
         }
+        node
     }
 
     /// Joins the block of `order` around frame `first`, which is made available, with its buddy while that is one free
-    /// block, and writes the words inside the free block that this gives. The order of that block.
-    fn join(&mut self, first: u32, order: u8) -> u8
+    /// block, and writes the words inside the free block that this gives. The order of that block, and its node.
+    #[inline(always)]
+    fn join(&mut self, first: u32, order: u8) -> (u8, usize)
         requires order { order ≤ self.old.order }
         requires first { first < 2 ^ self.old.order }
         ensures order { self.new.order ≡ self.old.order }
-        ensures rises { order ≤ result }
-        ensures within { result ≤ self.old.order }
+        ensures rises { order ≤ result.0 }
+        ensures within { result.0 ≤ self.old.order }
         ensures mended { (small large : ℕ → Bool) → Shows self.old.order small self.old.words → IsLess small large order first
-            → Mended self.old.order result first small large self.new.words
-            × IsOpen large self.old.order result (number_at result first) }
+            → Mended self.old.order result.0 first small large self.new.words
+            × IsOpen large self.old.order result.0 (number_at result.0 first) }
+        ensures node { IsNode self.old.order result.0 first result.1 }
     {
         let mut node = self.node_of(first, order);
         let top = self.order;
@@ -213,13 +219,13 @@ impl Tree {
             let buddy = sibling(node);
             if words[buddy - 1] != 1 << level {
                 words[node - 1] = 1 << level;
-                return level;
+                return (level, node);
             }
             words[buddy - 1] = 0;
             words[node - 1] = 0;
             node /= 2;
         }
         words[node - 1] = 1 << top;
-        top
+        (top, node)
     }
 }
