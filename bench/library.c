@@ -2,9 +2,9 @@
  *
  *     library HOW ORDER SUPERBLOCKS TENANTS TRACE
  *
- * HOW is `event` (partmem_event), `line` (partmem_line) or `malloc`. The calls are made in turn on a machine just booted, with all
- * that is passed to them made before, and what they answer is thrown away. For malloc a page block or an object is a block of as
- * many bytes, whose first byte is written; lines that neither take nor give are left out. The allocator that is linked or
+ * HOW is `event` (partmem_event), `line` (partmem_line) or `malloc`. The calls are made in turn on a machine just booted, with
+ * all that is passed to them made before, and what they answer is thrown away. For malloc a page block or an object is a block of
+ * as many bytes, whose first byte is written; lines that neither take nor give are left out. The allocator that is linked or
  * preloaded is the one that is measured.
  */
 #define _POSIX_C_SOURCE 200809L
@@ -109,7 +109,8 @@ static void read_trace(const char *path) {
 }
 
 static void boot(char **sizes) {
-    check(partmem_boot(&machine, (uint32_t)atol(sizes[0]), (uint32_t)atol(sizes[1]), (uint32_t)atol(sizes[2])) == PARTMEM_DONE, "boot");
+    uint32_t order = (uint32_t)atol(sizes[0]), superblocks = (uint32_t)atol(sizes[1]), tenants = (uint32_t)atol(sizes[2]);
+    check(partmem_boot(&machine, order, superblocks, tenants) == PARTMEM_DONE, "boot");
 }
 
 static partmem_told run(const struct call *call) {
@@ -118,7 +119,7 @@ static partmem_told run(const struct call *call) {
     return told;
 }
 
-/* What malloc has to do for each line, by what the library answers it: which block begins at a frame, and which object at a place. */
+/* What malloc has to do for each line, by what the library answers it: a frame or a place says which block is given back. */
 static void plan(char **sizes) {
     size_t frames = (size_t)atol(sizes[1]) << atol(sizes[0]), granules = frames * FRAME_BYTES / 8;
     static size_t chunk[MOST_TENANTS][MOST_CACHES];
