@@ -1,0 +1,5 @@
+pub mod FormLoop
+pub mod FormLemmas
+pub mod KindLemmas
+pub mod SaidLemmas
+pub mod AnswerLemmas

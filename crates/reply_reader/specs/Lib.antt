@@ -1,0 +1,3 @@
+pub mod Ranges
+pub mod Forms
+pub mod Reading
