@@ -59,19 +59,19 @@ pub whole_is : {A : Type 0} (found : A × List ℕ) (x : A) → whole found ≡ 
 whole_is (y, []) x e = (same_Some y x e, refl)
 whole_is (y, b ∷ rest) x e = absurd cc
 
-line : (front label : List ℕ) → concat ((front ++ label ++ 10 ∷ []) ∷ []) ≡ front ++ (label ++ 10 ∷ [])
+pub line : (front label : List ℕ) → concat ((front ++ label ++ 10 ∷ []) ∷ []) ≡ front ++ (label ++ 10 ∷ [])
 line front label = append-nil (front ++ label ++ 10 ∷ []) ∙ append_assoc front label (10 ∷ [])
 
-line_of_one : (front label number : List ℕ) → concat ((front ++ label ++ number ++ 10 ∷ []) ∷ []) ≡ front ++ (label ++ (number ++ 10 ∷ []))
+pub line_of_one : (front label number : List ℕ) → concat ((front ++ label ++ number ++ 10 ∷ []) ∷ []) ≡ front ++ (label ++ (number ++ 10 ∷ []))
 line_of_one front label number =
     append-nil (front ++ label ++ number ++ 10 ∷ []) ∙ append_assoc (front ++ label) number (10 ∷ []) ∙ append_assoc front label (number ++ 10 ∷ [])
 
-line_of_two : (front a m b n : List ℕ) → concat ((front ++ a ++ m ++ b ++ n ++ 10 ∷ []) ∷ []) ≡ front ++ (a ++ (m ++ (b ++ (n ++ 10 ∷ []))))
+pub line_of_two : (front a m b n : List ℕ) → concat ((front ++ a ++ m ++ b ++ n ++ 10 ∷ []) ∷ []) ≡ front ++ (a ++ (m ++ (b ++ (n ++ 10 ∷ []))))
 line_of_two front a m b n =
     append-nil (front ++ a ++ m ++ b ++ n ++ 10 ∷ []) ∙ append_assoc (front ++ a ++ m ++ b) n (10 ∷ []) ∙ append_assoc (front ++ a ++ m) b (n ++ 10 ∷ [])
     ∙ append_assoc (front ++ a) m (b ++ (n ++ 10 ∷ [])) ∙ append_assoc front a (m ++ (b ++ (n ++ 10 ∷ [])))
 
-line_of_five : (front a m b n c o d p e q : List ℕ)
+pub line_of_five : (front a m b n c o d p e q : List ℕ)
     → concat ((front ++ a ++ m ++ b ++ n ++ c ++ o ++ d ++ p ++ e ++ q ++ 10 ∷ []) ∷ [])
     ≡ front ++ (a ++ (m ++ (b ++ (n ++ (c ++ (o ++ (d ++ (p ++ (e ++ (q ++ 10 ∷ []))))))))))
 line_of_five front a m b n c o d p e q =
@@ -106,10 +106,10 @@ said_text front (Refused refusal) =
 answer_text : (answer : Answer) → text_of (reply_of answer) ≡ addressee_text answer.addressee ++ spelled answer.said
 answer_text answer = said_text (addressee_text answer.addressee) answer.said
 
-abbrev alone_of : Addressee → Said × List ℕ → Option Answer
+abbrev pub alone_of : Addressee → Said × List ℕ → Option Answer
 alone_of who said = whole said >>= (λ alone. Some (record { addressee = who; said = alone }))
 
-abbrev said_of : Addressee × List ℕ → Option Answer
+abbrev pub said_of : Addressee × List ℕ → Option Answer
 said_of front = said_at front.1 >>= alone_of front.0
 
 -- what was read is the answer whose text it is

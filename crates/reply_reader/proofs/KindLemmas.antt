@@ -1,5 +1,5 @@
 -- What is made of the numbers in a form.
-use Rattle.std.proofs.Common.{◌≡◌, ℕ, ◌^◌, ◌<◌, true, cond, List, [], ◌∷◌, ◌++◌, length, get_or, Option, Some, None, refl, sym, ◌∙◌, ap, arith}
+use Rattle.std.proofs.Common.{◌≡◌, ℕ, ◌^◌, ◌<◌, true, cond, List, [], ◌∷◌, ◌++◌, length, get_or, Option, Some, None, refl, sym, subst, ◌∙◌, ap, arith}
 use Rattle.std.specs.List.{All}
 use Rattle.std.proofs.lemmas.Bool.Decides.{nat_tests}
 use Rattle.std.proofs.lemmas.List.Elements.{All-nil, All-cons}
@@ -19,6 +19,18 @@ kind_takes form makes spell says text x rest e =
     let (x_is, rest_is) = some_pair_parts made x found.1 rest last in
     let (text_is, count) = form_takes form text found.0 found.1 is in
     text_is ∙ ap (λ t. t ++ found.1) (sym (says found.0 made count made_is)) ∙ (λ i. spell (x_is i) ++ rest_is i)
+
+-- and what else is known of what is made
+pub kind_takes_with : {A : Type 0} (form : List ℕ) (makes : List ℕ → Option A) (spell : A → List ℕ) (P : A → Type 0)
+    → ((ns : List ℕ) (x : A) → length ns ≡ marks form → makes ns ≡ Some x → (spell x ≡ form_text form ns) × P x)
+    → (text : List ℕ) (x : A) (rest : List ℕ) → made_at form makes text ≡ Some (x, rest) → (text ≡ spell x ++ rest) × P x
+kind_takes_with form makes spell P says text x rest e =
+    let (found, is, next) = bind_some (form_at form text) (λ found. makes found.0 >>= (λ made. Some (made, found.1))) (x, rest) e in
+    let (made, made_is, last) = bind_some (makes found.0) (λ made. Some (made, found.1)) (x, rest) next in
+    let (x_is, rest_is) = some_pair_parts made x found.1 rest last in
+    let (text_is, count) = form_takes form text found.0 found.1 is in
+    let (spelled, known) = says found.0 made count made_is in
+    (text_is ∙ ap (λ t. t ++ found.1) (sym spelled) ∙ (λ i. spell (x_is i) ++ rest_is i), subst P x_is known)
 
 pub kind_again : {A : Type 0} (form : List ℕ) (makes : List ℕ → Option A) (x : A) (ns rest : List ℕ) → is_form form ≡ true
     → length ns ≡ marks form → All (λ n. n < 2 ^ 32) ns → makes ns ≡ Some x → made_at form makes (form_text form ns ++ rest) ≡ Some (x, rest)

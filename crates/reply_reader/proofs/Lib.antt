@@ -3,3 +3,4 @@ pub mod FormLemmas
 pub mod KindLemmas
 pub mod SaidLemmas
 pub mod AnswerLemmas
+pub mod SingleLemmas

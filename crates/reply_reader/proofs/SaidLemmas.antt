@@ -178,7 +178,7 @@ number_again SlotBusy = (refl, omega arith)
 regroup : (a b rest : List ℕ) → (a ++ (b ++ 10 ∷ [])) ++ rest ≡ a ++ (b ++ 10 ∷ rest)
 regroup a b rest = append_assoc a (b ++ 10 ∷ []) rest ∙ ap (λ t. a ++ t) (append_assoc b (10 ∷ []) rest)
 
-ended_again : (rest : List ℕ) → form_at (codes "\n") (10 ∷ rest) ≡ Some ([], rest)
+pub ended_again : (rest : List ℕ) → form_at (codes "\n") (10 ∷ rest) ≡ Some ([], rest)
 unfolding form_at mark_at
 ended_again rest = refl
 

@@ -61,7 +61,7 @@ pub fn read_answer(text: &[u8]) -> Option<Answer>
 }
 
 #[tactic(auto, unfolding(crate::specs::Reading::answer_of))]
-fn answer_of(text: &[u8]) -> Option<Answer>
+pub fn answer_of(text: &[u8]) -> Option<Answer>
     ensures { result ≡ answer_of text.now }
 {
     let (addressee, rest) = addressee_at(text)?;

@@ -7,5 +7,7 @@
 mod answer;
 mod form;
 mod said;
+mod single;
 
 pub use answer::read_answer;
+pub use single::read_single;
