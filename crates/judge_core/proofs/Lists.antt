@@ -1,0 +1,73 @@
+-- The tests of the definitions in the order in which they are computed.
+use Rattle.std.proofs.Common.{◌≡◌, ℕ, ◌+◌, ◌*◌, ◌^◌, ◌-◌, ◌<◌, get_or, drop, sym, Bool, true, false, not, ◌||◌, ◌&&◌, ◌==◌, if◌then◌else◌, List, [], ◌∷◌, ◌++◌, map, find, filter, length, Option, Some, None, option_map, refl, ap, ◌∙◌, cond, arith, length-append}
+use Rattle.std.specs.List.{list_any, flat_map, sum_by}
+use Rattle.std.specs.List.{range_with_len}
+use Rattle.std.specs.Option.{option_map_or}
+use Rattle.std.proofs.lemmas.List.{at_drop_more, length_push}
+use Rattle.std.proofs.lemmas.List.Sums.{sum_by-cons}
+use Rattle.std.proofs.lemmas.List.Concat.{flat_map-cons}
+use Rattle.std.proofs.lemmas.List.FromFn.{filter_of_map_range_with_len_more}
+use Rattle.model_core.specs.Reach.{is_within}
+use Rattle.promise_core.specs.Bytes.{Holder, object_with}
+use Rattle.model_core.proofs.Lists.{any_append, any_map, any_flat_map}
+use Rattle.model_core.specs.Blocks.{Block, block}
+use Rattle.model_core.specs.Machine.{order_in}
+use Rattle.model_core.specs.Operations.{overlaps}
+use Rattle.promise_core.specs.Holdings.{ToldCache, Holdings, told_blocks, is_vacant, slab_around, blocks_of_slot, vacant_blocks}
+
+pub vacant_is : (h : Holdings) (b : Block)
+    → is_vacant h b ≡ not (list_any (overlaps b) h.pages || list_any (λ c. list_any (λ p. overlaps b (slab_around c p)) c.live) h.caches)
+unfolding told_blocks
+vacant_is h b = ap not (any_append (overlaps b) h.pages (flat_map (λ c. map (slab_around c) c.live) h.caches)
+    ∙ ap (λ x. list_any (overlaps b) h.pages || x) (any_flat_map (overlaps b) (λ c. map (slab_around c) c.live) h.caches
+    ∙ (λ i. list_any (λ c. any_map (overlaps b) (slab_around c) c.live i) h.caches)))
+
+pub order_found : (f : ℕ) (bs : List Block) → order_in bs f ≡ option_map (λ b. b.order) (find (λ b. b.first == f) bs)
+order_found f [] = refl
+order_found f (b ∷ bs) = go (b.first == f) (order_found f bs)
+  where
+    go : (t : Bool) → order_in bs f ≡ option_map (λ (x : Block). x.order) (find (λ x. x.first == f) bs)
+        → (if t then Some b.order else order_in bs f) ≡ option_map (λ (x : Block). x.order) (if t then Some b else find (λ x. x.first == f) bs)
+    go true rest = refl
+    go false rest = rest
+
+filter_append : {X : Type 0} (p : X → Bool) (xs ys : List X) → filter p (xs ++ ys) ≡ filter p xs ++ filter p ys
+filter_append p [] ys = refl
+filter_append p (x ∷ xs) ys = go (p x) (filter_append p xs ys)
+  where
+    go : (t : Bool) → filter p (xs ++ ys) ≡ filter p xs ++ filter p ys
+        → (if t then x ∷ filter p (xs ++ ys) else filter p (xs ++ ys)) ≡ (if t then x ∷ filter p xs else filter p xs) ++ filter p ys
+    go true rest = ap (λ r. x ∷ r) rest
+    go false rest = rest
+
+passing_flat : {X Y : Type 0} (p : Y → Bool) (f : X → List Y) (xs : List X)
+    → length (filter p (flat_map f xs)) ≡ sum_by (λ x. length (filter p (f x))) xs
+passing_flat p f [] = refl
+passing_flat p f (x ∷ xs) = ap (λ ys. length (filter p ys)) (flat_map-cons f x xs) ∙ ap length (filter_append p (f x) (flat_map f xs)) ∙ length-append (filter p (f x)) (filter p (flat_map f xs))
+    ∙ ap (λ n. length (filter p (f x)) + n) (passing_flat p f xs) ∙ sym (sum_by-cons (λ x. length (filter p (f x))) x xs)
+
+pub vacant_sum : (order k : ℕ) (h : Holdings)
+    → length (vacant_blocks order h k) ≡ sum_by (λ u. length (filter (is_vacant h) (blocks_of_slot order k u))) h.slots
+unfolding vacant_blocks
+vacant_sum order k h = passing_flat (is_vacant h) (blocks_of_slot order k) h.slots
+
+-- those of the blocks from a number on that are vacant
+abbrev pub vacant_from : Holdings → ℕ → ℕ → ℕ → ℕ
+vacant_from h k begin n = length (filter (is_vacant h) (map (λ i. block (i * 2 ^ k) k) (range_with_len begin n)))
+
+pub more_vacant : (h : Holdings) (k begin i : ℕ) → is_vacant h (block ((begin + i) * 2 ^ k) k) ≡ true → vacant_from h k begin (i + 1) ≡ vacant_from h k begin i + 1
+more_vacant h k begin i e = ap length (filter_of_map_range_with_len_more (is_vacant h) (λ i. block (i * 2 ^ k) k) begin i (begin + i) refl
+    ∙ ap (λ t. filter (is_vacant h) (map (λ i. block (i * 2 ^ k) k) (range_with_len begin i)) ++ cond t (block ((begin + i) * 2 ^ k) k ∷ []) []) e)
+    ∙ length-append (filter (is_vacant h) (map (λ i. block (i * 2 ^ k) k) (range_with_len begin i))) (block ((begin + i) * 2 ^ k) k ∷ [])
+
+pub more_taken : (h : Holdings) (k begin i : ℕ) → is_vacant h (block ((begin + i) * 2 ^ k) k) ≡ false → vacant_from h k begin (i + 1) ≡ vacant_from h k begin i
+more_taken h k begin i e = ap length (filter_of_map_range_with_len_more (is_vacant h) (λ i. block (i * 2 ^ k) k) begin i (begin + i) refl
+    ∙ ap (λ t. filter (is_vacant h) (map (λ i. block (i * 2 ^ k) k) (range_with_len begin i)) ++ cond t (block ((begin + i) * 2 ^ k) k ∷ []) []) e)
+    ∙ length-append (filter (is_vacant h) (map (λ i. block (i * 2 ^ k) k) (range_with_len begin i))) []
+    ∙ omega arith
+
+pub next_object : (place len i first : ℕ) (cs : List ToldCache) (c : ToldCache) → i < length cs → c ≡ get_or cs i c
+    → find (λ first. is_within place len first c.size) c.live ≡ Some first → object_with place len (drop i cs) ≡ Some (Holder.Object c.number first)
+next_object place len i first cs c lt is found = at_drop_more (object_with place len) cs i c lt
+    ∙ ap (λ d. object_with place len (d ∷ drop (i + 1) cs)) (sym is)
+    ∙ ap (λ o. option_map_or (λ first. Some (Holder.Object c.number first)) o (object_with place len (drop (i + 1) cs))) found

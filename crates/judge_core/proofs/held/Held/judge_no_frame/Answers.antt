@@ -1,0 +1,20 @@
+use Rattle.std.proofs.Common.{◌≡◌, true, false, [], ◌∷◌, sym, ap, ◌∙◌, arith}
+use Rattle.std.specs.Prelude.{is_none}
+use Rattle.std.proofs.lemmas.Bool.{lt-ltb, le-ltb}
+use Rattle.words_core.specs.declared.event.Event.TheVariants as On
+use Rattle.words_core.specs.declared.event.Command.TheVariants as Asked
+use Rattle.promise_core.specs.declared.promise.Promise.{Promise}
+use Rattle.promise_core.specs.State.{State, Known}
+use Rattle.judge_core.specs.Verdicts.{broken, verdict_on, on_refusal}
+use Rattle.std.proofs.Common.{not, Some, None}
+use Rattle.judge_core.proofs.OnPages.{bad_order, no_frames}
+use Rattle.judge_core.proofs.held.Held.judge_no_frame.Goals as goal
+
+pub returns-then-k-from : goal.returns-then-k-from
+returns-then-k-from c t w s = let w' : Known = record w { order = c.args.order } in let s' : State = record s { has = c.args.self.now } in
+    c.on_refusal.ensures ∙ sym (bad_order c.args.k t w' s' c.args.refusal (lt-ltb c.args.order c.args.k (omega arith)))
+
+pub returns : goal.returns
+returns c t w s = let w' : Known = record w { order = c.args.order } in let s' : State = record s { has = c.args.self.now } in
+    c.on_refusal-2.ensures ∙ (ap (λ b. on_refusal c.args.refusal None (not b) false) c.has_room.ensures
+    ∙ sym (no_frames c.args.k t w' s' c.args.refusal (le-ltb c.args.order c.args.k (omega arith))))

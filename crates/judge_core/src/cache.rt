@@ -1,0 +1,221 @@
+//! A cache of a tenant, as it was asked for and as its reply told it.
+
+ghost use Rattle.std.specs.Prelude.{◌≡◌, ℕ, ◌+◌, ◌-◌, ◌*◌, ◌/◌, ◌%◌, ◌^◌, ◌<◌, ◌≤◌, nat_le, nat_lt, ◌==◌, ◌&&◌, map, find, filter, length, Some};
+ghost use Rattle.std.specs.List.{list_any, list_all};
+ghost use Rattle.model_core.specs.declared.limits.TheConstants.{FRAME_BYTES, MOST_ORDER};
+ghost use Rattle.model_core.specs.Choice.{is_any_below};
+ghost use Rattle.model_core.specs.Operations.{overlaps};
+ghost use Rattle.model_core.specs.Reach.{is_within};
+ghost use Rattle.promise_core.specs.Holdings.{slab_around, live_beside, is_slab_full, are_apart, is_grid};
+
+use crate::block::FrameBlock;
+use arrayvec::ArrayVec;
+use model_core::limits::{FRAME_BYTES, MOST_PATTERN};
+use std::marker::Model;
+
+/// A cache with its live objects. Sizes are in bytes.
+#[derive(Debug, Drop)]
+pub struct HeldCache {
+    number: u8,
+    size: u32,
+    align: u32,
+    pattern: ArrayVec<u8, MOST_PATTERN>,
+    chunk: u32,
+    order: u8,
+    count: u32,
+    live: Vec<u32>,
+}
+
+impl Model for HeldCache {
+    ghost use Rattle.promise_core.specs.Holdings.{ToldCache};
+    ghost use Rattle.judge_core.specs.Inside.{IsCut};
+
+    ghost Value = { ToldCache };
+
+    ghost view = { λ c. record { number = c.number; size = c.size; align = c.align; pattern = c.pattern.items; chunk = c.chunk; order = c.order; count = c.count; live = c.live.items } };
+
+    ghost invariant = { λ c. IsCut c.size c.align c.chunk c.order c.count };
+}
+
+impl HeldCache {
+    /// The number of the cache.
+    pub fn number(&self) -> u8
+        ensures { result ≡ self.now.number }
+    {
+        self.number
+    }
+
+    /// A slab has `2^order` frames.
+    pub fn order(&self) -> u8
+        ensures value { result ≡ self.now.order }
+        ensures most { result ≤ MOST_ORDER }
+    {
+        self.order
+    }
+
+    /// Whether the cache has a live object.
+    pub fn is_in_use(&self) -> bool
+        ensures { result ≡ nat_lt 0 (length self.now.live) }
+    {
+        !self.live.is_empty()
+    }
+
+    /// Whether a live object begins at the place.
+    pub fn has_live(&self, place: u32) -> bool
+        ensures { result ≡ list_any (λ p. p == place) self.now.live }
+    {
+        self.live.iter().any(|p| *p == place)
+    }
+
+    /// The slab that an object at this place is in.
+    pub fn slab_around(&self, place: u32) -> FrameBlock
+        ensures { result ≡ slab_around self.now place }
+    {
+        FrameBlock::around(place / FRAME_BYTES, self.order)
+    }
+
+    /// Whether the slab of a live object shares a frame with the block.
+    pub fn has_slab_over(&self, block: &FrameBlock) -> bool
+        ensures { result ≡ list_any (λ p. overlaps block.now (slab_around self.now p)) self.now.live }
+    {
+        self.live
+            .iter()
+            .any(|place| block.overlaps(&self.slab_around(*place)))
+    }
+
+    /// How many live objects are in the slab that has the place.
+    pub fn count_beside(&self, place: u32) -> usize
+        ensures { result ≡ length (live_beside self.now place) }
+    {
+        let first = self.slab_around(place).first();
+        self.live
+            .iter()
+            .filter(|p| self.slab_around(**p).first() == first)
+            .count()
+    }
+
+    /// Whether all objects of that slab are live.
+    pub fn is_slab_full(&self, place: u32) -> bool
+        ensures { result ≡ is_slab_full self.now place }
+    {
+        self.count_beside(place) == self.count as usize
+    }
+
+    /// Whether all objects of all slabs that have a live one are live.
+    pub fn is_full(&self) -> bool
+        ensures { result ≡ list_all (is_slab_full self.now) self.now.live }
+    {
+        self.live.iter().all(|place| self.is_slab_full(*place))
+    }
+
+    /// The first place of the live object that has the `len` bytes from `place` on.
+    pub fn object_with(&self, place: u32, len: u32) -> Option<u32>
+        ensures { result ≡ find (λ first. is_within place len first self.now.size) self.now.live }
+    {
+        let end = u64::from(place) + u64::from(len);
+        let size = u64::from(self.size);
+        self.live
+            .iter()
+            .copied()
+            .find(|first| *first <= place && end <= u64::from(*first) + size)
+    }
+
+    /// Whether an object at the place shares no byte with a live one of its slab.
+    pub fn is_apart(&self, place: u32) -> bool
+        ensures { result ≡ list_all (are_apart self.now place) (live_beside self.now place) }
+    {
+        let first = self.slab_around(place).first();
+        self.live
+            .iter()
+            .filter(|p| self.slab_around(**p).first() == first)
+            .all(|p| self.are_apart(place, *p))
+    }
+
+    fn are_apart(&self, p: u32, q: u32) -> bool
+        ensures { result ≡ are_apart self.now p q }
+    {
+        let size = u64::from(self.size);
+        u64::from(p) + size <= u64::from(q) || u64::from(q) + size <= u64::from(p)
+    }
+
+    /// Whether an object may begin at the place by its alignment.
+    pub fn is_aligned(&self, place: u32) -> bool
+        ensures { result ≡ (place % self.now.align == 0) }
+    {
+        place % self.align == 0
+    }
+
+    /// How many objects a slab has.
+    pub fn count(&self) -> u32
+        ensures { result ≡ self.now.count }
+    {
+        self.count
+    }
+
+    /// Whether the live objects of the slab that has the place are such as a slab has whose object `i` is at the place.
+    fn is_on_grid(&self, place: u32, i: u32) -> bool
+        requires { i < self.now.count }
+        ensures { result ≡ (nat_le (i * self.now.chunk) place
+            && is_grid self.now (slab_around self.now place) (place - i * self.now.chunk) (live_beside self.now place)) }
+    {
+        let before = i * self.chunk;
+        before <= place && self.is_grid(place, place - before)
+    }
+
+    /// Whether they are such as a slab has whose first object is at `origin`.
+    fn is_grid(&self, place: u32, origin: u32) -> bool
+        ensures { result ≡ is_grid self.now (slab_around self.now place) origin (live_beside self.now place) }
+    {
+        let slab = self.slab_around(place);
+        let objects = u64::from((self.count - 1) * self.chunk + self.size);
+        slab.first_byte() <= u64::from(origin)
+            && u64::from(origin) + objects <= slab.end_byte()
+            && self.are_steps(place, origin)
+    }
+
+    /// Whether each live object of the slab that has the place is one of a slab whose first object is at `origin`.
+    fn are_steps(&self, place: u32, origin: u32) -> bool
+        ensures { result ≡ list_all (λ p. nat_le origin p && ((p - origin) % self.now.chunk == 0
+            && nat_lt ((p - origin) / self.now.chunk) self.now.count)) (live_beside self.now place) }
+    {
+        let first = self.slab_around(place).first();
+        self.live
+            .iter()
+            .filter(|p| self.slab_around(**p).first() == first)
+            .all(|p| self.is_step(origin, *p))
+    }
+
+    /// Whether an object begins at the place in a slab whose first object is at `origin`.
+    fn is_step(&self, origin: u32, place: u32) -> bool
+        ensures { result ≡ (nat_le origin place
+            && ((place - origin) % self.now.chunk == 0 && nat_lt ((place - origin) / self.now.chunk) self.now.count)) }
+    {
+        origin <= place
+            && (place - origin) % self.chunk == 0
+            && (place - origin) / self.chunk < self.count
+    }
+
+    /// Whether the live objects of the slab that has the place are such as a slab has with some object at the place.
+    fn is_on_some_grid(&self, place: u32) -> bool
+        ensures { result ≡ is_any_below (λ i. nat_le (i * self.now.chunk) place
+            && is_grid self.now (slab_around self.now place) (place - i * self.now.chunk) (live_beside self.now place)) self.now.count }
+    {
+        for i in 0..self.count() {
+            if self.is_on_grid(place, i) {
+                return true;
+            }
+        }
+        false
+    }
+
+    /// Whether the slab that has the place has room for an object there, beside its live ones.
+    pub fn has_gap(&self, place: u32) -> bool
+        ensures { let beside = live_beside self.now place in result ≡ (nat_lt (length beside) self.now.count
+            && (list_all (are_apart self.now place) beside && is_any_below (λ i. nat_le (i * self.now.chunk) place
+            && is_grid self.now (slab_around self.now place) (place - i * self.now.chunk) beside) self.now.count)) }
+    {
+        self.count_beside(place) < self.count as usize
+            && self.is_apart(place)
+            && self.is_on_some_grid(place)
+    }
+}

@@ -1,0 +1,211 @@
+//! What a tenant has, as replies told it.
+
+ghost use Rattle.std.specs.Prelude.{◌≡◌, ℕ, ◌+◌, ◌-◌, ◌*◌, ◌/◌, ◌%◌, ◌^◌, ◌<◌, ◌≤◌, nat_le, nat_lt, ◌==◌, ◌&&◌, map, find, filter, length, Some, option_map};
+ghost use Rattle.std.specs.List.{list_any, list_all};
+ghost use Rattle.std.specs.Option.{option_copied};
+ghost use Rattle.model_core.specs.declared.limits.TheConstants.{FRAME_BYTES, MOST_ORDER};
+ghost use Rattle.model_core.specs.Machine.{order_in};
+ghost use Rattle.std.specs.List.{range_with_len};
+ghost use Rattle.model_core.specs.Blocks.{block};
+ghost use Rattle.model_core.specs.Operations.{overlaps};
+ghost use Rattle.model_core.specs.Reach.{within_block};
+ghost use Rattle.promise_core.specs.Bytes.{holder_of, object_with};
+ghost use Rattle.judge_core.specs.Holders.{shown_holder};
+ghost use Rattle.promise_core.specs.Holdings.{blocks_of_slot, vacant_blocks, has_room, can_be_taken, slab_around, has_slot, cache_told, is_vacant, can_stand, is_slot_busy};
+
+use crate::block::FrameBlock;
+use crate::cache::HeldCache;
+use crate::holder::RangeHolder;
+use std::marker::Model;
+
+/// The held slots, rising, the live page blocks, by rising first frame, and the caches, by rising number.
+#[derive(Debug, Drop)]
+pub struct Held {
+    slots: Vec<u16>,
+    pages: Vec<FrameBlock>,
+    caches: Vec<HeldCache>,
+}
+
+impl Model for Held {
+    ghost use Rattle.std.specs.Prelude.{◌≤◌, length};
+    ghost use Rattle.model_core.specs.declared.limits.TheConstants.{MOST_SUPERBLOCKS};
+    ghost use Rattle.promise_core.specs.Holdings.{Holdings};
+
+    ghost Value = { Holdings };
+
+    ghost view = { λ h. record { slots = h.slots.items; pages = h.pages.items; caches = h.caches.items } };
+
+    ghost invariant = { λ h. length h.slots.items ≤ MOST_SUPERBLOCKS };
+}
+
+impl Held {
+    /// Whether the tenant holds the slot.
+    pub fn has_slot(&self, slot: u32) -> bool
+        ensures { result ≡ has_slot self.now slot }
+    {
+        self.slots.iter().any(|held| u32::from(*held) == slot)
+    }
+
+    /// The order of the live page block that begins at the frame, if one does.
+    #[tactic(auto, using(crate::proofs::Lists::order_found))]
+    pub fn order_at(&self, frame: u32) -> Option<u8>
+        ensures { result ≡ order_in self.now.pages frame }
+    {
+        match self.page_at(frame) {
+            Some(page) => Some(page.order()),
+            None => None,
+        }
+    }
+
+    /// The live page block that begins at the frame, if one does.
+    fn page_at(&self, frame: u32) -> Option<&FrameBlock>
+        ensures { option_copied result ≡ find (λ b. b.first == frame) self.now.pages }
+    {
+        self.pages.iter().find(|page| page.first() == frame)
+    }
+
+    /// The cache of this number.
+    pub fn cache(&self, number: u32) -> Option<&HeldCache>
+        ensures { option_copied result ≡ cache_told self.now number }
+    {
+        self.caches
+            .iter()
+            .find(|cache| u32::from(cache.number()) == number)
+    }
+
+    /// Whether no frame of the block is taken.
+    #[tactic(auto, using(crate::proofs::Lists::vacant_is))]
+    pub fn is_vacant(&self, block: &FrameBlock) -> bool
+        ensures { result ≡ is_vacant self.now block.now }
+    {
+        !(self.is_in_pages(block) || self.is_in_slabs(block))
+    }
+
+    /// Whether a page block shares a frame with the block.
+    fn is_in_pages(&self, block: &FrameBlock) -> bool
+        ensures { result ≡ list_any (overlaps block.now) self.now.pages }
+    {
+        self.pages.iter().any(|page| block.overlaps(page))
+    }
+
+    /// Whether the slab of a live object shares a frame with the block.
+    fn is_in_slabs(&self, block: &FrameBlock) -> bool
+        ensures { result ≡ list_any (λ c. list_any (λ p. overlaps block.now (slab_around c p)) c.live) self.now.caches }
+    {
+        self.caches.iter().any(|cache| cache.has_slab_over(block))
+    }
+
+    /// Whether a page block or a slab can stand there, where slots have `2^order` frames.
+    #[tactic(auto, unfolding(promise_core::specs::Holdings::can_stand))]
+    pub fn can_stand(&self, order: u8, block: &FrameBlock) -> bool
+        requires { order ≤ MOST_ORDER }
+        ensures { result ≡ can_stand order self.now block.now }
+    {
+        block.order() <= order
+            && block.first() % (1u32 << block.order()) == 0
+            && self.has_slot(block.first() / (1u32 << order))
+            && self.is_vacant(block)
+    }
+
+    /// Whether a frame of the slot is taken.
+    pub fn is_slot_busy(&self, order: u8, slot: u16) -> bool
+        requires { order ≤ MOST_ORDER }
+        ensures { result ≡ is_slot_busy order self.now slot }
+    {
+        !self.is_vacant(&FrameBlock::of_slot(order, slot))
+    }
+
+    /// How many aligned blocks of `2^k` frames of a slot of `2^order` have no taken frame.
+    fn count_vacant_in(&self, order: u8, k: u8, slot: u16) -> u32
+        requires order { order ≤ MOST_ORDER }
+        requires k { k ≤ MOST_ORDER }
+        ensures value { result ≡ length (filter (is_vacant self.now) (blocks_of_slot order k slot)) }
+        ensures most { result ≤ 256 }
+    {
+        let blocks = 1u32 << order.saturating_sub(k);
+        self.count_vacant_from(k, u32::from(slot) * blocks, blocks)
+    }
+
+    /// How many of so many blocks of `2^k` frames from the one of number `begin` on have no taken frame.
+    fn count_vacant_from(&self, k: u8, begin: u32, blocks: u32) -> u32
+        requires k { k ≤ MOST_ORDER }
+        requires end { begin + blocks ≤ 2 ^ 24 }
+        ensures value { result ≡ length (filter (is_vacant self.now) (map (λ i. block (i * 2 ^ k) k) (range_with_len begin blocks))) }
+        ensures most { result ≤ blocks }
+    {
+        let mut count = 0u32;
+        for i in 0..blocks {
+            if self.is_vacant(&FrameBlock::numbered(begin + i, k)) {
+                count += 1;
+            }
+        }
+        count
+    }
+
+    /// How many aligned blocks of `2^k` frames of held slots of `2^order` have no taken frame.
+    pub fn count_vacant(&self, order: u8, k: u8) -> u32
+        requires order { order ≤ MOST_ORDER }
+        requires k { k ≤ MOST_ORDER }
+        ensures { result ≡ length (vacant_blocks order self.now k) }
+    {
+        let mut count = 0u32;
+        for slot in &self.slots {
+            count += self.count_vacant_in(order, k, *slot);
+        }
+        count
+    }
+
+    /// Whether a block of `2^k` frames can stand somewhere.
+    pub fn has_room(&self, order: u8, k: u8) -> bool
+        requires order { order ≤ MOST_ORDER }
+        requires k { k ≤ MOST_ORDER }
+        ensures { result ≡ has_room order self.now k }
+    {
+        self.count_vacant(order, k) > 0
+    }
+
+    /// Whether an object of the cache can be handed out at the place.
+    #[tactic(auto, unfolding(promise_core::specs::Holdings::can_be_taken))]
+    pub fn can_be_taken(&self, order: u8, cache: &HeldCache, place: u32) -> bool
+        requires { order ≤ MOST_ORDER }
+        ensures { result ≡ can_be_taken order self.now cache.now place }
+    {
+        cache.is_aligned(place)
+            && (cache.count_beside(place) > 0 || self.can_stand(order, &cache.slab_around(place)))
+            && cache.has_gap(place)
+    }
+
+    /// What has the `len` bytes from a place on, at least one: a live page block, or a live object.
+    #[tactic(auto, unfolding(promise_core::specs::Bytes::holder_of))]
+    pub fn holder_of(&self, place: u32, len: u32) -> Option<RangeHolder>
+        ensures { option_map shown_holder result ≡ holder_of self.now place len }
+    {
+        if len == 0 {
+            return None;
+        }
+        if self.has_page_with(place, len) {
+            return Some(RangeHolder::Page);
+        }
+        self.object_with(place, len)
+    }
+
+    fn has_page_with(&self, place: u32, len: u32) -> bool
+        ensures { result ≡ list_any (within_block place len) self.now.pages }
+    {
+        self.pages.iter().any(|page| page.has_range(place, len))
+    }
+
+    fn object_with(&self, place: u32, len: u32) -> Option<RangeHolder>
+        ensures { option_map shown_holder result ≡ object_with place len self.now.caches }
+    {
+        for c in &self.caches {
+            if let Some(first) = c.object_with(place, len) {
+                return Some(RangeHolder::Object {
+                    cache: c.number(),
+                    first,
+                });
+            }
+        }
+        None
+    }
+}

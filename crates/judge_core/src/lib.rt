@@ -1,0 +1,17 @@
+//! Judges the replies of any page and object allocator of a partitioning kernel: what it knows of each tenant is what
+//! [`promise_core`] says is known, and each test is that of its definition.
+#![tactic(auto)]
+
+mod block;
+mod cache;
+mod held;
+mod holder;
+mod objects;
+mod pages;
+mod verdict;
+
+pub use block::FrameBlock;
+pub use cache::HeldCache;
+pub use held::Held;
+pub use holder::RangeHolder;
+pub use verdict::Verdict;
