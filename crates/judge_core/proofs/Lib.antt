@@ -1,3 +1,5 @@
 pub mod Lists
 pub mod OnPages
 pub mod OnObjects
+pub mod OnSlots
+pub mod OnBytes

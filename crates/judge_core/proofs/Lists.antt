@@ -1,6 +1,8 @@
 -- The tests of the definitions in the order in which they are computed.
 use Rattle.std.proofs.Common.{◌≡◌, ℕ, ◌+◌, ◌*◌, ◌^◌, ◌-◌, ◌<◌, get_or, drop, sym, Bool, true, false, not, ◌||◌, ◌&&◌, ◌==◌, if◌then◌else◌, List, [], ◌∷◌, ◌++◌, map, find, filter, length, Option, Some, None, option_map, refl, ap, ◌∙◌, cond, arith, length-append}
 use Rattle.std.specs.List.{list_any, flat_map, sum_by}
+use Rattle.std.specs.Prelude.{MatchOption}
+use Rattle.std.proofs.lemmas.Bool.{eqb-true}
 use Rattle.std.specs.List.{range_with_len}
 use Rattle.std.specs.Option.{option_map_or}
 use Rattle.std.proofs.lemmas.List.{at_drop_more, length_push}
@@ -71,3 +73,12 @@ pub next_object : (place len i first : ℕ) (cs : List ToldCache) (c : ToldCache
 next_object place len i first cs c lt is found = at_drop_more (object_with place len) cs i c lt
     ∙ ap (λ d. object_with place len (d ∷ drop (i + 1) cs)) (sym is)
     ∙ ap (λ o. option_map_or (λ first. Some (Holder.Object c.number first)) o (object_with place len (drop (i + 1) cs))) found
+
+pub match_found : (u : ℕ) (vs : List ℕ) → MatchOption (find (λ v. v == u) vs) (list_any (λ v. v == u) vs ≡ false) (λ v. (v ≡ u) × (list_any (λ v. v == u) vs ≡ true))
+match_found u [] = refl
+match_found u (v ∷ vs) = go (v == u) refl (match_found u vs)
+  where
+    go : (t : Bool) → (v == u) ≡ t → MatchOption (find (λ x. x == u) vs) (list_any (λ x. x == u) vs ≡ false) (λ x. (x ≡ u) × (list_any (λ x. x == u) vs ≡ true))
+        → MatchOption (if t then Some v else find (λ x. x == u) vs) ((t || list_any (λ x. x == u) vs) ≡ false) (λ x. (x ≡ u) × ((t || list_any (λ x. x == u) vs) ≡ true))
+    go true e rest = (eqb-true v u e, refl)
+    go false e rest = rest

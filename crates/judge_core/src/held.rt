@@ -1,6 +1,6 @@
 //! What a tenant has, as replies told it.
 
-ghost use Rattle.std.specs.Prelude.{◌≡◌, ℕ, ◌+◌, ◌-◌, ◌*◌, ◌/◌, ◌%◌, ◌^◌, ◌<◌, ◌≤◌, nat_le, nat_lt, ◌==◌, ◌&&◌, map, find, filter, length, Some, option_map};
+ghost use Rattle.std.specs.Prelude.{◌≡◌, ℕ, ◌+◌, ◌-◌, ◌*◌, ◌/◌, ◌%◌, ◌^◌, ◌<◌, ◌≤◌, nat_le, nat_lt, ◌==◌, ◌&&◌, map, find, filter, length, Some, option_map, true, false, MatchOption, slice_index_or};
 ghost use Rattle.std.specs.List.{list_any, list_all};
 ghost use Rattle.std.specs.Option.{option_copied};
 ghost use Rattle.model_core.specs.declared.limits.TheConstants.{FRAME_BYTES, MOST_ORDER};
@@ -44,6 +44,31 @@ impl Held {
         ensures { result ≡ has_slot self.now slot }
     {
         self.slots.iter().any(|held| u32::from(*held) == slot)
+    }
+
+    /// The slot of this number, if the tenant holds it.
+    pub fn held_slot(&self, slot: u32) -> Option<u16>
+        ensures { MatchOption result (has_slot self.now slot ≡ false) (λ u. (u ≡ slot) × (has_slot self.now slot ≡ true)) }
+    {
+        self.find_slot(slot)
+    }
+
+    fn find_slot(&self, slot: u32) -> Option<u16>
+        ensures { result ≡ find (λ v. v == slot) self.now.slots }
+    {
+        self.slots
+            .iter()
+            .copied()
+            .find(|held| u32::from(*held) == slot)
+    }
+
+    /// Whether a cache may have a slab without live objects, which `hides` tells by its number.
+    pub fn hides_some(&self, hides: &[bool]) -> bool
+        ensures { result ≡ list_any (λ c. slice_index_or hides.now c.number false) self.now.caches }
+    {
+        self.caches
+            .iter()
+            .any(|cache| is_marked(hides, cache.number()))
     }
 
     /// The order of the live page block that begins at the frame, if one does.
@@ -207,5 +232,15 @@ impl Held {
             }
         }
         None
+    }
+}
+
+/// The mark of this number, false where there is none.
+fn is_marked(marks: &[bool], number: u8) -> bool
+    ensures { result ≡ slice_index_or marks.now number false }
+{
+    match marks.get(usize::from(number)) {
+        Some(mark) => *mark,
+        None => false,
     }
 }

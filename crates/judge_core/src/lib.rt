@@ -8,10 +8,13 @@ mod held;
 mod holder;
 mod objects;
 mod pages;
+mod slots;
 mod verdict;
+mod writing;
 
 pub use block::FrameBlock;
 pub use cache::HeldCache;
 pub use held::Held;
 pub use holder::RangeHolder;
+pub use slots::judge_reset;
 pub use verdict::Verdict;
