@@ -2,4 +2,5 @@ pub mod Lists
 pub mod OnPages
 pub mod OnObjects
 pub mod OnSlots
+pub mod OnCaches
 pub mod OnBytes

@@ -26,3 +26,11 @@ module _ (place t : ℕ) (new : ArrayVec ℕ) (w : Known) (s : State) where
   no_write (Say.Written n) not_written not_refused = absurd (not_written n refl)
   no_write (Say.Refused r) not_written not_refused = absurd (not_refused r refl)
   no_write b not_written not_refused = refl
+
+module _ (place len t : ℕ) (w : Known) (s : State) where
+  pub not_read : (r : Refusal) → verdict_on (On.Tenant t (Asked.Read place len)) (Say.Refused r) w s
+      ≡ on_refusal r (due (On.Tenant t (Asked.Read place len)) w s) false false
+  unfolding state_after
+  not_read Refusal.NoFrames = refl
+  not_read Refusal.SlotBusy = refl
+  not_read r = refl

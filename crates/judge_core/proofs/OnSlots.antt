@@ -1,5 +1,7 @@
 -- Verdicts on replies to the administrator, computed.
-use Rattle.std.proofs.Common.{◌≡◌, ◌||◌, not, List, [], ◌∷◌, Bool, true, false, ℕ, Some, None, Err, refl, ap, ◌∙◌}
+use Rattle.arrayvec.specs.ArrayVec.{ArrayVec}
+use Rattle.model_core.specs.declared.owner.Owner.{Owner}
+use Rattle.std.proofs.Common.{◌≡◌, Option, ◌||◌, not, List, [], ◌∷◌, Bool, true, false, ℕ, Some, None, Err, refl, ap, ◌∙◌}
 use Rattle.std.specs.List.{list_any}
 use Rattle.promise_core.specs.Holdings.{has_slot, is_slot_busy}
 use Rattle.words_core.specs.declared.event.Event.TheVariants as On
@@ -92,3 +94,17 @@ module _ (t slot : ℕ) (w : Known) (s : State) where
   no_take_back (Say.TakenBack m) not_back not_refused = absurd (not_back m refl)
   no_take_back (Say.Refused r) not_back not_refused = absurd (not_refused r refl)
   no_take_back b not_back not_refused = refl
+
+module _ (w : Known) (s : State) where
+  pub no_owners : (r : Refusal) → verdict_on (On.Admin Do.Pool) (Say.Refused r) w s ≡ on_refusal r None false false
+  unfolding due state_after
+  no_owners Refusal.NoFrames = refl
+  no_owners Refusal.SlotBusy = refl
+  no_owners r = refl
+
+  pub no_pool : (b : Body) → ((os : ArrayVec (Option Owner)) → b ≡ Say.Owners os → ⊥) → ((r : Refusal) → b ≡ Say.Refused r → ⊥)
+      → verdict_on (On.Admin Do.Pool) b w s ≡ Err Promise.Form
+  unfolding state_after
+  no_pool (Say.Owners os) not_owners not_refused = absurd (not_owners os refl)
+  no_pool (Say.Refused r) not_owners not_refused = absurd (not_refused r refl)
+  no_pool b not_owners not_refused = refl

@@ -1,8 +1,12 @@
--- What has a byte, as the definitions name it.
-use Rattle.promise_core.specs.Bytes.{Holder}
+-- What has a byte, and what was left at a place, as the definitions name them.
+use Rattle.promise_core.specs.Bytes.{Holder, Cell}
 use Rattle.judge_core.specs.declared.holder.RangeHolder.{RangeHolder}
 use Rattle.judge_core.specs.declared.holder.RangeHolder.TheVariants as Of
+use Rattle.judge_core.specs.declared.bytes.LeftByte.{LeftByte}
 
 abbrev pub shown_holder : RangeHolder → Holder
 shown_holder Of.Page = Holder.Page
 shown_holder (Of.Object cache first) = Holder.Object cache first
+
+abbrev pub shown_cell : LeftByte → Cell
+shown_cell left = record { holder = shown_holder left.holder; byte = left.byte; sure = left.sure }

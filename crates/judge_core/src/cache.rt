@@ -5,6 +5,7 @@ ghost use Rattle.std.specs.List.{list_any, list_all};
 ghost use Rattle.model_core.specs.declared.limits.TheConstants.{FRAME_BYTES, MOST_ORDER};
 ghost use Rattle.model_core.specs.Choice.{is_any_below};
 ghost use Rattle.model_core.specs.Operations.{overlaps};
+ghost use Rattle.model_core.specs.Layouts.{pattern_byte};
 ghost use Rattle.model_core.specs.Reach.{is_within};
 ghost use Rattle.promise_core.specs.Holdings.{slab_around, live_beside, is_slab_full, are_apart, is_grid};
 
@@ -218,4 +219,21 @@ impl HeldCache {
             && self.is_apart(place)
             && self.is_on_some_grid(place)
     }
+
+    /// The byte of a fresh object this far from its first.
+    pub fn fresh_byte(&self, offset: u32) -> u8
+        ensures { result ≡ pattern_byte self.now.pattern offset }
+    {
+        byte_of_pattern(self.pattern.as_slice(), offset)
+    }
+}
+
+/// The byte of the pattern, over and over, this far from its first; 0 where it has none.
+fn byte_of_pattern(pattern: &[u8], offset: u32) -> u8
+    ensures { result ≡ pattern_byte pattern.now offset }
+{
+    if pattern.is_empty() {
+        return 0;
+    }
+    pattern[offset as usize % pattern.len()]
 }

@@ -3,7 +3,7 @@
 ghost use Rattle.std.specs.Prelude.{◌≡◌, ℕ, ◌+◌, ◌-◌, ◌*◌, ◌/◌, ◌%◌, ◌^◌, ◌<◌, ◌≤◌, nat_le, nat_lt, ◌==◌, ◌&&◌, map, find, filter, length, Some, option_map, true, false, MatchOption, slice_index_or};
 ghost use Rattle.std.specs.List.{list_any, list_all};
 ghost use Rattle.std.specs.Option.{option_copied};
-ghost use Rattle.model_core.specs.declared.limits.TheConstants.{FRAME_BYTES, MOST_ORDER};
+ghost use Rattle.model_core.specs.declared.limits.TheConstants.{MOST_ORDER, MOST_CACHES};
 ghost use Rattle.model_core.specs.Machine.{order_in};
 ghost use Rattle.std.specs.List.{range_with_len};
 ghost use Rattle.model_core.specs.Blocks.{block};
@@ -16,14 +16,15 @@ ghost use Rattle.promise_core.specs.Holdings.{blocks_of_slot, vacant_blocks, has
 use crate::block::FrameBlock;
 use crate::cache::HeldCache;
 use crate::holder::RangeHolder;
+use model_core::limits::MOST_CACHES;
 use std::marker::Model;
 
 /// The held slots, rising, the live page blocks, by rising first frame, and the caches, by rising number.
 #[derive(Debug, Drop)]
 pub struct Held {
-    slots: Vec<u16>,
-    pages: Vec<FrameBlock>,
-    caches: Vec<HeldCache>,
+    pub(crate) slots: Vec<u16>,
+    pub(crate) pages: Vec<FrameBlock>,
+    pub(crate) caches: Vec<HeldCache>,
 }
 
 impl Model for Held {
@@ -96,6 +97,13 @@ impl Held {
         self.caches
             .iter()
             .find(|cache| u32::from(cache.number()) == number)
+    }
+
+    /// Whether the tenant has as many caches as it may have.
+    pub fn has_most_caches(&self) -> bool
+        ensures { result ≡ nat_le MOST_CACHES (length self.now.caches) }
+    {
+        usize::from(MOST_CACHES) <= self.caches.len()
     }
 
     /// Whether no frame of the block is taken.

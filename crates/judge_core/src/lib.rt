@@ -3,7 +3,10 @@
 #![tactic(auto)]
 
 mod block;
+mod bytes;
 mod cache;
+mod caches;
+mod changing;
 mod held;
 mod holder;
 mod objects;
@@ -13,8 +16,9 @@ mod verdict;
 mod writing;
 
 pub use block::FrameBlock;
+pub use bytes::LeftByte;
 pub use cache::HeldCache;
 pub use held::Held;
 pub use holder::RangeHolder;
-pub use slots::judge_reset;
+pub use slots::{judge_pool, judge_reset};
 pub use verdict::Verdict;

@@ -1,8 +1,8 @@
 //! Verdicts on replies to the administrator. Slots have `2^order` frames; `owners` is who owns each superblock.
 
-ghost use Rattle.std.specs.Prelude.{◌≡◌, ◌≤◌, ◌<◌, ◌+◌, ◌*◌, ◌^◌, nat_le, ◌==◌, ◌&&◌, ◌||◌, ℕ, Option, Some, None, false, true, not, is_none, is_some, if◌then◌else◌, count_by, slice_index_or, [], ◌∷◌};
-ghost use Rattle.std.specs.List.{list_all, list_any, slice_get};
-ghost use Rattle.std.specs.Option.{option_map_or};
+ghost use Rattle.std.specs.Prelude.{◌≡◌, ◌≤◌, ◌<◌, ◌+◌, ◌*◌, ◌^◌, nat_le, ◌==◌, ◌&&◌, ◌||◌, ℕ, Option, Some, None, false, true, not, is_none, is_some, if◌then◌else◌, count_by, slice_index_or, [], ◌∷◌, length};
+ghost use Rattle.std.specs.List.{list_all, list_any, slice_get, zip};
+ghost use Rattle.std.specs.Option.{option_map_or, option_eq};
 ghost use Rattle.model_core.specs.declared.limits.TheConstants.{FRAME_BYTES, MOST_ORDER};
 ghost use Rattle.model_core.specs.Owners.{is_of, is_owner};
 ghost use Rattle.words_core.specs.declared.event.Event.TheVariants as On;
@@ -15,11 +15,12 @@ ghost use Rattle.promise_core.specs.Promises.{due, first_due};
 ghost use Rattle.judge_core.specs.Verdicts.{verdict_on};
 
 use crate::held::Held;
-use crate::verdict::{Verdict, on_answer, on_refusal};
+use crate::verdict::{Verdict, both, on_answer, on_refusal};
+use arrayvec::ArrayVec;
 use model_core::limits::FRAME_BYTES;
 use model_core::owner::Owner;
 use promise_core::promise::Promise;
-use words_core::{Body, Refusal};
+use words_core::{Body, OWNERS, Refusal};
 
 impl Held {
     /// The verdict on the reply to a grant to tenant `t`, whose these holdings are.
@@ -190,13 +191,6 @@ fn is_slot_named(t: u32, slot: u32, tenant: u8, told: u16) -> bool
     u32::from(tenant) == t && u32::from(told) == slot
 }
 
-/// Whether both are so.
-fn both(a: bool, b: bool) -> bool
-    ensures { result ≡ (a && b) }
-{
-    a && b
-}
-
 /// How many superblocks the tenant owns.
 fn count_of(owners: &[Option<Owner>], t: u32) -> usize
     ensures { result ≡ count_by (is_of t) owners.now }
@@ -262,5 +256,41 @@ fn is_unowned(owners: &[Option<Owner>], superblock: u16) -> bool
     match owners.get(usize::from(superblock)) {
         Some(owner) => owner.is_none(),
         None => false,
+    }
+}
+
+/// The verdict on the reply to the question who owns which superblock.
+pub fn judge_pool(owners: &[Option<Owner>], body: &Body) -> Verdict
+    ensures { (w : Known) (s : State) → result ≡ verdict_on (On.Admin Do.Pool) body.now (record w { owners = owners.now }) s }
+{
+    match body {
+        Body::Owners(told) => on_answer(None, Promise::Owners, are_told(owners, told)),
+        Body::Refused(refusal) => on_refusal(*refusal, None, false, false),
+        _ => Err(Promise::Form),
+    }
+}
+
+/// Whether these are told as they are.
+fn are_told(owners: &[Option<Owner>], told: &ArrayVec<Option<Owner>, OWNERS>) -> bool
+    ensures { result ≡ (length told.now.items == length owners.now
+        && list_all (λ p. option_eq (λ x y. x.tenant == y.tenant && x.slot == y.slot) p.0 p.1) (zip told.now.items owners.now)) }
+{
+    told.len() == owners.len() && are_same(owners, told.as_slice())
+}
+
+fn are_same(owners: &[Option<Owner>], told: &[Option<Owner>]) -> bool
+    ensures { result ≡ list_all (λ p. option_eq (λ x y. x.tenant == y.tenant && x.slot == y.slot) p.0 p.1) (zip told.now owners.now) }
+{
+    told.iter().zip(owners).all(|(a, b)| is_same(*a, *b))
+}
+
+/// Whether both are nobody, or the same slot of the same tenant.
+fn is_same(a: Option<Owner>, b: Option<Owner>) -> bool
+    ensures { result ≡ option_eq (λ x y. x.tenant == y.tenant && x.slot == y.slot) a b }
+{
+    match (a, b) {
+        (Some(a), Some(b)) => a.tenant == b.tenant && a.slot == b.slot,
+        (None, None) => true,
+        _ => false,
     }
 }

@@ -1,6 +1,6 @@
 //! Verdicts on a reply.
 
-ghost use Rattle.std.specs.Prelude.{◌≡◌, [], ◌∷◌, is_none};
+ghost use Rattle.std.specs.Prelude.{◌≡◌, [], ◌∷◌, is_none, ◌&&◌};
 ghost use Rattle.promise_core.specs.declared.promise.Promise.{Promise};
 ghost use Rattle.judge_core.specs.Verdicts.{broken, on_refusal};
 
@@ -41,4 +41,11 @@ pub(crate) fn on_refusal(refusal: Refusal, due: Option<Refusal>, full: bool, bus
         Refusal::SlotBusy if !busy => Err(Promise::Busy),
         _ => Ok(()),
     }
+}
+
+/// Whether both are so.
+pub(crate) fn both(a: bool, b: bool) -> bool
+    ensures { result ≡ (a && b) }
+{
+    a && b
 }

@@ -42,7 +42,7 @@ impl Held {
     }
 
     /// Whether one live page block or one live object has the `len` bytes from a place on.
-    fn is_in_reach(&self, place: u32, len: u32) -> bool
+    pub(crate) fn is_in_reach(&self, place: u32, len: u32) -> bool
         ensures { is_none (holder_of self.now place len) ≡ not result }
     {
         match self.holder_of(place, len) {

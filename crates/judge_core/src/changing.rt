@@ -1,0 +1,62 @@
+//! What becomes of a tenant's holdings by answers that take something away.
+
+ghost use Rattle.std.specs.Prelude.{◌≡◌, ◌==◌, ◌≤◌, not, filter, length, []};
+ghost use Rattle.promise_core.specs.Holdings.{Holdings, with_live_places};
+
+use crate::block::FrameBlock;
+use crate::cache::HeldCache;
+use crate::held::Held;
+
+impl Held {
+    /// The page block that begins at the frame is freed.
+    pub fn free(&mut self, frame: u32)
+        ensures { self.new ≡ record self.old { pages = filter (λ b. not (b.first == frame)) self.old.pages } }
+    {
+        drop_page(&mut self.pages, frame);
+    }
+
+    /// The cache of this number is destroyed.
+    pub fn destroy(&mut self, number: u32)
+        ensures { self.new ≡ record self.old { caches = filter (λ c. not (c.number == number)) self.old.caches } }
+    {
+        drop_cache(&mut self.caches, number);
+    }
+
+    /// The slot is taken back.
+    pub fn take_back(&mut self, slot: u32)
+        ensures { self.new ≡ record self.old { slots = filter (λ v. not (v == slot)) self.old.slots } }
+    {
+        drop_slot(&mut self.slots, slot);
+    }
+
+    /// All is taken back.
+    pub fn reset(&mut self)
+        ensures { self.new ≡ record { slots = []; pages = []; caches = [] } }
+    {
+        self.slots.clear();
+        self.pages.clear();
+        self.caches.clear();
+    }
+}
+
+/// The page blocks without the one that begins at the frame.
+fn drop_page(pages: &mut Vec<FrameBlock>, frame: u32)
+    ensures { pages.new.items ≡ filter (λ b. not (b.first == frame)) pages.old.items }
+{
+    pages.retain(|page| page.first() != frame);
+}
+
+/// The caches without the one of this number.
+fn drop_cache(caches: &mut Vec<HeldCache>, number: u32)
+    ensures { caches.new.items ≡ filter (λ c. not (c.number == number)) caches.old.items }
+{
+    caches.retain(|cache| u32::from(cache.number()) != number);
+}
+
+/// The slots without this one.
+fn drop_slot(slots: &mut Vec<u16>, slot: u32)
+    ensures items { slots.new.items ≡ filter (λ v. not (v == slot)) slots.old.items }
+    ensures fewer { length slots.new.items ≤ length slots.old.items }
+{
+    slots.retain(|held| u32::from(*held) != slot);
+}
