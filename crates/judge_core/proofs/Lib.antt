@@ -4,3 +4,4 @@ pub mod OnObjects
 pub mod OnSlots
 pub mod OnCaches
 pub mod OnBytes
+pub mod Putting

@@ -7,6 +7,7 @@ mod bytes;
 mod cache;
 mod caches;
 mod changing;
+mod growing;
 mod held;
 mod holder;
 mod objects;

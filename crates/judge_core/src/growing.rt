@@ -1,0 +1,69 @@
+//! What becomes of a tenant's holdings by answers that add something.
+
+ghost use Rattle.std.specs.Prelude.{◌≡◌, ◌<◌, ◌≤◌, not, nat_lt, length, [], IfOk, OnErr};
+ghost use Rattle.std.specs.List.{prefix_len};
+ghost use Rattle.model_core.specs.declared.limits.TheConstants.{MOST_ORDER, MOST_SUPERBLOCKS};
+ghost use Rattle.model_core.specs.Machine.{put_rising};
+
+use crate::block::FrameBlock;
+use crate::held::Held;
+use model_core::limits::MOST_CACHES;
+use std::alloc::{AllocError, Global};
+
+impl Held {
+    /// Nothing, with room for so many slots of `2^order` frames and for what can stand in them.
+    pub fn new(alloc: Global, order: u8, slots: u16) -> Result<Held, AllocError>
+        requires order { order ≤ MOST_ORDER }
+        requires slots { slots ≤ MOST_SUPERBLOCKS }
+        ensures { IfOk result (λ h. h ≡ record { slots = []; pages = []; caches = [] }) }
+    {
+        let frames = usize::from(slots) << order;
+        Ok(Held {
+            slots: Vec::with_capacity(alloc, slots.into())?,
+            pages: Vec::with_capacity(alloc, frames)?,
+            caches: Vec::with_capacity(alloc, MOST_CACHES.into())?,
+        })
+    }
+
+    /// The slot is granted. Fails where memory runs out, and then nothing is changed.
+    pub fn grant(&mut self, slot: u16) -> Result<(), AllocError>
+        requires { length self.old.slots < MOST_SUPERBLOCKS }
+        ensures granted { IfOk result (λ _. self.new ≡ record self.old { slots = put_rising (λ v. v) slot self.old.slots }) }
+        ensures kept { OnErr result (self.new ≡ self.old) }
+    {
+        let place = place_of_slot(&self.slots, slot);
+        self.slots.insert(place, slot)?;
+        Ok(())
+    }
+
+    /// The page block is handed out. Fails where memory runs out, and then nothing is changed.
+    pub fn alloc(&mut self, block: FrameBlock) -> Result<(), AllocError>
+        ensures taken { IfOk result (λ _. self.new ≡ record self.old { pages = put_rising (λ b. b.first) block self.old.pages }) }
+        ensures kept { OnErr result (self.new ≡ self.old) }
+    {
+        let place = place_of_page(&self.pages, block.first());
+        self.pages.insert(place, block)?;
+        Ok(())
+    }
+}
+
+/// Where the slot goes among these.
+#[tactic(auto, using(crate::proofs::Putting::prefix_within))]
+fn place_of_slot(slots: &[u16], slot: u16) -> usize
+    ensures value { result ≡ prefix_len (λ v. not (nat_lt slot v)) slots.now }
+    ensures inside { result ≤ length slots.now }
+{
+    slots.iter().take_while(|held| !(slot < **held)).count()
+}
+
+/// Where a page block that begins at the frame goes among these.
+#[tactic(auto, using(crate::proofs::Putting::prefix_within))]
+fn place_of_page(pages: &[FrameBlock], frame: u32) -> usize
+    ensures value { result ≡ prefix_len (λ b. not (nat_lt frame b.first)) pages.now }
+    ensures inside { result ≤ length pages.now }
+{
+    pages
+        .iter()
+        .take_while(|page| !(frame < page.first()))
+        .count()
+}
