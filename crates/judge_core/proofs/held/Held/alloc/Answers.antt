@@ -10,5 +10,5 @@ returns-clause-taken c =
     let pages = c.self.inside.pages.items in
     let at = c.place_of_page-place.ensures.value ∙ (λ i. prefix_len (λ (b : Block). not (ltb (c.first.ensures i) b.first)) (c.deref.ensures.value i)) in
     let e : c.insert.new.self.items ≡ put_rising (λ (b : Block). b.first) c.args.block pages =
-      c.in_ok-insert.ensures.items ∙ (ap (λ n. insert pages n c.args.block) at ∙ sym (put_at (λ (b : Block). b.first) c.args.block pages)) in
+    c.in_ok-insert.ensures.items ∙ (ap (λ n. insert pages n c.args.block) at ∙ sym (put_at (λ (b : Block). b.first) c.args.block pages)) in
     rw (e, ← c.self.view_is)

@@ -9,5 +9,5 @@ returns-clause-granted c =
     let slots = c.self.inside.slots.items in
     let at = c.place_of_slot-place.ensures.value ∙ (λ i. prefix_len (λ (v : ℕ). not (ltb c.args.slot v)) (c.deref.ensures.value i)) in
     let e : c.insert.new.self.items ≡ put_rising (λ (v : ℕ). v) c.args.slot slots =
-      c.in_ok-insert.ensures.items ∙ (ap (λ n. insert slots n c.args.slot) at ∙ sym (put_at (λ (v : ℕ). v) c.args.slot slots)) in
+    c.in_ok-insert.ensures.items ∙ (ap (λ n. insert slots n c.args.slot) at ∙ sym (put_at (λ (v : ℕ). v) c.args.slot slots)) in
     rw (e, ← c.self.view_is)
