@@ -199,7 +199,7 @@ again_number mark form n ns rest is follow small more =
     ∙ ap numbered (number_again n text small (follows form ns rest follow)))
     ∙ ap (λ others. others >>= (λ others. Some (n ∷ others.0, others.1))) more
 
-itself : (b : ℕ) → (b == b) ≡ true
+pub itself : (b : ℕ) → (b == b) ≡ true
 itself b = grind (arith, nat_tests)
 
 again_letter : (mark : ℕ) (form ns rest : List ℕ) → (mark == 35) ≡ false → form_at form (form_text form ns ++ rest) ≡ Some (ns, rest)

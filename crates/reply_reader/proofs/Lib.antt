@@ -4,3 +4,8 @@ pub mod KindLemmas
 pub mod SaidLemmas
 pub mod AnswerLemmas
 pub mod SingleLemmas
+pub mod RowLoop
+pub mod RowLemmas
+pub mod TableLemmas
+pub mod ReplyLemmas
+pub mod TableSteps

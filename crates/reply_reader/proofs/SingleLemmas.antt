@@ -182,7 +182,7 @@ body_again (Moved a b c) rest other (fits_a, fits_b, fits_c) =
 body_again (Fault fault) rest other fits = some_fault_again fault rest
 body_again _ rest other fits = absurd other
 
-line_of_three : (front a m b n c o : List ℕ)
+pub line_of_three : (front a m b n c o : List ℕ)
     → concat ((front ++ a ++ m ++ b ++ n ++ c ++ o ++ 10 ∷ []) ∷ []) ≡ front ++ (a ++ (m ++ (b ++ (n ++ (c ++ (o ++ 10 ∷ []))))))
 line_of_three front a m b n c o =
     append-nil (front ++ a ++ m ++ b ++ n ++ c ++ o ++ 10 ∷ [])
@@ -201,10 +201,10 @@ told_text front (Moved a b c) other = line_of_three front (codes "moved ") (deci
 told_text front (Fault fault) other = line_of_one front (codes "fault ") (name_of_fault fault)
 told_text front _ other = absurd other
 
-abbrev alone_reply : Addressee → Body × List ℕ → Option Reply
+abbrev pub alone_reply : Addressee → Body × List ℕ → Option Reply
 alone_reply who body = whole body >>= (λ alone. Some (record { addressee = who; body = alone }))
 
-abbrev body_of : Addressee × List ℕ → Option Reply
+abbrev pub body_of : Addressee × List ℕ → Option Reply
 body_of front = body_at front.1 >>= alone_reply front.0
 
 other_takes : (text : List ℕ) (reply : Reply) → other_of text ≡ Some reply → text_of reply ≡ text

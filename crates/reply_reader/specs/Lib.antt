@@ -2,3 +2,4 @@ pub mod Ranges
 pub mod Forms
 pub mod Reading
 pub mod Single
+pub mod Tables

@@ -8,6 +8,8 @@ mod answer;
 mod form;
 mod said;
 mod single;
+mod table;
 
 pub use answer::read_answer;
 pub use single::read_single;
+pub use table::read_reply;

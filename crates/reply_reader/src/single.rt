@@ -23,7 +23,7 @@ pub fn read_single(text: &[u8]) -> Option<Reply>
 }
 
 #[tactic(auto, unfolding(crate::specs::Single::single_of))]
-fn single_of(text: &[u8]) -> Option<Reply>
+pub fn single_of(text: &[u8]) -> Option<Reply>
     ensures { result ≡ single_of text.now }
 {
     if let Some(answer) = answer_of(text) {
