@@ -42,7 +42,8 @@ pub fn is_event(asked: &Asked, bytes: &[u8]) -> bool
 /// The command of the short path that the numbers say; None, where they say another event or none.
 #[inline(always)]
 pub fn quick_of(asked: &Asked) -> Option<Quick>
-    ensures { IfSome result (λ command. (bytes : List ℕ) → asked_event asked.now bytes ≡ Some (Event.Tenant asked.now.tenant (quick_command command))) }
+    ensures { IfSome result (λ command. (bytes : List ℕ)
+        → asked_event asked.now bytes ≡ Some (Event.Tenant asked.now.tenant (quick_command command))) }
 {
     let first = asked.first;
     match asked.kind {

@@ -82,7 +82,8 @@ fn run_other(
 fn run_event(kernel: &mut Kernel, asked: &Asked, bytes: &[u8], room: &mut [u8]) -> Told
     requires event { IsSome (asked_event asked.now bytes.now) }
     requires room { MOST_BYTES ≤ length room.old }
-    ensures { IfSome (asked_event asked.now bytes.now) (λ event. AnswersEvent kernel.old event kernel.new result room.old room.new) }
+    ensures { IfSome (asked_event asked.now bytes.now)
+        (λ event. AnswersEvent kernel.old event kernel.new result room.old room.new) }
 {
     match asked.kind {
         READ => read(kernel, asked.tenant, asked.first, asked.second, room),
@@ -118,7 +119,8 @@ fn read(kernel: &Kernel, tenant: u32, place: u32, asked: u32, room: &mut [u8]) -
 
 fn write(kernel: &mut Kernel, tenant: u32, place: u32, bytes: &[u8]) -> Told
     requires { length bytes.now ≤ MOST_BYTES }
-    ensures { (room : List ℕ) → AnswersEvent kernel.old (Tenant tenant (Write place (record { items = bytes.now }))) kernel.new result room room }
+    ensures { (room : List ℕ) → AnswersEvent kernel.old (Tenant tenant (Write place (record { items = bytes.now })))
+        kernel.new result room room }
 {
     match kernel.write_quick(tenant, place, bytes) {
         Some((_, Ok(count))) => written_told(count),
@@ -133,7 +135,8 @@ fn write(kernel: &mut Kernel, tenant: u32, place: u32, bytes: &[u8]) -> Told
 fn run_rare(kernel: &mut Kernel, asked: &Asked, bytes: &[u8], room: &mut [u8]) -> Told
     requires event { IsSome (asked_event asked.now bytes.now) }
     requires room { MOST_BYTES ≤ length room.old }
-    ensures { IfSome (asked_event asked.now bytes.now) (λ event. AnswersEvent kernel.old event kernel.new result room.old room.new) }
+    ensures { IfSome (asked_event asked.now bytes.now)
+        (λ event. AnswersEvent kernel.old event kernel.new result room.old room.new) }
 {
     let event = event_of(asked, bytes).unwrap();
     let reply = kernel.step(&event);

@@ -1,6 +1,7 @@
 //! Lines of a trace, run one at a time.
 
-ghost use Rattle.std.specs.Prelude.{◌≡◌, ◌≢◌, ℕ, ◌+◌, ◌<◌, ◌≤◌, ◌∷◌, ◌++◌, false, List, length, take, drop, Some, Ok, IsSome, IfSome, MatchOption};
+ghost use Rattle.std.specs.Prelude.{◌≡◌, ◌≢◌, ℕ, ◌+◌, ◌<◌, ◌≤◌, ◌∷◌, ◌++◌, false, List, length, take, drop, Some, Ok};
+ghost use Rattle.std.specs.Prelude.{IsSome, IfSome, MatchOption};
 ghost use Rattle.words_core.specs.Grammar.{reading_of};
 ghost use Rattle.words_core.specs.Texts.{text_of};
 ghost use Rattle.words_core.specs.Answers.{reply_of};
@@ -113,7 +114,8 @@ fn run_line(kernel: &mut Kernel, line: &[u8], room: &mut [u8]) -> usize
 #[inline(always)]
 fn quick_line(line: &[u8]) -> Option<QuickLine>
     ensures one { IfSome result (λ quick. has_line_feed line.now ≡ false) }
-    ensures reading { IfSome result (λ quick. reading_of line.now ≡ Ok (Some (Tenant quick.tenant (quick_command quick.command)))) }
+    ensures reading { IfSome result
+        (λ quick. reading_of line.now ≡ Ok (Some (Tenant quick.tenant (quick_command quick.command)))) }
 {
     if line.len() >= WINDOW {
         return None;
@@ -133,7 +135,8 @@ fn run_transfer(kernel: &mut Kernel, line: &[u8], room: &mut [u8]) -> Option<usi
     requires one { has_line_feed line.now ≡ false }
     requires room { most_reply_bytes ≤ length room.old }
     ensures { MatchOption result ((kernel.new ≡ kernel.old) × (room.new ≡ room.old))
-        (λ written. (text : List ℕ) × AnswersLine kernel.old (reading_of line.now) kernel.new text × IsTextWritten text room.old room.new written) }
+        (λ written. (text : List ℕ) × AnswersLine kernel.old (reading_of line.now) kernel.new text
+        × IsTextWritten text room.old room.new written) }
 {
     if line.len() >= MOST_SHORT_LINE {
         return None;
@@ -161,7 +164,8 @@ fn put_ended(line: &[u8], out: &mut [u8])
 #[inline(always)]
 fn answer_quick(line: QuickLine, kernel: &mut Kernel, room: &mut [u8]) -> usize
     requires { most_reply_bytes ≤ length room.old }
-    ensures { (text : List ℕ) × AnswersLine kernel.old (Ok (Some (Tenant line.tenant (quick_command line.command)))) kernel.new text
+    ensures { (text : List ℕ) × AnswersLine kernel.old (Ok (Some (Tenant line.tenant (quick_command line.command))))
+        kernel.new text
         × IsTextWritten text room.old room.new result }
 {
     match kernel.ask_quick(line.tenant, line.command) {
@@ -172,7 +176,8 @@ fn answer_quick(line: QuickLine, kernel: &mut Kernel, room: &mut [u8]) -> usize
 
 fn answer_read(line: BytesLine, kernel: &Kernel, room: &mut [u8]) -> usize
     requires { most_reply_bytes ≤ length room.old }
-    ensures { (text : List ℕ) × AnswersLine kernel.now (Ok (Some (Tenant line.tenant (Read line.place line.asked)))) kernel.now text
+    ensures { (text : List ℕ)
+        × AnswersLine kernel.now (Ok (Some (Tenant line.tenant (Read line.place line.asked)))) kernel.now text
         × IsTextWritten text room.old room.new result }
 {
     match kernel.read_quick(line.tenant, line.place, line.asked) {
@@ -185,7 +190,9 @@ fn answer_read(line: BytesLine, kernel: &Kernel, room: &mut [u8]) -> usize
 fn answer_write(line: WriteLine, bytes: &[u8], kernel: &mut Kernel, room: &mut [u8]) -> usize
     requires few { length bytes.now ≤ MOST_BYTES }
     requires room { most_reply_bytes ≤ length room.old }
-    ensures { (text : List ℕ) × AnswersLine kernel.old (Ok (Some (Tenant line.tenant (Write line.place (record { items = bytes.now }))))) kernel.new text
+    ensures { (text : List ℕ)
+        × AnswersLine kernel.old (Ok (Some (Tenant line.tenant (Write line.place (record { items = bytes.now })))))
+        kernel.new text
         × IsTextWritten text room.old room.new result }
 {
     match kernel.write_quick(line.tenant, line.place, bytes) {
@@ -233,7 +240,8 @@ fn put_written(tenant: u8, count: u32, room: &mut [u8]) -> usize
 #[inline(never)]
 fn put_no_tenant(room: &mut [u8]) -> usize
     requires { most_reply_bytes ≤ length room.old }
-    ensures { IsTextWritten (text_of (record { addressee = Addressee.Nobody; body = Body.Refused NoTenant })) room.old room.new result }
+    ensures { IsTextWritten (text_of (record { addressee = Addressee.Nobody; body = Body.Refused NoTenant }))
+        room.old room.new result }
 {
     let answer = Answer {
         addressee: Addressee::Nobody,
@@ -276,7 +284,8 @@ fn put_answer(answer: &Answer, room: &mut [u8]) -> usize
 #[inline(never)]
 fn put_report(tenant: u32, kernel: &Kernel, room: &mut [u8]) -> usize
     requires { most_reply_bytes ≤ length room.old }
-    ensures { (text : List ℕ) × AnswersLine kernel.now (Ok (Some (Tenant tenant Report))) kernel.now text × IsTextWritten text room.old room.new result }
+    ensures { (text : List ℕ) × AnswersLine kernel.now (Ok (Some (Tenant tenant Report))) kernel.now text
+        × IsTextWritten text room.old room.new result }
 {
     put_reply(&kernel.report(tenant), room)
 }
@@ -285,7 +294,8 @@ fn put_report(tenant: u32, kernel: &Kernel, room: &mut [u8]) -> usize
 #[inline(never)]
 fn administer(command: &AdminCommand, kernel: &mut Kernel, room: &mut [u8]) -> usize
     requires { most_reply_bytes ≤ length room.old }
-    ensures { (text : List ℕ) × AnswersLine kernel.old (Ok (Some (Admin command.now))) kernel.new text × IsTextWritten text room.old room.new result }
+    ensures { (text : List ℕ) × AnswersLine kernel.old (Ok (Some (Admin command.now))) kernel.new text
+        × IsTextWritten text room.old room.new result }
 {
     put_reply(&kernel.administer(command), room)
 }
@@ -294,7 +304,8 @@ fn administer(command: &AdminCommand, kernel: &mut Kernel, room: &mut [u8]) -> u
 #[inline(never)]
 fn put_fault(fault: LineFault, room: &mut [u8]) -> usize
     requires { most_reply_bytes ≤ length room.old }
-    ensures { IsTextWritten (text_of (record { addressee = Addressee.Nobody; body = Body.Fault fault })) room.old room.new result }
+    ensures { IsTextWritten (text_of (record { addressee = Addressee.Nobody; body = Body.Fault fault }))
+        room.old room.new result }
 {
     let reply = Reply {
         addressee: Addressee::Nobody,
