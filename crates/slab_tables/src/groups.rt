@@ -10,8 +10,8 @@ use std::alloc::{AllocError, Global};
 /// The order of a group of frames, or a superblock's where that is less: so a group lies in one slot.
 const GROUP_ORDER: u8 = 5;
 
-/// For each list the groups of its tenant's frames in which it has slabs, a bit each, and for each slot of a tenant the superblock
-/// that stood under it when a slab was put there.
+/// For each list the groups of its tenant's frames in which it has slabs, a bit each, and for each slot of a tenant the
+/// superblock that stood under it when a slab was made there.
 #[derive(Drop)]
 pub(crate) struct Groups {
     /// A superblock has `2^order` frames.
@@ -63,14 +63,13 @@ impl Groups {
         frame >> self.group == other >> self.group
     }
 
-    /// A slab of the list begins at a frame, and there at a node.
-    pub(crate) fn put(&mut self, list: u32, frame: u32, node: u32) {
+    /// A slab of the list begins at a frame.
+    pub(crate) fn put(&mut self, list: u32, frame: u32) {
         let group = frame >> self.group;
         let i = self.word_of(list, group / 64);
         if i < self.words.len() {
             self.words[i] |= 1 << (group % 64);
         }
-        self.see(list, frame, node);
     }
 
     /// No slab of the list begins in the group of the frame.
@@ -106,7 +105,7 @@ impl Groups {
         None
     }
 
-    /// The node at which the frame of the list's tenant stood when a slab was last put into its slot.
+    /// The node at which the frame of the list's tenant stood when a slab was last made in its slot.
     pub(crate) fn node_of(&self, list: u32, frame: u32) -> Option<u32> {
         let superblock = *self.superblocks.get(self.slot_of(list, frame))?;
         Some(superblock << self.order | frame % (1 << self.order))

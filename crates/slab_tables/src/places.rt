@@ -95,10 +95,12 @@ impl SlabLists {
         ensures { self.new ≡ inserted self.old head node key }
     {
         self.lists.insert(head, node, key);
-        self.groups.put(head, key, node);
+        self.groups.put(head, key);
+        self.groups.see(head, key, node);
     }
 
     /// As [`Lists::remove`].
+    #[inline(always)]
     pub(crate) fn remove(&mut self, node: u32)
         requires node { node < length self.old.places }
         requires placed { IsSome (place_at self.old.places node) }
@@ -128,7 +130,8 @@ impl SlabLists {
         }
     }
 
-    /// Moves the node, which stands in the list `from`, into the list `to` under the same key. Nothing is done where these are one.
+    /// Moves the node, which stands in the list `from`, into the list `to` under the same key. Nothing is done where these are
+    /// one.
     ///
     /// `slab` is the order of its slab: it decides the cost alone.
     #[inline(always)]
@@ -155,14 +158,14 @@ impl SlabLists {
         requires alone { (i : ℕ) → place_at self.old.places i ≡ Some (head, key) → i ≡ node }
         ensures { self.new ≡ inserted self.old head node key }
     {
+        self.remove(node);
         if self.lists.len(head) < SHORT {
-            self.remove(node);
-            self.insert(head, node, key);
+            self.lists.insert(head, node, key);
+            self.groups.put(head, key);
         } else {
             let near = self.near(head, node, key, 1 << slab);
-            self.remove(node);
             self.lists.insert_near(head, node, key, near);
-            self.groups.put(head, key, node);
+            self.groups.put(head, key);
         }
     }
 

@@ -10,10 +10,9 @@ put_anew s t h i k e =
     ap (λ x. inserted x h i k) e ∙ ap with_places (set-set s.places i None (Some (h, k)))
 
 pub returns-then-len-lt-SHORT : goal.returns-then-len-lt-SHORT
-returns-then-len-lt-SHORT c = c.insert.ensures ∙ put_anew c.args.self.now _ c.args.head c.args.node c.args.key c.remove.ensures
+returns-then-len-lt-SHORT c =
+    c.insert.ensures ∙ put_anew c.args.self.now c.self.inside.lists c.args.head c.args.node c.args.key (c.self.view_is ∙ c.remove.ensures)
 
 pub returns-else-len-lt-SHORT : goal.returns-else-len-lt-SHORT
 returns-else-len-lt-SHORT c =
-    c.insert_near.ensures
-    ∙ put_anew c.args.self.now c.self-else-len-lt-SHORT.inside.lists c.args.head c.args.node c.args.key
-    (c.self-else-len-lt-SHORT.view_is ∙ c.remove-else-len-lt-SHORT.ensures)
+    c.insert_near.ensures ∙ put_anew c.args.self.now c.self.inside.lists c.args.head c.args.node c.args.key (c.self.view_is ∙ c.remove.ensures)
