@@ -90,7 +90,8 @@ impl Slabs {
         false
     }
 
-    /// Whether there is room for a block of order `k` around an empty slab of tenant `t`: each block in which one begins is walked.
+    /// Whether there is room for a block of order `k` around an empty slab of tenant `t`: each block in which one begins
+    /// is walked.
     #[inline(never)]
     fn has_room_around(&self, space: &Space, buddy: &Buddy, t: u8, k: u8) -> bool
         requires tenant { t < length space.now.slots }
