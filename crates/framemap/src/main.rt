@@ -13,7 +13,7 @@ mod settings;
 
 use command_line::{Exit, Outcome, Refused, hand_out, open, tell, words_given};
 use replay_core::ReaderFeed;
-use run::run;
+use run::{Drawn, run};
 use settings::{PROGRAM, Settings, read_words};
 use std::io::{self, BufWriter, Read};
 use std::process::ExitCode;
@@ -23,14 +23,46 @@ use std::rt::Env;
 const BUFFER_BYTES: usize = 65_536;
 
 fn main(rt: HostRuntime) -> ExitCode {
-    let exit = match read_command_line(&rt) {
+    match read_command_line(&rt) {
         Ok(settings) => {
             let opened = open(&rt, settings.file.as_deref());
-            Exit::Ran(run_opened(&rt, &settings, opened))
+            let ran = run_opened(&rt, &settings, opened);
+            tell_run(&rt, &settings, ran)
         }
-        Err(refused) => hand_out(&mut io::writer(&rt), refused),
-    };
-    tell(&rt, PROGRAM, &exit)
+        Err(refused) => {
+            let exit = hand_out(&mut io::writer(&rt), refused);
+            tell(&rt, PROGRAM, &exit)
+        }
+    }
+}
+
+/// How a run ended, and why the trace could not be opened.
+#[derive(Drop)]
+struct Ran {
+    drawn: Drawn,
+    unopened: Option<io::Error>,
+}
+
+impl Ran {
+    fn opened(drawn: Drawn) -> Ran {
+        Ran {
+            drawn,
+            unopened: None,
+        }
+    }
+}
+
+/// Tells how a run ended, and behind that what is to be known of it.
+fn tell_run(rt: &impl Eprint, settings: &Settings, ran: Ran) -> ExitCode {
+    let is_of_nothing = ran.drawn.is_of_nothing();
+    let code = tell(rt, PROGRAM, &Exit::Ran(ran.drawn.outcome));
+    if is_of_nothing {
+        let _unheard = eprintln!(rt; "framemap: no line of the trace was an event");
+    }
+    if let (Some(path), Some(error)) = (&settings.file, &ran.unopened) {
+        let _unheard = eprintln!(rt; "framemap: {path}: {error}");
+    }
+    code
 }
 
 /// What the command line asks for.
@@ -45,16 +77,22 @@ fn run_opened<R: Read + Drop>(
     rt: &(impl Print + AllocGlobal),
     settings: &Settings,
     opened: io::Result<R>,
-) -> Outcome
-    ensures unopened { OnErr opened (result ≡ Outcome.Unreadable) }
+) -> Ran
+    ensures unopened { OnErr opened (result.drawn.outcome ≡ Outcome.Unreadable) }
 {
-    let Ok(reader) = opened else {
-        return Outcome::Unreadable;
+    let reader = match opened {
+        Ok(reader) => reader,
+        Err(error) => {
+            return Ran {
+                drawn: Drawn::at_once(Outcome::Unreadable),
+                unopened: Some(error),
+            };
+        }
     };
     let alloc = rt.alloc();
     let Ok(mut writer) = BufWriter::with_capacity(alloc, BUFFER_BYTES, io::writer(rt)) else {
-        return Outcome::NoMemory;
+        return Ran::opened(Drawn::at_once(Outcome::NoMemory));
     };
     let mut feed = ReaderFeed::with_room(reader, u64::MAX);
-    run(alloc, settings, &mut feed, &mut writer)
+    Ran::opened(run(alloc, settings, &mut feed, &mut writer))
 }

@@ -20,6 +20,27 @@ const LINES_ABOVE: u32 = 1 << 30;
 /// How many bytes are asked for in one pull.
 const PIECE_BYTES: usize = 65_536;
 
+/// How a run ended, and how many lines of the trace were events.
+#[derive(Debug, Drop)]
+pub struct Drawn {
+    pub outcome: Outcome,
+    pub events: u64,
+}
+
+impl Drawn {
+    /// No line was run.
+    pub fn at_once(outcome: Outcome) -> Drawn
+        ensures { result.outcome ≡ outcome }
+    {
+        Drawn { outcome, events: 0 }
+    }
+
+    /// The picture is done, and of a trace in which nothing was an event.
+    pub fn is_of_nothing(&self) -> bool {
+        matches!(self.outcome, Outcome::Done) && self.events == 0
+    }
+}
+
 /// Runs a trace on a new machine of these settings, and draws what became of its frames. Nothing is drawn of a trace that
 /// can't be read to its end.
 pub fn run<F: Feed, W: Write>(
@@ -27,72 +48,95 @@ pub fn run<F: Feed, W: Write>(
     settings: &Settings,
     feed: &mut F,
     writer: &mut W,
-) -> Outcome
+) -> Drawn
     requires { F.has_failed feed.old ≡ false }
 {
     let Ok(mut kernel) = Kernel::boot(alloc, settings.machine.config) else {
-        return Outcome::NoMemory;
+        return Drawn::at_once(Outcome::NoMemory);
     };
     let Ok(mut history) = History::new(alloc, &kernel, settings.columns) else {
-        return Outcome::NoMemory;
+        return Drawn::at_once(Outcome::NoMemory);
     };
     let Ok(mut picture) = Picture::new(alloc, &history, settings.machine.only) else {
-        return Outcome::NoMemory;
+        return Drawn::at_once(Outcome::NoMemory);
     };
-    if watch(&mut kernel, feed, &mut history).is_err() {
-        return Outcome::Unreadable;
-    }
-    match picture.draw(&history, writer) {
+    let Ok(events) = watch(&mut kernel, feed, &mut history) else {
+        return Drawn::at_once(Outcome::Unreadable);
+    };
+    let outcome = match picture.draw(&history, writer) {
         Ok(()) => Outcome::Done,
         Err(_) => Outcome::Unwritable,
-    }
+    };
+    Drawn { outcome, events }
 }
 
-/// Runs all lines of the trace, and keeps what the machine is like after them.
-fn watch<F: Feed>(kernel: &mut Kernel, feed: &mut F, history: &mut History) -> Result<(), Stopped>
+/// Runs all lines of the trace, and keeps what the machine is like after them; answers how many were events.
+fn watch<F: Feed>(kernel: &mut Kernel, feed: &mut F, history: &mut History) -> Result<u64, Stopped>
     requires { F.has_failed feed.old ≡ false }
 {
     let mut pending = Pending::new();
     let mut piece = [0; PIECE_BYTES];
+    let mut events = 0u64;
     'pulls: loop {
         let count = feed.pull(&mut piece)?;
         if count == 0 {
             break;
         }
-        watch_piece(&piece[..count], &mut pending, kernel, history);
+        let more = watch_piece(&piece[..count], &mut pending, kernel, history);
+        events = events.saturating_add(more);
         if history.lines() >= LINES_ABOVE {
             return Err(Stopped);
         }
     }
     if !pending.is_empty() {
-        watch_line(pending.reading(), kernel, history);
+        let more = watch_line(pending.reading(), kernel, history);
+        events = events.saturating_add(more);
     }
     history.end(kernel);
-    Ok(())
+    Ok(events)
 }
 
-/// Runs the lines that end in a piece of the trace; what follows the last of them becomes pending.
-fn watch_piece(piece: &[u8], pending: &mut Pending, kernel: &mut Kernel, history: &mut History) {
+/// Runs the lines that end in a piece of the trace, and answers how many were events; what follows the last of them becomes
+/// pending.
+fn watch_piece(
+    piece: &[u8],
+    pending: &mut Pending,
+    kernel: &mut Kernel,
+    history: &mut History,
+) -> u64 {
+    let mut events = 0u64;
     for part in piece.split_inclusive(|byte| *byte == b'\n') {
         match part {
-            [line @ .., b'\n'] => watch_line(pending.end_with(line), kernel, history),
+            [line @ .., b'\n'] => {
+                let more = watch_line(pending.end_with(line), kernel, history);
+                events = events.saturating_add(more);
+            }
             unended => pending.add(unended),
         }
     }
+    events
 }
 
-/// Runs a line that was read so; nobody is told what it answers. A report changes nothing, and is not made.
-fn watch_line(reading: Result<Option<Event>, LineFault>, kernel: &mut Kernel, history: &mut History)
+/// Runs a line that was read so, and answers whether it was an event, by 1 or 0; nobody is told what the kernel answers. A
+/// report changes nothing, and is not made.
+fn watch_line(
+    reading: Result<Option<Event>, LineFault>,
+    kernel: &mut Kernel,
+    history: &mut History,
+) -> u64
     requires { IsRunnable reading }
 {
-    match reading {
+    let events = match reading {
         Ok(Some(Event::Admin(command))) => {
             let _ = kernel.administer(&command);
+            1
         }
         Ok(Some(Event::Tenant(tenant, command))) => {
             let _ = kernel.ask(tenant, &command);
+            1
         }
-        Ok(None) | Err(_) => {}
-    }
+        Ok(None) | Err(_) => 0,
+    };
     history.add_line(kernel);
+    events
 }

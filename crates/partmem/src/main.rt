@@ -5,7 +5,8 @@
 //! The exits are those of `command_line::Exit`.
 //!
 //! With `--tally` a line, before what is told of the exit, tells what was done, however the run ended:
-//! `partmem: 6 lines, 6 events, 0 faults, 214 bytes written`.
+//! `partmem: 6 lines, 6 events, 0 faults, 214 bytes written`; and behind that, how often each refusal was told, and the first
+//! faulty lines with what is wrong with them.
 #![tactic(auto)]
 
 ghost use Rattle.std.specs.Prelude.{◌≡◌, OnErr};
@@ -20,9 +21,10 @@ use command_line::{Exit, Machine, Outcome, Refused, hand_out, tell, words_given}
 use outcome::Ended;
 use replay_core::{ReaderFeed, Tally, WriterDrain};
 use run::run;
+use run_notes::{FaultNotes, MOST_NUMBER, NotedReader, NotedWriter, RefusalNotes};
 use settings::{PROGRAM, Settings, read_words};
 use std::fs::File;
-use std::io::{self, Read};
+use std::io::{self, Read, Write};
 use std::process::ExitCode;
 use std::rt::{Env, Files};
 
@@ -30,17 +32,33 @@ use std::rt::{Env, Files};
 const BUFFER_BYTES: usize = 65_536;
 
 fn main(rt: HostRuntime) -> ExitCode {
-    let exit = match read_command_line(&rt) {
+    match read_command_line(&rt) {
         Ok(settings) => {
-            let ended = run_from(&rt, &settings);
-            if settings.tally {
-                tell_tally(&rt, &ended.tally);
-            }
-            Exit::Ran(ended.outcome)
+            let ran = run_from(&rt, &settings);
+            tell_run(&rt, &settings, ran)
         }
-        Err(refused) => hand_out(&mut io::writer(&rt), refused),
-    };
-    tell(&rt, PROGRAM, &exit)
+        Err(refused) => {
+            let exit = hand_out(&mut io::writer(&rt), refused);
+            tell(&rt, PROGRAM, &exit)
+        }
+    }
+}
+
+/// How a run ended, and what is told behind that.
+#[derive(Drop)]
+struct Ran {
+    ended: Ended,
+    /// Why the trace could not be opened.
+    unopened: Option<io::Error>,
+    /// What was noted, if it was asked for.
+    notes: Option<Notes>,
+}
+
+/// What was noted of the trace and of the replies.
+#[derive(Drop)]
+struct Notes {
+    faults: FaultNotes,
+    refusals: RefusalNotes,
 }
 
 /// What the command line asks for.
@@ -50,24 +68,63 @@ fn read_command_line(rt: &(impl Env + AllocGlobal)) -> Result<Settings, Refused>
 }
 
 /// Runs the trace, from FILE or from standard input, into standard output: a copy of the loop for each.
-fn run_from(rt: &(impl Files + Input + Print + AllocGlobal), settings: &Settings) -> Ended {
+fn run_from(rt: &(impl Files + Input + Print + AllocGlobal), settings: &Settings) -> Ran {
     match &settings.file {
-        None => run_opened(rt, &settings.machine, Ok(rt.reader())),
-        Some(path) => run_opened(rt, &settings.machine, File::open(rt, path.as_str())),
+        None => run_opened(rt, settings, Ok(rt.reader())),
+        Some(path) => run_opened(rt, settings, File::open(rt, path.as_str())),
     }
 }
 
 /// Runs the trace of a reader into standard output; one that could not be opened, for whatever cause, is unreadable.
 fn run_opened<R: Read + Drop>(
     rt: &(impl Print + AllocGlobal),
-    machine: &Machine,
+    settings: &Settings,
     opened: io::Result<R>,
-) -> Ended
-    ensures unopened { OnErr opened (result ≡ ended_at_once Outcome.Unreadable) }
+) -> Ran
+    ensures unopened { OnErr opened (result.ended ≡ ended_at_once Outcome.Unreadable) }
 {
-    let Ok(reader) = opened else {
-        return Ended::at_once(Outcome::Unreadable);
+    let reader = match opened {
+        Ok(reader) => reader,
+        Err(error) => {
+            return Ran {
+                ended: Ended::at_once(Outcome::Unreadable),
+                unopened: Some(error),
+                notes: None,
+            };
+        }
     };
+    if settings.tally {
+        return run_noted(rt, &settings.machine, reader);
+    }
+    Ran {
+        ended: run_between(rt, &settings.machine, reader, io::writer(rt)),
+        unopened: None,
+        notes: None,
+    }
+}
+
+/// Runs the trace of a reader into standard output, and notes what goes through.
+fn run_noted<R: Read + Drop>(rt: &(impl Print + AllocGlobal), machine: &Machine, reader: R) -> Ran {
+    let mut trace = NotedReader::new(reader);
+    let mut replies = NotedWriter::new(io::writer(rt));
+    let ended = run_between(rt, machine, &mut trace, &mut replies);
+    Ran {
+        ended,
+        unopened: None,
+        notes: Some(Notes {
+            faults: trace.into_notes(),
+            refusals: replies.into_notes(),
+        }),
+    }
+}
+
+/// Runs the trace of a reader into a writer.
+fn run_between<R: Read + Drop, W: Write + Drop>(
+    rt: &impl AllocGlobal,
+    machine: &Machine,
+    reader: R,
+    writer: W,
+) -> Ended {
     let alloc = rt.alloc();
     let Ok(room) = Vec::with_capacity(alloc, BUFFER_BYTES) else {
         return Ended::at_once(Outcome::NoMemory);
@@ -76,8 +133,35 @@ fn run_opened<R: Read + Drop>(
         alloc,
         machine,
         &mut ReaderFeed::new(reader),
-        &mut WriterDrain::holding(io::writer(rt), room),
+        &mut WriterDrain::holding(writer, room),
     )
+}
+
+/// Tells how a run ended: its tally first, if it was asked for, and what was noted last.
+fn tell_run(rt: &impl Eprint, settings: &Settings, ran: Ran) -> ExitCode {
+    if settings.tally {
+        tell_tally(rt, &ran.ended.tally);
+    }
+    let code = tell(rt, PROGRAM, &Exit::Ran(ran.ended.outcome));
+    if let Some(notes) = &ran.notes {
+        tell_notes(rt, notes);
+    }
+    if let (Some(path), Some(error)) = (&settings.file, &ran.unopened) {
+        let _unheard = eprintln!(rt; "partmem: {path}: {error}");
+    }
+    code
+}
+
+/// Tells how often each refusal was told, and the first faulty lines.
+fn tell_notes(rt: &impl Eprint, notes: &Notes) {
+    for number in 1..=MOST_NUMBER {
+        if let Some(refused) = notes.refusals.told(number) {
+            let _unheard = eprintln!(rt; "partmem: {refused}");
+        }
+    }
+    for line in notes.faults.first().iter().flatten() {
+        let _unheard = eprintln!(rt; "partmem: {line}");
+    }
 }
 
 /// Tells what was done, on standard error.

@@ -80,7 +80,7 @@ fn command<'a>(alloc: Global) -> Result<Command<'a>, AllocError>
 {
     let tally = Arg::new(alloc, "tally")
         .long("tally")
-        .help("Tells what was done, in one line on standard error")
+        .help("Tells on standard error what was done, refused and faulty")
         .action(ArgAction::SetTrue);
     let file = positional(alloc, "FILE", "The trace [default: standard input]");
     command_line::command(alloc, PROGRAM)?.arg(tally)?.arg(file)

@@ -1,0 +1,136 @@
+//! How often each refusal was told.
+
+use replay_core::Pending;
+use std::fmt;
+use words_core::Refusal;
+
+/// All refusals, by rising number, from 1 on.
+const REFUSALS: [Refusal; 15] = [
+    Refusal::NoFrames,
+    Refusal::BadOrder,
+    Refusal::NotABlock,
+    Refusal::OutOfReach,
+    Refusal::BadLength,
+    Refusal::BadSize,
+    Refusal::BadAlign,
+    Refusal::NoCacheSlot,
+    Refusal::NoCache,
+    Refusal::CacheInUse,
+    Refusal::NotAnObject,
+    Refusal::NoTenant,
+    Refusal::PoolEmpty,
+    Refusal::NoSlot,
+    Refusal::SlotBusy,
+];
+
+/// The greatest number of a refusal.
+pub const MOST_NUMBER: u8 = 15;
+
+/// A refusal, and how often it was told.
+#[derive(Clone, Copy, Debug)]
+pub struct Refused {
+    refusal: Refusal,
+    times: u64,
+}
+
+impl fmt::Display for Refused {
+    fn fmt<W: fmt::Write>(&self, f: &mut fmt::Formatter<W>) -> fmt::Result {
+        let number = self.refusal.number();
+        let name = self.refusal.name();
+        let times = self.times;
+        write!(f, "refused {number} {name}: {times}")
+    }
+}
+
+/// How often each refusal stands in replies that come in pieces.
+#[derive(Drop)]
+pub struct RefusalNotes {
+    pending: Pending,
+    times: [u64; REFUSALS.len()],
+}
+
+impl RefusalNotes {
+    /// Of replies of which nothing has come.
+    pub fn new() -> RefusalNotes {
+        RefusalNotes {
+            pending: Pending::new(),
+            times: [0; REFUSALS.len()],
+        }
+    }
+
+    /// A piece of the replies has come.
+    pub fn add(&mut self, piece: &[u8]) {
+        for part in piece.split_inclusive(|byte| *byte == b'\n') {
+            match part {
+                [line @ .., b'\n'] => self.end_line(line),
+                unended => self.pending.add(unended),
+            }
+        }
+    }
+
+    /// The refusal of this number, with how often it was told; None where it never was.
+    pub fn told(&self, number: u8) -> Option<Refused> {
+        REFUSALS
+            .iter()
+            .zip(&self.times)
+            .find(|(refusal, times)| refusal.number() == number && **times > 0)
+            .map(|(refusal, times)| Refused {
+                refusal: *refusal,
+                times: *times,
+            })
+    }
+
+    /// The line ends with these bytes.
+    fn end_line(&mut self, bytes: &[u8]) {
+        self.pending.add(bytes);
+        if let Some(number) = refusal_in(self.pending.held.as_slice()) {
+            for (refusal, times) in REFUSALS.iter().zip(&mut self.times) {
+                if refusal.number() == number {
+                    *times = times.saturating_add(1);
+                }
+            }
+        }
+        self.pending = Pending::new();
+    }
+}
+
+/// The number of the refusal that a line of a reply tells.
+fn refusal_in(line: &[u8]) -> Option<u8> {
+    let start = line.iter().position(|byte| *byte == b'>')?;
+    match &line[start..] {
+        [
+            b'>',
+            b' ',
+            b'r',
+            b'e',
+            b'f',
+            b'u',
+            b's',
+            b'e',
+            b'd',
+            b' ',
+            tens,
+            ones,
+            b' ',
+            ..
+        ] if tens.is_ascii_digit() && ones.is_ascii_digit() => {
+            Some((tens - b'0') * 10 + (ones - b'0'))
+        }
+        [
+            b'>',
+            b' ',
+            b'r',
+            b'e',
+            b'f',
+            b'u',
+            b's',
+            b'e',
+            b'd',
+            b' ',
+            ones,
+            b' ',
+            ..
+        ] if ones.is_ascii_digit() => { Some(ones - b'0') }
+        _ => None,
+    }
+}
