@@ -3,7 +3,7 @@ use Rattle.std.proofs.Common.{◌≡◌, ℕ, ◌+◌, ◌-◌, ◌*◌, ◌<◌
 use Rattle.std.specs.List.{range_with_len, slice_range}
 use Rattle.std.specs.Result.{result_unwrap_or}
 use Rattle.std.proofs.lemmas.Bool.Decides.{nat_tests}
-use Rattle.std.proofs.lemmas.List.Edits.{length-between}
+use Rattle.std.proofs.lemmas.List.Edits.{length-between, between_none}
 use Rattle.std.proofs.lemmas.List.Elements.{All-nil, All-cons, All-weaker, All-from_recursion}
 use Rattle.std.proofs.lemmas.List.FromFn.{get_or-map-range_with_len}
 use Rattle.hex.specs.Hex.{◌>>=◌, decode_of, decode_pairs, hex_digit_value, is_hex_digit, pair_value}
@@ -14,75 +14,118 @@ use Rattle.words_core.specs.Numbers.{number_of}
 use Rattle.words_core.specs.declared.event.Command.TheVariants.{Write}
 use Rattle.words_core.specs.declared.event.LineFault.TheVariants.{Number, Hex}
 use Rattle.quick_core.specs.Lines.{ReadsAs}
-use Rattle.quick_core.specs.declared.written.TheConstants.{HEX_VALUES}
+use Rattle.quick_core.specs.declared.written.TheConstants.{HIGH_VALUES, LOW_VALUES}
 use Rattle.quick_core.proofs.LineLemmas.{IsPlain, IsPlainWord, SomeCase, OneCase, spaced, is_read, three_words, plain_number}
-use Rattle.quick_core.proofs.WindowLemmas.{one_more}
+use Rattle.quick_core.specs.Pairs.{Decodes}
+use Rattle.quick_core.proofs.WindowLemmas.{cut, front}
 
-values_are : HEX_VALUES ≡ map (λ c. unwrap_or (hex_digit_value c) 255) (range_with_len 0 256)
-values_are = refl
+-- ---- the tables
 
-pub value_at : (c : ℕ) → c < 256 → get_or HEX_VALUES c 0 ≡ unwrap_or (hex_digit_value c) 255
-value_at c below =
-    ap (λ table. get_or table c 0) values_are
-    ∙ get_or-map-range_with_len (λ k. unwrap_or (hex_digit_value k) 255) 0 256 c c 0 below (omega arith)
+-- what a table has for a value, or where there is none
+abbrev tabled : (ℕ → ℕ) → Option ℕ → ℕ
+tabled f (Some value) = f value
+tabled f None = 1024
 
-is_digit : (found : Option ℕ) (value : ℕ) → value ≡ unwrap_or found 255 → value < 255 → found ≡ Some value
-is_digit (Some v) value is small = ap Some (sym is)
-is_digit None value is small = absurd (omega arith)
+highs_are : HIGH_VALUES ≡ map (λ c. tabled (λ value. 16 * value) (hex_digit_value c)) (range_with_len 0 256)
+highs_are = refl
+
+lows_are : LOW_VALUES ≡ map (λ c. tabled (λ value. value) (hex_digit_value c)) (range_with_len 0 256)
+lows_are = refl
+
+high_at : (c : ℕ) → c < 256 → get_or HIGH_VALUES c 0 ≡ tabled (λ value. 16 * value) (hex_digit_value c)
+high_at c below =
+    ap (λ table. get_or table c 0) highs_are
+    ∙ get_or-map-range_with_len (λ k. tabled (λ value. 16 * value) (hex_digit_value k)) 0 256 c c 0 below (omega arith)
+
+low_at : (c : ℕ) → c < 256 → get_or LOW_VALUES c 0 ≡ tabled (λ value. value) (hex_digit_value c)
+low_at c below =
+    ap (λ table. get_or table c 0) lows_are
+    ∙ get_or-map-range_with_len (λ k. tabled (λ value. value) (hex_digit_value k)) 0 256 c c 0 below (omega arith)
 
 digit_small : (c value : ℕ) → hex_digit_value c ≡ Some value → value < 16
 digit_small c value is = grind (arith, nat_tests)
 
--- a value below 255 is that of a digit
-pub digit_of : (c value : ℕ) → value ≡ unwrap_or (hex_digit_value c) 255 → value < 255 → (hex_digit_value c ≡ Some value) × (value < 16)
-digit_of c value is small =
-    let found : hex_digit_value c ≡ Some value = is_digit (hex_digit_value c) value is small in
-    (found, digit_small c value found)
-
 pair_is : (a b i high low : ℕ) → hex_digit_value a ≡ Some high → hex_digit_value b ≡ Some low → pair_value a b i ≡ Ok (high * 16 + low)
 pair_is a b i high low a_is b_is = rw (a_is, b_is) refl
 
-decode_more : (i : ℕ) (text bytes : List ℕ) (a b high low : ℕ) → hex_digit_value a ≡ Some high → hex_digit_value b ≡ Some low
-    → decode_pairs i text ≡ Ok bytes → decode_pairs i (text ++ a ∷ b ∷ []) ≡ Ok (bytes ++ (high * 16 + low) ∷ [])
+-- a sum below 1024 is the byte of two digits
+pair_of_sum : (a b pair : ℕ) (high low : Option ℕ) → hex_digit_value a ≡ high → hex_digit_value b ≡ low
+    → pair ≡ tabled (λ value. 16 * value) high + tabled (λ value. value) low → pair < 1024
+    → (pair < 256) × ((i : ℕ) → pair_value a b i ≡ Ok pair)
+pair_of_sum a b pair (Some high) (Some low) a_is b_is is small = (
+  omega (arith, digit_small a high a_is, digit_small b low b_is),
+  λ i. pair_is a b i high low a_is b_is ∙ ap Ok (omega arith),
+)
+pair_of_sum a b pair (Some high) None a_is b_is is small = absurd (omega arith)
+pair_of_sum a b pair None (Some low) a_is b_is is small = absurd (omega arith)
+pair_of_sum a b pair None None a_is b_is is small = absurd (omega arith)
+
+pub tabled_pair : (a b pair : ℕ) → a < 256 → b < 256 → pair ≡ get_or HIGH_VALUES a 0 + get_or LOW_VALUES b 0 → pair < 1024
+    → (pair < 256) × ((i : ℕ) → pair_value a b i ≡ Ok pair)
+tabled_pair a b pair a_byte b_byte is small =
+    pair_of_sum a b pair (hex_digit_value a) (hex_digit_value b) refl refl (omega (arith, high_at a a_byte, low_at b b_byte)) small
+
+high_small : (found : Option ℕ) (c : ℕ) → hex_digit_value c ≡ found → tabled (λ value. 16 * value) found ≤ 1024
+high_small (Some value) c is = omega (arith, digit_small c value is)
+high_small None c is = omega arith
+
+low_small : (found : Option ℕ) (c : ℕ) → hex_digit_value c ≡ found → tabled (λ value. value) found ≤ 1024
+low_small (Some value) c is = omega (arith, digit_small c value is)
+low_small None c is = omega arith
+
+pub high_few : (c : ℕ) → c < 256 → get_or HIGH_VALUES c 0 ≤ 1024
+high_few c byte = omega (arith, high_at c byte, high_small (hex_digit_value c) c refl)
+
+pub low_few : (c : ℕ) → c < 256 → get_or LOW_VALUES c 0 ≤ 1024
+low_few c byte = omega (arith, low_at c byte, low_small (hex_digit_value c) c refl)
+
+-- ---- pairs, one part of a text after the other
+
+pub decodes_none : (text : List ℕ) (from end : ℕ) → end ≤ from → Decodes text from end []
 unfolding decode_pairs
-decode_more i [] bytes a b high low a_is b_is is =
-    ap (λ pair. pair >>= (λ byte. Ok (byte ∷ []))) (pair_is a b i high low a_is b_is)
-    ∙ ap (λ read. Ok (result_unwrap_or read [] ++ (high * 16 + low) ∷ [])) is
-decode_more i (x ∷ []) bytes a b high low a_is b_is is = absurd cc
-decode_more i (x ∷ y ∷ text) bytes a b high low a_is b_is is =
-    step (pair_value x y i) (decode_pairs (i + 2) text) (decode_pairs (i + 2) (text ++ a ∷ b ∷ []))
-    (λ more. decode_more (i + 2) text more a b high low a_is b_is) is where
+decodes_none text from end low i = let none : end - from ≡ 0 = omega arith in ap (λ n. decode_pairs i (take n (drop from text))) none
+
+pub decodes_pair : (text : List ℕ) (at pair : ℕ) → at + 2 ≤ length text
+    → ((i : ℕ) → pair_value (get_or text at 0) (get_or text (at + 1) 0) i ≡ Ok pair) → Decodes text at (at + 2) (pair ∷ [])
+unfolding decode_pairs
+decodes_pair text at pair within is i =
+    ap (decode_pairs i) (digits) ∙ ap (λ read. read >>= (λ byte. Ok (byte ∷ []))) (is i) where
+      last : slice_range text (at + 1 + 1) (at + 2) ≡ []
+      last = ap (slice_range text (at + 1 + 1)) (omega arith) ∙ between_none text (at + 1 + 1)
+
+      digits : slice_range text at (at + 2) ≡ get_or text at 0 ∷ get_or text (at + 1) 0 ∷ []
+      digits =
+          front text at (at + 2) (get_or text at 0) (omega arith) within refl
+          ∙ ap (λ rest. get_or text at 0 ∷ rest)
+          (front text (at + 1) (at + 2) (get_or text (at + 1) 0) (omega arith) within refl
+          ∙ ap (λ rest. get_or text (at + 1) 0 ∷ rest) last)
+
+decode_append : (i : ℕ) (text more bytes others : List ℕ) → decode_pairs i text ≡ Ok bytes → ((k : ℕ) → decode_pairs k more ≡ Ok others)
+    → decode_pairs i (text ++ more) ≡ Ok (bytes ++ others)
+unfolding decode_pairs
+decode_append i [] more bytes others is are = are i ∙ ap (λ read. Ok (result_unwrap_or read [] ++ others)) is
+decode_append i (x ∷ []) more bytes others is are = absurd cc
+decode_append i (x ∷ y ∷ text) more bytes others is are =
+    step (pair_value x y i) (decode_pairs (i + 2) text) (decode_pairs (i + 2) (text ++ more))
+    (λ rest. λ read. decode_append (i + 2) text more rest others read are) is where
       step : (pair : Result ℕ FromHexError) (old new : Result (List ℕ) FromHexError)
-          → ((more : List ℕ) → old ≡ Ok more → new ≡ Ok (more ++ (high * 16 + low) ∷ []))
-          → (pair >>= (λ byte. old >>= (λ more. Ok (byte ∷ more)))) ≡ Ok bytes
-          → (pair >>= (λ byte. new >>= (λ more. Ok (byte ∷ more)))) ≡ Ok (bytes ++ (high * 16 + low) ∷ [])
-      step (Ok byte) (Ok more) new longer is =
-          ap (λ read. read >>= (λ more. Ok (byte ∷ more))) (longer more refl)
-          ∙ ap (λ read. Ok (result_unwrap_or read [] ++ (high * 16 + low) ∷ [])) is
+          → ((rest : List ℕ) → old ≡ Ok rest → new ≡ Ok (rest ++ others))
+          → (pair >>= (λ byte. old >>= (λ rest. Ok (byte ∷ rest)))) ≡ Ok bytes
+          → (pair >>= (λ byte. new >>= (λ rest. Ok (byte ∷ rest)))) ≡ Ok (bytes ++ others)
+      step (Ok byte) (Ok rest) new longer is =
+          ap (λ read. read >>= (λ rest. Ok (byte ∷ rest))) (longer rest refl)
+          ∙ ap (λ read. Ok (result_unwrap_or read [] ++ others)) is
       step (Ok byte) (Err e) new longer is = absurd cc
       step (Err e) old new longer is = absurd cc
 
--- one pair more
-pub pair_more : (bytes : List ℕ) (from count high low : ℕ) (decoded : List ℕ) → from + 2 * count + 1 < length bytes
-    → hex_digit_value (get_or bytes (from + 2 * count) 0) ≡ Some high → hex_digit_value (get_or bytes (from + 2 * count + 1) 0) ≡ Some low
-    → decode_pairs 0 (slice_range bytes from (from + 2 * count)) ≡ Ok decoded
-    → decode_pairs 0 (slice_range bytes from (from + 2 * (count + 1))) ≡ Ok (decoded ++ (high * 16 + low) ∷ [])
-pair_more bytes from count high low decoded within high_is low_is is =
-    let a = get_or bytes (from + 2 * count) 0 in
-    let b = get_or bytes (from + 2 * count + 1) 0 in
-    let text = slice_range bytes from (from + 2 * count) in
-    let first : slice_range bytes from (from + 2 * count + 1) ≡ text ++ a ∷ [] =
-    one_more bytes from (from + 2 * count) a text (omega arith) (omega arith) refl refl in
-    let both : slice_range bytes from (from + 2 * count + 1 + 1) ≡ (text ++ a ∷ []) ++ b ∷ [] =
-    one_more bytes from (from + 2 * count + 1) b (text ++ a ∷ []) (omega arith) within first refl in
-    let end : from + 2 * (count + 1) ≡ from + 2 * count + 1 + 1 = omega arith in
-    ap (λ e. decode_pairs 0 (slice_range bytes from e)) end
-    ∙ ap (decode_pairs 0) (both ∙ append_assoc text (a ∷ []) (b ∷ []))
-    ∙ decode_more 0 text decoded a b high low high_is low_is is
-
-pub no_pair : (bytes : List ℕ) (from : ℕ) → decode_pairs 0 (slice_range bytes from (from + 2 * 0)) ≡ Ok []
-unfolding decode_pairs
-no_pair bytes from = let none : from + 2 * 0 - from ≡ 0 = omega arith in ap (λ n. decode_pairs 0 (take n (drop from bytes))) none
+-- a part behind what is decoded
+pub decodes_more : (text : List ℕ) (from mid stop end : ℕ) (bytes others all : List ℕ) → from ≤ mid → mid ≤ stop → end ≡ stop
+    → Decodes text from mid bytes → Decodes text mid stop others → all ≡ bytes ++ others → Decodes text from end all
+decodes_more text from mid stop end bytes others all low high end_is first second all_is i =
+    ap (λ e. decode_pairs i (slice_range text from e)) end_is
+    ∙ ap (decode_pairs i) (cut text from mid stop low high)
+    ∙ decode_append i (slice_range text from mid) (slice_range text mid stop) bytes others (first i) second
+    ∙ ap Ok (sym all_is)
 
 -- ---- the line
 

@@ -33,3 +33,26 @@ hex_more new old front bytes pair i within new_is old_is pair_is =
     ∙ append_assoc front (encode_lower (take i bytes)) (encode_lower (get_or bytes i 0 ∷ []))
     ∙ ap (λ text. front ++ text)
     (sym (encode_append (take i bytes) (get_or bytes i 0 ∷ [])) ∙ ap encode_lower (sym (take_more bytes i 0 within)))
+
+-- a part of the rest more
+pub hex_part : (new old all rest part behind : List ℕ) → new ≡ old ++ encode_lower part → rest ≡ part ++ behind
+    → old ++ encode_lower rest ≡ all → new ++ encode_lower behind ≡ all
+hex_part new old all rest part behind new_is rest_is is =
+    ap (λ front. front ++ encode_lower behind) new_is
+    ∙ append_assoc old (encode_lower part) (encode_lower behind)
+    ∙ ap (λ text. old ++ text) (sym (encode_append part behind) ∙ ap encode_lower (sym rest_is))
+    ∙ is
+
+-- the digits of four bytes
+pub hex_four : (xs p q r s : List ℕ) → length xs ≡ 4
+    → p ≡ encode_lower (get_or xs 0 0 ∷ []) → q ≡ encode_lower (get_or xs 1 0 ∷ [])
+    → r ≡ encode_lower (get_or xs 2 0 ∷ []) → s ≡ encode_lower (get_or xs 3 0 ∷ [])
+    → get_or p 0 0 ∷ get_or p 1 0 ∷ get_or q 0 0 ∷ get_or q 1 0 ∷ get_or r 0 0 ∷ get_or r 1 0 ∷ get_or s 0 0 ∷ get_or s 1 0 ∷ []
+    ≡ encode_lower xs
+unfolding encode_with
+hex_four (a ∷ b ∷ c ∷ d ∷ []) p q r s four p_is q_is r_is s_is = rw (p_is, q_is, r_is, s_is) refl
+hex_four [] p q r s four p_is q_is r_is s_is = absurd (omega arith)
+hex_four (a ∷ []) p q r s four p_is q_is r_is s_is = absurd (omega arith)
+hex_four (a ∷ b ∷ []) p q r s four p_is q_is r_is s_is = absurd (omega arith)
+hex_four (a ∷ b ∷ c ∷ []) p q r s four p_is q_is r_is s_is = absurd (omega arith)
+hex_four (a ∷ b ∷ c ∷ d ∷ e ∷ more) p q r s four p_is q_is r_is s_is = absurd (omega arith)

@@ -1,3 +1,4 @@
 pub mod Digits
 pub mod Quick
 pub mod Lines
+pub mod Pairs

@@ -104,9 +104,25 @@ pub fn write_written(tenant: u8, count: u32, out: &mut [u8; WINDOW]) -> usize
     put_text(b"\n", at, out)
 }
 
-/// Writes the bytes in hex behind the first `at` bytes, and answers where it ends.
+/// Writes the bytes in hex behind the first `at` bytes, and answers where it ends: four at a time, whose eight digits are one store.
 #[inline(always)]
 fn put_hex(bytes: &[u8], at: usize, out: &mut [u8]) -> usize
+    requires { at + 2 * length bytes.now ≤ length out.old }
+    ensures text { take result out.new ≡ take at out.old ++ encode_lower bytes.now }
+    ensures end { result ≡ at + 2 * length bytes.now }
+{
+    let mut end = at;
+    let mut rest = bytes;
+    'fours: while let Some((four, behind)) = rest.split_first_chunk::<4>() {
+        end = put_text(&hex_of_four(four), end, out);
+        rest = behind;
+    }
+    put_hex_singly(rest, end, out)
+}
+
+/// The same, a byte at a time.
+#[inline(always)]
+fn put_hex_singly(bytes: &[u8], at: usize, out: &mut [u8]) -> usize
     requires { at + 2 * length bytes.now ≤ length out.old }
     ensures text { take result out.new ≡ take at out.old ++ encode_lower bytes.now }
     ensures end { result ≡ at + 2 * length bytes.now }
@@ -116,6 +132,19 @@ fn put_hex(bytes: &[u8], at: usize, out: &mut [u8]) -> usize
         end = put_text(&hex_of(*byte), end, out);
     }
     end
+}
+
+#[inline(always)]
+fn hex_of_four(bytes: &[u8; 4]) -> [u8; 8]
+    ensures { result ≡ encode_lower bytes.now }
+{
+    let first = hex_of(bytes[0]);
+    let second = hex_of(bytes[1]);
+    let third = hex_of(bytes[2]);
+    let fourth = hex_of(bytes[3]);
+    [
+        first[0], first[1], second[0], second[1], third[0], third[1], fourth[0], fourth[1],
+    ]
 }
 
 #[inline(always)]

@@ -1,16 +1,16 @@
 //! Writes: the line of a write, whose last word is bytes in hex.
 
-ghost use Rattle.std.specs.Prelude.{◌≡◌, ◌+◌, ◌-◌, ◌*◌, ◌<◌, ◌≤◌, ◌==◌, Some, Ok, IfSome, codes, length, slice_range, take, unwrap_or};
+ghost use Rattle.std.specs.Prelude.{◌≡◌, ◌+◌, ◌-◌, ◌*◌, ◌<◌, ◌≤◌, ◌==◌, [], ◌∷◌, Some, Ok, IfSome, codes, length, take};
 ghost use Rattle.std.specs.List.{position};
-ghost use Rattle.hex.specs.Hex.{decode_pairs, hex_digit_value};
 ghost use Rattle.words_core.specs.Grammar.{reading_of};
 ghost use Rattle.words_core.specs.declared.event.Event.TheVariants.{Tenant};
 ghost use Rattle.words_core.specs.declared.event.Command.TheVariants.{Write};
 ghost use Rattle.quick_core.specs.Lines.{BeginsLine, ReadsAs};
+ghost use Rattle.quick_core.specs.Pairs.{Decodes};
 
 use crate::line::{MOST_TENANT_DIGITS, four_at};
 use crate::number::{MOST_READ_DIGITS, Number, number_at};
-use crate::window::WINDOW;
+use crate::window::{WINDOW, put_text};
 use model_core::limits::MOST_BYTES;
 use words_core::one_case;
 
@@ -82,45 +82,126 @@ fn rest_of_write(rest: &[u8], tenant: Number, bytes: &mut [u8; MOST_BYTES]) -> O
 #[inline(always)]
 fn decode_at(bytes: &[u8], from: usize, out: &mut [u8; MOST_BYTES]) -> usize
     requires { from ≤ length bytes.now }
-    ensures decoded { decode_pairs 0 (slice_range bytes.now from (from + 2 * result)) ≡ Ok (take result out.new) }
+    ensures decoded { Decodes bytes.now from (from + 2 * result) (take result out.new) }
     ensures few { result ≤ MOST_BYTES }
     ensures within { from + 2 * result ≤ length bytes.now }
 {
     let most = MOST_BYTES.min((bytes.len() - from) / 2);
-    for count in 0..most {
-        let high = hex_value(bytes[from + 2 * count]);
-        let low = hex_value(bytes[from + 2 * count + 1]);
-        // One of them is no digit.
-        if high as u16 + low as u16 >= 255 {
+    let done = decode_fours(bytes, from, most, out);
+    decode_singly(bytes, from, done, most, out)
+}
+
+/// Decodes at most so many pairs, four at a time, and answers how many they are.
+#[inline(always)]
+fn decode_fours(bytes: &[u8], from: usize, most: usize, out: &mut [u8; MOST_BYTES]) -> usize
+    requires room { most ≤ MOST_BYTES }
+    requires within { from + 2 * most ≤ length bytes.now }
+    ensures decoded { Decodes bytes.now from (from + 2 * result) (take result out.new) }
+    ensures few { result ≤ most }
+{
+    for fours in 0..most / 4 {
+        let done = 4 * fours;
+        let Some(four) = four_pairs_at(bytes, from + 2 * done) else {
+            return done;
+        };
+        put_text(&four, done, out);
+    }
+    4 * (most / 4)
+}
+
+/// Decodes what follows `done` pairs, a pair at a time, and answers how many they are then.
+#[inline(always)]
+fn decode_singly(
+    bytes: &[u8],
+    from: usize,
+    done: usize,
+    most: usize,
+    out: &mut [u8; MOST_BYTES],
+) -> usize
+    requires room { most ≤ MOST_BYTES }
+    requires within { from + 2 * most ≤ length bytes.now }
+    requires some { done ≤ most }
+    requires decoded { Decodes bytes.now from (from + 2 * done) (take done out.old) }
+    ensures decoded { Decodes bytes.now from (from + 2 * result) (take result out.new) }
+    ensures few { result ≤ most }
+{
+    for count in done..most {
+        let pair = pair_at(bytes, from + 2 * count);
+        if pair >= NO_DIGIT {
             return count;
         }
-        out[count] = high * 16 + low;
+        out[count] = pair as u8;
     }
     most
 }
 
-/// The value of a hex digit of either case, and 255 of any other byte.
+/// The bytes of four pairs of hex digits; `None` where one of the eight is no digit.
 #[inline(always)]
-fn hex_value(byte: u8) -> u8
-    ensures { result ≡ unwrap_or (hex_digit_value byte) 255 }
+fn four_pairs_at(bytes: &[u8], at: usize) -> Option<[u8; 4]>
+    requires { at + 8 ≤ length bytes.now }
+    ensures { IfSome result (λ four. Decodes bytes.now at (at + 8) four) }
 {
-    HEX_VALUES[byte as usize]
+    let first = pair_at(bytes, at);
+    let second = pair_at(bytes, at + 2);
+    let third = pair_at(bytes, at + 4);
+    let fourth = pair_at(bytes, at + 6);
+    // Four bytes add up to less.
+    if first + second + third + fourth >= NO_DIGIT {
+        return None;
+    }
+    Some([first as u8, second as u8, third as u8, fourth as u8])
 }
 
-/// The value of each byte as a hex digit, and 255 where it is none.
-static HEX_VALUES: [u8; 256] = [
-    255, 255, 255, 255, 255, 255, 255, 255, 255, 255, 255, 255, 255, 255, 255, 255, 255, 255, 255,
-    255, 255, 255, 255, 255, 255, 255, 255, 255, 255, 255, 255, 255, 255, 255, 255, 255, 255, 255,
-    255, 255, 255, 255, 255, 255, 255, 255, 255, 255, 0, 1, 2, 3, 4, 5, 6, 7, 8, 9, 255, 255, 255,
-    255, 255, 255, 255, 10, 11, 12, 13, 14, 15, 255, 255, 255, 255, 255, 255, 255, 255, 255, 255,
-    255, 255, 255, 255, 255, 255, 255, 255, 255, 255, 255, 255, 255, 255, 255, 255, 10, 11, 12, 13,
-    14, 15, 255, 255, 255, 255, 255, 255, 255, 255, 255, 255, 255, 255, 255, 255, 255, 255, 255,
-    255, 255, 255, 255, 255, 255, 255, 255, 255, 255, 255, 255, 255, 255, 255, 255, 255, 255, 255,
-    255, 255, 255, 255, 255, 255, 255, 255, 255, 255, 255, 255, 255, 255, 255, 255, 255, 255, 255,
-    255, 255, 255, 255, 255, 255, 255, 255, 255, 255, 255, 255, 255, 255, 255, 255, 255, 255, 255,
-    255, 255, 255, 255, 255, 255, 255, 255, 255, 255, 255, 255, 255, 255, 255, 255, 255, 255, 255,
-    255, 255, 255, 255, 255, 255, 255, 255, 255, 255, 255, 255, 255, 255, 255, 255, 255, 255, 255,
-    255, 255, 255, 255, 255, 255, 255, 255, 255, 255, 255, 255, 255, 255, 255, 255, 255, 255, 255,
-    255, 255, 255, 255, 255, 255, 255, 255, 255, 255, 255, 255, 255, 255, 255, 255, 255, 255, 255,
-    255, 255, 255,
+/// The byte of a pair of hex digits; `NO_DIGIT` or more where one of them is none.
+#[inline(always)]
+fn pair_at(bytes: &[u8], at: usize) -> u16
+    requires { at + 2 ≤ length bytes.now }
+    ensures decoded { result < NO_DIGIT → Decodes bytes.now at (at + 2) (result ∷ []) }
+    ensures byte { result < NO_DIGIT → result < 256 }
+    ensures few { result ≤ 2 * NO_DIGIT }
+{
+    HIGH_VALUES[bytes[at] as usize] + LOW_VALUES[bytes[at + 1] as usize]
+}
+
+/// Stands in the tables for what is no digit: more than four bytes can add up to.
+const NO_DIGIT: u16 = 1024;
+
+/// Sixteen times the value of each byte as a hex digit, and `NO_DIGIT` where it is none.
+static HIGH_VALUES: [u16; 256] = [
+    1024, 1024, 1024, 1024, 1024, 1024, 1024, 1024, 1024, 1024, 1024, 1024, 1024, 1024, 1024, 1024,
+    1024, 1024, 1024, 1024, 1024, 1024, 1024, 1024, 1024, 1024, 1024, 1024, 1024, 1024, 1024, 1024,
+    1024, 1024, 1024, 1024, 1024, 1024, 1024, 1024, 1024, 1024, 1024, 1024, 1024, 1024, 1024, 1024,
+    0, 16, 32, 48, 64, 80, 96, 112, 128, 144, 1024, 1024, 1024, 1024, 1024, 1024, 1024, 160, 176,
+    192, 208, 224, 240, 1024, 1024, 1024, 1024, 1024, 1024, 1024, 1024, 1024, 1024, 1024, 1024,
+    1024, 1024, 1024, 1024, 1024, 1024, 1024, 1024, 1024, 1024, 1024, 1024, 1024, 1024, 160, 176,
+    192, 208, 224, 240, 1024, 1024, 1024, 1024, 1024, 1024, 1024, 1024, 1024, 1024, 1024, 1024,
+    1024, 1024, 1024, 1024, 1024, 1024, 1024, 1024, 1024, 1024, 1024, 1024, 1024, 1024, 1024, 1024,
+    1024, 1024, 1024, 1024, 1024, 1024, 1024, 1024, 1024, 1024, 1024, 1024, 1024, 1024, 1024, 1024,
+    1024, 1024, 1024, 1024, 1024, 1024, 1024, 1024, 1024, 1024, 1024, 1024, 1024, 1024, 1024, 1024,
+    1024, 1024, 1024, 1024, 1024, 1024, 1024, 1024, 1024, 1024, 1024, 1024, 1024, 1024, 1024, 1024,
+    1024, 1024, 1024, 1024, 1024, 1024, 1024, 1024, 1024, 1024, 1024, 1024, 1024, 1024, 1024, 1024,
+    1024, 1024, 1024, 1024, 1024, 1024, 1024, 1024, 1024, 1024, 1024, 1024, 1024, 1024, 1024, 1024,
+    1024, 1024, 1024, 1024, 1024, 1024, 1024, 1024, 1024, 1024, 1024, 1024, 1024, 1024, 1024, 1024,
+    1024, 1024, 1024, 1024, 1024, 1024, 1024, 1024, 1024, 1024, 1024, 1024, 1024, 1024, 1024, 1024,
+    1024, 1024, 1024, 1024, 1024, 1024, 1024, 1024, 1024, 1024, 1024, 1024, 1024,
+];
+
+/// The value of each byte as a hex digit, and `NO_DIGIT` where it is none.
+static LOW_VALUES: [u16; 256] = [
+    1024, 1024, 1024, 1024, 1024, 1024, 1024, 1024, 1024, 1024, 1024, 1024, 1024, 1024, 1024, 1024,
+    1024, 1024, 1024, 1024, 1024, 1024, 1024, 1024, 1024, 1024, 1024, 1024, 1024, 1024, 1024, 1024,
+    1024, 1024, 1024, 1024, 1024, 1024, 1024, 1024, 1024, 1024, 1024, 1024, 1024, 1024, 1024, 1024,
+    0, 1, 2, 3, 4, 5, 6, 7, 8, 9, 1024, 1024, 1024, 1024, 1024, 1024, 1024, 10, 11, 12, 13, 14, 15,
+    1024, 1024, 1024, 1024, 1024, 1024, 1024, 1024, 1024, 1024, 1024, 1024, 1024, 1024, 1024, 1024,
+    1024, 1024, 1024, 1024, 1024, 1024, 1024, 1024, 1024, 1024, 10, 11, 12, 13, 14, 15, 1024, 1024,
+    1024, 1024, 1024, 1024, 1024, 1024, 1024, 1024, 1024, 1024, 1024, 1024, 1024, 1024, 1024, 1024,
+    1024, 1024, 1024, 1024, 1024, 1024, 1024, 1024, 1024, 1024, 1024, 1024, 1024, 1024, 1024, 1024,
+    1024, 1024, 1024, 1024, 1024, 1024, 1024, 1024, 1024, 1024, 1024, 1024, 1024, 1024, 1024, 1024,
+    1024, 1024, 1024, 1024, 1024, 1024, 1024, 1024, 1024, 1024, 1024, 1024, 1024, 1024, 1024, 1024,
+    1024, 1024, 1024, 1024, 1024, 1024, 1024, 1024, 1024, 1024, 1024, 1024, 1024, 1024, 1024, 1024,
+    1024, 1024, 1024, 1024, 1024, 1024, 1024, 1024, 1024, 1024, 1024, 1024, 1024, 1024, 1024, 1024,
+    1024, 1024, 1024, 1024, 1024, 1024, 1024, 1024, 1024, 1024, 1024, 1024, 1024, 1024, 1024, 1024,
+    1024, 1024, 1024, 1024, 1024, 1024, 1024, 1024, 1024, 1024, 1024, 1024, 1024, 1024, 1024, 1024,
+    1024, 1024, 1024, 1024, 1024, 1024, 1024, 1024, 1024, 1024, 1024, 1024, 1024, 1024, 1024, 1024,
+    1024, 1024, 1024, 1024, 1024, 1024, 1024,
 ];

@@ -1,16 +1,13 @@
-use Rattle.std.proofs.Common.{take, arith}
-use Rattle.quick_core.proofs.HexLemmas.{hex_none, hex_more}
+use Rattle.std.proofs.Common.{◌∙◌, ◌++◌, take, sym, ap, take-append-drop, arith}
+use Rattle.quick_core.proofs.HexLemmas.{hex_part}
 use Rattle.quick_core.proofs.bytes.put_hex.Goals as goal
 
-pub loop-byte-init : goal.loop-byte-init
-loop-byte-init c = record {
-  text = hex_none (take c.args.at c.args.out.now);
-  end = omega arith;
-}
-
-pub loop-byte-preserved : goal.loop-byte-preserved
-loop-byte-preserved c = record {
-  text = hex_more _ _ (take c.args.at c.args.out.now) c.args.bytes.now _ c.loop-byte.byte-index (omega arith)
-      c.put_text-end.ensures.text c.loop-byte.invariant.text c.hex_of.ensures;
-  end = omega (arith, c.put_text-end.ensures.end, c.loop-byte.invariant.end);
-}
+pub fours-preserved : goal.fours-preserved
+fours-preserved c =
+    let front = c.in-Some.ensures.cases in
+    record {
+      text = hex_part _ (take c.fours.end c.fours.out) _ c.fours.rest.now c.in-Some.four.now c.in-Some.behind.now
+          (c.put_text-end.ensures.text ∙ ap (λ digits. take c.fours.end c.fours.out ++ digits) c.hex_of_four.ensures)
+          (sym ((λ t. front.0 t ++ front.1 t) ∙ take-append-drop 4 c.fours.rest.now)) c.fours.invariant.text;
+      end = omega (arith, c.put_text-end.ensures.end, c.fours.invariant.end, front.2);
+    }
