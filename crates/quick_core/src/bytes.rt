@@ -104,7 +104,8 @@ pub fn write_written(tenant: u8, count: u32, out: &mut [u8; WINDOW]) -> usize
     put_text(b"\n", at, out)
 }
 
-/// Writes the bytes in hex behind the first `at` bytes, and answers where it ends: four at a time, whose eight digits are one store.
+/// Writes the bytes in hex behind the first `at` bytes, and answers where it ends: four at a time, whose eight digits are one
+/// store.
 #[inline(always)]
 fn put_hex(bytes: &[u8], at: usize, out: &mut [u8]) -> usize
     requires { at + 2 * length bytes.now ≤ length out.old }
