@@ -4,3 +4,4 @@ pub mod Keeping
 pub mod Emptying
 pub mod Clearing
 pub mod Moving
+pub mod Standing

@@ -10,8 +10,8 @@ use std::alloc::{AllocError, Global};
 /// The order of a group of frames, or a superblock's where that is less: so a group lies in one slot.
 const GROUP_ORDER: u8 = 5;
 
-/// For each list the groups of its tenant's frames in which it has slabs, a bit each, and for each slot of a tenant the
-/// superblock that stood under it when a slab was made there.
+/// For each list that is kept the groups of its tenant's frames in which it has slabs, a bit each, and for each slot of a tenant
+/// the superblock that stood under it when a slab was made there.
 #[derive(Drop)]
 pub(crate) struct Groups {
     /// A superblock has `2^order` frames.
@@ -21,6 +21,8 @@ pub(crate) struct Groups {
     /// A list has `2^span` words.
     span: u8,
     words: Vec<u64>,
+    /// By list, whether it is kept.
+    kept: Vec<bool>,
     superblocks: Vec<u32>,
     ghost order_small: { order ≤ 8 },
     ghost group_small: { group ≤ 5 },
@@ -47,6 +49,7 @@ impl Groups {
             group,
             span,
             words: vec![in alloc; 0; lists << span]?,
+            kept: vec![in alloc; false; lists]?,
             superblocks: vec![in alloc; 0; slots]?,
         })
     }
@@ -61,6 +64,34 @@ impl Groups {
     /// Whether two frames are of one group.
     pub(crate) fn is_one(&self, frame: u32, other: u32) -> bool {
         frame >> self.group == other >> self.group
+    }
+
+    /// Whether the list is kept.
+    #[inline(always)]
+    pub(crate) fn is_kept(&self, list: u32) -> bool {
+        let i = list as usize;
+        i < self.kept.len() && self.kept[i]
+    }
+
+    /// The list is kept from now on, and has no slab.
+    pub(crate) fn keep(&mut self, list: u32) {
+        let i = list as usize;
+        if i < self.kept.len() {
+            self.kept[i] = true;
+        }
+        let from = self.word_of(list, 0);
+        let end = from.saturating_add(1 << self.span);
+        if from <= end && end <= self.words.len() {
+            self.words[from..end].fill(0);
+        }
+    }
+
+    /// The list is not kept any more.
+    pub(crate) fn leave(&mut self, list: u32) {
+        let i = list as usize;
+        if i < self.kept.len() {
+            self.kept[i] = false;
+        }
     }
 
     /// A slab of the list begins at a frame.

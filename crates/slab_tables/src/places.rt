@@ -32,8 +32,12 @@ pub(crate) fn node_at(order: u8, superblock: u16, i: u32) -> u32
 /// A list of fewer nodes is walked at once: an eighth as many nodes as it has are looked at before, so none here.
 const SHORT: u32 = 8;
 
-/// In a list of fewer nodes no look is taken at its groups before it is walked.
-const LONG: u32 = 64;
+/// A list that comes to have as many nodes is kept in groups: to walk one of fewer costs no more than to look at its groups.
+const LONG: u32 = 128;
+
+/// A list of fewer nodes is not kept in groups any more. There are many changes from here to `LONG`, where a list is walked to
+/// put it into groups.
+const NOT_LONG: u32 = 64;
 
 /// The lists of the slabs of all caches, and where to look for their slabs.
 #[derive(Drop)]
@@ -95,8 +99,8 @@ impl SlabLists {
         ensures { self.new ≡ inserted self.old head node key }
     {
         self.lists.insert(head, node, key);
-        self.groups.put(head, key);
         self.groups.see(head, key, node);
+        self.note(head, key);
     }
 
     /// As [`Lists::remove`].
@@ -106,12 +110,53 @@ impl SlabLists {
         requires placed { IsSome (place_at self.old.places node) }
         ensures { self.new ≡ removed self.old node }
     {
+        self.lists.laws();
         if let Some((list, key)) = self.lists.place_of(node)
-            && self.is_alone(node, key)
+            && self.groups.is_kept(list)
         {
-            self.groups.take(list, key);
+            self.forget(list, node, key);
         }
         self.lists.remove(node);
+    }
+
+    /// A node stands in the list under the key now.
+    #[inline(always)]
+    fn note(&mut self, head: u32, key: u32)
+        requires { head < self.old.heads }
+        ensures { self.new ≡ self.old }
+    {
+        if self.lists.len(head) >= NOT_LONG {
+            self.note_in_groups(head, key);
+        }
+    }
+
+    /// A node stands in the list, which is not short, under the key now: one that is kept in groups has one in the group of the
+    /// key, and one that has become long is kept from now on.
+    #[inline(never)]
+    fn note_in_groups(&mut self, head: u32, key: u32)
+        requires { head < self.old.heads }
+        ensures { self.new ≡ self.old }
+    {
+        if self.groups.is_kept(head) {
+            self.groups.put(head, key);
+        } else if self.lists.len(head) >= LONG {
+            keep(&self.lists, &mut self.groups, head);
+        }
+    }
+
+    /// The node is to leave the list, which is kept in groups.
+    #[inline(never)]
+    fn forget(&mut self, list: u32, node: u32, key: u32)
+        requires list { list < self.old.heads }
+        requires node { node < length self.old.places }
+        requires placed { IsSome (place_at self.old.places node) }
+        ensures { self.new ≡ self.old }
+    {
+        if self.lists.len(list) <= NOT_LONG {
+            self.groups.leave(list);
+        } else if self.is_alone(node, key) {
+            self.groups.take(list, key);
+        }
     }
 
     /// Whether the node's neighbours in its list are of other groups than its key.
@@ -161,11 +206,10 @@ impl SlabLists {
         self.remove(node);
         if self.lists.len(head) < SHORT {
             self.lists.insert(head, node, key);
-            self.groups.put(head, key);
         } else {
             let near = self.near(head, node, key, 1 << slab);
             self.lists.insert_near(head, node, key, near);
-            self.groups.put(head, key);
+            self.note(head, key);
         }
     }
 
@@ -184,7 +228,7 @@ impl SlabLists {
         if let Some(near) = near_below(&self.lists, head, node, step, room, len / 8) {
             return near;
         }
-        if len < LONG {
+        if !self.groups.is_kept(head) {
             return node;
         }
         self.near_in_groups(head, key, step).unwrap_or(node)
@@ -227,6 +271,23 @@ impl SlabLists {
         while let Some((_, node)) = self.first(head) {
             self.remove(node);
         }
+    }
+}
+
+/// Keeps the list, which has no more nodes than a long one, in groups from now on.
+#[cold]
+#[inline(never)]
+fn keep(lists: &Lists, groups: &mut Groups, head: u32)
+    requires { head < lists.now.heads }
+{
+    groups.keep(head);
+    let mut next = lists.first(head);
+    for _ in 0..LONG {
+        let Some((key, node)) = next else {
+            return;
+        };
+        groups.put(head, key);
+        next = lists.after(node);
     }
 }
 

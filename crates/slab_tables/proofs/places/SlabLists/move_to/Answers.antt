@@ -15,4 +15,5 @@ returns-then-len-lt-SHORT c =
 
 pub returns-else-len-lt-SHORT : goal.returns-else-len-lt-SHORT
 returns-else-len-lt-SHORT c =
-    c.insert_near.ensures ∙ put_anew c.args.self.now c.self.inside.lists c.args.head c.args.node c.args.key (c.self.view_is ∙ c.remove.ensures)
+    c.note.ensures
+    ∙ (c.insert_near.ensures ∙ put_anew c.args.self.now c.self.inside.lists c.args.head c.args.node c.args.key (c.self.view_is ∙ c.remove.ensures))
