@@ -92,6 +92,33 @@ impl Slabs {
         if let Some((first, node)) = self.slab_to_use(space, buddy, t, c, &cache) {
             return Ok(self.hand_out(space, buddy, t, c, &cache, first, node));
         }
+        self.take_new(space, buddy, t, c)
+    }
+
+    /// As [`Slabs::take`], where every slab of the cache is full: out of a new slab.
+    ///
+    /// It stands apart since it lends the cache to a call: so `take` keeps no copy of it in memory.
+    #[cold]
+    #[inline(never)]
+    fn take_new(
+        &mut self,
+        space: &mut Space,
+        buddy: &mut Buddy,
+        t: u8,
+        c: u32,
+    ) -> Result<u32, TakeRefusal>
+        requires tenant { t < length space.old.slots }
+        requires agree { Agree space.old buddy.old self.old }
+        requires full { IsAllFull self.old t c }
+        ensures answer { (m : Machine) → ShowsMachine space.old buddy.old self.old t m → result ≡ (take_step self.old.top c m).answer }
+        ensures shows { (m : Machine) → ShowsMachine space.old buddy.old self.old t m
+            → ShowsMachine space.new buddy.new self.new t (take_step self.old.top c m).machine }
+        ensures spares { Spares t space.old space.new buddy.old buddy.new self.old self.new }
+        ensures agree { Agree space.new buddy.new self.new }
+        ensures refused { OnErr result ((space.new ≡ space.old) × ((buddy.new ≡ buddy.old) × (self.new ≡ self.old))) }
+    {
+        self.laws_with(space, buddy, t);
+        let cache = *self.tables.cache(t, c).ok_or(TakeRefusal::NoCache)?;
         let (first, node) = self
             .grow(space, buddy, t, c, &cache)
             .ok_or(TakeRefusal::NoFrames)?;
