@@ -5,3 +5,5 @@ pub mod OnSlots
 pub mod OnCaches
 pub mod OnBytes
 pub mod Putting
+pub mod ByNumber
+pub mod Allowed

@@ -124,9 +124,7 @@ impl FrameBlock {
     pub fn has_range(&self, place: u32, len: u32) -> bool
         ensures { result ≡ within_block place len self.now }
     {
-        let first = u64::from(self.first());
-        let begin = u64::from(FRAME_BYTES) * first;
         let place = u64::from(place);
-        begin <= place && place + u64::from(len) <= u64::from(FRAME_BYTES) * self.end()
+        self.first_byte() <= place && place + u64::from(len) <= self.end_byte()
     }
 }

@@ -1,17 +1,21 @@
 //! A cache of a tenant, as it was asked for and as its reply told it.
 
-ghost use Rattle.std.specs.Prelude.{◌≡◌, ℕ, ◌+◌, ◌-◌, ◌*◌, ◌/◌, ◌%◌, ◌^◌, ◌<◌, ◌≤◌, nat_le, nat_lt, ◌==◌, ◌&&◌, map, find, filter, length, Some};
-ghost use Rattle.std.specs.List.{list_any, list_all};
-ghost use Rattle.model_core.specs.declared.limits.TheConstants.{FRAME_BYTES, MOST_ORDER};
+ghost use Rattle.std.specs.Prelude.{◌≡◌, ℕ, ◌+◌, ◌-◌, ◌*◌, ◌/◌, ◌%◌, ◌^◌, ◌<◌, ◌≤◌, nat_le, nat_lt, ◌==◌, ◌&&◌, map, find, filter, length, Some, not, [], IfOk, OnErr};
+ghost use Rattle.std.specs.List.{list_any, list_all, prefix_len};
+ghost use Rattle.model_core.specs.declared.limits.TheConstants.{FRAME_BYTES, MOST_ORDER, MOST_SIZE};
 ghost use Rattle.model_core.specs.Choice.{is_any_below};
 ghost use Rattle.model_core.specs.Operations.{overlaps};
 ghost use Rattle.model_core.specs.Layouts.{pattern_byte};
 ghost use Rattle.model_core.specs.Reach.{is_within};
+ghost use Rattle.model_core.specs.Machine.{put_rising};
 ghost use Rattle.promise_core.specs.Holdings.{slab_around, live_beside, is_slab_full, are_apart, is_grid};
+ghost use Rattle.judge_core.specs.Inside.{IsCut};
 
 use crate::block::FrameBlock;
+use crate::layout::ToldLayout;
 use arrayvec::ArrayVec;
 use model_core::limits::{FRAME_BYTES, MOST_PATTERN};
+use std::alloc::{AllocError, Global};
 use std::marker::Model;
 
 /// A cache with its live objects. Sizes are in bytes.
@@ -39,11 +43,75 @@ impl Model for HeldCache {
 }
 
 impl HeldCache {
+    /// A cache without live objects, whose objects are constructed as the pattern.
+    pub fn new(
+        alloc: Global,
+        number: u8,
+        layout: ToldLayout,
+        pattern: &ArrayVec<u8, MOST_PATTERN>,
+    ) -> HeldCache
+        requires { IsCut layout.size layout.align layout.chunk layout.order layout.count }
+        ensures { result ≡ record {
+          number = number;
+          size = layout.size;
+          align = layout.align;
+          pattern = pattern.now.items;
+          chunk = layout.chunk;
+          order = layout.order;
+          count = layout.count;
+          live = [];
+        } }
+    {
+        HeldCache {
+            number,
+            size: layout.size,
+            align: layout.align,
+            pattern: copy_of(pattern),
+            chunk: layout.chunk,
+            order: layout.order,
+            count: layout.count,
+            live: Vec::new(alloc),
+        }
+    }
+
+    /// The object that begins at the place is handed out. Fails where memory runs out, and then nothing is changed.
+    pub(crate) fn take(&mut self, place: u32) -> Result<(), AllocError>
+        ensures taken { IfOk result (λ _. self.new ≡ record self.old { live = put_rising (λ p. p) place self.old.live }) }
+        ensures kept { OnErr result (self.new ≡ self.old) }
+    {
+        let at = index_of_place(&self.live, place);
+        self.live.insert(at, place)?;
+        Ok(())
+    }
+
+    /// The object that begins at the place is given back.
+    pub(crate) fn give(&mut self, place: u32)
+        ensures { self.new ≡ record self.old { live = filter (λ p. not (p == place)) self.old.live } }
+    {
+        drop_place(&mut self.live, place);
+    }
+
     /// The number of the cache.
     pub fn number(&self) -> u8
         ensures { result ≡ self.now.number }
     {
         self.number
+    }
+
+    /// The bytes of an object, 1 to `MOST_SIZE`.
+    pub fn size(&self) -> u32
+        ensures value { result ≡ self.now.size }
+        ensures some { 1 ≤ result }
+        ensures most { result ≤ MOST_SIZE }
+    {
+        self.size
+    }
+
+    /// The first places of the live objects, rising.
+    pub fn live(&self) -> &[u32]
+        ensures { result.now ≡ self.now.live }
+    {
+        self.live.as_slice()
     }
 
     /// A slab has `2^order` frames.
@@ -236,4 +304,30 @@ fn byte_of_pattern(pattern: &[u8], offset: u32) -> u8
         return 0;
     }
     pattern[offset as usize % pattern.len()]
+}
+
+/// The same bytes.
+fn copy_of(pattern: &ArrayVec<u8, MOST_PATTERN>) -> ArrayVec<u8, MOST_PATTERN>
+    ensures { result.items ≡ pattern.now.items }
+{
+    let mut copy = ArrayVec::new();
+    let taken = copy.try_extend_from_slice(pattern.as_slice());
+    prove!(taken.is_ok());
+    copy
+}
+
+/// Where a live object that begins at the place goes among these.
+#[tactic(auto, using(crate::proofs::Putting::prefix_within))]
+fn index_of_place(live: &[u32], place: u32) -> usize
+    ensures value { result ≡ prefix_len (λ p. not (nat_lt place p)) live.now }
+    ensures inside { result ≤ length live.now }
+{
+    live.iter().take_while(|held| !(place < **held)).count()
+}
+
+/// The live objects without the one that begins at the place.
+fn drop_place(live: &mut Vec<u32>, place: u32)
+    ensures { live.new.items ≡ filter (λ p. not (p == place)) live.old.items }
+{
+    live.retain(|held| *held != place);
 }

@@ -5,7 +5,7 @@ ghost use Rattle.promise_core.specs.Holdings.{Holdings, with_live_places};
 
 use crate::block::FrameBlock;
 use crate::cache::HeldCache;
-use crate::held::Held;
+use crate::held::{Held, index_of_cache};
 
 impl Held {
     /// The page block that begins at the frame is freed.
@@ -20,6 +20,15 @@ impl Held {
         ensures { self.new ≡ record self.old { caches = filter (λ c. not (c.number == number)) self.old.caches } }
     {
         drop_cache(&mut self.caches, number);
+    }
+
+    /// The object of the cache of this number that begins at the place is given back.
+    pub fn give(&mut self, number: u32, place: u32)
+        ensures { self.new ≡ with_live_places number (filter (λ p. not (p == place))) self.old }
+    {
+        if let Some(i) = index_of_cache(&self.caches, number) {
+            self.caches[i].give(place);
+        }
     }
 
     /// The slot is taken back.

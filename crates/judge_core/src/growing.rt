@@ -1,12 +1,14 @@
 //! What becomes of a tenant's holdings by answers that add something.
 
-ghost use Rattle.std.specs.Prelude.{◌≡◌, ◌<◌, ◌≤◌, not, nat_lt, length, [], IfOk, OnErr};
+ghost use Rattle.std.specs.Prelude.{◌≡◌, ◌<◌, ◌≤◌, not, nat_lt, length, [], None, IfOk, OnErr};
 ghost use Rattle.std.specs.List.{prefix_len};
 ghost use Rattle.model_core.specs.declared.limits.TheConstants.{MOST_ORDER, MOST_SUPERBLOCKS};
 ghost use Rattle.model_core.specs.Machine.{put_rising};
+ghost use Rattle.promise_core.specs.Holdings.{cache_told, with_live_places};
 
 use crate::block::FrameBlock;
-use crate::held::Held;
+use crate::cache::HeldCache;
+use crate::held::{Held, index_of_cache};
 use model_core::limits::MOST_CACHES;
 use std::alloc::{AllocError, Global};
 
@@ -45,6 +47,29 @@ impl Held {
         self.pages.insert(place, block)?;
         Ok(())
     }
+
+    /// The cache is made. Fails where memory runs out, and then nothing is changed.
+    pub fn make_cache(&mut self, cache: HeldCache) -> Result<(), AllocError>
+        requires { cache_told self.old cache.number ≡ None }
+        ensures made { IfOk result (λ _. self.new ≡ record self.old { caches = put_rising (λ x. x.number) cache self.old.caches }) }
+        ensures kept { OnErr result (self.new ≡ self.old) }
+    {
+        let place = place_of_cache(&self.caches, cache.number());
+        self.caches.insert(place, cache)?;
+        Ok(())
+    }
+
+    /// The object of the cache of this number that begins at the place is handed out. Fails where memory runs out, and then
+    /// nothing is changed.
+    pub fn take(&mut self, number: u32, place: u32) -> Result<(), AllocError>
+        ensures taken { IfOk result (λ _. self.new ≡ with_live_places number (put_rising (λ p. p) place) self.old) }
+        ensures kept { OnErr result (self.new ≡ self.old) }
+    {
+        match index_of_cache(&self.caches, number) {
+            Some(i) => self.caches[i].take(place),
+            None => Ok(()),
+        }
+    }
 }
 
 /// Where the slot goes among these.
@@ -65,5 +90,17 @@ fn place_of_page(pages: &[FrameBlock], frame: u32) -> usize
     pages
         .iter()
         .take_while(|page| !(frame < page.first()))
+        .count()
+}
+
+/// Where a cache of this number goes among these.
+#[tactic(auto, using(crate::proofs::Putting::prefix_within))]
+fn place_of_cache(caches: &[HeldCache], number: u8) -> usize
+    ensures value { result ≡ prefix_len (λ c. not (nat_lt number c.number)) caches.now }
+    ensures inside { result ≤ length caches.now }
+{
+    caches
+        .iter()
+        .take_while(|cache| !(number < cache.number()))
         .count()
 }

@@ -1,6 +1,6 @@
 //! What a tenant has, as replies told it.
 
-ghost use Rattle.std.specs.Prelude.{◌≡◌, ℕ, ◌+◌, ◌-◌, ◌*◌, ◌/◌, ◌%◌, ◌^◌, ◌<◌, ◌≤◌, nat_le, nat_lt, ◌==◌, ◌&&◌, map, find, filter, length, Some, option_map, true, false, MatchOption, slice_index_or};
+ghost use Rattle.std.specs.Prelude.{◌≡◌, ℕ, ◌+◌, ◌-◌, ◌*◌, ◌/◌, ◌%◌, ◌^◌, ◌<◌, ◌≤◌, nat_le, nat_lt, ◌==◌, ◌&&◌, map, find, filter, length, Some, option_map, true, false, MatchOption, slice_index_or, position, IfSome};
 ghost use Rattle.std.specs.List.{list_any, list_all};
 ghost use Rattle.std.specs.Option.{option_copied};
 ghost use Rattle.model_core.specs.declared.limits.TheConstants.{MOST_ORDER, MOST_CACHES};
@@ -28,15 +28,14 @@ pub struct Held {
 }
 
 impl Model for Held {
-    ghost use Rattle.std.specs.Prelude.{◌≤◌, length};
-    ghost use Rattle.model_core.specs.declared.limits.TheConstants.{MOST_SUPERBLOCKS};
     ghost use Rattle.promise_core.specs.Holdings.{Holdings};
+    ghost use Rattle.judge_core.specs.Inside.{IsListed};
 
     ghost Value = { Holdings };
 
     ghost view = { λ h. record { slots = h.slots.items; pages = h.pages.items; caches = h.caches.items } };
 
-    ghost invariant = { λ h. length h.slots.items ≤ MOST_SUPERBLOCKS };
+    ghost invariant = { λ h. IsListed h.slots.items h.caches.items };
 }
 
 impl Held {
@@ -84,7 +83,7 @@ impl Held {
     }
 
     /// The live page block that begins at the frame, if one does.
-    fn page_at(&self, frame: u32) -> Option<&FrameBlock>
+    pub fn page_at(&self, frame: u32) -> Option<&FrameBlock>
         ensures { option_copied result ≡ find (λ b. b.first == frame) self.now.pages }
     {
         self.pages.iter().find(|page| page.first() == frame)
@@ -251,4 +250,14 @@ fn is_marked(marks: &[bool], number: u8) -> bool
         Some(mark) => *mark,
         None => false,
     }
+}
+
+/// Which of these is the cache of this number.
+pub(crate) fn index_of_cache(caches: &[HeldCache], number: u32) -> Option<usize>
+    ensures value { result ≡ position (λ c. c.number == number) caches.now }
+    ensures inside { IfSome result (λ i. i < length caches.now) }
+{
+    caches
+        .iter()
+        .position(|cache| u32::from(cache.number()) == number)
 }

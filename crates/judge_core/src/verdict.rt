@@ -26,7 +26,7 @@ pub(crate) fn on_answer(due: Option<Refusal>, promise: Promise, is_kept: bool) -
 
 /// The verdict on a refusal, where `due` is the one that has to come, if one has: `full` where there is no room for what was
 /// asked, and `busy` where the slot may be.
-pub(crate) fn on_refusal(refusal: Refusal, due: Option<Refusal>, full: bool, busy: bool) -> Verdict
+pub fn on_refusal(refusal: Refusal, due: Option<Refusal>, full: bool, busy: bool) -> Verdict
     ensures { result ≡ on_refusal refusal due full busy }
 {
     let is_right = match due {
