@@ -1,5 +1,6 @@
 -- What a verdict without a broken promise says.
-use Rattle.std.proofs.Common.{◌≡◌, ℕ, ◌+◌, ◌-◌, ◌*◌, ◌%◌, ◌^◌, ◌≤◌, Bool, true, false, not, ◌&&◌, List, [], ◌∷◌, Option, Some, None, Ok, Err, refl, arith}
+use Rattle.std.proofs.Common.{◌≡◌, ℕ, ◌+◌, ◌-◌, ◌*◌, ◌%◌, ◌^◌, ◌≤◌, Bool, true, false, not, ◌&&◌, refl, arith}
+use Rattle.std.proofs.Common.{List, [], ◌∷◌, Option, Some, None, Ok, Err}
 use Rattle.std.specs.Prelude.{if◌then◌else◌, is_none, nat_le, nat_lt, ◌==◌, length}
 use Rattle.std.specs.List.{AllByRecursion as Each}
 use Rattle.std.proofs.lemmas.Bool.{and_parts, leb-true, eqb-true}
@@ -22,7 +23,8 @@ pub all_kept : (ps : List (Promise × Bool)) → broken ps ≡ Ok tt → Each (�
 all_kept [] ok = tt
 all_kept ((promise, kept) ∷ rest) ok = go kept refl ok (all_kept rest)
   where
-    go : (b : Bool) → kept ≡ b → (if b then broken rest else Err promise) ≡ Ok tt → (broken rest ≡ Ok tt → Each (λ p. p.1 ≡ true) rest)
+    go : (b : Bool) → kept ≡ b → (if b then broken rest else Err promise) ≡ Ok tt
+        → (broken rest ≡ Ok tt → Each (λ p. p.1 ≡ true) rest)
         → (kept ≡ true) × Each (λ p. p.1 ≡ true) rest
     go true is ok more = (is, more ok)
     go false is ok more = absurd (cc)
@@ -31,7 +33,8 @@ none_is : {X : Type 0} (o : Option X) → is_none o ≡ true → o ≡ None
 none_is None e = refl
 none_is (Some x) e = absurd (cc)
 
-passed : (a : Bool) (r : Refusal) (rest : Option Refusal) → is_none (if not a then Some r else rest) ≡ true → (a ≡ true) × (is_none rest ≡ true)
+passed : (a : Bool) (r : Refusal) (rest : Option Refusal) → is_none (if not a then Some r else rest) ≡ true
+    → (a ≡ true) × (is_none rest ≡ true)
 passed true r rest e = (refl, e)
 passed false r rest e = absurd (cc)
 
@@ -55,20 +58,25 @@ module _ (size align t number chunk q n colours : ℕ) (p : ArrayVec ℕ) (w : K
   inside = nat_le (align * (colours - 1) + n * chunk) (FRAME_BYTES * 2 ^ q)
 
   -- the number of a new cache is new
-  pub new_where_allowed : verdict_on (On.Tenant t (Asked.Cache size align p)) (Say.Cache number chunk q n colours) w s ≡ Ok tt → cache_told s.has number ≡ None
+  pub new_where_allowed : verdict_on (On.Tenant t (Asked.Cache size align p)) (Say.Cache number chunk q n colours) w s ≡ Ok tt
+      → cache_told s.has number ≡ None
   new_where_allowed ok = none_is (cache_told s.has number)
-      (and_parts (nat_lt number w.limit) (is_none (cache_told s.has number)) (and_parts new (told && (counts && inside)) (kept ok).1).0).1
+      (and_parts (nat_lt number w.limit) (is_none (cache_told s.has number))
+      (and_parts new (told && (counts && inside)) (kept ok).1).0).1
 
   sized : is_none (due (On.Tenant t (Asked.Cache size align p)) w s) ≡ true → (is_size size ≡ true) × (is_alignment align ≡ true)
   unfolding due
   sized none =
       let a = passed (is_size size) Refusal.BadSize (first_due ((not (is_alignment align), Refusal.BadAlign)
-      ∷ (nat_le w.limit (length s.has.caches), Refusal.NoCacheSlot) ∷ [])) none in
-      (a.0, (passed (is_alignment align) Refusal.BadAlign (first_due ((nat_le w.limit (length s.has.caches), Refusal.NoCacheSlot) ∷ [])) a.1).0)
+      ∷ (nat_le w.limit (length s.has.caches), Refusal.NoCacheSlot) ∷ [])) none in (
+        a.0,
+        (passed (is_alignment align) Refusal.BadAlign
+            (first_due ((nat_le w.limit (length s.has.caches), Refusal.NoCacheSlot) ∷ [])) a.1).0,
+      )
 
   -- .. and its objects fit into a slab
-  pub cut_where_allowed : w.order ≤ MOST_ORDER → verdict_on (On.Tenant t (Asked.Cache size align p)) (Say.Cache number chunk q n colours) w s ≡ Ok tt
-      → IsCut size align chunk q n
+  pub cut_where_allowed : w.order ≤ MOST_ORDER
+      → verdict_on (On.Tenant t (Asked.Cache size align p)) (Say.Cache number chunk q n colours) w s ≡ Ok tt → IsCut size align chunk q n
   cut_where_allowed order ok =
       let sizes = sized (kept ok).0 in
       let range = and_parts (nat_le 1 size) (nat_le size MOST_SIZE) sizes.0 in

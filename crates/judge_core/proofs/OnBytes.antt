@@ -1,6 +1,5 @@
 -- Verdicts on replies to reads and writes, computed.
-use Rattle.std.proofs.Common.{◌≡◌, ℕ, Bool, true, false, not, Option, Some, None, Err, refl}
-use Rattle.std.specs.Prelude.{is_none}
+use Rattle.std.proofs.Common.{◌≡◌, ℕ, false, Err, refl}
 use Rattle.arrayvec.specs.ArrayVec.{ArrayVec}
 use Rattle.words_core.specs.declared.event.Event.TheVariants as On
 use Rattle.words_core.specs.declared.event.Command.TheVariants as Asked

@@ -1,7 +1,7 @@
 -- Verdicts on replies about page blocks, computed.
 use Rattle.model_core.specs.Blocks.{block}
 use Rattle.std.proofs.lemmas.Bool.{lt-leb}
-use Rattle.std.proofs.Common.{◌≡◌, ◌<◌, ◌&&◌, ◌==◌, ◌%◌, ◌^◌, ◌/◌, ℕ, Bool, true, false, not, ltb, List, [], ◌∷◌, Option, Some, None, Err, Ok, refl, ap, ◌∙◌}
+use Rattle.std.proofs.Common.{◌≡◌, ◌<◌, ◌&&◌, ◌==◌, ◌%◌, ◌^◌, ◌/◌, ℕ, Bool, true, false, not, ltb, [], ◌∷◌, Some, None, Err, refl, ap, ◌∙◌}
 use Rattle.words_core.specs.declared.event.Event.TheVariants as On
 use Rattle.words_core.specs.declared.event.Command.TheVariants as Asked
 use Rattle.words_core.specs.declared.reply.Body.{Body}

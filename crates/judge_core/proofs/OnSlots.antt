@@ -1,7 +1,7 @@
 -- Verdicts on replies to the administrator, computed.
 use Rattle.arrayvec.specs.ArrayVec.{ArrayVec}
 use Rattle.model_core.specs.declared.owner.Owner.{Owner}
-use Rattle.std.proofs.Common.{◌≡◌, Option, ◌||◌, not, List, [], ◌∷◌, Bool, true, false, ℕ, Some, None, Err, refl, ap, ◌∙◌}
+use Rattle.std.proofs.Common.{◌≡◌, Option, ◌||◌, not, [], ◌∷◌, Bool, true, false, ℕ, Some, None, Err, refl, ap, ◌∙◌}
 use Rattle.std.specs.List.{list_any}
 use Rattle.promise_core.specs.Holdings.{has_slot, is_slot_busy}
 use Rattle.words_core.specs.declared.event.Event.TheVariants as On

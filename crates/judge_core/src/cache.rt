@@ -232,14 +232,12 @@ impl HeldCache {
     }
 
     /// Whether they are such as a slab has whose first object is at `origin`.
+    #[tactic(auto, using(crate::proofs::Lists::inside_slab))]
     fn is_grid(&self, place: u32, origin: u32) -> bool
         ensures { result ≡ is_grid self.now (slab_around self.now place) origin (live_beside self.now place) }
     {
-        let slab = self.slab_around(place);
-        let objects = u64::from((self.count - 1) * self.chunk + self.size);
-        slab.first_byte() <= u64::from(origin)
-            && u64::from(origin) + objects <= slab.end_byte()
-            && self.are_steps(place, origin)
+        let objects = (self.count - 1) * self.chunk + self.size;
+        self.slab_around(place).has_range(origin, objects) && self.are_steps(place, origin)
     }
 
     /// Whether each live object of the slab that has the place is one of a slab whose first object is at `origin`.

@@ -31,7 +31,8 @@ impl Held {
         body: &Body,
     ) -> Verdict
         requires { order ≤ MOST_ORDER }
-        ensures { (t : ℕ) (w : Known) (s : State) → result ≡ verdict_on (On.Tenant t (Asked.Cache size align pattern.now)) body.now
+        ensures { (t : ℕ) (w : Known) (s : State)
+            → result ≡ verdict_on (On.Tenant t (Asked.Cache size align pattern.now)) body.now
             (record w { limit = MOST_CACHES; order = order }) (record s { has = self.now }) }
     {
         match body {
@@ -96,8 +97,8 @@ impl Held {
     /// The refusal that a request for a cache has to get.
     #[tactic(auto, unfolding(promise_core::specs::Promises::due))]
     fn due_of_cache(&self, size: u32, align: u32) -> Option<Refusal>
-        ensures value { (t : ℕ) (p : Pattern ℕ) (w : Known) (s : State) → result ≡ due (On.Tenant t (Asked.Cache size align p))
-            (record w { limit = MOST_CACHES }) (record s { has = self.now }) }
+        ensures value { (t : ℕ) (p : Pattern ℕ) (w : Known) (s : State)
+            → result ≡ due (On.Tenant t (Asked.Cache size align p)) (record w { limit = MOST_CACHES }) (record s { has = self.now }) }
         ensures aligned { result ≡ None → is_alignment align ≡ true }
     {
         if !is_size(size) {

@@ -51,7 +51,8 @@ impl Held {
     /// The cache is made. Fails where memory runs out, and then nothing is changed.
     pub fn make_cache(&mut self, cache: HeldCache) -> Result<(), AllocError>
         requires { cache_told self.old cache.number ≡ None }
-        ensures made { IfOk result (λ _. self.new ≡ record self.old { caches = put_rising (λ x. x.number) cache self.old.caches }) }
+        ensures made { IfOk result (λ _.
+            self.new ≡ record self.old { caches = put_rising (λ x. x.number) cache self.old.caches }) }
         ensures kept { OnErr result (self.new ≡ self.old) }
     {
         let place = place_of_cache(&self.caches, cache.number());

@@ -6,8 +6,8 @@ ghost use Rattle.model_core.specs.Layouts.{is_alignment};
 
 use model_core::limits::FRAME_BYTES;
 
-/// The layout that a reply tells of a cache, for objects of `size` bytes at multiples of `align`: the bytes from one object to the
-/// next, the order of a slab, its objects and its colours.
+/// The layout that a reply tells of a cache, for objects of `size` bytes at multiples of `align`: the bytes from one object to
+/// the next, the order of a slab, its objects and its colours.
 #[derive(Clone, Copy, Debug)]
 pub struct ToldLayout {
     pub size: u32,
@@ -37,7 +37,8 @@ impl ToldLayout {
         requires order { self.now.order ≤ MOST_ORDER }
         requires align { is_alignment self.now.align ≡ true }
         requires colours { 1 ≤ self.now.colours }
-        ensures { let l = self.now in result ≡ nat_le (l.align * (l.colours - 1) + l.count * l.chunk) (FRAME_BYTES * 2 ^ l.order) }
+        ensures { let l = self.now in
+            result ≡ nat_le (l.align * (l.colours - 1) + l.count * l.chunk) (FRAME_BYTES * 2 ^ l.order) }
     {
         let colours = u64::from(self.align) * u64::from(self.colours - 1);
         let objects = u64::from(self.count) * u64::from(self.chunk);

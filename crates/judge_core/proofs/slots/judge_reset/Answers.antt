@@ -1,11 +1,9 @@
-use Rattle.std.proofs.Common.{◌≡◌, ◌==◌, ◌&&◌, true, false, None, [], ◌∷◌, sym, ap, ◌∙◌, length}
-use Rattle.std.specs.Prelude.{is_none}
+use Rattle.std.proofs.Common.{true, [], ◌∷◌, sym, ap, ◌∙◌}
 use Rattle.words_core.specs.declared.event.Event.TheVariants as On
-use Rattle.words_core.specs.declared.event.Command.TheVariants as Asked
 use Rattle.words_core.specs.declared.event.AdminCommand.TheVariants as Do
 use Rattle.promise_core.specs.declared.promise.Promise.{Promise}
 use Rattle.promise_core.specs.Promises.{due}
-use Rattle.promise_core.specs.State.{State, Known, state_after}
+use Rattle.promise_core.specs.State.{Known, state_after}
 use Rattle.judge_core.specs.Verdicts.{broken, verdict_on, on_refusal}
 use Rattle.judge_core.proofs.OnSlots.{not_reset, no_reset}
 use Rattle.judge_core.proofs.slots.judge_reset.Goals as goal

@@ -1,4 +1,4 @@
-use Rattle.std.proofs.Common.{◌≡◌, ◌≤◌, ◌*◌, ℕ, filter, length, take}
+use Rattle.std.proofs.Common.{◌≡◌, ◌≤◌, ◌*◌, filter, length, take}
 use Rattle.std.specs.List.{sum_by}
 use Rattle.promise_core.specs.Holdings.{is_vacant, blocks_of_slot}
 use Rattle.judge_core.proofs.held.Held.count_vacant.Given as goal

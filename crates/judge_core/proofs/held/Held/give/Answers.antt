@@ -1,8 +1,8 @@
-use Rattle.std.proofs.Common.{◌≡◌, ◌==◌, ℕ, not, List, filter, map, Some, None, sym, ap, ◌∙◌, subst}
+use Rattle.std.proofs.Common.{◌≡◌, ◌==◌, not, filter, map, Some, None, sym, ap, ◌∙◌, subst}
 use Rattle.std.proofs.Math.Seq.{map-set_same}
 use Rattle.std.specs.Prelude.{position, slice_set, if◌then◌else◌}
 use Rattle.model_core.specs.WellFormed.{RisesFrom}
-use Rattle.promise_core.specs.Holdings.{ToldCache, Holdings, with_live_places}
+use Rattle.promise_core.specs.Holdings.{ToldCache}
 use Rattle.judge_core.proofs.ByNumber.{changed_at, changed_none, no_index}
 use Rattle.judge_core.proofs.held.Held.give.Goals as goal
 
@@ -13,7 +13,8 @@ invariant_of-self c =
     let same = ap (λ (x : ToldCache). x.number) c.give.ensures ∙ ap (λ (x : ToldCache). x.number) c.index_mut.ensures.value in
     record {
       most = c.self.invariant.most;
-      caches_rise = subst (RisesFrom 0) (sym (map-set_same (λ (x : ToldCache). x.number) caches c.in-Some.i c.give.new.self old same)) c.self.invariant.caches_rise;
+      caches_rise = subst (RisesFrom 0) (sym (map-set_same (λ (x : ToldCache). x.number) caches c.in-Some.i c.give.new.self old same))
+          c.self.invariant.caches_rise;
     }
 
 pub returns-in-Some : goal.returns-in-Some
@@ -22,9 +23,11 @@ returns-in-Some c =
     let change = λ (x : ToldCache). record x { live = filter (λ p. not (p == c.args.place)) x.live } in
     let is : position (λ (x : ToldCache). x.number == c.args.number) caches ≡ Some c.in-Some.i =
     (λ j. position (λ (x : ToldCache). x.number == c.args.number) (sym c.deref.ensures.value j)) ∙ sym c.in-Some.ensures.value in
-    let e : slice_set caches c.in-Some.i c.give.new.self ≡ map {B = ToldCache} (λ (x : ToldCache). if x.number == c.args.number then change x else x) caches =
+    let e : slice_set caches c.in-Some.i c.give.new.self
+    ≡ map {B = ToldCache} (λ (x : ToldCache). if x.number == c.args.number then change x else x) caches =
     ap (λ x. slice_set caches c.in-Some.i x) (c.give.ensures ∙ ap change c.index_mut.ensures.value)
-    ∙ sym (changed_at (λ (x : ToldCache). x.number) c.args.number c.in-Some.i change c.index_mut.result.now caches c.self.invariant.caches_rise is) in
+    ∙ sym (changed_at (λ (x : ToldCache). x.number) c.args.number c.in-Some.i change c.index_mut.result.now caches
+    c.self.invariant.caches_rise is) in
     rw (e, ← c.self.view_is)
 
 pub returns-in_default : goal.returns-in_default

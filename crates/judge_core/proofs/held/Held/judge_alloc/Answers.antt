@@ -1,11 +1,10 @@
-use Rattle.std.proofs.Common.{◌≡◌, true, false, [], ◌∷◌, sym, ap, ◌∙◌}
+use Rattle.std.proofs.Common.{[], ◌∷◌, sym, ap, ◌∙◌}
 use Rattle.std.specs.Prelude.{is_none}
-use Rattle.std.proofs.lemmas.Bool.{lt-ltb, le-ltb}
 use Rattle.words_core.specs.declared.event.Event.TheVariants as On
 use Rattle.words_core.specs.declared.event.Command.TheVariants as Asked
 use Rattle.promise_core.specs.declared.promise.Promise.{Promise}
 use Rattle.promise_core.specs.State.{State, Known}
-use Rattle.judge_core.specs.Verdicts.{broken, verdict_on, on_refusal}
+use Rattle.judge_core.specs.Verdicts.{broken, verdict_on}
 use Rattle.promise_core.specs.State.{state_after}
 use Rattle.judge_core.proofs.OnPages.{no_alloc}
 use Rattle.judge_core.proofs.held.Held.judge_alloc.Goals as goal

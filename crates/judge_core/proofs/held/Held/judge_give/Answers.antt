@@ -1,10 +1,9 @@
-use Rattle.std.proofs.Common.{◌≡◌, true, false, [], ◌∷◌, sym, ap, ◌∙◌}
+use Rattle.std.proofs.Common.{true, false, [], ◌∷◌, sym, ap, ◌∙◌}
 use Rattle.std.specs.Prelude.{is_none}
-use Rattle.std.proofs.lemmas.Bool.{lt-ltb, le-ltb}
 use Rattle.words_core.specs.declared.event.Event.TheVariants as On
 use Rattle.words_core.specs.declared.event.Command.TheVariants as Asked
 use Rattle.promise_core.specs.declared.promise.Promise.{Promise}
-use Rattle.promise_core.specs.State.{State, Known}
+use Rattle.promise_core.specs.State.{State}
 use Rattle.judge_core.specs.Verdicts.{broken, verdict_on, on_refusal}
 use Rattle.promise_core.specs.State.{state_after}
 use Rattle.judge_core.proofs.OnObjects.{not_given, no_give}

@@ -1,12 +1,11 @@
-use Rattle.std.proofs.Common.{◌≡◌, ◌==◌, ◌&&◌, ◌||◌, true, false, Some, None, [], ◌∷◌, sym, ap, ◌∙◌, length}
+use Rattle.std.proofs.Common.{◌&&◌, [], ◌∷◌, ap, ◌∙◌}
 use Rattle.std.specs.Prelude.{is_none}
 use Rattle.words_core.specs.declared.event.Event.TheVariants as On
 use Rattle.words_core.specs.declared.event.Command.TheVariants as Asked
-use Rattle.words_core.specs.declared.event.AdminCommand.TheVariants as Do
 use Rattle.words_core.specs.declared.reply.Body.TheVariants as Say
 use Rattle.promise_core.specs.declared.promise.Promise.{Promise}
 use Rattle.promise_core.specs.State.{State, Known, state_after}
-use Rattle.judge_core.specs.Verdicts.{broken, verdict_on, on_refusal}
+use Rattle.judge_core.specs.Verdicts.{broken}
 use Rattle.model_core.specs.declared.limits.TheConstants.{MOST_CACHES}
 use Rattle.promise_core.specs.Promises.{new_layout}
 use Rattle.judge_core.proofs.held.Held.judge_layout.Goals as goal

@@ -1,7 +1,6 @@
-use Rattle.std.proofs.Common.{◌≡◌, ◌==◌, ◌&&◌, true, false, None, [], ◌∷◌, sym, ap, ◌∙◌, length}
+use Rattle.std.proofs.Common.{◌&&◌, false, [], ◌∷◌, sym, ap, ◌∙◌}
 use Rattle.std.specs.Prelude.{is_none}
 use Rattle.words_core.specs.declared.event.Event.TheVariants as On
-use Rattle.words_core.specs.declared.event.Command.TheVariants as Asked
 use Rattle.words_core.specs.declared.event.AdminCommand.TheVariants as Do
 use Rattle.promise_core.specs.declared.promise.Promise.{Promise}
 use Rattle.promise_core.specs.State.{State, Known, state_after}

@@ -1,12 +1,8 @@
-use Rattle.std.proofs.Common.{◌≡◌, true, false, [], ◌∷◌, sym, ap, ◌∙◌, arith}
-use Rattle.std.specs.Prelude.{is_none}
+use Rattle.std.proofs.Common.{false, sym, ap, ◌∙◌, arith}
 use Rattle.std.proofs.lemmas.Bool.{lt-ltb, le-ltb}
-use Rattle.words_core.specs.declared.event.Event.TheVariants as On
-use Rattle.words_core.specs.declared.event.Command.TheVariants as Asked
-use Rattle.promise_core.specs.declared.promise.Promise.{Promise}
 use Rattle.promise_core.specs.State.{State, Known}
-use Rattle.judge_core.specs.Verdicts.{broken, verdict_on, on_refusal}
-use Rattle.std.proofs.Common.{not, Some, None}
+use Rattle.judge_core.specs.Verdicts.{on_refusal}
+use Rattle.std.proofs.Common.{not, None}
 use Rattle.judge_core.proofs.OnPages.{bad_order, no_frames}
 use Rattle.judge_core.proofs.held.Held.judge_no_frame.Goals as goal
 

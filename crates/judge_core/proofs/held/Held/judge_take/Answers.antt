@@ -1,6 +1,5 @@
-use Rattle.std.proofs.Common.{◌≡◌, true, false, [], ◌∷◌, sym, ap, ◌∙◌}
+use Rattle.std.proofs.Common.{false, [], ◌∷◌, sym, ap, ◌∙◌}
 use Rattle.std.specs.Prelude.{is_none}
-use Rattle.std.proofs.lemmas.Bool.{lt-ltb, le-ltb}
 use Rattle.words_core.specs.declared.event.Event.TheVariants as On
 use Rattle.words_core.specs.declared.event.Command.TheVariants as Asked
 use Rattle.promise_core.specs.declared.promise.Promise.{Promise}

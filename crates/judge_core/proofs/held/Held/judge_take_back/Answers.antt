@@ -1,14 +1,10 @@
-use Rattle.std.proofs.Common.{◌≡◌, ◌==◌, ◌&&◌, ◌||◌, true, false, Some, None, [], ◌∷◌, sym, ap, ◌∙◌, length}
+use Rattle.std.proofs.Common.{false, [], ◌∷◌, sym, ap, ◌∙◌}
 use Rattle.std.specs.Prelude.{is_none, slice_index_or}
-use Rattle.std.specs.List.{list_any}
 use Rattle.words_core.specs.declared.event.Event.TheVariants as On
 use Rattle.words_core.specs.declared.event.AdminCommand.TheVariants as Do
-use Rattle.words_core.specs.declared.reply.Refusal.{Refusal}
 use Rattle.promise_core.specs.declared.promise.Promise.{Promise}
-use Rattle.promise_core.specs.Holdings.{is_slot_busy}
-use Rattle.promise_core.specs.Promises.{first_due}
 use Rattle.promise_core.specs.State.{State, Known, state_after}
-use Rattle.judge_core.specs.Verdicts.{broken, verdict_on, on_refusal}
+use Rattle.judge_core.specs.Verdicts.{broken, verdict_on}
 use Rattle.judge_core.proofs.OnSlots.{no_take_back}
 use Rattle.judge_core.proofs.held.Held.judge_take_back.Goals as goal
 

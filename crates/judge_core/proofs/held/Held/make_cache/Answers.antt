@@ -1,4 +1,4 @@
-use Rattle.std.proofs.Common.{◌≡◌, ◌==◌, ℕ, not, ltb, map, None, sym, ap, ◌∙◌, subst, arith}
+use Rattle.std.proofs.Common.{◌≡◌, ◌==◌, not, ltb, map, None, sym, ap, ◌∙◌, subst, arith}
 use Rattle.std.specs.Prelude.{find}
 use Rattle.std.specs.List.{insert, prefix_len}
 use Rattle.model_core.proofs.Lists.{put_rises}
@@ -12,17 +12,21 @@ use Rattle.judge_core.proofs.held.Held.make_cache.Goals as goal
 pub returns-clause-made : goal.returns-clause-made
 returns-clause-made c =
     let caches = c.self.inside.caches.items in
-    let at = c.place_of_cache-place.ensures.value ∙ (λ i. prefix_len (λ (x : ToldCache). not (ltb (c.number.ensures i) x.number)) (c.deref.ensures.value i)) in
+    let at = c.place_of_cache-place.ensures.value
+    ∙ (λ i. prefix_len (λ (x : ToldCache). not (ltb (c.number.ensures i) x.number)) (c.deref.ensures.value i)) in
     let e : c.insert.new.self.items ≡ put_rising (λ (x : ToldCache). x.number) c.args.cache caches =
-    c.in_ok-insert.ensures.items ∙ (ap (λ n. insert caches n c.args.cache) at ∙ sym (put_at (λ (x : ToldCache). x.number) c.args.cache caches)) in
+    c.in_ok-insert.ensures.items ∙ (ap (λ n. insert caches n c.args.cache) at
+    ∙ sym (put_at (λ (x : ToldCache). x.number) c.args.cache caches)) in
     rw (e, ← c.self.view_is)
 
 pub invariant_of-self-2 : goal.invariant_of-self-2
 invariant_of-self-2 c =
     let caches = c.self.inside.caches.items in
-    let at = c.place_of_cache-place.ensures.value ∙ (λ i. prefix_len (λ (x : ToldCache). not (ltb (c.number.ensures i) x.number)) (c.deref.ensures.value i)) in
+    let at = c.place_of_cache-place.ensures.value
+    ∙ (λ i. prefix_len (λ (x : ToldCache). not (ltb (c.number.ensures i) x.number)) (c.deref.ensures.value i)) in
     let e : c.insert.new.self.items ≡ put_rising (λ (x : ToldCache). x.number) c.args.cache caches =
-    c.in_ok-insert.ensures.items ∙ (ap (λ n. insert caches n c.args.cache) at ∙ sym (put_at (λ (x : ToldCache). x.number) c.args.cache caches)) in
+    c.in_ok-insert.ensures.items ∙ (ap (λ n. insert caches n c.args.cache) at
+    ∙ sym (put_at (λ (x : ToldCache). x.number) c.args.cache caches)) in
     let none : find (λ (x : ToldCache). x.number == c.args.cache.number) caches ≡ None =
     ap (λ (h : Holdings). cache_told h c.args.cache.number) c.self.view_is ∙ c.requires in
     record {
