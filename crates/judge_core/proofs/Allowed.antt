@@ -76,7 +76,8 @@ module _ (size align t number chunk q n colours : ℕ) (p : ArrayVec ℕ) (w : K
 
   -- .. and its objects fit into a slab
   pub cut_where_allowed : w.order ≤ MOST_ORDER
-      → verdict_on (On.Tenant t (Asked.Cache size align p)) (Say.Cache number chunk q n colours) w s ≡ Ok tt → IsCut size align chunk q n
+      → verdict_on (On.Tenant t (Asked.Cache size align p)) (Say.Cache number chunk q n colours) w s ≡ Ok tt
+      → IsCut size align chunk q n
   cut_where_allowed order ok =
       let sizes = sized (kept ok).0 in
       let range = and_parts (nat_le 1 size) (nat_le size MOST_SIZE) sizes.0 in

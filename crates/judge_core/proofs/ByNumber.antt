@@ -70,7 +70,8 @@ pub changed_none : {X : Type 0} (key : X → ℕ) (n : ℕ) (change : X → X) (
     → changed key n change xs ≡ xs
 changed_none key n change xs none = go (ltb (index key n xs) (length xs)) refl none
   where
-    go : (b : Bool) → ltb (index key n xs) (length xs) ≡ b → cond b (Some (index key n xs)) None ≡ None → changed key n change xs ≡ xs
+    go : (b : Bool) → ltb (index key n xs) (length xs) ≡ b → cond b (Some (index key n xs)) None ≡ None
+        → changed key n change xs ≡ xs
     go true lt is = absurd (cc)
     go false lt is = nowhere key n change xs (ltb-false _ _ lt)
 

@@ -1,5 +1,5 @@
 -- Verdicts on the reply to one event.
-use Rattle.std.specs.Prelude.{◌≡◌, ℕ, Bool, true, not, List, [], ◌∷◌, drop, Option, Result, Ok, Err, is_some, if◌then◌else◌, ◌||◌}
+use Rattle.std.specs.Prelude.{Bool, not, List, [], ◌∷◌, drop, Option, Result, Ok, Err, is_some, if◌then◌else◌, ◌||◌}
 use Rattle.std.specs.Option.{option_map_or}
 use Rattle.words_core.specs.declared.event.Event.{Event}
 use Rattle.words_core.specs.declared.reply.Addressee.TheVariants as To

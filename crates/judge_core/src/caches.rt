@@ -1,7 +1,7 @@
 //! Verdicts on replies about caches.
 
-ghost use Rattle.std.specs.Prelude.{◌≡◌, ◌≤◌, ◌<◌, ◌+◌, ◌-◌, ◌*◌, ◌%◌, ◌^◌, ◌==◌, ◌&&◌, nat_le, nat_lt, ℕ, Some, None, true, is_none, not};
-ghost use Rattle.model_core.specs.declared.limits.TheConstants.{FRAME_BYTES, MOST_ORDER, MOST_CACHES};
+ghost use Rattle.std.specs.Prelude.{◌≡◌, ◌≤◌, ◌<◌, ◌&&◌, nat_lt, ℕ, None, true, is_none, not};
+ghost use Rattle.model_core.specs.declared.limits.TheConstants.{MOST_ORDER, MOST_CACHES};
 ghost use Rattle.model_core.specs.Layouts.{is_size, is_alignment};
 ghost use Rattle.words_core.specs.declared.event.Event.TheVariants as On;
 ghost use Rattle.words_core.specs.declared.event.Command.TheVariants as Asked;
@@ -98,7 +98,8 @@ impl Held {
     #[tactic(auto, unfolding(promise_core::specs::Promises::due))]
     fn due_of_cache(&self, size: u32, align: u32) -> Option<Refusal>
         ensures value { (t : ℕ) (p : Pattern ℕ) (w : Known) (s : State)
-            → result ≡ due (On.Tenant t (Asked.Cache size align p)) (record w { limit = MOST_CACHES }) (record s { has = self.now }) }
+            → result ≡ due (On.Tenant t (Asked.Cache size align p))
+            (record w { limit = MOST_CACHES }) (record s { has = self.now }) }
         ensures aligned { result ≡ None → is_alignment align ≡ true }
     {
         if !is_size(size) {

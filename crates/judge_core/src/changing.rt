@@ -1,7 +1,7 @@
 //! What becomes of a tenant's holdings by answers that take something away.
 
 ghost use Rattle.std.specs.Prelude.{◌≡◌, ◌==◌, ◌≤◌, not, filter, length, []};
-ghost use Rattle.promise_core.specs.Holdings.{Holdings, with_live_places};
+ghost use Rattle.promise_core.specs.Holdings.{with_live_places};
 
 use crate::block::FrameBlock;
 use crate::cache::HeldCache;

@@ -3,7 +3,7 @@ use Rattle.words_core.specs.declared.event.Event.TheVariants as On
 use Rattle.words_core.specs.declared.event.AdminCommand.TheVariants as Do
 use Rattle.promise_core.specs.declared.promise.Promise.{Promise}
 use Rattle.promise_core.specs.State.{Known, state_after}
-use Rattle.judge_core.specs.Verdicts.{broken, verdict_on, on_refusal}
+use Rattle.judge_core.specs.Verdicts.{broken, verdict_on}
 use Rattle.promise_core.specs.Promises.{due}
 use Rattle.judge_core.proofs.OnSlots.{no_owners, no_pool}
 use Rattle.judge_core.proofs.slots.judge_pool.Goals as goal

@@ -4,7 +4,7 @@ use Rattle.words_core.specs.declared.event.AdminCommand.TheVariants as Do
 use Rattle.promise_core.specs.declared.promise.Promise.{Promise}
 use Rattle.promise_core.specs.Promises.{due}
 use Rattle.promise_core.specs.State.{Known, state_after}
-use Rattle.judge_core.specs.Verdicts.{broken, verdict_on, on_refusal}
+use Rattle.judge_core.specs.Verdicts.{broken, verdict_on}
 use Rattle.judge_core.proofs.OnSlots.{not_reset, no_reset}
 use Rattle.judge_core.proofs.slots.judge_reset.Goals as goal
 

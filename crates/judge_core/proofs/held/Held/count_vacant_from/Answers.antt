@@ -1,4 +1,4 @@
-use Rattle.std.proofs.Common.{true, false, sym, ap, ◌∙◌, arith}
+use Rattle.std.proofs.Common.{sym, ap, ◌∙◌, arith}
 use Rattle.promise_core.specs.Holdings.{is_vacant}
 use Rattle.judge_core.proofs.Lists.{more_vacant, more_taken}
 use Rattle.judge_core.proofs.held.Held.count_vacant_from.Goals as goal

@@ -13,7 +13,8 @@ invariant_of-self c =
     let same = ap (λ (x : ToldCache). x.number) c.give.ensures ∙ ap (λ (x : ToldCache). x.number) c.index_mut.ensures.value in
     record {
       most = c.self.invariant.most;
-      caches_rise = subst (RisesFrom 0) (sym (map-set_same (λ (x : ToldCache). x.number) caches c.in-Some.i c.give.new.self old same))
+      caches_rise = subst (RisesFrom 0)
+          (sym (map-set_same (λ (x : ToldCache). x.number) caches c.in-Some.i c.give.new.self old same))
           c.self.invariant.caches_rise;
     }
 

@@ -16,7 +16,8 @@ invariant_of-self c =
     ∙ ap (λ (x : ToldCache). x.number) c.index_mut.ensures.value in
     record {
       most = c.self.invariant.most;
-      caches_rise = subst (RisesFrom 0) (sym (map-set_same (λ (x : ToldCache). x.number) caches c.in-Some.i c.take.new.self old same))
+      caches_rise = subst (RisesFrom 0)
+          (sym (map-set_same (λ (x : ToldCache). x.number) caches c.in-Some.i c.take.new.self old same))
           c.self.invariant.caches_rise;
     }
 
