@@ -1,0 +1,6 @@
+pub mod Places
+pub mod Stepping
+pub mod Changes
+pub mod SlotsHeld
+pub mod ReadBytes
+pub mod KeptBytes

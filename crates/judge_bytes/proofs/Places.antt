@@ -1,0 +1,35 @@
+-- Slots, blocks and their places.
+use Rattle.std.proofs.Common.{◌≡◌, ℕ, ◌+◌, ◌-◌, ◌*◌, ◌/◌, ◌%◌, ◌^◌, ◌<◌, ◌≤◌, Bool, true, false, leb, ltb, eqb, List, [], ◌∷◌, Some, None, Option, refl, sym, ap, ◌∙◌, subst, arith}
+use Rattle.std.specs.Prelude.{◌&&◌, nat_le, nat_lt}
+use Rattle.std.proofs.lemmas.Bool.Decides.{nat_tests}
+use Rattle.std.proofs.lemmas.Nat.{shr_split, pow_pos}
+use Rattle.std.proofs.Math.Nat.{mod-lt, div-add-mod}
+use Rattle.model_core.specs.Blocks.{Block}
+use Rattle.model_core.specs.Machine.{slot_of, in_block}
+use Rattle.judge_bytes.specs.Left.{slot_bytes}
+
+places_apart : (u m r f q place : ℕ) → u * m + r ≡ f → r < m → 4096 * f + q ≡ place → q < 4096
+    → (u * (m * 4096) ≤ place) × (place - u * (m * 4096) < m * 4096)
+places_apart u m r f q place ef lr ep lq = (omega arith, omega arith)
+
+-- a place of a slot is one of the places from the slot's first on
+pub inside_slot : (order place u : ℕ) → slot_of order place ≡ u
+    → (u * slot_bytes order ≤ place) × (place - u * slot_bytes order < slot_bytes order)
+inside_slot order place u e = subst (λ (v : ℕ). (v * slot_bytes order ≤ place) × (place - v * slot_bytes order < slot_bytes order)) e
+    (places_apart (place / 4096 / 2 ^ order) (2 ^ order) (place / 4096 % 2 ^ order) (place / 4096) (place % 4096) place
+    (shr_split (place / 4096) order) (mod-lt (place / 4096) (pow_pos order)) (div-add-mod place 4096) (omega arith))
+
+leb_scaled : (a p : ℕ) → leb (4096 * a) p ≡ leb a (p / 4096)
+leb_scaled a p = grind (arith, nat_tests)
+
+ltb_scaled : (c p : ℕ) → ltb p (4096 * c) ≡ ltb (p / 4096) c
+ltb_scaled c p = grind (arith, nat_tests)
+
+-- the places of a block
+pub in_frames : (b : Block) (place : ℕ) → (nat_le (4096 * b.first) place && nat_lt place (4096 * (b.first + 2 ^ b.order))) ≡ in_block place b
+in_frames b place = ap (λ (t : Bool). t && ltb place (4096 * (b.first + 2 ^ b.order))) (leb_scaled b.first place)
+    ∙ ap (λ (t : Bool). leb b.first (place / 4096) && t) (ltb_scaled (b.first + 2 ^ b.order) place)
+
+-- those below 2 ^ 32
+pub in_all : (place : ℕ) → place < 2 ^ 32 → (nat_le 0 place && nat_lt place (2 ^ 32)) ≡ true
+in_all place lt = grind (arith, nat_tests)

@@ -1,0 +1,69 @@
+-- What may be read.
+use Rattle.std.proofs.Common.{◌≡◌, ℕ, suc, ◌+◌, ◌-◌, ◌^◌, ◌<◌, ◌≤◌, Bool, true, false, leb, List, [], ◌∷◌, length, get_or, drop, Option, Some, None, inl, inr, refl, sym, ap, ◌∙◌, subst, arith}
+use Rattle.std.specs.Prelude.{if◌then◌else◌, ◌&&◌, ◌||◌, ◌==◌, not, find, nat_le, nat_lt}
+use Rattle.std.specs.List.{list_any}
+use Rattle.std.specs.Option.{option_map_or}
+use Rattle.std.proofs.lemmas.Bool.{leb-true, false≢true, cases_lt}
+use Rattle.std.proofs.lemmas.List.{at_drop_more}
+use Rattle.model_core.specs.Reach.{is_within, within_block}
+use Rattle.promise_core.specs.Holdings.{Holdings, ToldCache}
+use Rattle.promise_core.specs.Bytes.{Holder, Cell, Cells, may_be, may_all_be, told_fresh_byte, object_with, holder_of}
+
+-- the same bytes may be read where the same was left
+pub same_read : (h : Holdings) (f g : Cells) (holder : Holder) (place : ℕ) (bytes : List ℕ)
+    → ((j : ℕ) → j < length bytes → f (place + j) ≡ g (place + j)) → may_all_be h f holder place bytes ≡ may_all_be h g holder place bytes
+same_read h f g holder place [] same = refl
+same_read h f g holder place (byte ∷ bytes) same =
+    let here : f place ≡ g place = subst (λ (p : ℕ). f p ≡ g p) (omega arith) (same 0 (omega arith)) in
+    let rest : may_all_be h f holder (place + 1) bytes ≡ may_all_be h g holder (place + 1) bytes = same_read h f g holder (place + 1) bytes
+    (λ j lt. subst (λ (p : ℕ). f p ≡ g p) (omega arith) (same (suc j) (omega arith))) in
+    ap (λ (c : Option Cell). may_be holder (told_fresh_byte h holder place) c byte && may_all_be h f holder (place + 1) bytes) here
+    ∙ ap (λ (t : Bool). may_be holder (told_fresh_byte h holder place) (g place) byte && t) rest
+
+-- one byte more
+pub read_more : (h : Holdings) (f : Cells) (holder : Holder) (place i : ℕ) (bytes : List ℕ) (byte : ℕ) → i < length bytes → byte ≡ get_or bytes i byte
+    → may_all_be h f holder (place + i) (drop i bytes)
+    ≡ (may_be holder (told_fresh_byte h holder (place + i)) (f (place + i)) byte && may_all_be h f holder (place + (i + 1)) (drop (i + 1) bytes))
+read_more h f holder place i bytes byte lt is = at_drop_more (may_all_be h f holder (place + i)) bytes i byte lt
+    ∙ (ap (λ (b : ℕ). may_be holder (told_fresh_byte h holder (place + i)) (f (place + i)) b && may_all_be h f holder (place + i + 1) (drop (i + 1) bytes)) (sym is)
+    ∙ ap (λ (p : ℕ). may_be holder (told_fresh_byte h holder (place + i)) (f (place + i)) byte && may_all_be h f holder p (drop (i + 1) bytes)) (omega arith))
+
+-- what has a range begins where it does, or before
+found_begins : (place len size : ℕ) (live : List ℕ) (p : ℕ) → find (λ first. is_within place len first size) live ≡ Some p → p ≤ place
+found_begins place len size [] p e = cc
+found_begins place len size (q ∷ live) p e =
+    go (leb q place) (leb (place + len) (q + size)) refl (found_begins place len size live p) e
+  where
+    go : (a b : Bool) → leb q place ≡ a → (find (λ first. is_within place len first size) live ≡ Some p → p ≤ place)
+        → (if a && b then Some q else find (λ first. is_within place len first size) live) ≡ Some p → p ≤ place
+    go true true le rest e = let s : q ≡ p = cc in let l = leb-true q place le in omega arith
+    go true false le rest e = rest e
+    go false b le rest e = rest e
+
+object_with_begins : (place len number first : ℕ) (cs : List ToldCache) → object_with place len cs ≡ Some (Holder.Object number first) → first ≤ place
+object_with_begins place len number first [] e = cc
+object_with_begins place len number first (c ∷ cs) e =
+    go (find (λ p. is_within place len p c.size) c.live) refl (object_with_begins place len number first cs) e
+  where
+    go : (o : Option ℕ) → find (λ p. is_within place len p c.size) c.live ≡ o
+        → (object_with place len cs ≡ Some (Holder.Object number first) → first ≤ place)
+        → option_map_or (λ p. Some (Holder.Object c.number p)) o (object_with place len cs) ≡ Some (Holder.Object number first) → first ≤ place
+    go None is rest e = rest e
+    go (Some p) is rest e = let s : p ≡ first = cc in let l = found_begins place len c.size c.live p is in omega arith
+
+pub begins : (h : Holdings) (place len number first : ℕ) → holder_of h place len ≡ Some (Holder.Object number first) → first ≤ place
+unfolding holder_of
+begins h place len number first e = go (not (nat_lt 0 len)) (list_any (within_block place len) h.pages) e
+  where
+    go : (a b : Bool) → (if a then None else (if b then Some Holder.Page else object_with place len h.caches)) ≡ Some (Holder.Object number first) → first ≤ place
+    go true b e = cc
+    go false true e = cc
+    go false false e = object_with_begins place len number first h.caches e
+
+-- a range of low places ends by 2 ^ 32
+pub range_low : (has : ℕ → Bool) (place len : ℕ) → ((p : ℕ) → has p ≡ true → p < 2 ^ 32) → ((j : ℕ) → j < len → has (place + j) ≡ true)
+    → place < 2 ^ 32 → place + len ≤ 2 ^ 32
+range_low has place len low all at = elim (cases_lt 0 len) [
+  | inl h ↦ (let last = low (place + (len - 1)) (all (len - 1) (omega arith)) in omega (arith, last, h))
+  | inr h ↦ omega (arith, at, h)
+]

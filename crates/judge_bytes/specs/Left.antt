@@ -1,0 +1,49 @@
+-- What was left in the slots that a tenant holds.
+use Rattle.std.specs.Prelude.{◌≡◌, ℕ, ◌-◌, ◌*◌, ◌^◌, Bool, true, List, [], ◌∷◌, map, Option, None, slice_index_or, if◌then◌else◌, ◌==◌}
+use Rattle.std.specs.List.{list_any}
+use Rattle.model_core.specs.declared.limits.TheConstants.{FRAME_BYTES}
+use Rattle.model_core.specs.Machine.{slot_of}
+use Rattle.promise_core.specs.Bytes.{Cell, Cells}
+
+-- a slot, and what was left at each of its places
+pub record LeftSlot : Type 0 where
+  pub slot : ℕ
+  pub cells : List (Option Cell)
+
+-- those of a tenant; slots have 2 ^ order frames
+pub record Left : Type 0 where
+  pub order : ℕ
+  pub slots : List LeftSlot
+
+-- how many places a slot has
+abbrev pub slot_bytes : ℕ → ℕ
+slot_bytes order = 2 ^ order * FRAME_BYTES
+
+-- what was left at a place of these slots
+abbrev pub left_in : ℕ → List LeftSlot → Cells
+left_in order [] place = None
+left_in order (s ∷ ss) place =
+    if s.slot == slot_of order place then slice_index_or s.cells (place - s.slot * slot_bytes order) None else left_in order ss place
+
+abbrev pub left_at : Left → Cells
+left_at left = left_in left.order left.slots
+
+abbrev pub slots_in : List LeftSlot → List ℕ
+slots_in ss = map {B = ℕ} (λ (s : LeftSlot). s.slot) ss
+
+abbrev pub left_slots : Left → List ℕ
+left_slots left = slots_in left.slots
+
+-- the place is one of these slots
+abbrev pub has_place : Left → ℕ → Bool
+has_place left place = list_any (λ u. u == slot_of left.order place) (left_slots left)
+
+-- at each of their places that was left which these cells tell
+abbrev pub AreLeft : Left → Cells → Type 0
+AreLeft left cells = (place : ℕ) → has_place left place ≡ true → left_at left place ≡ cells place
+
+-- then the slots are these, and whatever was left before, it is what `change` makes of it
+pub record Becomes (old : Left) (held : List ℕ) (change : Cells → Cells) (new : Left) : Type 0 where
+  pub order : new.order ≡ old.order
+  pub slots : left_slots new ≡ held
+  pub cells : (cells : Cells) → AreLeft old cells → AreLeft new (change cells)
