@@ -9,7 +9,7 @@ use Rattle.promise_core.specs.Bytes.{Holder, Cell, Cells, is_object, is_same, do
 use Rattle.promise_core.specs.Holdings.{ToldCache, slab_around}
 use Rattle.promise_core.specs.State.{with_object}
 use Rattle.judge_bytes.specs.Left.{Left, left_slots, Becomes}
-use Rattle.judge_bytes.specs.Inside.{Step, StaysNear, IsNear, IsHolderNear, AreSlots, AreStepped, within, doubted_of, removed_of}
+use Rattle.judge_bytes.specs.Inside.{StaysNear, IsNear, IsHolderNear, AreSlots, AreStepped, within, doubted_of, removed_of}
 use Rattle.judge_bytes.proofs.Stepping.{becomes}
 use Rattle.judge_bytes.proofs.Places.{in_frames, in_all}
 

@@ -1,9 +1,9 @@
 -- What may be read.
 use Rattle.std.proofs.Common.{◌≡◌, ℕ, suc, ◌+◌, ◌-◌, ◌^◌, ◌<◌, ◌≤◌, Bool, true, false, leb, List, [], ◌∷◌, length, get_or, drop, Option, Some, None, inl, inr, refl, sym, ap, ◌∙◌, subst, arith}
-use Rattle.std.specs.Prelude.{if◌then◌else◌, ◌&&◌, ◌||◌, ◌==◌, not, find, nat_le, nat_lt}
+use Rattle.std.specs.Prelude.{if◌then◌else◌, ◌&&◌, not, find, nat_lt}
 use Rattle.std.specs.List.{list_any}
 use Rattle.std.specs.Option.{option_map_or}
-use Rattle.std.proofs.lemmas.Bool.{leb-true, false≢true, cases_lt}
+use Rattle.std.proofs.lemmas.Bool.{leb-true, cases_lt}
 use Rattle.std.proofs.lemmas.List.{at_drop_more}
 use Rattle.model_core.specs.Reach.{is_within, within_block}
 use Rattle.promise_core.specs.Holdings.{Holdings, ToldCache}

@@ -1,11 +1,11 @@
 -- A step at each place of some slots.
-use Rattle.std.proofs.Common.{◌≡◌, ℕ, zero, suc, ◌+◌, ◌-◌, ◌*◌, ◌^◌, ◌<◌, ◌≤◌, Bool, true, false, not, leb, ltb, List, [], ◌∷◌, length, get_or, drop, Option, Some, None, refl, sym, ap, ◌∙◌, subst, arith}
-use Rattle.std.specs.Prelude.{if◌then◌else◌, ◌&&◌, ◌||◌, ◌==◌, filter}
+use Rattle.std.proofs.Common.{◌≡◌, ℕ, zero, suc, ◌+◌, ◌-◌, ◌*◌, ◌^◌, ◌<◌, ◌≤◌, Bool, true, false, leb, ltb, List, [], ◌∷◌, length, get_or, drop, Option, None, refl, sym, ap, ◌∙◌, subst, arith}
+use Rattle.std.specs.Prelude.{if◌then◌else◌, ◌&&◌, ◌||◌, ◌==◌}
 use Rattle.std.specs.List.{list_any, AllByRecursion}
-use Rattle.std.proofs.lemmas.Bool.{eqb-true, eq-eqb, false≢true}
+use Rattle.std.proofs.lemmas.Bool.{eqb-true, false≢true}
 use Rattle.model_core.specs.Machine.{slot_of}
 use Rattle.promise_core.specs.Bytes.{Cell, Cells}
-use Rattle.judge_bytes.specs.Left.{LeftSlot, Left, slot_bytes, left_in, slots_in, left_slots, AreLeft, Becomes}
+use Rattle.judge_bytes.specs.Left.{LeftSlot, Left, slot_bytes, left_in, slots_in, left_slots, Becomes}
 use Rattle.judge_bytes.specs.Inside.{Step, IsNear, StaysNear, IsWhole, AreSlots, IsStepped, AreStepped, within}
 use Rattle.std.proofs.lemmas.List.{at_drop_more}
 use Rattle.judge_bytes.proofs.Places.{inside_slot}

@@ -1,10 +1,10 @@
 -- What is stored, what is true of it, and what changes of it are.
-use Rattle.std.specs.Prelude.{◌≡◌, ℕ, ◌+◌, ◌*◌, ◌^◌, ◌<◌, ◌≤◌, Bool, true, not, List, [], ◌∷◌, map, length, Option, Some, None, option_map, slice_index, slice_index_or, nat_le, nat_lt, if◌then◌else◌, ◌&&◌, ◌==◌}
+use Rattle.std.specs.Prelude.{◌≡◌, ℕ, ◌+◌, ◌*◌, ◌^◌, ◌<◌, ◌≤◌, Bool, true, not, List, length, Option, Some, None, option_map, slice_index, slice_index_or, nat_le, nat_lt, if◌then◌else◌, ◌&&◌, ◌==◌}
 use Rattle.std.specs.List.{list_any, AllByRecursion}
 use Rattle.std.specs.Option.{option_and_then}
 use Rattle.model_core.specs.Machine.{slot_of}
 use Rattle.promise_core.specs.Bytes.{Holder, Cell}
-use Rattle.judge_bytes.specs.Left.{LeftSlot, Left, left_in, slots_in, slot_bytes}
+use Rattle.judge_bytes.specs.Left.{LeftSlot, left_in, slots_in, slot_bytes}
 use Rattle.judge_bytes.specs.declared.kept.KeptByte.{KeptByte}
 use Rattle.judge_bytes.specs.declared.kept.KeptByte.TheVariants as Kept
 
@@ -40,7 +40,8 @@ IsNear reach place (Some cell) = IsHolderNear reach place cell.holder
 
 -- where it was so, it is so then
 abbrev pub StaysNear : Step → Type 0
-StaysNear step = (reach : List ℕ) (place : ℕ) (cell : Option Cell) → IsNear reach place cell → IsNear reach place (step place cell)
+StaysNear step = (reach : List ℕ) (place : ℕ) (cell : Option Cell)
+    → IsNear reach place cell → IsNear reach place (step place cell)
 
 -- the slot is stored whole, and its places are below 2 ^ 32
 pub record IsWhole (order : ℕ) (s : LeftSlot) : Type 0 where

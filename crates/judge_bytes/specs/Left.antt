@@ -23,7 +23,8 @@ slot_bytes order = 2 ^ order * FRAME_BYTES
 abbrev pub left_in : ℕ → List LeftSlot → Cells
 left_in order [] place = None
 left_in order (s ∷ ss) place =
-    if s.slot == slot_of order place then slice_index_or s.cells (place - s.slot * slot_bytes order) None else left_in order ss place
+    if s.slot == slot_of order place then slice_index_or s.cells (place - s.slot * slot_bytes order) None
+    else left_in order ss place
 
 abbrev pub left_at : Left → Cells
 left_at left = left_in left.order left.slots

@@ -5,6 +5,7 @@ ghost use Rattle.judge_core.specs.Holders.{shown_cell};
 ghost use Rattle.judge_bytes.specs.Inside.{shown_kept};
 
 use judge_core::{LeftByte, RangeHolder};
+use std::mem::size_of;
 
 /// What was left at a place, if anything was.
 #[derive(Clone, Copy, Debug)]
@@ -24,6 +25,9 @@ pub(crate) enum KeptByte {
         first: u32,
     },
 }
+
+// There is one for each byte of a slot.
+const _: () = prove!(size_of::<KeptByte>() == 8);
 
 impl KeptByte {
     /// What is stored of what was left.

@@ -197,7 +197,8 @@ fn reach_of(reach: &[u64; 256], number: u32) -> u64
 /// Makes the reach of the holder's cache such that bytes of it may lie before `end`.
 fn extend_reach(reach: &mut [u64; 256], holder: RangeHolder, end: u64)
     ensures more { (n : ℕ) → slice_index reach.old n ≤ slice_index reach.new n }
-    ensures near { (number first : ℕ) → shown_holder holder ≡ Holder.Object number first → end ≤ first + slice_index reach.new number }
+    ensures near { (number first : ℕ) → shown_holder holder ≡ Holder.Object number first
+        → end ≤ first + slice_index reach.new number }
 {
     if let RangeHolder::Object { cache, first } = holder {
         let distance = end.saturating_sub(u64::from(first));
@@ -208,5 +209,6 @@ fn extend_reach(reach: &mut [u64; 256], holder: RangeHolder, end: u64)
 
 /// An object that has a range of bytes begins where the range does, or before.
 pub fn object_begins()
-    ensures { (h : Holdings) (place len number first : ℕ) → holder_of h place len ≡ Some (Holder.Object number first) → first ≤ place }
+    ensures { (h : Holdings) (place len number first : ℕ)
+        → holder_of h place len ≡ Some (Holder.Object number first) → first ≤ place }
 {}

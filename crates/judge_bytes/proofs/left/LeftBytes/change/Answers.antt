@@ -1,4 +1,4 @@
-use Rattle.std.proofs.Common.{◌≡◌, List, length, sym, ap, subst, arith}
+use Rattle.std.proofs.Common.{List, length, sym, ap, subst, arith}
 use Rattle.std.proofs.lemmas.List.{with_items_is}
 use Rattle.judge_bytes.specs.Left.{LeftSlot}
 use Rattle.judge_bytes.specs.Inside.{AreSlots, AreStepped, within}

@@ -1,4 +1,4 @@
-use Rattle.std.proofs.Common.{◌≡◌, List, ℕ, refl, sym, ap, ◌∙◌, subst, arith}
+use Rattle.std.proofs.Common.{ℕ, ap, ◌∙◌, subst}
 use Rattle.std.proofs.Common.{◌+◌, ◌-◌, ◌^◌, min}
 use Rattle.promise_core.specs.Bytes.{Holder, is_same}
 use Rattle.judge_bytes.specs.Left.{Left}

@@ -1,6 +1,6 @@
-use Rattle.std.proofs.Common.{◌≡◌, ◌+◌, ◌*◌, ◌^◌, ◌≤◌, ℕ, eqb, List, ◌∷◌, Option, None, replicate, sym, ap, ◌∙◌, subst}
+use Rattle.std.proofs.Common.{◌≡◌, ◌+◌, ◌*◌, ◌^◌, ◌≤◌, ℕ, eqb, List, ◌∷◌, None, replicate, sym, ap, ◌∙◌, subst}
 use Rattle.model_core.specs.Machine.{slot_of}
-use Rattle.promise_core.specs.Bytes.{Cell, without}
+use Rattle.promise_core.specs.Bytes.{without}
 use Rattle.judge_bytes.specs.Left.{LeftSlot, Left, left_slots, slot_bytes, Becomes}
 use Rattle.judge_bytes.specs.Inside.{AreSlots}
 use Rattle.judge_bytes.proofs.SlotsHeld.{slots_granted, granted}

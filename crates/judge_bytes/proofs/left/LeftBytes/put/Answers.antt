@@ -1,7 +1,7 @@
-use Rattle.std.proofs.Common.{◌≡◌, ℕ, ◌+◌, ◌≤◌, List, length, refl, sym, ap, ◌∙◌, subst, arith}
+use Rattle.std.proofs.Common.{◌+◌, List, length, refl, sym, ap, subst, arith}
 use Rattle.std.specs.Vec.{with_items}
 use Rattle.std.proofs.lemmas.List.{with_items_is}
-use Rattle.promise_core.specs.Bytes.{Holder, with_bytes}
+use Rattle.promise_core.specs.Bytes.{with_bytes}
 use Rattle.judge_core.specs.Holders.{shown_holder}
 use Rattle.judge_bytes.specs.Left.{LeftSlot, Left, left_slots, Becomes}
 use Rattle.judge_bytes.specs.Inside.{AreSlots, AreStepped, within}

@@ -1,4 +1,4 @@
-use Rattle.std.proofs.Common.{◌≡◌, not, eqb, List, ℕ, sym, subst}
+use Rattle.std.proofs.Common.{not, eqb, List, sym, subst}
 use Rattle.std.specs.Prelude.{filter}
 use Rattle.judge_bytes.specs.Left.{LeftSlot, Left, left_slots, Becomes}
 use Rattle.judge_bytes.specs.Inside.{AreSlots}
