@@ -1,0 +1,105 @@
+//! The numbers of blocks that a report tells.
+
+ghost use Rattle.std.specs.Prelude.{◌≡◌, ℕ, ◌+◌, ◌*◌, ◌^◌, ◌≤◌, ◌<◌, length, map, drop, slice_index, Some, IfSome};
+ghost use Rattle.model_core.specs.Reports.{greatest, split_share as share};
+ghost use Rattle.model_core.specs.declared.limits.TheConstants.{MOST_ORDER};
+ghost use Rattle.promise_core.specs.Promises.{frames_of_counts};
+
+use arrayvec::ArrayVec;
+use model_core::report::OrderRow;
+use words_core::ORDERS;
+
+/// The numbers of free blocks of these rows.
+pub(crate) fn free_counts(rows: &ArrayVec<OrderRow, ORDERS>) -> ArrayVec<u32, ORDERS>
+    ensures { result.items ≡ map (λ row. row.free) rows.now.items }
+{
+    let mut counts = ArrayVec::new();
+    for row in rows.as_slice() {
+        counts.push(row.free);
+    }
+    counts
+}
+
+/// The numbers of taken blocks of these rows.
+pub(crate) fn taken_counts(rows: &ArrayVec<OrderRow, ORDERS>) -> ArrayVec<u32, ORDERS>
+    ensures { result.items ≡ map (λ row. row.taken) rows.now.items }
+{
+    let mut counts = ArrayVec::new();
+    for row in rows.as_slice() {
+        counts.push(row.taken);
+    }
+    counts
+}
+
+/// How many frames so many blocks have, the first of them of order 0.
+pub(crate) fn frames_of_counts(counts: &[u32]) -> u64
+    requires { length counts.now ≤ ORDERS }
+    ensures { result ≡ frames_of_counts counts.now }
+{
+    let mut frames = 0u64;
+    for order in 0..counts.len() {
+        frames += frames_in(counts[order], order as u8);
+    }
+    frames
+}
+
+/// How many frames so many blocks of an order have.
+pub(crate) fn frames_in(count: u32, order: u8) -> u64
+    requires { order ≤ MOST_ORDER }
+    ensures value { result ≡ count * 2 ^ order }
+    ensures most { result ≤ 2 ^ 40 }
+{
+    u64::from(count) * (1u64 << order)
+}
+
+/// How many frames so many blocks have, those below order `k` left out and the others taken for `k` orders smaller.
+pub(crate) fn frames_from(counts: &[u32], k: u8) -> u64
+    requires { length counts.now ≤ ORDERS }
+    ensures { result ≡ frames_of_counts (drop k counts.now) }
+{
+    let k = usize::from(k);
+    if k < counts.len() {
+        frames_of_counts(&counts[k..])
+    } else {
+        0
+    }
+}
+
+/// The number of blocks of this order, 0 where none is told.
+pub(crate) fn count_at(counts: &[u32], order: u8) -> u32
+    ensures { result ≡ slice_index counts.now order }
+{
+    match counts.get(usize::from(order)) {
+        Some(count) => *count,
+        None => 0,
+    }
+}
+
+/// The greatest order below `end` of which there are blocks.
+pub(crate) fn greatest(counts: &[u32], end: u8) -> Option<u8>
+    ensures value { result ≡ greatest (slice_index counts.now) end }
+    ensures small { IfSome result (λ k. k < end) }
+{
+    let mut top = None;
+    for order in 0..end {
+        if count_at(counts, order) != 0 {
+            top = Some(order);
+        }
+    }
+    top
+}
+
+/// The share of `free` frames that lie outside one greatest free block, of order `top`, in thousandths; 0 where there is no
+/// free block.
+pub(crate) fn split_share(free: u32, top: Option<u8>) -> u32
+    requires { IfSome top (λ k. k ≤ MOST_ORDER) }
+    ensures { result ≡ share free top }
+{
+    let Some(order) = top else {
+        return 0;
+    };
+    if free == 0 {
+        return 1000;
+    }
+    1000u32.saturating_sub((1000 << order) / free)
+}

@@ -1,0 +1,99 @@
+//! How many blocks are taken, and how many frames the empty slabs have, as the rows of a report tell it.
+
+ghost use Rattle.std.specs.Prelude.{◌≡◌, ℕ, ◌+◌, ◌*◌, ◌^◌, ◌≤◌, ◌<◌, ◌==◌, if◌then◌else◌, length, filter, Option, true};
+ghost use Rattle.std.specs.List.{sum_by, zip};
+ghost use Rattle.std.specs.Option.{option_map_or};
+ghost use Rattle.model_core.specs.declared.limits.TheConstants.{MOST_ORDER};
+ghost use Rattle.promise_core.specs.Promises.{told_count, empty_frames};
+
+use crate::counts::frames_in;
+use judge_core::{FrameBlock, Held, HeldCache};
+use model_core::report::CacheRow;
+use words_core::{CACHES, Report};
+
+/// Whether so many blocks of `2^k` frames are taken, where these are the rows of the caches.
+pub(crate) fn are_taken(held: &Held, rows: &[CacheRow], k: u8, count: u32) -> bool
+    requires { length rows.now ≤ CACHES }
+    ensures { result ≡ (count == told_count held.now rows.now k) }
+{
+    let pages = count_pages(held.pages(), k);
+    match u64::from(count).checked_sub(count_slabs(held.caches(), rows, k)) {
+        Some(rest) => rest == pages as u64,
+        None => false,
+    }
+}
+
+/// How many page blocks have `2^k` frames.
+fn count_pages(pages: &[FrameBlock], k: u8) -> usize
+    ensures { result ≡ length (filter (λ b. b.order == k) pages.now) }
+{
+    pages.iter().filter(|page| page.order() == k).count()
+}
+
+/// How many slabs of `2^k` frames the rows tell.
+#[tactic(auto, using(crate::proofs::Sums::one_more_pair))]
+fn count_slabs(caches: &[HeldCache], rows: &[CacheRow], k: u8) -> u64
+    requires { length rows.now ≤ CACHES }
+    ensures { result ≡ sum_by (λ p. if p.0.order == k then p.1.full + p.1.partial + p.1.empty else 0) (zip caches.now rows.now) }
+{
+    let mut count = 0u64;
+    for (cache, row) in caches.iter().zip(rows) {
+        count += slabs_in(cache, row, k);
+    }
+    count
+}
+
+/// How many slabs of `2^k` frames the cache has.
+fn slabs_in(cache: &HeldCache, row: &CacheRow, k: u8) -> u64
+    ensures value { result ≡ (if cache.now.order == k then row.now.full + row.now.partial + row.now.empty else 0) }
+    ensures most { result ≤ 2 ^ 34 }
+{
+    if cache.order() == k {
+        u64::from(row.full) + u64::from(row.partial) + u64::from(row.empty)
+    } else {
+        0
+    }
+}
+
+/// How many frames the empty slabs have that the report told: those of the cache of the number `only`, or those of all.
+pub(crate) fn empty_frames(held: &Held, report: &Report, only: Option<u32>) -> u64
+    ensures { result ≡ empty_frames (λ n. option_map_or (λ number. n == number) only true) held.now report.now }
+{
+    sum_empty(held.caches(), report.caches.as_slice(), only)
+}
+
+#[tactic(auto, using(crate::proofs::Sums::one_more_pair))]
+fn sum_empty(caches: &[HeldCache], rows: &[CacheRow], only: Option<u32>) -> u64
+    requires { length rows.now ≤ CACHES }
+    ensures { result ≡ sum_by (λ p. if option_map_or (λ number. p.0.number == number) only true then p.1.empty * 2 ^ p.0.order else 0)
+        (zip caches.now rows.now) }
+{
+    let mut frames = 0u64;
+    for (cache, row) in caches.iter().zip(rows) {
+        frames += empty_in(cache, row, only);
+    }
+    frames
+}
+
+/// How many frames the empty slabs of the cache have, if it is asked for.
+fn empty_in(cache: &HeldCache, row: &CacheRow, only: Option<u32>) -> u64
+    ensures value { result
+        ≡ (if option_map_or (λ number. cache.now.number == number) only true then row.now.empty * 2 ^ cache.now.order else 0) }
+    ensures most { result ≤ 2 ^ 40 }
+{
+    if is_asked(cache, only) {
+        frames_in(row.empty, cache.order())
+    } else {
+        0
+    }
+}
+
+/// Whether the cache is the one of the number `only`, or any.
+fn is_asked(cache: &HeldCache, only: Option<u32>) -> bool
+    ensures { result ≡ option_map_or (λ number. cache.now.number == number) only true }
+{
+    match only {
+        Some(number) => u32::from(cache.number()) == number,
+        None => true,
+    }
+}
