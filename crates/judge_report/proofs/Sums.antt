@@ -1,5 +1,5 @@
 -- Sums over the rows of a report, a row at a time.
-use Rattle.std.proofs.Common.{◌≡◌, ℕ, suc, ◌+◌, ◌*◌, ◌^◌, ◌<◌, ◌≤◌, List, take, drop, get_or, length, refl, ap, sym, ◌∙◌, min, arith}
+use Rattle.std.proofs.Common.{◌≡◌, ℕ, suc, ◌+◌, ◌*◌, ◌^◌, ◌<◌, ◌≤◌, List, take, drop, get_or, length, ap, sym, ◌∙◌, min, arith}
 use Rattle.std.proofs.Math.Nat.{pow-succ', mul_assoc, mul_comm, mul-add, mul-zero}
 use Rattle.std.proofs.lemmas.List.{at_drop_more, at_drop_all, take_all}
 use Rattle.std.proofs.lemmas.List.Sums.{sum_by_more}

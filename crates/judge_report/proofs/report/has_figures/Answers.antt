@@ -1,4 +1,4 @@
-use Rattle.std.proofs.Common.{◌≡◌, ◌+◌, ◌*◌, ◌^◌, ◌==◌, false, [], ◌∷◌, ◌∙◌, map, drop, length}
+use Rattle.std.proofs.Common.{◌+◌, ◌*◌, ◌^◌, ◌==◌, false, [], ◌∷◌, ◌∙◌, map, drop, length}
 use Rattle.std.specs.Prelude.{nat_le, slice_index, slice_index_or}
 use Rattle.std.specs.List.{list_all, range_with_len, zip}
 use Rattle.std.specs.Option.{option_eq}
