@@ -8,6 +8,7 @@ pub mod TreeChanges
 pub mod TreeSteps
 pub mod TreeSearch
 pub mod TreeSlots
+pub mod RootOrders
 pub mod Counting
 pub mod BlockSteps
 pub mod TenantCounts

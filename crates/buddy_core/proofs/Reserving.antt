@@ -25,6 +25,7 @@ use Rattle.buddy_core.proofs.TenantCounts.{held_slot, table_size, count_set, tak
 use Rattle.model_core.proofs.Counting.{bit}
 use Rattle.buddy_core.proofs.Counting.{count_some, count_found, frame_below, free_balance, whole_counts}
 use Rattle.buddy_core.proofs.TreeSlots.{root_tells, least_free, less_in_slot, same_elsewhere}
+use Rattle.buddy_core.proofs.RootOrders.{word_after}
 use Rattle.buddy_core.proofs.BlockSteps.{IsStep, changed}
 
 -- a superblock and a tenant before and after: order k is taken at frame x out of a free block of order j
@@ -203,3 +204,12 @@ module _ {top : ℕ} {superblocks : List StoredSuperblock} {tenants : List Store
       words : (large small : ℕ → Bool) → Shows top large (superblock_of p.superblock superblocks).tree.words → IsOpen large top p.order (number_at p.order x) → IsLess small large k x → Shows top small s.tree.words
       words = subst (λ n. (large small : ℕ → Bool) → Shows n large (superblock_of p.superblock superblocks).tree.words → IsOpen large n p.order (number_at p.order x) → IsLess small large k x → Shows n small s.tree.words)
           (kept.order p.superblock superblock_lt) r.words
+
+  -- which orders of free blocks the superblock has then: those from before, and those of the halves
+  pub reserved_orders : (s : StoredSuperblock) (after : StoredTenant) → Reserved p.order k x (superblock_of p.superblock superblocks) (stored_tenant t tenants) s after
+      → (i : ℕ) → bit_at (slice_index s.tree.words 0) i ≡ 1 → (bit_at (slice_index (superblock_of p.superblock superblocks).tree.words 0) i ≡ 1) ⊎ ((k ≤ i) × (i < p.order))
+  reserved_orders s after r =
+      word_after top k p.order x (λ y. is_available top held taken (p.slot * 2 ^ top + y)) (λ y. is_available top held (changed taken (p.slot * 2 ^ top + x) (Some k)) (p.slot * 2 ^ top + y))
+      found.source.enough found.least.0
+      (less_in_slot (is_available top held taken) (is_available top held (changed taken (p.slot * 2 ^ top + x) (Some k))) top p.slot x k p.order out)
+      (superblock_of p.superblock superblocks).tree.words s.tree.words (mine.shows p.slot p.superblock found.source.at) (reserved_step s after r).shows

@@ -1,13 +1,13 @@
--- Which orders of free blocks the slots of a tenant may have: a word for each band of slots.
+-- Which bands of a tenant's slots may have free blocks of an order: a word for each order, a bit for each band.
 use Rattle.std.specs.Prelude.{◌≡◌, ℕ, ◌/◌, Option, Some, None, List, [], length, slice_index, slice_index_or}
 use Rattle.std.specs.Int.{bit_at}
 use Rattle.buddy_core.specs.declared.bands.TheConstants.{BAND}
 use Rattle.buddy_core.specs.Roots.{HasBit}
 use Rattle.buddy_core.specs.Stored.{StoredSuperblock, StoredTenant, stored_tenant}
 
--- bit j of a band's word is 1 wherever a superblock under a slot of the band has a free block of order j
+-- the bit of a band is 1 in the word of order j wherever a superblock under a slot of the band has a free block of that order
 abbrev pub IsBounded : List StoredSuperblock → List (Option ℕ) → List ℕ → Type 0
-IsBounded superblocks slots words = (j u m : ℕ) → slice_index_or slots u None ≡ Some m → HasBit superblocks m j → bit_at (slice_index words (u / BAND)) j ≡ 1
+IsBounded superblocks slots words = (j u m : ℕ) → slice_index_or slots u None ≡ Some m → HasBit superblocks m j → bit_at (slice_index words j) (u / BAND) ≡ 1
 
 -- so it is for each tenant
 pub record AreBounded (superblocks : List StoredSuperblock) (tenants : List StoredTenant) (bands : List (List ℕ)) : Type 0 where

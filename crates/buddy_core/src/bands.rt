@@ -1,73 +1,99 @@
 //! Which slots of a tenant a search may pass over.
 
-ghost use Rattle.std.specs.Prelude.{◌≡◌, ℕ, ◌/◌, ◌<◌, ◌↔◌, IsTrue, IfOk, replicate, slice_index};
+ghost use Rattle.std.specs.Prelude.{◌≡◌, ◌≢◌, ℕ, ◌/◌, ◌<◌, ◌≤◌, replicate, slice_index, MatchOption};
 ghost use Rattle.std.specs.Int.{bit_at};
 ghost use Rattle.model_core.specs.declared.limits.TheConstants.{MOST_SUPERBLOCKS};
 
-use crate::tree::has;
-use std::alloc::{AllocError, Global};
 use std::marker::Model;
 
 /// So many slots that follow one another are a band.
 pub const BAND: usize = 16;
 
-/// So many bands have all slots of a tenant.
+/// So many bands have all slots of a tenant: a bit of a word for each.
 pub const BANDS: usize = 16;
 
-/// The orders of the free blocks that each band of a tenant's slots may have, a bit for each order. A bit stays 1 after the last
+/// Orders are below this number.
+pub const ORDERS: usize = 16;
+
+/// For each order the bands of a tenant's slots that may have a free block of it, a bit for each band. A bit stays 1 after the last
 /// such block went, until a search finds none.
 #[derive(Debug, Drop)]
 pub struct Bands {
-    words: Vec<u16>,
+    words: [u16; ORDERS],
 }
 
 impl Model for Bands {
-    ghost use Rattle.std.specs.Prelude.{◌≡◌, ℕ, List, length};
+    ghost use Rattle.std.specs.Prelude.{ℕ, List};
 
     ghost Value = { List ℕ };
 
-    ghost view = { λ a. a.words.items };
+    ghost view = { λ a. a.words };
+}
 
-    ghost use Rattle.buddy_core.specs.declared.bands.TheConstants.{BANDS};
-
-    ghost invariant = { λ a. length a.words.items ≡ BANDS };
+/// The place of the lowest 1.
+fn lowest(word: u16) -> usize
+    requires { word ≢ 0 }
+    ensures bound { result < 16 }
+    ensures set { bit_at word result ≡ 1 }
+    ensures below { (b : ℕ) → b < result → bit_at word b ≡ 1 → ⊥ }
+{
+    word.trailing_zeros() as usize
 }
 
 impl Bands {
     /// No band has a free block.
-    pub fn new(alloc: Global) -> Result<Bands, AllocError>
-        ensures { IfOk result (λ b. b ≡ replicate BANDS 0) }
+    pub fn new() -> Bands
+        ensures { result ≡ replicate ORDERS 0 }
     {
-        let words = vec![in alloc; 0; BANDS]?;
-        Ok(Bands { words })
+        Bands { words: [0; ORDERS] }
     }
 
-    /// Whether a slot of the band may have a free block of `order`.
-    pub fn may_have(&self, band: usize, order: u8) -> bool
-        requires band { band < BANDS }
-        requires order { order < 16 }
-        ensures { IsTrue result ↔ (bit_at (slice_index self.now band) order ≡ 1) }
+    /// The first band of which a slot may have a free block of `order`.
+    pub fn first(&self, order: u8) -> Option<usize>
+        requires { order < ORDERS }
+        ensures { MatchOption result ((b : ℕ) → bit_at (slice_index self.now order) b ≡ 1 → ⊥)
+            (λ band. (band < BANDS) × (bit_at (slice_index self.now order) band ≡ 1)
+            × ((b : ℕ) → b < band → bit_at (slice_index self.now order) b ≡ 1 → ⊥)) }
     {
-        has(self.words[band], order)
+        let word = self.words[order as usize];
+        if word == 0 {
+            return None;
+        }
+        Some(lowest(word))
     }
 
-    /// The superblock under `slot` has free blocks of the orders that `root` tells.
-    pub fn note(&mut self, slot: u32, root: u16)
-        requires { slot < MOST_SUPERBLOCKS }
-        ensures noted { (j : ℕ) → bit_at root j ≡ 1 → bit_at (slice_index self.new (slot / BAND)) j ≡ 1 }
-        ensures kept { (b j : ℕ) → bit_at (slice_index self.old b) j ≡ 1 → bit_at (slice_index self.new b) j ≡ 1 }
+    /// A free block of `order` is in the superblock under `slot`.
+    pub fn note(&mut self, slot: u32, order: u8)
+        requires slot { slot < MOST_SUPERBLOCKS }
+        requires order { order < ORDERS }
+        ensures noted { bit_at (slice_index self.new order) (slot / BAND) ≡ 1 }
+        ensures kept { (j b : ℕ) → bit_at (slice_index self.old j) b ≡ 1 → bit_at (slice_index self.new j) b ≡ 1 }
     {
-        self.words[slot as usize / BAND] |= root;
+        self.words[order as usize] |= 1 << (slot as usize / BAND);
+    }
+
+    /// Free blocks of the orders from `from` up to `to`, without `to`, are in the superblock under `slot`.
+    pub fn note_halves(&mut self, slot: u32, from: u8, to: u8)
+        requires slot { slot < MOST_SUPERBLOCKS }
+        requires orders { to ≤ ORDERS }
+        ensures noted { (j : ℕ) → from ≤ j → j < to → bit_at (slice_index self.new j) (slot / BAND) ≡ 1 }
+        ensures kept { (j b : ℕ) → bit_at (slice_index self.old j) b ≡ 1 → bit_at (slice_index self.new j) b ≡ 1 }
+    {
+        for order in from..to {
+            self.note(slot, order);
+        }
     }
 
     /// No slot of the band has a free block of `order`.
     pub fn strike(&mut self, band: usize, order: u8)
         requires band { band < BANDS }
-        requires order { order < 16 }
-        ensures { (b j : ℕ) → (b ≡ band → j ≡ order → ⊥) → bit_at (slice_index self.old b) j ≡ 1
-            → bit_at (slice_index self.new b) j ≡ 1 }
+        requires order { order < ORDERS }
+        ensures struck { bit_at (slice_index self.new order) band ≡ 1 → ⊥ }
+        ensures fewer { (j b : ℕ) → bit_at (slice_index self.new j) b ≡ 1 → bit_at (slice_index self.old j) b ≡ 1 }
+        ensures kept { (j b : ℕ) → (j ≡ order → b ≡ band → ⊥) → bit_at (slice_index self.old j) b ≡ 1
+            → bit_at (slice_index self.new j) b ≡ 1 }
     {
-        let word = self.words[band];
-        self.words[band] = word & !(1 << order);
+        let word = self.words[order as usize];
+        self.words[order as usize] = word & !(1 << band);
     }
 }

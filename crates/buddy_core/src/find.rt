@@ -31,13 +31,12 @@ pub fn find(superblocks: &[Superblock], tenant: &Tenant, bands: &mut Bands, k: u
 {
     let order = tenant.least_free(k)?;
     let slots = tenant.held();
-    for band in 0..BANDS {
-        if bands.may_have(band, order) {
-            if let Some(source) = first_in(superblocks, slots, band, order) {
-                return Some(source);
-            }
-            bands.strike(band, order);
+    for _look in 0..BANDS {
+        let band = bands.first(order)?;
+        if let Some(source) = first_in(superblocks, slots, band, order) {
+            return Some(source);
         }
+        bands.strike(band, order);
     }
     None
 }

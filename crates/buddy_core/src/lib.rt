@@ -69,7 +69,7 @@ impl Buddy {
         let mut bands = Vec::new(alloc);
         for _tenant in 0..tenants {
             all_tenants.push(Tenant::new(alloc, order, superblocks)?)?;
-            bands.push(Bands::new(alloc)?)?;
+            bands.push(Bands::new())?;
         }
         let mut all_superblocks = Vec::new(alloc);
         for _superblock in 0..superblocks {
@@ -122,9 +122,8 @@ impl Buddy {
         ensures { self.new ≡ with_holding t (with_slot slot m (holding_of t self.old)) self.old }
     {
         let order = self.order;
-        let superblock = &mut self.superblocks[m as usize];
-        superblock.fill();
-        self.bands[t as usize].note(u32::from(slot), superblock.tree().root());
+        self.superblocks[m as usize].fill();
+        self.bands[t as usize].note(u32::from(slot), order);
         self.tenants[t as usize].add_slot(slot, m, order);
     }
 
@@ -198,7 +197,7 @@ impl Buddy {
         let first = superblock.tree().search(source.order);
         superblock.reserve_at(first, source.order, k);
         let slot = u32::from(source.slot);
-        bands.note(slot, superblock.tree().root());
+        bands.note_halves(slot, k, source.order);
         self.tenants[t as usize].count_reserved(source.order, k);
         Some((slot << self.order) + first)
     }
@@ -216,8 +215,7 @@ impl Buddy {
         let k = self.superblocks[m as usize].order_at(first)?;
         let joined = self.superblocks[m as usize].release_at(first, k);
         self.tenants[t as usize].count_released(k, joined);
-        let root = self.superblocks[m as usize].tree().root();
-        self.bands[t as usize].note(frame >> self.order, root);
+        self.bands[t as usize].note(frame >> self.order, joined);
         Some(k)
     }
 

@@ -148,7 +148,7 @@ impl Tree {
     }
 
     /// Writes the words of the blocks around the one of `order` that has frame `first`, each from those of its halves. Where
-    /// a word stays, all above it stay. The caller knows the node of that block; `first` is named for the contract alone.
+    /// a word stays, all above it stay. The caller knows the node of that block; `first` and `order` are named for the contract.
     #[inline(always)]
     fn climb(&mut self, mut node: usize, first: u32, order: u8)
         requires order { order ≤ self.old.order }
@@ -159,16 +159,17 @@ impl Tree {
             → IsConfined self.old.order order first old new → Shows self.old.order new self.new.words }
     {
         let _ = first;
-        let top = self.order;
+        let mut level = order;
         let words: &mut [u16] = &mut self.words;
         let mut word = words[node - 1];
-        for _level in order..top {
+        while node > 1 {
             word |= words[sibling(node) - 1];
             node /= 2;
             if words[node - 1] == word {
                 return;
             }
             words[node - 1] = word;
+            level += 1;
         }
     }
 

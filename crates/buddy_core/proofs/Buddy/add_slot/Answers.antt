@@ -1,4 +1,4 @@
-use Rattle.std.proofs.Common.{◌≡◌, sym, ◌∙◌, ap, subst, true, ℕ, ◌+◌, ◌/◌, ◌^◌, ◌<◌, List, [], Some, None, get_or, set, length, arith}
+use Rattle.std.proofs.Common.{◌≡◌, refl, sym, ◌∙◌, ap, subst, true, ℕ, ◌+◌, ◌/◌, ◌^◌, ◌<◌, List, [], Some, None, get_or, set, length, arith}
 use Rattle.std.specs.Int.{bit_at}
 use Rattle.std.specs.Prelude.{slice_index}
 use Rattle.std.proofs.lemmas.List.{get_or_read, get_or-set_same, get_or-set_other}
@@ -12,13 +12,16 @@ use Rattle.buddy_core.proofs.TenantCounts.{room}
 use Rattle.buddy_core.proofs.TenantChanged.{kept_changed, shown_changed}
 use Rattle.buddy_core.proofs.Granting.{grant_change, grant_holding}
 use Rattle.buddy_core.proofs.Bounding.{bounded_noted}
+use Rattle.buddy_core.proofs.TreeOrders.{orders_clear, bit_apart}
+use Rattle.buddy_core.proofs.TreeSearch.{first_word}
+use Rattle.model_core.proofs.Halves.{clear_from}
 use Rattle.buddy_core.proofs.Buddy.add_slot.Goals as goal
 
 pub add_slot-requires-clause-room : goal.add_slot-requires-clause-room
 add_slot-requires-clause-room c =
     let a = c.self.inside in
     let s = shown_is a.order a.superblocks.items a.tenants.items c.args.t c.args.self.now c.self.view_is c.requires.tenant in
-    let tenant = get_or_read a.tenants.items c.args.t c.index_mut-2.result.now s.listed c.index_mut-2.ensures.value blank_of in
+    let tenant = get_or_read a.tenants.items c.args.t c.index_mut-3.result.now s.listed c.index_mut-3.ensures.value blank_of in
     subst (λ (r : StoredTenant). slice_index r.free a.order + 1 < 2 ^ 32) (sym tenant) (room a.order a.superblocks.items a.tenants.items c.self.invariant.0 c.args.t s.listed a.order).0
 
 -- the tenant as the code leaves it
@@ -36,26 +39,27 @@ invariant_of-self c =
     let at = slot_at a.order a.superblocks.items a.tenants.items c.args.self.now c.self.view_is in
     let slot_lt : c.args.slot < length a.superblocks.items = subst (λ n. c.args.slot < n) s.count c.requires.slot in
     let m_lt : c.args.m < length a.superblocks.items = subst (λ n. c.args.m < n) s.count c.requires.superblock in
-    let tenant = get_or_read a.tenants.items c.args.t c.index_mut-2.result.now s.listed c.index_mut-2.ensures.value blank_of in
-    let superblock = get_or_read a.superblocks.items c.args.m c.index_mut-superblock.result.now m_lt c.index_mut-superblock.ensures.value bare_of in
+    let tenant = get_or_read a.tenants.items c.args.t c.index_mut-3.result.now s.listed c.index_mut-3.ensures.value blank_of in
+    let superblock = get_or_read a.superblocks.items c.args.m c.index_mut.result.now m_lt c.index_mut.ensures.value bare_of in
     let order = c.fill.ensures.order ∙ ap (λ (z : StoredSuperblock). z.tree.order) superblock in
     let orders = c.fill.ensures.orders ∙ ap (λ (z : StoredSuperblock). z.orders) superblock in
     let words = subst (λ n. Shows n (λ _. true) c.fill.new.self.tree.words) (ap (λ (z : StoredSuperblock). z.tree.order) superblock ∙ c.self.invariant.0.order c.args.m m_lt) c.fill.ensures.words in
-    let written = tenant_written c.index_mut-2.result.now (stored_tenant c.args.t a.tenants.items) c.args.slot c.args.m a.order c.add_slot.new.self tenant c.add_slot.ensures in
+    let written = tenant_written c.index_mut-3.result.now (stored_tenant c.args.t a.tenants.items) c.args.slot c.args.m a.order c.add_slot.new.self tenant c.add_slot.ensures in
     let kept = subst (λ (r : StoredTenant). IsKept a.order (set a.superblocks.items c.args.m c.fill.new.self) (set a.tenants.items c.args.t r)) (sym written)
     (kept_changed a.order a.superblocks.items a.tenants.items c.args.t c.args.m c.fill.new.self _ c.self.invariant.0
     (grant_change a.order a.superblocks.items a.tenants.items c.self.invariant.0 c.args.t s.listed c.args.slot c.args.m slot_lt m_lt (sym (at c.args.t c.args.slot) ∙ c.requires.free)
     (λ v w there. c.requires.unused v w (at v w ∙ there)) c.fill.new.self order orders words)) in
     let slots = (stored_tenant c.args.t a.tenants.items).slots in
     let inside : c.args.slot < length slots = subst (λ n. c.args.slot < n) (sym (c.self.invariant.0.each c.args.t s.listed).sizes.slots) slot_lt in
-    let band = get_or_read a.bands.items c.args.t c.index_mut.result.now (let size = c.self.invariant.1.size in let lt = s.listed in omega arith) c.index_mut.ensures.value [] in
-    let root = c.root.ensures ∙ ap (λ (z : StoredTree). slice_index z.words 0) c.tree.ensures in (
+    let band = get_or_read a.bands.items c.args.t c.index_mut-2.result.now (let size = c.self.invariant.1.size in let lt = s.listed in omega arith) c.index_mut-2.ensures.value [] in
+    let root = first_word (λ _. true) a.order c.fill.new.self.tree.words words ∙ orders_clear (λ _. true) a.order 0 (clear_from (λ _. true) a.order 0 (λ x h. refl)) in (
       kept,
       bounded_noted c.self.invariant.1 a.order c.args.m c.args.t c.args.slot c.fill.new.self c.add_slot.new.self c.note.new.self s.listed m_lt kept
           (ap (λ (r : StoredTenant). get_or r.slots c.args.slot None) written ∙ get_or-set_same slots c.args.slot (Some c.args.m) None inside)
           (λ u ne. ap (λ (r : StoredTenant). get_or r.slots u None) written ∙ get_or-set_other slots c.args.slot u (Some c.args.m) None ne)
-          (λ j bit. ap (λ n. bit_at (get_or c.note.new.self (n / 16) 0) j) (sym c.from.ensures) ∙ c.note.ensures.noted j (ap (λ w. bit_at w j) root ∙ bit))
-          c.index_mut.result.now (subst (λ (ws : List ℕ). IsBounded a.superblocks.items slots ws) (sym band) (c.self.invariant.1.each c.args.t)) c.note.ensures.kept,
+          (λ j bit. subst (λ i. bit_at (slice_index c.note.new.self i) (c.args.slot / 16) ≡ 1) (sym (bit_apart a.order j (ap (λ w. bit_at w j) (sym root) ∙ bit)))
+          (subst (λ n. bit_at (slice_index c.note.new.self a.order) (n / 16) ≡ 1) c.from.ensures c.note.ensures.noted))
+          c.index_mut-2.result.now (subst (λ (ws : List ℕ). IsBounded a.superblocks.items slots ws) (sym band) (c.self.invariant.1.each c.args.t)) c.note.ensures.kept,
     )
 
 pub returns : goal.returns
@@ -65,12 +69,12 @@ returns c =
     let at = slot_at a.order a.superblocks.items a.tenants.items c.args.self.now c.self.view_is in
     let slot_lt : c.args.slot < length a.superblocks.items = subst (λ n. c.args.slot < n) s.count c.requires.slot in
     let m_lt : c.args.m < length a.superblocks.items = subst (λ n. c.args.m < n) s.count c.requires.superblock in
-    let tenant = get_or_read a.tenants.items c.args.t c.index_mut-2.result.now s.listed c.index_mut-2.ensures.value blank_of in
-    let superblock = get_or_read a.superblocks.items c.args.m c.index_mut-superblock.result.now m_lt c.index_mut-superblock.ensures.value bare_of in
+    let tenant = get_or_read a.tenants.items c.args.t c.index_mut-3.result.now s.listed c.index_mut-3.ensures.value blank_of in
+    let superblock = get_or_read a.superblocks.items c.args.m c.index_mut.result.now m_lt c.index_mut.ensures.value bare_of in
     let order = c.fill.ensures.order ∙ ap (λ (z : StoredSuperblock). z.tree.order) superblock in
     let orders = c.fill.ensures.orders ∙ ap (λ (z : StoredSuperblock). z.orders) superblock in
     let words = subst (λ n. Shows n (λ _. true) c.fill.new.self.tree.words) (ap (λ (z : StoredSuperblock). z.tree.order) superblock ∙ c.self.invariant.0.order c.args.m m_lt) c.fill.ensures.words in
-    let written = tenant_written c.index_mut-2.result.now (stored_tenant c.args.t a.tenants.items) c.args.slot c.args.m a.order c.add_slot.new.self tenant c.add_slot.ensures in
+    let written = tenant_written c.index_mut-3.result.now (stored_tenant c.args.t a.tenants.items) c.args.slot c.args.m a.order c.add_slot.new.self tenant c.add_slot.ensures in
     let empty = sym (at c.args.t c.args.slot) ∙ c.requires.free in
     let change = grant_change a.order a.superblocks.items a.tenants.items c.self.invariant.0 c.args.t s.listed c.args.slot c.args.m slot_lt m_lt empty
     (λ v w there. c.requires.unused v w (at v w ∙ there)) c.fill.new.self order orders words in

@@ -1,4 +1,4 @@
-use Rattle.std.proofs.Common.{◌≡◌, refl, sym, ◌∙◌, ap, subst, ℕ, ◌+◌, ◌*◌, ◌/◌, ◌%◌, ◌^◌, ◌<◌, List, [], Option, Some, None, length, get_or, set, length-set, arith}
+use Rattle.std.proofs.Common.{inl, inr, ◌≡◌, refl, sym, ◌∙◌, ap, subst, ℕ, ◌+◌, ◌*◌, ◌/◌, ◌%◌, ◌^◌, ◌<◌, List, [], Option, Some, None, length, get_or, set, length-set, arith}
 use Rattle.std.specs.Int.{bit_at}
 use Rattle.std.specs.Prelude.{slice_index}
 use Rattle.std.proofs.lemmas.Nat.{pow_pos, mod_below}
@@ -11,7 +11,7 @@ use Rattle.buddy_core.proofs.ContentShown.{IsShown, shown_is, slot_read, size_is
 use Rattle.buddy_core.proofs.TenantCounts.{room, slot_small}
 use Rattle.buddy_core.proofs.TenantChanged.{kept_changed, shown_changed}
 use Rattle.buddy_core.proofs.BlockSteps.{IsStep, step_change, holding_now}
-use Rattle.buddy_core.proofs.Releasing.{IsAt, begins_at, at_frame, superblock_lt, order_le, Released, joined_order, joined_is, joined_le, rises, some_taken, some_buddies, released_step}
+use Rattle.buddy_core.proofs.Releasing.{released_orders, IsAt, begins_at, at_frame, superblock_lt, order_le, Released, joined_order, joined_is, joined_le, rises, some_taken, some_buddies, released_step}
 use Rattle.buddy_core.proofs.Bounding.{bounded_noted}
 use Rattle.buddy_core.proofs.Buddy.release.Goals as goal
 use Rattle.buddy_core.proofs.Buddy.release.Goals.{In_ok-m, In_ok-k, After-release_at-joined, After-index_mut-2, After-count_released}
@@ -140,12 +140,12 @@ count_released-requires-clause-room c =
     subst HasRoomForCounts (sym (tenant_read g.After-index_mut-2 at.listed)) (room a.order a.superblocks.items a.tenants.items c.self.invariant.0 c.args.t at.listed)
 
 -- what is written is the release of that block
-released : (c : After-count_released)
+release : (c : After-count_released)
     → (at : IsAt c.self.inside.order c.self.inside.superblocks.items c.self.inside.tenants.items c.args.t c.args.frame c.in_ok-k.k c.in_ok-m.m (c.args.frame % (1 * 2 ^ c.self.inside.order % 4294967296)))
     → c.release_at-joined.result ≡ joined_order c.self.invariant.0 at → c.index_mut-2.result.now ≡ stored_tenant c.args.t c.self.inside.tenants.items
-    → IsStep c.self.inside.order c.self.inside.superblocks.items c.self.inside.tenants.items c.args.t (c.args.frame / 2 ^ c.self.inside.order) c.in_ok-m.m
-    (c.args.frame % (1 * 2 ^ c.self.inside.order % 4294967296)) c.release_at-joined.new.self c.count_released.new.self None
-released c at order tenant =
+    → Released (joined_order c.self.invariant.0 at) c.in_ok-k.k (c.args.frame % (1 * 2 ^ c.self.inside.order % 4294967296)) (superblock_of c.in_ok-m.m c.self.inside.superblocks.items)
+    (stored_tenant c.args.t c.self.inside.tenants.items) c.release_at-joined.new.self c.count_released.new.self
+release c at order tenant =
     let a = c.self.inside in
     let x = c.args.frame % (1 * 2 ^ a.order % 4294967296) in
     let superblock = get_or_read a.superblocks.items c.in_ok-m.m c.index_mut.result.now (superblock_lt c.self.invariant.0 at) c.index_mut.ensures.value bare_of in
@@ -156,10 +156,16 @@ released c at order tenant =
       words = c.release_at-joined.ensures.words;
       counts = c.count_released.ensures;
     } in
-    released_step c.self.invariant.0 at c.release_at-joined.new.self c.count_released.new.self
-    (subst (λ n. Released n c.in_ok-k.k x (superblock_of c.in_ok-m.m a.superblocks.items) (stored_tenant c.args.t a.tenants.items) c.release_at-joined.new.self c.count_released.new.self) order
+    subst (λ n. Released n c.in_ok-k.k x (superblock_of c.in_ok-m.m a.superblocks.items) (stored_tenant c.args.t a.tenants.items) c.release_at-joined.new.self c.count_released.new.self) order
     (subst (λ (r : StoredTenant). Released c.release_at-joined.result c.in_ok-k.k x (superblock_of c.in_ok-m.m a.superblocks.items) r c.release_at-joined.new.self c.count_released.new.self) tenant
-    (subst (λ (z : StoredSuperblock). Released c.release_at-joined.result c.in_ok-k.k x z c.index_mut-2.result.now c.release_at-joined.new.self c.count_released.new.self) superblock change)))
+    (subst (λ (z : StoredSuperblock). Released c.release_at-joined.result c.in_ok-k.k x z c.index_mut-2.result.now c.release_at-joined.new.self c.count_released.new.self) superblock change))
+
+released : (c : After-count_released)
+    → (at : IsAt c.self.inside.order c.self.inside.superblocks.items c.self.inside.tenants.items c.args.t c.args.frame c.in_ok-k.k c.in_ok-m.m (c.args.frame % (1 * 2 ^ c.self.inside.order % 4294967296)))
+    → c.release_at-joined.result ≡ joined_order c.self.invariant.0 at → c.index_mut-2.result.now ≡ stored_tenant c.args.t c.self.inside.tenants.items
+    → IsStep c.self.inside.order c.self.inside.superblocks.items c.self.inside.tenants.items c.args.t (c.args.frame / 2 ^ c.self.inside.order) c.in_ok-m.m
+    (c.args.frame % (1 * 2 ^ c.self.inside.order % 4294967296)) c.release_at-joined.new.self c.count_released.new.self None
+released c at order tenant = released_step c.self.invariant.0 at c.release_at-joined.new.self c.count_released.new.self (release c at order tenant)
 
 pub invariant_of-self : goal.invariant_of-self
 invariant_of-self c =
@@ -171,21 +177,34 @@ invariant_of-self c =
     (step_change a.order a.superblocks.items a.tenants.items c.args.t (c.args.frame / 2 ^ a.order) c.in_ok-m.m (c.args.frame % (1 * 2 ^ a.order % 4294967296)) c.release_at-joined.new.self c.count_released.new.self None c.self.invariant.0 step) in
     let m_lt = superblock_lt c.self.invariant.0 at in
     let band = get_or_read a.bands.items c.args.t c.index_mut-3.result.now (let size = c.self.invariant.1.size in let lt = at.listed in omega arith) c.index_mut-3.ensures.value [] in
-    let superblock = get_or_read (set a.superblocks.items c.in_ok-m.m c.release_at-joined.new.self) c.in_ok-m.m c.index-3.result.now (subst (λ n. c.in_ok-m.m < n) (sym (length-set a.superblocks.items c.in_ok-m.m c.release_at-joined.new.self)) m_lt) c.index-3.ensures bare_of
-    ∙ get_or-set_same a.superblocks.items c.in_ok-m.m c.release_at-joined.new.self bare_of m_lt in
-    let root = c.root-root.ensures ∙ ap (λ (z : StoredTree). slice_index z.words 0) (c.tree.ensures ∙ ap (λ (z : StoredSuperblock). z.tree) superblock) in (
+    let told = subst (λ (ws : List ℕ). IsBounded a.superblocks.items (stored_tenant c.args.t a.tenants.items).slots ws) (sym band) (c.self.invariant.1.each c.args.t) in
+    let order = joined g.After-release_at-joined at in
+    let orders = released_orders c.self.invariant.0 at c.release_at-joined.new.self c.count_released.new.self (release g.After-count_released at order (tenant_read g.After-index_mut-2 at.listed)) in
+    let band_of = c.args.frame / 2 ^ a.order / 16 in (
       kept,
       bounded_noted c.self.invariant.1 a.order c.in_ok-m.m c.args.t (c.args.frame / 2 ^ a.order) c.release_at-joined.new.self c.count_released.new.self c.note.new.self at.listed m_lt kept
           (ap (λ (ss : List (Option ℕ)). get_or ss (c.args.frame / 2 ^ a.order) None) step.slots ∙ at.slot) (λ u ne. ap (λ (ss : List (Option ℕ)). get_or ss u None) step.slots)
-          (λ j bit. c.note.ensures.noted j (ap (λ w. bit_at w j) root ∙ bit))
-          c.index_mut-3.result.now (subst (λ (ws : List ℕ). IsBounded a.superblocks.items (stored_tenant c.args.t a.tenants.items).slots ws) (sym band) (c.self.invariant.1.each c.args.t)) c.note.ensures.kept,
+          (λ j bit. elim (orders j bit) [
+            | inl e ↦ subst (λ n. bit_at (slice_index c.note.new.self n) band_of ≡ 1) (order ∙ sym e) c.note.ensures.noted
+            | inr was ↦ c.note.ensures.kept j band_of (told j (c.args.frame / 2 ^ a.order) c.in_ok-m.m at.slot was)
+          ])
+          c.index_mut-3.result.now told c.note.ensures.kept,
     )
 
-pub note-requires : goal.note-requires
-note-requires c =
+pub note-requires-clause-slot : goal.note-requires-clause-slot
+note-requires-clause-slot c =
     let a = c.self.inside in
-    let g = goal.at.note-requires c in
+    let g = goal.at.note-requires-clause-slot c in
     slot_small a.order a.superblocks.items a.tenants.items c.self.invariant.0 c.args.t (shown g.In_ok-m).listed (c.args.frame / 2 ^ a.order) c.in_ok-m.m (under g.In_ok-m)
+
+pub note-requires-clause-order : goal.note-requires-clause-order
+note-requires-clause-order c =
+    let g = goal.at.note-requires-clause-order c in
+    let at = block_at g.In_ok-k (shown g.In_ok-m) (c.in_ok-k.ensures ∙ begins g.In_ok-m c.index-2.result.now c.index-2.ensures) in
+    let is = joined g.After-release_at-joined at in
+    let le = joined_le c.self.invariant.0 at in
+    let small = c.self.invariant.0.small in
+    omega arith
 
 pub returns-clause-done : goal.returns-clause-done
 returns-clause-done c =

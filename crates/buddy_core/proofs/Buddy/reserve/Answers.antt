@@ -1,4 +1,4 @@
-use Rattle.std.proofs.Common.{◌≡◌, sym, ◌∙◌, ap, subst, ℕ, ◌+◌, ◌*◌, ◌/◌, ◌%◌, ◌^◌, ◌<◌, ◌≤◌, Option, Some, None, List, [], length, get_or, arith}
+use Rattle.std.proofs.Common.{inl, inr, ◌≡◌, sym, ◌∙◌, ap, subst, ℕ, ◌+◌, ◌*◌, ◌/◌, ◌%◌, ◌^◌, ◌<◌, ◌≤◌, Option, Some, None, List, [], length, get_or, arith}
 use Rattle.std.specs.Int.{bit_at}
 use Rattle.std.specs.Prelude.{slice_index, IfNone}
 use Rattle.std.proofs.lemmas.List.{get_or_read}
@@ -14,7 +14,7 @@ use Rattle.buddy_core.proofs.ContentShown.{IsShown, shown_is, by_shown, blank_of
 use Rattle.buddy_core.proofs.TenantCounts.{room, slot_small}
 use Rattle.buddy_core.proofs.TenantChanged.{kept_changed, shown_changed}
 use Rattle.buddy_core.proofs.BlockSteps.{IsStep, step_change, holding_now}
-use Rattle.buddy_core.proofs.Reserving.{Reserved, source_at, counted, none_without, order_within, IsFound, found_at, superblock_lt, is_choice, some_free, reserved_step}
+use Rattle.buddy_core.proofs.Reserving.{reserved_orders, Reserved, source_at, counted, none_without, order_within, IsFound, found_at, superblock_lt, is_choice, some_free, reserved_step}
 use Rattle.buddy_core.proofs.Bounding.{bounded_by, bounded_noted}
 use Rattle.buddy_core.proofs.Buddy.reserve.Goals as goal
 use Rattle.buddy_core.proofs.Buddy.reserve.Goals.{After-find, After-index, After-index_mut-superblock, After-search-first, After-index_mut, After-count_reserved}
@@ -140,12 +140,12 @@ count_reserved-requires-clause-room c =
     subst HasRoomForCounts (sym (tenant_before g.After-index_mut listed)) (room a.order a.superblocks.items a.tenants.items c.self.invariant.0 c.args.t listed)
 
 -- what is written is the reservation of that block
-reserved : (c : After-count_reserved)
+reservation : (c : After-count_reserved)
     → (found : IsFound c.self.inside.order c.self.inside.superblocks.items c.self.inside.tenants.items c.args.t c.args.k c.in_ok-source.source c.search-first.result)
     → c.index_mut.result.now ≡ stored_tenant c.args.t c.self.inside.tenants.items
-    → IsStep c.self.inside.order c.self.inside.superblocks.items c.self.inside.tenants.items c.args.t c.in_ok-source.source.slot c.in_ok-source.source.superblock
-    c.search-first.result c.reserve_at.new.self c.count_reserved.new.self (Some c.args.k)
-reserved c found tenant =
+    → Reserved c.in_ok-source.source.order c.args.k c.search-first.result (superblock_of c.in_ok-source.source.superblock c.self.inside.superblocks.items)
+    (stored_tenant c.args.t c.self.inside.tenants.items) c.reserve_at.new.self c.count_reserved.new.self
+reservation c found tenant =
     let a = c.self.inside in
     let p = c.in_ok-source.source in
     let x = c.search-first.result in
@@ -157,9 +157,15 @@ reserved c found tenant =
       words = c.reserve_at.ensures.words;
       counts = c.count_reserved.ensures;
     } in
-    reserved_step c.self.invariant.0 found c.reserve_at.new.self c.count_reserved.new.self
-    (subst (λ (r : StoredTenant). Reserved p.order c.args.k x (superblock_of p.superblock a.superblocks.items) r c.reserve_at.new.self c.count_reserved.new.self) tenant
-    (subst (λ (z : StoredSuperblock). Reserved p.order c.args.k x z c.index_mut.result.now c.reserve_at.new.self c.count_reserved.new.self) superblock change))
+    subst (λ (r : StoredTenant). Reserved p.order c.args.k x (superblock_of p.superblock a.superblocks.items) r c.reserve_at.new.self c.count_reserved.new.self) tenant
+    (subst (λ (z : StoredSuperblock). Reserved p.order c.args.k x z c.index_mut.result.now c.reserve_at.new.self c.count_reserved.new.self) superblock change)
+
+reserved : (c : After-count_reserved)
+    → (found : IsFound c.self.inside.order c.self.inside.superblocks.items c.self.inside.tenants.items c.args.t c.args.k c.in_ok-source.source c.search-first.result)
+    → c.index_mut.result.now ≡ stored_tenant c.args.t c.self.inside.tenants.items
+    → IsStep c.self.inside.order c.self.inside.superblocks.items c.self.inside.tenants.items c.args.t c.in_ok-source.source.slot c.in_ok-source.source.superblock
+    c.search-first.result c.reserve_at.new.self c.count_reserved.new.self (Some c.args.k)
+reserved c found tenant = reserved_step c.self.invariant.0 found c.reserve_at.new.self c.count_reserved.new.self (reservation c found tenant)
 
 -- the words of the tenant's bands, before and after the search
 pub find-requires-clause-bounded : goal.find-requires-clause-bounded
@@ -184,14 +190,23 @@ invariant_of-self c =
     let listed = (shown g.After-index).listed in
     (c.self.invariant.0, bounded_by c.self.invariant.1 c.args.t c.find.new.bands listed (told g.After-find (tenant_read g.After-index) c.in_err-source.ensures.bounded))
 
-pub note-requires : goal.note-requires
-note-requires c =
+pub note_halves-requires-clause-slot : goal.note_halves-requires-clause-slot
+note_halves-requires-clause-slot c =
     let a = c.self.inside in
     let p = c.in_ok-source.source in
-    let g = goal.at.note-requires c in
+    let g = goal.at.note_halves-requires-clause-slot c in
     let listed = (shown g.After-index).listed in
     let small = slot_small a.order a.superblocks.items a.tenants.items c.self.invariant.0 c.args.t listed p.slot p.superblock (source g.After-index_mut-superblock (tenant_read g.After-index)).at in
     omega (arith, c.from-slot.ensures)
+
+pub note_halves-requires-clause-orders : goal.note_halves-requires-clause-orders
+note_halves-requires-clause-orders c =
+    let a = c.self.inside in
+    let g = goal.at.note_halves-requires-clause-orders c in
+    let listed = (shown g.After-index).listed in
+    let within = order_within a.order a.superblocks.items a.tenants.items c.self.invariant.0 c.args.t listed c.args.k c.in_ok-source.source (source g.After-index_mut-superblock (tenant_read g.After-index)) in
+    let small = c.self.invariant.0.small in
+    omega arith
 
 pub invariant_of-self-2 : goal.invariant_of-self-2
 invariant_of-self-2 c =
@@ -203,12 +218,16 @@ invariant_of-self-2 c =
     let step = reserved g.After-count_reserved at (tenant_before g.After-index_mut listed) in
     let kept = kept_changed a.order a.superblocks.items a.tenants.items c.args.t p.superblock c.reserve_at.new.self c.count_reserved.new.self c.self.invariant.0
     (step_change a.order a.superblocks.items a.tenants.items c.args.t p.slot p.superblock c.search-first.result c.reserve_at.new.self c.count_reserved.new.self (Some c.args.k) c.self.invariant.0 step) in
-    let root = c.root.ensures ∙ ap (λ (t : StoredTree). slice_index t.words 0) c.tree-2.ensures in (
+    let bounded = told g.After-find (tenant_read g.After-index) c.in_ok-source.ensures.bounded in
+    let orders = reserved_orders c.self.invariant.0 at c.reserve_at.new.self c.count_reserved.new.self (reservation g.After-count_reserved at (tenant_before g.After-index_mut listed)) in (
       kept,
-      bounded_noted c.self.invariant.1 a.order p.superblock c.args.t p.slot c.reserve_at.new.self c.count_reserved.new.self c.note.new.self listed (superblock_lt c.self.invariant.0 at) kept
+      bounded_noted c.self.invariant.1 a.order p.superblock c.args.t p.slot c.reserve_at.new.self c.count_reserved.new.self c.note_halves.new.self listed (superblock_lt c.self.invariant.0 at) kept
           (ap (λ (ss : List (Option ℕ)). get_or ss p.slot None) step.slots ∙ at.source.at) (λ u ne. ap (λ (ss : List (Option ℕ)). get_or ss u None) step.slots)
-          (λ j bit. ap (λ n. bit_at (get_or c.note.new.self (n / 16) 0) j) (sym c.from-slot.ensures) ∙ c.note.ensures.noted j (ap (λ w. bit_at w j) root ∙ bit))
-          c.find.new.bands (told g.After-find (tenant_read g.After-index) c.in_ok-source.ensures.bounded) c.note.ensures.kept,
+          (λ j bit. elim (orders j bit) [
+            | inl was ↦ c.note_halves.ensures.kept j (p.slot / 16) (bounded j p.slot p.superblock at.source.at was)
+            | inr half ↦ subst (λ n. bit_at (slice_index c.note_halves.new.self j) (n / 16) ≡ 1) c.from-slot.ensures (c.note_halves.ensures.noted j half.0 half.1)
+          ])
+          c.find.new.bands bounded c.note_halves.ensures.kept,
     )
 
 pub overflow_add-result : goal.overflow_add-result

@@ -5,7 +5,6 @@ use Rattle.std.proofs.lemmas.Bool.{cases_lt, false≢true}
 use Rattle.buddy_core.specs.Roots.{HasBit, IsWithoutOrder, IsSource}
 use Rattle.buddy_core.proofs.ContentShown.{slot_within}
 use Rattle.buddy_core.proofs.find.find.Goals as goal
-use Rattle.buddy_core.proofs.find.find.Goals.{then-may_have+in_default, else-may_have}
 
 pub returns-in_err-order-clause-found : goal.returns-in_err-order-clause-found
 returns-in_err-order-clause-found c =
@@ -34,38 +33,37 @@ returns-in-Some-clause-found c =
       first = λ u m lt there bit.
           let listed = same u ∙ there in
           let bit' = subst (HasBit c.args.superblocks.now m) order bit in
-          elim (cases_lt (u / 16) c.loop-band.band) [
-            | inl before ↦ c.loop-band.invariant.1 u m before listed bit'
+          elim (cases_lt (u / 16) c.in_ok-band.band) [
+            | inl before ↦ c.in_ok-band.ensures.2 (u / 16) before (c.loop-look.invariant.0 c.in_ok-order.order u m listed bit')
             | inr past ↦ here.4 u m (omega (arith, here.3)) lt listed bit'
           ];
     }
 
-pub loop-band-preserved : goal.loop-band-preserved
-loop-band-preserved c =
-    let slots = c.held-slots.result.now in
-    let xs = c.args.superblocks.now in
-    elim c.if-may_have.branch [
-      | then-may_have+in_default w ↦ (
-        λ j u m at bit. subst (λ (ws : List ℕ). bit_at (get_or ws (u / 16) 0) j ≡ 1) (sym w.bands-is)
-            (w.strike.ensures (u / 16) j (λ here order. w.in_default.ensures u m here at (subst (HasBit xs m) order bit)) (c.loop-band.invariant.0 j u m at bit)),
-        λ u m lt at bit. elim (cases_lt (u / 16) c.loop-band.band) [
-          | inl before ↦ c.loop-band.invariant.1 u m before at bit
-          | inr past ↦ w.in_default.ensures u m (omega arith) at bit
-        ],
-      )
-      | else-may_have w ↦ (
-        λ j u m at bit. subst (λ (ws : List ℕ). bit_at (get_or ws (u / 16) 0) j ≡ 1) (sym w.bands-is) (c.loop-band.invariant.0 j u m at bit),
-        λ u m lt at bit. elim (cases_lt (u / 16) c.loop-band.band) [
-          | inl before ↦ c.loop-band.invariant.1 u m before at bit
-          | inr past ↦
-              let here : u / 16 ≡ c.loop-band.band = omega arith in
-              false≢true (w.if-may_have.ensures.1 (ap (λ b. bit_at (get_or c.loop-band.bands b 0) c.in_ok-order.order) (sym here) ∙ c.loop-band.invariant.0 c.in_ok-order.order u m at bit))
-        ],
-      )
-    ]
+pub returns-in_err-band-clause-found : goal.returns-in_err-band-clause-found
+returns-in_err-band-clause-found c =
+    let has = (c.requires.counted c.in_ok-order.order).0 c.in_ok-order.ensures.2 in
+    let at = c.held-slots.ensures.same has.0 ∙ has.2 in
+    absurd (c.in_err-band.ensures (has.0 / 16) (c.loop-look.invariant.0 c.in_ok-order.order has.0 has.1 at has.3))
+
+pub loop-look-preserved : goal.loop-look-preserved
+loop-look-preserved c =
+    let xs = c.args.superblocks.now in (
+      λ j u m at bit. c.strike.ensures.kept j (u / 16) (λ same here. c.in_default.ensures u m here at (subst (HasBit xs m) same bit)) (c.loop-look.invariant.0 j u m at bit),
+      λ b lt set. elim (cases_lt b c.in_ok-band.band) [
+        | inl before ↦ c.in_ok-band.ensures.2 b before (c.strike.ensures.fewer c.in_ok-order.order b set)
+        | inr past ↦
+            let low : c.loop-look._look ≤ c.in_ok-band.band = elim (cases_lt c.in_ok-band.band c.loop-look._look) [
+              | inl below ↦ absurd (c.loop-look.invariant.1 c.in_ok-band.band below c.in_ok-band.ensures.1)
+              | inr up ↦ up
+            ] in
+            let same : b ≡ c.in_ok-band.band = omega arith in
+            c.strike.ensures.struck (subst (λ n. bit_at (get_or c.strike.new.self c.in_ok-order.order 0) n ≡ 1) same set)
+      ],
+    )
 
 pub returns-clause-found : goal.returns-clause-found
 returns-clause-found c =
     let has = (c.requires.counted c.in_ok-order.order).0 c.in_ok-order.ensures.2 in
     let at = c.held-slots.ensures.same has.0 ∙ has.2 in
-    absurd (c.loop-band.invariant.1 has.0 has.1 (let lt = slot_within c.held-slots.result.now has.0 has.1 at in let few = c.held-slots.ensures.few in omega arith) at has.3)
+    absurd (c.loop-look.invariant.1 (has.0 / 16) (let lt = slot_within c.held-slots.result.now has.0 has.1 at in let few = c.held-slots.ensures.few in omega arith)
+    (c.loop-look.invariant.0 c.in_ok-order.order has.0 has.1 at has.3))

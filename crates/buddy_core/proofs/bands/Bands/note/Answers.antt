@@ -1,8 +1,9 @@
-use Rattle.std.proofs.Common.{◌≡◌, ap, sym, subst, ◌∙◌, inl, inr, ℕ, ◌/◌, ◌<◌, List, length, get_or, set, bit_or, arith}
+use Rattle.std.proofs.Common.{◌≡◌, ap, sym, subst, ◌∙◌, inl, inr, ℕ, ◌*◌, ◌/◌, ◌%◌, ◌^◌, ◌<◌, List, length, get_or, set, bit_or, arith}
 use Rattle.std.specs.Int.{bit_at}
 use Rattle.std.proofs.lemmas.Bool.{cases_eq}
-use Rattle.std.proofs.lemmas.List.{get_or_read, get_or-set_same, get_or-set_other}
-use Rattle.std.proofs.lemmas.Nat.Bits.{bit_at_or, bit_at-lt}
+use Rattle.std.proofs.lemmas.List.{get_or-set_same, get_or-set_other}
+use Rattle.std.proofs.lemmas.Nat.{one_shl}
+use Rattle.std.proofs.lemmas.Nat.Bits.{bit_at_or, bit_at-lt, bit_at-pow_same}
 use Rattle.buddy_core.proofs.bands.Bands.note.Goals as goal
 
 or_left : (a b j : ℕ) → bit_at a j ≡ 1 → bit_at (bit_or a b) j ≡ 1
@@ -12,22 +13,26 @@ or_right : (a b j : ℕ) → bit_at b j ≡ 1 → bit_at (bit_or a b) j ≡ 1
 or_right a b j bit = omega (arith, bit_at_or a b j, bit_at-lt a j)
 
 pub returns-clause-noted : goal.returns-clause-noted
-returns-clause-noted c j bit =
-    let words = c.self.inside.words.items in
-    let lt : c.args.slot / 16 < length words = omega (arith, c.self.invariant) in
-    ap (λ w. bit_at w j) (get_or-set_same words (c.args.slot / 16) (bit_or c.index_mut.result.now c.args.root) 0 lt) ∙ or_right c.index_mut.result.now c.args.root j bit
+returns-clause-noted c =
+    let words = c.self.inside.words in
+    let lt : c.args.order < length words = omega (arith, c.self.told, c.requires.order) in
+    let band = c.args.slot / 16 in
+    let bit = 1 * 2 ^ band % 65536 in
+    let same : bit ≡ 2 ^ band = one_shl band 16 (omega (arith, c.requires.slot)) in
+    ap (λ w. bit_at w band) (get_or-set_same words c.args.order (bit_or (get_or words c.args.order 0) bit) 0 lt)
+    ∙ or_right (get_or words c.args.order 0) bit band (ap (λ w. bit_at w band) same ∙ bit_at-pow_same band)
 
 pub returns-clause-kept : goal.returns-clause-kept
-returns-clause-kept c b j bit =
-    let words = c.self.inside.words.items in
-    let word = bit_or c.index_mut.result.now c.args.root in
-    let lt : c.args.slot / 16 < length words = omega (arith, c.self.invariant) in
-    let was : bit_at (get_or words b 0) j ≡ 1 = subst (λ (ws : List ℕ). bit_at (get_or ws b 0) j ≡ 1) (sym c.self.view_is) bit in
-    elim (cases_eq b (c.args.slot / 16)) [
+returns-clause-kept c j b bit =
+    let words = c.self.inside.words in
+    let bit' = 1 * 2 ^ (c.args.slot / 16) % 65536 in
+    let word = bit_or (get_or words c.args.order 0) bit' in
+    let lt : c.args.order < length words = omega (arith, c.self.told, c.requires.order) in
+    let was : bit_at (get_or words j 0) b ≡ 1 = subst (λ (ws : List ℕ). bit_at (get_or ws j 0) b ≡ 1) (sym c.self.view_is) bit in
+    elim (cases_eq j c.args.order) [
       | inl e ↦
-          let read = get_or_read words (c.args.slot / 16) c.index_mut.result.now lt c.index_mut.ensures.value 0 in
-          ap (λ i. bit_at (get_or (set words (c.args.slot / 16) word) i 0) j) e
-          ∙ ap (λ w. bit_at w j) (get_or-set_same words (c.args.slot / 16) word 0 lt)
-          ∙ or_left c.index_mut.result.now c.args.root j (ap (λ w. bit_at w j) read ∙ ap (λ i. bit_at (get_or words i 0) j) (sym e) ∙ was)
-      | inr ne ↦ ap (λ w. bit_at w j) (get_or-set_other words (c.args.slot / 16) b word 0 ne) ∙ was
+          ap (λ i. bit_at (get_or (set words c.args.order word) i 0) b) e
+          ∙ ap (λ w. bit_at w b) (get_or-set_same words c.args.order word 0 lt)
+          ∙ or_left (get_or words c.args.order 0) bit' b (ap (λ i. bit_at (get_or words i 0) b) (sym e) ∙ was)
+      | inr ne ↦ ap (λ w. bit_at w b) (get_or-set_other words c.args.order j word 0 ne) ∙ was
     ]
