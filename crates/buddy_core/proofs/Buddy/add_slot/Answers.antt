@@ -3,7 +3,7 @@ use Rattle.std.specs.Int.{bit_at}
 use Rattle.std.specs.Prelude.{slice_index}
 use Rattle.std.proofs.lemmas.List.{get_or_read, get_or-set_same, get_or-set_other}
 use Rattle.buddy_core.specs.Content.{with_holding, with_slot}
-use Rattle.buddy_core.specs.Stored.{StoredTree, StoredSuperblock, StoredTenant, stored_tenant, holding_shown, content_shown}
+use Rattle.buddy_core.specs.Stored.{StoredSuperblock, StoredTenant, stored_tenant, holding_shown, content_shown}
 use Rattle.buddy_core.specs.Tree.{Shows}
 use Rattle.buddy_core.specs.Bands.{IsBounded}
 use Rattle.buddy_core.specs.Kept.{IsKept}

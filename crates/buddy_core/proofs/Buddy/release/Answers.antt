@@ -1,12 +1,12 @@
-use Rattle.std.proofs.Common.{inl, inr, ◌≡◌, refl, sym, ◌∙◌, ap, subst, ℕ, ◌+◌, ◌*◌, ◌/◌, ◌%◌, ◌^◌, ◌<◌, List, [], Option, Some, None, length, get_or, set, length-set, arith}
+use Rattle.std.proofs.Common.{inl, inr, ◌≡◌, refl, sym, ◌∙◌, ap, subst, ℕ, ◌+◌, ◌*◌, ◌/◌, ◌%◌, ◌^◌, ◌<◌, List, [], Option, Some, None, length, get_or, arith}
 use Rattle.std.specs.Int.{bit_at}
 use Rattle.std.specs.Prelude.{slice_index}
 use Rattle.std.proofs.lemmas.Nat.{pow_pos, mod_below}
-use Rattle.std.proofs.lemmas.List.{get_or_read, get_or-set_same}
+use Rattle.std.proofs.lemmas.List.{get_or_read}
 use Rattle.buddy_core.specs.Content.{holding_of, taken_of, with_holding, without_block}
 use Rattle.buddy_core.specs.Bands.{IsBounded}
 use Rattle.buddy_core.specs.Counts.{HasRoomForCounts}
-use Rattle.buddy_core.specs.Stored.{StoredTree, StoredSuperblock, StoredTenant, stored_tenant, superblock_of, superblock_at, holding_shown}
+use Rattle.buddy_core.specs.Stored.{StoredSuperblock, StoredTenant, stored_tenant, superblock_of, superblock_at, holding_shown}
 use Rattle.buddy_core.proofs.ContentShown.{IsShown, shown_is, slot_read, size_is, blank_of, bare_of}
 use Rattle.buddy_core.proofs.TenantCounts.{room, slot_small}
 use Rattle.buddy_core.proofs.TenantChanged.{kept_changed, shown_changed}

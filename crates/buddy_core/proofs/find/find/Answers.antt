@@ -1,7 +1,7 @@
-use Rattle.std.proofs.Common.{sym, ◌∙◌, ap, subst, inl, inr, ◌≡◌, ℕ, ◌/◌, ◌<◌, ◌≤◌, List, get_or, arith}
+use Rattle.std.proofs.Common.{sym, ◌∙◌, subst, inl, inr, ◌≡◌, ◌/◌, ◌<◌, ◌≤◌, get_or, arith}
 use Rattle.std.specs.Int.{bit_at}
 use Rattle.std.specs.Prelude.{MatchOption}
-use Rattle.std.proofs.lemmas.Bool.{cases_lt, false≢true}
+use Rattle.std.proofs.lemmas.Bool.{cases_lt}
 use Rattle.buddy_core.specs.Roots.{HasBit, IsWithoutOrder, IsSource}
 use Rattle.buddy_core.proofs.ContentShown.{slot_within}
 use Rattle.buddy_core.proofs.find.find.Goals as goal
