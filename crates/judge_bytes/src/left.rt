@@ -3,8 +3,8 @@
 ghost use Rattle.std.specs.Prelude.{◌≡◌, ℕ, ◌+◌, ◌*◌, ◌^◌, ◌<◌, ◌≤◌, ◌==◌, ◌&&◌, not, filter, length, [], ◌∷◌, Some, true, OnOk, OnErr, option_map, slice_index};
 ghost use Rattle.model_core.specs.declared.limits.TheConstants.{FRAME_BYTES, MOST_ORDER};
 ghost use Rattle.model_core.specs.Machine.{in_block, slot_of};
-ghost use Rattle.promise_core.specs.Holdings.{Holdings, ToldCache, slab_around};
-ghost use Rattle.promise_core.specs.Bytes.{Holder, is_object, is_same, with_bytes, doubted, without, holder_of};
+ghost use Rattle.promise_core.specs.Holdings.{ToldCache, slab_around};
+ghost use Rattle.promise_core.specs.Bytes.{Holder, is_object, is_same, with_bytes, doubted, without};
 ghost use Rattle.promise_core.specs.State.{with_object, is_in_no_slab};
 ghost use Rattle.judge_core.specs.Holders.{shown_holder, shown_cell};
 ghost use Rattle.judge_bytes.specs.Left.{left_slots, left_at, has_place, Becomes};
@@ -206,9 +206,3 @@ fn extend_reach(reach: &mut [u64; 256], holder: RangeHolder, end: u64)
         reach[usize::from(cache)] = most;
     }
 }
-
-/// An object that has a range of bytes begins where the range does, or before.
-pub fn object_begins()
-    ensures { (h : Holdings) (place len number first : ℕ)
-        → holder_of h place len ≡ Some (Holder.Object number first) → first ≤ place }
-{}

@@ -9,4 +9,4 @@ mod slot;
 mod slots;
 mod tests_of_holders;
 
-pub use left::{LeftBytes, object_begins};
+pub use left::LeftBytes;
