@@ -5,8 +5,8 @@
 //! The exits are those of `command_line::Exit`.
 //!
 //! With `--tally` a line, before what is told of the exit, tells what was done, however the run ended:
-//! `partmem: 6 lines, 6 events, 0 faults, 214 bytes written`; and behind that, how often each refusal was told, and the first
-//! faulty lines with what is wrong with them.
+//! `partmem: 6 lines, 6 events, 0 faults, 214 bytes written`; and behind that, why a file could not be opened, how often each
+//! refusal was told, and the first faulty lines with what is wrong with them.
 #![tactic(auto)]
 
 ghost use Rattle.std.specs.Prelude.{◌≡◌, OnErr};
@@ -143,13 +143,20 @@ fn tell_run(rt: &impl Eprint, settings: &Settings, ran: Ran) -> ExitCode {
         tell_tally(rt, &ran.ended.tally);
     }
     let code = tell(rt, PROGRAM, &Exit::Ran(ran.ended.outcome));
+    if settings.tally {
+        tell_unopened(rt, settings, ran.unopened.as_ref());
+    }
     if let Some(notes) = &ran.notes {
         tell_notes(rt, notes);
     }
-    if let (Some(path), Some(error)) = (&settings.file, &ran.unopened) {
+    code
+}
+
+/// Tells why the trace could not be opened.
+fn tell_unopened(rt: &impl Eprint, settings: &Settings, unopened: Option<&io::Error>) {
+    if let (Some(path), Some(error)) = (&settings.file, unopened) {
         let _unheard = eprintln!(rt; "partmem: {path}: {error}");
     }
-    code
 }
 
 /// Tells how often each refusal was told, and the first faulty lines.
