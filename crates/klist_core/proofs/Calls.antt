@@ -1,7 +1,8 @@
 -- What is known in an insertion and in a removal before their writes.
-use Rattle.std.proofs.Common.{◌≡◌, ℕ, ◌+◌, ◌-◌, ◌^◌, ◌<◌, ◌≤◌, List, [], Option, Some, None, length, get_or, set, refl, ap, sym, ◌∙◌, subst, arith}
+use Rattle.std.proofs.Common.{◌≡◌, ℕ, ◌+◌, ◌-◌, ◌^◌, ◌<◌, ◌≤◌, List, [], Option, Some, None, ◌++◌, take, length, get_or, set, refl, ap, sym, ◌∙◌, subst, arith}
 use Rattle.std.specs.Prelude.{◌≢◌, IfSome}
 use Rattle.std.proofs.Math.ListN.{get_or-map}
+use Rattle.std.proofs.Math.Seq.{take-append_seam}
 use Rattle.std.proofs.lemmas.List.{length-map, length-set, get_or_read}
 use Rattle.std.proofs.lemmas.List.Sums.{count_by-le-length}
 use Rattle.klist_core.specs.Places.{place_at, is_in}
@@ -95,3 +96,18 @@ insertion_known heads nodes h n k previous next t in_heads within fits free fres
 
     fitting : (o : Option ℕ) → IsWithin o (length (places_of nodes)) → IsWithin o (length nodes)
     fitting o w = record { below = λ i e. omega (arith, w.below i e, same_length) }
+
+-- what is written, as a change of the head that was read
+pub counted : (heads : List Head) (h m : ℕ) (y z : Head) → h < length heads → y ≡ get_or heads h y → z ≡ get_or heads h z
+    → record { first = (get_or heads h z).first; last = (get_or heads h z).last; len = m } ≡ record y { len = m }
+counted heads h m y z lt first second =
+    let same : get_or heads h z ≡ y = sym second ∙ get_or_read heads h z lt second (head_at [] 0) ∙ sym (get_or_read heads h y lt first (head_at [] 0)) in
+    ap (λ (x : Head). record x { len = m }) same
+
+-- what a slice of the whole list leaves in it
+pub seam : {A : Type 0} (xs rest : List A) (len : ℕ) → len ≡ length xs → take len (xs ++ rest) ≡ xs
+seam xs rest len e = ap (λ n. take n (xs ++ rest)) e ∙ take-append_seam xs rest
+
+-- .. so tables that are linked are linked when they are back
+pub linked_back : (heads heads' : List Head) (nodes nodes' : List Node) → heads' ≡ heads → nodes' ≡ nodes → IsLinked heads nodes → IsLinked heads' nodes'
+linked_back heads heads' nodes nodes' e f t = rw (e, f) t

@@ -280,15 +280,17 @@ impl Lists {
         requires placed { IsSome (place_at self.old.places node) }
         ensures { self.new ≡ removed self.old node }
     {
-        let own = self.nodes[node as usize];
+        let heads: &mut [Head] = &mut self.heads;
+        let nodes: &mut [Node] = &mut self.nodes;
+        let own = nodes[node as usize];
         let (previous, next) = (own.previous.get(), own.next.get());
         let Some(head) = own.list.get() else {
             unreachable!()
         };
-        self.nodes[node as usize] = Node::free();
-        link_after(&mut self.heads, &mut self.nodes, head, previous, next);
-        link_before(&mut self.heads, &mut self.nodes, head, next, previous);
-        self.heads[head as usize].len -= 1;
+        nodes[node as usize] = Node::free();
+        link_after(heads, nodes, head, previous, next);
+        link_before(heads, nodes, head, next, previous);
+        heads[head as usize].len -= 1;
     }
 
     /// Puts a node into the list between two that are neighbours there; None stands for an end.
@@ -309,15 +311,17 @@ impl Lists {
         ensures { self.new ≡ inserted self.old head node key }
     {
         self.laws();
-        self.nodes[node as usize] = Node {
+        let heads: &mut [Head] = &mut self.heads;
+        let nodes: &mut [Node] = &mut self.nodes;
+        nodes[node as usize] = Node {
             list: Link::of(Some(head)),
             key,
             previous: Link::of(previous),
             next: Link::of(next),
         };
-        link_after(&mut self.heads, &mut self.nodes, head, previous, Some(node));
-        link_before(&mut self.heads, &mut self.nodes, head, next, Some(node));
-        self.heads[head as usize].len += 1;
+        link_after(heads, nodes, head, previous, Some(node));
+        link_before(heads, nodes, head, next, Some(node));
+        heads[head as usize].len += 1;
     }
 
     /// The nodes between which a key comes that the list does not have: the ends of the list are tried first.
@@ -469,17 +473,17 @@ impl Lists {
 
 /// Lets `to` come after `previous`, or first in the list where there is none.
 fn link_after(
-    heads: &mut Vec<Head>,
-    nodes: &mut Vec<Node>,
+    heads: &mut [Head],
+    nodes: &mut [Node],
     head: u32,
     previous: Option<u32>,
     to: Option<u32>,
 )
-    requires head { head < length heads.old.items }
-    requires previous { ForSome previous (λ i. i < length nodes.old.items) }
+    requires head { head < length heads.old }
+    requires previous { ForSome previous (λ i. i < length nodes.old) }
     requires to { IfSome to (λ i. i < 2 ^ 32 - 1) }
-    ensures heads { heads.new.items ≡ heads_linked_after previous head to heads.old.items }
-    ensures nodes { nodes.new.items ≡ nodes_linked_after previous to nodes.old.items }
+    ensures heads { heads.new ≡ heads_linked_after previous head to heads.old }
+    ensures nodes { nodes.new ≡ nodes_linked_after previous to nodes.old }
 {
     match previous {
         Some(node) => nodes[node as usize].next = Link::of(to),
@@ -489,17 +493,17 @@ fn link_after(
 
 /// Lets `to` come before `next`, or last in the list where there is none.
 fn link_before(
-    heads: &mut Vec<Head>,
-    nodes: &mut Vec<Node>,
+    heads: &mut [Head],
+    nodes: &mut [Node],
     head: u32,
     next: Option<u32>,
     to: Option<u32>,
 )
-    requires head { head < length heads.old.items }
-    requires next { ForSome next (λ i. i < length nodes.old.items) }
+    requires head { head < length heads.old }
+    requires next { ForSome next (λ i. i < length nodes.old) }
     requires to { IfSome to (λ i. i < 2 ^ 32 - 1) }
-    ensures heads { heads.new.items ≡ heads_linked_before next head to heads.old.items }
-    ensures nodes { nodes.new.items ≡ nodes_linked_before next to nodes.old.items }
+    ensures heads { heads.new ≡ heads_linked_before next head to heads.old }
+    ensures nodes { nodes.new ≡ nodes_linked_before next to nodes.old }
 {
     match next {
         Some(node) => nodes[node as usize].previous = Link::of(to),
