@@ -1,8 +1,8 @@
 -- The first write of a reserve or a release, and each step up from there.
 use Rattle.std.proofs.Common.{◌≡◌, ℕ, zero, suc, ◌+◌, ◌-◌, ◌*◌, ◌/◌, ◌^◌, ◌<◌, ◌≤◌, Bool, true, false, cond, List, length, get_or, set, length-set, ◌⊎◌, inl, inr, refl, sym, ap, ap₂, subst, ◌∙◌, arith}
 use Rattle.std.specs.Prelude.{bit_or}
-use Rattle.std.proofs.lemmas.Bool.{and_from, both_ways, cases_eq, cases_lt, cond-true, cond-false, false_from_ne_true}
-use Rattle.std.proofs.lemmas.List.{set-get_or, get_or-replicate, length-replicate}
+use Rattle.std.proofs.lemmas.Bool.{and_from, both_ways, cases_eq, cond-true, cond-false, false_from_ne_true}
+use Rattle.std.proofs.lemmas.List.{get_or-replicate, length-replicate}
 use Rattle.std.proofs.lemmas.Nat.{pow_pos}
 use Rattle.std.proofs.Math.Nat.{pow-suc}
 use Rattle.model_core.specs.Numbered.{number_at, is_clear, IsOpen}
@@ -10,9 +10,9 @@ use Rattle.buddy_core.specs.Stored.{bare_tree}
 use Rattle.buddy_core.specs.Tree.{orders, word, word_at, Shows, IsWith, IsLess, Mended, IsConfined}
 use Rattle.model_core.proofs.Halves.{clear_same, clear_from}
 use Rattle.buddy_core.proofs.TreeNumbers.{halves, number_above, number_below, half_clear, inside_clear, frame_not_clear}
-use Rattle.buddy_core.proofs.TreeOrders.{orders_clear, orders_halves, orders_none, orders_same, orders_whole, word_whole, word_inside}
+use Rattle.buddy_core.proofs.TreeOrders.{orders_clear, orders_none, orders_same, orders_whole, word_whole, word_inside}
 use Rattle.buddy_core.proofs.TreeNodes.{node_stored, word_at-set_same, word_at-set_other, far_whole, far_half}
-use Rattle.buddy_core.proofs.TreeMends.{Climbs, inside_with, around_with, away, climbs, climbs_split, climbs_join, shows_mended}
+use Rattle.buddy_core.proofs.TreeMends.{inside_with, around_with, away, climbs, climbs_split, climbs_join}
 
 -- a bare tree has a word for each node
 pub bare_size : (top : ℕ) → length (bare_tree top).words + 1 ≡ 2 ^ (top + 1)
@@ -96,13 +96,6 @@ halves_stand top k f d old new words s agree m off q e b = elim (cases_eq q (num
     only : (i e q : ℕ) → (q ≡ number_at k f → ⊥) → (n : ℕ) → k + n ≡ k → number_at n q ≡ number_at k f → ⊥
     only i e q ne n t a = ne (subst (λ j. number_at j q ≡ number_at k f) (let z : n ≡ 0 = omega arith in z) a)
 
--- the word of a block that no larger free block has
-word_alone : (ok : ℕ → Bool) (top k q : ℕ) → k ≤ top → (k < top → is_clear ok (suc k) (q / 2) ≡ false) → word ok top k q ≡ orders ok k q
-word_alone ok top k q le off = elim (cases_lt k top) [
-  | inl lt ↦ word_inside ok top k q lt ∙ cond-false _ 0 (orders ok k q) (off lt)
-  | inr ge ↦ subst (λ i. word ok i k q ≡ orders ok k q) (let e : k ≡ top = omega arith in e) (word_whole ok k q)
-]
-
 -- the word of the block that changed
 word_changed : (top k f d : ℕ) (old new : ℕ → Bool) (words : List ℕ) → f < 2 ^ top → d + k ≡ top → Mended top k f old new words
     → word_at words d (number_at k f) ≡ orders new k (number_at k f)
@@ -129,45 +122,6 @@ climb_step top k f d old new words b size t c m n s v node pair e =
     climbs top k f d old new words (set words (n - 1) v) t c.same m
     (climbs_split d k p (number_at k f) s n v new words node small (omega arith) refl pair each (c.after k (omega arith) (omega arith))
     (e ∙ ap₂ (λ i j. bit_or i j) (each (number_at k f) refl) (each s (omega arith))))
-
--- where a word stays, all above it stay
-stays : (n top k f : ℕ) (old new : ℕ → Bool) (words : List ℕ) → k + n ≡ top → f < 2 ^ top → length words + 1 ≡ 2 ^ (top + 1)
-    → IsConfined top k f old new → Mended top k f old new words → orders new k (number_at k f) ≡ orders old k (number_at k f) → Shows top new words
-stays zero top k f old new words t b size c m e =
-    shows_mended top f old new words b size (subst (λ i. Mended top i f old new words) (let same : k ≡ top = omega arith in same) m)
-stays (suc n) top k f old new words t b size c m e =
-    let p = number_at (suc k) f in
-    let before = c.before k (omega arith) (omega arith) in
-    let after = c.after k (omega arith) (omega arith) in
-    let small : p < 2 ^ n = number_below n (suc k) f (subst (λ j. f < 2 ^ j) (let s : top ≡ n + suc k = omega arith in s) b) in
-    let up : orders new (suc k) p ≡ orders old (suc k) p
-    = orders_halves new k p after ∙ ap₂ (λ i j. bit_or i j) (half (2 * p) (omega arith)) (half (2 * p + 1) (omega arith)) ∙ sym (orders_halves old k p before) in
-    let climb : Climbs n k p new words words = record {
-      half = λ q h. halves_stand top k f n old new words (omega arith) c.same m before q h (omega (arith, pow-suc 2 n)) ∙ sym (cond-false (is_clear new (suc k) p) 0 (orders new k q) after);
-      whole = m.beyond n (suc k) p (omega arith) small (λ i h _. omega arith)
-          ∙ word_alone old top (suc k) p (omega arith) (λ lt. c.before (suc k) (omega arith) lt) ∙ sym up;
-      other = λ i q h g1 g2. refl;
-    } in
-    stays n top (suc k) f old new words (omega arith) b size (confined_up top k f old new c)
-    (climbs top k f n old new words words (omega arith) c.same m climb) up
-  where
-    half : (q : ℕ) → q / 2 ≡ number_at (suc k) f → orders new k q ≡ orders old k q
-    half q h = elim (cases_eq q (number_at k f)) [
-      | inl same ↦ subst (λ i. orders new k i ≡ orders old k i) (sym same) e
-      | inr ne ↦ orders_same new old k q (λ x at. sym (c.same x (away k f k 0 q x (omega arith) ne at)))
-    ]
-
-pub climb_stop : (top k f d : ℕ) (old new : ℕ → Bool) (words : List ℕ) → f < 2 ^ top → length words + 1 ≡ 2 ^ (top + 1) → d + suc k ≡ top
-    → IsConfined top k f old new → Mended top k f old new words → (n s v : ℕ) → n ≡ 2 ^ d + number_at (suc k) f → s + number_at k f ≡ 4 * number_at (suc k) f + 1
-    → v ≡ bit_or (word_at words (suc d) (number_at k f)) (word_at words (suc d) s) → get_or words (n - 1) 0 ≡ v → Shows top new words
-climb_stop top k f d old new words b size t c m n s v node pair e stay =
-    let p = number_at (suc k) f in
-    let small : p < 2 ^ d = number_below d (suc k) f (subst (λ j. f < 2 ^ j) (sym t) b) in
-    let same : set words (n - 1) v ≡ words = ap (λ i. set words (n - 1) i) (sym stay) ∙ set-get_or words (n - 1) 0 in
-    let up = subst (λ (ws : List ℕ). Mended top (suc k) f old new ws) same (climb_step top k f d old new words b size t c m n s v node pair e) in
-    stays d top (suc k) f old new words (omega arith) b size (confined_up top k f old new c) up
-    (sym (word_changed top (suc k) f d old new words b t up) ∙ m.beyond d (suc k) p t small (λ i h _. omega arith)
-    ∙ word_alone old top (suc k) p (omega arith) (λ lt. c.before (suc k) (omega arith) lt))
 
 -- one step up through a block that was free: its other half is now free on its own
 up_split : (top k f d : ℕ) (old new : ℕ → Bool) (words : List ℕ) → f < 2 ^ top → length words + 1 ≡ 2 ^ (top + 1) → d + suc k ≡ top

@@ -4,10 +4,10 @@ use Rattle.std.specs.Prelude.{bit_or}
 use Rattle.std.proofs.lemmas.Nat.{pow_pos}
 use Rattle.std.proofs.Math.Nat.{pow-suc}
 use Rattle.model_core.specs.Numbered.{number_at, IsOpen}
-use Rattle.buddy_core.specs.Tree.{word_at, Shows, IsLess, Mended, IsConfined, IsNode}
+use Rattle.buddy_core.specs.Tree.{word_at, IsLess, Mended, IsConfined, IsNode}
 use Rattle.buddy_core.proofs.TreeNumbers.{number_below}
 use Rattle.buddy_core.proofs.TreeNodes.{node_below}
-use Rattle.buddy_core.proofs.TreeChanges.{confined_up, climb_step, climb_stop, reserve_split, release_join, release_open}
+use Rattle.buddy_core.proofs.TreeChanges.{confined_up, climb_step, reserve_split, release_join, release_open}
 
 -- the node of a block of the superblock
 pub node_is : (top k f node : ℕ) → k ≤ top → f < 2 ^ top → node ≡ 2 ^ (top - k) + number_at k f → IsNode top k f node
@@ -75,10 +75,6 @@ module _ (top k f node : ℕ) (b : f < 2 ^ top) (lt : k < top) (at : IsNode top 
       rise old new (set words (node / 2 - 1) v) (climb_step top k f depth old new words b size deep c m (node / 2) half v up half_pair (both_words v e)),
       subst (λ i. IsConfined top i f old new) (sym (add-one k)) (confined_up top k f old new c),
     )
-
-    pub step_stop : (old new : ℕ → Bool) (v : ℕ) → v ≡ bit_or (get_or words (node - 1) 0) (get_or words (other - 1) 0) → Mended top k f old new words × IsConfined top k f old new
-        → get_or words (node / 2 - 1) 0 ≡ v → Shows top new words
-    step_stop old new v e (m, c) stay = climb_stop top k f depth old new words b size deep c m (node / 2) half v up half_pair (both_words v e) stay
 
     pub step_split : (order from : ℕ) (large small : ℕ → Bool) → order ≤ k → k < from → IsOpen large top from (number_at from f) → IsLess small large order f
         → (one v : ℕ) → one ≡ 2 ^ k → v ≡ bit_or (get_or words (node - 1) 0) one → Mended top k f large small words

@@ -100,10 +100,7 @@ impl Tree {
         let words = self.words.as_slice();
         let mut node = 1;
         for _level in order..self.order {
-            node *= 2;
-            if !has(words[node - 1], order) {
-                node += 1;
-            }
+            node = 2 * node + 1 - usize::from(has(words[2 * node - 1], order));
         }
         ((node as u32) << order) - (1 << self.order)
     }
@@ -118,8 +115,8 @@ impl Tree {
             → IsOpen large self.old.order from (number_at from first) → IsLess small large order first
             → Shows self.old.order small self.new.words }
     {
-        let node = self.split(first, from, order);
-        self.climb(node, first, from);
+        self.split(first, from, order);
+        self.climb(first, from);
     }
 
     /// Makes the block of `order` around frame `first` available, and joins it at once with its buddy while that is one
@@ -133,8 +130,8 @@ impl Tree {
         ensures joined { (small large : ℕ → Bool) → Shows self.old.order small self.old.words → IsLess small large order first
             → (order ≤ result) × IsOpen large self.old.order result (number_at result first) }
     {
-        let (joined, node) = self.join(first, order);
-        self.climb(node, first, joined);
+        let joined = self.join(first, order);
+        self.climb(first, joined);
         joined
     }
 
@@ -147,36 +144,33 @@ impl Tree {
         (((1 << self.order) + first) >> order) as usize
     }
 
-    /// Writes the words of the blocks around the one of `order` that has frame `first`, each from those of its halves. Where
-    /// a word stays, all above it stay. The caller knows the node of that block; `first` and `order` are named for the contract.
+    /// Writes the words of the blocks around the one of `order` that has frame `first`, each from those of its halves. It goes on
+    /// where a word stays: to stop there would save less than it costs to guess where that is.
     #[inline(always)]
-    fn climb(&mut self, mut node: usize, first: u32, order: u8)
+    fn climb(&mut self, first: u32, order: u8)
         requires order { order ≤ self.old.order }
-        requires node { IsNode self.old.order order first node }
         requires first { first < 2 ^ self.old.order }
         ensures order { self.new.order ≡ self.old.order }
         ensures words { (old new : ℕ → Bool) → Mended self.old.order order first old new self.old.words
             → IsConfined self.old.order order first old new → Shows self.old.order new self.new.words }
     {
-        let _ = first;
         let mut level = order;
+        if level == self.order {
+            return;
+        }
+        let mut around = self.node_of(first, level + 1);
         let words: &mut [u16] = &mut self.words;
-        let mut word = words[node - 1];
-        while node > 1 {
-            word |= words[sibling(node) - 1];
-            node /= 2;
-            if words[node - 1] == word {
-                return;
-            }
-            words[node - 1] = word;
+        while around > 0 {
+            words[around - 1] = words[2 * around - 1] | words[2 * around];
+            around /= 2;
             level += 1;
         }
     }
 
     /// Writes the words inside the free block of order `from` around frame `first` once the block of `order` around that
-    /// frame is taken out of it: what is left is one free block of each order between. The node of that free block.
+    /// frame is taken out of it: what is left is one free block of each order between.
     #[inline(always)]
-    fn split(&mut self, first: u32, from: u8, order: u8) -> usize
+    fn split(&mut self, first: u32, from: u8, order: u8)
         requires order { order ≤ from }
         requires from { from ≤ self.old.order }
         requires first { first < 2 ^ self.old.order }
@@ -184,7 +178,6 @@ impl Tree {
         ensures mended { (large small : ℕ → Bool) → Shows self.old.order large self.old.words
             → IsOpen large self.old.order from (number_at from first) → IsLess small large order first
             → Mended self.old.order from first large small self.new.words }
-        ensures node { IsNode self.old.order from first result }
     {
         let mut node = self.node_of(first, order);
         let words: &mut [u16] = &mut self.words;
@@ -196,22 +189,20 @@ impl Tree {
             node /= 2;
             words[node - 1] = word;
         }
-        node
     }
 
     /// Joins the block of `order` around frame `first`, which is made available, with its buddy while that is one free
-    /// block, and writes the words inside the free block that this gives. The order of that block, and its node.
+    /// block, and writes the words inside the free block that this gives. The order of that block.
     #[inline(always)]
-    fn join(&mut self, first: u32, order: u8) -> (u8, usize)
+    fn join(&mut self, first: u32, order: u8) -> u8
         requires order { order ≤ self.old.order }
         requires first { first < 2 ^ self.old.order }
         ensures order { self.new.order ≡ self.old.order }
-        ensures rises { order ≤ result.0 }
-        ensures within { result.0 ≤ self.old.order }
+        ensures rises { order ≤ result }
+        ensures within { result ≤ self.old.order }
         ensures mended { (small large : ℕ → Bool) → Shows self.old.order small self.old.words → IsLess small large order first
-            → Mended self.old.order result.0 first small large self.new.words
-            × IsOpen large self.old.order result.0 (number_at result.0 first) }
-        ensures node { IsNode self.old.order result.0 first result.1 }
+            → Mended self.old.order result first small large self.new.words
+            × IsOpen large self.old.order result (number_at result first) }
     {
         let mut node = self.node_of(first, order);
         let top = self.order;
@@ -220,13 +211,13 @@ impl Tree {
             let buddy = sibling(node);
             if words[buddy - 1] != 1 << level {
                 words[node - 1] = 1 << level;
-                return (level, node);
+                return level;
             }
             words[buddy - 1] = 0;
             words[node - 1] = 0;
             node /= 2;
         }
         words[node - 1] = 1 << top;
-        (top, node)
+        top
     }
 }

@@ -1,12 +1,11 @@
-use Rattle.std.proofs.Common.{◌≡◌, ℕ, List, ◌+◌, ◌-◌, ◌*◌, ◌%◌, ◌^◌, ap, subst, sym, ◌∙◌, length, get_or, arith}
-use Rattle.std.specs.Int.{bit_at}
+use Rattle.std.proofs.Common.{◌≡◌, ℕ, List, ◌+◌, ◌-◌, ◌*◌, ◌%◌, ◌^◌, ap, subst, sym, ◌∙◌, Bool, true, false, refl, length, get_or, arith}
+use Rattle.std.specs.Int.{bit_at, from_bool}
 use Rattle.std.proofs.lemmas.Bool.{both_ways}
 use Rattle.buddy_core.specs.Stored.{StoredTree}
 use Rattle.buddy_core.specs.Tree.{Shows}
 use Rattle.buddy_core.proofs.TreeNodes.{tree_is}
 use Rattle.buddy_core.proofs.TreeSearch.{Reached, reached_first, reached_low, reached_high, reached_last, reached_stored, first_of, found_first}
 use Rattle.buddy_core.proofs.tree.Tree.search.Goals as goal
-use Rattle.buddy_core.proofs.tree.Tree.search.Goals.{then-not-has, else-not-has}
 
 pub loop-level-init : goal.loop-level-init
 loop-level-init c = reached_first c.args.self.now.order c.args.order _ c.as_slice-words.result.now (omega arith)
@@ -19,6 +18,11 @@ bounds-words-node c =
     let stored = reached_stored top c.args.order (c.loop-level._level - c.args.order) c.loop-level.node c.as_slice-words.result.now size (omega arith) c.loop-level.invariant in
     omega arith
 
+-- the left half where the bit is there, else the right one
+next : (node : ℕ) (bit : Bool) (number : ℕ) (P : ℕ → Type 0) → number ≡ from_bool bit → (bit ≡ true → P (2 * node)) → (bit ≡ false → P (2 * node + 1)) → P (2 * node + 1 - number)
+next node true number P e left right = subst P (omega arith) (left refl)
+next node false number P e left right = subst P (omega arith) (right refl)
+
 pub loop-level-preserved : goal.loop-level-preserved
 loop-level-preserved c =
     let l = c.loop-level in
@@ -26,12 +30,11 @@ loop-level-preserved c =
     let same = ap (λ (t : StoredTree). t.order) c.self.view_is in
     let words = c.as_slice-words.result.now in
     let d = l._level - c.args.order in
-    elim c.if-not-has.branch [
-      | then-not-has w ↦ subst (λ n. Reached top c.args.order (l._level + 1 - c.args.order) n words) (sym w.node-is)
-          (reached_high top c.args.order d l.node (l.node * 2) _ words (omega arith) (omega arith) (omega arith) (λ b. both_ways c.has.result w.if-not-has.true (c.has.ensures.1 b)) l.invariant)
-      | else-not-has w ↦ subst (λ n. Reached top c.args.order (l._level + 1 - c.args.order) n words) (sym w.node-is)
-          (reached_low top c.args.order d l.node (l.node * 2) _ words (omega arith) (omega arith) (omega arith) (c.has.ensures.0 w.if-not-has.false) l.invariant)
-    ]
+    let high = reached_high top c.args.order d l.node (2 * l.node) _ words (omega arith) (omega arith) (omega arith) in
+    let low = reached_low top c.args.order d l.node (2 * l.node) _ words (omega arith) (omega arith) (omega arith) in
+    next l.node c.has.result c.from.result (λ n. Reached top c.args.order (l._level + 1 - c.args.order) n words) c.from.ensures
+    (λ e. low (c.has.ensures.0 e) l.invariant)
+    (λ e. high (λ b. both_ways c.has.result e (c.has.ensures.1 b)) l.invariant)
 
 pub overflow_sub-result : goal.overflow_sub-result
 overflow_sub-result c =
