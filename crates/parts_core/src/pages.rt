@@ -98,7 +98,7 @@ impl Parts {
         if self.slabs.is_slab(&self.space, t, first) {
             return self
                 .slabs
-                .object_at(&self.space, &self.buddy, t, place, len);
+                .object_in(&self.space, &self.buddy, t, first, order, place, len);
         }
         let end = u64::from(place) + u64::from(len);
         end <= u64::from(FRAME_BYTES) * (u64::from(first) + (1 << order))

@@ -1,9 +1,12 @@
 //! Which live object has a range of bytes.
 
-ghost use Rattle.std.specs.Prelude.{◌≡◌, ◌↔◌, true, ℕ, ◌<◌, ◌&&◌, false, nat_lt, length, MatchOption};
+ghost use Rattle.std.specs.Prelude.{◌≡◌, ◌↔◌, true, ℕ, ◌/◌, ◌<◌, ◌&&◌, false, nat_lt, Some, length, MatchOption};
 ghost use Rattle.std.specs.List.{list_any};
+ghost use Rattle.model_core.specs.Blocks.{block, HasFrame};
 ghost use Rattle.model_core.specs.Machine.{Machine};
 ghost use Rattle.model_core.specs.Reach.{within_objects};
+ghost use Rattle.model_core.specs.declared.limits.TheConstants.{FRAME_BYTES};
+ghost use Rattle.buddy_core.specs.Content.{holding_of, taken_of};
 ghost use Rattle.slab_tables.specs.declared.cache.Cache as own;
 ghost use Rattle.parts_laws.specs.Shows.{node_of, has_slab, IsSlab, Agree, ShowsMachine};
 ghost use Rattle.parts_laws.specs.Changes.{Found, found};
@@ -19,32 +22,49 @@ use slab_tables::ListId;
 use space_core::Space;
 
 impl Slabs {
-    /// Whether the `len` bytes of tenant `t` from a place on, at least one, lie inside one live object.
-    pub fn object_at(&self, space: &Space, buddy: &Buddy, t: u8, place: u32, len: u32) -> bool
+    /// Whether the `len` bytes of tenant `t` from a place on, at least one, lie inside one live object. The caller knows the taken
+    /// block that has the place: it begins at frame `first`, and is of this order.
+    pub fn object_in(
+        &self,
+        space: &Space,
+        buddy: &Buddy,
+        t: u8,
+        first: u32,
+        order: u8,
+        place: u32,
+        len: u32,
+    ) -> bool
         requires tenant { t < length space.now.slots }
         requires agree { Agree space.now buddy.now self.now }
+        requires taken { taken_of (holding_of t buddy.now) first ≡ Some order }
+        requires around { HasFrame (block first order) (place / FRAME_BYTES) }
         ensures { (result ≡ true) ↔ ((o : Found) × HasRange space.now self.now t place len o) }
     {
         self.laws_with(space, buddy, t);
-        self.object_over(space, buddy, t, place, len).is_some()
+        self.object_over(space, buddy, t, first, order, place, len)
+            .is_some()
     }
 
-    /// The live object of tenant `t` that has the `len` bytes from a place on, if one does.
+    /// The live object of tenant `t` that has the `len` bytes from a place on, if one does; `order` is named for the contract alone.
     fn object_over(
         &self,
         space: &Space,
         buddy: &Buddy,
         t: u8,
+        first: u32,
+        order: u8,
         place: u32,
         len: u32,
     ) -> Option<Object>
         requires tenant { t < length space.now.slots }
         requires parts { HoldTogether space.now buddy.now self.now }
         requires steady { IsSteady space.now buddy.now self.now t }
+        requires taken { taken_of (holding_of t buddy.now) first ≡ Some order }
+        requires around { HasFrame (block first order) (place / FRAME_BYTES) }
         ensures { MatchOption result (HasNone space.now self.now t place len)
             (λ o. (cache : own.Cache) × HasRange space.now self.now t place len (found cache o.first o.node o.index)) }
     {
-        let (first, _) = buddy.block_of(t, place / FRAME_BYTES)?;
+        let _ = order;
         let (c, node) = self.slab_at(space, buddy, t, first)?;
         let cache = self.tables.cache(t, c).unwrap();
         let colour = u32::from(self.tables.kept_of(node).colour);

@@ -75,8 +75,8 @@ returns-then-is_slab-clause-reach c =
     let tells = block_tells k.space k.buddy k.slabs x.t x.place x.len c.in-Some.first c.in-Some.order lends some
     c.in-Some.ensures.0 c.in-Some.ensures.1 in
     rw (← c.self.view_is) (
-      (λ e. record { some = some; inside = inr (c.object_at.ensures.0 e) }),
-      (λ reach. c.object_at.ensures.1 (only_second reach.inside (λ page. false≢true (sym (tells.0 page).0 ∙ sym c.if-is_slab.ensures)))),
+      (λ e. record { some = some; inside = inr (c.object_in.ensures.0 e) }),
+      (λ reach. c.object_in.ensures.1 (only_second reach.inside (λ page. false≢true (sym (tells.0 page).0 ∙ sym c.if-is_slab.ensures)))),
     )
 
 pub overflow_shl-result : goal.overflow_shl-result

@@ -2,7 +2,7 @@ use Rattle.std.proofs.Common.{◌≡◌, Bool, true, Option, Some, None}
 use Rattle.std.specs.Prelude.{MatchOption, is_some, ◌↔◌}
 use Rattle.parts_laws.specs.Changes.{Found}
 use Rattle.parts_laws.specs.Objects.{HasRange}
-use Rattle.slab_core.proofs.Slabs.object_at.Goals as goal
+use Rattle.slab_core.proofs.Slabs.object_in.Goals as goal
 
 -- a test by a look-up
 told : {A : Type 0} (o : Option A) (R : Found → Type 0) (Q : A → Type 0) (v : Bool) → v ≡ is_some o → MatchOption o ((u : Found) → R u → ⊥) Q
