@@ -1,6 +1,6 @@
 -- What is true of the fields of what is stored.
-use Rattle.std.specs.Prelude.{◌≡◌, ℕ, ◌*◌, ◌%◌, ◌^◌, ◌≤◌, true, List, map, length}
-use Rattle.model_core.specs.declared.limits.TheConstants.{FRAME_BYTES, MOST_SIZE, MOST_ORDER, MOST_SUPERBLOCKS}
+use Rattle.std.specs.Prelude.{◌≡◌, ℕ, ◌*◌, ◌%◌, ◌^◌, ◌≤◌, true, List, map}
+use Rattle.model_core.specs.declared.limits.TheConstants.{FRAME_BYTES, MOST_SIZE, MOST_ORDER}
 use Rattle.model_core.specs.Layouts.{is_alignment}
 use Rattle.model_core.specs.WellFormed.{RisesFrom}
 use Rattle.promise_core.specs.Holdings.{ToldCache}
@@ -16,7 +16,6 @@ pub record IsCut (size align chunk order count : ℕ) : Type 0 where
   pub counted : 1 ≤ count
   pub fits : count * chunk ≤ FRAME_BYTES * 2 ^ order
 
--- the held slots and the caches
-pub record IsListed (slots : List ℕ) (caches : List ToldCache) : Type 0 where
-  pub most : length slots ≤ MOST_SUPERBLOCKS
-  pub caches_rise : RisesFrom 0 (map (λ c. c.number) caches)
+-- the caches
+abbrev pub AreListed : List ToldCache → Type 0
+AreListed caches = RisesFrom 0 (map (λ c. c.number) caches)

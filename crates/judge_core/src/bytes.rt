@@ -89,7 +89,7 @@ impl Held {
 
     /// The refusal that a read has to get.
     #[tactic(auto, unfolding(promise_core::specs::Promises::due))]
-    fn due_of_read(&self, place: u32, len: u32) -> Option<Refusal>
+    pub fn due_of_read(&self, place: u32, len: u32) -> Option<Refusal>
         ensures { (t : ℕ) (w : Known) (s : State) → result ≡ due (On.Tenant t (Asked.Read place len)) w (record s { has = self.now }) }
     {
         if len < 1 || len as usize > MOST_BYTES {

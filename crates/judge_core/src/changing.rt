@@ -1,6 +1,6 @@
 //! What becomes of a tenant's holdings by answers that take something away.
 
-ghost use Rattle.std.specs.Prelude.{◌≡◌, ◌==◌, ◌≤◌, not, filter, length, []};
+ghost use Rattle.std.specs.Prelude.{◌≡◌, ◌==◌, not, filter, []};
 ghost use Rattle.promise_core.specs.Holdings.{with_live_places};
 
 use crate::block::FrameBlock;
@@ -64,8 +64,7 @@ fn drop_cache(caches: &mut Vec<HeldCache>, number: u32)
 
 /// The slots without this one.
 fn drop_slot(slots: &mut Vec<u16>, slot: u32)
-    ensures items { slots.new.items ≡ filter (λ v. not (v == slot)) slots.old.items }
-    ensures fewer { length slots.new.items ≤ length slots.old.items }
+    ensures { slots.new.items ≡ filter (λ v. not (v == slot)) slots.old.items }
 {
     slots.retain(|held| u32::from(*held) != slot);
 }

@@ -1,6 +1,6 @@
 //! What becomes of a tenant's holdings by answers that add something.
 
-ghost use Rattle.std.specs.Prelude.{◌≡◌, ◌<◌, ◌≤◌, not, nat_lt, length, [], None, IfOk, OnErr};
+ghost use Rattle.std.specs.Prelude.{◌≡◌, ◌≤◌, not, nat_lt, length, [], None, IfOk, OnErr};
 ghost use Rattle.std.specs.List.{prefix_len};
 ghost use Rattle.model_core.specs.declared.limits.TheConstants.{MOST_ORDER, MOST_SUPERBLOCKS};
 ghost use Rattle.model_core.specs.Machine.{put_rising};
@@ -29,7 +29,6 @@ impl Held {
 
     /// The slot is granted. Fails where memory runs out, and then nothing is changed.
     pub fn grant(&mut self, slot: u16) -> Result<(), AllocError>
-        requires { length self.old.slots < MOST_SUPERBLOCKS }
         ensures granted { IfOk result (λ _. self.new ≡ record self.old { slots = put_rising (λ v. v) slot self.old.slots }) }
         ensures kept { OnErr result (self.new ≡ self.old) }
     {

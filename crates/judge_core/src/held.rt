@@ -29,13 +29,13 @@ pub struct Held {
 
 impl Model for Held {
     ghost use Rattle.promise_core.specs.Holdings.{Holdings};
-    ghost use Rattle.judge_core.specs.Inside.{IsListed};
+    ghost use Rattle.judge_core.specs.Inside.{AreListed};
 
     ghost Value = { Holdings };
 
     ghost view = { λ h. record { slots = h.slots.items; pages = h.pages.items; caches = h.caches.items } };
 
-    ghost invariant = { λ h. IsListed h.slots.items h.caches.items };
+    ghost invariant = { λ h. AreListed h.caches.items };
 }
 
 impl Held {
@@ -175,14 +175,14 @@ impl Held {
     }
 
     /// How many aligned blocks of `2^k` frames of held slots of `2^order` have no taken frame.
-    pub fn count_vacant(&self, order: u8, k: u8) -> u32
+    pub fn count_vacant(&self, order: u8, k: u8) -> u128
         requires order { order ≤ MOST_ORDER }
         requires k { k ≤ MOST_ORDER }
         ensures { result ≡ length (vacant_blocks order self.now k) }
     {
-        let mut count = 0u32;
+        let mut count = 0u128;
         for slot in &self.slots {
-            count += self.count_vacant_in(order, k, *slot);
+            count += u128::from(self.count_vacant_in(order, k, *slot));
         }
         count
     }

@@ -25,4 +25,4 @@ pub use held::Held;
 pub use holder::RangeHolder;
 pub use layout::ToldLayout;
 pub use slots::{judge_pool, judge_reset};
-pub use verdict::{Verdict, on_refusal};
+pub use verdict::{Verdict, on_answer, on_refusal};

@@ -12,7 +12,7 @@ pub type Verdict = Result<(), Promise>;
 
 /// The verdict on an answer where `due` is the refusal that has to come, if one has, and the answer is such as it has to be
 /// where this promise is kept.
-pub(crate) fn on_answer(due: Option<Refusal>, promise: Promise, is_kept: bool) -> Verdict
+pub fn on_answer(due: Option<Refusal>, promise: Promise, is_kept: bool) -> Verdict
     ensures { result ≡ broken ((Promise.Refusals, is_none due) ∷ (promise, is_kept) ∷ []) }
 {
     if due.is_some() {

@@ -63,7 +63,7 @@ fn destroyed_can_come(held: &Held, order: u8, hides: &[bool], number: u32, frame
         (record s { has = held.now; hides = λ n. slice_index_or hides.now n false }) }
 {
     frames == 0
-        || (frames <= held.count_vacant(order, 0)
+        || (u128::from(frames) <= held.count_vacant(order, 0)
             && destroyed_may_have(held.caches(), hides, number, frames))
 }
 
@@ -126,7 +126,8 @@ fn reaped_can_come(held: &Held, order: u8, hides: &[bool], frames: u32) -> bool
         (record s { has = held.now; hides = λ n. slice_index_or hides.now n false }) }
 {
     frames == 0
-        || (frames <= held.count_vacant(order, 0) && some_may_have(held.caches(), hides, frames))
+        || (u128::from(frames) <= held.count_vacant(order, 0)
+            && some_may_have(held.caches(), hides, frames))
 }
 
 /// Whether a slab without live objects may stand of a cache, and so many frames are those of some such.

@@ -174,7 +174,7 @@ fn has_room(held: &Held, order: u8, k: u8, free: &[u32]) -> bool
     requires short { length free.now ≤ ORDERS }
     ensures { result ≡ nat_le (frames_of_counts (drop k free.now)) (length (vacant_blocks order held.now k)) }
 {
-    frames_from(free, k) <= u64::from(held.count_vacant(order, k))
+    u128::from(frames_from(free, k)) <= held.count_vacant(order, k)
 }
 
 /// Whether a report tells the free blocks and empty slabs that the last one told.

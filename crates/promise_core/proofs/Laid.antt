@@ -62,11 +62,11 @@ is_none_of (Some x) e = absurd (false≢true e)
 
 -- What has frames, and that it lies apart
 
-abbrev Used : Holdings → Option ℕ → Block → Type 0
+abbrev pub Used : Holdings → Option ℕ → Block → Type 0
 Used h None b = IsIn b h.pages
 Used h (Some n) b = (c : ToldCache) × (p : ℕ) × IsIn c h.caches × IsIn p c.live × (c.number ≡ n) × (b ≡ slab_around c p)
 
-abbrev HaveOwnNumbers : Holdings → Type 0
+abbrev pub HaveOwnNumbers : Holdings → Type 0
 HaveOwnNumbers h = (c d : ToldCache) → IsIn c h.caches → IsIn d h.caches → c.number ≡ d.number → c ≡ d
 
 pub record IsLaid (order : ℕ) (h : Holdings) : Type 0 where
@@ -319,7 +319,7 @@ value_of : {X : Type 0} (f : X → Bool) (o : Option X) → option_map_or f o fa
 value_of f None e = absurd (false≢true e)
 value_of f (Some x) e = (x, refl, e)
 
-nothing_laid : (order : ℕ) → IsLaid order opening_state.has
+pub nothing_laid : (order : ℕ) → IsLaid order opening_state.has
 unfolding opening_state
 nothing_laid order = record { placed = placed; apart = apart; numbers = λ c d i j e. elim i [ ] }
   where
@@ -333,7 +333,7 @@ nothing_laid order = record { placed = placed; apart = apart; numbers = λ c d i
     apart None other a b x i u ha hb = elim i [ ]
     apart (Some n) other a b x (c, p, i, j, e, is) u ha hb = elim i [ ]
 
-step : (w : Known) (event : Event) (body : Body) (s s' : State) → state_after w.order event body s ≡ Some s' → refusals event body w s ≡ true
+pub step : (w : Known) (event : Event) (body : Body) (s s' : State) → state_after w.order event body s ≡ Some s' → refusals event body w s ≡ true
     → blocks event body w s ≡ true → objects event body w s ≡ true → new_layout event body w s ≡ true → IsLaid w.order s.has → IsLaid w.order s'.has
 unfolding state_after due
 step w event (Say.Refused r) s s' e f b o c l = subst (λ y. IsLaid w.order y.has) (some_state e) l
@@ -360,10 +360,10 @@ step w event body s s' e f b o c l = absurd (cc)
 
 -- The grids of each cache
 
-abbrev AllGridded : ℕ → Holdings → Type 0
+abbrev pub AllGridded : ℕ → Holdings → Type 0
 AllGridded order h = (c : ToldCache) → IsIn c h.caches → IsGridded order c
 
-nothing_gridded : (order : ℕ) → AllGridded order opening_state.has
+pub nothing_gridded : (order : ℕ) → AllGridded order opening_state.has
 unfolding opening_state
 nothing_gridded order c i = elim i [ ]
 
@@ -408,7 +408,7 @@ told_fits w t size align pattern number chunk q n colours s none fits =
       aligned = not-false (is_alignment align) asked.1;
     }
 
-grid_step : (w : Known) (event : Event) (body : Body) (s s' : State) → state_after w.order event body s ≡ Some s' → refusals event body w s ≡ true
+pub grid_step : (w : Known) (event : Event) (body : Body) (s s' : State) → state_after w.order event body s ≡ Some s' → refusals event body w s ≡ true
     → objects event body w s ≡ true → new_layout event body w s ≡ true → HaveOwnNumbers s.has → AllGridded w.order s.has → AllGridded w.order s'.has
 unfolding state_after
 grid_step w event (Say.Refused r) s s' e f o c own g = subst (λ y. AllGridded w.order y.has) (some_state e) g

@@ -23,6 +23,8 @@ pub fn read_reply(text: &[u8]) -> Option<Reply>
     ensures found { IfSome result (λ reply. text_of reply ≡ text.now) }
     // What has this text is read, and nothing else.
     ensures only { (reply : ReplyValue) → Fits reply → text_of reply ≡ text.now → result ≡ Some reply }
+    // The same as a function.
+    ensures exact { result ≡ reply_of_text text.now }
 {
     reply_of_text(text)
 }

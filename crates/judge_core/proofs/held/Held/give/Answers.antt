@@ -11,12 +11,9 @@ invariant_of-self c =
     let caches = c.self.inside.caches.items in
     let old = c.index_mut.result.now in
     let same = ap (λ (x : ToldCache). x.number) c.give.ensures ∙ ap (λ (x : ToldCache). x.number) c.index_mut.ensures.value in
-    record {
-      most = c.self.invariant.most;
-      caches_rise = subst (RisesFrom 0)
-          (sym (map-set_same (λ (x : ToldCache). x.number) caches c.in-Some.i c.give.new.self old same))
-          c.self.invariant.caches_rise;
-    }
+    subst (RisesFrom 0)
+    (sym (map-set_same (λ (x : ToldCache). x.number) caches c.in-Some.i c.give.new.self old same))
+    c.self.invariant
 
 pub returns-in-Some : goal.returns-in-Some
 returns-in-Some c =
@@ -28,7 +25,7 @@ returns-in-Some c =
     ≡ map {B = ToldCache} (λ (x : ToldCache). if x.number == c.args.number then change x else x) caches =
     ap (λ x. slice_set caches c.in-Some.i x) (c.give.ensures ∙ ap change c.index_mut.ensures.value)
     ∙ sym (changed_at (λ (x : ToldCache). x.number) c.args.number c.in-Some.i change c.index_mut.result.now caches
-    c.self.invariant.caches_rise is) in
+    c.self.invariant is) in
     rw (e, ← c.self.view_is)
 
 pub returns-in_default : goal.returns-in_default

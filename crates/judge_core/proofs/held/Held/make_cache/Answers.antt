@@ -29,9 +29,6 @@ invariant_of-self-2 c =
     ∙ sym (put_at (λ (x : ToldCache). x.number) c.args.cache caches)) in
     let none : find (λ (x : ToldCache). x.number == c.args.cache.number) caches ≡ None =
     ap (λ (h : Holdings). cache_told h c.args.cache.number) c.self.view_is ∙ c.requires in
-    record {
-      most = c.self.invariant.most;
-      caches_rise = subst (λ xs. RisesFrom 0 (map (λ (x : ToldCache). x.number) xs)) (sym e)
-          (put_rises (λ (x : ToldCache). x.number) 0 c.args.cache caches c.self.invariant.caches_rise (omega arith)
-          (all_other (λ (x : ToldCache). x.number) c.args.cache.number caches none));
-    }
+    subst (λ xs. RisesFrom 0 (map (λ (x : ToldCache). x.number) xs)) (sym e)
+    (put_rises (λ (x : ToldCache). x.number) 0 c.args.cache caches c.self.invariant (omega arith)
+    (all_other (λ (x : ToldCache). x.number) c.args.cache.number caches none))

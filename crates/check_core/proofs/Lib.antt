@@ -1,0 +1,4 @@
+pub mod ReadingLemmas
+pub mod KeptLemmas
+pub mod Witnesses
+pub mod Examples

@@ -1,0 +1,12 @@
+-- Bytes that come in pieces.
+use Rattle.std.specs.Prelude.{◌≡◌, ℕ, nat_lt, if◌then◌else◌, List, length, take, Option, Some, None}
+use Rattle.check_core.specs.declared.gathered.Gathered.{Gathered}
+
+-- these bytes have come, of which the first `most` are held
+pub record Gathers (most : ℕ) (came : List ℕ) (g : Gathered most) : Type 0 where
+  pub front : g.held.items ≡ take most came
+  pub longer : g.longer ≡ nat_lt most (length came)
+
+-- the bytes, if there are at most so many
+abbrev pub whole_of : ℕ → List ℕ → Option (List ℕ)
+whole_of most came = if nat_lt most (length came) then None else Some came

@@ -1,0 +1,4 @@
+pub mod Gathered
+pub mod Reading
+pub mod Finding
+pub mod Laws

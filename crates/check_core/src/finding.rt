@@ -1,0 +1,35 @@
+//! What the replies to a trace are found to be.
+
+use promise_core::promise::Promise;
+
+/// The replies to a trace, as they were found.
+#[derive(Clone, Copy, Debug, PartialEq, Eq)]
+pub enum Finding {
+    /// Each is allowed, and there are as many as there have to be: to a trace of so many lines.
+    Kept(u64),
+    /// One is not.
+    Broken(Breach),
+}
+
+/// The first reply that is not allowed.
+#[derive(Clone, Copy, Debug, PartialEq, Eq)]
+pub struct Breach {
+    /// The number of the line of the trace that it answers, the first one's being 1; of the last line, where replies follow
+    /// that nothing has asked for.
+    pub line: u64,
+    /// The number of its first line in the replies, the first one's being 1.
+    pub reply: u64,
+    /// The first promise that it breaks.
+    pub promise: Promise,
+}
+
+/// Why no finding was made.
+#[derive(Clone, Copy, Debug, PartialEq, Eq)]
+pub enum Unchecked {
+    /// The trace could not be read to its end.
+    Trace,
+    /// The replies could not be read to their end.
+    Replies,
+    /// There was not enough memory.
+    Memory,
+}

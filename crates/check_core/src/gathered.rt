@@ -1,0 +1,75 @@
+//! Bytes that come in pieces, as many of the first as there is room for.
+
+ghost use Rattle.std.specs.Prelude.{◌≡◌, ℕ, List, [], ◌++◌, ◌<◌, ◌==◌, length, take};
+ghost use Rattle.check_core.specs.Gathered.{Gathers, whole_of};
+ghost use Rattle.reply_reader.specs.Forms.{Gives};
+
+use arrayvec::ArrayVec;
+
+/// Of bytes that come in pieces the first `N`, and whether there were more.
+#[derive(Drop)]
+pub struct Gathered<const N: usize> {
+    held: ArrayVec<u8, N>,
+    longer: bool,
+}
+
+impl<const N: usize> Gathered<N> {
+    /// No byte has come.
+    pub fn new() -> Self
+        ensures { Gathers N [] result }
+    {
+        Gathered {
+            held: ArrayVec::new(),
+            longer: false,
+        }
+    }
+
+    /// Forgets what has come.
+    pub fn clear(&mut self)
+        ensures { Gathers N [] self.new }
+    {
+        self.held.clear();
+        self.longer = false;
+    }
+
+    /// These bytes come.
+    pub fn add(&mut self, bytes: &[u8])
+        ensures { (front : List ℕ) → Gathers N front self.old → Gathers N (front ++ bytes.now) self.new }
+    {
+        let room = self.held.capacity() - self.held.len();
+        if bytes.len() <= room {
+            let taken = self.held.try_extend_from_slice(bytes);
+            prove!(taken.is_ok());
+        } else {
+            let taken = self.held.try_extend_from_slice(&bytes[..room]);
+            prove!(taken.is_ok());
+            self.longer = true;
+        }
+    }
+
+    /// No byte has come since.
+    pub fn is_empty(&self) -> bool
+        requires { 0 < N }
+        ensures { (came : List ℕ) → Gathers N came self.now → result ≡ (length came == 0) }
+    {
+        self.held.is_empty()
+    }
+
+    /// All that has come, if there was room for it.
+    pub fn whole(&self) -> Option<&[u8]>
+        ensures { (came : List ℕ) → Gathers N came self.now → Gives (λ bytes. bytes.now) result (whole_of N came) }
+    {
+        if self.longer {
+            None
+        } else {
+            Some(self.held.as_slice())
+        }
+    }
+
+    /// The first bytes of what has come, at most `N`.
+    pub fn front(&self) -> &[u8]
+        ensures { (came : List ℕ) → Gathers N came self.now → result.now ≡ take N came }
+    {
+        self.held.as_slice()
+    }
+}

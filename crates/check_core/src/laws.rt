@@ -1,0 +1,8 @@
+//! What a finding tells: each law is the contract of a function that does nothing, and a caller has the law by the call.
+
+ghost use Rattle.check_core.specs.Laws.{KeptIsAllowed};
+
+/// Replies that are found kept are the text of replies to the trace's events, each of which keeps every promise.
+pub fn kept_is_allowed()
+    ensures { KeptIsAllowed }
+{}

@@ -1,0 +1,18 @@
+//! Checks the replies to a trace: what two texts are found to be is a definition, in `specs/`; here are the parts that read them
+//! in step, a line at a time.
+#![tactic(auto)]
+
+mod finding;
+mod gathered;
+mod gathering;
+pub mod laws;
+mod lines;
+mod reader;
+mod shown;
+
+pub use finding::{Breach, Finding, Unchecked};
+pub use gathered::Gathered;
+pub use gathering::{gather, read, reads_fault};
+pub use lines::next_reading;
+pub use reader::LineReader;
+pub use shown::{MOST_PART_BYTES, MOST_TEXT_BYTES, Shown};

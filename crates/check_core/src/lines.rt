@@ -1,0 +1,52 @@
+//! The lines of a trace, as they read.
+
+ghost use Rattle.std.specs.Prelude.{◌≡◌, ℕ, ◌<◌, ◌≤◌, List, Some, IfOk, IfSome, false, is_err, is_ok};
+ghost use Rattle.words_core.specs.Grammar.{reading_of};
+ghost use Rattle.check_core.specs.Gathered.{Gathers};
+ghost use Rattle.check_core.specs.Reading.{IsNextReading, without_line_feed};
+
+use crate::finding::Unchecked;
+use crate::gathered::Gathered;
+use crate::reader::LineReader;
+use crate::shown::MOST_PART_BYTES;
+use replay_core::Feed;
+use words_core::{Event, LineFault, read_line};
+
+/// What the next line of a trace says; None where there is none.
+pub fn next_reading<F: Feed>(
+    trace: &mut LineReader<F>,
+    line: &mut Gathered<MOST_PART_BYTES>,
+) -> Result<Option<Result<Option<Event>, LineFault>>, Unchecked>
+    requires fine { trace.old.failed ≡ false }
+    ensures reading { (bytes : List ℕ) → trace.old.left ≡ Some bytes → IfOk result (λ reading. IsNextReading bytes reading trace.new.left) }
+    ensures less { IfOk result (λ reading. IfSome reading (λ _. trace.new.room < trace.old.room)) }
+    ensures fine { IfOk result (λ _. trace.new.failed ≡ false) }
+{
+    line.clear();
+    if trace.next(line).is_err() {
+        return Err(Unchecked::Trace);
+    }
+    if line.is_empty() {
+        return Ok(None);
+    }
+    Ok(Some(reading(line)))
+}
+
+/// What a line says that may have its LF.
+fn reading(line: &Gathered<MOST_PART_BYTES>) -> Result<Option<Event>, LineFault>
+    ensures { (part : List ℕ) → Gathers MOST_PART_BYTES part line.now → result ≡ reading_of (without_line_feed part) }
+{
+    match line.whole() {
+        None => Err(LineFault::Long),
+        Some(part) => read_line(without_line_feed(part)),
+    }
+}
+
+fn without_line_feed(line: &[u8]) -> &[u8]
+    ensures { result.now ≡ without_line_feed line.now }
+{
+    match line {
+        [rest @ .., b'\n'] => rest,
+        _ => line,
+    }
+}

@@ -1,0 +1,83 @@
+//! A text, a line at a time.
+
+ghost use Rattle.std.specs.Prelude.{◌≡◌, ℕ, ◌+◌, List, ◌++◌, length, false, is_err};
+ghost use Rattle.std.specs.Io.KnownBytes.{Consumes};
+ghost use Rattle.check_core.specs.Gathered.{Gathers};
+ghost use Rattle.check_core.specs.Reading.{IsPartAtOk};
+
+use crate::gathered::Gathered;
+use replay_core::{Feed, Stopped, line_end};
+use std::marker::Model;
+
+/// How many bytes are asked for in one pull.
+const PIECE_BYTES: usize = 65_536;
+
+/// Reads the lines of what a feed gives.
+#[derive(Drop)]
+pub struct LineReader<F: Feed> {
+    feed: F,
+    // What was pulled and not yet read are the bytes from `start` to `end`.
+    piece: [u8; PIECE_BYTES],
+    start: usize,
+    end: usize,
+}
+
+impl<F: Feed> Model for LineReader<F> {
+    ghost use Rattle.std.specs.Prelude.{◌+◌, ◌-◌, ◌≤◌, take, drop, length};
+    ghost use Rattle.std.specs.Io.KnownBytes.{prepend_known};
+    ghost use Rattle.check_core.specs.Reading.{Source};
+
+    ghost Value = { Source };
+
+    ghost view = { λ a. record {
+      left = prepend_known (drop a.start (take a.end a.piece)) (F.remaining a.feed);
+      room = (a.end - a.start) + F.room_left a.feed;
+      failed = F.has_failed a.feed;
+    } };
+
+    ghost invariant = { λ a. (a.start ≤ a.end) × (a.end ≤ length a.piece) };
+}
+
+impl<F: Feed> LineReader<F> {
+    /// Of what this feed gives.
+    pub fn new(feed: F) -> Self
+        ensures left { result.left ≡ F.remaining feed }
+        ensures room { result.room ≡ F.room_left feed }
+        ensures fine { result.failed ≡ F.has_failed feed }
+    {
+        LineReader {
+            feed,
+            piece: [0; PIECE_BYTES],
+            start: 0,
+            end: 0,
+        }
+    }
+
+    /// Puts the next line behind what was gathered, with its LF if it has one, and answers whether it has. What follows the last
+    /// LF, be it nothing, has none, and is all that is left.
+    pub fn next<const N: usize>(&mut self, into: &mut Gathered<N>) -> Result<bool, Stopped>
+        requires fine { self.old.failed ≡ false }
+        // What was given.
+        ensures taken { (part : List ℕ) × Consumes self.old.left self.new.left part × IsPartAtOk result part self.new.left
+            × (self.new.room + length part ≡ self.old.room)
+            × ((front : List ℕ) → Gathers N front into.old → Gathers N (front ++ part) into.new) }
+        ensures failed { self.new.failed ≡ is_err result }
+    {
+        loop {
+            let held = &self.piece[self.start..self.end];
+            if let Some(at) = line_end(held) {
+                into.add(&held[..at + 1]);
+                self.start += at + 1;
+                return Ok(true);
+            }
+            into.add(held);
+            self.start = self.end;
+            let count = self.feed.pull(&mut self.piece)?;
+            self.start = 0;
+            self.end = count;
+            if count == 0 {
+                return Ok(false);
+            }
+        }
+    }
+}

@@ -1,0 +1,26 @@
+//! The line that is being checked, and its reply.
+
+use crate::gathered::Gathered;
+
+/// A line of a trace has at most 255 bytes, and then may have a carriage return and a line feed.
+pub const MOST_PART_BYTES: usize = 257;
+
+/// A reply has at most 257 lines of at most 256 bytes each.
+pub const MOST_TEXT_BYTES: usize = 65_792;
+
+/// The line that was read last, and the lines that were read as its reply.
+#[derive(Drop)]
+pub struct Shown {
+    pub line: Gathered<MOST_PART_BYTES>,
+    pub reply: Gathered<MOST_TEXT_BYTES>,
+}
+
+impl Shown {
+    /// No line was read.
+    pub fn new() -> Self {
+        Shown {
+            line: Gathered::new(),
+            reply: Gathered::new(),
+        }
+    }
+}

@@ -1,0 +1,28 @@
+use Rattle.std.proofs.Common.{[], refl, sym, ◌∙◌}
+use Rattle.judge_bytes.specs.Left.{left_at}
+use Rattle.judge.specs.Showing.{state_with}
+use Rattle.judge.specs.Inside.{known_by}
+use Rattle.judge.proofs.Keeping.{shown}
+use Rattle.judge.proofs.tenant.Tenant.judge.Goals as goal
+
+pub follow-requires : goal.follow-requires
+follow-requires c t =
+    let x = c.args.self.now in (
+      [],
+      sym (c.verdict.ensures t [] (known_by [] x.left.order) (state_with x (left_at x.left))
+          (record { limit = refl; order = refl; owned = refl }) (shown x)) ∙ c.in-Ok.is,
+    )
+
+pub returns-in_ok-follow-in-Ok-clause-judged : goal.returns-in_ok-follow-in-Ok-clause-judged
+returns-in_ok-follow-in-Ok-clause-judged c t owners = record {
+  same = λ w s fits shows. sym c.in-Ok.is ∙ c.verdict.ensures t owners w s fits shows;
+  kept = λ ok. c.in_ok-follow-in-Ok.ensures.followed t;
+  broken = λ promise err. absurd (cc);
+}
+
+pub returns-in-Err-clause-judged : goal.returns-in-Err-clause-judged
+returns-in-Err-clause-judged c t owners = record {
+  same = λ w s fits shows. sym c.in-Err.is ∙ c.verdict.ensures t owners w s fits shows;
+  kept = λ ok. absurd (cc);
+  broken = λ promise err. refl;
+}

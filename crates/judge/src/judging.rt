@@ -1,0 +1,105 @@
+//! Verdicts on replies to a tenant, and what is kept after them.
+
+ghost use Rattle.std.specs.Prelude.{◌≡◌, ◌≤◌, ℕ, List, Option, Ok, IfOk, OnOk, OnErr};
+ghost use Rattle.model_core.specs.declared.owner.Owner.{Owner as Owning};
+ghost use Rattle.words_core.specs.declared.event.Event.TheVariants as On;
+ghost use Rattle.promise_core.specs.State.{State, Known};
+ghost use Rattle.judge_core.specs.Verdicts.{verdict_on};
+ghost use Rattle.judge.specs.Inside.{IsKept};
+ghost use Rattle.judge.specs.Showing.{Shows, Fits, Follows, IsJudged};
+
+use crate::tenant::Tenant;
+use judge_core::Verdict;
+use judge_report::{judge_destroy, judge_reap, judge_report};
+use std::alloc::AllocError;
+use words_core::{Body, Command};
+
+impl Tenant {
+    /// The verdict on a reply of this body to the tenant's command, and what is known is as it is after it; after a breach it is
+    /// as before. Fails where memory runs out, and then nothing is changed.
+    pub fn judge(&mut self, command: &Command, body: &Body) -> Result<Verdict, AllocError>
+        ensures judged { IfOk result (λ verdict. (t : ℕ) (owners : List (Option Owning))
+            → IsJudged (On.Tenant t command.now) body.now owners self.old self.new verdict) }
+        ensures failed { OnErr result (self.new ≡ self.old) }
+    {
+        match self.verdict(command, body) {
+            Ok(()) => {
+                self.follow(command, body)?;
+                Ok(Ok(()))
+            }
+            Err(promise) => Ok(Err(promise)),
+        }
+    }
+
+    /// The verdict on such a reply.
+    fn verdict(&self, command: &Command, body: &Body) -> Verdict
+        ensures { (t : ℕ) (owners : List (Option Owning)) (w : Known) (s : State)
+            → Fits self.now owners w → Shows self.now s → result ≡ verdict_on (On.Tenant t command.now) body.now w s }
+    {
+        let order = self.left.order();
+        let told = self.told.as_ref();
+        match command {
+            Command::Alloc { order: k } => self.held.judge_alloc(order, *k, body),
+            Command::Free { frame } => self.held.judge_free(*frame, body),
+            Command::Read { place, len } => self.judge_read(*place, *len, body),
+            Command::Write { place, bytes } => self.held.judge_write(*place, bytes, body),
+            Command::Cache {
+                size,
+                align,
+                pattern,
+            } => self.held.judge_cache(order, *size, *align, pattern, body),
+            Command::Destroy { cache } => {
+                judge_destroy(&self.held, order, &self.hides, told, *cache, body)
+            }
+            Command::Take { cache } => self.held.judge_take(order, *cache, body),
+            Command::Give { cache, place } => self.held.judge_give(*cache, *place, body),
+            Command::Reap => judge_reap(&self.held, order, &self.hides, told, body),
+            Command::Report => judge_report(&self.held, order, &self.hides, told, body),
+        }
+    }
+
+    /// What is known after a reply that keeps each promise. Fails where memory runs out, and then nothing is changed.
+    fn follow(&mut self, command: &Command, body: &Body) -> Result<(), AllocError>
+        requires { (t : ℕ) → IsKept (On.Tenant t command.now) body.now self.old }
+        ensures followed { OnOk result ((t : ℕ) → Follows (On.Tenant t command.now) body.now self.old self.new) }
+        ensures failed { OnErr result (self.new ≡ self.old) }
+    {
+        match command {
+            Command::Alloc { order } => self.after_alloc(*order, body),
+            Command::Free { frame } => {
+                self.after_free(*frame, body);
+                Ok(())
+            }
+            Command::Read { place, len } => {
+                self.after_read(*place, *len, body);
+                Ok(())
+            }
+            Command::Write { place, bytes } => {
+                self.after_write(*place, bytes, body);
+                Ok(())
+            }
+            Command::Cache {
+                size,
+                align,
+                pattern,
+            } => self.after_cache(*size, *align, pattern, body),
+            Command::Destroy { cache } => {
+                self.after_destroy(*cache, body);
+                Ok(())
+            }
+            Command::Take { cache } => self.after_take(*cache, body),
+            Command::Give { cache, place } => {
+                self.after_give(*cache, *place, body);
+                Ok(())
+            }
+            Command::Reap => {
+                self.after_reap(body);
+                Ok(())
+            }
+            Command::Report => {
+                self.after_report(body);
+                Ok(())
+            }
+        }
+    }
+}

@@ -1,0 +1,17 @@
+//! Judges the replies of any page and object allocator of a partitioning kernel, an event after the other.
+//!
+//! What is kept shows what [`promise_core`] says is known, and the verdict on a reply is the one of its definitions.
+#![tactic(auto)]
+
+mod bytes;
+mod caches;
+mod figures;
+mod judging;
+mod marks;
+mod objects;
+mod pages;
+mod slots;
+mod tenant;
+
+pub use judge_core::Verdict;
+pub use tenant::Tenant;

@@ -1,0 +1,47 @@
+//! By number of a cache, whether a slab without live objects may stand.
+
+ghost use Rattle.std.specs.Prelude.{◌≡◌, ◌<◌, ◌==◌, ◌&&◌, ◌||◌, ℕ, false, not, nat_lt, slice_index_or};
+ghost use Rattle.model_core.specs.declared.limits.TheConstants.{MOST_CACHES};
+ghost use Rattle.promise_core.specs.Holdings.{cache_told};
+ghost use Rattle.promise_core.specs.State.{is_in_use};
+
+use judge_core::Held;
+use words_core::CACHES;
+
+/// Also of the cache of this number.
+pub(crate) fn set_mark(marks: &mut [bool; CACHES], number: u32)
+    requires { number < MOST_CACHES }
+    ensures { (n : ℕ) → slice_index_or marks.new n false ≡ (n == number || slice_index_or marks.old n false) }
+{
+    marks[number as usize] = true;
+}
+
+/// No longer of the cache of this number.
+pub(crate) fn clear_mark(marks: &mut [bool; CACHES], number: u32)
+    ensures { (n : ℕ) → slice_index_or marks.new n false ≡ (not (n == number) && slice_index_or marks.old n false) }
+{
+    if (number as usize) < CACHES {
+        marks[number as usize] = false;
+    }
+}
+
+/// Of those that have a live object.
+pub(crate) fn marks_of_used(held: &Held) -> [bool; CACHES]
+    ensures { (n : ℕ) → slice_index_or result n false ≡ (nat_lt n MOST_CACHES && is_in_use (cache_told held.now n)) }
+{
+    let mut marks = [false; CACHES];
+    for n in 0..CACHES {
+        marks[n] = is_used(held, n as u32);
+    }
+    marks
+}
+
+/// Whether there is a cache of this number, and it has a live object.
+fn is_used(held: &Held, number: u32) -> bool
+    ensures { result ≡ is_in_use (cache_told held.now number) }
+{
+    match held.cache(number) {
+        Some(cache) => cache.is_in_use(),
+        None => false,
+    }
+}
