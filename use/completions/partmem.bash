@@ -1,11 +1,11 @@
 # Completions of partmem and framemap for bash.
 _partmem() {
-    local options='--order --superblocks --tenants --only --tally --help --version'
+    local options='--order --superblocks --tenants --only --own --tally --help --version'
     [ "${1##*/}" = framemap ] && options='--order --superblocks --tenants --only --columns --help --version'
     COMPREPLY=()
     case $3 in
         --order) mapfile -t COMPREPLY < <(compgen -W '3 4 5 6 7 8' -- "$2") ;;
-        --superblocks | --tenants | --only | --columns) ;;
+        --superblocks | --tenants | --only | --own | --columns) ;;
         *)
             case $2 in
                 -*) mapfile -t COMPREPLY < <(compgen -W "$options" -- "$2") ;;

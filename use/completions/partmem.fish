@@ -7,5 +7,6 @@ for program in partmem framemap
     complete -c $program -s h -l help -d 'Print help'
     complete -c $program -s V -l version -d 'Print the version'
 end
+complete -c partmem -l own -x -d 'The own list of this tenant, in place of replies'
 complete -c partmem -l tally -d 'Tell on standard error what was done, refused and faulty'
 complete -c framemap -l columns -x -d 'Columns of the picture at most, 1 to 4096'

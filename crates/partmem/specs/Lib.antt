@@ -1,4 +1,5 @@
 pub mod Outcome
+pub mod Own
 pub mod Promised
 pub mod Run
 pub mod Settings

@@ -1,6 +1,6 @@
 //! Runs a trace on a new machine whose memory is shared by tenants, and writes its replies to standard output.
 //!
-//! `partmem --order S --superblocks N --tenants T [--only T] [--tally] [FILE]`
+//! `partmem --order S --superblocks N --tenants T [--only T | --own T] [--tally] [FILE]`
 //!
 //! The exits are those of `command_line::Exit`.
 //!
@@ -14,15 +14,17 @@ ghost use Rattle.command_line.specs.declared.exit.Outcome.{Outcome};
 ghost use Rattle.partmem.specs.Outcome.{ended_at_once};
 
 mod outcome;
+mod own;
 mod run;
 mod settings;
 
 use command_line::{Exit, Machine, Outcome, Refused, hand_out, tell, words_given};
 use outcome::Ended;
+use own::run_own;
 use replay_core::{ReaderFeed, Tally, WriterDrain};
 use run::run;
 use run_notes::{FaultNotes, MOST_NUMBER, NotedReader, NotedWriter, RefusalNotes};
-use settings::{PROGRAM, Settings, read_words};
+use settings::{OWN_PROGRAM, PROGRAM, Settings, read_words};
 use std::fs::File;
 use std::io::{self, Read, Write};
 use std::process::ExitCode;
@@ -96,6 +98,9 @@ fn run_opened<R: Read + Drop>(
     if settings.tally {
         return run_noted(rt, &settings.machine, reader);
     }
+    if let Some(tenant) = settings.own {
+        return keep_own(rt, &settings.machine, tenant, reader);
+    }
     Ran {
         ended: run_between(rt, &settings.machine, reader, io::writer(rt)),
         unopened: None,
@@ -115,6 +120,34 @@ fn run_noted<R: Read + Drop>(rt: &(impl Print + AllocGlobal), machine: &Machine,
             faults: trace.into_notes(),
             refusals: replies.into_notes(),
         }),
+    }
+}
+
+/// Writes a tenant's own list of the trace of a reader to standard output. Nothing is counted.
+fn keep_own<R: Read + Drop>(
+    rt: &(impl Print + AllocGlobal),
+    machine: &Machine,
+    tenant: u8,
+    reader: R,
+) -> Ran {
+    let alloc = rt.alloc();
+    let outcome = match Vec::with_capacity(alloc, BUFFER_BYTES) {
+        Err(_) => Outcome::NoMemory,
+        Ok(room) => run_own(
+            alloc,
+            machine,
+            tenant,
+            &mut ReaderFeed::new(reader),
+            &mut WriterDrain::holding(io::writer(rt), room),
+        ),
+    };
+    Ran {
+        ended: Ended {
+            outcome,
+            tally: Tally::default(),
+        },
+        unopened: None,
+        notes: None,
     }
 }
 
@@ -142,7 +175,12 @@ fn tell_run(rt: &impl Eprint, settings: &Settings, ran: Ran) -> ExitCode {
     if settings.tally {
         tell_tally(rt, &ran.ended.tally);
     }
-    let code = tell(rt, PROGRAM, &Exit::Ran(ran.ended.outcome));
+    let program = if settings.own.is_some() {
+        OWN_PROGRAM
+    } else {
+        PROGRAM
+    };
+    let code = tell(rt, program, &Exit::Ran(ran.ended.outcome));
     if settings.tally {
         tell_unopened(rt, settings, ran.unopened.as_ref());
     }

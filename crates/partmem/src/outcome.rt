@@ -1,9 +1,10 @@
 //! How a run ends, and what it counted.
 
 ghost use Rattle.std.specs.Prelude.{◌≡◌};
-ghost use Rattle.partmem.specs.Outcome.{outcome_of, tally_of, without_unwritten, ended_at_once};
+ghost use Rattle.partmem.specs.Outcome.{outcome_of, outcome_of_kept, tally_of, without_unwritten, ended_at_once};
 
 use command_line::Outcome;
+use own_trace::KeepError;
 use replay_core::{ReplayError, Tally};
 
 /// A run that has ended.
@@ -34,6 +35,17 @@ pub fn outcome_of(replayed: &Result<Tally, ReplayError>, unsent: bool, flushed: 
     match replayed {
         Ok(_) if flushed => Outcome::Done,
         Err(ReplayError::Feed(_)) if !unsent => Outcome::Unreadable,
+        _ => Outcome::Unwritable,
+    }
+}
+
+/// The same of a run that keeps a tenant's own list.
+pub fn outcome_of_kept(kept: &Result<(), KeepError>, unsent: bool, flushed: bool) -> Outcome
+    ensures { result ≡ outcome_of_kept kept.now unsent flushed }
+{
+    match kept {
+        Ok(()) if flushed => Outcome::Done,
+        Err(KeepError::Feed) if !unsent => Outcome::Unreadable,
         _ => Outcome::Unwritable,
     }
 }

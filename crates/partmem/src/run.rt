@@ -61,7 +61,7 @@ pub fn run<F: Feed, W: Write>(
 }
 
 /// Flushes a drain that has not failed; answers whether the writer then has all that the drain took.
-fn flush<W: Write>(drain: &mut WriterDrain<W>) -> bool
+pub(crate) fn flush<W: Write>(drain: &mut WriterDrain<W>) -> bool
     ensures bytes { Keeps (⟦<WriterDrain<W> as Drain>⟧.contents drain.old) (⟦<WriterDrain<W> as Drain>⟧.contents drain.new) }
     ensures empty { result ≡ true → ⟦<WriterDrain<W> as Drain>⟧.held_back drain.new ≡ [] }
     ensures failed { ⟦<WriterDrain<W> as Drain>⟧.has_failed drain.new ≡ not result }

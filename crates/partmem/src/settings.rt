@@ -1,12 +1,14 @@
 //! The command line.
 
-ghost use Rattle.std.specs.Prelude.{◌≡◌, IfOk, map};
+ghost use Rattle.std.specs.Prelude.{◌≡◌, ◌<◌, IfOk, map, codes};
+ghost use Rattle.std.specs.Option.{ForSome};
 ghost use Rattle.std.specs.String.{string_bytes};
-ghost use Rattle.clap.specs.Words.{app_of};
-ghost use Rattle.partmem.specs.Settings.{IsAskedBy, command_line};
+ghost use Rattle.clap.specs.Words.{app_of, found_of, one_text};
+ghost use Rattle.command_line.specs.Machine.{MayWrite};
+ghost use Rattle.partmem.specs.Settings.{IsAlone, IsAskedBy, command_line};
 
-use clap::{Arg, ArgAction, Command};
-use command_line::{Machine, Program, Refused, parse, path_of, positional};
+use clap::{Arg, ArgAction, ArgMatches, Command};
+use command_line::{Machine, Program, Refused, number, parse, path_of, positional};
 use std::alloc::{AllocError, Global};
 
 /// What this program tells of itself.
@@ -16,6 +18,12 @@ pub const PROGRAM: Program<'static> = Program {
     only: "Writes the lines of this tenant alone, a number below the tenants",
     after_help: AFTER_HELP,
     unwritten: "replies could not be written",
+};
+
+/// The same where a tenant's own list is written.
+pub const OWN_PROGRAM: Program<'static> = Program {
+    unwritten: "own list could not be written",
+    ..PROGRAM
 };
 
 /// What `--help` tells below the arguments.
@@ -41,9 +49,13 @@ NUMBER NAME, and one of a number that is no tenant !> refused 12 NoTenant. A fau
 answered !> fault NAME: any line of more than 255 bytes, a comment too, is !> fault Long.
 Other comments, which begin with #, and blank lines have no reply.
 
+With --own T no reply is written, but those lines of the trace that tenant T's own list is,
+as they stand: T's commands, what was granted to T or taken back and not refused, and resets
+of T. Replayed with the same sizes they write the same replies to T.
+
 Exit status:
   0  the trace is done; or --help or --version
-  1  the trace could not be read, or the replies or this help could not be written
+  1  the trace could not be read, or the output or this help could not be written
   2  the command line is faulty
   3  there is not enough memory
 
@@ -55,6 +67,8 @@ Example:
 pub struct Settings {
     /// The machine, and the tenant whose lines alone are written.
     pub machine: Machine,
+    /// The tenant whose own list is written in place of replies, a number below the tenants.
+    pub own: Option<u8>,
     /// Whether the tally of the run is told.
     pub tally: bool,
     /// The path of the trace, as it was written; standard input without it.
@@ -67,21 +81,59 @@ pub fn read_words<'a>(alloc: Global, words: &'a [String]) -> Result<Settings, Re
     ensures asked { IfOk result (IsAskedBy (map (λ word. string_bytes word) words.entry.now)) }
 {
     let matches = parse(alloc, command(alloc)?, words)?;
+    let machine = Machine::found(alloc, &matches)?;
+    let tally = matches.get_flag("tally");
+    let own = own_found(alloc, &matches, &machine, tally)?;
     Ok(Settings {
-        machine: Machine::found(alloc, &matches)?,
-        tally: matches.get_flag("tally"),
+        machine,
+        own,
+        tally,
         file: path_of(alloc, &matches, "FILE")?,
     })
+}
+
+/// The tenant whose own list is asked for.
+///
+/// Refused with `BadLine` where that is no tenant of the machine, or where replies to one tenant or a tally are asked for too;
+/// or with `NoMemory`.
+fn own_found(
+    alloc: Global,
+    matches: &ArgMatches<'_>,
+    machine: &Machine,
+    tally: bool,
+) -> Result<Option<u8>, Refused>
+    ensures asked { IfOk result (MayWrite (one_text (found_of matches.now) (codes "own"))) }
+    ensures below { IfOk result (λ own. ForSome own (λ tenant. tenant < machine.now.config.tenants)) }
+    ensures alone { IfOk result (λ own. IsAlone own machine.now.only tally) }
+{
+    let Some(tenant) = matches.get_one::<u32>("own") else {
+        return Ok(None);
+    };
+    if machine.only.is_some() || tally {
+        let text = "error: --own goes with neither --only nor --tally\n";
+        return Err(Refused::BadLine(String::from_str(alloc, text)?));
+    }
+    if tenant >= machine.config.tenants {
+        let text = "partmem: --own names no tenant\n";
+        return Err(Refused::BadLine(String::from_str(alloc, text)?));
+    }
+    Ok(Some(tenant as u8))
 }
 
 /// The arguments that there are, with their ranges.
 fn command<'a>(alloc: Global) -> Result<Command<'a>, AllocError>
     ensures { IfOk result (λ command. app_of command ≡ command_line) }
 {
+    let own = number(alloc, "own", "T", 0, u32::MAX)
+        .help("Writes this tenant's own list of the trace, in place of replies")
+        .required(false);
     let tally = Arg::new(alloc, "tally")
         .long("tally")
         .help("Tells on standard error what was done, refused and faulty")
         .action(ArgAction::SetTrue);
     let file = positional(alloc, "FILE", "The trace [default: standard input]");
-    command_line::command(alloc, PROGRAM)?.arg(tally)?.arg(file)
+    command_line::command(alloc, PROGRAM)?
+        .arg(own)?
+        .arg(tally)?
+        .arg(file)
 }

@@ -1,0 +1,39 @@
+use Rattle.std.proofs.Common.{◌+◌, take, drop, sym, arith, length-drop}
+use Rattle.std.proofs.lemmas.List.{take_rest}
+use Rattle.replay_core.proofs.LineLemmas.{found_cut, none_cut}
+use Rattle.replay_core.proofs.RunLemmas.{at_error}
+use Rattle.own_trace.proofs.Lines.{stands_more, stopped_within, stands_held}
+use Rattle.own_trace.proofs.keeping.keep_piece.Goals as goal
+
+pub returns-in_err-keep_line-clause-kept : goal.returns-in_err-keep_line-clause-kept
+returns-in_err-keep_line-clause-kept g c before given start stands =
+    let rest = c.lines.rest.now in
+    let end = c.in-Some.end in
+    let here = c.lines.invariant.0 before given start stands in
+    let found = found_cut rest end (sym c.in-Some.ensures.at) in
+    at_error _ _ c.from_residual.result c.from_residual.ensures.0
+    (λ _. stopped_within _ before _ _ given rest (take end rest) (drop (end + 1) rest) start _ _ _ _ _ here found.0 found.1
+    (c.in_err-keep_line.ensures.kept _ (c.add.ensures here.tail here.holds)))
+
+pub lines-preserved : goal.lines-preserved
+lines-preserved g c =
+    let rest = c.lines.rest.now in
+    let end = c.in-Some.end in
+    let found = found_cut rest end (sym c.in-Some.ensures.at) in
+    rw (take_rest rest (end + 1)) (
+      λ before given start stands.
+          let here = c.lines.invariant.0 before given start stands in
+          stands_more _ before _ _ given rest (take end rest) (drop (end + 1) rest) start _ _ _ _ _ here found.0 found.1 c.new.ensures
+          (c.in_ok-keep_line.ensures.kept _ (c.add.ensures here.tail here.holds)),
+      c.in_ok-keep_line.ensures.failed,
+      omega (arith, c.lines.invariant.2, length-drop (end + 1) rest),
+    )
+
+pub returns-clause-kept : goal.returns-clause-kept
+returns-clause-kept g c before given start stands =
+    let rest = c.lines.rest.now in
+    let here = c.lines.invariant.0 before given start stands in
+    stands_held _ before _ given rest start _ _ _ here (none_cut rest (sym c.in_default.ensures.at)) (c.add-2.ensures here.tail here.holds)
+
+pub overflow_add-rest : goal.overflow_add-rest
+overflow_add-rest g c = omega (arith, c.in-Some.ensures.within, c.lines.invariant.2)

@@ -1,0 +1,28 @@
+-- What the own lines of a trace are, over the definitions alone.
+use Rattle.std.specs.Prelude.{◌≡◌, ℕ, ◌*◌, ◌^◌, ◌<◌, ◌≤◌, List, filter}
+use Rattle.std.specs.List.{flat_map}
+use Rattle.words_core.specs.Cutting.{lines_of_trace}
+use Rattle.world_core.specs.World.{opening_world}
+use Rattle.world_core.specs.OwnList.{own_list}
+use Rattle.world_core.specs.Output.{events_of, lines_for, output_of}
+use Rattle.world_core.specs.Laws.{opening_history}
+use Rattle.own_trace.specs.Kept.{run_lines, is_own, own_trace}
+
+-- The entries of the lines that are kept are the tenant's own list of the trace, in their order.
+abbrev pub KeptAreOwnList : Type 0
+KeptAreOwnList = (limit order superblocks tenants t : ℕ) (trace : List ℕ) →
+    flat_map (λ run. own_list t run.exchanges) (filter (is_own t) (run_lines limit order (lines_of_trace trace) (opening_world superblocks tenants)))
+    ≡ own_list t (opening_history limit order superblocks tenants (events_of (lines_of_trace trace)))
+
+-- Run alone, on a new machine of the same sizes, they are that own list again; slots have at least 8 frames, and no place of RAM is
+-- 2 ^ 32 or more ..
+abbrev pub OwnListAlone : Type 0
+OwnListAlone = (limit order superblocks tenants t : ℕ) (trace : List ℕ) → 3 ≤ order → superblocks * 2 ^ order * 4096 ≤ 2 ^ 32 → t < tenants →
+    own_list t (opening_history limit order superblocks tenants (events_of (lines_of_trace (own_trace limit order superblocks tenants t trace))))
+    ≡ own_list t (opening_history limit order superblocks tenants (events_of (lines_of_trace trace)))
+
+-- .. so the tenant is told the same lines.
+abbrev pub LinesAlone : Type 0
+LinesAlone = (limit order superblocks tenants t : ℕ) (trace : List ℕ) → 3 ≤ order → superblocks * 2 ^ order * 4096 ≤ 2 ^ 32 → tenants ≤ 2 ^ 64 → t < tenants →
+    lines_for t (output_of limit order (own_trace limit order superblocks tenants t trace) (opening_world superblocks tenants))
+    ≡ lines_for t (output_of limit order trace (opening_world superblocks tenants))

@@ -1,0 +1,176 @@
+//! The lines of a tenant's own list, from a feed into a drain.
+
+ghost use Rattle.std.specs.Prelude.{◌≡◌, ℕ, ◌+◌, ◌^◌, ◌<◌, true, false, List, [], Option, length, is_err, MatchResult};
+ghost use Rattle.std.specs.Io.KnownBytes.{Consumes, Appends, IsAtEnd};
+ghost use Rattle.words_core.specs.Grammar.{reading_of};
+ghost use Rattle.parts_core.specs.Parts.{Parts, SameSizes};
+ghost use Rattle.kernel_core.specs.Shows.{Shows};
+ghost use Rattle.world_core.specs.Limits.{cache_limit};
+ghost use Rattle.world_core.specs.World.{World, history, world_after};
+ghost use Rattle.world_core.specs.OwnList.{own_entries, own_list};
+ghost use Rattle.world_core.specs.Output.{event_in};
+ghost use Rattle.replay_core.specs.Pending.{HoldsLine};
+ghost use Rattle.replay_core.specs.Standing.{IsRunnable};
+ghost use Rattle.own_trace.specs.Kept.{has_entry};
+ghost use Rattle.own_trace.specs.Keeping.{Keeps, IsDone, NamesFailed, IsTaken, HasKept, Stands, HasStopped};
+
+use kernel_core::Kernel;
+use replay_core::{Drain, Feed, Pending, Stopped, line_end};
+use thiserror::Error;
+use words_core::{AdminCommand, Body, Event, LineFault};
+
+/// How many bytes are asked for in one pull.
+const PIECE_BYTES: usize = 65_536;
+
+/// Which end failed.
+#[derive(Clone, Copy, Debug, PartialEq, Eq, Drop, Error)]
+pub enum KeepError {
+    /// The feed: all lines that ended in LF have been run, and the unfinished one has not been.
+    #[error("the trace could not be read")]
+    Feed,
+    /// The drain: a beginning of the own list was pushed.
+    #[error("the own list could not be written")]
+    Drain,
+}
+
+/// Runs the trace that the feed gives on the kernel, and pushes those of its lines into the drain that are the own list of the
+/// tenant: as they stand, each with an LF. What the kernel answers is told nobody.
+///
+/// Lines are cut and run as `replay_core::replay` does: at LF wherever the pieces end, a last line without LF too, and the
+/// drain sends what was pushed before the feed is asked for more. Allocates nothing.
+pub fn keep<F: Feed, D: Drain>(
+    kernel: &mut Kernel,
+    feed: &mut F,
+    drain: &mut D,
+    tenant: u8,
+) -> Result<(), KeepError>
+    requires feed_fine { F.has_failed feed.old ≡ false }
+    requires drain_fine { D.has_failed drain.old ≡ false }
+    // What was given and taken during the call, and how they hang together, whichever world the kernel showed. Where the feed
+    // does not tell its bytes, how many it gave is known.
+    ensures kept { (given : List ℕ) × (taken : List ℕ)
+        × Consumes (F.remaining feed.old) (F.remaining feed.new) given
+        × Appends (D.contents drain.old) (D.contents drain.new) taken
+        × Keeps (F.has_ended feed.new) tenant kernel.old kernel.new given taken result
+        × (F.room_left feed.new + length given ≡ F.room_left feed.old) }
+    ensures ended { IsDone result (F.has_ended feed.new) }
+    // Then what was given is all that it had.
+    ensures whole { F.has_ended feed.new ≡ true → IsAtEnd (F.remaining feed.new) }
+    ensures failed { NamesFailed result (F.has_failed feed.new) (D.has_failed drain.new) }
+{
+    let mut pending = Pending::new();
+    let mut piece = [0; PIECE_BYTES];
+    'pulls: loop {
+        drain.send();
+        let Ok(count) = feed.pull(&mut piece) else {
+            return Err(KeepError::Feed);
+        };
+        if count == 0 {
+            break;
+        }
+        let kept = keep_piece(&piece[..count], &mut pending, kernel, drain, tenant);
+        if kept.is_err() {
+            return Err(KeepError::Drain);
+        }
+    }
+    if pending.is_empty() {
+        return Ok(());
+    }
+    if keep_line(&pending, kernel, drain, tenant).is_err() {
+        return Err(KeepError::Drain);
+    }
+    Ok(())
+}
+
+/// Runs the lines that end in a piece of the trace; what follows the last of them becomes pending.
+fn keep_piece<D: Drain>(
+    piece: &[u8],
+    pending: &mut Pending,
+    kernel: &mut Kernel,
+    drain: &mut D,
+    tenant: u8,
+) -> Result<(), Stopped>
+    requires fits { length piece.now < 2 ^ 64 }
+    requires fine { D.has_failed drain.old ≡ false }
+    ensures kept { (before : Parts) (given : List ℕ) (start : Option (List ℕ))
+        → Stands tenant before kernel.old given piece.now start (D.contents drain.old) pending.old
+        → MatchResult result
+        (λ _. Stands tenant before kernel.new given [] start (D.contents drain.new) pending.new)
+        (λ _. HasStopped tenant before given start (D.contents drain.new)) }
+    ensures failed { D.has_failed drain.new ≡ is_err result }
+{
+    let mut rest = piece;
+    'lines: while let Some(end) = line_end(rest) {
+        pending.add(&rest[..end]);
+        keep_line(pending, kernel, drain, tenant)?;
+        *pending = Pending::new();
+        rest = &rest[end + 1..];
+    }
+    pending.add(rest);
+    Ok(())
+}
+
+/// Runs the line that has come, and pushes it where it is the tenant's own. Such a line has at most 256 bytes, so it is held
+/// whole.
+fn keep_line<D: Drain>(
+    pending: &Pending,
+    kernel: &mut Kernel,
+    drain: &mut D,
+    tenant: u8,
+) -> Result<(), Stopped>
+    requires { D.has_failed drain.old ≡ false }
+    ensures kept { (line : List ℕ) → HoldsLine line pending.now →
+        HasKept tenant line kernel.old kernel.new (D.contents drain.old) (D.contents drain.new) (D.has_failed drain.new) result }
+    ensures failed { D.has_failed drain.new ≡ is_err result }
+{
+    if !run_line(pending.reading(), kernel, tenant) {
+        return Ok(());
+    }
+    push_all(pending.held.as_slice(), drain)?;
+    push_all(b"\n", drain)
+}
+
+/// Runs a line that was read so, and answers whether it is in the tenant's own list.
+fn run_line(reading: Result<Option<Event>, LineFault>, kernel: &mut Kernel, tenant: u8) -> bool
+    requires { IsRunnable reading }
+    ensures sizes { SameSizes kernel.old kernel.new }
+    ensures shows { (w : World) → Shows kernel.old w → Shows kernel.new (world_after cache_limit kernel.old.order w (event_in reading)) }
+    ensures own { (w : World) → Shows kernel.old w
+        → result ≡ has_entry (own_list tenant (history cache_limit kernel.old.order w (event_in reading))) }
+{
+    match reading {
+        Ok(Some(event)) => {
+            let reply = kernel.step(&event);
+            is_own(tenant, &event, &reply.body)
+        }
+        Ok(None) | Err(_) => false,
+    }
+}
+
+/// Whether an event that was answered so is in the tenant's own list. A reset is never refused a tenant that there is.
+fn is_own(tenant: u8, event: &Event, body: &Body) -> bool
+    ensures { result ≡ has_entry (own_entries tenant event.now body.now) }
+{
+    match event {
+        Event::Tenant(named, _) | Event::Admin(AdminCommand::Reset { tenant: named }) => {
+            *named == u32::from(tenant)
+        }
+        Event::Admin(
+            AdminCommand::Grant { tenant: named } | AdminCommand::TakeBack { tenant: named, .. },
+        ) => *named == u32::from(tenant) && !matches!(body, Body::Refused(_)),
+        Event::Admin(AdminCommand::Move { .. } | AdminCommand::Pool) => false,
+    }
+}
+
+/// Pushes all of the bytes, the rest again after a push that took less.
+fn push_all<D: Drain>(bytes: &[u8], drain: &mut D) -> Result<(), Stopped>
+    requires { D.has_failed drain.old ≡ false }
+    ensures { IsTaken (D.contents drain.old) (D.contents drain.new) (D.has_failed drain.new) bytes.now result }
+{
+    let mut rest = bytes;
+    while !rest.is_empty() {
+        let count = drain.push(rest)?;
+        rest = &rest[count..];
+    }
+    Ok(())
+}

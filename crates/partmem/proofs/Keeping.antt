@@ -1,0 +1,155 @@
+-- From the answer of a keeping on a new machine to the outcome of a run.
+use Rattle.std.proofs.Common.{◌≡◌, ℕ, ◌-◌, Bool, true, false, not, inl, inr, List, [], ◌++◌, length, take, Option, Some, None, Result, Ok, Err, IfSome, refl, ap, sym, subst, ◌∙◌, append_assoc}
+use Rattle.std.specs.Io.KnownBytes.{Appends, Consumes, IsAtEnd, append_known}
+use Rattle.std.proofs.lemmas.List.{append-nil}
+use Rattle.words_core.specs.Cutting.{lines_of_trace}
+use Rattle.world_core.specs.Limits.{cache_limit}
+use Rattle.world_core.specs.Output.{ended_lines, events_of}
+use Rattle.world_core.specs.Laws.{EndedLinesStay}
+use Rattle.world_core.specs.World.{World, opening_world, world_after}
+use Rattle.parts_core.specs.Parts.{Parts}
+use Rattle.replay_core.specs.declared.replaying.Tally.{Tally}
+use Rattle.replay_core.specs.declared.replaying.ReplayError.{ReplayError}
+use Rattle.replay_core.specs.declared.replaying.ReplayError.TheVariants as Failed
+use Rattle.replay_core.specs.Runs.{HasCome, IsDone as IsReplayed, NamesFailed as NamesEnd}
+use Rattle.own_trace.specs.declared.keeping.KeepError.{KeepError}
+use Rattle.own_trace.specs.declared.keeping.KeepError.TheVariants as Kept
+use Rattle.own_trace.specs.Kept.{own_text}
+use Rattle.own_trace.specs.Keeping.{Keeps, IsDone, NamesFailed, BeginsOwn}
+use Rattle.own_trace.proofs.Kept.{own_both}
+use Rattle.command_line.specs.declared.exit.Outcome.TheVariants.{Unwritable, NoMemory}
+use Rattle.command_line.specs.declared.machine.Machine.{Machine}
+use Rattle.partmem.specs.Outcome.{no_tally, outcome_of, outcome_of_kept}
+use Rattle.partmem.specs.Own.{own_of, WritesOwn, IsOwnOfTrace}
+use Rattle.partmem.specs.Run.{EndsAs, HasReached, IsBeginning, IsGiven}
+use Rattle.partmem.proofs.Writing.{IsNew, ends, given_so_far, of_trace, reached}
+
+-- The same end of a replay: a keeping ends as it.
+as_replayed : Result (Unit {0}) KeepError → Result Tally ReplayError
+as_replayed (Ok done) = Ok no_tally
+as_replayed (Err Kept.Feed) = Err (Failed.Feed no_tally)
+as_replayed (Err Kept.Drain) = Err (Failed.Drain no_tally)
+
+same_outcome : (kept : Result (Unit {0}) KeepError) (unsent flushed : Bool) → outcome_of (as_replayed kept) unsent flushed ≡ outcome_of_kept kept unsent flushed
+unfolding as_replayed
+same_outcome (Ok done) unsent true = refl
+same_outcome (Ok done) unsent false = refl
+same_outcome (Err Kept.Feed) true flushed = refl
+same_outcome (Err Kept.Feed) false flushed = refl
+same_outcome (Err Kept.Drain) unsent flushed = refl
+
+same_done : (kept : Result (Unit {0}) KeepError) (ended : Bool) → IsDone kept ended → IsReplayed (as_replayed kept) ended
+unfolding as_replayed
+same_done (Ok done) ended is = is
+same_done (Err Kept.Feed) ended is = tt
+same_done (Err Kept.Drain) ended is = tt
+
+same_named : (kept : Result (Unit {0}) KeepError) (unread undrained : Bool) → NamesFailed kept unread undrained → NamesEnd (as_replayed kept) unread undrained
+unfolding as_replayed
+same_named (Ok done) unread undrained is = is
+same_named (Err Kept.Feed) unread undrained is = is
+same_named (Err Kept.Drain) unread undrained is = is
+
+-- how much of what was taken went on
+pub own_reached : (kept : Result (Unit {0}) KeepError) (unsent flushed failed : Bool) (before writer : Option (List ℕ)) (held taken : List ℕ)
+    → failed ≡ not flushed → (flushed ≡ true → held ≡ []) → Appends before (append_known writer held) taken
+    → HasReached (outcome_of_kept kept unsent flushed) failed before writer held taken (take (length taken - length held) taken)
+own_reached kept unsent flushed failed before writer held taken same none appended =
+    subst (λ outcome. HasReached outcome failed before writer held taken (take (length taken - length held) taken)) (same_outcome kept unsent flushed)
+    (reached (as_replayed kept) unsent flushed failed before writer held taken same none appended)
+
+-- which end had failed
+pub own_ends : (kept : Result (Unit {0}) KeepError) (ended unread undrained unsent flushed : Bool) → IsDone kept ended → NamesFailed kept unread undrained
+    → (unsent ≡ true → flushed ≡ false) → (undrained ≡ true → flushed ≡ false)
+    → EndsAs (outcome_of_kept kept unsent flushed) ended unread (not flushed) unsent
+own_ends kept ended unread undrained unsent flushed done named stopped fine =
+    subst (λ outcome. EndsAs outcome ended unread (not flushed) unsent) (same_outcome kept unsent flushed)
+    (ends (as_replayed kept) ended unread undrained unsent flushed (same_done kept ended done) (same_named kept unread undrained named) stopped fine)
+
+own_given : (kept : Result (Unit {0}) KeepError) (unsent flushed ended : Bool) (given more : List ℕ) → IsDone kept ended → (ended ≡ true → more ≡ [])
+    → IsGiven (outcome_of_kept kept unsent flushed) (given ++ more) given
+own_given kept unsent flushed ended given more done over =
+    subst (λ outcome. IsGiven outcome (given ++ more) given) (same_outcome kept unsent flushed)
+    (given_so_far (as_replayed kept) unsent flushed ended given more (same_done kept ended done) over)
+
+-- in the kernel's words and in the machine's
+at_order : (m : Machine) (t : ℕ) (k : Parts) (lines : List (List ℕ)) → IsNew m k
+    → own_text t cache_limit k.order lines (opening_world m.config.superblocks m.config.tenants) ≡ own_of m.config t lines
+at_order m t k lines new =
+    ap (λ order. own_text t cache_limit order lines (opening_world m.config.superblocks m.config.tenants)) new.order
+
+-- a beginning of the own list of some lines is one of any lines that go on from them
+goes_on : (m : Machine) (t : ℕ) (lines xs more : List (List ℕ)) (taken : List ℕ) → lines ≡ xs ++ more → IsBeginning taken (own_of m.config t xs)
+    → IsBeginning taken (own_of m.config t lines)
+goes_on m t lines xs more taken split (rest, whole) =
+    let w : World = opening_world m.config.superblocks m.config.tenants in
+    let later : List ℕ = own_text t cache_limit m.config.order more (world_after cache_limit m.config.order w (events_of xs)) in (
+      rest ++ later,
+      ap (own_of m.config t) split ∙ own_both t cache_limit m.config.order xs more w ∙ ap (λ text. text ++ later) whole ∙ append_assoc taken rest later,
+    )
+
+whole_begins : (m : Machine) (t : ℕ) (k : Parts) (lines : List (List ℕ)) (taken : List ℕ) → IsNew m k
+    → taken ≡ own_text t cache_limit k.order lines (opening_world m.config.superblocks m.config.tenants) → IsBeginning taken (own_of m.config t lines)
+whole_begins m t k lines taken new is = ([], sym (at_order m t k lines new) ∙ sym is ∙ sym (append-nil taken))
+
+part_begins : (m : Machine) (t : ℕ) (k : Parts) (lines : List (List ℕ)) (taken : List ℕ) → IsNew m k → BeginsOwn t k lines taken → IsBeginning taken (own_of m.config t lines)
+part_begins m t k lines taken new begins =
+    let part = begins _ new.shows in
+    (part.0, sym (at_order m t k lines new) ∙ part.1)
+
+all_came : (m : Machine) (t : ℕ) (given more taken : List ℕ) → more ≡ [] → IsBeginning taken (own_of m.config t (lines_of_trace given))
+    → IsBeginning taken (own_of m.config t (lines_of_trace (given ++ more)))
+all_came m t given more taken none begins =
+    subst (λ trace. IsBeginning taken (own_of m.config t (lines_of_trace trace))) (sym (ap (λ bytes. given ++ bytes) none ∙ append-nil given)) begins
+
+cut_begins : EndedLinesStay → (m : Machine) (t : ℕ) (ended : Bool) (given more taken : List ℕ) (lines : List (List ℕ)) → HasCome ended given lines
+    → IsBeginning taken (own_of m.config t lines) → (ended ≡ true → more ≡ []) → IsBeginning taken (own_of m.config t (lines_of_trace (given ++ more)))
+cut_begins stays m t ended given more taken lines (inl (rest, split)) begins over =
+    let whole = stays given more in
+    goes_on m t _ (ended_lines given) whole.0 taken whole.1 (goes_on m t (ended_lines given) lines rest taken split begins)
+cut_begins stays m t ended given more taken lines (inr (is_over, all)) begins over =
+    all_came m t given more taken (over is_over) (subst (λ xs. IsBeginning taken (own_of m.config t xs)) (sym all) begins)
+
+-- Whatever the keeping answered, a trace goes on from what was given, unless the feed has ended.
+own_begins : EndedLinesStay → (m : Machine) (t : ℕ) (k k' : Parts) (ended : Bool) (given more taken : List ℕ) (kept : Result (Unit {0}) KeepError) → IsNew m k
+    → Keeps ended t k k' given taken kept → IsDone kept ended → (ended ≡ true → more ≡ [])
+    → IsBeginning taken (own_of m.config t (lines_of_trace (given ++ more)))
+own_begins stays m t k k' ended given more taken (Ok _) new ran done over =
+    all_came m t given more taken (over done) (whole_begins m t k (lines_of_trace given) taken new (ran.1 _ new.shows))
+own_begins stays m t k k' ended given more taken (Err Kept.Feed) new ran done over =
+    let whole = stays given more in
+    goes_on m t _ (ended_lines given) whole.0 taken whole.1 (whole_begins m t k (ended_lines given) taken new (ran.1 _ new.shows))
+own_begins stays m t k k' ended given more taken (Err Kept.Drain) new ran done over =
+    cut_begins stays m t ended given more taken ran.0 ran.1 (part_begins m t k ran.0 taken new ran.2) over
+
+-- where it could not be written, that is what was given
+own_unwritten : EndedLinesStay → (m : Machine) (t : ℕ) (k k' : Parts) (ended : Bool) (given taken : List ℕ) (kept : Result (Unit {0}) KeepError) → IsNew m k
+    → Keeps ended t k k' given taken kept → IsDone kept ended → WritesOwn m.config t Unwritable given taken
+own_unwritten stays m t k k' ended given taken kept new ran done =
+    subst (λ trace. IsBeginning taken (own_of m.config t (lines_of_trace trace))) (append-nil given)
+    (own_begins stays m t k k' ended given [] taken kept new ran done (λ _. refl))
+
+-- the outcome of the run
+pub own_written : EndedLinesStay → (m : Machine) (t : ℕ) (k k' : Parts) (ended : Bool) (given taken : List ℕ) (kept : Result (Unit {0}) KeepError) (unsent flushed : Bool)
+    → IsNew m k → Keeps ended t k k' given taken kept → IsDone kept ended → WritesOwn m.config t (outcome_of_kept kept unsent flushed) given taken
+own_written stays m t k k' ended given taken (Ok x) unsent true new ran done = ran.1 _ new.shows ∙ at_order m t k (lines_of_trace given) new
+own_written stays m t k k' ended given taken (Ok x) unsent false new ran done = own_unwritten stays m t k k' ended given taken (Ok x) new ran done
+own_written stays m t k k' ended given taken (Err Kept.Feed) true flushed new ran done = own_unwritten stays m t k k' ended given taken (Err Kept.Feed) new ran done
+own_written stays m t k k' ended given taken (Err Kept.Feed) false flushed new ran done = ran.1 _ new.shows ∙ at_order m t k (ended_lines given) new
+own_written stays m t k k' ended given taken (Err Kept.Drain) unsent flushed new ran done = own_unwritten stays m t k k' ended given taken (Err Kept.Drain) new ran done
+
+-- what the run was of the trace
+pub own_traced : EndedLinesStay → (m : Machine) (t : ℕ) (k k' : Parts) (ended : Bool) (given taken : List ℕ) (kept : Result (Unit {0}) KeepError) (unsent flushed : Bool)
+    (known left : Option (List ℕ)) → IsNew m k → Keeps ended t k k' given taken kept → IsDone kept ended → Consumes known left given → (ended ≡ true → IsAtEnd left)
+    → IfSome known (λ trace. IsOwnOfTrace m.config t (outcome_of_kept kept unsent flushed) trace given taken)
+own_traced stays m t k k' ended given taken kept unsent flushed known left new ran done consumed over =
+    of_trace (λ trace. IsOwnOfTrace m.config t (outcome_of_kept kept unsent flushed) trace given taken) known left ended given consumed over
+    (λ more none. record {
+      part = own_given kept unsent flushed ended given more done none;
+      begins = own_begins stays m t k k' ended given more taken kept new ran done none;
+    })
+
+-- before the first line
+pub own_nothing : (m : Machine) (t : ℕ) (known : Option (List ℕ)) → IfSome known (λ trace. IsOwnOfTrace m.config t NoMemory trace [] [])
+own_nothing m t None = tt
+own_nothing m t (Some trace) = record { part = (trace, refl); begins = (own_of m.config t (lines_of_trace trace), refl) }

@@ -1,0 +1,27 @@
+-- What a run of the program writes with `--own`.
+use Rattle.std.specs.Prelude.{◌≡◌, ℕ, List, []}
+use Rattle.words_core.specs.Cutting.{lines_of_trace}
+use Rattle.kernel_core.specs.declared.kernel.Config.{Config}
+use Rattle.world_core.specs.Limits.{cache_limit}
+use Rattle.world_core.specs.World.{opening_world}
+use Rattle.world_core.specs.Output.{ended_lines}
+use Rattle.own_trace.specs.Kept.{own_text, own_trace}
+use Rattle.command_line.specs.declared.exit.Outcome.{Outcome}
+use Rattle.command_line.specs.declared.exit.Outcome.TheVariants.{Done, Unreadable, Unwritable, NoMemory}
+use Rattle.partmem.specs.Run.{IsBeginning, IsGiven}
+
+-- those of these lines that are the own list of tenant t, on a new machine
+abbrev pub own_of : Config → ℕ → List (List ℕ) → List ℕ
+own_of config t lines = own_text t cache_limit config.order lines (opening_world config.superblocks config.tenants)
+
+-- what was written of the bytes that were given, when the run ended so
+abbrev pub WritesOwn : Config → ℕ → Outcome → List ℕ → List ℕ → Type 0
+WritesOwn config t Done given written = written ≡ own_trace cache_limit config.order config.superblocks config.tenants t given
+WritesOwn config t Unreadable given written = written ≡ own_of config t (ended_lines given)
+WritesOwn config t Unwritable given written = IsBeginning written (own_of config t (lines_of_trace given))
+WritesOwn config t NoMemory given written = (given ≡ []) × (written ≡ [])
+
+-- However the run ended, what was written is a beginning of the own list of the whole trace.
+pub record IsOwnOfTrace (config : Config) (t : ℕ) (outcome : Outcome) (trace given written : List ℕ) : Type 0 where
+  pub part : IsGiven outcome trace given
+  pub begins : IsBeginning written (own_trace cache_limit config.order config.superblocks config.tenants t trace)
