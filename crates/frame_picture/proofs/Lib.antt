@@ -1,4 +1,4 @@
 pub mod Even
 pub mod Filling
+pub mod Reported
 pub mod RowLemmas
-pub mod Splits

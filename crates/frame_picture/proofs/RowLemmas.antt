@@ -7,7 +7,8 @@ use Rattle.model_core.specs.declared.owner.Owner.{Owner}
 use Rattle.parts_core.specs.declared.frames.FrameKind.{FrameKind}
 use Rattle.frame_picture.specs.declared.history.Sheet.{Sheet}
 use Rattle.frame_picture.specs.Kinds.{rank_of}
-use Rattle.frame_picture.specs.Rows.{cells_between, owned_cells, cells_in, row_cells, kind_count, IsMostCommon}
+use Rattle.frame_picture.specs.Rows.{cells_between, owned_cells, cells_in, row_cells, kind_count}
+use Rattle.frame_picture.specs.Tones.{taken_of, drawn_kinds, IsMostCommon}
 
 -- the cells of a slot that the tenant holds
 pub owned : (order t first end : ℕ) (owner : Owner) (cells : List FrameKind) → owner.tenant ≡ t
@@ -55,14 +56,31 @@ counted counts cells frames v six each is k less = go (eqb_tells k 5)
         let none : count_by (λ cell. rank_of cell == k) cells ≡ count_by (λ cell. rank_of cell == k) cells + 0 = omega arith in
         same ∙ each k less ∙ none ∙ ap total (sym another)
 
--- where the greatest count stands
-pub most_common : (counts : List ℕ) (count : ℕ → ℕ) (at : ℕ) → ((k : ℕ) → k < 6 → get_or counts k 0 ≡ count k) → at < 6
-    → ((k : ℕ) → k < 6 → get_or counts k 0 ≤ get_or counts at 0) → ((k : ℕ) → k < at → get_or counts k 0 < get_or counts at 0)
-    → (rank : ℕ) → rank ≡ at → IsMostCommon count rank
-most_common counts count at each within greatest first rank is = subst (IsMostCommon count) (sym is) (record {
-  greatest = λ k less. omega (arith, greatest k less, each k less, each at within);
-  first = λ k less. let six : k < 6 = omega arith in omega (arith, first k less, each k six, each at within);
-})
+-- equal counts have the same greatest
+most_along : (kinds : ℕ) (count same : ℕ → ℕ) (kind : ℕ) → kinds ≤ 6 → ((k : ℕ) → k < 6 → count k ≡ same k)
+    → IsMostCommon kinds count kind → IsMostCommon kinds same kind
+most_along kinds count same kind few equal most =
+    let here : count kind ≡ same kind = equal kind (omega (arith, most.among)) in
+    record {
+      among = most.among;
+      greatest = λ k less. omega (arith, most.greatest k less, equal k (omega arith), here);
+      first = λ k less. omega (arith, most.first k less, equal k (omega (arith, most.among)), here);
+    }
+
+-- and as many taken frames
+pub taken_along : (count same : ℕ → ℕ) → ((k : ℕ) → k < 6 → count k ≡ same k) → taken_of count ≡ taken_of same
+taken_along count same equal =
+    omega (arith, equal 0 (omega arith), equal 1 (omega arith), equal 2 (omega arith), equal 3 (omega arith))
+
+few_kinds : (taken : ℕ) → drawn_kinds taken ≤ 6
+few_kinds taken = elim (taken == 0) as (λ b. cond b 6 4 ≤ 6) [ true ↦ omega arith | false ↦ omega arith ]
+
+-- so they are drawn as the same kind
+pub drawn_along : (count same : ℕ → ℕ) (kind : ℕ) → ((k : ℕ) → k < 6 → count k ≡ same k)
+    → IsMostCommon (drawn_kinds (taken_of count)) count kind → IsMostCommon (drawn_kinds (taken_of same)) same kind
+drawn_along count same kind equal most =
+    subst (λ taken. IsMostCommon (drawn_kinds taken) same kind) (taken_along count same equal)
+    (most_along (drawn_kinds (taken_of count)) count same kind (few_kinds (taken_of count)) equal most)
 
 -- what holds of the elements before i, and of the new one at i, holds of all up to it
 pub more_set : {X : Type 0} (d : X) (P : ℕ → X → Type 0) (xs : List X) (i : ℕ) (v : X) → i < length xs

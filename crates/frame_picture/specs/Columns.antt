@@ -1,7 +1,8 @@
 -- What a column shows of a machine.
-use Rattle.std.specs.Prelude.{◌≡◌, ℕ, ◌+◌, ◌*◌, ◌^◌, ◌<◌, List, Option, Some, slice_get}
+use Rattle.std.specs.Prelude.{slice_index, ◌≡◌, ℕ, ◌+◌, ◌*◌, ◌^◌, ◌<◌, List, Option, Some, slice_get}
 use Rattle.model_core.specs.Machine.{Machine}
-use Rattle.model_core.specs.Reports.{frames_free, greatest_free, split_share}
+use Rattle.model_core.specs.declared.report.OrderRow.{OrderRow}
+use Rattle.model_core.specs.Reports.{frames_held, frames_taken, order_rows}
 use Rattle.model_core.specs.declared.owner.Owner.{Owner}
 use Rattle.space_core.specs.Content.{owner_at}
 use Rattle.world_core.specs.World.{World}
@@ -10,6 +11,7 @@ use Rattle.kernel_core.specs.Shows.{Shows}
 use Rattle.parts_core.specs.Frames.{IsFrame}
 use Rattle.parts_core.specs.declared.frames.FrameKind.{FrameKind}
 use Rattle.frame_picture.specs.declared.history.Sheet.{Sheet}
+use Rattle.frame_picture.specs.declared.history.Figures.{Figures}
 use Rattle.frame_picture.specs.declared.history.Column.{Column}
 
 -- cell k of a superblock with this owner is what frame k of its slot is in the owner's private machine
@@ -18,18 +20,21 @@ AreCells order w holder cells = (owner : Owner) (m : Machine) (k : ℕ) (cell : 
     → slice_get w.machines owner.tenant ≡ Some m → owner.slot * 2 ^ order + k < 2 ^ 32 → slice_get cells k ≡ Some cell
     → IsFrame order m (owner.slot * 2 ^ order + k) cell
 
--- the share of its free frames that lie outside one greatest free block, as a report tells it
-abbrev pub split_of : ℕ → Machine → ℕ
-split_of order m = split_share (frames_free order m) (greatest_free order m)
+-- the figures are those of the machine, as a report tells them
+pub record AreFigures (order : ℕ) (m : Machine) (figures : Figures) : Type 0 where
+  pub held : figures.held ≡ frames_held order m
+  pub taken : figures.taken ≡ frames_taken m
+  pub free : (k : ℕ) (row : OrderRow) → slice_get (order_rows order m (order + 1)) k ≡ Some row → slice_index figures.free k ≡ row.free
 
--- the column shows the world: by superblock its owner and what its frames are, by tenant its share
+-- the column shows the world: by superblock its owner and what its frames are, by tenant the figures
 pub record IsColumnOf (order : ℕ) (w : World) (column : Column) : Type 0 where
   pub owners : (s : ℕ) (sheet : Sheet) → slice_get column.sheets.items s ≡ Some sheet → sheet.owner ≡ owner_at w.owners s
   pub cells : (s : ℕ) (sheet : Sheet) → slice_get column.sheets.items s ≡ Some sheet → AreCells order w sheet.owner sheet.cells.items
-  pub splits : (t split : ℕ) (m : Machine) → slice_get column.splits.items t ≡ Some split → slice_get w.machines t ≡ Some m
-      → split ≡ split_of order m
+  pub figures : (t : ℕ) (figures : Figures) (m : Machine) → slice_get column.figures.items t ≡ Some figures
+      → slice_get w.machines t ≡ Some m → AreFigures order m figures
 
--- the column shows the world that the kernel does, after so many lines
-pub record IsColumnAfter (kernel : Parts) (lines : ℕ) (column : Column) : Type 0 where
+-- the column shows the world that the kernel does, after so many lines; by tenant so many requests were refused for want of frames
+pub record IsColumnAfter (kernel : Parts) (lines : ℕ) (counts : List ℕ) (column : Column) : Type 0 where
   pub line : column.line ≡ lines
+  pub refused : (t count : ℕ) → slice_get column.refused.items t ≡ Some count → count ≡ slice_index counts t
   pub shows : (w : World) → Shows kernel w → IsColumnOf kernel.order w column

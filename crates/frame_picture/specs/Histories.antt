@@ -26,11 +26,16 @@ width_of h = h.width
 abbrev pub line_count : History → ℕ
 line_count h = h.lines
 
--- the machine and the room are as they were
+-- by tenant, how many requests were refused for want of frames
+abbrev pub refusals_of : History → List ℕ
+refusals_of h = h.refused.items
+
+-- the machine and the room are as they were, and nothing was refused
 pub record SameShape (old new : History) : Type 0 where
   pub order : order_of new ≡ order_of old
   pub tenants : tenants_of new ≡ tenants_of old
   pub room : room_of new ≡ room_of old
+  pub refused : refusals_of new ≡ refusals_of old
 
 -- After so many lines, each line that is a multiple of the width has a column, and no other line has one.
 pub record IsEven (columns : List Column) (width lines : ℕ) : Type 0 where

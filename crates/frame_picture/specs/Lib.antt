@@ -1,6 +1,7 @@
 pub mod Kinds
 pub mod Columns
-pub mod Curve
 pub mod Histories
 pub mod Rectangles
 pub mod Rows
+pub mod Stacks
+pub mod Tones

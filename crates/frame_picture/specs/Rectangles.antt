@@ -1,26 +1,22 @@
--- Equal rows of cells, as rectangles. A run is how many rows from one on have the kind, where the row below hasn't it.
-use Rattle.std.specs.Prelude.{◌≡◌, ◌≢◌, ℕ, zero, suc, false, ◌+◌, ◌-◌, ◌<◌, ◌≤◌, ◌==◌, ◌⊎◌, Bool, if◌then◌else◌, List, [], take, drop, slice_index_or}
+-- Equal rows of cells, as rectangles. A run is how many rows from one on have the tone, where the row below hasn't it.
+use Rattle.std.specs.Prelude.{◌≡◌, ◌≢◌, ℕ, zero, suc, false, ◌+◌, ◌-◌, ◌<◌, ◌≤◌, ◌⊎◌, Bool, if◌then◌else◌, List, [], take, drop, slice_index_or}
 use Rattle.std.specs.List.{prefix_len}
-use Rattle.parts_core.specs.declared.frames.FrameKind.{FrameKind}
-use Rattle.parts_core.specs.declared.frames.FrameKind.TheVariants.{NotHeld}
-use Rattle.frame_picture.specs.Kinds.{rank_of}
+use Rattle.frame_picture.specs.Tones.{is_tone, not_held}
+use Rattle.frame_picture.specs.declared.rows.Tone.{Tone}
 use Rattle.frame_picture.specs.declared.rectangles.Rectangle.{Rectangle}
 
-abbrev pub is_cell_kind : FrameKind → FrameKind → Bool
-is_cell_kind kind cell = rank_of cell == rank_of kind
+-- the tone is that of the row below this one
+abbrev pub goes_on : Tone → List Tone → ℕ → Bool
+goes_on tone cells zero = false
+goes_on tone cells (suc below) = is_tone tone (slice_index_or cells below not_held)
 
--- the kind is that of the row below this one
-abbrev pub goes_on : FrameKind → List FrameKind → ℕ → Bool
-goes_on kind cells zero = false
-goes_on kind cells (suc below) = is_cell_kind kind (slice_index_or cells below NotHeld)
-
--- the run of a kind that begins at a row; 0 where none begins
-abbrev pub run_at : FrameKind → List FrameKind → ℕ → ℕ
-run_at kind cells row = if goes_on kind cells row then 0 else prefix_len (is_cell_kind kind) (drop row cells)
+-- the run of a tone that begins at a row; 0 where none begins
+abbrev pub run_at : Tone → List Tone → ℕ → ℕ
+run_at tone cells row = if goes_on tone cells row then 0 else prefix_len (is_tone tone) (drop row cells)
 
 -- the run at a row in a column of which so many rows are shown
-abbrev pub run_in : List (List FrameKind) → FrameKind → ℕ → ℕ → ℕ → ℕ
-run_in columns kind rows row column = run_at kind (take rows (slice_index_or columns column [])) row
+abbrev pub run_in : List (List Tone) → Tone → ℕ → ℕ → ℕ → ℕ
+run_in columns tone rows row column = run_at tone (take rows (slice_index_or columns column [])) row
 
 -- The rectangle ends before column `end`: the runs at its row are equal in its columns, and not in those beside it. There are so
 -- many columns.

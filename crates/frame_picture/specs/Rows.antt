@@ -1,10 +1,9 @@
--- The kind of a row of a tenant's band in a column.
-use Rattle.std.specs.Prelude.{ℕ, ◌+◌, ◌-◌, ◌*◌, ◌^◌, ◌<◌, ◌≤◌, ◌==◌, min, if◌then◌else◌, List, [], ◌∷◌, ◌++◌, Option, Some, None, length, count_by, slice_range}
+-- The frames of a row of a tenant's band in a column, and how many of them have which kind.
+use Rattle.std.specs.Prelude.{ℕ, ◌+◌, ◌-◌, ◌*◌, ◌^◌, ◌==◌, min, if◌then◌else◌, List, [], ◌∷◌, ◌++◌, Option, Some, None, length, count_by, slice_range}
 use Rattle.model_core.specs.declared.owner.Owner.{Owner}
 use Rattle.parts_core.specs.declared.frames.FrameKind.{FrameKind}
 use Rattle.parts_core.specs.declared.frames.FrameKind.TheVariants.{NotHeld}
 use Rattle.frame_picture.specs.declared.history.Sheet.{Sheet}
-use Rattle.frame_picture.specs.declared.history.Column.{Column}
 use Rattle.frame_picture.specs.Kinds.{rank_of}
 use Rattle.frame_picture.specs.declared.grid.Grid.{Grid}
 
@@ -31,11 +30,6 @@ abbrev pub kind_count : List FrameKind → ℕ → ℕ → ℕ
 kind_count cells frames k =
     count_by (λ cell. rank_of cell == k) cells + (if k == rank_of NotHeld then frames - length cells else 0)
 
--- the greatest of the six counts stands there, of several the first
-pub record IsMostCommon (count : ℕ → ℕ) (kind : ℕ) : Type 0 where
-  pub greatest : (k : ℕ) → k < 6 → count k ≤ count kind
-  pub first : (k : ℕ) → k < kind → count k < count kind
-
 -- the frames of a row: the first one, and the number above the last one
 
 abbrev pub first_of : Grid → ℕ → ℕ
@@ -43,8 +37,3 @@ first_of grid row = row * grid.frames_per_row
 
 abbrev pub end_of : Grid → ℕ → ℕ
 end_of grid row = min (row * grid.frames_per_row + grid.frames_per_row) grid.frames
-
--- the kind is that which most frames of the row have
-pub record IsRowKind (column : Column) (t : ℕ) (grid : Grid) (row : ℕ) (kind : FrameKind) : Type 0 where
-  pub most : let cells = row_cells grid.order t (first_of grid row) (end_of grid row) column.sheets.items in
-      length cells + 2 ^ 32 < 2 ^ 64 → IsMostCommon (kind_count cells (end_of grid row - first_of grid row)) (rank_of kind)

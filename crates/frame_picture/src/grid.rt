@@ -10,9 +10,6 @@ ghost use Rattle.frame_picture.specs.Histories.{columns_of};
 use crate::history::{Column, History, Sheet};
 use std::ops::Range;
 
-/// A line is drawn below at most so many slots.
-pub const MOST_SLOT_LINES: u32 = 15;
-
 /// Which frames the rows of a band stand for.
 #[derive(Clone, Copy, Debug, PartialEq, Eq)]
 pub struct Grid {
@@ -65,17 +62,33 @@ impl Grid {
         start..start.saturating_add(self.frames_per_row).min(self.frames)
     }
 
-    /// The first frame of a slot, where a line is drawn below it: below the slots 1 to 15 that are shown.
-    pub fn slot_line(self, slot: u32) -> Option<u32>
-        ensures { MatchOption result (0 < slot → slot ≤ MOST_SLOT_LINES → self.frames ≤ slot * 2 ^ self.order)
-            (λ frame. (0 < slot) × (slot ≤ MOST_SLOT_LINES) × (frame ≡ slot * 2 ^ self.order) × (frame < self.frames)) }
+    /// How many slots lie from one mark to the next where there are at most so many marks, the first one at slot 0: the least
+    /// power of two; where 2^15 are too few there is one mark alone.
+    pub fn slots_between(self, most_marks: u32) -> u32
+        requires { 0 < most_marks }
+        ensures some { 0 < result }
+        ensures all { self.frames ≤ most_marks * (result * 2 ^ self.order) }
+        ensures least { (k : ℕ) → k < 16 → self.frames ≤ most_marks * (2 ^ k * 2 ^ self.order) → result ≤ 2 ^ k }
     {
-        if slot == 0 || slot > MOST_SLOT_LINES {
-            return None;
+        for power in 0..16u32 {
+            let between = 1 << power;
+            if u64::from(self.frames)
+                <= u64::from(most_marks) * (u64::from(between) << self.order)
+            {
+                return between;
+            }
         }
-        let frame = slot << self.order;
-        if frame < self.frames {
-            Some(frame)
+        self.frames.max(1)
+    }
+
+    /// The first frame of a slot, if it is shown.
+    pub fn slot_start(self, slot: u32) -> Option<u32>
+        ensures { MatchOption result (self.frames ≤ slot * 2 ^ self.order)
+            (λ frame. (frame ≡ slot * 2 ^ self.order) × (frame < self.frames)) }
+    {
+        let frame = u64::from(slot) << self.order;
+        if frame < u64::from(self.frames) {
+            Some(frame as u32)
         } else {
             None
         }

@@ -1,9 +1,9 @@
 //! What a machine was like over the lines of a trace.
 
-ghost use Rattle.std.specs.Prelude.{◌≡◌, ℕ, ◌+◌, ◌*◌, ◌/◌, ◌%◌, ◌^◌, ◌<◌, ◌≤◌, ◌⊎◌, IfOk, Option, Some, length, slice_get, vec_len};
+ghost use Rattle.std.specs.Prelude.{◌≡◌, ℕ, ◌+◌, ◌*◌, ◌/◌, ◌%◌, ◌^◌, ◌<◌, ◌≤◌, ◌⊎◌, IfOk, Option, Some, length, slice_get, slice_index, slice_set, vec_len};
 ghost use Rattle.model_core.specs.declared.limits.TheConstants.{MOST_ORDER, MOST_TENANTS};
 
-use crate::showing::{show_sheets, show_splits};
+use crate::showing::{show_figures, show_refused, show_sheets};
 use kernel_core::{FrameKind, Kernel};
 use model_core::owner::Owner;
 use std::alloc::{AllocError, Global};
@@ -20,6 +20,20 @@ pub struct Sheet {
     pub cells: Vec<FrameKind>,
 }
 
+/// The greatest order of a block is 8.
+pub const ORDERS: usize = 9;
+
+/// What a tenant has of frames, as a report tells it.
+#[derive(Clone, Copy, Debug)]
+pub struct Figures {
+    /// How many frames its slots have.
+    pub held: u32,
+    /// How many of them lie in taken blocks.
+    pub taken: u32,
+    /// By order, how many blocks are free.
+    pub free: [u32; ORDERS],
+}
+
 /// The machine after some line.
 #[derive(Debug, Drop)]
 pub struct Column {
@@ -27,8 +41,10 @@ pub struct Column {
     pub line: u32,
     /// By superblock.
     pub sheets: Vec<Sheet>,
-    /// By tenant: the share of its free frames outside one greatest free block, in thousandths.
-    pub splits: Vec<u32>,
+    /// By tenant: how many frames it has, and how many of them are free in blocks of which order.
+    pub figures: Vec<Figures>,
+    /// By tenant: how many of its requests had been refused for want of frames.
+    pub refused: Vec<u32>,
 }
 
 /// The machine after every so many lines of a trace, in columns of which there is a fixed number.
@@ -43,6 +59,8 @@ pub struct History {
     superblocks: u32,
     tenants: u32,
     columns: Vec<Column>,
+    /// By tenant: how many of its requests were refused for want of frames.
+    refused: Vec<u32>,
     /// How many of the columns are in use.
     kept: usize,
     /// How many lines a column stands for.
@@ -58,7 +76,7 @@ pub struct History {
 impl History {
     ghost use Rattle.frame_picture.specs.declared.history.Column.{Column};
     ghost use Rattle.frame_picture.specs.Columns.{IsColumnAfter};
-    ghost use Rattle.frame_picture.specs.Histories.{order_of, tenants_of, columns_of, room_of, width_of, line_count, SameShape, IsEven};
+    ghost use Rattle.frame_picture.specs.Histories.{order_of, tenants_of, columns_of, room_of, width_of, line_count, refusals_of, SameShape, IsEven};
 
     /// No line has been run yet; there is room for so many columns.
     pub fn new(alloc: Global, kernel: &Kernel, room: u32) -> Result<History, AllocError>
@@ -79,6 +97,7 @@ impl History {
             superblocks: kernel.superblocks(),
             tenants: kernel.tenants(),
             columns,
+            refused: vec![in alloc; 0; kernel.tenants() as usize]?,
             kept: 0,
             width: 1,
             lines: 0,
@@ -136,6 +155,19 @@ impl History {
         self.lines
     }
 
+    /// A request of tenant `t` was refused for want of frames, in the line that is run now.
+    pub fn add_refusal(&mut self, t: u8)
+        ensures counted { slice_index (refusals_of self.old) t < u32.MAX
+            → refusals_of self.new ≡ slice_set (refusals_of self.old) t (slice_index (refusals_of self.old) t + 1) }
+        ensures lines { line_count self.new ≡ line_count self.old }
+        ensures width { width_of self.new ≡ width_of self.old }
+        ensures columns { columns_of self.new ≡ columns_of self.old }
+    {
+        if let Some(count) = self.refused.get_mut(t as usize) {
+            *count = count.saturating_add(1);
+        }
+    }
+
     /// One more line has been run, and the kernel stands after it.
     pub fn add_line(&mut self, kernel: &Kernel)
         ensures counted { line_count self.old < u32.MAX → line_count self.new ≡ line_count self.old + 1 }
@@ -145,7 +177,7 @@ impl History {
         ensures even { line_count self.old < 2 ^ 30 → IsEven (columns_of self.old) (width_of self.old) (line_count self.old)
             → IsEven (columns_of self.new) (width_of self.new) (line_count self.new) }
         ensures shown { (i : ℕ) (column : Column) → slice_get (columns_of self.new) i ≡ Some column
-            → ((k : ℕ) × (slice_get (columns_of self.old) k ≡ Some column)) ⊎ IsColumnAfter kernel.now (line_count self.new) column }
+            → ((k : ℕ) × (slice_get (columns_of self.old) k ≡ Some column)) ⊎ IsColumnAfter kernel.now (line_count self.new) (refusals_of self.new) column }
     {
         let line = self.lines.saturating_add(1);
         self.make_room(line);
@@ -180,7 +212,7 @@ impl History {
         ensures width { width_of self.old ≤ width_of self.new }
         ensures full { (width_of self.new ≡ width_of self.old) ⊎ (length (columns_of self.old) ≡ room_of self.old) }
         ensures shown { (i : ℕ) (column : Column) → slice_get (columns_of self.new) i ≡ Some column
-            → ((k : ℕ) × (slice_get (columns_of self.old) k ≡ Some column)) ⊎ IsColumnAfter kernel.now (line_count self.new) column }
+            → ((k : ℕ) × (slice_get (columns_of self.old) k ≡ Some column)) ⊎ IsColumnAfter kernel.now (line_count self.new) (refusals_of self.new) column }
     {
         if self.lines % self.width == 0 {
             return;
@@ -200,10 +232,10 @@ impl History {
         ensures none { room_of self.old ≤ length (columns_of self.old) → columns_of self.new ≡ columns_of self.old }
         ensures before { (i : ℕ) → i < length (columns_of self.old) → slice_get (columns_of self.new) i ≡ slice_get (columns_of self.old) i }
         ensures last { (column : Column) → length (columns_of self.old) < room_of self.old
-            → slice_get (columns_of self.new) (length (columns_of self.old)) ≡ Some column → IsColumnAfter kernel.now (line_count self.old) column }
+            → slice_get (columns_of self.new) (length (columns_of self.old)) ≡ Some column → IsColumnAfter kernel.now (line_count self.old) (refusals_of self.old) column }
     {
         if let Some(column) = self.columns.get_mut(self.kept) {
-            column.show(kernel, self.lines);
+            column.show(kernel, self.lines, &self.refused);
             self.kept += 1;
         }
     }
@@ -227,8 +259,19 @@ impl History {
     }
 }
 
+impl Figures {
+    /// No frame is held.
+    pub const NONE: Figures = Figures {
+        held: 0,
+        taken: 0,
+        free: [0; ORDERS],
+    };
+}
+
 impl Column {
-    ghost use Rattle.frame_picture.specs.Columns.{IsColumnAfter};
+    ghost use Rattle.kernel_core.specs.Shows.{Shows};
+    ghost use Rattle.world_core.specs.World.{World};
+    ghost use Rattle.frame_picture.specs.Columns.{IsColumnOf, IsColumnAfter};
 
     /// Room for what a machine is like.
     fn new(alloc: Global, kernel: &Kernel) -> Result<Column, AllocError> {
@@ -243,16 +286,27 @@ impl Column {
         Ok(Column {
             line: 0,
             sheets,
-            splits: vec![in alloc; 0; kernel.tenants() as usize]?,
+            figures: vec![in alloc; Figures::NONE; kernel.tenants() as usize]?,
+            refused: vec![in alloc; 0; kernel.tenants() as usize]?,
         })
     }
 
-    /// Shows what the kernel is like now, after so many lines.
-    fn show(&mut self, kernel: &Kernel, line: u32)
-        ensures { IsColumnAfter kernel.now line self.new }
+    /// Shows what the kernel is like now, after so many lines; by tenant so many requests were refused for want of frames.
+    fn show(&mut self, kernel: &Kernel, line: u32, refused: &[u32])
+        ensures { IsColumnAfter kernel.now line refused.now self.new }
     {
         self.line = line;
+        show_refused(&mut self.refused, refused);
+        self.show_world(kernel);
+    }
+
+    /// Shows what the kernel is like now.
+    fn show_world(&mut self, kernel: &Kernel)
+        ensures line { self.new.line ≡ self.old.line }
+        ensures refused { self.new.refused ≡ self.old.refused }
+        ensures shows { (w : World) → Shows kernel.now w → IsColumnOf kernel.now.order w self.new }
+    {
         show_sheets(&mut self.sheets, kernel);
-        show_splits(&mut self.splits, kernel);
+        show_figures(&mut self.figures, kernel);
     }
 }

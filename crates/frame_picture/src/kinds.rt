@@ -8,6 +8,9 @@ use kernel_core::FrameKind;
 /// How many kinds of frames there are.
 pub const KINDS: usize = 6;
 
+/// The first so many are those of taken frames.
+pub const TAKEN_KINDS: usize = 4;
+
 /// All kinds.
 pub const ALL: [FrameKind; KINDS] = [
     FrameKind::Page,

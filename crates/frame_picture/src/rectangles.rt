@@ -1,14 +1,12 @@
-//! Equal cells as rectangles: a run of rows of one kind that is the same in the columns beside.
+//! Equal cells as rectangles: a run of rows of one tone that is the same in the columns beside.
 
 ghost use Rattle.std.specs.Prelude.{◌≡◌, ◌≢◌, ℕ, ◌+◌, ◌-◌, ◌<◌, ◌≤◌, length, drop, MatchOption, IfSome};
 ghost use Rattle.std.specs.List.{prefix_len};
-ghost use Rattle.frame_picture.specs.Rectangles.{is_cell_kind, run_at, run_in, IsRectangle, GoesOn};
+ghost use Rattle.frame_picture.specs.Rectangles.{run_at, run_in, IsRectangle, GoesOn};
 
-use crate::kinds::rank;
-use crate::rows::MOST_ROWS;
-use kernel_core::FrameKind;
+use crate::rows::{MOST_ROWS, Tone, is_tone};
 
-/// A rectangle of cells of one kind.
+/// A rectangle of cells of one tone.
 #[derive(Clone, Copy, Debug, PartialEq, Eq)]
 pub struct Rectangle {
     /// Its first column.
@@ -21,11 +19,11 @@ pub struct Rectangle {
     pub rows: usize,
 }
 
-/// The rectangle of a kind that begins in a row and ends before column `end`, if there is one: its run of rows is the same in
+/// The rectangle of a tone that begins in a row and ends before column `end`, if there is one: its run of rows is the same in
 /// all its columns, and not in those beside it.
 pub fn rectangle_at(
-    columns: &[[FrameKind; MOST_ROWS]],
-    kind: FrameKind,
+    columns: &[[Tone; MOST_ROWS]],
+    tone: Tone,
     rows: usize,
     row: usize,
     end: usize,
@@ -35,15 +33,15 @@ pub fn rectangle_at(
     requires few { rows ≤ MOST_ROWS }
     requires shown { row < rows }
     ensures row { IfSome result (λ r. r.row ≡ row) }
-    ensures rectangle { MatchOption result (GoesOn (run_in columns.now kind rows row) (length columns.now) end)
-        (λ r. IsRectangle (run_in columns.now kind rows row) (length columns.now) end r) }
+    ensures rectangle { MatchOption result (GoesOn (run_in columns.now tone rows row) (length columns.now) end)
+        (λ r. IsRectangle (run_in columns.now tone rows row) (length columns.now) end r) }
 {
-    let run = run_in(columns, kind, rows, row, end - 1);
-    if run == 0 || (end < columns.len() && run_in(columns, kind, rows, row, end) == run) {
+    let run = run_in(columns, tone, rows, row, end - 1);
+    if run == 0 || (end < columns.len() && run_in(columns, tone, rows, row, end) == run) {
         return None;
     }
     let mut column = end - 1;
-    while column > 0 && run_in(columns, kind, rows, row, column - 1) == run {
+    while column > 0 && run_in(columns, tone, rows, row, column - 1) == run {
         column -= 1;
     }
     Some(Rectangle {
@@ -54,10 +52,10 @@ pub fn rectangle_at(
     })
 }
 
-/// How many rows from this one on are of the kind in a column, where the row below isn't; 0 elsewhere.
+/// How many rows from this one on are of the tone in a column, where the row below isn't; 0 elsewhere.
 fn run_in(
-    columns: &[[FrameKind; MOST_ROWS]],
-    kind: FrameKind,
+    columns: &[[Tone; MOST_ROWS]],
+    tone: Tone,
     rows: usize,
     row: usize,
     column: usize,
@@ -65,21 +63,21 @@ fn run_in(
     requires within { column < length columns.now }
     requires few { rows ≤ MOST_ROWS }
     requires shown { row < rows }
-    ensures { result ≡ run_in columns.now kind rows row column }
+    ensures { result ≡ run_in columns.now tone rows row column }
 {
-    run_at(kind, &columns[column][..rows], row)
+    run_at(tone, &columns[column][..rows], row)
 }
 
-/// How many cells from this row on are of the kind, where the one below isn't; 0 elsewhere.
-fn run_at(kind: FrameKind, cells: &[FrameKind], row: usize) -> usize
+/// How many cells from this row on are of the tone, where the one below isn't; 0 elsewhere.
+fn run_at(tone: Tone, cells: &[Tone], row: usize) -> usize
     requires { row < length cells.now }
-    ensures { result ≡ run_at kind cells.now row }
+    ensures { result ≡ run_at tone cells.now row }
 {
-    if row > 0 && rank(cells[row - 1]) == rank(kind) {
+    if row > 0 && is_tone(tone, cells[row - 1]) {
         return 0;
     }
     for at in row..cells.len() {
-        if rank(cells[at]) != rank(kind) {
+        if !is_tone(tone, cells[at]) {
             return at - row;
         }
     }

@@ -1,39 +1,115 @@
-//! The kind of each row in a column.
+//! What each row of a column is drawn as.
 
-ghost use Rattle.std.specs.Prelude.{◌≡◌, ℕ, ◌+◌, ◌^◌, ◌<◌, ◌≤◌, ◌==◌, length, count_by, slice_index, slice_index_or, EachIndex};
+ghost use Rattle.std.specs.Prelude.{◌≡◌, ℕ, ◌+◌, ◌-◌, ◌^◌, ◌<◌, ◌≤◌, ◌==◌, List, Some, length, count_by, slice_get, slice_index, slice_index_or};
 ghost use Rattle.frame_picture.specs.Kinds.{rank_of};
-ghost use Rattle.frame_picture.specs.Rows.{cells_in, row_cells, kind_count, IsMostCommon, IsRowKind};
+ghost use Rattle.frame_picture.specs.Rows.{cells_in, row_cells, kind_count, first_of, end_of};
+ghost use Rattle.frame_picture.specs.Tones.{is_tone, not_held, taken_of, drawn_kinds, quarters_of, IsMostCommon, IsRowTone};
+ghost use Rattle.frame_picture.specs.declared.history.Column.{Column};
+ghost use Rattle.frame_picture.specs.declared.rows.Tone.{Tone};
 
 use crate::grid::Grid;
 use crate::history::{Column, Sheet};
-use crate::kinds::{KINDS, of_rank, rank};
+use crate::kinds::{KINDS, TAKEN_KINDS, of_rank, rank};
 use kernel_core::FrameKind;
 
 /// A band has at most this many rows.
 pub const MOST_ROWS: usize = 256;
 
-/// Sets the rows of tenant `t` in a column: of each the kind that most of its frames have, of several the first.
-pub fn set_rows(rows: &mut [FrameKind; MOST_ROWS], column: &Column, t: u8, grid: Grid)
-    ensures { (row : ℕ) → row < 256 → row < grid.rows → IsRowKind column.now t grid row (slice_index_or rows.new row FrameKind.NotHeld) }
+/// What a row is drawn as.
+#[derive(Clone, Copy, Debug)]
+pub struct Tone {
+    /// The kind of most of its taken frames; where none is taken, free or not held.
+    pub kind: FrameKind,
+    /// How many quarters of its frames are taken, rounded up: 0 to 4.
+    pub quarters: u8,
+}
+
+impl Tone {
+    /// What a row is drawn as of which nothing is held.
+    pub const NOT_HELD: Tone = Tone {
+        kind: FrameKind::NotHeld,
+        quarters: 0,
+    };
+}
+
+/// Whether a row that is drawn as `cell` is drawn as `tone`.
+pub fn is_tone(tone: Tone, cell: Tone) -> bool
+    ensures { result ≡ is_tone tone cell }
 {
-    for row in 0..MOST_ROWS {
-        rows[row] = row_kind(column, t, grid, row as u32);
+    rank(cell.kind) == rank(tone.kind) && cell.quarters == tone.quarters
+}
+
+/// Sets the rows of tenant `t` in each of the columns that there is room for.
+pub fn set_cells(cells: &mut [[Tone; MOST_ROWS]], columns: &[Column], t: u8, grid: Grid)
+    ensures { (at row : ℕ) (column : Column) (rows : List Tone) → slice_get columns.now at ≡ Some column → slice_get cells.new at ≡ Some rows
+        → row < 256 → row < grid.rows → IsRowTone column t grid row (slice_index_or rows row not_held) }
+{
+    for at in 0..cells.len().min(columns.len()) {
+        set_rows(&mut cells[at], &columns[at], t, grid);
     }
 }
 
-/// The kind that most frames of a row have, of several the first; those that the column doesn't show are not held.
-fn row_kind(column: &Column, t: u8, grid: Grid, row: u32) -> FrameKind
-    ensures { row < grid.rows → IsRowKind column.now t grid row result }
+/// Sets the rows of tenant `t` in a column.
+fn set_rows(rows: &mut [Tone; MOST_ROWS], column: &Column, t: u8, grid: Grid)
+    ensures { (row : ℕ) → row < 256 → row < grid.rows → IsRowTone column.now t grid row (slice_index_or rows.new row not_held) }
+{
+    for row in 0..MOST_ROWS {
+        rows[row] = row_tone(column, t, grid, row as u32);
+    }
+}
+
+/// What a row is drawn as, if it is shown.
+fn row_tone(column: &Column, t: u8, grid: Grid, row: u32) -> Tone
+    ensures { row < grid.rows → IsRowTone column.now t grid row result }
 {
     if row >= grid.rows {
-        return FrameKind::NotHeld;
+        return Tone::NOT_HELD;
     }
+    let frames = grid.frames_of(row);
+    let counts = row_counts(column, t, grid, row);
+    tone_of(&counts, frames.end - frames.start)
+}
+
+/// How many frames of a row have each kind; those that the column doesn't show are not held.
+fn row_counts(column: &Column, t: u8, grid: Grid, row: u32) -> [usize; KINDS]
+    requires { row < grid.rows }
+    ensures long { length result ≡ 6 }
+    ensures kinds { let cells = row_cells grid.order t (first_of grid row) (end_of grid row) column.now.sheets.items in
+        (k : ℕ) → k < 6 → length cells + 2 ^ 32 < 2 ^ 64
+        → slice_index result k ≡ kind_count cells (end_of grid row - first_of grid row) k }
+{
     let frames = grid.frames_of(row);
     let (mut counts, shown) = count_kinds(&column.sheets, t, grid.order, frames.start, frames.end);
     let all = (frames.end - frames.start) as usize;
     let not_held = rank(FrameKind::NotHeld);
     counts[not_held] = counts[not_held].saturating_add(all.saturating_sub(shown));
-    of_rank(greatest_at(&counts))
+    counts
+}
+
+/// What a row of so many frames is drawn as, of which so many have each kind.
+fn tone_of(counts: &[usize; KINDS], frames: u32) -> Tone
+    requires { 0 < frames }
+    ensures most { IsMostCommon (drawn_kinds (taken_of (slice_index counts.now))) (slice_index counts.now) (rank_of result.kind) }
+    ensures share { result.quarters ≡ quarters_of (taken_of (slice_index counts.now)) frames }
+{
+    let taken = counts[0]
+        .saturating_add(counts[1])
+        .saturating_add(counts[2])
+        .saturating_add(counts[3]);
+    let kinds = if taken == 0 { KINDS } else { TAKEN_KINDS };
+    Tone {
+        kind: of_rank(greatest_at(counts, kinds)),
+        quarters: quarters_of(taken, frames),
+    }
+}
+
+/// How many quarters of so many frames are taken, rounded up.
+fn quarters_of(taken: usize, frames: u32) -> u8
+    requires { 0 < frames }
+    ensures { result ≡ quarters_of taken frames }
+{
+    let taken = taken.min(frames as usize) as u64;
+    (4 * taken).div_ceil(u64::from(frames)).min(4) as u8
 }
 
 /// How many of tenant `t`'s frames from `first` on, and below `end`, the sheets show of each kind, and how many together.
@@ -85,14 +161,14 @@ fn count_cells(cells: &[FrameKind], counts: &mut [usize; KINDS])
     }
 }
 
-/// Where the greatest count stands, of several the first.
-fn greatest_at(counts: &[usize; KINDS]) -> usize
-    ensures within { result < KINDS }
-    ensures greatest { EachIndex counts.now (λ k. slice_index counts.now k ≤ slice_index counts.now result) }
-    ensures first { (k : ℕ) → k < result → slice_index counts.now k < slice_index counts.now result }
+/// Where the greatest of the first counts stands, of several the first.
+fn greatest_at(counts: &[usize; KINDS], kinds: usize) -> usize
+    requires some { 0 < kinds }
+    requires all { kinds ≤ KINDS }
+    ensures { IsMostCommon kinds (slice_index counts.now) result }
 {
     let mut greatest = 0usize;
-    for at in 1..KINDS {
+    for at in 1..kinds {
         if counts[at] > counts[greatest] {
             greatest = at;
         }

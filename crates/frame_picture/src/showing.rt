@@ -1,18 +1,21 @@
 //! What a kernel is like, put down.
 
-ghost use Rattle.std.specs.Prelude.{◌≡◌, ℕ, ◌+◌, ◌*◌, ◌^◌, ◌<◌, Some, slice_get};
+ghost use Rattle.std.specs.Prelude.{◌≡◌, ℕ, ◌+◌, ◌*◌, ◌^◌, ◌<◌, ◌≤◌, Some, length, slice_get, slice_index};
 ghost use Rattle.model_core.specs.Machine.{Machine};
 ghost use Rattle.model_core.specs.declared.owner.Owner.{Owner};
 ghost use Rattle.space_core.specs.Content.{owner_at};
 ghost use Rattle.world_core.specs.World.{World};
 ghost use Rattle.kernel_core.specs.Shows.{Shows};
 ghost use Rattle.parts_core.specs.Frames.{IsFrame};
-ghost use Rattle.frame_picture.specs.Columns.{AreCells, split_of};
+ghost use Rattle.frame_picture.specs.Columns.{AreCells, AreFigures};
 ghost use Rattle.frame_picture.specs.declared.history.Sheet.{Sheet};
+ghost use Rattle.frame_picture.specs.declared.history.Figures.{Figures};
+ghost use Rattle.model_core.specs.declared.report.OrderRow.{OrderRow};
 
-use crate::history::Sheet;
+use crate::history::{Figures, ORDERS, Sheet};
 use kernel_core::{FrameKind, Kernel};
 use model_core::owner::Owner;
+use model_core::report::OrderRow;
 use words_core::Body;
 
 /// Shows the owner and the frames of each superblock.
@@ -56,24 +59,49 @@ fn show_cells(cells: &mut [FrameKind], kernel: &Kernel, t: u8, slot: u16)
     }
 }
 
-/// Shows the share of each tenant.
-pub fn show_splits(splits: &mut [u32], kernel: &Kernel)
-    ensures { (w : World) (m : Machine) (t split : ℕ) → Shows kernel.now w → slice_get w.machines t ≡ Some m
-        → slice_get splits.new t ≡ Some split → split ≡ split_of kernel.now.order m }
+/// Shows the figures of each tenant.
+pub fn show_figures(figures: &mut [Figures], kernel: &Kernel)
+    ensures { (w : World) (m : Machine) (t : ℕ) (own : Figures) → Shows kernel.now w → slice_get w.machines t ≡ Some m
+        → slice_get figures.new t ≡ Some own → AreFigures kernel.now.order m own }
 {
     let mut t = 0u32;
-    for split in splits.iter_mut() {
-        *split = split_of(kernel, t);
+    for own in figures.iter_mut() {
+        *own = figures_of(kernel, t);
         t = t.saturating_add(1);
     }
 }
 
-/// The share of tenant `t`'s free frames outside one greatest free block, in thousandths, as a report tells it.
-fn split_of(kernel: &Kernel, t: u32) -> u32
-    ensures { (w : World) (m : Machine) → Shows kernel.now w → slice_get w.machines t ≡ Some m → result ≡ split_of kernel.now.order m }
+/// The figures of tenant `t`, as a report tells them.
+fn figures_of(kernel: &Kernel, t: u32) -> Figures
+    ensures { (w : World) (m : Machine) → Shows kernel.now w → slice_get w.machines t ≡ Some m → AreFigures kernel.now.order m result }
 {
     match kernel.report(t).body {
-        Body::Report(report) => report.split,
-        _ => 0,
+        Body::Report(report) => Figures {
+            held: report.frames,
+            taken: report.live,
+            free: free_by_order(report.orders.as_slice()),
+        },
+        _ => Figures::NONE,
+    }
+}
+
+/// How many blocks are free, by order.
+fn free_by_order(rows: &[OrderRow]) -> [u32; ORDERS]
+    requires { length rows.now ≤ ORDERS }
+    ensures { (k : ℕ) (row : OrderRow) → slice_get rows.now k ≡ Some row → slice_index result k ≡ row.free }
+{
+    let mut free = [0; ORDERS];
+    for k in 0..rows.len() {
+        free[k] = rows[k].free;
+    }
+    free
+}
+
+/// Shows how many requests were refused, by tenant.
+pub fn show_refused(shown: &mut [u32], refused: &[u32])
+    ensures { (t count : ℕ) → slice_get shown.new t ≡ Some count → count ≡ slice_index refused.now t }
+{
+    for (t, count) in shown.iter_mut().enumerate() {
+        *count = refused.get(t).copied().unwrap_or(0);
     }
 }

@@ -7,12 +7,12 @@ ghost use Rattle.replay_core.specs.Standing.{IsRunnable};
 use crate::settings::Settings;
 use command_line::Outcome;
 use frame_picture::history::History;
-use frame_picture::picture::Picture;
 use kernel_core::Kernel;
+use picture_svg::picture::Picture;
 use replay_core::{Feed, Pending, Stopped};
 use std::alloc::Global;
 use std::io::Write;
-use words_core::{Event, LineFault};
+use words_core::{Addressee, Answer, Event, LineFault, Refusal, Said};
 
 /// A trace has fewer lines than this, 2^30.
 const LINES_ABOVE: u32 = 1 << 30;
@@ -63,11 +63,20 @@ pub fn run<F: Feed, W: Write>(
     let Ok(events) = watch(&mut kernel, feed, &mut history) else {
         return Drawn::at_once(Outcome::Unreadable);
     };
-    let outcome = match picture.draw(&history, writer) {
+    let name = settings.file.as_deref().map(file_name);
+    let outcome = match picture.draw(&history, name, writer) {
         Ok(()) => Outcome::Done,
         Err(_) => Outcome::Unwritable,
     };
     Drawn { outcome, events }
+}
+
+/// What follows the last slash of a path.
+fn file_name(path: &str) -> &str {
+    match path.rsplit_once('/') {
+        Some((_, name)) => name,
+        None => path,
+    }
 }
 
 /// Runs all lines of the trace, and keeps what the machine is like after them; answers how many were events.
@@ -132,11 +141,25 @@ fn watch_line(
             1
         }
         Ok(Some(Event::Tenant(tenant, command))) => {
-            let _ = kernel.ask(tenant, &command);
+            let answer = kernel.ask(tenant, &command);
+            note_refusal(&answer, history);
             1
         }
         Ok(None) | Err(_) => 0,
     };
     history.add_line(kernel);
     events
+}
+
+/// Notes a request that was refused for want of frames.
+fn note_refusal(answer: &Option<Answer>, history: &mut History) {
+    if let Some(
+        Answer {
+            addressee: Addressee::Tenant(t),
+            said: Said::Refused(Refusal::NoFrames),
+        },
+    ) = answer
+    {
+        history.add_refusal(*t);
+    }
 }

@@ -6,7 +6,7 @@ use Rattle.frame_picture.proofs.rectangles.rectangle_at.Given as goal
 abbrev pub invariant-loop-column : goal.invariant-loop-column
 invariant-loop-column l = record {
   wide : l.column < l.end;
-  same : (j : ℕ) → l.column ≤ j → j < l.end → run_in l.columns l.kind l.rows l.row j ≡ l.run;
+  same : (j : ℕ) → l.column ≤ j → j < l.end → run_in l.columns l.tone l.rows l.row j ≡ l.run;
 }
 
 abbrev pub decreases-loop-column : goal.decreases-loop-column

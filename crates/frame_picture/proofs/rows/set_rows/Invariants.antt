@@ -1,11 +1,10 @@
 use Rattle.std.proofs.Common.{◌≡◌, ℕ, ◌<◌, length, slice_index_or}
-use Rattle.parts_core.specs.declared.frames.FrameKind.TheVariants.{NotHeld}
-use Rattle.frame_picture.specs.Rows.{IsRowKind}
+use Rattle.frame_picture.specs.Tones.{not_held, IsRowTone}
 use Rattle.frame_picture.proofs.rows.set_rows.Given as goal
 
 -- the rows so far
 abbrev pub invariant-loop-row : goal.invariant-loop-row
 invariant-loop-row l = record {
   long : length l.rows ≡ 256;
-  told : (k : ℕ) → k < l.row → k < l.grid.rows → IsRowKind l.column l.t l.grid k (slice_index_or l.rows k NotHeld);
+  told : (k : ℕ) → k < l.row → k < l.grid.rows → IsRowTone l.column l.t l.grid k (slice_index_or l.rows k not_held);
 }

@@ -1,7 +1,7 @@
 use Rattle.std.proofs.Common.{◌≡◌, ℕ, ◌+◌, ◌%◌, ◌^◌, ◌≤◌, ap, refl, subst, sym, ◌∙◌, arith, ◌⊎◌, inl, inr, Some, slice_get}
 use Rattle.frame_picture.specs.declared.history.Column.{Column}
 use Rattle.frame_picture.specs.Columns.{IsColumnAfter}
-use Rattle.frame_picture.specs.Histories.{columns_of, width_of, line_count, room_of}
+use Rattle.frame_picture.specs.Histories.{columns_of, width_of, line_count, refusals_of, room_of}
 use Rattle.frame_picture.proofs.Even.{waits, keeps, moved}
 use Rattle.frame_picture.proofs.Filling.{old_or_new}
 use Rattle.frame_picture.proofs.history.History.add_line.Goals as goal
@@ -22,15 +22,16 @@ returns-then-line-self-eq0-clause-even c = λ small even.
 pub returns-then-line-self-eq0-clause-shown : goal.returns-then-line-self-eq0-clause-shown
 returns-then-line-self-eq0-clause-shown c = λ i column there.
     told column
-    (old_or_new (IsColumnAfter c.args.kernel.now c.saturating_add-line.result) (columns_of c.make_room.new.self) (columns_of c.keep.new.self)
+    (old_or_new (IsColumnAfter c.args.kernel.now c.saturating_add-line.result (refusals_of c.make_room.new.self)) (columns_of c.make_room.new.self) (columns_of c.keep.new.self)
     (room_of c.make_room.new.self) c.keep.ensures.one c.keep.ensures.none c.keep.ensures.before
     (λ x free at. c.keep.ensures.last x free at) i column there)
   where
     told : (column : Column)
-        → ((k : ℕ) × (slice_get (columns_of c.make_room.new.self) k ≡ Some column)) ⊎ IsColumnAfter c.args.kernel.now c.saturating_add-line.result column
-        → ((k : ℕ) × (slice_get (columns_of c.args.self.now) k ≡ Some column)) ⊎ IsColumnAfter c.args.kernel.now (line_count c.keep.new.self) column
+        → ((k : ℕ) × (slice_get (columns_of c.make_room.new.self) k ≡ Some column)) ⊎ IsColumnAfter c.args.kernel.now c.saturating_add-line.result (refusals_of c.make_room.new.self) column
+        → ((k : ℕ) × (slice_get (columns_of c.args.self.now) k ≡ Some column)) ⊎ IsColumnAfter c.args.kernel.now (line_count c.keep.new.self) (refusals_of c.keep.new.self) column
     told column (inl old) = inl (c.make_room.ensures.shown old.0 column old.1)
-    told column (inr new) = inr (subst (λ lines. IsColumnAfter c.args.kernel.now lines column) (sym c.keep.ensures.lines) new)
+    told column (inr new) = inr (subst (λ lines. IsColumnAfter c.args.kernel.now lines (refusals_of c.keep.new.self) column) (sym c.keep.ensures.lines)
+        (subst (λ refused. IsColumnAfter c.args.kernel.now c.saturating_add-line.result refused column) (sym c.keep.ensures.sizes.refused) new))
 
 pub returns-else-line-self-eq0-clause-even : goal.returns-else-line-self-eq0-clause-even
 returns-else-line-self-eq0-clause-even c = λ small even.

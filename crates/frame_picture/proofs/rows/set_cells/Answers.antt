@@ -1,17 +1,16 @@
 use Rattle.std.proofs.Common.{◌≡◌, ℕ, ◌<◌, List, Some, slice_get, slice_index_or, refl, subst, sym, ◌∙◌, arith}
 use Rattle.std.proofs.lemmas.Option.{slice_get_within, slice_get_read}
-use Rattle.parts_core.specs.declared.frames.FrameKind.{FrameKind}
-use Rattle.parts_core.specs.declared.frames.FrameKind.TheVariants.{NotHeld}
+use Rattle.frame_picture.specs.declared.rows.Tone.{Tone}
 use Rattle.frame_picture.specs.declared.history.Column.{Column}
 use Rattle.frame_picture.proofs.Filling.{more_filled}
-use Rattle.frame_picture.specs.Rows.{IsRowKind}
-use Rattle.frame_picture.proofs.picture.set_cells.Goals as goal
+use Rattle.frame_picture.specs.Tones.{not_held, IsRowTone}
+use Rattle.frame_picture.proofs.rows.set_cells.Goals as goal
 
 pub loop-at-preserved : goal.loop-at-preserved
 loop-at-preserved c = λ i row column rows less there here few shown.
     more_filled
-    (λ (k : ℕ) (x : List FrameKind). (r : ℕ) (y : Column) → slice_get c.args.columns.now k ≡ Some y → r < 256 → r < c.args.grid.rows
-    → IsRowKind y c.args.t c.args.grid r (slice_index_or x r NotHeld))
+    (λ (k : ℕ) (x : List Tone). (r : ℕ) (y : Column) → slice_get c.args.columns.now k ≡ Some y → r < 256 → r < c.args.grid.rows
+    → IsRowTone y c.args.t c.args.grid r (slice_index_or x r not_held))
     c.loop-at.cells c.loop-at.at c.set_rows.new.rows (omega arith)
     (λ k x below at r y of few' shown'. c.loop-at.invariant k r y x below of at few' shown')
     (λ r y of few' shown'.
@@ -19,7 +18,7 @@ loop-at-preserved c = λ i row column rows less there here few shown.
     slice_get_read c.args.columns.now _ c.loop-at.at c.index-columns-at.result refl (omega arith) c.index-columns-at.is in
     let both : Some c.index-columns-at.result ≡ Some y = sym read ∙ of in
     let same : c.index-columns-at.result ≡ y = cc both in
-    subst (λ z. IsRowKind z c.args.t c.args.grid r (slice_index_or c.set_rows.new.rows r NotHeld)) same (c.set_rows.ensures r few' shown'))
+    subst (λ z. IsRowTone z c.args.t c.args.grid r (slice_index_or c.set_rows.new.rows r not_held)) same (c.set_rows.ensures r few' shown'))
     i rows less here row column there few shown
 
 pub returns : goal.returns

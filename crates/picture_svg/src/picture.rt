@@ -1,16 +1,12 @@
 //! The picture of a trace, in SVG.
 
-ghost use Rattle.std.specs.Prelude.{◌≡◌, ℕ, ◌+◌, ◌<◌, IfOk, IfSome, IfNone, slice_get, slice_index_or, List, Some, vec_len};
-ghost use Rattle.parts_core.specs.declared.frames.FrameKind.{FrameKind};
-ghost use Rattle.frame_picture.specs.declared.history.Column.{Column};
-ghost use Rattle.frame_picture.specs.Histories.{columns_of, room_of, tenants_of};
-ghost use Rattle.frame_picture.specs.Rows.{IsRowKind};
+ghost use Rattle.std.specs.Prelude.{◌≡◌, ◌+◌, ◌<◌, IfOk, IfSome, IfNone, vec_len};
+ghost use Rattle.frame_picture.specs.Histories.{room_of, tenants_of};
 
-use crate::grid::Grid;
-use crate::history::{Column, History};
-use crate::rows::{MOST_ROWS, set_rows};
 use crate::svg::{HEAD, band_height, draw_band, draw_head, draw_opening};
-use kernel_core::FrameKind;
+use frame_picture::grid::Grid;
+use frame_picture::history::History;
+use frame_picture::rows::{MOST_ROWS, Tone, set_cells};
 use std::alloc::{AllocError, Global};
 use std::io::{self, Write};
 use std::ops::Range;
@@ -24,7 +20,7 @@ pub struct Picture {
     /// The first tenant who is drawn, and the number above the last.
     first: u8,
     end: u8,
-    cells: Vec<[FrameKind; MOST_ROWS]>,
+    cells: Vec<[Tone; MOST_ROWS]>,
 }
 
 impl Picture {
@@ -41,18 +37,23 @@ impl Picture {
         Ok(Picture {
             first,
             end,
-            cells: vec![in alloc; [FrameKind::NotHeld; MOST_ROWS]; history.room()]?,
+            cells: vec![in alloc; [Tone::NOT_HELD; MOST_ROWS]; history.room()]?,
         })
     }
 
-    /// Draws what became of the frames, and flushes. Of a history with more columns than that of `new` the first are drawn.
-    pub fn draw<W: Write>(&mut self, history: &History, out: &mut W) -> io::Result<()> {
+    /// Draws what became of the frames in the trace of this name, and flushes. Of a history with more columns than that of `new` the first are drawn.
+    pub fn draw<W: Write>(
+        &mut self,
+        history: &History,
+        name: Option<&str>,
+        out: &mut W,
+    ) -> io::Result<()> {
         let mut height = HEAD;
         for t in self.first..self.end {
             height = height.saturating_add(band_height(self.grid(history, t)));
         }
         draw_opening(out, height)?;
-        draw_head(out, history)?;
+        draw_head(out, history, name)?;
         let mut top = HEAD;
         for t in self.first..self.end {
             let grid = self.grid(history, t);
@@ -71,15 +72,5 @@ impl Picture {
         let bands = u32::from(self.end.saturating_sub(self.first)).max(TALL_BANDS);
         let most_rows = TALL_BANDS * MOST_ROWS as u32 / bands;
         Grid::of(history, t, most_rows)
-    }
-}
-
-/// Sets the rows of tenant `t` in each of the columns that there is room for.
-fn set_cells(cells: &mut [[FrameKind; MOST_ROWS]], columns: &[Column], t: u8, grid: Grid)
-    ensures { (at row : ℕ) (column : Column) (rows : List FrameKind) → slice_get columns.now at ≡ Some column → slice_get cells.new at ≡ Some rows
-        → row < 256 → row < grid.rows → IsRowKind column t grid row (slice_index_or rows row FrameKind.NotHeld) }
-{
-    for at in 0..cells.len().min(columns.len()) {
-        set_rows(&mut cells[at], &columns[at], t, grid);
     }
 }

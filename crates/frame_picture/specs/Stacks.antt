@@ -1,0 +1,39 @@
+-- What is drawn below the rows of a tenant's band in a column: free frames by the order of their blocks, and refusals.
+use Rattle.std.specs.Prelude.{ℕ, zero, suc, ◌+◌, ◌-◌, ◌*◌, ◌^◌, List, slice_get, slice_index, slice_index_or, Option, Some, None}
+use Rattle.frame_picture.specs.declared.history.Column.{Column}
+use Rattle.frame_picture.specs.declared.history.Figures.{Figures}
+
+-- how many frames lie in the free blocks of n orders from k on, where there are so many of each order
+abbrev pub frames_of_orders : List ℕ → ℕ → ℕ → ℕ
+frames_of_orders free k zero = 0
+frames_of_orders free k (suc n) = frames_of_orders free k n + slice_index free (k + n) * 2 ^ (k + n)
+
+-- in those of order k and greater ones; the greatest is 8
+abbrev pub free_in : ℕ → Option Figures → ℕ
+free_in k None = 0
+free_in k (Some figures) = frames_of_orders figures.free k (9 - k)
+
+abbrev pub free_of : ℕ → ℕ → Option Column → ℕ
+free_of t k None = 0
+free_of t k (Some column) = free_in k (slice_get column.figures.items t)
+
+-- tenant t's in column n; 0 where there is no column
+abbrev pub free_at : List Column → ℕ → ℕ → ℕ → ℕ
+free_at columns t k n = free_of t k (slice_get columns n)
+
+-- and before it: the stack begins at 0
+abbrev pub free_before : List Column → ℕ → ℕ → ℕ → ℕ
+free_before columns t k zero = 0
+free_before columns t k (suc n) = free_at columns t k n
+
+-- how many requests of tenant t had been refused up to a column, for want of frames
+abbrev pub refused_in : ℕ → Option Column → ℕ
+refused_in t None = 0
+refused_in t (Some column) = slice_index_or column.refused.items t 0
+
+abbrev pub refused_at : List Column → ℕ → ℕ → ℕ
+refused_at columns t n = refused_in t (slice_get columns n)
+
+abbrev pub refused_before : List Column → ℕ → ℕ → ℕ
+refused_before columns t zero = 0
+refused_before columns t (suc n) = refused_at columns t n
