@@ -1,5 +1,4 @@
--- What a tenant has, as replies told it. Which block or object a request gets, and when empty slabs are given back, is not said:
--- that is the allocator's.
+-- What a tenant has, as replies told it. Which block a request gets, and when empty slabs are given back, is the allocator's.
 use Rattle.std.specs.Prelude.{ℕ, ◌+◌, ◌-◌, ◌*◌, ◌/◌, ◌%◌, ◌^◌, Bool, not, List, ◌++◌, map, filter, find, flat_map, length, Option, nat_le, nat_lt, if◌then◌else◌, ◌&&◌, ◌||◌, ◌==◌}
 use Rattle.std.specs.List.{list_any, list_all, range_with_len}
 use Rattle.model_core.specs.declared.limits.TheConstants.{FRAME_BYTES}
@@ -7,18 +6,16 @@ use Rattle.model_core.specs.Blocks.{Block, block, around, slot_block}
 use Rattle.model_core.specs.Choice.{is_any_below}
 use Rattle.model_core.specs.Operations.{overlaps}
 
--- a cache, as it was asked for and as its reply told it
+-- a cache, as it was asked for and as its reply told it: a slab has 2 ^ order frames and `count` objects, from the first byte of
+-- one to that of the next are `chunk` bytes; `live` are the first places of its live objects, rising
 pub record ToldCache : Type 0 where
   pub number : ℕ
   pub size : ℕ
   pub align : ℕ
   pub pattern : List ℕ
-  -- from the first byte of an object to that of the next
   pub chunk : ℕ
-  -- a slab has 2 ^ order frames, and `count` objects
   pub order : ℕ
   pub count : ℕ
-  -- the first places of its live objects, rising
   pub live : List ℕ
 
 -- the held slots, rising, the live page blocks, by rising first frame, and the caches, by rising number

@@ -48,9 +48,8 @@ first_due ((stands, refusal) ∷ tests) = if stands then Some refusal else first
 unfoldable pub due : Event → Known → State → Option Refusal
 due (On.Tenant t (Asked.Alloc k)) w s = first_due ((nat_lt w.order k, Refusal.BadOrder) ∷ [])
 due (On.Tenant t (Asked.Free f)) w s = first_due ((is_none (order_in s.has.pages f), Refusal.NotABlock) ∷ [])
-due (On.Tenant t (Asked.Read place len)) w s = first_due (
-    (not (nat_le 1 len && nat_le len MOST_BYTES), Refusal.BadLength) ∷ (is_none (holder_of s.has place len), Refusal.OutOfReach)
-    ∷ [])
+due (On.Tenant t (Asked.Read place len)) w s = first_due ((not (nat_le 1 len && nat_le len MOST_BYTES), Refusal.BadLength)
+    ∷ (is_none (holder_of s.has place len), Refusal.OutOfReach) ∷ [])
 due (On.Tenant t (Asked.Write place bytes)) w s =
     first_due ((is_none (holder_of s.has place (length bytes.items)), Refusal.OutOfReach) ∷ [])
 due (On.Tenant t (Asked.Cache size align pattern)) w s = first_due ((not (is_size size), Refusal.BadSize)

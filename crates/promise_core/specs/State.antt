@@ -17,13 +17,11 @@ use Rattle.world_core.specs.World.{given_up}
 use Rattle.promise_core.specs.Holdings.{ToldCache, Holdings, cache_told, with_live_places, slab_around, are_apart}
 use Rattle.promise_core.specs.Bytes.{Holder, is_object, is_same, Cells, with_bytes, doubted, without, holder_of}
 
--- of a tenant
+-- of a tenant: of the caches that pass `hides` a slab without live objects may stand; `told` is the last report, while it stands
 pub record State : Type 0 where
   pub has : Holdings
   pub cells : Cells
-  -- the caches of which a slab without live objects may stand
   pub hides : ℕ → Bool
-  -- the last report, while it has to stand
   pub told : Option Report
 
 unfoldable pub opening_state : State
@@ -57,20 +55,15 @@ with_object first cache cells = option_map_or (λ c. without (λ place holder. i
 abbrev pub is_in_no_slab : Holdings → ℕ → ℕ → Bool
 is_in_no_slab h n p = not (list_any (λ c. c.number == n && list_any (λ q. in_block p (slab_around c q)) c.live) h.caches)
 
--- The state after a reply to an event, None where it answers no such event. After a refusal it is as before. Slots have
--- 2 ^ order frames.
+-- the state after a reply to an event, as before after a refusal, None where it is no answer; slots have 2 ^ order frames
 unfoldable pub state_after : ℕ → Event → Body → State → Option State
 state_after order event (Say.Refused refusal) s = Some s
-state_after order (On.Tenant t (Asked.Alloc k)) (Say.Frame f) s = let b = block f k in Some (record s {
-  has = record s.has { pages = put_rising (λ x. x.first) b s.has.pages };
-  cells = without (λ place holder. in_block place b && not (is_same Holder.Page holder)) s.cells;
-  told = None;
-})
-state_after order (On.Tenant t (Asked.Free f)) (Say.Freed k) s = Some (record s {
-  has = record s.has { pages = filter (λ x. not (x.first == f)) s.has.pages };
-  cells = doubted (λ place holder. in_block place (block f k) && is_same Holder.Page holder) s.cells;
-  told = None;
-})
+state_after order (On.Tenant t (Asked.Alloc k)) (Say.Frame f) s = let b = block f k in
+    let cells = without (λ place holder. in_block place b && not (is_same Holder.Page holder)) s.cells in
+    Some (record s { has = record s.has { pages = put_rising (λ x. x.first) b s.has.pages }; cells = cells; told = None })
+state_after order (On.Tenant t (Asked.Free f)) (Say.Freed k) s =
+    let cells = doubted (λ place holder. in_block place (block f k) && is_same Holder.Page holder) s.cells in
+    Some (record s { has = record s.has { pages = filter (λ x. not (x.first == f)) s.has.pages }; cells = cells; told = None })
 state_after order (On.Tenant t (Asked.Read place len)) (Say.Bytes bytes) s =
     Some (with_range place bytes.items s (holder_of s.has place len))
 state_after order (On.Tenant t (Asked.Write place bytes)) (Say.Written n) s =
@@ -87,32 +80,24 @@ state_after order (On.Tenant t (Asked.Cache size align pattern)) (Say.Cache numb
       live = [];
     } in
     Some (record s { has = record s.has { caches = put_rising (λ x. x.number) c s.has.caches }; told = None })
-state_after order (On.Tenant t (Asked.Destroy number)) (Say.Destroyed frames) s = Some (record {
-  has = record s.has { caches = filter (λ c. not (c.number == number)) s.has.caches };
-  cells = without (λ place. is_object (λ n p. n == number)) s.cells;
-  hides = λ n. not (n == number) && s.hides n;
-  told = None;
-})
-state_after order (On.Tenant t (Asked.Take number)) (Say.Object place) s = Some (record {
-  has = with_live_places number (put_rising (λ p. p) place) s.has;
-  cells = with_object place (cache_told s.has number) s.cells;
-  hides = λ n. n == number || s.hides n;
-  told = None;
-})
-state_after order (On.Tenant t (Asked.Give number place)) Say.Given s = Some (record s {
-  has = with_live_places number (filter (λ p. not (p == place))) s.has;
-  cells = doubted (λ p. is_same (Holder.Object number place)) s.cells;
-  told = None;
-})
+state_after order (On.Tenant t (Asked.Destroy number)) (Say.Destroyed frames) s =
+    let caches = filter (λ c. not (c.number == number)) s.has.caches in
+    let cells = without (λ place. is_object (λ n p. n == number)) s.cells in
+    Some (record { has = record s.has { caches = caches }; cells = cells; hides = λ n. not (n == number) && s.hides n; told = None })
+state_after order (On.Tenant t (Asked.Take number)) (Say.Object place) s =
+    let has = with_live_places number (put_rising (λ p. p) place) s.has in
+    let cells = with_object place (cache_told s.has number) s.cells in
+    Some (record { has = has; cells = cells; hides = λ n. n == number || s.hides n; told = None })
+state_after order (On.Tenant t (Asked.Give number place)) Say.Given s =
+    let has = with_live_places number (filter (λ p. not (p == place))) s.has in
+    Some (record s { has = has; cells = doubted (λ p. is_same (Holder.Object number place)) s.cells; told = None })
 state_after order (On.Tenant t Asked.Reap) (Say.Reaped frames) s =
     let cells = without (λ place. is_object (is_in_no_slab s.has)) s.cells in
     Some (record s { cells = cells; hides = λ n. is_in_use (cache_told s.has n); told = None })
 state_after order (On.Tenant t Asked.Report) (Say.Report r) s = Some (record s { told = Some r })
-state_after order (On.Admin (Do.Grant t)) (Say.Granted named u superblock) s = Some (record s {
-  has = record s.has { slots = put_rising (λ v. v) u s.has.slots };
-  cells = without (λ place holder. slot_of order place == u) s.cells;
-  told = None;
-})
+state_after order (On.Admin (Do.Grant t)) (Say.Granted named u superblock) s =
+    let cells = without (λ place holder. slot_of order place == u) s.cells in
+    Some (record s { has = record s.has { slots = put_rising (λ v. v) u s.has.slots }; cells = cells; told = None })
 state_after order (On.Admin (Do.TakeBack t u)) (Say.TakenBack superblock) s =
     Some (record s { has = record s.has { slots = filter (λ v. not (v == u)) s.has.slots }; told = None })
 state_after order (On.Admin (Do.Reset t)) (Say.WasReset named superblocks) s = Some opening_state
