@@ -3,3 +3,7 @@ pub mod Following
 pub mod Reading
 pub mod Verdicts
 pub mod Owning
+pub mod Bridging
+pub mod OwnersAfter
+pub mod Sizes
+pub mod Opening

@@ -1,2 +1,4 @@
 pub mod Showing
 pub mod Inside
+pub mod Machine
+pub mod Sizes

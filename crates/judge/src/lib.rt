@@ -3,15 +3,20 @@
 //! What is kept shows what [`promise_core`] says is known, and the verdict on a reply is the one of its definitions.
 #![tactic(auto)]
 
+mod addressing;
 mod bytes;
 mod caches;
 mod figures;
 mod judging;
+mod machine;
 mod marks;
 mod objects;
+mod owners;
 mod pages;
+mod replies;
 mod slots;
 mod tenant;
 
 pub use judge_core::Verdict;
+pub use machine::Machine;
 pub use tenant::Tenant;

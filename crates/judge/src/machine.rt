@@ -1,0 +1,85 @@
+//! What is kept of a machine.
+
+ghost use Rattle.std.specs.Prelude.{◌≡◌, ◌≤◌, IfOk, length, option_map, replicate, slice_get};
+ghost use Rattle.model_core.specs.declared.limits.TheConstants.{MOST_CACHES, MOST_ORDER, MOST_SUPERBLOCKS, MOST_TENANTS};
+ghost use Rattle.promise_core.specs.State.{opening};
+ghost use Rattle.judge.specs.Machine.{ShowsKnown};
+
+use crate::tenant::Tenant;
+use model_core::owner::Owner;
+use std::alloc::{AllocError, Global};
+use std::marker::Model;
+
+/// What replies told of a machine: who owns each superblock, and what each tenant has.
+#[derive(Debug, Drop)]
+pub struct Machine {
+    pub(crate) order: u8,
+    /// By superblock.
+    pub(crate) owners: Vec<Option<Owner>>,
+    /// By number.
+    pub(crate) tenants: Vec<Tenant>,
+}
+
+impl Model for Machine {
+    ghost use Rattle.judge.specs.Machine.{SeenMachine};
+    ghost use Rattle.judge.specs.Sizes.{FitsLimits};
+
+    ghost Value = { SeenMachine };
+
+    ghost view = { λ m. record { order = m.order; owners = m.owners.items; tenants = m.tenants.items } };
+
+    ghost invariant = { λ m. FitsLimits (record { order = m.order; owners = m.owners.items; tenants = m.tenants.items }) };
+}
+
+impl Machine {
+    /// A machine of so many superblocks of `2^order` frames, which nobody owns, and of so many tenants. Fails where memory runs
+    /// out.
+    pub fn new(
+        alloc: Global,
+        order: u8,
+        superblocks: u16,
+        tenants: u8,
+    ) -> Result<Machine, AllocError>
+        requires order { order ≤ MOST_ORDER }
+        requires superblocks { superblocks ≤ MOST_SUPERBLOCKS }
+        requires tenants { tenants ≤ MOST_TENANTS }
+        ensures { IfOk result (λ machine. ShowsKnown machine (opening MOST_CACHES order superblocks tenants)) }
+    {
+        let owners = vec![in alloc; None; superblocks as usize]?;
+        let mut all = Vec::new(alloc);
+        for _tenant in 0..tenants {
+            all.push(Tenant::new(alloc, order, superblocks)?)?;
+        }
+        Ok(Machine {
+            order,
+            owners,
+            tenants: all,
+        })
+    }
+
+    /// A slot has `2^order` frames.
+    pub fn order(&self) -> u8
+        ensures value { result ≡ self.now.order }
+        ensures most { result ≤ MOST_ORDER }
+    {
+        self.order
+    }
+
+    /// How many superblocks the machine has.
+    pub fn superblocks(&self) -> usize
+        ensures value { result ≡ length self.now.owners }
+        ensures most { result ≤ MOST_SUPERBLOCKS }
+    {
+        self.owners.len()
+    }
+
+    /// How many caches the tenant has, `None` where there is no such tenant.
+    pub fn caches_of(&self, tenant: u32) -> Option<usize>
+        ensures { result ≡ option_map (λ y. length y.has.caches) (slice_get self.now.tenants tenant) }
+    {
+        match self.tenants.get(tenant as usize) {
+            Some(tenant) => Some(tenant.caches()),
+            None => None,
+        }
+    }
+}
