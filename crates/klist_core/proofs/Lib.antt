@@ -11,3 +11,4 @@ pub mod Calls
 pub mod Fresh
 pub mod Witnesses
 pub mod Before
+pub mod Behind

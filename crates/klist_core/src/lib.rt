@@ -7,7 +7,7 @@
 //! Only [`Lists::new`] allocates.
 #![tactic(auto)]
 
-ghost use Rattle.std.specs.Prelude.{◌≡◌, ◌≢◌, ℕ, ◌+◌, ◌-◌, ◌^◌, ◌<◌, ◌≤◌, ◌↔◌, Some, None, length, IsTrue, IsSome, IfSome, IfOk, MatchOption, slice_get, replicate, count_by};
+ghost use Rattle.std.specs.Prelude.{◌≡◌, ◌≢◌, ℕ, ◌+◌, ◌-◌, ◌^◌, ◌<◌, ◌≤◌, ◌↔◌, true, Some, None, length, IsTrue, IsSome, IfSome, IfOk, MatchOption, slice_get, replicate, count_by};
 ghost use Rattle.std.specs.Option.{ForSome};
 ghost use Rattle.klist_core.specs.Places.{ArePlaces, IsEmpty, IsFirst, NoneAbove, IsNext, NoneBelow, IsPrevious, place_at, is_in, inserted, removed, replaced};
 ghost use Rattle.klist_core.specs.Lists.{list_of};
@@ -247,13 +247,32 @@ impl Lists {
         requires near { near < length self.old.places }
         ensures { self.new ≡ inserted self.old head node key }
     {
-        let start = if self.is_in(near, head) {
-            Some(near)
+        if self.is_in(near, head) {
+            self.insert_by(head, node, key, near);
         } else {
-            self.nearer_end(head, key)
-        };
-        let (previous, next) = self.neighbours(head, key, start);
-        self.put_between(head, node, key, previous, next);
+            let start = self.nearer_end(head, key);
+            let (previous, next) = self.neighbours(head, key, start);
+            self.put_between(head, node, key, previous, next);
+        }
+    }
+
+    /// As [`Lists::insert_near`], where the caller knows that `near` stands in the list.
+    #[inline(always)]
+    pub fn insert_by(&mut self, head: u32, node: u32, key: u32, near: u32)
+        requires head { head < self.old.heads }
+        requires node { node < length self.old.places }
+        requires free { place_at self.old.places node ≡ None }
+        requires fresh { (i : ℕ) → place_at self.old.places i ≢ Some (head, key) }
+        requires near { is_in head (place_at self.old.places near) ≡ true }
+        ensures { self.new ≡ inserted self.old head node key }
+    {
+        if self.key_of(near) < key {
+            let (previous, next) = self.gap_behind(head, key, near);
+            self.put_between(head, node, key, Some(previous), next);
+        } else {
+            let (previous, next) = self.neighbours(head, key, Some(near));
+            self.put_between(head, node, key, previous, next);
+        }
     }
 
     /// Lets the node `by`, which stands in no list, take the place of `node` in its list, under the same key.
@@ -379,6 +398,27 @@ impl Lists {
         } else {
             Some(last)
         }
+    }
+
+    /// The last node of the list with a key below `key` and what follows it, looked for from a node whose key is below.
+    #[inline(always)]
+    fn gap_behind(&self, head: u32, key: u32, from: u32) -> (u32, Option<u32>)
+        requires fresh { (i : ℕ) → place_at self.now.places i ≢ Some (head, key) }
+        requires from { (k : ℕ) × (place_at self.now.places from ≡ Some (head, k)) × (k < key) }
+        ensures previous { IsNearest down (place_at self.now.places) head (down key + 1) (Some result.0) }
+        ensures next { IsNearest up (place_at self.now.places) head (up key + 1) result.1 }
+    {
+        self.laws();
+        let mut previous = from;
+        let mut next = self.next_of(from);
+        while let Some(node) = next {
+            if key < self.key_of(node) {
+                return (previous, next);
+            }
+            previous = node;
+            next = self.next_of(node);
+        }
+        (previous, next)
     }
 
     /// The first node of the list with a key above `key`, looked for behind a node whose key is not above it.

@@ -1,5 +1,5 @@
 -- A walk along a list comes to nodes that stand in one.
-use Rattle.std.proofs.Common.{◌≡◌, ℕ, List, Option, Some, None, IsSome, IfSome, is_some, ap}
+use Rattle.std.proofs.Common.{ℕ, List, Option, Some, None, IsSome, IfSome, is_some, ap}
 use Rattle.std.specs.Prelude.{MatchOption}
 use Rattle.std.proofs.lemmas.Bool.{false≢true}
 use Rattle.klist_core.specs.Places.{place_at, IsEmpty, IsFirst, NoneAbove, IsNext}

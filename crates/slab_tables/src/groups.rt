@@ -18,6 +18,8 @@ pub(crate) struct Groups {
     order: u8,
     /// A group has `2^group` frames.
     group: u8,
+    /// The bits of a frame's number that tell it from the others of its group.
+    inside: u32,
     /// A list has `2^span` words.
     span: u8,
     words: Vec<u64>,
@@ -47,6 +49,7 @@ impl Groups {
         Ok(Groups {
             order,
             group,
+            inside: (1 << group) - 1,
             span,
             words: vec![in alloc; 0; lists << span]?,
             kept: vec![in alloc; false; lists]?,
@@ -59,6 +62,14 @@ impl Groups {
         ensures { 0 < result }
     {
         1 << self.group
+    }
+
+    /// How many frames of its group come before the frame.
+    #[inline(always)]
+    pub(crate) fn before_in_group(&self, frame: u32) -> u32
+        ensures { result ≤ frame }
+    {
+        frame & self.inside
     }
 
     /// Whether two frames are of one group.

@@ -1,8 +1,8 @@
 //! Where caches and their lists stand among those of all tenants, and changes of the lists.
 
-ghost use Rattle.std.specs.Prelude.{◌≡◌, ◌≢◌, ℕ, ◌+◌, ◌*◌, ◌^◌, ◌<◌, ◌≤◌, Some, None, length, replicate, IsSome, IfSome, IfOk, MatchOption};
+ghost use Rattle.std.specs.Prelude.{◌≡◌, ◌≢◌, ℕ, ◌+◌, ◌*◌, ◌^◌, ◌<◌, ◌≤◌, true, Some, None, length, replicate, IsSome, IfSome, IfOk, MatchOption};
 ghost use Rattle.model_core.specs.declared.limits.TheConstants.{MOST_ORDER, MOST_SUPERBLOCKS, MOST_TENANTS, MOST_CACHES};
-ghost use Rattle.klist_core.specs.Places.{IsEmpty, IsFirst, place_at, inserted, removed, replaced};
+ghost use Rattle.klist_core.specs.Places.{IsEmpty, IsFirst, place_at, is_in, inserted, removed, replaced};
 ghost use Rattle.slab_tables.specs.Content.{index_of_cache};
 ghost use Rattle.slab_tables.specs.Changes.{IsEmptied};
 
@@ -29,7 +29,7 @@ pub(crate) fn node_at(order: u8, superblock: u16, i: u32) -> u32
     (u32::from(superblock) << order) + i
 }
 
-/// A list of fewer nodes is walked at once: an eighth as many nodes as it has are looked at before, so none here.
+/// A list of fewer nodes is walked at once.
 const SHORT: u32 = 8;
 
 /// A list that comes to have as many nodes is kept in groups: to walk one of fewer costs no more than to look at its groups.
@@ -111,9 +111,10 @@ impl SlabLists {
         ensures { self.new ≡ removed self.old node }
     {
         self.lists.laws();
-        if let Some((list, key)) = self.lists.place_of(node)
-            && self.groups.is_kept(list)
-        {
+        let Some((list, key)) = self.lists.place_of(node) else {
+            unreachable!()
+        };
+        if self.lists.len(list) >= NOT_LONG && self.groups.is_kept(list) {
             self.forget(list, node, key);
         }
         self.lists.remove(node);
@@ -125,13 +126,14 @@ impl SlabLists {
         requires { head < self.old.heads }
         ensures { self.new ≡ self.old }
     {
-        if self.lists.len(head) >= NOT_LONG {
+        let len = self.lists.len(head);
+        if len >= NOT_LONG && (len >= LONG || self.groups.is_kept(head)) {
             self.note_in_groups(head, key);
         }
     }
 
-    /// A node stands in the list, which is not short, under the key now: one that is kept in groups has one in the group of the
-    /// key, and one that has become long is kept from now on.
+    /// A node stands in the list under the key now: one that is kept in groups has one in the group of the key, and one that has
+    /// become long is kept from now on.
     #[inline(never)]
     fn note_in_groups(&mut self, head: u32, key: u32)
         requires { head < self.old.heads }
@@ -207,38 +209,54 @@ impl SlabLists {
         if self.lists.len(head) < SHORT {
             self.lists.insert(head, node, key);
         } else {
-            let near = self.near(head, node, key, 1 << slab);
-            self.lists.insert_near(head, node, key, near);
+            self.insert_among(head, node, key, 1 << slab);
             self.note(head, key);
         }
     }
 
-    /// A node of the list whose key is below the key of the node and not far from it; the node itself where none is found.
+    /// As [`Lists::insert`], into a list that is not short: behind a node that comes before, where one is found near by.
+    #[inline(always)]
+    fn insert_among(&mut self, head: u32, node: u32, key: u32, step: u32)
+        requires head { head < self.old.heads }
+        requires node { node < length self.old.places }
+        requires free { place_at self.old.places node ≡ None }
+        requires fresh { (i : ℕ) → place_at self.old.places i ≢ Some (head, key) }
+        requires step { 0 < step }
+        ensures { self.new ≡ inserted self.old head node key }
+    {
+        match self.near(head, node, key, step) {
+            Some(near) => self.lists.insert_by(head, node, key, near),
+            None => self.lists.insert_near(head, node, key, node),
+        }
+    }
+
+    /// A node of the list whose key is below the key of the node and not far from it, if one is found.
     ///
-    /// It is looked for below the node in its group, at an eighth as many nodes as the list has, since a short list is walked
+    /// It is looked for below the node in its group, at a fourth as many nodes as the list has, since a short list is walked
     /// sooner, and then in the last group before in which the list has a slab.
-    fn near(&self, head: u32, node: u32, key: u32, step: u32) -> u32
+    fn near(&self, head: u32, node: u32, key: u32, step: u32) -> Option<u32>
         requires head { head < self.now.heads }
         requires node { node < length self.now.places }
         requires step { 0 < step }
-        ensures { result < length self.now.places }
+        ensures { IfSome result (λ n. is_in head (place_at self.now.places n) ≡ true) }
     {
         let len = self.lists.len(head);
-        let room = node % self.groups.size();
-        if let Some(near) = near_below(&self.lists, head, node, step, room, len / 8) {
-            return near;
+        let room = self.groups.before_in_group(node);
+        if let Some(near) = near_below(&self.lists, head, node, step, room, len / 4) {
+            return Some(near);
         }
         if !self.groups.is_kept(head) {
-            return node;
+            return None;
         }
-        self.near_in_groups(head, key, step).unwrap_or(node)
+        self.near_in_groups(head, key, step)
     }
 
     /// The last node of the list in the last group before that of the key in which the list has a node.
+    #[inline(never)]
     fn near_in_groups(&self, head: u32, key: u32, step: u32) -> Option<u32>
         requires head { head < self.now.heads }
         requires step { 0 < step }
-        ensures { IfSome result (λ n. n < length self.now.places) }
+        ensures { IfSome result (λ n. is_in head (place_at self.now.places n) ≡ true) }
     {
         let size = self.groups.size();
         let first = self.groups.before(head, key)?;
@@ -297,7 +315,7 @@ fn near_below(lists: &Lists, head: u32, above: u32, step: u32, room: u32, most: 
     requires above { above ≤ length lists.now.places }
     requires step { 0 < step }
     requires room { room ≤ above }
-    ensures { IfSome result (λ n. n < length lists.now.places) }
+    ensures { IfSome result (λ n. is_in head (place_at lists.now.places n) ≡ true) }
 {
     let mut below = above;
     for _ in 0..(room / step).min(most) {

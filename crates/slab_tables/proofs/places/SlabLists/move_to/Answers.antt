@@ -16,4 +16,4 @@ returns-then-len-lt-SHORT c =
 pub returns-else-len-lt-SHORT : goal.returns-else-len-lt-SHORT
 returns-else-len-lt-SHORT c =
     c.note.ensures
-    ∙ (c.insert_near.ensures ∙ put_anew c.args.self.now c.self.inside.lists c.args.head c.args.node c.args.key (c.self.view_is ∙ c.remove.ensures))
+    ∙ (c.insert_among.ensures ∙ put_anew c.args.self.now c.remove.new.self c.args.head c.args.node c.args.key c.remove.ensures)
