@@ -1,5 +1,5 @@
 -- A line run on the kernel that is held.
-use Rattle.std.specs.Prelude.{◌≡◌, ℕ, ◌==◌, nat_lt, Bool, not, List, [], ◌++◌, length, drop, if◌then◌else◌, Option, Some, None, is_some, Result, Ok, Err}
+use Rattle.std.specs.Prelude.{◌≡◌, ℕ, ◌==◌, nat_lt, Bool, true, false, not, List, [], ◌++◌, length, drop, if◌then◌else◌, Option, Some, None, is_some, Result, Ok, Err}
 use Rattle.std.specs.List.{list_any}
 use Rattle.words_core.specs.declared.event.Event.{Event}
 use Rattle.words_core.specs.declared.event.LineFault.{LineFault}
@@ -35,6 +35,19 @@ AnswersLine old (Err fault) new text = (new ≡ old) × (text ≡ text_of (recor
 pub record IsTextWritten (text room room' : List ℕ) (written : ℕ) : Type 0 where
   pub counted : written ≡ length text
   pub over : room' ≡ text ++ drop (length text) room
+
+-- it has no line feed, was run on the kernel, and was answered in full
+pub record AnswersWhole (old : Parts) (line room : List ℕ) (new : Parts) (room' : List ℕ) (written : ℕ) : Type 0 where
+  pub text : List ℕ
+  pub one : has_line_feed line ≡ false
+  pub answers : AnswersLine old (reading_of line) new text
+  pub puts : IsTextWritten text room room' written
+
+-- it has a line feed, and nothing was done
+pub record IsNoLine (old : Parts) (line room : List ℕ) (new : Parts) (room' : List ℕ) : Type 0 where
+  pub several : has_line_feed line ≡ true
+  pub kernel : new ≡ old
+  pub same_room : room' ≡ room
 
 -- the line was run on the kernel that was held, and answered in full
 pub record RunsLine (old new : Option Parts) (line room room' : List ℕ) (written : ℕ) : Type 0 where

@@ -1,7 +1,7 @@
 //! Lines of a trace, run one at a time.
 
 ghost use Rattle.std.specs.Prelude.{◌≡◌, ◌≢◌, ℕ, ◌+◌, ◌<◌, ◌≤◌, ◌∷◌, ◌++◌, false, List, length, take, drop, Some, Ok};
-ghost use Rattle.std.specs.Prelude.{IsSome, IfSome, MatchOption};
+ghost use Rattle.std.specs.Prelude.{IfSome, MatchOption, if◌then◌else◌};
 ghost use Rattle.words_core.specs.Grammar.{reading_of};
 ghost use Rattle.words_core.specs.Texts.{text_of};
 ghost use Rattle.words_core.specs.Answers.{reply_of};
@@ -14,7 +14,7 @@ ghost use Rattle.quick_core.specs.Quick.{quick_command, reply_of_told, reply_of_
 ghost use Rattle.replay_core.specs.Pushes.{most_reply_bytes};
 ghost use Rattle.replay_core.specs.Standing.{IsRunnable};
 ghost use Rattle.parts_core.specs.Parts.{Parts};
-ghost use Rattle.partmem_c.specs.Lines.{has_line_feed, line_status, AnswersLine, IsTextWritten, RunsLine};
+ghost use Rattle.partmem_c.specs.Lines.{has_line_feed, line_status, AnswersLine, AnswersWhole, IsNoLine, IsTextWritten, RunsLine};
 
 use crate::machine::Machine;
 use crate::status::{DONE, NO_MACHINE, NO_ROOM, NOT_A_LINE};
@@ -55,59 +55,64 @@ pub extern "C" fn partmem_line(
     if !machine.is_booted() {
         return NO_MACHINE;
     }
-    let Some(quick) = quick_line(line) else {
-        return run_other(alloc, machine, line, room, written);
-    };
     if room.len() < MOST_TEXT_BYTES {
-        return NO_ROOM;
+        return status_without_room(line);
     }
     let mut kernel = machine.take_out(alloc);
-    *written = answer_quick(quick, &mut kernel, room);
+    let answered = run_line(&mut kernel, line, room);
     machine.put_in(kernel);
+    let Some(count) = answered else {
+        return NOT_A_LINE;
+    };
+    *written = count;
     DONE
 }
 
-/// [`partmem_line`] of any line; out of line, since it needs more registers than most lines of a load.
+/// What a call answers whose room is too short.
+#[cold]
 #[inline(never)]
-fn run_other(
-    alloc: Global,
-    machine: &mut Machine,
-    line: &[u8],
-    room: &mut [u8],
-    written: &mut usize,
-) -> u32
-    requires booted { IsSome machine.old.slot.held }
-    requires none { written.old ≡ 0 }
-    ensures status { result ≡ line_status machine.old.slot.held line.now room.old }
-    ensures done { result ≡ DONE → RunsLine machine.old.slot.held machine.new.slot.held line.now room.old room.new written.new }
-    ensures not_done { result ≢ DONE → (machine.new.slot.held ≡ machine.old.slot.held) × (room.new ≡ room.old) × (written.new ≡ 0) }
+fn status_without_room(line: &[u8]) -> u32
+    ensures { result ≡ (if has_line_feed line.now then NOT_A_LINE else NO_ROOM) }
 {
     if line.contains(&b'\n') {
-        return NOT_A_LINE;
+        NOT_A_LINE
+    } else {
+        NO_ROOM
     }
-    if room.len() < MOST_TEXT_BYTES {
-        return NO_ROOM;
-    }
-    let mut kernel = machine.take_out(alloc);
-    *written = run_line(&mut kernel, line, room);
-    machine.put_in(kernel);
-    DONE
 }
 
 /// Room for a line of the short path with its line feed: a tenant, a word, a place, and bytes in hex.
 const MOST_SHORT_LINE: usize = 160;
 
-/// Runs a line on the kernel, writes what it is answered over the first bytes of `room`, and answers how many.
+/// Runs a line on the kernel, writes what it is answered over the first bytes of `room`, and answers how many; None, and nothing is
+/// done, where it has a line feed.
 #[inline(always)]
-fn run_line(kernel: &mut Kernel, line: &[u8], room: &mut [u8]) -> usize
-    requires one { has_line_feed line.now ≡ false }
-    requires room { most_reply_bytes ≤ length room.old }
-    ensures { (text : List ℕ) × AnswersLine kernel.old (reading_of line.now) kernel.new text × IsTextWritten text room.old room.new result }
+fn run_line(kernel: &mut Kernel, line: &[u8], room: &mut [u8]) -> Option<usize>
+    requires { most_reply_bytes ≤ length room.old }
+    ensures { MatchOption result (IsNoLine kernel.old line.now room.old kernel.new room.new)
+        (λ written. AnswersWhole kernel.old line.now room.old kernel.new room.new written) }
 {
-    match run_transfer(kernel, line, room) {
-        Some(written) => written,
-        None => answer(read_line(line), kernel, room),
+    match quick_line(line) {
+        Some(quick) => Some(answer_quick(quick, kernel, room)),
+        None => run_other(kernel, line, room),
     }
+}
+
+/// [`run_line`] of any line; out of line, since it needs more registers than most lines of a load.
+#[inline(never)]
+fn run_other(kernel: &mut Kernel, line: &[u8], room: &mut [u8]) -> Option<usize>
+    requires { most_reply_bytes ≤ length room.old }
+    ensures { MatchOption result (IsNoLine kernel.old line.now room.old kernel.new room.new)
+        (λ written. AnswersWhole kernel.old line.now room.old kernel.new room.new written) }
+{
+    if let Some(written) = run_transfer(kernel, line, room) {
+        return Some(written);
+    }
+    // A line of the short path was read as far as its first line feed, and needs no search.
+    if line.contains(&b'\n') {
+        return None;
+    }
+    Some(answer(read_line(line), kernel, room))
 }
 
 /// The line, where it is an `alloc`, `free`, `take` or `give` of the short path; None where it isn't, or where that is not sure.
@@ -132,11 +137,9 @@ fn quick_line(line: &[u8]) -> Option<QuickLine>
 /// [`run_line`] of a read or a write of the short path; None, and nothing is done, where it isn't one, or where that is not sure.
 #[inline(always)]
 fn run_transfer(kernel: &mut Kernel, line: &[u8], room: &mut [u8]) -> Option<usize>
-    requires one { has_line_feed line.now ≡ false }
-    requires room { most_reply_bytes ≤ length room.old }
+    requires { most_reply_bytes ≤ length room.old }
     ensures { MatchOption result ((kernel.new ≡ kernel.old) × (room.new ≡ room.old))
-        (λ written. (text : List ℕ) × AnswersLine kernel.old (reading_of line.now) kernel.new text
-        × IsTextWritten text room.old room.new written) }
+        (λ written. AnswersWhole kernel.old line.now room.old kernel.new room.new written) }
 {
     if line.len() >= MOST_SHORT_LINE {
         return None;
@@ -144,10 +147,16 @@ fn run_transfer(kernel: &mut Kernel, line: &[u8], room: &mut [u8]) -> Option<usi
     let mut ended = [0; MOST_SHORT_LINE];
     put_ended(line, &mut ended);
     if let Some(read) = read_bytes_line(&ended) {
+        if read.len != line.len() + 1 {
+            return None;
+        }
         return Some(answer_read(read, kernel, room));
     }
     let mut bytes = [0; MOST_BYTES];
     let write = read_write_line(&ended, &mut bytes)?;
+    if write.len != line.len() + 1 {
+        return None;
+    }
     Some(answer_write(write, &bytes[..write.count], kernel, room))
 }
 

@@ -1,5 +1,10 @@
-use Rattle.replay_core.proofs.RunnableLemmas.{read_is_runnable}
+use Rattle.partmem_c.proofs.TextLemmas.{answered_as}
 use Rattle.partmem_c.proofs.lines.run_line.Goals as goal
 
-pub answer-requires-clause-runnable : goal.answer-requires-clause-runnable
-answer-requires-clause-runnable c = read_is_runnable _ _ c.read_line.ensures.exact
+pub returns-in-Some : goal.returns-in-Some
+returns-in-Some c = record {
+  text = c.answer_quick.ensures.0;
+  one = c.in-Some.ensures.one;
+  answers = answered_as _ _ c.args.line.now c.answer_quick.ensures.0 _ _ c.in-Some.ensures.reading c.answer_quick.ensures.1;
+  puts = c.answer_quick.ensures.2;
+}
