@@ -1,4 +1,4 @@
-use Rattle.std.proofs.Common.{◌≡◌, ap, sym, subst, rules, ◌∙◌, Some, Ok, Err, length, slice_get, slice_set}
+use Rattle.std.proofs.Common.{◌≡◌, refl, ap, sym, subst, rules, ◌∙◌, Some, Ok, Err, length, slice_get, slice_set}
 use Rattle.std.specs.Vec.{with_items}
 use Rattle.std.proofs.lemmas.List.{with_items_is, places}
 use Rattle.std.proofs.lemmas.Option.{slice_get_read}
@@ -7,7 +7,20 @@ use Rattle.promise_core.specs.State.{owners_after}
 use Rattle.judge.specs.Showing.{Seen, IsJudged}
 use Rattle.judge.specs.Machine.{SeenMachine, ShowsKnown}
 use Rattle.judge.proofs.Bridging.{tenant_judged}
+use Rattle.judge.proofs.Sizes.{still_fits}
 use Rattle.judge.proofs.machine.Machine.judge_admin.Goals as goal
+
+pub invariant_of-self-in-Ok : goal.invariant_of-self-in-Ok
+invariant_of-self-in-Ok c =
+    let x : SeenMachine = record { order = c.self.inside.order; owners = c.self.inside.owners.items; tenants = c.self.inside.tenants.items } in
+    let event = On.Admin c.args.command.now in
+    let y : Seen = c.index_mut-tenant.result.now in
+    let z : Seen = c.judge_admin.new.self in
+    let here : slice_get x.tenants c.args.t ≡ Some y = slice_get_read x.tenants (length c.args.self.now.tenants) c.args.t y
+    (sym (ap (λ (m : SeenMachine). length m.tenants) c.self.view_is)) c.requires.tenant c.index_mut-tenant.ensures.value in
+    let judged : IsJudged event c.args.reply.now.body c.deref.result.now y z (Ok tt) =
+    subst (IsJudged event c.args.reply.now.body c.deref.result.now y z) c.in-Ok.is c.in_ok-judge_admin.ensures.judged in
+    still_fits x (with_items c.self.inside.owners c.follow_owners.new.owners).items c.args.t y z c.self.invariant (search (rules, places)) here (judged.kept refl).order
 
 pub returns-in-Ok-clause-judged : goal.returns-in-Ok-clause-judged
 returns-in-Ok-clause-judged c w shown =
