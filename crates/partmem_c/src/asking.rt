@@ -1,8 +1,7 @@
 //! An event out of numbers and bytes.
 
-ghost use Rattle.std.specs.Prelude.{◌≡◌, ◌<◌, ◌^◌, ℕ, List, Some, IfSome, is_some};
+ghost use Rattle.std.specs.Prelude.{◌≡◌, ◌<◌, ◌^◌, IfSome, is_some};
 ghost use Rattle.words_core.specs.declared.event.Event.TheVariants as Event;
-ghost use Rattle.quick_core.specs.Quick.{quick_command};
 ghost use Rattle.kernel_core.specs.Steps.{HasPattern};
 ghost use Rattle.partmem_c.specs.Events.{some_bytes, admin_command_of, asked_command, asked_event};
 
@@ -12,7 +11,6 @@ use crate::kinds::{
 };
 use arrayvec::ArrayVec;
 use model_core::limits::{MOST_BYTES, MOST_PATTERN};
-use quick_core::Quick;
 use words_core::{AdminCommand, Command, Event};
 
 /// An event as numbers: what is asked, which tenant asks it or is meant by it, and the command's numbers, as [`crate::kinds`] says.
@@ -36,25 +34,6 @@ pub fn is_event(asked: &Asked, bytes: &[u8]) -> bool
         WRITE => (1..=MOST_BYTES).contains(&bytes.len()),
         CACHE => (1..=MOST_PATTERN).contains(&bytes.len()),
         kind => (GRANT..=REPORT).contains(&kind),
-    }
-}
-
-/// The command of the short path that the numbers say; None, where they say another event or none.
-#[inline(always)]
-pub fn quick_of(asked: &Asked) -> Option<Quick>
-    ensures { IfSome result (λ command. (bytes : List ℕ)
-        → asked_event asked.now bytes ≡ Some (Event.Tenant asked.now.tenant (quick_command command))) }
-{
-    let first = asked.first;
-    match asked.kind {
-        ALLOC => Some(Quick::Alloc { order: first }),
-        FREE => Some(Quick::Free { frame: first }),
-        TAKE => Some(Quick::Take { cache: first }),
-        GIVE => Some(Quick::Give {
-            cache: first,
-            place: asked.second,
-        }),
-        _ => None,
     }
 }
 

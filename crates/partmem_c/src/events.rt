@@ -1,13 +1,13 @@
 //! Events run one at a time, without words.
 
-ghost use Rattle.std.specs.Prelude.{◌≡◌, ◌≢◌, ◌≤◌, ℕ, List, length, IsSome, IfSome};
+ghost use Rattle.std.specs.Prelude.{◌≡◌, ◌≢◌, ◌≤◌, ℕ, List, length, Some, is_some, if◌then◌else◌};
 ghost use Rattle.words_core.specs.declared.event.Event.TheVariants.{Tenant};
 ghost use Rattle.words_core.specs.declared.event.Command.TheVariants.{Read, Write};
 ghost use Rattle.quick_core.specs.Quick.{quick_command};
 ghost use Rattle.partmem_c.specs.Events.{asked_event, event_status, AnswersEvent, RunsEvent};
 
-use crate::asking::{Asked, event_of, is_event, quick_of};
-use crate::kinds::{READ, WRITE};
+use crate::asking::{Asked, event_of, is_event};
+use crate::kinds::{ALLOC, FREE, GIVE, READ, TAKE, WRITE};
 use crate::lines::put;
 use crate::machine::Machine;
 use crate::status::{DONE, NO_MACHINE, NO_ROOM, NOT_AN_EVENT};
@@ -32,27 +32,175 @@ pub extern "C" fn partmem_event(
     room: &mut [u8],
 ) -> u32
     ensures status { result ≡ event_status machine.old.slot.held asked.now bytes.now room.old }
-    ensures done { result ≡ DONE → RunsEvent machine.old.slot.held machine.new.slot.held asked.now bytes.now told.new room.old room.new }
-    ensures not_done { result ≢ DONE → (machine.new.slot.held ≡ machine.old.slot.held) × (told.new ≡ told.old) × (room.new ≡ room.old) }
+    ensures done { result ≡ DONE
+        → RunsEvent machine.old.slot.held machine.new.slot.held asked.now bytes.now told.new room.old room.new }
+    ensures not_done { result ≢ DONE
+        → (machine.new.slot.held ≡ machine.old.slot.held) × (told.new ≡ told.old) × (room.new ≡ room.old) }
+{
+    if room.len() < MOST_BYTES {
+        return status_without_room(machine, asked, bytes);
+    }
+    match asked.kind {
+        ALLOC => alloc_event(alloc, machine, asked, told),
+        FREE => free_event(alloc, machine, asked, told),
+        TAKE => take_event(alloc, machine, asked, told),
+        GIVE => give_event(alloc, machine, asked, told),
+        READ => read_event(alloc, machine, asked, told, room),
+        WRITE => write_event(alloc, machine, asked, bytes, told),
+        _ => rare_event(alloc, machine, asked, bytes, told, room),
+    }
+}
+
+/// What a call answers whose room is too short.
+#[cold]
+#[inline(never)]
+fn status_without_room(machine: &Machine, asked: &Asked, bytes: &[u8]) -> u32
+    ensures { result ≡ (if is_some machine.now.slot.held
+        then (if is_some (asked_event asked.now bytes.now) then NO_ROOM else NOT_AN_EVENT) else NO_MACHINE) }
 {
     if !machine.is_booted() {
         return NO_MACHINE;
     }
-    let Some(command) = quick_of(asked) else {
-        return run_other(alloc, machine, asked, bytes, told, room);
-    };
-    if room.len() < MOST_BYTES {
-        return NO_ROOM;
+    if is_event(asked, bytes) {
+        NO_ROOM
+    } else {
+        NOT_AN_EVENT
+    }
+}
+
+/// [`partmem_event`] of one kind; out of line, as each kind is, so that it saves only the registers that it needs. Each tests for
+/// itself that there is a machine: a call whose answer is not always the same can be the last thing that is done.
+#[inline(never)]
+fn alloc_event(alloc: Global, machine: &mut Machine, asked: &Asked, told: &mut Told) -> u32
+    requires kind { asked.now.kind ≡ ALLOC }
+    ensures status { result ≡ (if is_some machine.old.slot.held then DONE else NO_MACHINE) }
+    ensures done { result ≡ DONE → (bytes room : List ℕ)
+        → RunsEvent machine.old.slot.held machine.new.slot.held asked.now bytes told.new room room }
+    ensures not_done { result ≢ DONE → (machine.new.slot.held ≡ machine.old.slot.held) × (told.new ≡ told.old) }
+{
+    let order = asked.first;
+    ask(alloc, machine, asked.tenant, Quick::Alloc { order }, told)
+}
+
+#[inline(never)]
+fn free_event(alloc: Global, machine: &mut Machine, asked: &Asked, told: &mut Told) -> u32
+    requires kind { asked.now.kind ≡ FREE }
+    ensures status { result ≡ (if is_some machine.old.slot.held then DONE else NO_MACHINE) }
+    ensures done { result ≡ DONE → (bytes room : List ℕ)
+        → RunsEvent machine.old.slot.held machine.new.slot.held asked.now bytes told.new room room }
+    ensures not_done { result ≢ DONE → (machine.new.slot.held ≡ machine.old.slot.held) × (told.new ≡ told.old) }
+{
+    let frame = asked.first;
+    ask(alloc, machine, asked.tenant, Quick::Free { frame }, told)
+}
+
+#[inline(never)]
+fn take_event(alloc: Global, machine: &mut Machine, asked: &Asked, told: &mut Told) -> u32
+    requires kind { asked.now.kind ≡ TAKE }
+    ensures status { result ≡ (if is_some machine.old.slot.held then DONE else NO_MACHINE) }
+    ensures done { result ≡ DONE → (bytes room : List ℕ)
+        → RunsEvent machine.old.slot.held machine.new.slot.held asked.now bytes told.new room room }
+    ensures not_done { result ≢ DONE → (machine.new.slot.held ≡ machine.old.slot.held) × (told.new ≡ told.old) }
+{
+    let cache = asked.first;
+    ask(alloc, machine, asked.tenant, Quick::Take { cache }, told)
+}
+
+#[inline(never)]
+fn give_event(alloc: Global, machine: &mut Machine, asked: &Asked, told: &mut Told) -> u32
+    requires kind { asked.now.kind ≡ GIVE }
+    ensures status { result ≡ (if is_some machine.old.slot.held then DONE else NO_MACHINE) }
+    ensures done { result ≡ DONE → (bytes room : List ℕ)
+        → RunsEvent machine.old.slot.held machine.new.slot.held asked.now bytes told.new room room }
+    ensures not_done { result ≢ DONE → (machine.new.slot.held ≡ machine.old.slot.held) × (told.new ≡ told.old) }
+{
+    let cache = asked.first;
+    let place = asked.second;
+    ask(
+        alloc,
+        machine,
+        asked.tenant,
+        Quick::Give { cache, place },
+        told,
+    )
+}
+
+#[inline(always)]
+fn ask(alloc: Global, machine: &mut Machine, tenant: u32, command: Quick, told: &mut Told) -> u32
+    ensures status { result ≡ (if is_some machine.old.slot.held then DONE else NO_MACHINE) }
+    ensures done { result ≡ DONE → (asked : Asked) (bytes room : List ℕ)
+        → asked_event asked bytes ≡ Some (Tenant tenant (quick_command command))
+        → RunsEvent machine.old.slot.held machine.new.slot.held asked bytes told.new room room }
+    ensures not_done { result ≢ DONE → (machine.new.slot.held ≡ machine.old.slot.held) × (told.new ≡ told.old) }
+{
+    if !machine.is_booted() {
+        return NO_MACHINE;
     }
     let mut kernel = machine.take_out(alloc);
-    *told = ask(&mut kernel, asked.tenant, command);
+    *told = match kernel.ask_quick(tenant, command) {
+        Some((_, told)) => told_of_quick(told),
+        None => refused(Refusal::NoTenant),
+    };
     machine.put_in(kernel);
     DONE
 }
 
-/// [`partmem_event`] of any event; out of line, since it needs more registers than the events of a load.
 #[inline(never)]
-fn run_other(
+fn read_event(
+    alloc: Global,
+    machine: &mut Machine,
+    asked: &Asked,
+    told: &mut Told,
+    room: &mut [u8],
+) -> u32
+    requires kind { asked.now.kind ≡ READ }
+    requires room { MOST_BYTES ≤ length room.old }
+    ensures status { result ≡ (if is_some machine.old.slot.held then DONE else NO_MACHINE) }
+    ensures done { result ≡ DONE → (bytes : List ℕ)
+        → RunsEvent machine.old.slot.held machine.new.slot.held asked.now bytes told.new room.old room.new }
+    ensures not_done { result ≢ DONE
+        → (machine.new.slot.held ≡ machine.old.slot.held) × (told.new ≡ told.old) × (room.new ≡ room.old) }
+{
+    if !machine.is_booted() {
+        return NO_MACHINE;
+    }
+    let kernel = machine.take_out(alloc);
+    *told = read(&kernel, asked.tenant, asked.first, asked.second, room);
+    machine.put_in(kernel);
+    DONE
+}
+
+#[inline(never)]
+fn write_event(
+    alloc: Global,
+    machine: &mut Machine,
+    asked: &Asked,
+    bytes: &[u8],
+    told: &mut Told,
+) -> u32
+    requires kind { asked.now.kind ≡ WRITE }
+    ensures status { result ≡ (if is_some machine.old.slot.held
+        then (if is_some (asked_event asked.now bytes.now) then DONE else NOT_AN_EVENT) else NO_MACHINE) }
+    ensures done { result ≡ DONE → (room : List ℕ)
+        → RunsEvent machine.old.slot.held machine.new.slot.held asked.now bytes.now told.new room room }
+    ensures not_done { result ≢ DONE → (machine.new.slot.held ≡ machine.old.slot.held) × (told.new ≡ told.old) }
+{
+    if !machine.is_booted() {
+        return NO_MACHINE;
+    }
+    if !is_event(asked, bytes) {
+        return NOT_AN_EVENT;
+    }
+    let mut kernel = machine.take_out(alloc);
+    *told = write(&mut kernel, asked.tenant, asked.first, bytes);
+    machine.put_in(kernel);
+    DONE
+}
+
+/// [`partmem_event`] of any event, by way of a reply, which has room for the owners of all superblocks: all of that is cleared.
+#[cold]
+#[inline(never)]
+fn rare_event(
     alloc: Global,
     machine: &mut Machine,
     asked: &Asked,
@@ -60,49 +208,30 @@ fn run_other(
     told: &mut Told,
     room: &mut [u8],
 ) -> u32
-    requires booted { IsSome machine.old.slot.held }
-    ensures status { result ≡ event_status machine.old.slot.held asked.now bytes.now room.old }
-    ensures done { result ≡ DONE → RunsEvent machine.old.slot.held machine.new.slot.held asked.now bytes.now told.new room.old room.new }
-    ensures not_done { result ≢ DONE → (machine.new.slot.held ≡ machine.old.slot.held) × (told.new ≡ told.old) × (room.new ≡ room.old) }
+    requires room { MOST_BYTES ≤ length room.old }
+    ensures status { result ≡ (if is_some machine.old.slot.held
+        then (if is_some (asked_event asked.now bytes.now) then DONE else NOT_AN_EVENT) else NO_MACHINE) }
+    ensures done { result ≡ DONE
+        → RunsEvent machine.old.slot.held machine.new.slot.held asked.now bytes.now told.new room.old room.new }
+    ensures not_done { result ≢ DONE
+        → (machine.new.slot.held ≡ machine.old.slot.held) × (told.new ≡ told.old) × (room.new ≡ room.old) }
 {
-    if !is_event(asked, bytes) {
+    if !machine.is_booted() {
+        return NO_MACHINE;
+    }
+    let Some(event) = event_of(asked, bytes) else {
         return NOT_AN_EVENT;
-    }
-    if room.len() < MOST_BYTES {
-        return NO_ROOM;
-    }
+    };
     let mut kernel = machine.take_out(alloc);
-    *told = run_event(&mut kernel, asked, bytes, room);
+    let reply = kernel.step(&event);
     machine.put_in(kernel);
+    put(bytes_of(&reply.body), room, 0);
+    *told = told_of(&reply.body);
     DONE
 }
 
-/// Runs the event that the numbers and bytes say, and tells its answer.
-#[inline(always)]
-fn run_event(kernel: &mut Kernel, asked: &Asked, bytes: &[u8], room: &mut [u8]) -> Told
-    requires event { IsSome (asked_event asked.now bytes.now) }
-    requires room { MOST_BYTES ≤ length room.old }
-    ensures { IfSome (asked_event asked.now bytes.now)
-        (λ event. AnswersEvent kernel.old event kernel.new result room.old room.new) }
-{
-    match asked.kind {
-        READ => read(kernel, asked.tenant, asked.first, asked.second, room),
-        WRITE => write(kernel, asked.tenant, asked.first, bytes),
-        _ => run_rare(kernel, asked, bytes, room),
-    }
-}
-
-#[inline(always)]
-fn ask(kernel: &mut Kernel, tenant: u32, command: Quick) -> Told
-    ensures { (room : List ℕ) → AnswersEvent kernel.old (Tenant tenant (quick_command command)) kernel.new result room room }
-{
-    match kernel.ask_quick(tenant, command) {
-        Some((_, told)) => told_of_quick(told),
-        None => refused(Refusal::NoTenant),
-    }
-}
-
 /// Puts the bytes that are read over the first of `room`.
+#[inline(always)]
 fn read(kernel: &Kernel, tenant: u32, place: u32, asked: u32, room: &mut [u8]) -> Told
     requires { MOST_BYTES ≤ length room.old }
     ensures { AnswersEvent kernel.now (Tenant tenant (Read place asked)) kernel.now result room.old room.new }
@@ -117,6 +246,7 @@ fn read(kernel: &Kernel, tenant: u32, place: u32, asked: u32, room: &mut [u8]) -
     }
 }
 
+#[inline(always)]
 fn write(kernel: &mut Kernel, tenant: u32, place: u32, bytes: &[u8]) -> Told
     requires { length bytes.now ≤ MOST_BYTES }
     ensures { (room : List ℕ) → AnswersEvent kernel.old (Tenant tenant (Write place (record { items = bytes.now })))
@@ -127,19 +257,4 @@ fn write(kernel: &mut Kernel, tenant: u32, place: u32, bytes: &[u8]) -> Told
         Some((_, Err(refusal))) => refused(refusal),
         None => refused(Refusal::NoTenant),
     }
-}
-
-/// [`run_event`] by way of a reply, which has room for the owners of all superblocks; out of line, since all of it is cleared.
-#[cold]
-#[inline(never)]
-fn run_rare(kernel: &mut Kernel, asked: &Asked, bytes: &[u8], room: &mut [u8]) -> Told
-    requires event { IsSome (asked_event asked.now bytes.now) }
-    requires room { MOST_BYTES ≤ length room.old }
-    ensures { IfSome (asked_event asked.now bytes.now)
-        (λ event. AnswersEvent kernel.old event kernel.new result room.old room.new) }
-{
-    let event = event_of(asked, bytes).unwrap();
-    let reply = kernel.step(&event);
-    put(bytes_of(&reply.body), room, 0);
-    told_of(&reply.body)
 }

@@ -84,8 +84,8 @@ fn status_without_room(line: &[u8]) -> u32
 /// Room for a line of the short path with its line feed: a tenant, a word, a place, and bytes in hex.
 const MOST_SHORT_LINE: usize = 160;
 
-/// Runs a line on the kernel, writes what it is answered over the first bytes of `room`, and answers how many; None, and nothing is
-/// done, where it has a line feed.
+/// Runs a line on the kernel, writes what it is answered over the first bytes of `room`, and answers how many; None, and nothing
+/// is done, where it has a line feed.
 #[inline(always)]
 fn run_line(kernel: &mut Kernel, line: &[u8], room: &mut [u8]) -> Option<usize>
     requires { most_reply_bytes ≤ length room.old }
