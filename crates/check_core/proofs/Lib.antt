@@ -1,4 +1,5 @@
 pub mod ReadingLemmas
+pub mod CheckLemmas
 pub mod KeptLemmas
 pub mod Witnesses
 pub mod Examples

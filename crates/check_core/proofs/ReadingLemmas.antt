@@ -5,6 +5,7 @@ use Rattle.std.specs.List.{onto_first}
 use Rattle.std.specs.Io.KnownBytes.{Consumes, IsAtEnd, Keeps, prepend_known}
 use Rattle.std.specs.Result.{IsErr}
 use Rattle.std.proofs.lemmas.List.{append-nil, length-take-le, take-append-le, take_all}
+use Rattle.std.proofs.Math.Dec.{eqb-suc-zero}
 use Rattle.std.proofs.lemmas.Bool.{ltb-true, eqb-true}
 use Rattle.std.proofs.lemmas.Slice.Eq.{bytes_eq-Decides}
 use Rattle.std.specs.Str.{bytes_eq}
@@ -210,3 +211,13 @@ none_ended more bytes part left some consumed is =
     let k : ℕ = more - 1 in
     let e : more ≡ suc k = omega arith in
     ap (λ n. are_ended n bytes) e ∙ ap (λ b. b && are_ended k (after_line bytes)) (ap has_end (taken_last bytes part left consumed is).1 ∙ unended_has_end part is.0)
+
+-- whether anything is left, by whether anything was taken
+pub end_at_ok : (ended : Bool) (known : Option (List ℕ)) (bytes part : List ℕ) (left : Option (List ℕ)) → known ≡ Some bytes → Consumes known left part
+    → IsPart ended part left → (length part == 0) ≡ (length bytes == 0)
+end_at_ok ended known bytes [] left e consumed is =
+    ap (λ (xs : List ℕ). length xs == 0) (sym (none_taken ended bytes [] left refl (subst (λ now. Consumes now left []) e consumed) is))
+end_at_ok ended known bytes (b ∷ part) None e consumed is = absurd (subst (λ (now : Option (List ℕ)). Consumes now None (b ∷ part)) e consumed)
+end_at_ok ended known [] (b ∷ part) (Some rest) e consumed is =
+    let whole : [] ≡ (b ∷ part) ++ rest = subst (λ (now : Option (List ℕ)). Consumes now (Some rest) (b ∷ part)) e consumed in absurd cc
+end_at_ok ended known (x ∷ bytes) (b ∷ part) (Some rest) e consumed is = eqb-suc-zero (length part) ∙ sym (eqb-suc-zero (length bytes))

@@ -1,12 +1,15 @@
 //! What the replies to a trace are found to be.
 
+ghost use Rattle.std.specs.Prelude.{◌≡◌};
+
 use promise_core::promise::Promise;
+use std::alloc::AllocError;
 
 /// The replies to a trace, as they were found.
 #[derive(Clone, Copy, Debug, PartialEq, Eq)]
 pub enum Finding {
     /// Each is allowed, and there are as many as there have to be: to a trace of so many lines.
-    Kept(u64),
+    Kept(u128),
     /// One is not.
     Broken(Breach),
 }
@@ -16,9 +19,9 @@ pub enum Finding {
 pub struct Breach {
     /// The number of the line of the trace that it answers, the first one's being 1; of the last line, where replies follow
     /// that nothing has asked for.
-    pub line: u64,
+    pub line: u128,
     /// The number of its first line in the replies, the first one's being 1.
-    pub reply: u64,
+    pub reply: u128,
     /// The first promise that it breaks.
     pub promise: Promise,
 }
@@ -32,4 +35,14 @@ pub enum Unchecked {
     Replies,
     /// There was not enough memory.
     Memory,
+}
+
+impl From<AllocError> for Unchecked {
+    ghost use Rattle.check_core.specs.declared.finding.Unchecked.TheVariants.{Memory};
+
+    ghost from_gives = { λ _ unchecked. unchecked ≡ Memory };
+
+    fn from(_error: AllocError) -> Unchecked {
+        Unchecked::Memory
+    }
 }

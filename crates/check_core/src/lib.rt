@@ -1,7 +1,8 @@
-//! Checks the replies to a trace: what two texts are found to be is a definition, in `specs/`; here are the parts that read them
-//! in step, a line at a time.
+//! Checks the replies to a trace: what two texts are found to be is a definition, in `specs/`; `check` reads them in step, a line
+//! at a time, and finds it.
 #![tactic(auto)]
 
+mod checking;
 mod finding;
 mod gathered;
 mod gathering;
@@ -9,7 +10,9 @@ pub mod laws;
 mod lines;
 mod reader;
 mod shown;
+mod verdicts;
 
+pub use checking::check;
 pub use finding::{Breach, Finding, Unchecked};
 pub use gathered::Gathered;
 pub use gathering::{gather, read, reads_fault};

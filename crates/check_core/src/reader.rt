@@ -1,6 +1,6 @@
 //! A text, a line at a time.
 
-ghost use Rattle.std.specs.Prelude.{◌≡◌, ℕ, ◌+◌, List, ◌++◌, length, false, is_err};
+ghost use Rattle.std.specs.Prelude.{◌≡◌, ℕ, ◌+◌, ◌^◌, ◌<◌, List, ◌++◌, length, false, is_err};
 ghost use Rattle.std.specs.Io.KnownBytes.{Consumes};
 ghost use Rattle.check_core.specs.Gathered.{Gathers};
 ghost use Rattle.check_core.specs.Reading.{IsPartAtOk};
@@ -51,6 +51,14 @@ impl<F: Feed> LineReader<F> {
             start: 0,
             end: 0,
         }
+    }
+
+    /// How many bytes it gives at most.
+    pub fn room(&self) -> u128
+        ensures value { result ≡ self.now.room }
+        ensures most { result < 2 ^ 65 }
+    {
+        (self.end - self.start) as u128 + u128::from(self.feed.room())
     }
 
     /// Puts the next line behind what was gathered, with its LF if it has one, and answers whether it has. What follows the last

@@ -1,0 +1,122 @@
+-- From the verdicts on replies to the finding.
+use Rattle.std.proofs.Common.{◌≡◌, ℕ, suc, ◌+◌, ◌≤◌, Bool, true, false, List, [], ◌∷◌, ◌++◌, Option, Some, None, Result, Ok, Err, IfOk, length, refl, sym, ap, subst, ◌∙◌, arith}
+use Rattle.std.specs.Prelude.{◌&&◌, ◌==◌, if◌then◌else◌}
+use Rattle.std.proofs.lemmas.Bool.{eqb-true}
+use Rattle.std.proofs.lemmas.List.{append-nil}
+use Rattle.words_core.specs.declared.event.Event.{Event}
+use Rattle.words_core.specs.declared.event.LineFault.{LineFault}
+use Rattle.words_core.specs.declared.reply.Reply.{Reply}
+use Rattle.promise_core.specs.declared.promise.Promise.{Promise}
+use Rattle.promise_core.specs.Promises.{allowed}
+use Rattle.promise_core.specs.State.{Known}
+use Rattle.judge.specs.Machine.{SeenMachine, ShowsKnown}
+use Rattle.check_core.specs.declared.finding.Finding.TheVariants.{Broken, Kept}
+use Rattle.check_core.specs.Checking.{IsFaultVerdict, IsLineVerdict, IsReplyVerdict}
+use Rattle.check_core.specs.Reading.{readings_of}
+use Rattle.check_core.specs.Finding.{after_line, after_lines, are_ended, broken_by, finding, first_line, first_lines, has_end, lines_to, more_lines, or_broken, reply_in, text_read, verdict_of, verdict_on}
+
+-- lines that are read as a reply
+
+-- the lines were gathered, and read
+pub reply_here : (k : ℕ) (bytes came : List ℕ) (found : Option Reply) → are_ended k bytes ≡ true → came ≡ first_lines k bytes → found ≡ text_read came
+    → reply_in k bytes ≡ found
+reply_here k bytes came found ended same is =
+    ap (λ b. if b then text_read (first_lines k bytes) else None) ended ∙ sym (ap (λ (text : List ℕ). text_read text) same) ∙ sym is
+
+-- they are not there
+pub reply_gone : (k : ℕ) (bytes : List ℕ) → are_ended k bytes ≡ false → reply_in k bytes ≡ None
+reply_gone k bytes e = ap (λ b. if b then text_read (first_lines k bytes) else None) e
+
+first_ended : (b : Bool) → (b && true) ≡ true → b ≡ true
+first_ended true h = refl
+first_ended false h = absurd cc
+
+-- one line, and more behind it
+pub lines_more : (k : ℕ) (bytes : List ℕ) → first_lines 1 bytes ++ first_lines k (after_lines 1 bytes) ≡ first_lines (suc k) bytes
+lines_more k bytes = ap (λ (front : List ℕ). front ++ first_lines k (after_line bytes)) (append-nil (first_line bytes))
+
+pub ended_more : (k : ℕ) (bytes : List ℕ) → are_ended 1 bytes ≡ true → are_ended (suc k) bytes ≡ are_ended k (after_lines 1 bytes)
+ended_more k bytes e = ap (λ b. b && are_ended k (after_line bytes)) (first_ended (has_end bytes) e)
+
+-- the first line is not there
+pub not_ended : (event : Event) (bytes : List ℕ) (w : Known) → are_ended 1 bytes ≡ false → verdict_on (Ok (Some event)) bytes w ≡ Err Promise.Form
+not_ended event bytes w e =
+    elim (has_end bytes) as (λ b. (b && true) ≡ false
+    → verdict_of event (if b && are_ended (more_lines event w) (after_line bytes) then text_read (first_lines (suc (more_lines event w)) bytes) else None)
+    (if b && true then text_read (first_lines 1 bytes) else None) w ≡ Err Promise.Form) [
+      | true ↦ λ none. absurd cc
+      | false ↦ λ _. refl
+    ] e
+
+-- verdicts on replies
+
+pub by_reply : (event : Event) (bytes : List ℕ) (w : Known) (found : Option Reply) → reply_in (suc (more_lines event w)) bytes ≡ found
+    → verdict_on (Ok (Some event)) bytes w ≡ verdict_of event found (reply_in 1 bytes) w
+by_reply event bytes w found e = ap (λ (r : Option Reply). verdict_of event r (reply_in 1 bytes) w) e
+
+pub reply_judged : (verdict : Result ℕ Promise) (lines : ℕ) (event : Event) (reply : Reply) (bytes : List ℕ) (w : Known) (new : SeenMachine)
+    (left : Option (List ℕ)) → IsReplyVerdict verdict lines (allowed event reply w) new → lines ≡ suc (more_lines event w)
+    → reply_in (suc (more_lines event w)) bytes ≡ Some reply → left ≡ Some (after_lines lines bytes)
+    → IsLineVerdict verdict (Ok (Some event)) bytes w new left
+reply_judged (Ok told) lines event reply bytes w new left (same, after) count found rest = (
+  same ∙ count,
+  rest ∙ ap (λ n. Some (after_lines n bytes)) (sym same),
+  (after.0, by_reply event bytes w (Some reply) found ∙ after.1, after.2),
+)
+reply_judged (Err promise) lines event reply bytes w new left is count found rest = by_reply event bytes w (Some reply) found ∙ is
+
+-- no reply: the first line alone
+pub first_judged : (event : Event) (bytes : List ℕ) (w : Known) (first : Option Reply) (promise : Promise) → reply_in (suc (more_lines event w)) bytes ≡ None
+    → reply_in 1 bytes ≡ first → promise ≡ broken_by event first w → verdict_on (Ok (Some event)) bytes w ≡ Err promise
+first_judged event bytes w first promise none is same =
+    by_reply event bytes w None none ∙ ap (λ (r : Option Reply). Err (broken_by event r w)) is ∙ ap (λ (p : Promise). Err p) (sym same)
+
+-- so many lines were taken
+pub room_kept : (verdict : Result ℕ Promise) (now lines before : ℕ) → now + lines ≤ before → IfOk verdict (λ told. told ≡ lines)
+    → IfOk verdict (λ told. now + told ≤ before)
+room_kept (Ok told) now lines before fits same = omega (arith, fits, same)
+room_kept (Err promise) now lines before fits same = tt
+
+-- the same of another name of the line
+pub line_judged : (verdict : Result ℕ Promise) (a b : Result (Option Event) LineFault) (bytes : List ℕ) (w : Known) (new : SeenMachine) (left : Option (List ℕ))
+    → a ≡ b → IsLineVerdict verdict a bytes w new left → IsLineVerdict verdict b bytes w new left
+line_judged verdict a b bytes w new left same is = subst (λ (reading : Result (Option Event) LineFault). IsLineVerdict verdict reading bytes w new left) same is
+
+-- of a faulty line
+pub fault_judged : (verdict : Result ℕ Promise) (fault : LineFault) (bytes : List ℕ) (w : Known) (m : SeenMachine) (left : Option (List ℕ))
+    → IsFaultVerdict verdict fault bytes left → ShowsKnown m w → IsLineVerdict verdict (Err fault) bytes w m left
+fault_judged (Ok lines) fault bytes w m left is shows = (
+  is.0,
+  is.2 ∙ ap (λ n. Some (after_lines n bytes)) (sym is.0),
+  (w, ap (λ (b : Bool). if b then Ok w else Err Promise.Form) is.1, shows),
+)
+fault_judged (Err promise) fault bytes w m left is shows =
+    ap (λ (b : Bool). if b then Ok w else Err Promise.Form) is.1 ∙ ap (λ (p : Promise). Err p) (sym is.0)
+
+-- the finding
+
+abbrev Line : Type 0
+Line = Result (Option Event) LineFault
+
+pub goes_on : (line at lines : ℕ) (reading : Line) (readings : List Line) (bytes : List ℕ) (w after : Known) → verdict_on reading bytes w ≡ Ok after
+    → lines ≡ lines_to reading w → finding line at (reading ∷ readings) bytes w ≡ finding (line + 1) (at + lines) readings (after_lines lines bytes) after
+goes_on line at lines reading readings bytes w after is same =
+    ap (λ (verdict : Result Known Promise). or_broken verdict (line + 1) (at + 1)
+    (λ next. finding (line + 1) (at + lines_to reading w) readings (after_lines (lines_to reading w) bytes) next)) is
+    ∙ ap (λ n. finding (line + 1) (at + n) readings (after_lines n bytes) after) (sym same)
+
+pub breaks : (line at : ℕ) (promise : Promise) (reading : Line) (readings : List Line) (bytes : List ℕ) (w : Known) → verdict_on reading bytes w ≡ Err promise
+    → finding line at (reading ∷ readings) bytes w ≡ Broken (record { line = line + 1; reply = at + 1; promise = promise })
+breaks line at promise reading readings bytes w is =
+    ap (λ (verdict : Result Known Promise). or_broken verdict (line + 1) (at + 1)
+    (λ next. finding (line + 1) (at + lines_to reading w) readings (after_lines (lines_to reading w) bytes) next)) is
+
+-- at the end of the trace
+pub ends_kept : (line at : ℕ) (ask tell : List ℕ) (w : Known) → ask ≡ [] → (length tell == 0) ≡ true → finding line at (readings_of ask) tell w ≡ Kept line
+ends_kept line at ask [] w none ended = ap (λ (bytes : List ℕ). finding line at (readings_of bytes) [] w) none
+ends_kept line at ask (b ∷ tell) w none ended = absurd (omega (arith, eqb-true (length (b ∷ tell)) 0 ended))
+
+pub ends_broken : (line at : ℕ) (ask tell : List ℕ) (w : Known) → ask ≡ [] → (length tell == 0) ≡ false
+    → finding line at (readings_of ask) tell w ≡ Broken (record { line = line; reply = at + 1; promise = Promise.Form })
+ends_broken line at ask [] w none ended = absurd cc
+ends_broken line at ask (b ∷ tell) w none ended = ap (λ (bytes : List ℕ). finding line at (readings_of bytes) (b ∷ tell) w) none

@@ -1,0 +1,30 @@
+use Rattle.std.proofs.Common.{◌≡◌, suc, Bool, true, [], Ok, None, refl, ap, sym, ◌∙◌}
+use Rattle.std.proofs.lemmas.Result.{IfOk-weaker}
+use Rattle.promise_core.specs.declared.promise.Promise.{Promise}
+use Rattle.check_core.specs.Finding.{are_ended, first_lines, reply_in}
+use Rattle.check_core.proofs.CheckLemmas.{first_judged, reply_here, reply_judged, room_kept}
+use Rattle.check_core.proofs.verdicts.judge_single.Goals as goal
+
+pub returns-in-None-clause-judged : goal.returns-in-None-clause-judged
+returns-in-None-clause-judged g c w bytes shown count known =
+    let done : c.gather.result ≡ Ok true = c.in_ok-gather.was ∙ ap (λ (b : Bool). Ok b) c.if-not-branch.false in
+    let ended : are_ended 1 bytes ≡ true = sym (c.in_ok-gather.ensures.ended bytes known) ∙ c.if-not-branch.false in
+    let none : reply_in 1 bytes ≡ None = reply_here 1 bytes (first_lines 1 bytes) c.read.result ended refl
+    (c.read.ensures (first_lines 1 bytes) (c.gather.ensures.came bytes [] known c.requires.empty done)) ∙ c.in-None.is in
+    first_judged c.args.event.now bytes w None Promise.Form (ap (λ k. reply_in (suc k) bytes) count ∙ none) none refl
+
+pub returns-in-Some-clause-judged : goal.returns-in-Some-clause-judged
+returns-in-Some-clause-judged g c w bytes shown count known =
+    let done : c.gather.result ≡ Ok true = c.in_ok-gather.was ∙ ap (λ (b : Bool). Ok b) c.if-not-branch.false in
+    let ended : are_ended 1 bytes ≡ true = sym (c.in_ok-gather.ensures.ended bytes known) ∙ c.if-not-branch.false in
+    let one = reply_here 1 bytes (first_lines 1 bytes) c.read.result ended refl
+    (c.read.ensures (first_lines 1 bytes) (c.gather.ensures.came bytes [] known c.requires.empty done)) ∙ c.in-Some.is in
+    IfOk-weaker c.judge_reply.result _ _
+    (λ verdict is. reply_judged verdict 1 c.args.event.now c.in-Some.reply bytes w _ _ is (ap suc (sym count)) (ap (λ k. reply_in (suc k) bytes) count ∙ one)
+    (c.gather.ensures.left bytes known done))
+    (c.judge_reply.ensures.judged w shown)
+
+pub returns-in-Some-clause-room : goal.returns-in-Some-clause-room
+returns-in-Some-clause-room g c =
+    let done : c.gather.result ≡ Ok true = c.in_ok-gather.was ∙ ap (λ (b : Bool). Ok b) c.if-not-branch.false in
+    IfOk-weaker c.judge_reply.result _ _ (λ verdict same. room_kept verdict _ 1 _ (c.gather.ensures.room done) same) c.judge_reply.ensures.lines

@@ -1,0 +1,76 @@
+//! The check of a trace and the replies to it.
+
+ghost use Rattle.std.specs.Prelude.{◌≡◌, ℕ, ◌+◌, ◌^◌, ◌<◌, ◌==◌, List, Some, IfOk, false, length};
+ghost use Rattle.promise_core.specs.State.{Known};
+ghost use Rattle.judge.specs.Machine.{ShowsKnown};
+ghost use Rattle.check_core.specs.Finding.{finding_of};
+
+use crate::finding::{Breach, Finding, Unchecked};
+use crate::gathered::Gathered;
+use crate::lines::next_reading;
+use crate::reader::LineReader;
+use crate::shown::{MOST_TEXT_BYTES, Shown};
+use crate::verdicts::judge_line;
+use judge::Machine;
+use promise_core::promise::Promise;
+use replay_core::{Feed, Stopped};
+
+/// Reads the replies to a trace beside it, each against what the replies before it told, up to the first that is not allowed.
+///
+/// From then on `shown` holds the line and what was read as its reply; behind the last line it holds no line, and the reply that
+/// nothing has asked for.
+pub fn check<T: Feed, R: Feed>(
+    machine: &mut Machine,
+    trace: &mut LineReader<T>,
+    replies: &mut LineReader<R>,
+    shown: &mut Shown,
+) -> Result<Finding, Unchecked>
+    requires trace_fine { trace.old.failed ≡ false }
+    requires replies_fine { replies.old.failed ≡ false }
+    ensures { (w : Known) (asked told : List ℕ) → ShowsKnown machine.old w → trace.old.left ≡ Some asked → replies.old.left ≡ Some told
+        → IfOk result (λ finding. finding ≡ finding_of w asked told) }
+{
+    let _asked_at_most = trace.room();
+    let _told_at_most = replies.room();
+    let mut line = 0u128;
+    let mut reply = 0u128;
+    'lines: while let Some(reading) = next_reading(trace, &mut shown.line)? {
+        line += 1;
+        match judge_line(machine, &reading, replies, &mut shown.reply)? {
+            Ok(lines) => reply += lines,
+            Err(promise) => return Ok(broken(line, reply, promise)),
+        }
+    }
+    if has_ended(replies, &mut shown.reply)? {
+        Ok(Finding::Kept(line))
+    } else {
+        Ok(broken(line, reply, Promise::Form))
+    }
+}
+
+/// The promise is broken at this line, behind so many lines of the replies.
+fn broken(line: u128, replies: u128, promise: Promise) -> Finding
+    requires { replies + 1 < 2 ^ 128 }
+    ensures { result ≡ Finding.Broken (record { line = line; reply = replies + 1; promise = promise }) }
+{
+    Finding::Broken(Breach {
+        line,
+        reply: replies + 1,
+        promise,
+    })
+}
+
+/// Reads one more line, and answers whether there was none.
+fn has_ended<R: Feed>(
+    replies: &mut LineReader<R>,
+    text: &mut Gathered<MOST_TEXT_BYTES>,
+) -> Result<bool, Unchecked>
+    requires fine { replies.old.failed ≡ false }
+    ensures { (bytes : List ℕ) → replies.old.left ≡ Some bytes → IfOk result (λ ended. ended ≡ (length bytes == 0)) }
+{
+    text.clear();
+    match replies.next(text) {
+        Ok(_) => Ok(text.is_empty()),
+        Err(Stopped) => Err(Unchecked::Replies),
+    }
+}
