@@ -23,10 +23,13 @@ positional_rule name = record (new_rule name) { action = Some Set }
 abbrev pub bare_command : Text → App
 bare_command name = record (new_app name) { top = record (new_app name).top { no_binary_name = true; has_version = true } }
 
--- the command of a program of this name, which asks for a machine
-abbrev pub machine_command : Text → App
-machine_command name = with_rule (with_rule (with_rule (with_rule (bare_command name)
+-- the command of a program of this name, which asks for the sizes of a machine
+abbrev pub sizes_command : Text → App
+sizes_command name = with_rule (with_rule (with_rule (bare_command name)
     (number_rule (codes "order") LEAST_ORDER MOST_ORDER))
     (number_rule (codes "superblocks") 1 MOST_SUPERBLOCKS))
-    (number_rule (codes "tenants") 1 MOST_TENANTS))
-    (record (number_rule (codes "only") 0 (2 ^ 32 - 1)) { required = false })
+    (number_rule (codes "tenants") 1 MOST_TENANTS)
+
+-- the same with the tenant who is looked at
+abbrev pub machine_command : Text → App
+machine_command name = with_rule (sizes_command name) (record (number_rule (codes "only") 0 (2 ^ 32 - 1)) { required = false })

@@ -29,17 +29,18 @@ told_text program text = program ++ (codes ": " ++ text)
 abbrev pub line_of : Line → Text
 line_of line = told_text line.program.now line.text.now
 
--- the line on standard error, of the exits that have a fixed one; `unwritten` is what the program says of its output
-abbrev pub exit_text : (program unwritten : Text) → Exit → Option Text
-exit_text program unwritten (Ran Run.Done) = None
-exit_text program unwritten (Ran Run.Unreadable) = Some (told_text program (codes "trace could not be read"))
-exit_text program unwritten (Ran Run.Unwritable) = Some (told_text program unwritten)
-exit_text program unwritten (Ran Run.NoMemory) = Some (told_text program (codes "not enough memory"))
-exit_text program unwritten (Refused (Help text)) = None
-exit_text program unwritten (Refused (Version text)) = None
-exit_text program unwritten (Refused (BadLine text)) = None
-exit_text program unwritten (Refused BadOnly) = Some (told_text program (codes "--only names no tenant"))
-exit_text program unwritten (Refused NoMemory) = Some (told_text program (codes "not enough memory"))
+-- the line on standard error, of the exits that have a fixed one; `unread` and `unwritten` are what the program says of its input
+-- and of its output
+abbrev pub exit_text : (program unread unwritten : Text) → Exit → Option Text
+exit_text program unread unwritten (Ran Run.Done) = None
+exit_text program unread unwritten (Ran Run.Unreadable) = Some (told_text program unread)
+exit_text program unread unwritten (Ran Run.Unwritable) = Some (told_text program unwritten)
+exit_text program unread unwritten (Ran Run.NoMemory) = Some (told_text program (codes "not enough memory"))
+exit_text program unread unwritten (Refused (Help text)) = None
+exit_text program unread unwritten (Refused (Version text)) = None
+exit_text program unread unwritten (Refused (BadLine text)) = None
+exit_text program unread unwritten (Refused BadOnly) = Some (told_text program (codes "--only names no tenant"))
+exit_text program unread unwritten (Refused NoMemory) = Some (told_text program (codes "not enough memory"))
 
 -- what the parser's refusal of this kind can be told as
 abbrev pub IsToldAs : ErrorKind → Refusal → Type 0

@@ -2,6 +2,7 @@
 use Rattle.std.specs.Prelude.{◌≡◌, ℕ, ◌^◌, ◌<◌, Option, Some, None, codes}
 use Rattle.std.specs.Str.Parse.{IsNumeral, digits_value, without_leading_plus}
 use Rattle.clap.specs.Words.{Text}
+use Rattle.kernel_core.specs.declared.kernel.Config.{Config}
 use Rattle.command_line.specs.declared.machine.Machine.{Machine}
 
 -- the text is a number of 32 bits, in decimal digits
@@ -19,9 +20,13 @@ MayWrite text (Some n) = Writes text n
 MayWrite None None = Unit {0}
 MayWrite (Some text) None = ¬ IsNumber text
 
--- the machine is what stands under the arguments' names
+-- the sizes are what stands under the arguments' names
+pub record AsksSizes (read : Text → Option Text) (config : Config) : Type 0 where
+  pub order : Writes (read (codes "order")) config.order
+  pub superblocks : Writes (read (codes "superblocks")) config.superblocks
+  pub tenants : Writes (read (codes "tenants")) config.tenants
+
+-- the machine is
 pub record AsksMachine (read : Text → Option Text) (machine : Machine) : Type 0 where
-  pub order : Writes (read (codes "order")) machine.config.order
-  pub superblocks : Writes (read (codes "superblocks")) machine.config.superblocks
-  pub tenants : Writes (read (codes "tenants")) machine.config.tenants
+  pub sizes : AsksSizes read machine.config
   pub only : MayWrite (read (codes "only")) machine.only

@@ -3,7 +3,7 @@
 ghost use Rattle.std.specs.Prelude.{◌≡◌, ◌≤◌, ◌<◌, false, None, IfOk, map, option_map};
 ghost use Rattle.std.specs.String.{string_bytes};
 ghost use Rattle.clap.specs.Words.{HasMatchesOf, app_of, first_value, found_of, one_text, rule_of};
-ghost use Rattle.command_line.specs.Arguments.{machine_command, number_rule, positional_rule};
+ghost use Rattle.command_line.specs.Arguments.{machine_command, number_rule, positional_rule, sizes_command};
 ghost use Rattle.command_line.specs.Machine.{Writes};
 
 use crate::refused::{Refused, not_parsed};
@@ -21,18 +21,33 @@ pub struct Program<'a> {
     pub name: &'a str,
     /// What it does.
     pub about: &'a str,
-    /// What it does with the tenant of `--only`.
-    pub only: &'a str,
     /// What help has below the arguments.
     pub after_help: &'a str,
+    /// What is told where its input could not be read.
+    pub unread: &'a str,
     /// What is told where its output could not be written.
     pub unwritten: &'a str,
 }
 
-/// The command of a program that asks for a machine: the sizes with their ranges, and `--only`. The program's own arguments
-/// are added to it.
-pub fn command<'a>(alloc: Global, program: Program<'a>) -> Result<Command<'a>, AllocError>
+/// The command of a program that asks for a machine: the sizes with their ranges, and `--only`, with what the program does with
+/// that tenant. The program's own arguments are added to it.
+pub fn command<'a>(
+    alloc: Global,
+    program: Program<'a>,
+    only: &'a str,
+) -> Result<Command<'a>, AllocError>
     ensures { IfOk result (λ command. app_of command ≡ machine_command program.entry.name.now) }
+{
+    let only = number(alloc, "only", "T", 0, u32::MAX)
+        .help(only)
+        .required(false);
+    sizes_command(alloc, program)?.arg(only)
+}
+
+/// The command of a program that asks for the sizes of a machine alone, with their ranges. The program's own arguments are added
+/// to it.
+pub fn sizes_command<'a>(alloc: Global, program: Program<'a>) -> Result<Command<'a>, AllocError>
+    ensures { IfOk result (λ command. app_of command ≡ sizes_command program.entry.name.now) }
 {
     let order = number(
         alloc,
@@ -48,9 +63,6 @@ pub fn command<'a>(alloc: Global, program: Program<'a>) -> Result<Command<'a>, A
     let tenants = number(alloc, "tenants", "T", 1, u32::from(MOST_TENANTS)).help(
         "How many share the machine: 1 to 64",
     );
-    let only = number(alloc, "only", "T", 0, u32::MAX)
-        .help(program.only)
-        .required(false);
     Command::new(alloc, program.name)
         .version(VERSION)
         .about(program.about)
@@ -58,8 +70,7 @@ pub fn command<'a>(alloc: Global, program: Program<'a>) -> Result<Command<'a>, A
         .no_binary_name(true)
         .arg(order)?
         .arg(superblocks)?
-        .arg(tenants)?
-        .arg(only)
+        .arg(tenants)
 }
 
 /// A required argument `--name NUMBER`, a number from `least` to `most`.

@@ -25,7 +25,7 @@ pub enum Outcome {
 /// | Status | When | Standard error, behind the program's name |
 /// |---|---|---|
 /// | 0 | the trace is done; or help or the version was asked for | nothing |
-/// | 1 | the trace cannot be opened, or not be read to its end | `trace could not be read` |
+/// | 1 | the trace cannot be opened, or not be read to its end | as `trace could not be read` |
 /// | 1 | the output, help or the version cannot be written or flushed | as `replies could not be written` |
 /// | 2 | the command line is faulty or no UTF-8, or a number is out of its range | what is wrong with it, without the name |
 /// | 2 | `--only` is not below the number of tenants | `--only names no tenant` |
@@ -53,10 +53,10 @@ impl Exit {
 
     /// The line on standard error, of the exits that have a fixed one.
     pub fn line<'a>(&self, program: Program<'a>) -> Option<Line<'a>>
-        ensures { option_map (λ line. line_of line) result ≡ exit_text program.entry.name.now program.entry.unwritten.now self.now }
+        ensures { option_map (λ line. line_of line) result ≡ exit_text program.entry.name.now program.entry.unread.now program.entry.unwritten.now self.now }
     {
         let text = match self {
-            Exit::Ran(Outcome::Unreadable) => "trace could not be read",
+            Exit::Ran(Outcome::Unreadable) => program.unread,
             Exit::Ran(Outcome::Unwritable) => program.unwritten,
             Exit::Refused(Refused::BadOnly) => "--only names no tenant",
             Exit::Ran(Outcome::NoMemory) | Exit::Refused(Refused::NoMemory) => "not enough memory",

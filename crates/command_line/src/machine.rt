@@ -5,8 +5,8 @@ ghost use Rattle.std.specs.Option.{ForSome};
 ghost use Rattle.clap.specs.Words.{found_of, one_text};
 ghost use Rattle.kernel_core.specs.Booting.{is_bootable};
 
-use crate::arguments::number_of;
-use crate::refused::{Refused, bad_line};
+use crate::refused::Refused;
+use crate::sizes::sizes_found;
 use clap::ArgMatches;
 use kernel_core::Config;
 use std::alloc::Global;
@@ -32,17 +32,7 @@ impl Machine {
         ensures asked { IfOk result (AsksMachine (one_text (found_of matches.now))) }
         ensures given { result ≡ Err Refused.BadOnly → one_text (found_of matches.now) (codes "only") ≢ None }
     {
-        let config = Config {
-            order: number_of(matches, "order"),
-            superblocks: number_of(matches, "superblocks"),
-            tenants: number_of(matches, "tenants"),
-        };
-        if !config.is_bootable() {
-            return Err(bad_line(
-                alloc,
-                "error: a size of the machine is missing or out of its range\n",
-            ));
-        }
+        let config = sizes_found(alloc, matches)?;
         let only = match matches.get_one::<u32>("only") {
             None => None,
             Some(tenant) if tenant < config.tenants => Some(tenant as u8),

@@ -12,10 +12,13 @@ const DEFAULT_COLUMNS: u32 = 600;
 pub const PROGRAM: Program<'static> = Program {
     name: "framemap",
     about: "Runs a trace on a machine that tenants share, and draws what became of its frames",
-    only: "Draws this tenant alone, a number below the tenants",
     after_help: AFTER_HELP,
+    unread: "trace could not be read",
     unwritten: "picture could not be written",
 };
+
+/// What `--help` tells of `--only`.
+const ONLY: &str = "Draws this tenant alone, a number below the tenants";
 
 /// What `--help` tells below the arguments.
 const AFTER_HELP: &str = "\
@@ -58,7 +61,7 @@ fn command<'a>(alloc: Global) -> Result<Command<'a>, AllocError> {
         .help("Columns of the picture, at most: 1 to 4096 [default: 600]")
         .required(false);
     let file = positional(alloc, "FILE", "The trace [default: standard input]");
-    command_line::command(alloc, PROGRAM)?
+    command_line::command(alloc, PROGRAM, ONLY)?
         .arg(columns)?
         .arg(file)
 }

@@ -15,8 +15,8 @@ use std::alloc::{AllocError, Global};
 pub const PROGRAM: Program<'static> = Program {
     name: "partmem",
     about: "Runs a trace on a machine that tenants share, and writes its replies",
-    only: "Writes the lines of this tenant alone, a number below the tenants",
     after_help: AFTER_HELP,
+    unread: "trace could not be read",
     unwritten: "replies could not be written",
 };
 
@@ -25,6 +25,9 @@ pub const OWN_PROGRAM: Program<'static> = Program {
     unwritten: "own list could not be written",
     ..PROGRAM
 };
+
+/// What `--help` tells of `--only`.
+const ONLY: &str = "Writes the lines of this tenant alone, a number below the tenants";
 
 /// What `--help` tells below the arguments.
 const AFTER_HELP: &str = "\
@@ -132,7 +135,7 @@ fn command<'a>(alloc: Global) -> Result<Command<'a>, AllocError>
         .help("Tells on standard error what was done, refused and faulty")
         .action(ArgAction::SetTrue);
     let file = positional(alloc, "FILE", "The trace [default: standard input]");
-    command_line::command(alloc, PROGRAM)?
+    command_line::command(alloc, PROGRAM, ONLY)?
         .arg(own)?
         .arg(tally)?
         .arg(file)
