@@ -1,7 +1,7 @@
 //! What is kept of a machine.
 
 ghost use Rattle.std.specs.Prelude.{◌≡◌, ◌≤◌, IfOk, length, option_map, replicate, slice_get};
-ghost use Rattle.model_core.specs.declared.limits.TheConstants.{MOST_CACHES, MOST_ORDER, MOST_SUPERBLOCKS, MOST_TENANTS};
+ghost use Rattle.model_core.specs.declared.limits.TheConstants.{MOST_CACHES, MOST_ORDER, MOST_SUPERBLOCKS};
 ghost use Rattle.promise_core.specs.State.{opening};
 ghost use Rattle.judge.specs.Machine.{ShowsKnown};
 
@@ -42,7 +42,6 @@ impl Machine {
     ) -> Result<Machine, AllocError>
         requires order { order ≤ MOST_ORDER }
         requires superblocks { superblocks ≤ MOST_SUPERBLOCKS }
-        requires tenants { tenants ≤ MOST_TENANTS }
         ensures { IfOk result (λ machine. ShowsKnown machine (opening MOST_CACHES order superblocks tenants)) }
     {
         let owners = vec![in alloc; None; superblocks as usize]?;
