@@ -86,57 +86,65 @@ const MOST_SHORT_LINE: usize = 160;
 
 /// Runs a line on the kernel, writes what it is answered over the first bytes of `room`, and answers how many; None, and nothing
 /// is done, where it has a line feed.
+///
+/// A line that was read of the short path as a whole has none, and is not searched for one.
 #[inline(always)]
 fn run_line(kernel: &mut Kernel, line: &[u8], room: &mut [u8]) -> Option<usize>
     requires { most_reply_bytes ≤ length room.old }
     ensures { MatchOption result (IsNoLine kernel.old line.now room.old kernel.new room.new)
         (λ written. AnswersWhole kernel.old line.now room.old kernel.new room.new written) }
 {
-    match quick_line(line) {
-        Some(quick) => Some(answer_quick(quick, kernel, room)),
-        None => run_other(kernel, line, room),
+    if line.len() >= WINDOW {
+        return run_other(kernel, line, room);
     }
+    let mut ended = [0; WINDOW];
+    put_ended(line, &mut ended);
+    if let Some(quick) = read_quick(&ended) {
+        if quick.len == line.len() + 1 {
+            return Some(answer_quick(quick, kernel, room));
+        }
+    }
+    run_short(&ended, line, kernel, room)
 }
 
-/// [`run_line`] of any line; out of line, since it needs more registers than most lines of a load.
+/// [`run_line`] of a short line that stands in `ended` with its line feed; out of line, since it needs more registers than most
+/// lines of a load.
+#[inline(never)]
+fn run_short(
+    ended: &[u8; WINDOW],
+    line: &[u8],
+    kernel: &mut Kernel,
+    room: &mut [u8],
+) -> Option<usize>
+    requires ended { (rest : List ℕ) × (ended.now ≡ line.now ++ 10 ∷ rest) }
+    requires room { most_reply_bytes ≤ length room.old }
+    ensures { MatchOption result (IsNoLine kernel.old line.now room.old kernel.new room.new)
+        (λ written. AnswersWhole kernel.old line.now room.old kernel.new room.new written) }
+{
+    if let Some(read) = read_bytes_line(ended) {
+        if read.len == line.len() + 1 {
+            return Some(answer_read(read, kernel, room));
+        }
+    }
+    run_other(kernel, line, room)
+}
+
+/// [`run_line`] of any line; out of line, as [`run_short`] is.
 #[inline(never)]
 fn run_other(kernel: &mut Kernel, line: &[u8], room: &mut [u8]) -> Option<usize>
     requires { most_reply_bytes ≤ length room.old }
     ensures { MatchOption result (IsNoLine kernel.old line.now room.old kernel.new room.new)
         (λ written. AnswersWhole kernel.old line.now room.old kernel.new room.new written) }
 {
-    if let Some(written) = run_transfer(kernel, line, room) {
+    if let Some(written) = run_write(kernel, line, room) {
         return Some(written);
     }
-    // A line of the short path was read as far as its first line feed, and needs no search.
-    if line.contains(&b'\n') {
-        return None;
-    }
-    Some(answer(read_line(line), kernel, room))
+    run_any(kernel, line, room)
 }
 
-/// The line, where it is an `alloc`, `free`, `take` or `give` of the short path; None where it isn't, or where that is not sure.
+/// [`run_line`] of a write of the short path; None, and nothing is done, where it isn't one, or where that is not sure.
 #[inline(always)]
-fn quick_line(line: &[u8]) -> Option<QuickLine>
-    ensures one { IfSome result (λ quick. has_line_feed line.now ≡ false) }
-    ensures reading { IfSome result
-        (λ quick. reading_of line.now ≡ Ok (Some (Tenant quick.tenant (quick_command quick.command)))) }
-{
-    if line.len() >= WINDOW {
-        return None;
-    }
-    let mut ended = [0; WINDOW];
-    put_ended(line, &mut ended);
-    let quick = read_quick(&ended)?;
-    if quick.len != line.len() + 1 {
-        return None;
-    }
-    Some(quick)
-}
-
-/// [`run_line`] of a read or a write of the short path; None, and nothing is done, where it isn't one, or where that is not sure.
-#[inline(always)]
-fn run_transfer(kernel: &mut Kernel, line: &[u8], room: &mut [u8]) -> Option<usize>
+fn run_write(kernel: &mut Kernel, line: &[u8], room: &mut [u8]) -> Option<usize>
     requires { most_reply_bytes ≤ length room.old }
     ensures { MatchOption result ((kernel.new ≡ kernel.old) × (room.new ≡ room.old))
         (λ written. AnswersWhole kernel.old line.now room.old kernel.new room.new written) }
@@ -146,18 +154,26 @@ fn run_transfer(kernel: &mut Kernel, line: &[u8], room: &mut [u8]) -> Option<usi
     }
     let mut ended = [0; MOST_SHORT_LINE];
     put_ended(line, &mut ended);
-    if let Some(read) = read_bytes_line(&ended) {
-        if read.len != line.len() + 1 {
-            return None;
-        }
-        return Some(answer_read(read, kernel, room));
-    }
     let mut bytes = [0; MOST_BYTES];
     let write = read_write_line(&ended, &mut bytes)?;
     if write.len != line.len() + 1 {
         return None;
     }
     Some(answer_write(write, &bytes[..write.count], kernel, room))
+}
+
+/// [`run_line`] by way of the event that it reads as; out of line, since all the room of an event is cleared.
+#[cold]
+#[inline(never)]
+fn run_any(kernel: &mut Kernel, line: &[u8], room: &mut [u8]) -> Option<usize>
+    requires { most_reply_bytes ≤ length room.old }
+    ensures { MatchOption result (IsNoLine kernel.old line.now room.old kernel.new room.new)
+        (λ written. AnswersWhole kernel.old line.now room.old kernel.new room.new written) }
+{
+    if line.contains(&b'\n') {
+        return None;
+    }
+    Some(answer(read_line(line), kernel, room))
 }
 
 /// Puts a line over the first bytes, and a line feed behind it.

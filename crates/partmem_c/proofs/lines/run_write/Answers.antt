@@ -1,18 +1,7 @@
 use Rattle.std.proofs.Common.{◌≡◌, false, arith}
 use Rattle.partmem_c.specs.Lines.{has_line_feed}
 use Rattle.partmem_c.proofs.TextLemmas.{line_ended, line_answered}
-use Rattle.partmem_c.proofs.lines.run_transfer.Goals as goal
-
-pub returns-in-Some : goal.returns-in-Some
-returns-in-Some c =
-    let text = c.answer_read.ensures.0 in
-    let one : has_line_feed c.args.line.now ≡ false =
-    line_ended c.args.line.now _ _ _ _ c.in-Some.read.len (omega arith) c.put_ended.ensures c.in-Some.ensures in record {
-      text = text;
-      one = one;
-      answers = line_answered _ _ c.args.line.now _ _ text _ _ _ one c.put_ended.ensures c.in-Some.ensures c.answer_read.ensures.1;
-      puts = c.answer_read.ensures.2;
-    }
+use Rattle.partmem_c.proofs.lines.run_write.Goals as goal
 
 pub returns : goal.returns
 returns c =

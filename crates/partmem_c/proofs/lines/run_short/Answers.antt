@@ -1,0 +1,16 @@
+use Rattle.std.proofs.Common.{◌≡◌, false, arith}
+use Rattle.partmem_c.specs.Lines.{has_line_feed}
+use Rattle.partmem_c.proofs.TextLemmas.{line_ended, line_answered}
+use Rattle.partmem_c.proofs.lines.run_short.Goals as goal
+
+pub returns-then-read-line : goal.returns-then-read-line
+returns-then-read-line c =
+    let text = c.answer_read.ensures.0 in
+    let ended = c.requires.ended.1 in
+    let one : has_line_feed c.args.line.now ≡ false =
+    line_ended c.args.line.now _ _ _ _ c.in-Some.read.len (omega arith) ended c.in-Some.ensures in record {
+      text = text;
+      one = one;
+      answers = line_answered _ _ c.args.line.now _ _ text _ _ _ one ended c.in-Some.ensures c.answer_read.ensures.1;
+      puts = c.answer_read.ensures.2;
+    }
