@@ -1,0 +1,14 @@
+-- What a finding tells of a new machine.
+use Rattle.std.proofs.Common.{◌≡◌, ℕ, List, sym}
+use Rattle.kernel_core.specs.declared.kernel.Config.{Config}
+use Rattle.model_core.specs.declared.limits.TheConstants.{MOST_CACHES}
+use Rattle.check_core.specs.declared.finding.Finding.{Finding}
+use Rattle.check_core.specs.declared.finding.Finding.TheVariants.{Kept, Broken}
+use Rattle.check_core.specs.Finding.{finding_of}
+use Rattle.check_core.specs.Laws.{KeptIsAllowed}
+use Rattle.partcheck.specs.Checked.{IsSound, opening_of}
+
+pub sound : KeptIsAllowed → (config : Config) (finding : Finding) (asked told : List ℕ) → finding ≡ finding_of (opening_of config) asked told
+    → IsSound config finding asked told
+sound law config (Kept lines) asked told is = law MOST_CACHES config.order config.superblocks config.tenants lines asked told (sym is)
+sound law config (Broken breach) asked told is = tt

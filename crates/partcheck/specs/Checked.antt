@@ -1,0 +1,30 @@
+-- What is told of how a check ends, and what it tells of two texts.
+use Rattle.std.specs.Prelude.{ℕ, List, None}
+use Rattle.kernel_core.specs.declared.kernel.Config.{Config}
+use Rattle.model_core.specs.declared.limits.TheConstants.{MOST_CACHES}
+use Rattle.words_core.specs.Cutting.{lines_of_trace}
+use Rattle.promise_core.specs.State.{Known, opening}
+use Rattle.promise_kept.specs.Written.{IsAllowedText}
+use Rattle.check_core.specs.declared.finding.Finding.{Finding}
+use Rattle.check_core.specs.declared.finding.Finding.TheVariants.{Kept, Broken}
+use Rattle.check_core.specs.declared.finding.Unchecked.TheVariants as Not
+use Rattle.partcheck.specs.declared.checked.Checked.{Checked}
+use Rattle.partcheck.specs.declared.checked.Checked.TheVariants.{Found, Failed, Unwritten}
+
+-- the exit status
+abbrev pub status_of : Checked → ℕ
+status_of (Found (Kept lines)) = 0
+status_of (Found (Broken breach)) = 4
+status_of (Failed Not.Trace) = 1
+status_of (Failed Not.Replies) = 1
+status_of (Failed Not.Memory) = 3
+status_of Unwritten = 1
+
+-- before the first line of a machine of these sizes
+abbrev pub opening_of : Config → Known
+opening_of config = opening MOST_CACHES config.order config.superblocks config.tenants
+
+-- where they are found kept, the replies are the text of replies to the trace's events, each of which is allowed
+abbrev pub IsSound : Config → Finding → (trace replies : List ℕ) → Type 0
+IsSound config (Kept lines) trace replies = IsAllowedText None MOST_CACHES config.order config.superblocks config.tenants (lines_of_trace trace) replies
+IsSound config (Broken breach) trace replies = Unit {0}

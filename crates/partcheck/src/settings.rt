@@ -1,0 +1,55 @@
+//! What a command line asks for, and what the program tells of itself.
+
+ghost use Rattle.std.specs.Prelude.{◌≡◌, true};
+ghost use Rattle.kernel_core.specs.Booting.{is_bootable};
+
+use command_line::Program;
+use kernel_core::Config;
+
+/// What this program tells of itself.
+pub const PROGRAM: Program<'static> = Program {
+    name: "partcheck",
+    about: "Checks replies to a trace against what a partitioning kernel owes its tenants",
+    after_help: AFTER_HELP,
+    unread: "trace could not be read",
+    unwritten: "finding could not be written",
+};
+
+/// The same where the replies are read.
+pub const REPLIES_PROGRAM: Program<'static> = Program {
+    unread: "replies could not be read",
+    ..PROGRAM
+};
+
+/// What `--help` tells below the arguments.
+const AFTER_HELP: &str = "\
+The sizes are those of the machine that ran the trace. Lines of both files are those of partmem
+--help; which frames, objects and superblocks are handed out is open. What is found is a line
+on standard output, as
+  kept: 218508 lines, 6 tenants
+  line 391, reply 402: 0 alloc 0, answered 0> frame 12: Blocks: a page block ..
+of the first reply that breaks a promise: the number of its line in TRACE and in REPLIES, the
+line, the reply, the promise and what it asks. What follows is not judged.
+
+Exit status:
+  0  every reply keeps every promise; or --help or --version
+  1  the trace or the replies could not be read, or the finding or this help could not be written
+  2  the command line is faulty
+  3  there is not enough memory
+  4  a reply breaks a promise
+
+Example:
+  partmem --order 3 --superblocks 2 --tenants 2 trace > replies
+  partcheck --order 3 --superblocks 2 --tenants 2 trace replies";
+
+/// What a command line asks for.
+#[derive(Debug, Drop)]
+pub struct Settings {
+    /// The sizes of the machine, each in its range.
+    pub config: Config,
+    /// The path of the trace, as it was written.
+    pub trace: String,
+    /// The path of the replies, as it was written.
+    pub replies: String,
+    ghost bootable: { is_bootable config ≡ true },
+}

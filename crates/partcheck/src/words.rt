@@ -1,0 +1,48 @@
+//! The words of a command line.
+
+ghost use Rattle.std.specs.Prelude.{◌≡◌, Some, IfOk, map};
+ghost use Rattle.std.specs.String.{string_bytes};
+ghost use Rattle.clap.specs.Words.{app_of, first_value, found_of};
+ghost use Rattle.partcheck.specs.Settings.{IsAskedBy, command_line};
+
+use crate::settings::{PROGRAM, Settings};
+use clap::{ArgMatches, Command};
+use command_line::{Refused, parse, path_of, positional, sizes_command, sizes_found};
+use std::alloc::{AllocError, Global};
+
+/// Reads the words of a command line, without the program's name.
+pub fn read_words<'a>(alloc: Global, words: &'a [String]) -> Result<Settings, Refused>
+    // Which word stands under which name is as clap's model says.
+    ensures asked { IfOk result (IsAskedBy (map (λ word. string_bytes word) words.entry.now)) }
+{
+    let matches = parse(alloc, command(alloc)?, words)?;
+    Ok(Settings {
+        config: sizes_found(alloc, &matches)?,
+        trace: required_path(alloc, &matches, "TRACE")?,
+        replies: required_path(alloc, &matches, "REPLIES")?,
+    })
+}
+
+/// The path under this name, as it was written.
+///
+/// Refused with `BadLine` where there is none, or with `NoMemory`.
+fn required_path(alloc: Global, matches: &ArgMatches<'_>, name: &str) -> Result<String, Refused>
+    ensures { IfOk result (λ path. first_value (found_of matches.now) name.now ≡ Some (string_bytes path)) }
+{
+    match path_of(alloc, matches, name)? {
+        Some(path) => Ok(path),
+        None => {
+            let text = "error: TRACE and REPLIES are required\n";
+            Err(Refused::BadLine(String::from_str(alloc, text)?))
+        }
+    }
+}
+
+/// The arguments that there are, with their ranges.
+fn command<'a>(alloc: Global) -> Result<Command<'a>, AllocError>
+    ensures { IfOk result (λ command. app_of command ≡ command_line) }
+{
+    let trace = positional(alloc, "TRACE", "The trace; - is standard input").required(true);
+    let replies = positional(alloc, "REPLIES", "The replies to it").required(true);
+    sizes_command(alloc, PROGRAM)?.arg(trace)?.arg(replies)
+}
