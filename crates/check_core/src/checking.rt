@@ -27,8 +27,8 @@ pub fn check<T: Feed, R: Feed>(
 ) -> Result<Finding, Unchecked>
     requires trace_fine { trace.old.failed ≡ false }
     requires replies_fine { replies.old.failed ≡ false }
-    ensures { (w : Known) (asked told : List ℕ) → ShowsKnown machine.old w → trace.old.left ≡ Some asked → replies.old.left ≡ Some told
-        → IfOk result (λ finding. finding ≡ finding_of w asked told) }
+    ensures { (w : Known) (asked told : List ℕ) → ShowsKnown machine.old w → trace.old.left ≡ Some asked
+        → replies.old.left ≡ Some told → IfOk result (λ finding. finding ≡ finding_of w asked told) }
 {
     let _asked_at_most = trace.room();
     let _told_at_most = replies.room();

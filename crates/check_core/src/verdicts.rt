@@ -95,7 +95,8 @@ fn judge_single<R: Feed>(
 ) -> Result<LineVerdict, Unchecked>
     requires fine { replies.old.failed ≡ false }
     requires empty { Gathers MOST_TEXT_BYTES [] text.old }
-    ensures judged { (w : Known) (bytes : List ℕ) → ShowsKnown machine.old w → more_lines event.now w ≡ 0 → replies.old.left ≡ Some bytes
+    ensures judged { (w : Known) (bytes : List ℕ) → ShowsKnown machine.old w → more_lines event.now w ≡ 0
+        → replies.old.left ≡ Some bytes
         → IfOk result (λ verdict. IsLineVerdict verdict (Ok (Some event.now)) bytes w machine.new replies.new.left) }
     ensures room { IfOk result (λ verdict. IfOk verdict (λ lines. replies.new.room + lines ≤ replies.old.room)) }
     ensures fine { OnOk result (replies.new.failed ≡ false) }
@@ -120,7 +121,8 @@ fn judge_table<R: Feed>(
     requires fine { replies.old.failed ≡ false }
     requires empty { Gathers MOST_TEXT_BYTES [] text.old }
     requires some { more + 1 < 2 ^ 128 }
-    ensures judged { (w : Known) (bytes : List ℕ) → ShowsKnown machine.old w → more_lines event.now w ≡ more → replies.old.left ≡ Some bytes
+    ensures judged { (w : Known) (bytes : List ℕ) → ShowsKnown machine.old w → more_lines event.now w ≡ more
+        → replies.old.left ≡ Some bytes
         → IfOk result (λ verdict. IsLineVerdict verdict (Ok (Some event.now)) bytes w machine.new replies.new.left) }
     ensures room { IfOk result (λ verdict. IfOk verdict (λ lines. replies.new.room + lines ≤ replies.old.room)) }
     ensures fine { OnOk result (replies.new.failed ≡ false) }

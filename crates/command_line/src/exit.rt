@@ -53,7 +53,8 @@ impl Exit {
 
     /// The line on standard error, of the exits that have a fixed one.
     pub fn line<'a>(&self, program: Program<'a>) -> Option<Line<'a>>
-        ensures { option_map (λ line. line_of line) result ≡ exit_text program.entry.name.now program.entry.unread.now program.entry.unwritten.now self.now }
+        ensures { option_map (λ line. line_of line) result
+            ≡ exit_text program.entry.name.now program.entry.unread.now program.entry.unwritten.now self.now }
     {
         let text = match self {
             Exit::Ran(Outcome::Unreadable) => program.unread,

@@ -26,5 +26,6 @@ opening_of config = opening MOST_CACHES config.order config.superblocks config.t
 
 -- where they are found kept, the replies are the text of replies to the trace's events, each of which is allowed
 abbrev pub IsSound : Config → Finding → (trace replies : List ℕ) → Type 0
-IsSound config (Kept lines) trace replies = IsAllowedText None MOST_CACHES config.order config.superblocks config.tenants (lines_of_trace trace) replies
+IsSound config (Kept lines) trace replies =
+    IsAllowedText None MOST_CACHES config.order config.superblocks config.tenants (lines_of_trace trace) replies
 IsSound config (Broken breach) trace replies = Unit {0}

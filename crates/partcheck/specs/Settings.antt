@@ -21,4 +21,5 @@ command_line = with_rule (with_rule (sizes_command (codes "partcheck")) (file_ru
 
 -- the settings are what clap finds in these words
 abbrev pub IsAskedBy : List Text → Settings → Type 0
-IsAskedBy words settings = Asks (λ name. one_of name (matches_of command_line words)) (λ name. first_of name (matches_of command_line words)) settings
+IsAskedBy words settings = let rows = matches_of command_line words in
+    Asks (λ name. one_of name rows) (λ name. first_of name rows) settings
