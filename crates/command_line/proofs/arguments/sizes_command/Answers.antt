@@ -1,4 +1,4 @@
-use Rattle.std.proofs.Common.{◌≡◌, ◌∙◌, Bool, ap, ap₂, true, false, codes}
+use Rattle.std.proofs.Common.{◌≡◌, ◌∙◌, Bool, ap, ap₂, true, codes}
 use Rattle.std.proofs.lemmas.Result.{IfOk-weaker}
 use Rattle.clap.specs.Simple.{app_of_fields}
 use Rattle.clap.specs.Words.{App, app_of, rule_of, with_rule}
