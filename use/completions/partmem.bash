@@ -1,7 +1,10 @@
-# Completions of partmem and framemap for bash.
+# Completions of partmem, framemap and partcheck for bash.
 _partmem() {
     local options='--order --superblocks --tenants --only --own --tally --help --version'
-    [ "${1##*/}" = framemap ] && options='--order --superblocks --tenants --only --columns --help --version'
+    case ${1##*/} in
+        framemap) options='--order --superblocks --tenants --only --columns --help --version' ;;
+        partcheck) options='--order --superblocks --tenants --help --version' ;;
+    esac
     COMPREPLY=()
     case $3 in
         --order) mapfile -t COMPREPLY < <(compgen -W '3 4 5 6 7 8' -- "$2") ;;
@@ -14,4 +17,4 @@ _partmem() {
             ;;
     esac
 }
-complete -o filenames -F _partmem partmem framemap
+complete -o filenames -F _partmem partmem framemap partcheck

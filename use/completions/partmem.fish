@@ -1,11 +1,13 @@
-# Completions of partmem and framemap for fish.
-for program in partmem framemap
+# Completions of partmem, framemap and partcheck for fish.
+for program in partmem framemap partcheck
     complete -c $program -l order -x -a '3 4 5 6 7 8' -d 'A superblock has 2^S frames'
     complete -c $program -l superblocks -x -d 'How many there are, 1 to 256'
     complete -c $program -l tenants -x -d 'How many share the machine, 1 to 64'
-    complete -c $program -l only -x -d 'This tenant alone'
     complete -c $program -s h -l help -d 'Print help'
     complete -c $program -s V -l version -d 'Print the version'
+end
+for program in partmem framemap
+    complete -c $program -l only -x -d 'This tenant alone'
 end
 complete -c partmem -l own -x -d 'The own list of this tenant, in place of replies'
 complete -c partmem -l tally -d 'Tell on standard error what was done, refused and faulty'

@@ -117,7 +117,7 @@ fn words_of(promise: Promise) -> &'static str {
         Promise::Busy =>
             "a slot is busy only where a frame of it is taken, or an empty slab may stand",
         Promise::Blocks =>
-            "a page block is aligned, lies in a held slot and is apart from all that is taken",
+            "a block is aligned, in a held slot, and apart from what is taken",
         Promise::Objects =>
             "an object is aligned, lies in a slab of its cache and is apart from its live ones",
         Promise::Layout =>
