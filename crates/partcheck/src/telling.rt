@@ -116,8 +116,7 @@ fn words_of(promise: Promise) -> &'static str {
         Promise::Room => "no frames only where no block, and no object, can be had",
         Promise::Busy =>
             "a slot is busy only where a frame of it is taken, or an empty slab may stand",
-        Promise::Blocks =>
-            "a block is aligned, in a held slot, and apart from what is taken",
+        Promise::Blocks => "a block is aligned, in a held slot, and apart from what is taken",
         Promise::Objects =>
             "an object is aligned, lies in a slab of its cache and is apart from its live ones",
         Promise::Layout =>
