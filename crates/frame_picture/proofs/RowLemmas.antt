@@ -8,7 +8,7 @@ use Rattle.parts_core.specs.declared.frames.FrameKind.{FrameKind}
 use Rattle.frame_picture.specs.declared.history.Sheet.{Sheet}
 use Rattle.frame_picture.specs.Kinds.{rank_of}
 use Rattle.frame_picture.specs.Rows.{cells_between, owned_cells, cells_in, row_cells, kind_count}
-use Rattle.frame_picture.specs.Tones.{taken_of, drawn_kinds, IsMostCommon}
+use Rattle.frame_picture.specs.Tones.{taken_cells, drawn_kinds, IsMostCommon}
 
 -- the cells of a slot that the tenant holds
 pub owned : (order t first end : ℕ) (owner : Owner) (cells : List FrameKind) → owner.tenant ≡ t
@@ -68,7 +68,7 @@ most_along kinds count same kind few equal most =
     }
 
 -- and as many taken frames
-pub taken_along : (count same : ℕ → ℕ) → ((k : ℕ) → k < 6 → count k ≡ same k) → taken_of count ≡ taken_of same
+pub taken_along : (count same : ℕ → ℕ) → ((k : ℕ) → k < 6 → count k ≡ same k) → taken_cells count ≡ taken_cells same
 taken_along count same equal =
     omega (arith, equal 0 (omega arith), equal 1 (omega arith), equal 2 (omega arith), equal 3 (omega arith))
 
@@ -77,10 +77,10 @@ few_kinds taken = elim (taken == 0) as (λ b. cond b 6 4 ≤ 6) [ true ↦ omega
 
 -- so they are drawn as the same kind
 pub drawn_along : (count same : ℕ → ℕ) (kind : ℕ) → ((k : ℕ) → k < 6 → count k ≡ same k)
-    → IsMostCommon (drawn_kinds (taken_of count)) count kind → IsMostCommon (drawn_kinds (taken_of same)) same kind
+    → IsMostCommon (drawn_kinds (taken_cells count)) count kind → IsMostCommon (drawn_kinds (taken_cells same)) same kind
 drawn_along count same kind equal most =
     subst (λ taken. IsMostCommon (drawn_kinds taken) same kind) (taken_along count same equal)
-    (most_along (drawn_kinds (taken_of count)) count same kind (few_kinds (taken_of count)) equal most)
+    (most_along (drawn_kinds (taken_cells count)) count same kind (few_kinds (taken_cells count)) equal most)
 
 -- what holds of the elements before i, and of the new one at i, holds of all up to it
 pub more_set : {X : Type 0} (d : X) (P : ℕ → X → Type 0) (xs : List X) (i : ℕ) (v : X) → i < length xs

@@ -4,8 +4,8 @@ use Rattle.frame_picture.specs.declared.history.Column.{Column}
 use Rattle.frame_picture.specs.declared.history.History.{History}
 
 -- a superblock has 2 ^ order frames
-abbrev pub order_of : History → ℕ
-order_of h = h.order
+abbrev pub drawn_order : History → ℕ
+drawn_order h = h.order
 
 abbrev pub tenants_of : History → ℕ
 tenants_of h = h.tenants
@@ -32,7 +32,7 @@ refusals_of h = h.refused.items
 
 -- the machine and the room are as they were, and nothing was refused
 pub record SameShape (old new : History) : Type 0 where
-  pub order : order_of new ≡ order_of old
+  pub order : drawn_order new ≡ drawn_order old
   pub tenants : tenants_of new ≡ tenants_of old
   pub room : room_of new ≡ room_of old
   pub refused : refusals_of new ≡ refusals_of old

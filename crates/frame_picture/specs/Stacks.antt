@@ -18,13 +18,13 @@ free_of t k None = 0
 free_of t k (Some column) = free_in k (slice_get column.figures.items t)
 
 -- tenant t's in column n; 0 where there is no column
-abbrev pub free_at : List Column → ℕ → ℕ → ℕ → ℕ
-free_at columns t k n = free_of t k (slice_get columns n)
+abbrev pub free_in_column : List Column → ℕ → ℕ → ℕ → ℕ
+free_in_column columns t k n = free_of t k (slice_get columns n)
 
 -- and before it: the stack begins at 0
 abbrev pub free_before : List Column → ℕ → ℕ → ℕ → ℕ
 free_before columns t k zero = 0
-free_before columns t k (suc n) = free_at columns t k n
+free_before columns t k (suc n) = free_in_column columns t k n
 
 -- how many requests of tenant t had been refused up to a column, for want of frames
 abbrev pub refused_in : ℕ → Option Column → ℕ

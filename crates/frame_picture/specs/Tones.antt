@@ -22,8 +22,8 @@ pub record IsMostCommon (kinds : ℕ) (count : ℕ → ℕ) (kind : ℕ) : Type 
   pub first : (k : ℕ) → k < kind → count k < count kind
 
 -- how many frames are taken, by the counts of the kinds
-abbrev pub taken_of : (ℕ → ℕ) → ℕ
-taken_of count = count 0 + count 1 + count 2 + count 3
+abbrev pub taken_cells : (ℕ → ℕ) → ℕ
+taken_cells count = count 0 + count 1 + count 2 + count 3
 
 -- a row has one of the first four kinds where a frame is taken, however many are free
 abbrev pub drawn_kinds : ℕ → ℕ
@@ -37,7 +37,7 @@ quarters_of taken frames = min (div_ceil (4 * min taken frames) frames) 4
 pub record IsRowTone (column : Column) (t : ℕ) (grid : Grid) (row : ℕ) (tone : Tone) : Type 0 where
   pub most : let cells = row_cells grid.order t (first_of grid row) (end_of grid row) column.sheets.items in
       let count = kind_count cells (end_of grid row - first_of grid row) in
-      length cells + 2 ^ 32 < 2 ^ 64 → IsMostCommon (drawn_kinds (taken_of count)) count (rank_of tone.kind)
+      length cells + 2 ^ 32 < 2 ^ 64 → IsMostCommon (drawn_kinds (taken_cells count)) count (rank_of tone.kind)
   pub share : let cells = row_cells grid.order t (first_of grid row) (end_of grid row) column.sheets.items in
       let count = kind_count cells (end_of grid row - first_of grid row) in
-      length cells + 2 ^ 32 < 2 ^ 64 → tone.quarters ≡ quarters_of (taken_of count) (end_of grid row - first_of grid row)
+      length cells + 2 ^ 32 < 2 ^ 64 → tone.quarters ≡ quarters_of (taken_cells count) (end_of grid row - first_of grid row)

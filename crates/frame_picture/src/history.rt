@@ -76,11 +76,11 @@ pub struct History {
 impl History {
     ghost use Rattle.frame_picture.specs.declared.history.Column.{Column};
     ghost use Rattle.frame_picture.specs.Columns.{IsColumnAfter};
-    ghost use Rattle.frame_picture.specs.Histories.{order_of, tenants_of, columns_of, room_of, width_of, line_count, refusals_of, SameShape, IsEven};
+    ghost use Rattle.frame_picture.specs.Histories.{drawn_order, tenants_of, columns_of, room_of, width_of, line_count, refusals_of, SameShape, IsEven};
 
     /// No line has been run yet; there is room for so many columns.
     pub fn new(alloc: Global, kernel: &Kernel, room: u32) -> Result<History, AllocError>
-        ensures order { IfOk result (λ history. order_of history ≡ kernel.now.order) }
+        ensures order { IfOk result (λ history. drawn_order history ≡ kernel.now.order) }
         ensures tenants { IfOk result (λ history. tenants_of history ≡ kernel.now.tenants) }
         ensures room { IfOk result (λ history. room_of history ≡ room) }
         ensures lines { IfOk result (λ history. line_count history ≡ 0) }
@@ -106,7 +106,7 @@ impl History {
 
     /// A superblock of the machine has `2^order` frames.
     pub fn order(&self) -> u32
-        ensures value { result ≡ order_of self.now }
+        ensures value { result ≡ drawn_order self.now }
         ensures small { result ≤ 8 }
     {
         self.order

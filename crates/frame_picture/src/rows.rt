@@ -3,7 +3,7 @@
 ghost use Rattle.std.specs.Prelude.{◌≡◌, ℕ, ◌+◌, ◌-◌, ◌^◌, ◌<◌, ◌≤◌, ◌==◌, List, Some, length, count_by, slice_get, slice_index, slice_index_or};
 ghost use Rattle.frame_picture.specs.Kinds.{rank_of};
 ghost use Rattle.frame_picture.specs.Rows.{cells_in, row_cells, kind_count, first_of, end_of};
-ghost use Rattle.frame_picture.specs.Tones.{is_tone, not_held, taken_of, drawn_kinds, quarters_of, IsMostCommon, IsRowTone};
+ghost use Rattle.frame_picture.specs.Tones.{is_tone, not_held, taken_cells, drawn_kinds, quarters_of, IsMostCommon, IsRowTone};
 ghost use Rattle.frame_picture.specs.declared.history.Column.{Column};
 ghost use Rattle.frame_picture.specs.declared.rows.Tone.{Tone};
 
@@ -89,8 +89,8 @@ fn row_counts(column: &Column, t: u8, grid: Grid, row: u32) -> [usize; KINDS]
 /// What a row of so many frames is drawn as, of which so many have each kind.
 fn tone_of(counts: &[usize; KINDS], frames: u32) -> Tone
     requires { 0 < frames }
-    ensures most { IsMostCommon (drawn_kinds (taken_of (slice_index counts.now))) (slice_index counts.now) (rank_of result.kind) }
-    ensures share { result.quarters ≡ quarters_of (taken_of (slice_index counts.now)) frames }
+    ensures most { IsMostCommon (drawn_kinds (taken_cells (slice_index counts.now))) (slice_index counts.now) (rank_of result.kind) }
+    ensures share { result.quarters ≡ quarters_of (taken_cells (slice_index counts.now)) frames }
 {
     let taken = counts[0]
         .saturating_add(counts[1])

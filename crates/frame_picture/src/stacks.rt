@@ -3,7 +3,7 @@
 ghost use Rattle.std.specs.Prelude.{◌≡◌, ◌≢◌, ◌-◌, ◌*◌, ◌^◌, ◌<◌, ◌≤◌, ℕ, Some, length, slice_get, MatchOption};
 ghost use Rattle.frame_picture.specs.declared.history.Column.{Column};
 ghost use Rattle.frame_picture.specs.declared.history.Figures.{Figures};
-ghost use Rattle.frame_picture.specs.Stacks.{frames_of_orders, free_at, free_before, refused_at, refused_before};
+ghost use Rattle.frame_picture.specs.Stacks.{frames_of_orders, free_in_column, free_before, refused_at, refused_before};
 
 use crate::history::{Column, Figures, ORDERS};
 
@@ -37,7 +37,7 @@ pub fn most_taken(columns: &[Column], t: u8) -> u32
 /// How many frames of tenant `t` lie in free blocks of this order and of greater ones, in a column.
 pub fn free_at(columns: &[Column], t: u8, order: usize, column: usize) -> u64
     requires { order < ORDERS }
-    ensures { result ≡ free_at columns.now t order column }
+    ensures { result ≡ free_in_column columns.now t order column }
 {
     match columns.get(column) {
         Some(column) => match column.figures.get(t as usize) {
@@ -73,8 +73,8 @@ fn frames_of_blocks(blocks: u32, order: usize) -> u64
 /// How many they turn to where a column begins, if to another number than before; they begin at 0.
 pub fn turn_at(columns: &[Column], t: u8, order: usize, column: usize) -> Option<u64>
     requires { order < ORDERS }
-    ensures { MatchOption result (free_at columns.now t order column ≡ free_before columns.now t order column)
-        (λ frames. (frames ≡ free_at columns.now t order column) × (frames ≢ free_before columns.now t order column)) }
+    ensures { MatchOption result (free_in_column columns.now t order column ≡ free_before columns.now t order column)
+        (λ frames. (frames ≡ free_in_column columns.now t order column) × (frames ≢ free_before columns.now t order column)) }
 {
     let before = if column == 0 {
         0
@@ -88,7 +88,7 @@ pub fn turn_at(columns: &[Column], t: u8, order: usize, column: usize) -> Option
 /// The most frames of tenant `t` that are free in a column, or 1.
 pub fn most_free(columns: &[Column], t: u8) -> u64
     ensures some { 0 < result }
-    ensures all { (n : ℕ) → n < length columns.now → free_at columns.now t 0 n ≤ result }
+    ensures all { (n : ℕ) → n < length columns.now → free_in_column columns.now t 0 n ≤ result }
 {
     let mut most = 1;
     for column in 0..columns.len() {

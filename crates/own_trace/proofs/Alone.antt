@@ -32,7 +32,7 @@ use Rattle.promise_kept.proofs.Owning.{pool_first}
 use Rattle.promise_kept.proofs.WorldSteps.{event_kept, lines_asked, opening_meets}
 use Rattle.replay_core.specs.Standing.{AreLines}
 use Rattle.replay_core.proofs.LineLemmas.{lines_cut}
-use Rattle.own_trace.specs.Kept.{RunLine, run_lines, has_entry, is_own, own_lines, own_trace}
+use Rattle.own_trace.specs.Kept.{RunLine, run_lines, has_entry, is_own_line, own_lines, own_trace}
 use Rattle.own_trace.specs.Laws.{OwnListAlone, LinesAlone}
 use Rattle.own_trace.proofs.Superblocks.{Owners, is_own_or_free, one, times, no_times, alone_has_room, granted_times, granted_all, given_times, given_all, new_all, new_times}
 
@@ -333,14 +333,14 @@ alone_from limit order t (line ∷ lines) w v le b = go (reading_of line) refl (
         → ((whole alone : World) → Beside limit order t whole alone
         → own_list t (history limit order alone (events_of (own_lines t limit order lines whole))) ≡ own_list t (history limit order whole (events_of lines)))
         → own_list t (history limit order v (events_of (lines_in (cond (has_entry (own_list t (history limit order w (event_in reading))))
-        (record { line = line; exchanges = history limit order w (event_in reading) } ∷ filter (is_own t) (run_lines limit order lines (world_after limit order w (event_in reading))))
-        (filter (is_own t) (run_lines limit order lines (world_after limit order w (event_in reading))))))))
+        (record { line = line; exchanges = history limit order w (event_in reading) } ∷ filter (is_own_line t) (run_lines limit order lines (world_after limit order w (event_in reading))))
+        (filter (is_own_line t) (run_lines limit order lines (world_after limit order w (event_in reading))))))))
         ≡ own_list t (history limit order w (event_in reading ++ events_of lines))
     go (Ok None) is rest = rest w v b
     go (Err fault) is rest = rest w v b
     go (Ok (Some event)) is rest =
         let next : World = (world_step limit order event w).world in
-        one_event limit order t line event w v (filter (is_own t) (run_lines limit order lines next)) (events_of lines) le is b
+        one_event limit order t line event w v (filter (is_own_line t) (run_lines limit order lines next)) (events_of lines) le is b
         (rest next)
         (has_entry (entries_at limit order t event w ++ [])) refl
 
@@ -384,8 +384,8 @@ kept_are_lines t limit order (line ∷ lines) w h =
   where
     go : (test : Bool) → AreLines (own_lines t limit order lines (world_after limit order w (event_in (reading_of line))))
         → AreLines (lines_in (cond test (record { line = line; exchanges = history limit order w (event_in (reading_of line)) }
-        ∷ filter (is_own t) (run_lines limit order lines (world_after limit order w (event_in (reading_of line)))))
-        (filter (is_own t) (run_lines limit order lines (world_after limit order w (event_in (reading_of line)))))))
+        ∷ filter (is_own_line t) (run_lines limit order lines (world_after limit order w (event_in (reading_of line)))))
+        (filter (is_own_line t) (run_lines limit order lines (world_after limit order w (event_in (reading_of line)))))))
     go true later = (h.0, later)
     go false later = later
 

@@ -15,7 +15,7 @@ use Rattle.world_core.specs.Laws.{opening_history}
 use Rattle.world_core.proofs.Showing.{with_line_feeds-append}
 use Rattle.world_core.proofs.Worlds.{world_both}
 use Rattle.replay_core.proofs.PendingLemmas.{overlong}
-use Rattle.own_trace.specs.Kept.{RunLine, run_lines, has_entry, is_own, own_lines, own_text}
+use Rattle.own_trace.specs.Kept.{RunLine, run_lines, has_entry, is_own_line, own_lines, own_text}
 use Rattle.own_trace.specs.Laws.{KeptAreOwnList}
 
 run_both : (limit order : ℕ) (xs ys : List (List ℕ)) (w : World)
@@ -37,9 +37,9 @@ pub own_both : (t limit order : ℕ) (xs ys : List (List ℕ)) (w : World)
     → own_text t limit order (xs ++ ys) w ≡ own_text t limit order xs w ++ own_text t limit order ys (world_after limit order w (events_of xs))
 own_both t limit order xs ys w =
     let later : World = world_after limit order w (events_of xs) in
-    ap (λ runs. with_line_feeds (map (λ run. run.line) (filter (is_own t) runs))) (run_both limit order xs ys w)
-    ∙ ap (λ runs. with_line_feeds (map (λ run. run.line) runs)) (filter-append (is_own t) (run_lines limit order xs w) (run_lines limit order ys later))
-    ∙ ap with_line_feeds (map_both (filter (is_own t) (run_lines limit order xs w)) (filter (is_own t) (run_lines limit order ys later)))
+    ap (λ runs. with_line_feeds (map (λ run. run.line) (filter (is_own_line t) runs))) (run_both limit order xs ys w)
+    ∙ ap (λ runs. with_line_feeds (map (λ run. run.line) runs)) (filter-append (is_own_line t) (run_lines limit order xs w) (run_lines limit order ys later))
+    ∙ ap with_line_feeds (map_both (filter (is_own_line t) (run_lines limit order xs w)) (filter (is_own_line t) (run_lines limit order ys later)))
     ∙ with_line_feeds-append (own_lines t limit order xs w) (own_lines t limit order ys later)
 
 -- of one line that is none of the tenant's nothing ..
@@ -78,12 +78,12 @@ kept_entries t run more [] is = refl
 kept_entries t run more (entry ∷ entries) is = ap (λ xs. xs ++ flat_map (λ run. own_list t run.exchanges) more) is
 
 pub kept_from : (limit order t : ℕ) (lines : List (List ℕ)) (w : World)
-    → flat_map (λ run. own_list t run.exchanges) (filter (is_own t) (run_lines limit order lines w)) ≡ own_list t (history limit order w (events_of lines))
+    → flat_map (λ run. own_list t run.exchanges) (filter (is_own_line t) (run_lines limit order lines w)) ≡ own_list t (history limit order w (events_of lines))
 kept_from limit order t [] w = refl
 kept_from limit order t (line ∷ lines) w =
     let next : World = world_after limit order w (event_in (reading_of line)) in
     let run : RunLine = record { line = line; exchanges = history limit order w (event_in (reading_of line)) } in
-    kept_entries t run (filter (is_own t) (run_lines limit order lines next)) (own_list t run.exchanges) refl
+    kept_entries t run (filter (is_own_line t) (run_lines limit order lines next)) (own_list t run.exchanges) refl
     ∙ ap (λ more. own_list t run.exchanges ++ more) (kept_from limit order t lines next)
     ∙ sym (own_list_both t limit order (event_in (reading_of line)) (events_of lines) w)
 

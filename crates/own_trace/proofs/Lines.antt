@@ -1,7 +1,7 @@
 -- One more line is run, and kept or not.
 use Rattle.std.proofs.Common.{◌≡◌, ℕ, ◌<◌, Bool, true, false, List, [], ◌∷◌, ◌++◌, Result, Ok, Err, Option, length, take, refl, ap, sym, subst, ◌∙◌, append_assoc}
 use Rattle.std.proofs.lemmas.List.{append-nil, nil_from_length}
-use Rattle.std.specs.Io.KnownBytes.{Appends, Keeps as KeepsBytes}
+use Rattle.std.specs.Io.KnownBytes.{Appends, Keeps}
 use Rattle.std.specs.Result.{is_err}
 use Rattle.words_core.specs.declared.event.Event.{Event}
 use Rattle.words_core.specs.declared.event.LineFault.{LineFault}
@@ -23,16 +23,16 @@ use Rattle.replay_core.proofs.MoveLemmas.{appends_nothing, appends_more, appends
 use Rattle.replay_core.proofs.LineLemmas.{one_line_append, lines_append, with_line_feeds_append, lines_cut, lines_ended, one_line_cut, one_line_unended}
 use Rattle.replay_core.proofs.PendingLemmas.{take-short}
 use Rattle.own_trace.specs.Kept.{has_entry, own_text}
-use Rattle.own_trace.specs.Keeping.{IsTaken, IsWholeAtOk, HasKept, Stands, HasStopped, TellsOwn, BeginsOwn}
+use Rattle.own_trace.specs.Keeping.{IsTextTaken, IsAllAtOk, HasKept, StandsOwn, HasStoppedOwn, TellsOwn, BeginsOwn}
 use Rattle.own_trace.proofs.Kept.{own_both, none_kept, line_kept, own_is_short}
 
-at_err : (result : Result (Unit {0}) Stopped) (rest : List ℕ) → is_err result ≡ true → IsWholeAtOk result rest
+at_err : (result : Result (Unit {0}) Stopped) (rest : List ℕ) → is_err result ≡ true → IsAllAtOk result rest
 at_err (Ok done) rest failed = cc
 at_err (Err stopped) rest failed = tt
 
 -- the drain failed at the rest of a text
 pub taken_at_err : (old new : Option (List ℕ)) (failing : Bool) (text taken rest : List ℕ) (result : Result (Unit {0}) Stopped) → is_err result ≡ true
-    → text ≡ taken ++ rest → Appends old new taken → failing ≡ true → IsTaken old new failing text result
+    → text ≡ taken ++ rest → Appends old new taken → failing ≡ true → IsTextTaken old new failing text result
 taken_at_err old new failing text taken rest result failed split appended stopped =
     record { taken = taken; rest = rest; split = split; appended = appended; whole = at_err result rest failed; failed = stopped ∙ sym failed }
 
@@ -77,7 +77,7 @@ kept_text t line held before after own run is front w shows =
 
 -- the drain failed in its bytes ..
 pub kept_part : (t : ℕ) (line held : List ℕ) (before after : Parts) (old new : Option (List ℕ)) (failing own : Bool) (stopped : Stopped) (result : Result (Unit {0}) Stopped)
-    → IsLineRun t line before after own → own ≡ true → held ≡ take 256 line → IsTaken old new failing held (Err stopped) → is_err result ≡ true
+    → IsLineRun t line before after own → own ≡ true → held ≡ take 256 line → IsTextTaken old new failing held (Err stopped) → is_err result ≡ true
     → HasKept t line before after old new failing result
 kept_part t line held before after old new failing own stopped result run is front part failed = record {
   taken = part.taken;
@@ -93,7 +93,7 @@ kept_part t line held before after old new failing own stopped result run is fro
 
 -- .. or they were taken, and the LF was or was not
 pub kept_whole : (t : ℕ) (line held : List ℕ) (before after : Parts) (old now new : Option (List ℕ)) (failing failing' own : Bool) (result : Result (Unit {0}) Stopped)
-    → IsLineRun t line before after own → own ≡ true → held ≡ take 256 line → IsTaken old now failing held (Ok tt) → IsTaken now new failing' (10 ∷ []) result
+    → IsLineRun t line before after own → own ≡ true → held ≡ take 256 line → IsTextTaken old now failing held (Ok tt) → IsTextTaken now new failing' (10 ∷ []) result
     → HasKept t line before after old new failing' result
 kept_whole t line held before after old now new failing failing' own result run is front whole end =
     let all : held ≡ whole.taken = whole.split ∙ ap (λ xs. whole.taken ++ xs) whole.whole ∙ append-nil whole.taken in record {
@@ -166,7 +166,7 @@ same_sizes : (k : Parts) → SameSizes k k
 same_sizes k = record { order = refl; superblocks = refl; tenants = refl }
 
 -- before the first pull
-pub stands_first : (t : ℕ) (k : Parts) (known : Option (List ℕ)) (pending : Pending) → HoldsLine [] pending → Stands t k k [] [] known known pending
+pub stands_first : (t : ℕ) (k : Parts) (known : Option (List ℕ)) (pending : Pending) → HoldsLine [] pending → StandsOwn t k k [] [] known known pending
 stands_first t k known pending holds = record {
   done = [];
   tail = [];
@@ -182,7 +182,7 @@ stands_first t k known pending holds = record {
 
 -- the drain has sent what it had taken
 pub stands_sent : (t : ℕ) (before now : Parts) (given rest : List ℕ) (start old new : Option (List ℕ)) (pending : Pending)
-    → Stands t before now given rest start old pending → KeepsBytes old new → Stands t before now given rest start new pending
+    → StandsOwn t before now given rest start old pending → Keeps old new → StandsOwn t before now given rest start new pending
 stands_sent t before now given rest start old new pending stands kept = record {
   done = stands.done;
   tail = stands.tail;
@@ -198,7 +198,7 @@ stands_sent t before now given rest start old new pending stands kept = record {
 
 -- a pull gave more
 pub stands_given : (t : ℕ) (before now : Parts) (given more : List ℕ) (start contents : Option (List ℕ)) (pending : Pending)
-    → Stands t before now given [] start contents pending → Stands t before now (given ++ more) more start contents pending
+    → StandsOwn t before now given [] start contents pending → StandsOwn t before now (given ++ more) more start contents pending
 stands_given t before now given more start contents pending stands = record {
   done = stands.done;
   tail = stands.tail;
@@ -225,9 +225,9 @@ split_more done tail given rest part after split cut =
 
 -- the line that ends with `part` is done
 pub stands_more : (t : ℕ) (before now next : Parts) (given rest part after : List ℕ) (start old new : Option (List ℕ)) (failing : Bool) (pending pending' : Pending)
-    → (stands : Stands t before now given rest start old pending) → IsOneLine part → rest ≡ (part ++ 10 ∷ []) ++ after → HoldsLine [] pending'
+    → (stands : StandsOwn t before now given rest start old pending) → IsOneLine part → rest ≡ (part ++ 10 ∷ []) ++ after → HoldsLine [] pending'
     → HasKept t (stands.tail ++ part) now next old new failing (Ok tt)
-    → Stands t before next given after start new pending'
+    → StandsOwn t before next given after start new pending'
 stands_more t before now next given rest part after start old new failing pending pending' stands one cut holds kept = record {
   done = stands.done ++ (stands.tail ++ part) ∷ [];
   tail = [];
@@ -243,9 +243,9 @@ stands_more t before now next given rest part after start old new failing pendin
 
 -- the drain failed in it
 pub stopped_within : (t : ℕ) (before now next : Parts) (given rest part after : List ℕ) (start old new : Option (List ℕ)) (failing : Bool) (pending : Pending) (result : Result (Unit {0}) Stopped)
-    → (stands : Stands t before now given rest start old pending) → IsOneLine part → rest ≡ (part ++ 10 ∷ []) ++ after
+    → (stands : StandsOwn t before now given rest start old pending) → IsOneLine part → rest ≡ (part ++ 10 ∷ []) ++ after
     → HasKept t (stands.tail ++ part) now next old new failing result
-    → HasStopped t before given start new
+    → HasStoppedOwn t before given start new
 stopped_within t before now next given rest part after start old new failing pending result stands one cut kept =
     let line : List ℕ = stands.tail ++ part in
     let all = lines_append stands.done line stands.ended (one_line_append stands.tail part stands.unended one) in record {
@@ -258,8 +258,8 @@ stopped_within t before now next given rest part after start old new failing pen
 
 -- what is left of a piece is held
 pub stands_held : (t : ℕ) (before now : Parts) (given rest : List ℕ) (start contents : Option (List ℕ)) (pending pending' : Pending)
-    → (stands : Stands t before now given rest start contents pending) → IsOneLine rest → HoldsLine (stands.tail ++ rest) pending'
-    → Stands t before now given [] start contents pending'
+    → (stands : StandsOwn t before now given rest start contents pending) → IsOneLine rest → HoldsLine (stands.tail ++ rest) pending'
+    → StandsOwn t before now given [] start contents pending'
 stands_held t before now given rest start contents pending pending' stands one holds = record {
   done = stands.done;
   tail = stands.tail ++ rest;
@@ -275,7 +275,7 @@ stands_held t before now given rest start contents pending pending' stands one h
 
 -- all that ended has been kept
 pub ended_are_kept : (t : ℕ) (before now : Parts) (given : List ℕ) (start contents : Option (List ℕ)) (pending : Pending)
-    → (stands : Stands t before now given [] start contents pending) → StandsAfter before now (ended_lines given) × TellsOwn t before (ended_lines given) stands.taken
+    → (stands : StandsOwn t before now given [] start contents pending) → StandsAfter before now (ended_lines given) × TellsOwn t before (ended_lines given) stands.taken
 ended_are_kept t before now given start contents pending stands =
     subst (λ lines. StandsAfter before now lines × TellsOwn t before lines stands.taken)
     (sym (ap ended_lines (stands.split ∙ append-nil _) ∙ lines_ended stands.done stands.tail stands.ended
@@ -284,7 +284,7 @@ ended_are_kept t before now given start contents pending stands =
 
 -- all has been kept, where nothing is held
 pub all_are_kept : (t : ℕ) (before now : Parts) (given : List ℕ) (start contents : Option (List ℕ)) (pending : Pending)
-    → (stands : Stands t before now given [] start contents pending) → length stands.tail ≡ 0
+    → (stands : StandsOwn t before now given [] start contents pending) → length stands.tail ≡ 0
     → StandsAfter before now (lines_of_trace given) × TellsOwn t before (lines_of_trace given) stands.taken
 all_are_kept t before now given start contents pending stands none =
     subst (λ lines. StandsAfter before now lines × TellsOwn t before lines stands.taken)
@@ -293,14 +293,14 @@ all_are_kept t before now given start contents pending stands none =
     (stands.ran, stands.tells)
 
 last_cut : (t : ℕ) (before now : Parts) (given : List ℕ) (start contents : Option (List ℕ)) (pending : Pending)
-    → (stands : Stands t before now given [] start contents pending) → 0 < length stands.tail → lines_of_trace given ≡ stands.done ++ stands.tail ∷ []
+    → (stands : StandsOwn t before now given [] start contents pending) → 0 < length stands.tail → lines_of_trace given ≡ stands.done ++ stands.tail ∷ []
 last_cut t before now given start contents pending stands some =
     ap lines_of_trace (stands.split ∙ append-nil _) ∙ lines_cut stands.done stands.tail stands.ended
     ∙ ap (λ more. stands.done ++ more) (one_line_cut stands.tail stands.unended some)
 
 -- what is held is the last line
 pub last_is_kept : (t : ℕ) (before now next : Parts) (given : List ℕ) (start old new : Option (List ℕ)) (failing : Bool) (pending : Pending)
-    → (stands : Stands t before now given [] start old pending) → 0 < length stands.tail → HasKept t stands.tail now next old new failing (Ok tt)
+    → (stands : StandsOwn t before now given [] start old pending) → 0 < length stands.tail → HasKept t stands.tail now next old new failing (Ok tt)
     → (taken : List ℕ) × Appends start new taken × StandsAfter before next (lines_of_trace given) × TellsOwn t before (lines_of_trace given) taken
 last_is_kept t before now next given start old new failing pending stands some kept =
     let all = subst (λ lines. StandsAfter before next lines × TellsOwn t before lines (stands.taken ++ kept.taken))
@@ -312,7 +312,7 @@ last_is_kept t before now next given start old new failing pending stands some k
 
 -- the drain failed in the last line
 pub stopped_at_last : (t : ℕ) (before now next : Parts) (given : List ℕ) (start old new : Option (List ℕ)) (failing : Bool) (pending : Pending) (result : Result (Unit {0}) Stopped)
-    → (stands : Stands t before now given [] start old pending) → 0 < length stands.tail → HasKept t stands.tail now next old new failing result
+    → (stands : StandsOwn t before now given [] start old pending) → 0 < length stands.tail → HasKept t stands.tail now next old new failing result
     → (taken : List ℕ) × Appends start new taken × BeginsOwn t before (lines_of_trace given) taken
 stopped_at_last t before now next given start old new failing pending result stands some kept = (
   stands.taken ++ kept.taken,

@@ -26,35 +26,35 @@ abbrev pub BeginsOwn : ℕ → Parts → List (List ℕ) → List ℕ → Type 0
 BeginsOwn t before lines taken = (w : World) → Shows before w → (rest : List ℕ) × (own_text t cache_limit before.order lines w ≡ taken ++ rest)
 
 -- what was given, what was taken, the kernel and the answer
-abbrev pub Keeps : Bool → ℕ → Parts → Parts → List ℕ → List ℕ → Result (Unit {0}) KeepError → Type 0
-Keeps ended t before after given taken (Ok done) =
+abbrev pub KeepsOwn : Bool → ℕ → Parts → Parts → List ℕ → List ℕ → Result (Unit {0}) KeepError → Type 0
+KeepsOwn ended t before after given taken (Ok done) =
     StandsAfter before after (lines_of_trace given) × TellsOwn t before (lines_of_trace given) taken
-Keeps ended t before after given taken (Err Of.Feed) =
+KeepsOwn ended t before after given taken (Err Of.Feed) =
     StandsAfter before after (ended_lines given) × TellsOwn t before (ended_lines given) taken
-Keeps ended t before after given taken (Err Of.Drain) = (lines : List (List ℕ)) × HasCome ended given lines × BeginsOwn t before lines taken
+KeepsOwn ended t before after given taken (Err Of.Drain) = (lines : List (List ℕ)) × HasCome ended given lines × BeginsOwn t before lines taken
 
 -- the answer is Ok only where the feed has ended
-abbrev pub IsDone : Result (Unit {0}) KeepError → Bool → Type 0
-IsDone (Ok done) ended = ended ≡ true
-IsDone (Err error) ended = Unit {0}
+abbrev pub IsKeptToEnd : Result (Unit {0}) KeepError → Bool → Type 0
+IsKeptToEnd (Ok done) ended = ended ≡ true
+IsKeptToEnd (Err error) ended = Unit {0}
 
 -- the end that failed is named, and none where neither did
-abbrev pub NamesFailed : Result (Unit {0}) KeepError → Bool → Bool → Type 0
-NamesFailed (Ok done) feed drain = (feed ≡ false) × (drain ≡ false)
-NamesFailed (Err Of.Feed) feed drain = (feed ≡ true) × (drain ≡ false)
-NamesFailed (Err Of.Drain) feed drain = (feed ≡ false) × (drain ≡ true)
+abbrev pub NamesEnd : Result (Unit {0}) KeepError → Bool → Bool → Type 0
+NamesEnd (Ok done) feed drain = (feed ≡ false) × (drain ≡ false)
+NamesEnd (Err Of.Feed) feed drain = (feed ≡ true) × (drain ≡ false)
+NamesEnd (Err Of.Drain) feed drain = (feed ≡ false) × (drain ≡ true)
 
-abbrev pub IsWholeAtOk : Result (Unit {0}) Stopped → List ℕ → Type 0
-IsWholeAtOk (Ok done) rest = rest ≡ []
-IsWholeAtOk (Err stopped) rest = Unit {0}
+abbrev pub IsAllAtOk : Result (Unit {0}) Stopped → List ℕ → Type 0
+IsAllAtOk (Ok done) rest = rest ≡ []
+IsAllAtOk (Err stopped) rest = Unit {0}
 
 -- of a text this much was taken: all of it, or a beginning by a drain that has then failed
-pub record IsTaken (old new : Option (List ℕ)) (failing : Bool) (text : List ℕ) (result : Result (Unit {0}) Stopped) : Type 0 where
+pub record IsTextTaken (old new : Option (List ℕ)) (failing : Bool) (text : List ℕ) (result : Result (Unit {0}) Stopped) : Type 0 where
   pub taken : List ℕ
   pub rest : List ℕ
   pub split : text ≡ taken ++ rest
   pub appended : Appends old new taken
-  pub whole : IsWholeAtOk result rest
+  pub whole : IsAllAtOk result rest
   pub failed : failing ≡ is_err result
 
 -- a line was run, and what it is of the tenant's own list was taken
@@ -66,11 +66,11 @@ pub record HasKept (t : ℕ) (line : List ℕ) (before after : Parts) (old new :
   pub shows : (w : World) → Shows before w → Shows after (world_after cache_limit before.order w (event_in (reading_of line)))
   pub text : (w : World) → Shows before w → own_text t cache_limit before.order (line ∷ []) w ≡ taken ++ rest
   pub appended : Appends old new taken
-  pub whole : IsWholeAtOk result rest
+  pub whole : IsAllAtOk result rest
   pub failed : failing ≡ is_err result
 
 -- Of what was given the lines that ended are done, the beginning of the next is held, and the rest is to come.
-pub record Stands (t : ℕ) (before now : Parts) (given rest : List ℕ) (start contents : Option (List ℕ)) (pending : Pending) : Type 0 where
+pub record StandsOwn (t : ℕ) (before now : Parts) (given rest : List ℕ) (start contents : Option (List ℕ)) (pending : Pending) : Type 0 where
   pub done : List (List ℕ)
   pub tail : List ℕ
   pub taken : List ℕ
@@ -83,7 +83,7 @@ pub record Stands (t : ℕ) (before now : Parts) (given rest : List ℕ) (start 
   pub appended : Appends start contents taken
 
 -- The drain failed in a line that ended.
-pub record HasStopped (t : ℕ) (before : Parts) (given : List ℕ) (start contents : Option (List ℕ)) : Type 0 where
+pub record HasStoppedOwn (t : ℕ) (before : Parts) (given : List ℕ) (start contents : Option (List ℕ)) : Type 0 where
   pub taken : List ℕ
   pub begins : BeginsOwn t before (ended_lines given) taken
   pub appended : Appends start contents taken

@@ -24,12 +24,12 @@ has_entry [] = false
 has_entry (entry ∷ entries) = true
 
 -- what the line was is in the own list of tenant t
-abbrev pub is_own : ℕ → RunLine → Bool
-is_own t run = has_entry (own_list t run.exchanges)
+abbrev pub is_own_line : ℕ → RunLine → Bool
+is_own_line t run = has_entry (own_list t run.exchanges)
 
 -- the lines that are the own list of tenant t, as they stand
 abbrev pub own_lines : ℕ → ℕ → ℕ → List (List ℕ) → World → List (List ℕ)
-own_lines t limit order lines w = map (λ run. run.line) (filter (is_own t) (run_lines limit order lines w))
+own_lines t limit order lines w = map (λ run. run.line) (filter (is_own_line t) (run_lines limit order lines w))
 
 -- the same as bytes, each with its LF
 abbrev pub own_text : ℕ → ℕ → ℕ → List (List ℕ) → World → List ℕ

@@ -6,12 +6,12 @@ use Rattle.world_core.specs.World.{opening_world}
 use Rattle.world_core.specs.OwnList.{own_list}
 use Rattle.world_core.specs.Output.{events_of, lines_for, output_of}
 use Rattle.world_core.specs.Laws.{opening_history}
-use Rattle.own_trace.specs.Kept.{run_lines, is_own, own_trace}
+use Rattle.own_trace.specs.Kept.{run_lines, is_own_line, own_trace}
 
 -- The entries of the lines that are kept are the tenant's own list of the trace, in their order.
 abbrev pub KeptAreOwnList : Type 0
 KeptAreOwnList = (limit order superblocks tenants t : ℕ) (trace : List ℕ) →
-    flat_map (λ run. own_list t run.exchanges) (filter (is_own t) (run_lines limit order (lines_of_trace trace) (opening_world superblocks tenants)))
+    flat_map (λ run. own_list t run.exchanges) (filter (is_own_line t) (run_lines limit order (lines_of_trace trace) (opening_world superblocks tenants)))
     ≡ own_list t (opening_history limit order superblocks tenants (events_of (lines_of_trace trace)))
 
 -- Run alone, on a new machine of the same sizes, they are that own list again; slots have at least 8 frames, and no place of RAM is

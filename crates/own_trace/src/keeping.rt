@@ -12,7 +12,7 @@ ghost use Rattle.world_core.specs.Output.{event_in};
 ghost use Rattle.replay_core.specs.Pending.{HoldsLine};
 ghost use Rattle.replay_core.specs.Standing.{IsRunnable};
 ghost use Rattle.own_trace.specs.Kept.{has_entry};
-ghost use Rattle.own_trace.specs.Keeping.{Keeps, IsDone, NamesFailed, IsTaken, HasKept, Stands, HasStopped};
+ghost use Rattle.own_trace.specs.Keeping.{KeepsOwn, IsKeptToEnd, NamesEnd, IsTextTaken, HasKept, StandsOwn, HasStoppedOwn};
 
 use kernel_core::Kernel;
 use replay_core::{Drain, Feed, Pending, Stopped, line_end};
@@ -51,12 +51,12 @@ pub fn keep<F: Feed, D: Drain>(
     ensures kept { (given : List ℕ) × (taken : List ℕ)
         × Consumes (F.remaining feed.old) (F.remaining feed.new) given
         × Appends (D.contents drain.old) (D.contents drain.new) taken
-        × Keeps (F.has_ended feed.new) tenant kernel.old kernel.new given taken result
+        × KeepsOwn (F.has_ended feed.new) tenant kernel.old kernel.new given taken result
         × (F.room_left feed.new + length given ≡ F.room_left feed.old) }
-    ensures ended { IsDone result (F.has_ended feed.new) }
+    ensures ended { IsKeptToEnd result (F.has_ended feed.new) }
     // Then what was given is all that it had.
     ensures whole { F.has_ended feed.new ≡ true → IsAtEnd (F.remaining feed.new) }
-    ensures failed { NamesFailed result (F.has_failed feed.new) (D.has_failed drain.new) }
+    ensures failed { NamesEnd result (F.has_failed feed.new) (D.has_failed drain.new) }
 {
     let mut pending = Pending::new();
     let mut piece = [0; PIECE_BYTES];
@@ -93,10 +93,10 @@ fn keep_piece<D: Drain>(
     requires fits { length piece.now < 2 ^ 64 }
     requires fine { D.has_failed drain.old ≡ false }
     ensures kept { (before : Parts) (given : List ℕ) (start : Option (List ℕ))
-        → Stands tenant before kernel.old given piece.now start (D.contents drain.old) pending.old
+        → StandsOwn tenant before kernel.old given piece.now start (D.contents drain.old) pending.old
         → MatchResult result
-        (λ _. Stands tenant before kernel.new given [] start (D.contents drain.new) pending.new)
-        (λ _. HasStopped tenant before given start (D.contents drain.new)) }
+        (λ _. StandsOwn tenant before kernel.new given [] start (D.contents drain.new) pending.new)
+        (λ _. HasStoppedOwn tenant before given start (D.contents drain.new)) }
     ensures failed { D.has_failed drain.new ≡ is_err result }
 {
     let mut rest = piece;
@@ -165,7 +165,7 @@ fn is_own(tenant: u8, event: &Event, body: &Body) -> bool
 /// Pushes all of the bytes, the rest again after a push that took less.
 fn push_all<D: Drain>(bytes: &[u8], drain: &mut D) -> Result<(), Stopped>
     requires { D.has_failed drain.old ≡ false }
-    ensures { IsTaken (D.contents drain.old) (D.contents drain.new) (D.has_failed drain.new) bytes.now result }
+    ensures { IsTextTaken (D.contents drain.old) (D.contents drain.new) (D.has_failed drain.new) bytes.now result }
 {
     let mut rest = bytes;
     while !rest.is_empty() {

@@ -11,11 +11,11 @@ use Rattle.parts_core.specs.Parts.{Parts}
 use Rattle.replay_core.specs.declared.replaying.Tally.{Tally}
 use Rattle.replay_core.specs.declared.replaying.ReplayError.{ReplayError}
 use Rattle.replay_core.specs.declared.replaying.ReplayError.TheVariants as Failed
-use Rattle.replay_core.specs.Runs.{HasCome, IsDone as IsReplayed, NamesFailed as NamesEnd}
+use Rattle.replay_core.specs.Runs.{HasCome, IsDone, NamesFailed}
 use Rattle.own_trace.specs.declared.keeping.KeepError.{KeepError}
 use Rattle.own_trace.specs.declared.keeping.KeepError.TheVariants as Kept
 use Rattle.own_trace.specs.Kept.{own_text}
-use Rattle.own_trace.specs.Keeping.{Keeps, IsDone, NamesFailed, BeginsOwn}
+use Rattle.own_trace.specs.Keeping.{KeepsOwn, IsKeptToEnd, NamesEnd, BeginsOwn}
 use Rattle.own_trace.proofs.Kept.{own_both}
 use Rattle.command_line.specs.declared.exit.Outcome.TheVariants.{Unwritable, NoMemory}
 use Rattle.command_line.specs.declared.machine.Machine.{Machine}
@@ -38,13 +38,13 @@ same_outcome (Err Kept.Feed) true flushed = refl
 same_outcome (Err Kept.Feed) false flushed = refl
 same_outcome (Err Kept.Drain) unsent flushed = refl
 
-same_done : (kept : Result (Unit {0}) KeepError) (ended : Bool) → IsDone kept ended → IsReplayed (as_replayed kept) ended
+same_done : (kept : Result (Unit {0}) KeepError) (ended : Bool) → IsKeptToEnd kept ended → IsDone (as_replayed kept) ended
 unfolding as_replayed
 same_done (Ok done) ended is = is
 same_done (Err Kept.Feed) ended is = tt
 same_done (Err Kept.Drain) ended is = tt
 
-same_named : (kept : Result (Unit {0}) KeepError) (unread undrained : Bool) → NamesFailed kept unread undrained → NamesEnd (as_replayed kept) unread undrained
+same_named : (kept : Result (Unit {0}) KeepError) (unread undrained : Bool) → NamesEnd kept unread undrained → NamesFailed (as_replayed kept) unread undrained
 unfolding as_replayed
 same_named (Ok done) unread undrained is = is
 same_named (Err Kept.Feed) unread undrained is = is
@@ -59,14 +59,14 @@ own_reached kept unsent flushed failed before writer held taken same none append
     (reached (as_replayed kept) unsent flushed failed before writer held taken same none appended)
 
 -- which end had failed
-pub own_ends : (kept : Result (Unit {0}) KeepError) (ended unread undrained unsent flushed : Bool) → IsDone kept ended → NamesFailed kept unread undrained
+pub own_ends : (kept : Result (Unit {0}) KeepError) (ended unread undrained unsent flushed : Bool) → IsKeptToEnd kept ended → NamesEnd kept unread undrained
     → (unsent ≡ true → flushed ≡ false) → (undrained ≡ true → flushed ≡ false)
     → EndsAs (outcome_of_kept kept unsent flushed) ended unread (not flushed) unsent
 own_ends kept ended unread undrained unsent flushed done named stopped fine =
     subst (λ outcome. EndsAs outcome ended unread (not flushed) unsent) (same_outcome kept unsent flushed)
     (ends (as_replayed kept) ended unread undrained unsent flushed (same_done kept ended done) (same_named kept unread undrained named) stopped fine)
 
-own_given : (kept : Result (Unit {0}) KeepError) (unsent flushed ended : Bool) (given more : List ℕ) → IsDone kept ended → (ended ≡ true → more ≡ [])
+own_given : (kept : Result (Unit {0}) KeepError) (unsent flushed ended : Bool) (given more : List ℕ) → IsKeptToEnd kept ended → (ended ≡ true → more ≡ [])
     → IsGiven (outcome_of_kept kept unsent flushed) (given ++ more) given
 own_given kept unsent flushed ended given more done over =
     subst (λ outcome. IsGiven outcome (given ++ more) given) (same_outcome kept unsent flushed)
@@ -112,7 +112,7 @@ cut_begins stays m t ended given more taken lines (inr (is_over, all)) begins ov
 
 -- Whatever the keeping answered, a trace goes on from what was given, unless the feed has ended.
 own_begins : EndedLinesStay → (m : Machine) (t : ℕ) (k k' : Parts) (ended : Bool) (given more taken : List ℕ) (kept : Result (Unit {0}) KeepError) → IsNew m k
-    → Keeps ended t k k' given taken kept → IsDone kept ended → (ended ≡ true → more ≡ [])
+    → KeepsOwn ended t k k' given taken kept → IsKeptToEnd kept ended → (ended ≡ true → more ≡ [])
     → IsBeginning taken (own_of m.config t (lines_of_trace (given ++ more)))
 own_begins stays m t k k' ended given more taken (Ok _) new ran done over =
     all_came m t given more taken (over done) (whole_begins m t k (lines_of_trace given) taken new (ran.1 _ new.shows))
@@ -124,14 +124,14 @@ own_begins stays m t k k' ended given more taken (Err Kept.Drain) new ran done o
 
 -- where it could not be written, that is what was given
 own_unwritten : EndedLinesStay → (m : Machine) (t : ℕ) (k k' : Parts) (ended : Bool) (given taken : List ℕ) (kept : Result (Unit {0}) KeepError) → IsNew m k
-    → Keeps ended t k k' given taken kept → IsDone kept ended → WritesOwn m.config t Unwritable given taken
+    → KeepsOwn ended t k k' given taken kept → IsKeptToEnd kept ended → WritesOwn m.config t Unwritable given taken
 own_unwritten stays m t k k' ended given taken kept new ran done =
     subst (λ trace. IsBeginning taken (own_of m.config t (lines_of_trace trace))) (append-nil given)
     (own_begins stays m t k k' ended given [] taken kept new ran done (λ _. refl))
 
 -- the outcome of the run
 pub own_written : EndedLinesStay → (m : Machine) (t : ℕ) (k k' : Parts) (ended : Bool) (given taken : List ℕ) (kept : Result (Unit {0}) KeepError) (unsent flushed : Bool)
-    → IsNew m k → Keeps ended t k k' given taken kept → IsDone kept ended → WritesOwn m.config t (outcome_of_kept kept unsent flushed) given taken
+    → IsNew m k → KeepsOwn ended t k k' given taken kept → IsKeptToEnd kept ended → WritesOwn m.config t (outcome_of_kept kept unsent flushed) given taken
 own_written stays m t k k' ended given taken (Ok x) unsent true new ran done = ran.1 _ new.shows ∙ at_order m t k (lines_of_trace given) new
 own_written stays m t k k' ended given taken (Ok x) unsent false new ran done = own_unwritten stays m t k k' ended given taken (Ok x) new ran done
 own_written stays m t k k' ended given taken (Err Kept.Feed) true flushed new ran done = own_unwritten stays m t k k' ended given taken (Err Kept.Feed) new ran done
@@ -140,7 +140,7 @@ own_written stays m t k k' ended given taken (Err Kept.Drain) unsent flushed new
 
 -- what the run was of the trace
 pub own_traced : EndedLinesStay → (m : Machine) (t : ℕ) (k k' : Parts) (ended : Bool) (given taken : List ℕ) (kept : Result (Unit {0}) KeepError) (unsent flushed : Bool)
-    (known left : Option (List ℕ)) → IsNew m k → Keeps ended t k k' given taken kept → IsDone kept ended → Consumes known left given → (ended ≡ true → IsAtEnd left)
+    (known left : Option (List ℕ)) → IsNew m k → KeepsOwn ended t k k' given taken kept → IsKeptToEnd kept ended → Consumes known left given → (ended ≡ true → IsAtEnd left)
     → IfSome known (λ trace. IsOwnOfTrace m.config t (outcome_of_kept kept unsent flushed) trace given taken)
 own_traced stays m t k k' ended given taken kept unsent flushed known left new ran done consumed over =
     of_trace (λ trace. IsOwnOfTrace m.config t (outcome_of_kept kept unsent flushed) trace given taken) known left ended given consumed over

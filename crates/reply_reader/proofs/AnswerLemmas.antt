@@ -14,14 +14,14 @@ use Rattle.words_core.specs.declared.reply.Addressee.TheVariants.{Admin, Nobody,
 use Rattle.words_core.specs.declared.reply.Reply.{Reply}
 use Rattle.reply_reader.specs.Ranges.{AddresseeFits, Fits}
 use Rattle.reply_reader.specs.Forms.{◌>>=◌, number_at, mark_at, form_at}
-use Rattle.reply_reader.specs.Reading.{made_at, ◌or_else◌, tenant_of, admin_of, nobody_of, tenant_at, admin_at, nobody_at, addressee_at, whole, said_at, answer_of}
+use Rattle.reply_reader.specs.Reading.{made_at, ◌or_else◌, tenant_from, admin_of, nobody_of, tenant_at, admin_at, nobody_at, addressee_at, whole, said_at, answer_of}
 use Rattle.reply_reader.proofs.FormLemmas.{bind_some}
 use Rattle.reply_reader.proofs.KindLemmas.{kind_takes, kind_again, either, small_one, below}
 use Rattle.reply_reader.proofs.SaidLemmas.{spelled, said_takes, said_again}
 
 tenant_takes : (text : List ℕ) (who : Addressee) (rest : List ℕ) → tenant_at text ≡ Some (who, rest) → text ≡ addressee_text who ++ rest
 unfolding tenant_at
-tenant_takes = kind_takes (codes "#> ") tenant_of addressee_text (λ ns x count made.
+tenant_takes = kind_takes (codes "#> ") tenant_from addressee_text (λ ns x count made.
     ap addressee_text (sym (cond_some (nat_lt (get_or ns 0 0) (2 ^ 8)) (Tenant (get_or ns 0 0)) x made).1))
 
 admin_takes : (text : List ℕ) (who : Addressee) (rest : List ℕ) → admin_at text ≡ Some (who, rest) → text ≡ addressee_text who ++ rest
@@ -42,7 +42,7 @@ addressee_takes text who rest e =
 tenant_again : (tenant : ℕ) (rest : List ℕ) → tenant < 2 ^ 8 → tenant_at (addressee_text (Tenant tenant) ++ rest) ≡ Some (Tenant tenant, rest)
 unfolding tenant_at
 tenant_again tenant rest small =
-    kind_again (codes "#> ") tenant_of (Tenant tenant) (tenant ∷ []) rest refl refl (small_one tenant (omega arith))
+    kind_again (codes "#> ") tenant_from (Tenant tenant) (tenant ∷ []) rest refl refl (small_one tenant (omega arith))
     (ap (λ t. cond t (Some (Tenant tenant)) None) (below tenant (2 ^ 8) small))
 
 pub addressee_again : (who : Addressee) (rest : List ℕ) → AddresseeFits who → addressee_at (addressee_text who ++ rest) ≡ Some (who, rest)

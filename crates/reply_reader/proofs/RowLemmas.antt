@@ -11,7 +11,7 @@ use Rattle.model_core.specs.declared.report.CacheRow.{CacheRow}
 use Rattle.reply_reader.specs.Ranges.{OwnerFits, OrderFits, CacheFits}
 use Rattle.reply_reader.specs.Forms.{◌>>=◌, number_at, mark_at, form_at}
 use Rattle.reply_reader.specs.Reading.{made_at, ◌or_else◌}
-use Rattle.reply_reader.specs.Tables.{after_front, then_rows, rows_from, order_of, order_at, cache_row_of, cache_row_at, unowned_of, owned_of, unowned_at, owned_at, owner_of, owner_at}
+use Rattle.reply_reader.specs.Tables.{after_front, then_rows, rows_from, order_row_of, order_at, cache_row_of, cache_row_at, unowned_of, owned_of, unowned_at, owned_at, owner_of, owner_at}
 use Rattle.reply_reader.proofs.FormLemmas.{bind_some, same_byte, itself, form_text, form_takes, form_again}
 use Rattle.reply_reader.proofs.KindLemmas.{kind_takes, kind_again, either, first_is, two, three, five, small_one, small_more, below}
 
@@ -88,10 +88,10 @@ pub order_takes : (front : List ℕ) (order : ℕ) (text : List ℕ) (row : Orde
 unfolding order_at
 order_takes front order text row rest e =
     let form = codes "order # free # taken #\n" in
-    let (line, line_is, next) = bind_some (after_front front text) (λ rest. made_at form (order_of order) rest) (row, rest) e in
+    let (line, line_is, next) = bind_some (after_front front text) (λ rest. made_at form (order_row_of order) rest) (row, rest) e in
     front_takes front text line line_is
     ∙ ap (λ t. front ++ t)
-    (kind_takes form (order_of order) (order_line order) (λ ns x count made.
+    (kind_takes form (order_row_of order) (order_line order) (λ ns x count made.
     let found : OrderRow = record { free = get_or ns 1 0; taken = get_or ns 2 0 } in
     let (same, is) = cond_some (get_or ns 0 0 == order) found x made in
     ap (order_line order) (sym is)
@@ -104,9 +104,9 @@ pub order_again : (front : List ℕ) (order : ℕ) (row : OrderRow) (rest : List
 unfolding order_at
 order_again front order row rest small fits =
     let form = codes "order # free # taken #\n" in
-    ap (λ t. after_front front t >>= (λ rest. made_at form (order_of order) rest)) (append_assoc front (order_line order row) rest)
-    ∙ ap (λ found. found >>= (λ rest. made_at form (order_of order) rest)) (front_again front (order_line order row ++ rest))
-    ∙ kind_again form (order_of order) row (order ∷ row.free ∷ row.taken ∷ []) rest refl refl
+    ap (λ t. after_front front t >>= (λ rest. made_at form (order_row_of order) rest)) (append_assoc front (order_line order row) rest)
+    ∙ ap (λ found. found >>= (λ rest. made_at form (order_row_of order) rest)) (front_again front (order_line order row ++ rest))
+    ∙ kind_again form (order_row_of order) row (order ∷ row.free ∷ row.taken ∷ []) rest refl refl
     (small_more order (row.free ∷ row.taken ∷ []) (omega arith) (small_more row.free (row.taken ∷ []) fits.0 (small_one row.taken fits.1)))
     (ap (λ test. cond test (Some row) None) (itself order))
 

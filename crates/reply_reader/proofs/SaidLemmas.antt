@@ -21,7 +21,7 @@ use Rattle.words_core.specs.declared.reply.Refusal.TheVariants.{NoFrames, BadOrd
 use Rattle.hex.specs.Hex.{encode_lower, decode_of, is_hex_digit, IsBytes}
 use Rattle.reply_reader.specs.declared.said.TheConstants.{REFUSALS}
 use Rattle.reply_reader.specs.Forms.{◌>>=◌, mark_at, form_at}
-use Rattle.reply_reader.specs.Reading.{made_at, ◌or_else◌, bytes_again, bytes_of, bytes_at, said_at, frame_of, freed_of, written_of, cache_of, destroyed_of, object_of, given_of, reaped_of, frame_at, freed_at, written_at, cache_at, destroyed_at, object_at, given_at, reaped_at, refusal_of, refused_at}
+use Rattle.reply_reader.specs.Reading.{made_at, ◌or_else◌, bytes_again, bytes_of, bytes_at, said_at, frame_of, freed_of, written_of, cache_from, destroyed_of, object_of, given_of, reaped_of, frame_at, freed_at, written_at, cache_at, destroyed_at, object_at, given_at, reaped_at, refusal_of, refused_at}
 use Rattle.reply_reader.proofs.FormLemmas.{bind_some, both, same_byte, size_of, form_text, form_takes, form_again}
 use Rattle.reply_reader.proofs.KindLemmas.{either, kind_takes, kind_again, two, three, five, small_one, small_more, below}
 
@@ -60,7 +60,7 @@ freed_again n rest small =
 
 pub cache_takes : (text : List ℕ) (said : Said) (rest : List ℕ) → cache_at text ≡ Some (said, rest) → text ≡ spelled said ++ rest
 unfolding cache_at
-cache_takes = kind_takes (codes "cache # chunk # order # objects # colours #\n") cache_of spelled (λ ns x count made.
+cache_takes = kind_takes (codes "cache # chunk # order # objects # colours #\n") cache_from spelled (λ ns x count made.
     let said = Cache (get_or ns 0 0) (get_or ns 1 0) (get_or ns 2 0) (get_or ns 3 0) (get_or ns 4 0) in
     let (test, is) = cond_some (nat_lt (get_or ns 0 0) (2 ^ 8) && nat_lt (get_or ns 2 0) (2 ^ 8)) said x made in
     ap spelled (sym is) ∙ ap (form_text (codes "cache # chunk # order # objects # colours #\n")) (five ns count))
@@ -69,7 +69,7 @@ pub cache_again : (a b c d e : ℕ) (rest : List ℕ) → a < 2 ^ 8 → b < 2 ^ 
     → cache_at (spelled (Cache a b c d e) ++ rest) ≡ Some (Cache a b c d e, rest)
 unfolding cache_at
 cache_again a b c d e rest small_a small_b small_c small_d small_e =
-    kind_again (codes "cache # chunk # order # objects # colours #\n") cache_of (Cache a b c d e) (a ∷ b ∷ c ∷ d ∷ e ∷ []) rest refl refl
+    kind_again (codes "cache # chunk # order # objects # colours #\n") cache_from (Cache a b c d e) (a ∷ b ∷ c ∷ d ∷ e ∷ []) rest refl refl
     (small_more a (b ∷ c ∷ d ∷ e ∷ []) (omega arith) (small_more b (c ∷ d ∷ e ∷ []) small_b (small_more c (d ∷ e ∷ []) (omega arith) (small_more d (e ∷ []) small_d (small_one e small_e)))))
     (λ i. cond (below a (2 ^ 8) small_a i && below c (2 ^ 8) small_c i) (Some (Cache a b c d e)) None)
 

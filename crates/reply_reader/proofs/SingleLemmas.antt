@@ -18,7 +18,7 @@ use Rattle.words_core.specs.declared.reply.Body.TheVariants.{Granted, TakenBack,
 use Rattle.reply_reader.specs.Ranges.{AddresseeFits, BodyFits, Fits, IsSingle}
 use Rattle.reply_reader.specs.Forms.{◌>>=◌, number_at, mark_at, form_at}
 use Rattle.reply_reader.specs.Reading.{made_at, ◌or_else◌, addressee_at, tenant_at, whole, said_at, written_at, bytes_at, frame_at, freed_at, object_at, given_at, refused_at, cache_at, destroyed_at, reaped_at, answer_of}
-use Rattle.reply_reader.specs.Single.{granted_of, taken_of, reset_of, moved_of, granted_at, taken_at, reset_at, moved_at, fault_at, some_fault_at, body_at, other_of, single_of}
+use Rattle.reply_reader.specs.Single.{granted_of, taken_back_of, reset_of, moved_of, granted_at, taken_at, reset_at, moved_at, fault_at, some_fault_at, body_at, other_of, single_of}
 use Rattle.reply_reader.proofs.FormLemmas.{bind_some, form_text, form_takes}
 use Rattle.reply_reader.proofs.KindLemmas.{kind_takes_with, kind_again, either, two, three, small_one, small_more, below}
 use Rattle.reply_reader.proofs.SaidLemmas.{ended_again}
@@ -76,14 +76,14 @@ moved_again a b c rest small_a small_b small_c =
 
 taken_takes : (text : List ℕ) (body : Body) (rest : List ℕ) → taken_at text ≡ Some (body, rest) → Takes text body rest
 unfolding taken_at
-taken_takes = kind_takes_with (codes "taken superblock #\n") taken_of told IsOther (λ ns x count made.
+taken_takes = kind_takes_with (codes "taken superblock #\n") taken_back_of told IsOther (λ ns x count made.
     let (test, is) = cond_some (nat_lt (get_or ns 0 0) (2 ^ 16)) (TakenBack (get_or ns 0 0)) x made in
     (ap told (sym is), subst IsOther is tt))
 
 taken_again : (a : ℕ) (rest : List ℕ) → a < 2 ^ 16 → taken_at (told (TakenBack a) ++ rest) ≡ Some (TakenBack a, rest)
 unfolding taken_at
 taken_again a rest small =
-    kind_again (codes "taken superblock #\n") taken_of (TakenBack a) (a ∷ []) rest refl refl (small_one a (omega arith))
+    kind_again (codes "taken superblock #\n") taken_back_of (TakenBack a) (a ∷ []) rest refl refl (small_one a (omega arith))
     (ap (λ t. cond t (Some (TakenBack a)) None) (below a (2 ^ 16) small))
 
 reset_takes : (text : List ℕ) (body : Body) (rest : List ℕ) → reset_at text ≡ Some (body, rest) → Takes text body rest

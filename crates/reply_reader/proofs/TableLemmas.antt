@@ -20,7 +20,7 @@ use Rattle.words_core.specs.declared.reply.Body.TheVariants as Say
 use Rattle.reply_reader.specs.Ranges.{AddresseeFits, OwnerFits, OrderFits, CacheFits, ReportFits, BodyFits, Fits}
 use Rattle.reply_reader.specs.Forms.{◌>>=◌, number_at, mark_at, form_at}
 use Rattle.reply_reader.specs.Reading.{made_at, ◌or_else◌, addressee_at, whole}
-use Rattle.reply_reader.specs.Tables.{after_front, rows_from, order_of, order_at, cache_row_of, cache_row_at, top_of, no_top_of, top_at, no_top_at, some_top_at, report_at, owner_of, owner_at, pool_at, table_of}
+use Rattle.reply_reader.specs.Tables.{after_front, rows_from, order_row_of, order_at, cache_row_of, cache_row_at, top_of, no_top_of, top_at, no_top_at, some_top_at, report_at, owner_of, owner_at, pool_at, table_of}
 use Rattle.reply_reader.proofs.FormLemmas.{bind_some, both, same_byte, itself, form_text, form_takes, form_again}
 use Rattle.reply_reader.proofs.KindLemmas.{kind_takes, kind_again, either, two, three, small_one, small_more, below}
 use Rattle.reply_reader.proofs.AnswerLemmas.{addressee_takes, addressee_again, whole_is, line_of_two, line_of_five}
@@ -207,12 +207,12 @@ nothing_again front next none = step (bytes_eq (take (length front) []) front) w
 
 no_order : (front : List ℕ) (order : ℕ) (rows : List CacheRow) → order_at front order (shown (show_cache front) 0 rows ++ []) ≡ None
 unfolding order_at form_at mark_at
-no_order front order [] = nothing_again front (λ rest. made_at (codes "order # free # taken #\n") (order_of order) rest) refl
+no_order front order [] = nothing_again front (λ rest. made_at (codes "order # free # taken #\n") (order_row_of order) rest) refl
 no_order front order (row ∷ rows) =
     let others = shown (show_cache front) 1 rows in
-    ap (λ t. after_front front t >>= (λ rest. made_at (codes "order # free # taken #\n") (order_of order) rest))
+    ap (λ t. after_front front t >>= (λ rest. made_at (codes "order # free # taken #\n") (order_row_of order) rest))
     (append-nil ((front ++ cache_line row) ++ others) ∙ append_assoc front (cache_line row) others)
-    ∙ ap (λ found. found >>= (λ rest. made_at (codes "order # free # taken #\n") (order_of order) rest)) (front_again front (cache_line row ++ others))
+    ∙ ap (λ found. found >>= (λ rest. made_at (codes "order # free # taken #\n") (order_row_of order) rest)) (front_again front (cache_line row ++ others))
 
 no_cache : (front : List ℕ) (index : ℕ) → cache_row_at front [] ≡ None
 unfolding cache_row_at form_at mark_at

@@ -39,8 +39,8 @@ freed_of ns = if nat_lt (slice_index ns 0) (2 ^ 8) then Some (Freed (slice_index
 abbrev pub written_of : List ℕ → Option Said
 written_of ns = Some (Written (slice_index ns 0))
 
-abbrev pub cache_of : List ℕ → Option Said
-cache_of ns =
+abbrev pub cache_from : List ℕ → Option Said
+cache_from ns =
     if nat_lt (slice_index ns 0) (2 ^ 8) && nat_lt (slice_index ns 2) (2 ^ 8)
     then Some (Cache (slice_index ns 0) (slice_index ns 1) (slice_index ns 2) (slice_index ns 3) (slice_index ns 4))
     else None
@@ -67,7 +67,7 @@ unfoldable pub written_at : List ℕ → Option (Said × List ℕ)
 written_at text = made_at (codes "written #\n") written_of text
 
 unfoldable pub cache_at : List ℕ → Option (Said × List ℕ)
-cache_at text = made_at (codes "cache # chunk # order # objects # colours #\n") cache_of text
+cache_at text = made_at (codes "cache # chunk # order # objects # colours #\n") cache_from text
 
 unfoldable pub destroyed_at : List ℕ → Option (Said × List ℕ)
 destroyed_at text = made_at (codes "destroyed #\n") destroyed_of text
@@ -117,8 +117,8 @@ said_at text =
 
 -- ---- whom it is for
 
-abbrev pub tenant_of : List ℕ → Option Addressee
-tenant_of ns = if nat_lt (slice_index ns 0) (2 ^ 8) then Some (Tenant (slice_index ns 0)) else None
+abbrev pub tenant_from : List ℕ → Option Addressee
+tenant_from ns = if nat_lt (slice_index ns 0) (2 ^ 8) then Some (Tenant (slice_index ns 0)) else None
 
 abbrev pub admin_of : List ℕ → Option Addressee
 admin_of ns = Some Admin
@@ -127,7 +127,7 @@ abbrev pub nobody_of : List ℕ → Option Addressee
 nobody_of ns = Some Nobody
 
 unfoldable pub tenant_at : List ℕ → Option (Addressee × List ℕ)
-tenant_at text = made_at (codes "#> ") tenant_of text
+tenant_at text = made_at (codes "#> ") tenant_from text
 
 unfoldable pub admin_at : List ℕ → Option (Addressee × List ℕ)
 admin_at text = made_at (codes "admin> ") admin_of text

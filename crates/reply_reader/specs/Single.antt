@@ -17,8 +17,8 @@ granted_of ns =
     if nat_lt (slice_index ns 0) (2 ^ 8) && (nat_lt (slice_index ns 1) (2 ^ 16) && nat_lt (slice_index ns 2) (2 ^ 16))
     then Some (Granted (slice_index ns 0) (slice_index ns 1) (slice_index ns 2)) else None
 
-abbrev pub taken_of : List ℕ → Option Body
-taken_of ns = if nat_lt (slice_index ns 0) (2 ^ 16) then Some (TakenBack (slice_index ns 0)) else None
+abbrev pub taken_back_of : List ℕ → Option Body
+taken_back_of ns = if nat_lt (slice_index ns 0) (2 ^ 16) then Some (TakenBack (slice_index ns 0)) else None
 
 abbrev pub reset_of : List ℕ → Option Body
 reset_of ns =
@@ -34,7 +34,7 @@ unfoldable pub granted_at : List ℕ → Option (Body × List ℕ)
 granted_at text = made_at (codes "granted # slot # superblock #\n") granted_of text
 
 unfoldable pub taken_at : List ℕ → Option (Body × List ℕ)
-taken_at text = made_at (codes "taken superblock #\n") taken_of text
+taken_at text = made_at (codes "taken superblock #\n") taken_back_of text
 
 unfoldable pub reset_at : List ℕ → Option (Body × List ℕ)
 reset_at text = made_at (codes "reset # superblocks #\n") reset_of text

@@ -31,11 +31,11 @@ rows_from row_at (suc most) index text = then_rows (row_at index text) text (λ 
 
 -- ---- a report
 
-abbrev pub order_of : ℕ → List ℕ → Option OrderRow
-order_of order ns = if slice_index ns 0 == order then Some (record { free = slice_index ns 1; taken = slice_index ns 2 }) else None
+abbrev pub order_row_of : ℕ → List ℕ → Option OrderRow
+order_row_of order ns = if slice_index ns 0 == order then Some (record { free = slice_index ns 1; taken = slice_index ns 2 }) else None
 
 unfoldable pub order_at : List ℕ → ℕ → List ℕ → Option (OrderRow × List ℕ)
-order_at front order text = after_front front text >>= (λ rest. made_at (codes "order # free # taken #\n") (order_of order) rest)
+order_at front order text = after_front front text >>= (λ rest. made_at (codes "order # free # taken #\n") (order_row_of order) rest)
 
 abbrev pub cache_row_of : List ℕ → Option CacheRow
 cache_row_of ns =

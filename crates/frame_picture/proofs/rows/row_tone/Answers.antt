@@ -2,7 +2,7 @@ use Rattle.std.proofs.Common.{◌≡◌, ℕ, ◌-◌, List, slice_index, ap, �
 use Rattle.parts_core.specs.declared.frames.FrameKind.{FrameKind}
 use Rattle.frame_picture.specs.Kinds.{rank_of}
 use Rattle.frame_picture.specs.Rows.{row_cells, first_of, end_of, kind_count}
-use Rattle.frame_picture.specs.Tones.{taken_of, quarters_of}
+use Rattle.frame_picture.specs.Tones.{taken_cells, quarters_of}
 use Rattle.frame_picture.proofs.RowLemmas.{drawn_along, taken_along}
 use Rattle.frame_picture.proofs.rows.row_tone.Goals as goal
 
@@ -21,5 +21,5 @@ returns c = λ _.
       share = λ short. c.tone_of.ensures.share
           ∙ ap (λ taken. quarters_of taken (c.frames_of-frames.result.end - c.frames_of-frames.result.start))
           (taken_along count known (λ k less. c.row_counts-counts.ensures.kinds k less short))
-          ∙ ap (quarters_of (taken_of known)) same;
+          ∙ ap (quarters_of (taken_cells known)) same;
     }

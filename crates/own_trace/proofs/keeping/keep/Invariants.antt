@@ -1,13 +1,13 @@
 use Rattle.std.proofs.Common.{◌≡◌, ◌+◌, false, List, [], ℕ, length}
 use Rattle.std.specs.Io.KnownBytes.{Consumes}
-use Rattle.own_trace.specs.Keeping.{Stands}
+use Rattle.own_trace.specs.Keeping.{StandsOwn}
 use Rattle.own_trace.proofs.keeping.keep.Given as goal
 
 abbrev pub invariant-pulls : goal.invariant-pulls
 invariant-pulls g l =
     (given : List ℕ) × Consumes (g.F.Feed.remaining l.fn.feed) (g.F.Feed.remaining l.feed) given
     × (g.F.Feed.room_left l.feed + length given ≡ g.F.Feed.room_left l.fn.feed)
-    × Stands l.tenant l.fn.kernel l.kernel given [] (g.D.Drain.contents l.fn.drain) (g.D.Drain.contents l.drain) l.pending
+    × StandsOwn l.tenant l.fn.kernel l.kernel given [] (g.D.Drain.contents l.fn.drain) (g.D.Drain.contents l.drain) l.pending
     × (g.F.Feed.has_failed l.feed ≡ false) × (g.D.Drain.has_failed l.drain ≡ false)
 
 abbrev pub decreases-pulls : goal.decreases-pulls
