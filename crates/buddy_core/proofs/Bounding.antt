@@ -30,17 +30,17 @@ module _ {superblocks : List StoredSuperblock} {tenants : List StoredTenant} {ba
       listed : t < length bands
       listed = omega (arith, bounded.size)
 
-      each : (v j u i : ℕ) → superblock_at (stored_tenant v tenants) u ≡ Some i → HasBit superblocks i j → (v ≡ t) ⊎ (v ≡ t → ⊥) → bit_at (slice_index (get_or (set bands t words) v []) j) (u / 16) ≡ 1
+      each : (v j u i : ℕ) → superblock_at (stored_tenant v tenants) u ≡ Some i → HasBit superblocks i j → (v ≡ t) ⊎ (v ≡ t → ⊥) → bit_at (slice_index (get_or (set bands t words) v []) j) (u / 8) ≡ 1
       each v j u i at bit (inl e) =
-          ap (λ (ws : List ℕ). bit_at (get_or ws j 0) (u / 16)) (ap (λ n. get_or (set bands t words) n []) e ∙ get_or-set_same bands t words [] listed)
+          ap (λ (ws : List ℕ). bit_at (get_or ws j 0) (u / 8)) (ap (λ n. get_or (set bands t words) n []) e ∙ get_or-set_same bands t words [] listed)
           ∙ told j u i (ap (λ n. superblock_at (stored_tenant n tenants) u) (sym e) ∙ at) bit
-      each v j u i at bit (inr ne) = ap (λ (ws : List ℕ). bit_at (get_or ws j 0) (u / 16)) (get_or-set_other bands t v words [] ne) ∙ bounded.each v j u i at bit
+      each v j u i at bit (inr ne) = ap (λ (ws : List ℕ). bit_at (get_or ws j 0) (u / 8)) (get_or-set_other bands t v words [] ne) ∙ bounded.each v j u i at bit
 
   -- one superblock changes, and its orders are noted
   module _ (top m t slot : ℕ) (s : StoredSuperblock) (tenant : StoredTenant) (words : List ℕ) (listed : t < length tenants) (m_lt : m < length superblocks)
       (kept : IsKept top (set superblocks m s) (set tenants t tenant)) (here : superblock_at tenant slot ≡ Some m)
       (others : (u : ℕ) → (u ≡ slot → ⊥) → superblock_at tenant u ≡ superblock_at (stored_tenant t tenants) u)
-      (noted : (j : ℕ) → bit_at (slice_index s.tree.words 0) j ≡ 1 → bit_at (slice_index words j) (slot / 16) ≡ 1)
+      (noted : (j : ℕ) → bit_at (slice_index s.tree.words 0) j ≡ 1 → bit_at (slice_index words j) (slot / 8) ≡ 1)
       (before : List ℕ) (told : IsBounded superblocks (stored_tenant t tenants).slots before) (more : (b j : ℕ) → bit_at (slice_index before b) j ≡ 1 → bit_at (slice_index words b) j ≡ 1) where
     tenant_same : (v : ℕ) → v ≡ t → stored_tenant v (set tenants t tenant) ≡ tenant
     tenant_same v e = ap (λ n. stored_tenant n (set tenants t tenant)) e ∙ get_or-set_same tenants t tenant blank_of listed
@@ -50,20 +50,20 @@ module _ {superblocks : List StoredSuperblock} {tenants : List StoredTenant} {ba
         ap (λ (ws : List ℕ). bit_at (get_or ws b 0) j) (ap (λ n. get_or (set bands t words) n []) e ∙ get_or-set_same bands t words [] (let lt : t < length bands = omega (arith, bounded.size) in lt)) ∙ bit
 
     each : (v j u i : ℕ) → superblock_at (stored_tenant v (set tenants t tenant)) u ≡ Some i → HasBit (set superblocks m s) i j → (i ≡ m) ⊎ (i ≡ m → ⊥) → (v ≡ t) ⊎ (v ≡ t → ⊥)
-        → bit_at (slice_index (get_or (set bands t words) v []) j) (u / 16) ≡ 1
+        → bit_at (slice_index (get_or (set bands t words) v []) j) (u / 8) ≡ 1
     each v j u i at bit (inl e) _ =
         let same = kept.apart v u t slot m (at ∙ ap Some e) (ap (λ r. superblock_at r slot) (tenant_same t refl) ∙ here) in
         let now = ap (λ n. superblock_of n (set superblocks m s)) e ∙ get_or-set_same superblocks m s bare_of m_lt in
-        words_same v j (u / 16) same.0
-        (ap (λ n. bit_at (get_or words j 0) (n / 16)) same.1 ∙ noted j (ap (λ (z : StoredSuperblock). bit_at (get_or z.tree.words 0 0) j) (sym now) ∙ bit))
+        words_same v j (u / 8) same.0
+        (ap (λ n. bit_at (get_or words j 0) (n / 8)) same.1 ∙ noted j (ap (λ (z : StoredSuperblock). bit_at (get_or z.tree.words 0 0) j) (sym now) ∙ bit))
     each v j u i at bit (inr off) (inl e) =
         let mine = ap (λ r. superblock_at r u) (sym (tenant_same v e)) ∙ at in
         let elsewhere = λ (same : u ≡ slot). off (same_Some i m (sym mine ∙ ap (superblock_at tenant) same ∙ here)) in
-        words_same v j (u / 16) e
-        (more j (u / 16)
+        words_same v j (u / 8) e
+        (more j (u / 8)
         (told j u i (sym (others u elsewhere) ∙ mine) (ap (λ (z : StoredSuperblock). bit_at (get_or z.tree.words 0 0) j) (sym (get_or-set_other superblocks m i s bare_of off)) ∙ bit)))
     each v j u i at bit (inr off) (inr ne) =
-        ap (λ (ws : List ℕ). bit_at (get_or ws j 0) (u / 16)) (get_or-set_other bands t v words [] ne)
+        ap (λ (ws : List ℕ). bit_at (get_or ws j 0) (u / 8)) (get_or-set_other bands t v words [] ne)
         ∙ bounded.each v j u i (ap (λ r. superblock_at r u) (sym (get_or-set_other tenants t v tenant blank_of ne)) ∙ at)
         (ap (λ (z : StoredSuperblock). bit_at (get_or z.tree.words 0 0) j) (sym (get_or-set_other superblocks m i s bare_of off)) ∙ bit)
 

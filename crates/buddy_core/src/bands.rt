@@ -7,10 +7,10 @@ ghost use Rattle.model_core.specs.declared.limits.TheConstants.{MOST_SUPERBLOCKS
 use std::marker::Model;
 
 /// So many slots that follow one another are a band.
-pub const BAND: usize = 16;
+pub const BAND: usize = 8;
 
 /// So many bands have all slots of a tenant: a bit of a word for each.
-pub const BANDS: usize = 16;
+pub const BANDS: usize = 32;
 
 /// Orders are below this number.
 pub const ORDERS: usize = 16;
@@ -19,7 +19,7 @@ pub const ORDERS: usize = 16;
 /// such block went, until a search finds none.
 #[derive(Debug, Drop)]
 pub struct Bands {
-    words: [u16; ORDERS],
+    words: [u32; ORDERS],
 }
 
 impl Model for Bands {
@@ -31,9 +31,9 @@ impl Model for Bands {
 }
 
 /// The place of the lowest 1.
-fn lowest(word: u16) -> usize
+fn lowest(word: u32) -> usize
     requires { word ≢ 0 }
-    ensures bound { result < 16 }
+    ensures bound { result < 32 }
     ensures set { bit_at word result ≡ 1 }
     ensures below { (b : ℕ) → b < result → bit_at word b ≡ 1 → ⊥ }
 {

@@ -57,8 +57,8 @@ invariant_of-self c =
       bounded_noted c.self.invariant.1 a.order c.args.m c.args.t c.args.slot c.fill.new.self c.add_slot.new.self c.note.new.self s.listed m_lt kept
           (ap (λ (r : StoredTenant). get_or r.slots c.args.slot None) written ∙ get_or-set_same slots c.args.slot (Some c.args.m) None inside)
           (λ u ne. ap (λ (r : StoredTenant). get_or r.slots u None) written ∙ get_or-set_other slots c.args.slot u (Some c.args.m) None ne)
-          (λ j bit. subst (λ i. bit_at (slice_index c.note.new.self i) (c.args.slot / 16) ≡ 1) (sym (bit_apart a.order j (ap (λ w. bit_at w j) (sym root) ∙ bit)))
-          (subst (λ n. bit_at (slice_index c.note.new.self a.order) (n / 16) ≡ 1) c.from.ensures c.note.ensures.noted))
+          (λ j bit. subst (λ i. bit_at (slice_index c.note.new.self i) (c.args.slot / 8) ≡ 1) (sym (bit_apart a.order j (ap (λ w. bit_at w j) (sym root) ∙ bit)))
+          (subst (λ n. bit_at (slice_index c.note.new.self a.order) (n / 8) ≡ 1) c.from.ensures c.note.ensures.noted))
           c.index_mut-2.result.now (subst (λ (ws : List ℕ). IsBounded a.superblocks.items slots ws) (sym band) (c.self.invariant.1.each c.args.t)) c.note.ensures.kept,
     )
 

@@ -180,7 +180,7 @@ invariant_of-self c =
     let told = subst (λ (ws : List ℕ). IsBounded a.superblocks.items (stored_tenant c.args.t a.tenants.items).slots ws) (sym band) (c.self.invariant.1.each c.args.t) in
     let order = joined g.After-release_at-joined at in
     let orders = released_orders c.self.invariant.0 at c.release_at-joined.new.self c.count_released.new.self (release g.After-count_released at order (tenant_read g.After-index_mut-2 at.listed)) in
-    let band_of = c.args.frame / 2 ^ a.order / 16 in (
+    let band_of = c.args.frame / 2 ^ a.order / 8 in (
       kept,
       bounded_noted c.self.invariant.1 a.order c.in_ok-m.m c.args.t (c.args.frame / 2 ^ a.order) c.release_at-joined.new.self c.count_released.new.self c.note.new.self at.listed m_lt kept
           (ap (λ (ss : List (Option ℕ)). get_or ss (c.args.frame / 2 ^ a.order) None) step.slots ∙ at.slot) (λ u ne. ap (λ (ss : List (Option ℕ)). get_or ss u None) step.slots)

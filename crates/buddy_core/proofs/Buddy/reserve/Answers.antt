@@ -224,8 +224,8 @@ invariant_of-self-2 c =
       bounded_noted c.self.invariant.1 a.order p.superblock c.args.t p.slot c.reserve_at.new.self c.count_reserved.new.self c.note_halves.new.self listed (superblock_lt c.self.invariant.0 at) kept
           (ap (λ (ss : List (Option ℕ)). get_or ss p.slot None) step.slots ∙ at.source.at) (λ u ne. ap (λ (ss : List (Option ℕ)). get_or ss u None) step.slots)
           (λ j bit. elim (orders j bit) [
-            | inl was ↦ c.note_halves.ensures.kept j (p.slot / 16) (bounded j p.slot p.superblock at.source.at was)
-            | inr half ↦ subst (λ n. bit_at (slice_index c.note_halves.new.self j) (n / 16) ≡ 1) c.from-slot.ensures (c.note_halves.ensures.noted j half.0 half.1)
+            | inl was ↦ c.note_halves.ensures.kept j (p.slot / 8) (bounded j p.slot p.superblock at.source.at was)
+            | inr half ↦ subst (λ n. bit_at (slice_index c.note_halves.new.self j) (n / 8) ≡ 1) c.from-slot.ensures (c.note_halves.ensures.noted j half.0 half.1)
           ])
           c.find.new.bands bounded c.note_halves.ensures.kept,
     )

@@ -33,8 +33,8 @@ returns-in-Some-clause-found c =
       first = λ u m lt there bit.
           let listed = same u ∙ there in
           let bit' = subst (HasBit c.args.superblocks.now m) order bit in
-          elim (cases_lt (u / 16) c.in_ok-band.band) [
-            | inl before ↦ c.in_ok-band.ensures.2 (u / 16) before (c.loop-look.invariant.0 c.in_ok-order.order u m listed bit')
+          elim (cases_lt (u / 8) c.in_ok-band.band) [
+            | inl before ↦ c.in_ok-band.ensures.2 (u / 8) before (c.loop-look.invariant.0 c.in_ok-order.order u m listed bit')
             | inr past ↦ here.4 u m (omega (arith, here.3)) lt listed bit'
           ];
     }
@@ -43,12 +43,12 @@ pub returns-in_err-band-clause-found : goal.returns-in_err-band-clause-found
 returns-in_err-band-clause-found c =
     let has = (c.requires.counted c.in_ok-order.order).0 c.in_ok-order.ensures.2 in
     let at = c.held-slots.ensures.same has.0 ∙ has.2 in
-    absurd (c.in_err-band.ensures (has.0 / 16) (c.loop-look.invariant.0 c.in_ok-order.order has.0 has.1 at has.3))
+    absurd (c.in_err-band.ensures (has.0 / 8) (c.loop-look.invariant.0 c.in_ok-order.order has.0 has.1 at has.3))
 
 pub loop-look-preserved : goal.loop-look-preserved
 loop-look-preserved c =
     let xs = c.args.superblocks.now in (
-      λ j u m at bit. c.strike.ensures.kept j (u / 16) (λ same here. c.in_default.ensures u m here at (subst (HasBit xs m) same bit)) (c.loop-look.invariant.0 j u m at bit),
+      λ j u m at bit. c.strike.ensures.kept j (u / 8) (λ same here. c.in_default.ensures u m here at (subst (HasBit xs m) same bit)) (c.loop-look.invariant.0 j u m at bit),
       λ b lt set. elim (cases_lt b c.in_ok-band.band) [
         | inl before ↦ c.in_ok-band.ensures.2 b before (c.strike.ensures.fewer c.in_ok-order.order b set)
         | inr past ↦
@@ -65,5 +65,5 @@ pub returns-clause-found : goal.returns-clause-found
 returns-clause-found c =
     let has = (c.requires.counted c.in_ok-order.order).0 c.in_ok-order.ensures.2 in
     let at = c.held-slots.ensures.same has.0 ∙ has.2 in
-    absurd (c.loop-look.invariant.1 (has.0 / 16) (let lt = slot_within c.held-slots.result.now has.0 has.1 at in let few = c.held-slots.ensures.few in omega arith)
+    absurd (c.loop-look.invariant.1 (has.0 / 8) (let lt = slot_within c.held-slots.result.now has.0 has.1 at in let few = c.held-slots.ensures.few in omega arith)
     (c.loop-look.invariant.0 c.in_ok-order.order has.0 has.1 at has.3))

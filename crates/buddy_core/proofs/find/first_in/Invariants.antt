@@ -5,4 +5,4 @@ use Rattle.buddy_core.proofs.find.first_in.Given as goal
 
 -- no superblock under an earlier slot of the band has a free block of the order
 abbrev pub invariant-loop-slot : goal.invariant-loop-slot
-invariant-loop-slot l = (u m : ℕ) → l.band * 16 ≤ u → u < l.slot → slice_index_or l.slots u None ≡ Some m → HasBit l.superblocks m l.order → ⊥
+invariant-loop-slot l = (u m : ℕ) → l.band * 8 ≤ u → u < l.slot → slice_index_or l.slots u None ≡ Some m → HasBit l.superblocks m l.order → ⊥

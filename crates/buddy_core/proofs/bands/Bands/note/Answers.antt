@@ -16,16 +16,16 @@ pub returns-clause-noted : goal.returns-clause-noted
 returns-clause-noted c =
     let words = c.self.inside.words in
     let lt : c.args.order < length words = omega (arith, c.self.told, c.requires.order) in
-    let band = c.args.slot / 16 in
-    let bit = 1 * 2 ^ band % 65536 in
-    let same : bit ≡ 2 ^ band = one_shl band 16 (omega (arith, c.requires.slot)) in
+    let band = c.args.slot / 8 in
+    let bit = 1 * 2 ^ band % 4294967296 in
+    let same : bit ≡ 2 ^ band = one_shl band 32 (omega (arith, c.requires.slot)) in
     ap (λ w. bit_at w band) (get_or-set_same words c.args.order (bit_or (get_or words c.args.order 0) bit) 0 lt)
     ∙ or_right (get_or words c.args.order 0) bit band (ap (λ w. bit_at w band) same ∙ bit_at-pow_same band)
 
 pub returns-clause-kept : goal.returns-clause-kept
 returns-clause-kept c j b bit =
     let words = c.self.inside.words in
-    let bit' = 1 * 2 ^ (c.args.slot / 16) % 65536 in
+    let bit' = 1 * 2 ^ (c.args.slot / 8) % 4294967296 in
     let word = bit_or (get_or words c.args.order 0) bit' in
     let lt : c.args.order < length words = omega (arith, c.self.told, c.requires.order) in
     let was : bit_at (get_or words j 0) b ≡ 1 = subst (λ (ws : List ℕ). bit_at (get_or ws j 0) b ≡ 1) (sym c.self.view_is) bit in
