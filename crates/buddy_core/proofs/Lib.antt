@@ -14,6 +14,7 @@ pub mod BlockSteps
 pub mod TenantCounts
 pub mod Reserving
 pub mod Releasing
+pub mod BlocksAround
 pub mod SlotSteps
 pub mod Granting
 pub mod Dropping

@@ -15,7 +15,7 @@ use Rattle.buddy_core.specs.Tree.{Shows, IsLess}
 use Rattle.buddy_core.specs.Counts.{IsTakenOut}
 use Rattle.buddy_core.specs.Stored.{StoredSuperblock, StoredTenant, superblock_of, stored_tenant, superblock_at, held_by, order_under, taken_by, holding_shown}
 use Rattle.buddy_core.specs.Kept.{IsKept, IsTenantKept}
-use Rattle.buddy_core.proofs.ContentShown.{taken_shown, IsShown, slot_read, size_is, slot_within}
+use Rattle.buddy_core.proofs.ContentShown.{taken_shown, IsShown, size_is, slot_within}
 use Rattle.buddy_core.proofs.TenantCounts.{table_size, count_set, order_here, taken_bit}
 use Rattle.model_core.proofs.Counting.{bit}
 use Rattle.buddy_core.proofs.Counting.{free_balance, half_counts}
@@ -40,18 +40,18 @@ pub record IsAt (top : ℕ) (superblocks : List StoredSuperblock) (tenants : Lis
   pub whole : frame / 2 ^ top * 2 ^ top + x ≡ frame
 
 -- what begins at a frame of the tenant: what its slot's superblock has there
-pub begins_at : (top : ℕ) (superblocks : List StoredSuperblock) (tenants : List StoredTenant) → top ≤ 8 → (t : ℕ) (now : Content) → IsShown top superblocks tenants t now → (frame : ℕ) (tenant : StoredTenant) → tenant ≡ get_or tenants t tenant
-    → (o : Option ℕ) → o ≡ superblock_at tenant (frame / 2 ^ top) → order_under superblocks o (frame % (1 * 2 ^ top % 2 ^ 32)) ≡ taken_of (holding_of t now) frame
-begins_at top superblocks tenants small t now s frame tenant read o slot =
+pub begins_at : (top : ℕ) (superblocks : List StoredSuperblock) (tenants : List StoredTenant) → top ≤ 8 → (t : ℕ) (now : Content) → IsShown top superblocks tenants t now → (frame : ℕ)
+    → (o : Option ℕ) → superblock_at (stored_tenant t tenants) (frame / 2 ^ top) ≡ o → order_under superblocks o (frame % (1 * 2 ^ top % 2 ^ 32)) ≡ taken_of (holding_of t now) frame
+begins_at top superblocks tenants small t now s frame o slot =
     ap (λ n. order_under superblocks o (frame % n)) (size_is top small)
-    ∙ sym (ap (λ p. order_under superblocks p (frame % 2 ^ top)) (slot_read tenants t tenant s.listed read (frame / 2 ^ top) o slot))
+    ∙ sym (ap (λ p. order_under superblocks p (frame % 2 ^ top)) slot)
     ∙ sym (ap (λ (T : Taken). T frame) s.taken)
 
-pub at_frame : (top : ℕ) (superblocks : List StoredSuperblock) (tenants : List StoredTenant) → top ≤ 8 → (t : ℕ) (now : Content) → IsShown top superblocks tenants t now → (frame k m x : ℕ) (tenant : StoredTenant) → tenant ≡ get_or tenants t tenant
-    → Some m ≡ superblock_at tenant (frame / 2 ^ top) → Some k ≡ taken_of (holding_of t now) frame → x ≡ frame % (1 * 2 ^ top % 2 ^ 32) → IsAt top superblocks tenants t frame k m x
-at_frame top superblocks tenants small t now s frame k m x tenant read slot begins rest = record {
+pub at_frame : (top : ℕ) (superblocks : List StoredSuperblock) (tenants : List StoredTenant) → top ≤ 8 → (t : ℕ) (now : Content) → IsShown top superblocks tenants t now → (frame k m x : ℕ)
+    → superblock_at (stored_tenant t tenants) (frame / 2 ^ top) ≡ Some m → Some k ≡ taken_of (holding_of t now) frame → x ≡ frame % (1 * 2 ^ top % 2 ^ 32) → IsAt top superblocks tenants t frame k m x
+at_frame top superblocks tenants small t now s frame k m x slot begins rest = record {
   listed = s.listed;
-  slot = slot_read tenants t tenant s.listed read (frame / 2 ^ top) (Some m) slot;
+  slot = slot;
   inside = subst (λ n. n < 2 ^ top) (sym x_is) (mod_below frame (2 ^ top) (pow_pos top));
   here = ap (taken_by top superblocks (stored_tenant t tenants)) is_frame ∙ sym (ap (λ (T : Taken). T frame) s.taken) ∙ sym begins;
   whole = is_frame;

@@ -211,6 +211,18 @@ impl Buddy {
         ensures done { OnSome result (self.new ≡ with_holding t (without_block frame (holding_of t self.old)) self.old) }
     {
         let m = self.tenants[t as usize].superblock_at(frame >> self.order)?;
+        self.release_in(m, t, frame)
+    }
+
+    /// As [`Buddy::release`], where the caller knows that superblock `m` stands there.
+    #[inline(always)]
+    pub fn release_in(&mut self, m: u16, t: u8, frame: u32) -> Option<u8>
+        requires tenant { t < length self.old.tenants }
+        requires under { superblock_at (holding_of t self.old) (frame / 2 ^ self.old.top) ≡ Some m }
+        ensures answer { result ≡ taken_of (holding_of t self.old) frame }
+        ensures refused { IfNone result (self.new ≡ self.old) }
+        ensures done { OnSome result (self.new ≡ with_holding t (without_block frame (holding_of t self.old)) self.old) }
+    {
         let first = frame % (1 << self.order);
         let k = self.superblocks[m as usize].order_at(first)?;
         let joined = self.superblocks[m as usize].release_at(first, k);
@@ -236,6 +248,18 @@ impl Buddy {
             (λ b. (taken_of (holding_of t self.now) b.0 ≡ Some b.1) × HasFrame (block b.0 b.1) frame) }
     {
         let m = self.tenants[t as usize].superblock_at(frame >> self.order)?;
+        self.block_in(m, t, frame)
+    }
+
+    /// As [`Buddy::block_of`], where the caller knows that superblock `m` stands there; `t` is named for the contract alone.
+    #[inline(always)]
+    pub fn block_in(&self, m: u16, t: u8, frame: u32) -> Option<(u32, u8)>
+        requires tenant { t < length self.now.tenants }
+        requires under { superblock_at (holding_of t self.now) (frame / 2 ^ self.now.top) ≡ Some m }
+        ensures { MatchOption result (IsTaken (taken_of (holding_of t self.now)) frame → ⊥)
+            (λ b. (taken_of (holding_of t self.now) b.0 ≡ Some b.1) × HasFrame (block b.0 b.1) frame) }
+    {
+        let _ = t;
         let superblock = &self.superblocks[m as usize];
         for k in 0..=self.order {
             let first = frame >> k << k;

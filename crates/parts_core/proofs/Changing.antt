@@ -1,6 +1,8 @@
 -- What the parts lend of a tenant, and what a change of its slots leaves.
-use Rattle.std.proofs.Common.{◌≡◌, ℕ, ◌<◌, ◌≤◌, None, [], length, slice_index_or, refl, sym, ap, subst, arith}
+use Rattle.std.proofs.Common.{◌≡◌, ◌⊎◌, inl, inr, ◌∙◌, ℕ, ◌<◌, ◌≤◌, Some, None, [], length, slice_index_or, refl, sym, ap, subst, arith}
+use Rattle.std.proofs.lemmas.Bool.{cases_lt}
 use Rattle.std.proofs.lemmas.List.{length-set, get_or_past}
+use Rattle.parts_laws.proofs.Lookups.{some_none}
 use Rattle.space_core.specs.Content as spaces
 use Rattle.buddy_core.specs.Content as buddies
 use Rattle.slab_tables.specs.Content as tables
@@ -48,3 +50,11 @@ known r b s k t is less = subst (λ (x : Parts). t < x.tenants) (sym is) less
 pub same_sizes : (r r' : spaces.Content) (b : buddies.Content) (s s' : tables.Content) (t : ℕ) (h : buddies.Holding)
     → SameSizes (parts_of r b s) (parts_of r' (buddies.with_holding t h b) s')
 same_sizes r r' b s s' t h = record { order = refl; superblocks = refl; tenants = length-set b.tenants t h }
+
+-- a superblock that stands under a slot is there
+pub superblock_there : (r : spaces.Content) → spaces.IsSpace r → (t u m : ℕ) → spaces.superblock_at r.slots t u ≡ Some m → m < length r.owners
+superblock_there r facts t u m at = go (cases_lt m (length r.owners))
+  where
+    go : (m < length r.owners) ⊎ (length r.owners ≤ m) → m < length r.owners
+    go (inl less) = less
+    go (inr past) = absurd (some_none (sym ((facts.agree t u m).0 at) ∙ get_or_past r.owners m None past))

@@ -1,5 +1,7 @@
 -- Page blocks taken and released: steps of the private machine.
-use Rattle.std.proofs.Common.{◌≡◌, ℕ, ◌≤◌, nat_lt, true, false, if◌then◌else◌, Option, Some, None, IfNone, OnSome, Err, OnErr, ok_or, refl, sym, ap, ◌∙◌, subst}
+use Rattle.std.proofs.Common.{◌≡◌, ℕ, ◌/◌, ◌^◌, ◌≤◌, nat_lt, true, false, if◌then◌else◌, Option, Some, None, IfNone, OnSome, Err, OnErr, ok_or, refl, sym, ap, ◌∙◌, subst}
+use Rattle.model_core.specs.Blocks.{block, HasFrame}
+use Rattle.model_core.proofs.BlocksByNumber.{number_of_frame, same_slot}
 use Rattle.model_core.specs.Machine.{Machine, order_in}
 use Rattle.model_core.specs.Slabs.{by_need, choice_by_need}
 use Rattle.model_core.specs.Operations.{Step, alloc_at, alloc_step, free_step, without_block}
@@ -9,7 +11,10 @@ use Rattle.buddy_core.specs.Content as buddies
 use Rattle.slab_tables.specs.Content as tables
 use Rattle.parts_laws.specs.Pages.{released}
 use Rattle.parts_laws.proofs.PageTaken.{released_shows, released_agrees}
-use Rattle.parts_laws.specs.Shows.{Agree, node_of, has_slab}
+use Rattle.parts_laws.specs.Shows.{Agree, frame_under, node_of, has_slab}
+use Rattle.parts_laws.specs.Steady.{IsSteady}
+use Rattle.std.specs.Prelude.{is_some}
+use Rattle.std.proofs.lemmas.Bool.{false≢true}
 use Rattle.parts_laws.specs.Keeps.{Spares}
 use Rattle.parts_core.specs.Parts.{Parts, parts_of}
 use Rattle.parts_core.specs.Shows.{ShowsMachine}
@@ -68,6 +73,24 @@ freed_is f o m is = rw is refl
 not_freed : (f : ℕ) (m : Machine) → order_in m.blocks f ≡ None → free_step f m ≡ record { answer = None; machine = m }
 unfolding free_step
 not_freed f m is = rw is refl
+
+-- a taken block lies in the slot of each of its frames
+pub block_slot : (r : spaces.Content) (b : buddies.Content) (s : tables.Content) (t first order x : ℕ) → IsSteady r b s t
+    → buddies.taken_of (buddies.holding_of t b) first ≡ Some order → HasFrame (block first order) x → first / 2 ^ s.top ≡ x / 2 ^ s.top
+block_slot r b s t first order x st taken here =
+    let placed = st.sound.placed first order taken in
+    sym (same_slot s.top order x first placed.0.0 (number_of_frame first order x placed.0.1 here))
+
+-- the slot is not held
+pub free_unheld : (r : spaces.Content) (b : buddies.Content) (s : tables.Content) (t f : ℕ) → IsSteady r b s t
+    → spaces.superblock_at r.slots t (f / 2 ^ s.top) ≡ None → Does (parts_of r b s) t (free_step f) r.owners (parts_of r b s) None
+free_unheld r b s t f st none = does_nothing (parts_of r b s) t (free_step f) None
+    (λ m shown. not_freed f m
+    (shown.blocks f ∙ ap (λ o. if has_slab s (frame_under s.top f o) then None else buddies.taken_of (buddies.holding_of t b) f) none ∙ go (buddies.taken_of (buddies.holding_of t b) f) refl))
+  where
+    go : (o : Option ℕ) → buddies.taken_of (buddies.holding_of t b) f ≡ o → buddies.taken_of (buddies.holding_of t b) f ≡ None
+    go None is = is
+    go (Some k) is = absurd (false≢true (sym (ap is_some none) ∙ (st.sound.placed f k is).1))
 
 -- at the frame begins a slab
 pub free_slab : (k : Parts) (t f : ℕ) → has_slab k.slabs (node_of k.slabs.top k.space.slots t f) ≡ true

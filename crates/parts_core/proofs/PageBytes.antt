@@ -1,5 +1,6 @@
 -- Bytes read and written: steps of the private machine.
-use Rattle.std.proofs.Common.{◌≡◌, ℕ, ◌<◌, ◌≤◌, ◌%◌, ◌&&◌, nat_le, Bool, true, false, Option, Some, None, Ok, Err, IsSome, List, length, filter_map, refl, sym, ap, subst}
+use Rattle.std.proofs.Common.{◌≡◌, ℕ, ◌/◌, ◌^◌, ◌<◌, ◌≤◌, if◌then◌else◌, ◌∙◌, ◌&&◌, nat_le, Bool, true, false, Option, Some, None, Ok, Err, IsSome, List, length, filter_map, refl, sym, ap, subst}
+use Rattle.std.specs.Prelude.{is_some}
 use Rattle.std.specs.List.{range_with_len}
 use Rattle.std.proofs.lemmas.Bool.{false≢true, le-leb, leb-true, and_parts, and_from, false_from_ne_true}
 use Rattle.model_core.specs.Machine.{Machine}
@@ -7,7 +8,8 @@ use Rattle.model_core.specs.Operations.{Step, read_step, write_step, written}
 use Rattle.model_core.specs.Reach.{in_reach}
 use Rattle.model_core.specs.declared.refusals.ReadRefusal.{ReadRefusal}
 use Rattle.space_core.specs.Content as spaces
-use Rattle.space_core.specs.Windows.{home_of, window_of, bytes_under}
+use Rattle.parts_laws.proofs.SlotChanged.{slot_by_unit}
+use Rattle.space_core.specs.Windows.{is_in_slot, home_of, window_of}
 use Rattle.buddy_core.specs.Content as buddies
 use Rattle.slab_tables.specs.Content as tables
 use Rattle.parts_laws.specs.Steady.{IsSteady}
@@ -23,13 +25,21 @@ use Rattle.parts_core.specs.Does.{Does}
 use Rattle.parts_core.proofs.Calls.{does_called, does_nothing}
 use Rattle.parts_core.proofs.Changing.{steady}
 
-pub false_is : (b : Bool) → b ≡ false → b ≡ true → ⊥
-false_is b isnt is = cc
-
 -- parts that hold together, where this tenant is there
 pub record IsAsked (r : spaces.Content) (b : buddies.Content) (s : tables.Content) (t : ℕ) : Type 0 where
   pub together : HoldTogether r b s
   pub tenant : t < length b.tenants
+
+-- the superblock under a range stands under the slot of its first place
+pub under_home : (r : spaces.Content) (t place len m : ℕ) → home_of r t place len ≡ Some m → spaces.superblock_at r.slots t (place / r.unit) ≡ Some m
+under_home r t place len m = go (is_in_slot r.unit place len)
+  where
+    under : Bool → Option ℕ
+    under v = if v then spaces.superblock_at r.slots t (place / r.unit) else None
+
+    go : (v : Bool) → under v ≡ Some m → spaces.superblock_at r.slots t (place / r.unit) ≡ Some m
+    go true is = is
+    go false is = absurd (some_none (sym is))
 
 module _ (r : spaces.Content) (b : buddies.Content) (s : tables.Content) (t place len : ℕ) (asked : IsAsked r b s t) where
   lent : IsSteady r b s t
@@ -44,6 +54,28 @@ module _ (r : spaces.Content) (b : buddies.Content) (s : tables.Content) (t plac
   -- a range in reach lies in one held slot
   pub held : IsInReach r b s t place len → IsSome (home_of r t place len)
   held reach = reach_held r b s t place len asked.together.agree lent reach
+
+  abbrev under : Bool → Option ℕ
+  under v = if v then spaces.superblock_at r.slots t (place / r.unit) else None
+
+  slot_is : spaces.superblock_at r.slots t (place / r.unit) ≡ spaces.superblock_at r.slots t (place / 4096 / 2 ^ s.top)
+  slot_is = ap (spaces.superblock_at r.slots t) (slot_by_unit r.unit s.top place asked.together.agree.unit)
+
+  -- .. so none that begins in a slot that is not held is in reach ..
+  pub not_held : spaces.superblock_at r.slots t (place / 4096 / 2 ^ s.top) ≡ None → IsInReach r b s t place len → ⊥
+  not_held none reach = go (is_in_slot r.unit place len) (held reach)
+    where
+      go : (v : Bool) → IsSome (under v) → ⊥
+      go true is = false≢true (sym (ap is_some (slot_is ∙ none)) ∙ is)
+      go false is = false≢true is
+
+  -- .. and it lies in the superblock that stands there
+  pub home_is : (m : ℕ) → spaces.superblock_at r.slots t (place / 4096 / 2 ^ s.top) ≡ Some m → IsInReach r b s t place len → home_of r t place len ≡ Some m
+  home_is m at reach = go (is_in_slot r.unit place len) (held reach)
+    where
+      go : (v : Bool) → IsSome (under v) → under v ≡ Some m
+      go true is = slot_is ∙ at
+      go false is = absurd (false≢true is)
 
 -- .. which is so of the fields of parts where it is so of the parts
 pub asked_opened : (r : spaces.Content) (b : buddies.Content) (s : tables.Content) (k : Parts) (t : ℕ) → parts_of r b s ≡ k → IsAsked k.space k.buddy k.slabs t
@@ -84,14 +116,6 @@ pub read_beyond : (k : Parts) (t place len : ℕ) → IsAsked k.space k.buddy k.
     → (IsInReach k.space k.buddy k.slabs t place len → ⊥) → Does k t (read_step place len) k.space.owners k (Err ReadRefusal.OutOfReach)
 read_beyond k t place len asked low high beyond = does_nothing k t (read_step place len) (Err ReadRefusal.OutOfReach)
     (λ m shown. beyond_is place len m (good_length len low high) (out_of_reach k.space k.buddy k.slabs t place len asked m shown beyond))
-
--- a range in one held slot has a window
-pub window_some : (r : spaces.Content) (t place len : ℕ) → IsSome (home_of r t place len) → window_of r t place len ≡ None → ⊥
-window_some r t place len = go (home_of r t place len)
-  where
-    go : (o : Option ℕ) → IsSome o → bytes_under r.banks (place % r.unit) len o ≡ None → ⊥
-    go None is e = false≢true is
-    go (Some m) is e = some_none e
 
 pub read_done : (k : Parts) (t place len : ℕ) (xs : List ℕ) → IsAsked k.space k.buddy k.slabs t → 1 ≤ len → len ≤ 64
     → IsInReach k.space k.buddy k.slabs t place len → window_of k.space t place len ≡ Some xs

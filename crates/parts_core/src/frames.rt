@@ -78,8 +78,20 @@ impl Parts {
         ensures below { IfSome result (λ node. node < length self.now.slabs.lists.places) }
     {
         self.laws();
+        let superblock = self.space.machine_of(t, frame >> self.order())?;
+        Some(self.node_in(superblock, t, frame))
+    }
+
+    /// As `node_of`, where the caller knows that this superblock stands under the slot; `t` is named for the contract alone.
+    #[inline(always)]
+    pub(crate) fn node_in(&self, superblock: u16, t: u8, frame: u32) -> u32
+        requires { superblock_at self.now t (frame / 2 ^ self.now.order) ≡ Some superblock }
+        ensures value { node_of self.now.slabs.top self.now.space.slots t frame ≡ Some result }
+        ensures below { result < length self.now.slabs.lists.places }
+    {
+        let _ = t;
+        self.laws();
         let order = self.order();
-        let superblock = self.space.machine_of(t, frame >> order)?;
-        Some((u32::from(superblock) << order) + frame % (1 << order))
+        (u32::from(superblock) << order) + frame % (1 << order)
     }
 }

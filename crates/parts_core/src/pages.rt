@@ -1,10 +1,12 @@
 //! Page blocks and bytes of a tenant.
 
-ghost use Rattle.std.specs.Prelude.{◌≡◌, ◌↔◌, true, ◌<◌, ◌≤◌, length, IfOk, IfErr, IfNone, IfSome, OnErr, IsSome};
+ghost use Rattle.std.specs.Prelude.{◌≡◌, ◌↔◌, true, ◌*◌, ◌/◌, ◌^◌, ◌<◌, ◌≤◌, Some, length, IfOk, IfErr, IfNone, IfSome, OnErr, MatchOption};
 ghost use Rattle.model_core.specs.Operations.{alloc_step, free_step, read_step, write_step};
 ghost use Rattle.parts_laws.specs.Pages.{IsInReach};
 ghost use Rattle.parts_laws.specs.Slots.{HoldTogether};
-ghost use Rattle.space_core.specs.Windows.{home_of, with_window};
+ghost use Rattle.space_core.specs.Windows.{home_of, window_of, with_window};
+ghost use Rattle.parts_core.specs.Parts.{superblock_at};
+ghost use Rattle.model_core.specs.declared.limits.TheConstants.{MOST_ORDER};
 ghost use Rattle.parts_core.specs.Does.{Does};
 
 use crate::Parts;
@@ -37,10 +39,13 @@ impl Parts {
         ensures does { Does self.old t (free_step frame) self.old.space.owners self.new result }
         ensures refused { IfNone result (self.new ≡ self.old) }
     {
-        if self.slabs.is_slab(&self.space, t, frame) {
+        self.laws();
+        let superblock = self.space.machine_of(t, frame >> self.order())?;
+        let node = self.node_in(superblock, t, frame);
+        if self.slabs.is_slab(node) {
             return None;
         }
-        self.buddy.release(t, frame)
+        self.buddy.release_in(superblock, t, frame)
     }
 
     /// Lends the `len` bytes from `place` on, where they lie; `BadLength` but for 1 to 64 of them.
@@ -54,13 +59,10 @@ impl Parts {
         if len < 1 || len > MOST_BYTES as u32 {
             return Err(ReadRefusal::BadLength);
         }
-        if !self.is_in_reach(t, place, len) {
+        let Some(superblock) = self.reached(t, place, len) else {
             return Err(ReadRefusal::OutOfReach);
-        }
-        let Some(bytes) = self.space.window(t, place, len) else {
-            unreachable!()
         };
-        Ok(bytes)
+        Ok(lent(&self.space, superblock, self.order(), t, place, len))
     }
 
     /// Stores at most 64 bytes from `place` on, and answers how many. None, and nothing is stored, where they do not lie inside one
@@ -74,44 +76,86 @@ impl Parts {
         ensures refused { IfNone result (self.new ≡ self.old) }
     {
         let len = bytes.len() as u32;
-        if !self.is_in_reach(t, place, len) {
-            return None;
-        }
-        store(&mut self.space, t, place, bytes);
+        let superblock = self.reached(t, place, len)?;
+        store(&mut self.space, superblock, t, place, bytes);
         Some(len)
     }
 
-    /// Whether a range has a byte and lies inside one live page block or inside one live object of tenant `t`.
-    fn is_in_reach(&self, t: u8, place: u32, len: u32) -> bool
+    /// The superblock that has a range of tenant `t`; None where the range has no byte, or does not lie inside one live page
+    /// block or inside one live object.
+    #[inline(always)]
+    fn reached(&self, t: u8, place: u32, len: u32) -> Option<u16>
         requires { t < self.now.tenants }
-        ensures reach { (result ≡ true) ↔ IsInReach self.now.space self.now.buddy self.now.slabs t place len }
+        ensures reach { MatchOption result (IsInReach self.now.space self.now.buddy self.now.slabs t place len → ⊥)
+            (λ m. IsInReach self.now.space self.now.buddy self.now.slabs t place len × (home_of self.now.space t place len ≡ Some m)) }
         ensures together { HoldTogether self.now.space self.now.buddy self.now.slabs }
         ensures known { t < length self.now.buddy.tenants }
+    {
+        self.laws();
+        let slot = place / FRAME_BYTES >> self.order();
+        let superblock = self.space.machine_of(t, slot)?;
+        if !self.is_in_reach(superblock, t, place, len) {
+            return None;
+        }
+        Some(superblock)
+    }
+
+    /// Whether a range of tenant `t` has a byte and lies inside one live page block or inside one live object. The caller
+    /// knows that this superblock stands under the slot of its first byte.
+    #[inline(always)]
+    fn is_in_reach(&self, superblock: u16, t: u8, place: u32, len: u32) -> bool
+        requires tenant { t < self.now.tenants }
+        requires under { superblock_at self.now t (place / FRAME_BYTES / 2 ^ self.now.order) ≡ Some superblock }
+        ensures { (result ≡ true) ↔ IsInReach self.now.space self.now.buddy self.now.slabs t place len }
     {
         self.laws();
         if len == 0 {
             return false;
         }
-        let Some((first, order)) = self.buddy.block_of(t, place / FRAME_BYTES) else {
+        let Some((first, order)) = self.buddy.block_in(superblock, t, place / FRAME_BYTES) else {
             return false;
         };
-        if self.slabs.is_slab(&self.space, t, first) {
-            return self
-                .slabs
-                .object_in(&self.space, &self.buddy, t, first, order, place, len);
+        let node = self.node_in(superblock, t, first);
+        if self.slabs.is_slab(node) {
+            return self.slabs.object_in(
+                &self.space,
+                &self.buddy,
+                t,
+                first,
+                node,
+                order,
+                place,
+                len,
+            );
         }
         let end = u64::from(place) + u64::from(len);
         end <= u64::from(FRAME_BYTES) * (u64::from(first) + (1 << order))
     }
 }
 
-/// Writes bytes over a range of tenant `t` that lies in one slot.
-fn store(space: &mut Space, t: u8, place: u32, bytes: &[u8])
-    requires tenant { t < length space.old.slots }
+/// The bytes of a range of tenant `t` that lies in this superblock, which has `2^order` frames; `t` is named for the contract alone.
+#[inline(always)]
+fn lent(space: &Space, superblock: u16, order: u8, t: u8, place: u32, len: u32) -> &[u8]
+    requires order { order ≤ MOST_ORDER }
+    requires unit { space.now.unit ≡ FRAME_BYTES * 2 ^ order }
+    requires home { home_of space.now t place len ≡ Some superblock }
+    ensures value { window_of space.now t place len ≡ Some result.now }
+    ensures len { length result.now ≡ len }
+{
+    let _ = t;
+    space.laws();
+    let from = (place % (FRAME_BYTES << order)) as usize;
+    &space.machine_bytes(superblock)[from..from + len as usize]
+}
+
+/// Writes bytes over a range of tenant `t` that lies in this superblock.
+fn store(space: &mut Space, superblock: u16, t: u8, place: u32, bytes: &[u8])
     requires few { length bytes.now ≤ MOST_BYTES }
-    requires in_reach { IsSome (home_of space.old t place (length bytes.now)) }
+    requires home { home_of space.old t place (length bytes.now) ≡ Some superblock }
     ensures { space.new ≡ with_window space.old t place (length bytes.now) bytes.now }
 {
     let len = bytes.len() as u32;
-    space.window_mut(t, place, len).copy_from_slice(bytes);
+    space
+        .window_in(superblock, t, place, len)
+        .copy_from_slice(bytes);
 }

@@ -1,6 +1,6 @@
 -- How many frames the empty slabs have.
 use Rattle.std.proofs.Common.{◌≡◌, ℕ, ◌+◌, ◌*◌, ◌%◌, ◌^◌, ◌<◌, ◌≤◌, cond, ltb, List, [], ◌∷◌, ◌++◌, map, length, Some, None, refl, sym, ap, ◌∙◌, inl, inr, ⊎_elim, arith}
-use Rattle.std.specs.Prelude.{option_map, filter, flat_map}
+use Rattle.std.specs.Prelude.{filter, flat_map}
 use Rattle.std.proofs.lemmas.Bool.{cases_eq, cases_lt, lt-ltb, le-ltb}
 use Rattle.std.proofs.lemmas.List.{length-map}
 use Rattle.std.proofs.Math.Nat.{pow-le-pow_right, mul-le-mul_left}
@@ -18,9 +18,9 @@ use Rattle.space_core.specs.Content as spaces
 use Rattle.buddy_core.specs.Content as buddies
 use Rattle.slab_tables.specs.declared.cache.Cache as own
 use Rattle.slab_tables.specs.Content.{Content, IsSlabs, cache_at, head_of, layout_numbers}
-use Rattle.parts_laws.specs.Shows.{ShowsMachine, Agree, bare}
+use Rattle.parts_laws.specs.Shows.{ShowsMachine, Agree}
 use Rattle.parts_laws.specs.Steady.{IsSteady}
-use Rattle.parts_laws.proofs.Facts.{cache_shown, cache_kept, none_mapped}
+use Rattle.parts_laws.proofs.Facts.{cache_shown, cache_kept}
 use Rattle.parts_laws.proofs.Steady.{in_table}
 use Rattle.parts_laws.proofs.KindLists.{kinds_hold}
 use Rattle.slab_core.specs.Calls.{empty_frames_in}

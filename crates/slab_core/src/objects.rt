@@ -70,16 +70,13 @@ impl Slabs {
         (node >> self.tables.order()) as u16
     }
 
-    /// Whether a slab begins at a frame of tenant `t`.
-    pub fn is_slab(&self, space: &Space, t: u8, frame: u32) -> bool
-        requires tenant { t < length space.now.slots }
-        requires nodes { length self.now.lists.places ≡ length space.now.owners * 2 ^ self.now.top }
-        ensures { result ≡ has_slab self.now (node_of self.now.top space.now.slots t frame) }
+    /// Whether a slab begins at a machine frame.
+    #[inline(always)]
+    pub fn is_slab(&self, node: u32) -> bool
+        requires { node < length self.now.lists.places }
+        ensures { result ≡ has_slab self.now (Some node) }
     {
-        match self.node(space, t, frame) {
-            None => false,
-            Some(node) => self.tables.place_of(node).is_some(),
-        }
+        self.tables.place_of(node).is_some()
     }
 
     /// Whether the slab at the node is one of cache `c` of tenant `t` and begins at the frame.

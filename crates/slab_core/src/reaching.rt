@@ -23,25 +23,28 @@ use space_core::Space;
 
 impl Slabs {
     /// Whether the `len` bytes of tenant `t` from a place on, at least one, lie inside one live object. The caller knows the taken
-    /// block that has the place: it begins at frame `first`, and is of this order.
+    /// block that has the place: it begins at frame `first`, which is the machine frame `node`, and is of this order.
     pub fn object_in(
         &self,
         space: &Space,
         buddy: &Buddy,
         t: u8,
         first: u32,
+        node: u32,
         order: u8,
         place: u32,
         len: u32,
     ) -> bool
         requires tenant { t < length space.now.slots }
         requires agree { Agree space.now buddy.now self.now }
+        requires node { node_of self.now.top space.now.slots t first ≡ Some node }
+        requires below { node < length self.now.lists.places }
         requires taken { taken_of (holding_of t buddy.now) first ≡ Some order }
         requires around { HasFrame (block first order) (place / FRAME_BYTES) }
         ensures { (result ≡ true) ↔ ((o : Found) × HasRange space.now self.now t place len o) }
     {
         self.laws_with(space, buddy, t);
-        self.object_over(space, buddy, t, first, order, place, len)
+        self.object_over(space, buddy, t, first, node, order, place, len)
             .is_some()
     }
 
@@ -52,6 +55,7 @@ impl Slabs {
         buddy: &Buddy,
         t: u8,
         first: u32,
+        node: u32,
         order: u8,
         place: u32,
         len: u32,
@@ -59,13 +63,15 @@ impl Slabs {
         requires tenant { t < length space.now.slots }
         requires parts { HoldTogether space.now buddy.now self.now }
         requires steady { IsSteady space.now buddy.now self.now t }
+        requires node { node_of self.now.top space.now.slots t first ≡ Some node }
+        requires below { node < length self.now.lists.places }
         requires taken { taken_of (holding_of t buddy.now) first ≡ Some order }
         requires around { HasFrame (block first order) (place / FRAME_BYTES) }
         ensures { MatchOption result (HasNone space.now self.now t place len)
             (λ o. (cache : own.Cache) × HasRange space.now self.now t place len (found cache o.first o.node o.index)) }
     {
         let _ = order;
-        let (c, node) = self.slab_at(space, buddy, t, first)?;
+        let c = self.slab_at(space, buddy, t, first, node)?;
         let cache = self.tables.cache(t, c).unwrap();
         let colour = u32::from(self.tables.kept_of(node).colour);
         let index = cache
@@ -79,16 +85,17 @@ impl Slabs {
         }
     }
 
-    /// The slab that begins at a frame of tenant `t`, if one does: the number of its cache, and its node.
-    fn slab_at(&self, space: &Space, buddy: &Buddy, t: u8, frame: u32) -> Option<(u32, u32)>
-        requires tenant { t < length space.now.slots }
+    /// The number of the cache of the slab that begins at a frame of tenant `t`, which is the machine frame `node`, if one does; the
+    /// rest is named for the contract alone.
+    fn slab_at(&self, space: &Space, buddy: &Buddy, t: u8, frame: u32, node: u32) -> Option<u32>
         requires parts { HoldTogether space.now buddy.now self.now }
         requires steady { IsSteady space.now buddy.now self.now t }
+        requires node { node_of self.now.top space.now.slots t frame ≡ Some node }
+        requires below { node < length self.now.lists.places }
         ensures { MatchOption result (has_slab self.now (node_of self.now.top space.now.slots t frame) ≡ false)
-            (λ p. (cache : own.Cache) × IsSlab space.now self.now t p.0 frame p.1 cache) }
+            (λ c. (cache : own.Cache) × IsSlab space.now self.now t c frame node cache) }
     {
-        let node = self.node(space, t, frame)?;
         let (number, _) = self.tables.place_of(node)?;
-        Some((ListId { number }.cache(), node))
+        Some(ListId { number }.cache())
     }
 }

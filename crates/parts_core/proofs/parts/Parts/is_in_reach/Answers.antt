@@ -1,4 +1,4 @@
-use Rattle.std.proofs.Common.{◌≡◌, ◌⊎◌, ℕ, ◌*◌, ◌^◌, ◌<◌, ◌≤◌, ◌%◌, Some, inl, inr, sym, ap, ◌∙◌, arith}
+use Rattle.std.proofs.Common.{◌≡◌, ◌⊎◌, ℕ, ◌*◌, ◌^◌, ◌<◌, ◌≤◌, ◌%◌, Some, inl, inr, sym, ap, ◌∙◌, subst, ◌/◌, arith}
 use Rattle.std.proofs.lemmas.Bool.{false≢true, le-leb, leb-true}
 use Rattle.std.proofs.Math.Nat.{pow-le-pow_right, mod-eq_of_lt}
 use Rattle.space_core.specs.Content as spaces
@@ -8,8 +8,12 @@ use Rattle.parts_laws.specs.Steady.{IsSteady}
 use Rattle.slab_core.proofs.ObjectReach.{no_block, no_slab}
 use Rattle.parts_laws.specs.Slots.{HoldTogether}
 use Rattle.parts_laws.proofs.PageBlocks.{block_tells, no_block_tells}
+use Rattle.parts_laws.specs.Shows.{node_of, has_slab}
+use Rattle.parts_core.specs.Parts.{Parts, superblock_at}
 use Rattle.parts_core.proofs.Changing.{steady, opened, known}
+use Rattle.parts_core.proofs.PageBlocks.{block_slot}
 use Rattle.parts_core.proofs.parts.Parts.is_in_reach.Goals as goal
+use Rattle.parts_core.proofs.parts.Parts.is_in_reach.Goals.{After-node_in-node, After-is_slab}
 
 -- neither of the two
 neither : {P Q : Type 0} → P ⊎ Q → (P → ⊥) → (Q → ⊥) → ⊥
@@ -48,17 +52,33 @@ small_is r b s t first order holds st taken =
       below = st.few first order taken;
     }
 
-lent : (c : goal.After-row_known-1) → IsSteady c.self.inside.space c.self.inside.buddy c.self.inside.slabs c.args.t
-lent c = steady _ _ _ c.args.t (opened _ _ _ _ c.self.view_is c.laws.ensures.together) (known _ _ _ _ c.args.t c.self.view_is c.requires)
+lent : (c : After-node_in-node) → IsSteady c.self.inside.space c.self.inside.buddy c.self.inside.slabs c.args.t
+lent c = steady _ _ _ c.args.t (opened _ _ _ _ c.self.view_is c.laws.ensures.together) (known _ _ _ _ c.args.t c.self.view_is c.requires.tenant)
 
-small : (c : goal.After-row_known-1) → IsSmall c.in-Some.first c.in-Some.order
+small : (c : After-node_in-node) → IsSmall c.in-Some.first c.in-Some.order
 small c = small_is c.self.inside.space c.self.inside.buddy c.self.inside.slabs c.args.t c.in-Some.first c.in-Some.order (opened _ _ _ _ c.self.view_is c.laws.ensures.together) (lent c) c.in-Some.ensures.0
 
-pub returns-in_default-clause-reach : goal.returns-in_default-clause-reach
-returns-in_default-clause-reach c =
+-- whether a slab begins at the block
+told : (c : After-is_slab) → has_slab c.self.inside.slabs (node_of c.self.inside.slabs.top c.self.inside.space.slots c.args.t c.in-Some.first) ≡ c.is_slab.result
+told c =
+    ap (has_slab c.self.inside.slabs) (ap (λ (k : Parts). node_of k.slabs.top k.space.slots c.args.t c.in-Some.first) c.self.view_is ∙ c.node_in-node.ensures.value)
+    ∙ sym c.is_slab.ensures
+
+-- it lies in the slot of the range
+pub node_in-node-requires : goal.node_in-node-requires
+node_in-node-requires c =
+    let k = c.self.inside in
+    let st : IsSteady k.space k.buddy k.slabs c.args.t = steady _ _ _ c.args.t (opened _ _ _ _ c.self.view_is c.laws.ensures.together) (known _ _ _ _ c.args.t c.self.view_is c.requires.tenant) in
+    let same = block_slot k.space k.buddy k.slabs c.args.t c.in-Some.first c.in-Some.order (c.args.place / 4096) st c.in-Some.ensures.0 c.in-Some.ensures.1 in
+    ap (superblock_at c.args.self.now c.args.t)
+    (subst (λ n. c.in-Some.first / 2 ^ n ≡ c.args.place / 4096 / 2 ^ n) (sym c.self.invariant.order ∙ ap (λ (x : Parts). x.order) c.self.view_is) same)
+    ∙ c.requires.under
+
+pub returns-in_default : goal.returns-in_default
+returns-in_default c =
     let x = c.args in
     let k = c.self.inside in
-    let lends : IsSteady k.space k.buddy k.slabs x.t = steady _ _ _ x.t (opened _ _ _ _ c.self.view_is c.laws.ensures.together) (known _ _ _ _ x.t c.self.view_is c.requires) in
+    let lends : IsSteady k.space k.buddy k.slabs x.t = steady _ _ _ x.t (opened _ _ _ _ c.self.view_is c.laws.ensures.together) (known _ _ _ _ x.t c.self.view_is c.requires.tenant) in
     rw (← c.self.view_is) (
       (λ e. absurd (false≢true e)),
       (λ reach. absurd (neither reach.inside
@@ -66,42 +86,45 @@ returns-in_default-clause-reach c =
           (λ o. no_block k.space k.buddy k.slabs x.t x.place x.len lends c.in_default.ensures o.0 o.1))),
     )
 
-pub returns-then-is_slab-clause-reach : goal.returns-then-is_slab-clause-reach
-returns-then-is_slab-clause-reach c =
+pub returns-then-is_slab : goal.returns-then-is_slab
+returns-then-is_slab c =
     let x = c.args in
     let k = c.self.inside in
-    let lends : IsSteady k.space k.buddy k.slabs x.t = steady _ _ _ x.t (opened _ _ _ _ c.self.view_is c.laws.ensures.together) (known _ _ _ _ x.t c.self.view_is c.requires) in
+    let lends : IsSteady k.space k.buddy k.slabs x.t = steady _ _ _ x.t (opened _ _ _ _ c.self.view_is c.laws.ensures.together) (known _ _ _ _ x.t c.self.view_is c.requires.tenant) in
     let some : 0 < x.len = omega arith in
     let tells = block_tells k.space k.buddy k.slabs x.t x.place x.len c.in-Some.first c.in-Some.order lends some
     c.in-Some.ensures.0 c.in-Some.ensures.1 in
     rw (← c.self.view_is) (
       (λ e. record { some = some; inside = inr (c.object_in.ensures.0 e) }),
-      (λ reach. c.object_in.ensures.1 (only_second reach.inside (λ page. false≢true (sym (tells.0 page).0 ∙ sym c.if-is_slab.ensures)))),
+      (λ reach. c.object_in.ensures.1 (only_second reach.inside (λ page. false≢true (sym (tells.0 page).0 ∙ (told (goal.at.returns-then-is_slab c).After-is_slab ∙ c.if-is_slab.true))))),
     )
 
 pub overflow_shl-result : goal.overflow_shl-result
-overflow_shl-result c = let is = (small c).few in omega arith
+overflow_shl-result c = let is = (small (goal.at.overflow_shl-result c).After-node_in-node).few in omega arith
 
 pub overflow_add-result : goal.overflow_add-result
 overflow_add-result c =
-    let is = small c in
+    let is = small (goal.at.overflow_add-result c).After-node_in-node in
     omega (arith, is.shift, is.frames, is.below, c.from-4.ensures)
 
 pub overflow_mul-result : goal.overflow_mul-result
 overflow_mul-result c =
-    let is = small c in
+    let is = small (goal.at.overflow_mul-result c).After-node_in-node in
     rw (c.from-3.ensures, c.from-4.ensures, is.shift) (omega (arith, is.frames, is.below))
 
-pub returns-clause-reach : goal.returns-clause-reach
-returns-clause-reach c =
+pub returns : goal.returns
+returns c =
     let x = c.args in
     let k = c.self.inside in
-    let is = small c in
+    let g = goal.at.returns c in
+    let lends = lent g.After-node_in-node in
+    let is = small g.After-node_in-node in
+    let page = told g.After-is_slab ∙ c.if-is_slab.false in
     let some : 0 < x.len = omega arith in
-    let tells = block_tells k.space k.buddy k.slabs x.t x.place x.len c.in-Some.first c.in-Some.order (lent c) some
+    let tells = block_tells k.space k.buddy k.slabs x.t x.place x.len c.in-Some.first c.in-Some.order lends some
     c.in-Some.ensures.0 c.in-Some.ensures.1 in
     rw (c.from.ensures, c.from-2.ensures, c.from-3.ensures, c.from-4.ensures, is.shift, ← c.self.view_is) (
-      (λ fits. record { some = some; inside = inl (tells.1 (sym c.if-is_slab.ensures, leb-true _ _ fits)) }),
+      (λ fits. record { some = some; inside = inl (tells.1 (page, leb-true _ _ fits)) }),
       (λ reach. le-leb _ _ (tells.0 (only_first reach.inside
-          (λ o. no_slab k.space k.buddy k.slabs x.t x.place x.len (lent c) c.in-Some.first c.in-Some.order c.in-Some.ensures.0 c.in-Some.ensures.1 (sym c.if-is_slab.ensures) o.0 o.1))).1),
+          (λ o. no_slab k.space k.buddy k.slabs x.t x.place x.len lends c.in-Some.first c.in-Some.order c.in-Some.ensures.0 c.in-Some.ensures.1 page o.0 o.1))).1),
     )

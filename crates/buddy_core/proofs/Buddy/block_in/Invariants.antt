@@ -1,6 +1,6 @@
 use Rattle.std.proofs.Common.{◌≡◌, ℕ, ◌*◌, ◌/◌, ◌^◌, ◌<◌, Some}
 use Rattle.buddy_core.specs.Content.{holding_of, taken_of}
-use Rattle.buddy_core.proofs.Buddy.block_of.Given as goal
+use Rattle.buddy_core.proofs.Buddy.block_in.Given as goal
 
 -- no taken block of a lower order begins where it would have to, to have the frame
 abbrev pub invariant-loop-k : goal.invariant-loop-k
