@@ -17,7 +17,7 @@ use Rattle.kernel_core.specs.Shows.{Shows}
 use Rattle.replay_core.specs.Standing.{AreLines}
 use Rattle.replay_core.proofs.LineLemmas.{lines_cut}
 use Rattle.partmem_c.specs.Lines.{AnswersLine}
-use Rattle.partmem_c.specs.Laws.{Call, lines_of_calls, texts_of, Ran, OwnLines, SameLines, StandsAfterCalls}
+use Rattle.partmem_c.specs.Laws.{Call, lines_of_calls, texts_of, Ran, OwnLinesOfCalls, SameLinesOfCalls, StandsAfterCalls}
 
 -- what a line with this reading does to a world, and what it shows of it
 record Follows (k k' : Parts) (reading : Result (Option Event) LineFault) (text : List ℕ) (w : World) : Type 0 where
@@ -87,13 +87,13 @@ output_is k k' superblocks tenants calls shows ran =
     (all_follow k k' calls w ran shows).shown
     ∙ ap (λ (lines : List (List ℕ)). shown_lines None cache_limit k.order lines w) (sym (cut_again k k' calls ran))
 
-pub own_lines_of : world.OwnLines → OwnLines
+pub own_lines_of : world.OwnLines → OwnLinesOfCalls
 own_lines_of own k k' superblocks tenants t calls shows here ran =
     ap (lines_for t) (output_is k k' superblocks tenants calls shows ran)
     ∙ own cache_limit k.order superblocks tenants t (with_line_feeds (lines_of_calls calls))
     (omega (arith, few_tenants k superblocks tenants shows)) here
 
-pub same_lines_of : world.SameLines → SameLines
+pub same_lines_of : world.SameLines → SameLinesOfCalls
 same_lines_of same k k' m m' superblocks tenants superblocks' tenants' t calls calls' shows shows' orders own ran ran' =
     let trace : List ℕ = with_line_feeds (lines_of_calls calls) in let trace' : List ℕ = with_line_feeds (lines_of_calls calls') in
     ap (lines_for t) (output_is k k' superblocks tenants calls shows ran)

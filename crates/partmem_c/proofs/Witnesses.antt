@@ -27,7 +27,7 @@ use Rattle.kernel_core.proofs.OneWorld.{one_world}
 use Rattle.kernel_core.proofs.Witnesses.{opening_shown}
 use Rattle.replay_core.specs.Standing.{IsOneLine}
 use Rattle.partmem_c.specs.Lines.{AnswersLine}
-use Rattle.partmem_c.specs.Laws.{Call, lines_of_calls, texts_of, Ran, StandsAfterCalls, OwnLines, SameLines}
+use Rattle.partmem_c.specs.Laws.{Call, lines_of_calls, texts_of, Ran, StandsAfterCalls, OwnLinesOfCalls, SameLinesOfCalls}
 
 -- an event that changes nothing in the world that is shown is a step to the same kernel
 stays : (k : Parts) (w : World) (event : Event) (to : Addressee) (body : Body) → Shows k w → world_step cache_limit k.order event w ≡ answer to body w
@@ -90,13 +90,13 @@ equal_lists = record { tenant = omega arith; tenant' = omega arith; own = refl }
 StandsAfterCalls-met : StandsAfterCalls → Shows small (world_after cache_limit small.order (opening_world 2 3) (events_of (codes "0 alloc 0" ∷ [])))
 StandsAfterCalls-met law = law small small (by_0 ∷ []) small_ran (opening_world 2 3) small_shown
 
-OwnLines-met : OwnLines → codes "0> refused 1 NoFrames" ∷ [] ≡ private_lines cache_limit small.order 2 3 0 (codes "0 alloc 0\n")
+OwnLinesOfCalls-met : OwnLinesOfCalls → codes "0> refused 1 NoFrames" ∷ [] ≡ private_lines cache_limit small.order 2 3 0 (codes "0 alloc 0\n")
 unfolding digits
-OwnLines-met law = law small small 2 3 0 (by_0 ∷ []) small_shown (omega arith) small_ran
+OwnLinesOfCalls-met law = law small small 2 3 0 (by_0 ∷ []) small_shown (omega arith) small_ran
 
 same_order : great.order ≡ small.order
 unfolding opening_parts
 same_order = refl
 
-SameLines-met : SameLines → lines_for 0 (texts_of (by_0 ∷ [])) ≡ lines_for 0 (texts_of (by_1 ∷ by_0 ∷ []))
-SameLines-met law = law small small great great 2 3 3 4 0 (by_0 ∷ []) (by_1 ∷ by_0 ∷ []) small_shown great_shown same_order equal_lists small_ran great_ran
+SameLinesOfCalls-met : SameLinesOfCalls → lines_for 0 (texts_of (by_0 ∷ [])) ≡ lines_for 0 (texts_of (by_1 ∷ by_0 ∷ []))
+SameLinesOfCalls-met law = law small small great great 2 3 3 4 0 (by_0 ∷ []) (by_1 ∷ by_0 ∷ []) small_shown great_shown same_order equal_lists small_ran great_ran

@@ -35,14 +35,17 @@ StandsAfterCalls = (k k' : Parts) (calls : List Call) → Ran k calls k' → (w 
 
 -- From boot on, whatever the others do: of all that was written, the lines for a tenant are those of its private machine on
 -- its own list of the trace that the lines are.
-abbrev pub OwnLines : Type 0
-OwnLines = (k k' : Parts) (superblocks tenants t : ℕ) (calls : List Call) → Shows k (opening_world superblocks tenants) → t < tenants →
-    Ran k calls k' → lines_for t (texts_of calls) ≡ private_lines cache_limit k.order superblocks tenants t (with_line_feeds (lines_of_calls calls))
+abbrev pub OwnLinesOfCalls : Type 0
+OwnLinesOfCalls = (k k' : Parts) (superblocks tenants t : ℕ) (calls : List Call) →
+    Shows k (opening_world superblocks tenants) → t < tenants → Ran k calls k' →
+    lines_for t (texts_of calls)
+    ≡ private_lines cache_limit k.order superblocks tenants t (with_line_feeds (lines_of_calls calls))
 
 -- So two machines of one order, with any numbers of superblocks and tenants, write the same lines for a tenant whose own lists
 -- are equal.
-abbrev pub SameLines : Type 0
-SameLines = (k k' m m' : Parts) (superblocks tenants superblocks' tenants' t : ℕ) (calls calls' : List Call) →
+abbrev pub SameLinesOfCalls : Type 0
+SameLinesOfCalls = (k k' m m' : Parts) (superblocks tenants superblocks' tenants' t : ℕ) (calls calls' : List Call) →
     Shows k (opening_world superblocks tenants) → Shows m (opening_world superblocks' tenants') → m.order ≡ k.order →
-    HaveSameOwnList cache_limit k.order superblocks tenants superblocks' tenants' t (events_of (lines_of_calls calls)) (events_of (lines_of_calls calls')) →
+    HaveSameOwnList cache_limit k.order superblocks tenants superblocks' tenants' t
+    (events_of (lines_of_calls calls)) (events_of (lines_of_calls calls')) →
     Ran k calls k' → Ran m calls' m' → lines_for t (texts_of calls) ≡ lines_for t (texts_of calls')

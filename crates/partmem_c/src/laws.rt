@@ -1,6 +1,6 @@
 //! The laws of lists of calls. Each is the contract of a function that does nothing.
 
-ghost use Rattle.partmem_c.specs.Laws.{StandsAfterCalls, OwnLines, SameLines};
+ghost use Rattle.partmem_c.specs.Laws.{StandsAfterCalls, OwnLinesOfCalls, SameLinesOfCalls};
 
 use world_core::laws;
 
@@ -8,8 +8,8 @@ use world_core::laws;
 /// on, whatever the others do, the lines for a tenant are those that its private machine gives to its own list.
 pub fn own_lines()
     ensures stands { StandsAfterCalls }
-    ensures lines { OwnLines }
-    ensures same { SameLines }
+    ensures lines { OwnLinesOfCalls }
+    ensures same { SameLinesOfCalls }
 {
     laws::own_lines();
     laws::non_interference();
