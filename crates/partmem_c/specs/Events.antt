@@ -1,4 +1,4 @@
--- An event as told_of_numbers, and its answer as told_of_numbers.
+-- An event as numbers, and its answer as numbers.
 use Rattle.std.specs.Prelude.{◌≡◌, ℕ, ◌+◌, ◌==◌, nat_lt, nat_le, not, ◌&&◌, List, [], ◌++◌, length, drop, if◌then◌else◌, Option, Some, None, is_some, is_none, option_map}
 use Rattle.arrayvec.specs.ArrayVec.{ArrayVec}
 use Rattle.words_core.specs.declared.event.Event.{Event}
@@ -49,10 +49,11 @@ asked_command a bytes =
     else (if a.kind == kind.REPORT then Some Ask.Report
     else None)))))))))
 
--- the event that the told_of_numbers and bytes say, if they say one
+-- the event that the numbers and bytes say, if they say one
 abbrev pub asked_event : Asked → List ℕ → Option Event
 asked_event a bytes =
-    if nat_le a.kind kind.POOL then option_map On.Admin (admin_command_of a) else option_map (On.Tenant a.tenant) (asked_command a bytes)
+    if nat_le a.kind kind.POOL then option_map On.Admin (admin_command_of a)
+    else option_map (On.Tenant a.tenant) (asked_command a bytes)
 
 abbrev pub told_of_numbers : ℕ → ℕ → ℕ → ℕ → ℕ → ℕ → Told
 told_of_numbers of a b c d e = record { kind = of; first = a; second = b; third = c; fourth = d; fifth = e }
@@ -62,7 +63,7 @@ abbrev pub top_number : Option ℕ → ℕ
 top_number None = 0
 top_number (Some order) = order + 1
 
--- a reply as told_of_numbers: of a report the figures, of the table of owners how many superblocks there are
+-- a reply as numbers: of a report the figures, of the table of owners how many superblocks there are
 abbrev pub told_of : Body → Told
 told_of (Granted tenant slot superblock) = told_of_numbers kind.GRANTED tenant slot superblock 0 0
 told_of (TakenBack superblock) = told_of_numbers kind.TAKEN_BACK superblock 0 0 0 0
@@ -102,6 +103,15 @@ answered_bytes (Report report) = []
 answered_bytes (Refused refusal) = []
 answered_bytes (Fault fault) = []
 
+-- what a call answers that a machine is all there has to be for
+abbrev pub machine_status : Option Parts → ℕ
+machine_status held = if is_some held then DONE else NO_MACHINE
+
+-- the same of a call that is passed an event, where there is one
+abbrev pub status_of_event : Option Parts → Asked → List ℕ → ℕ → ℕ
+status_of_event held a bytes status =
+    if is_some held then (if is_some (asked_event a bytes) then status else NOT_AN_EVENT) else NO_MACHINE
+
 -- What such a call answers: the first of the errors that there is.
 abbrev pub event_status : Option Parts → Asked → List ℕ → List ℕ → ℕ
 event_status held a bytes room =
@@ -124,3 +134,15 @@ pub record RunsEvent (old new : Option Parts) (a : Asked) (bytes : List ℕ) (to
   pub is : new ≡ Some after
   pub says : asked_event a bytes ≡ Some event
   pub answers : AnswersEvent before event after told room room'
+
+-- the same of an event that neither takes bytes nor tells some, whatever bytes and room there are
+abbrev pub RunsApart : Option Parts → Option Parts → Asked → Told → Type 0
+RunsApart old new a told = (bytes room : List ℕ) → RunsEvent old new a bytes told room room
+
+-- nothing was done, and nothing is told
+abbrev pub TellsNothing : Option Parts → Option Parts → Told → Told → Type 0
+TellsNothing old new told told' = (new ≡ old) × (told' ≡ told)
+
+-- the same, and no byte of the room was written
+abbrev pub ChangesNothing : Option Parts → Option Parts → Told → Told → List ℕ → List ℕ → Type 0
+ChangesNothing old new told told' room room' = (new ≡ old) × (told' ≡ told) × (room' ≡ room)

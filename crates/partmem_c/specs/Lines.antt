@@ -1,5 +1,5 @@
 -- A line run on the kernel that is held.
-use Rattle.std.specs.Prelude.{◌≡◌, ℕ, ◌==◌, nat_lt, Bool, true, false, not, List, [], ◌++◌, length, drop, if◌then◌else◌, Option, Some, None, is_some, Result, Ok, Err}
+use Rattle.std.specs.Prelude.{◌≡◌, ℕ, ◌==◌, ◌≤◌, nat_lt, Bool, true, false, not, List, [], ◌++◌, length, drop, if◌then◌else◌, Option, Some, None, is_some, MatchOption, Result, Ok, Err}
 use Rattle.std.specs.List.{list_any}
 use Rattle.words_core.specs.declared.event.Event.{Event}
 use Rattle.words_core.specs.declared.event.LineFault.{LineFault}
@@ -31,10 +31,19 @@ AnswersLine old (Ok (Some event)) new text = (reply : Reply) × Steps old event 
 AnswersLine old (Ok None) new text = (new ≡ old) × (text ≡ [])
 AnswersLine old (Err fault) new text = (new ≡ old) × (text ≡ text_of (record { addressee = Nobody; body = Fault fault }))
 
+-- it has room for the longest reply
+abbrev pub IsWide : List ℕ → Type 0
+IsWide room = most_reply_bytes ≤ length room
+
 -- the text stands over the first bytes of the room, and is counted
 pub record IsTextWritten (text room room' : List ℕ) (written : ℕ) : Type 0 where
   pub counted : written ≡ length text
   pub over : room' ≡ text ++ drop (length text) room
+
+-- the line with this reading was answered, and the answer was written
+abbrev pub PutsAnswer : Parts → Result (Option Event) LineFault → Parts → List ℕ → List ℕ → ℕ → Type 0
+PutsAnswer old reading new room room' written =
+    (text : List ℕ) × AnswersLine old reading new text × IsTextWritten text room room' written
 
 -- it has no line feed, was run on the kernel, and was answered in full
 pub record AnswersWhole (old : Parts) (line room : List ℕ) (new : Parts) (room' : List ℕ) (written : ℕ) : Type 0 where
@@ -48,6 +57,11 @@ pub record IsNoLine (old : Parts) (line room : List ℕ) (new : Parts) (room' : 
   pub several : has_line_feed line ≡ true
   pub kernel : new ≡ old
   pub same_room : room' ≡ room
+
+-- one of the two, by whether there is a count
+abbrev pub AnswersOrNot : Parts → List ℕ → List ℕ → Parts → List ℕ → Option ℕ → Type 0
+AnswersOrNot old line room new room' counted =
+    MatchOption counted (IsNoLine old line room new room') (λ written. AnswersWhole old line room new room' written)
 
 -- the line was run on the kernel that was held, and answered in full
 pub record RunsLine (old new : Option Parts) (line room room' : List ℕ) (written : ℕ) : Type 0 where

@@ -23,4 +23,5 @@ owner_status held superblock =
 
 -- what there is to tell of a superblock of that number
 abbrev pub owner_told : List (Option model.Owner) → ℕ → Option Owner
-owner_told owners superblock = if nat_lt superblock (length owners) then Some (owner_numbers (owner_at owners superblock)) else None
+owner_told owners superblock =
+    if nat_lt superblock (length owners) then Some (owner_numbers (owner_at owners superblock)) else None

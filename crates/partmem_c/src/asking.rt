@@ -13,7 +13,8 @@ use arrayvec::ArrayVec;
 use model_core::limits::{MOST_BYTES, MOST_PATTERN};
 use words_core::{AdminCommand, Command, Event};
 
-/// An event as numbers: what is asked, which tenant asks it or is meant by it, and the command's numbers, as [`crate::kinds`] says.
+/// An event as numbers: what is asked, which tenant asks it or is meant by it, and the command's numbers, as [`crate::kinds`]
+/// says.
 ///
 /// A number that the kind has no use for is not looked at.
 #[repr(C)]

@@ -1,10 +1,11 @@
 //! A machine booted, and ended.
 
-ghost use Rattle.std.specs.Prelude.{◌≡◌, ◌≢◌, ◌↔◌, false, if◌then◌else◌, is_some, IsSome, IfSome, Some, None};
+ghost use Rattle.std.specs.Prelude.{◌≡◌, ◌≢◌, ◌↔◌, false, IsSome, IfSome, Some, None};
 ghost use Rattle.kernel_core.specs.Booting.{is_bootable};
 ghost use Rattle.parts_core.specs.Parts.{opening_parts};
 ghost use Rattle.kernel_core.specs.Shows.{Shows};
 ghost use Rattle.world_core.specs.World.{opening_world};
+ghost use Rattle.partmem_c.specs.Events.{machine_status};
 
 use crate::machine::Machine;
 use crate::status::{BAD_SIZES, DONE, HAS_MACHINE, NO_MACHINE, NO_MEMORY};
@@ -54,7 +55,7 @@ pub extern "C" fn partmem_boot(
 /// Ends the machine, frees all its memory, and leaves the place as one without a machine.
 #[unsafe(no_mangle)]
 pub extern "C" fn partmem_end(alloc: Global, machine: &mut Machine) -> u32
-    ensures status { result ≡ (if is_some machine.old.slot.held then DONE else NO_MACHINE) }
+    ensures status { result ≡ machine_status machine.old.slot.held }
     ensures vacant { machine.new.slot.held ≡ None }
 {
     if !machine.is_booted() {

@@ -1,10 +1,11 @@
 //! Events run one at a time, without words.
 
-ghost use Rattle.std.specs.Prelude.{◌≡◌, ◌≢◌, ◌≤◌, ℕ, List, length, Some, is_some, if◌then◌else◌};
+ghost use Rattle.std.specs.Prelude.{◌≡◌, ◌≢◌, ◌≤◌, ℕ, List, length, Some};
 ghost use Rattle.words_core.specs.declared.event.Event.TheVariants.{Tenant};
 ghost use Rattle.words_core.specs.declared.event.Command.TheVariants.{Read, Write};
 ghost use Rattle.quick_core.specs.Quick.{quick_command};
-ghost use Rattle.partmem_c.specs.Events.{asked_event, event_status, AnswersEvent, RunsEvent};
+ghost use Rattle.partmem_c.specs.Events.{asked_event, machine_status, status_of_event, event_status, AnswersEvent, RunsEvent};
+ghost use Rattle.partmem_c.specs.Events.{RunsApart, TellsNothing, ChangesNothing};
 
 use crate::asking::{Asked, event_of, is_event};
 use crate::kinds::{ALLOC, FREE, GIVE, READ, TAKE, WRITE};
@@ -35,7 +36,7 @@ pub extern "C" fn partmem_event(
     ensures done { result ≡ DONE
         → RunsEvent machine.old.slot.held machine.new.slot.held asked.now bytes.now told.new room.old room.new }
     ensures not_done { result ≢ DONE
-        → (machine.new.slot.held ≡ machine.old.slot.held) × (told.new ≡ told.old) × (room.new ≡ room.old) }
+        → ChangesNothing machine.old.slot.held machine.new.slot.held told.old told.new room.old room.new }
 {
     if room.len() < MOST_BYTES {
         return status_without_room(machine, asked, bytes);
@@ -55,8 +56,7 @@ pub extern "C" fn partmem_event(
 #[cold]
 #[inline(never)]
 fn status_without_room(machine: &Machine, asked: &Asked, bytes: &[u8]) -> u32
-    ensures { result ≡ (if is_some machine.now.slot.held
-        then (if is_some (asked_event asked.now bytes.now) then NO_ROOM else NOT_AN_EVENT) else NO_MACHINE) }
+    ensures { result ≡ status_of_event machine.now.slot.held asked.now bytes.now NO_ROOM }
 {
     if !machine.is_booted() {
         return NO_MACHINE;
@@ -73,10 +73,9 @@ fn status_without_room(machine: &Machine, asked: &Asked, bytes: &[u8]) -> u32
 #[inline(never)]
 fn alloc_event(alloc: Global, machine: &mut Machine, asked: &Asked, told: &mut Told) -> u32
     requires kind { asked.now.kind ≡ ALLOC }
-    ensures status { result ≡ (if is_some machine.old.slot.held then DONE else NO_MACHINE) }
-    ensures done { result ≡ DONE → (bytes room : List ℕ)
-        → RunsEvent machine.old.slot.held machine.new.slot.held asked.now bytes told.new room room }
-    ensures not_done { result ≢ DONE → (machine.new.slot.held ≡ machine.old.slot.held) × (told.new ≡ told.old) }
+    ensures status { result ≡ machine_status machine.old.slot.held }
+    ensures done { result ≡ DONE → RunsApart machine.old.slot.held machine.new.slot.held asked.now told.new }
+    ensures not_done { result ≢ DONE → TellsNothing machine.old.slot.held machine.new.slot.held told.old told.new }
 {
     let order = asked.first;
     ask(alloc, machine, asked.tenant, Quick::Alloc { order }, told)
@@ -85,10 +84,9 @@ fn alloc_event(alloc: Global, machine: &mut Machine, asked: &Asked, told: &mut T
 #[inline(never)]
 fn free_event(alloc: Global, machine: &mut Machine, asked: &Asked, told: &mut Told) -> u32
     requires kind { asked.now.kind ≡ FREE }
-    ensures status { result ≡ (if is_some machine.old.slot.held then DONE else NO_MACHINE) }
-    ensures done { result ≡ DONE → (bytes room : List ℕ)
-        → RunsEvent machine.old.slot.held machine.new.slot.held asked.now bytes told.new room room }
-    ensures not_done { result ≢ DONE → (machine.new.slot.held ≡ machine.old.slot.held) × (told.new ≡ told.old) }
+    ensures status { result ≡ machine_status machine.old.slot.held }
+    ensures done { result ≡ DONE → RunsApart machine.old.slot.held machine.new.slot.held asked.now told.new }
+    ensures not_done { result ≢ DONE → TellsNothing machine.old.slot.held machine.new.slot.held told.old told.new }
 {
     let frame = asked.first;
     ask(alloc, machine, asked.tenant, Quick::Free { frame }, told)
@@ -97,10 +95,9 @@ fn free_event(alloc: Global, machine: &mut Machine, asked: &Asked, told: &mut To
 #[inline(never)]
 fn take_event(alloc: Global, machine: &mut Machine, asked: &Asked, told: &mut Told) -> u32
     requires kind { asked.now.kind ≡ TAKE }
-    ensures status { result ≡ (if is_some machine.old.slot.held then DONE else NO_MACHINE) }
-    ensures done { result ≡ DONE → (bytes room : List ℕ)
-        → RunsEvent machine.old.slot.held machine.new.slot.held asked.now bytes told.new room room }
-    ensures not_done { result ≢ DONE → (machine.new.slot.held ≡ machine.old.slot.held) × (told.new ≡ told.old) }
+    ensures status { result ≡ machine_status machine.old.slot.held }
+    ensures done { result ≡ DONE → RunsApart machine.old.slot.held machine.new.slot.held asked.now told.new }
+    ensures not_done { result ≢ DONE → TellsNothing machine.old.slot.held machine.new.slot.held told.old told.new }
 {
     let cache = asked.first;
     ask(alloc, machine, asked.tenant, Quick::Take { cache }, told)
@@ -109,10 +106,9 @@ fn take_event(alloc: Global, machine: &mut Machine, asked: &Asked, told: &mut To
 #[inline(never)]
 fn give_event(alloc: Global, machine: &mut Machine, asked: &Asked, told: &mut Told) -> u32
     requires kind { asked.now.kind ≡ GIVE }
-    ensures status { result ≡ (if is_some machine.old.slot.held then DONE else NO_MACHINE) }
-    ensures done { result ≡ DONE → (bytes room : List ℕ)
-        → RunsEvent machine.old.slot.held machine.new.slot.held asked.now bytes told.new room room }
-    ensures not_done { result ≢ DONE → (machine.new.slot.held ≡ machine.old.slot.held) × (told.new ≡ told.old) }
+    ensures status { result ≡ machine_status machine.old.slot.held }
+    ensures done { result ≡ DONE → RunsApart machine.old.slot.held machine.new.slot.held asked.now told.new }
+    ensures not_done { result ≢ DONE → TellsNothing machine.old.slot.held machine.new.slot.held told.old told.new }
 {
     let cache = asked.first;
     let place = asked.second;
@@ -127,11 +123,11 @@ fn give_event(alloc: Global, machine: &mut Machine, asked: &Asked, told: &mut To
 
 #[inline(always)]
 fn ask(alloc: Global, machine: &mut Machine, tenant: u32, command: Quick, told: &mut Told) -> u32
-    ensures status { result ≡ (if is_some machine.old.slot.held then DONE else NO_MACHINE) }
+    ensures status { result ≡ machine_status machine.old.slot.held }
     ensures done { result ≡ DONE → (asked : Asked) (bytes room : List ℕ)
         → asked_event asked bytes ≡ Some (Tenant tenant (quick_command command))
         → RunsEvent machine.old.slot.held machine.new.slot.held asked bytes told.new room room }
-    ensures not_done { result ≢ DONE → (machine.new.slot.held ≡ machine.old.slot.held) × (told.new ≡ told.old) }
+    ensures not_done { result ≢ DONE → TellsNothing machine.old.slot.held machine.new.slot.held told.old told.new }
 {
     if !machine.is_booted() {
         return NO_MACHINE;
@@ -155,11 +151,11 @@ fn read_event(
 ) -> u32
     requires kind { asked.now.kind ≡ READ }
     requires room { MOST_BYTES ≤ length room.old }
-    ensures status { result ≡ (if is_some machine.old.slot.held then DONE else NO_MACHINE) }
+    ensures status { result ≡ machine_status machine.old.slot.held }
     ensures done { result ≡ DONE → (bytes : List ℕ)
         → RunsEvent machine.old.slot.held machine.new.slot.held asked.now bytes told.new room.old room.new }
     ensures not_done { result ≢ DONE
-        → (machine.new.slot.held ≡ machine.old.slot.held) × (told.new ≡ told.old) × (room.new ≡ room.old) }
+        → ChangesNothing machine.old.slot.held machine.new.slot.held told.old told.new room.old room.new }
 {
     if !machine.is_booted() {
         return NO_MACHINE;
@@ -179,11 +175,10 @@ fn write_event(
     told: &mut Told,
 ) -> u32
     requires kind { asked.now.kind ≡ WRITE }
-    ensures status { result ≡ (if is_some machine.old.slot.held
-        then (if is_some (asked_event asked.now bytes.now) then DONE else NOT_AN_EVENT) else NO_MACHINE) }
+    ensures status { result ≡ status_of_event machine.old.slot.held asked.now bytes.now DONE }
     ensures done { result ≡ DONE → (room : List ℕ)
         → RunsEvent machine.old.slot.held machine.new.slot.held asked.now bytes.now told.new room room }
-    ensures not_done { result ≢ DONE → (machine.new.slot.held ≡ machine.old.slot.held) × (told.new ≡ told.old) }
+    ensures not_done { result ≢ DONE → TellsNothing machine.old.slot.held machine.new.slot.held told.old told.new }
 {
     if !machine.is_booted() {
         return NO_MACHINE;
@@ -209,12 +204,11 @@ fn rare_event(
     room: &mut [u8],
 ) -> u32
     requires room { MOST_BYTES ≤ length room.old }
-    ensures status { result ≡ (if is_some machine.old.slot.held
-        then (if is_some (asked_event asked.now bytes.now) then DONE else NOT_AN_EVENT) else NO_MACHINE) }
+    ensures status { result ≡ status_of_event machine.old.slot.held asked.now bytes.now DONE }
     ensures done { result ≡ DONE
         → RunsEvent machine.old.slot.held machine.new.slot.held asked.now bytes.now told.new room.old room.new }
     ensures not_done { result ≢ DONE
-        → (machine.new.slot.held ≡ machine.old.slot.held) × (told.new ≡ told.old) × (room.new ≡ room.old) }
+        → ChangesNothing machine.old.slot.held machine.new.slot.held told.old told.new room.old room.new }
 {
     if !machine.is_booted() {
         return NO_MACHINE;

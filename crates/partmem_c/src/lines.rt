@@ -11,10 +11,9 @@ ghost use Rattle.words_core.specs.declared.reply.Addressee.TheVariants as Addres
 ghost use Rattle.words_core.specs.declared.reply.Body.TheVariants as Body;
 ghost use Rattle.words_core.specs.declared.reply.Refusal.TheVariants.{NoTenant};
 ghost use Rattle.quick_core.specs.Quick.{quick_command, reply_of_told, reply_of_bytes, reply_of_written};
-ghost use Rattle.replay_core.specs.Pushes.{most_reply_bytes};
 ghost use Rattle.replay_core.specs.Standing.{IsRunnable};
-ghost use Rattle.parts_core.specs.Parts.{Parts};
-ghost use Rattle.partmem_c.specs.Lines.{has_line_feed, line_status, AnswersLine, AnswersWhole, IsNoLine, IsTextWritten, RunsLine};
+ghost use Rattle.partmem_c.specs.Lines.{has_line_feed, line_status, IsWide, IsTextWritten, PutsAnswer};
+ghost use Rattle.partmem_c.specs.Lines.{AnswersWhole, AnswersOrNot, RunsLine};
 
 use crate::machine::Machine;
 use crate::status::{DONE, NO_MACHINE, NO_ROOM, NOT_A_LINE};
@@ -49,7 +48,8 @@ pub extern "C" fn partmem_line(
 ) -> u32
     ensures status { result ≡ line_status machine.old.slot.held line.now room.old }
     ensures done { result ≡ DONE → RunsLine machine.old.slot.held machine.new.slot.held line.now room.old room.new written.new }
-    ensures not_done { result ≢ DONE → (machine.new.slot.held ≡ machine.old.slot.held) × (room.new ≡ room.old) × (written.new ≡ 0) }
+    ensures not_done { result ≢ DONE
+        → (machine.new.slot.held ≡ machine.old.slot.held) × (room.new ≡ room.old) × (written.new ≡ 0) }
 {
     *written = 0;
     if !machine.is_booted() {
@@ -90,9 +90,8 @@ const MOST_SHORT_LINE: usize = 160;
 /// A line that was read of the short path as a whole has none, and is not searched for one.
 #[inline(always)]
 fn run_line(kernel: &mut Kernel, line: &[u8], room: &mut [u8]) -> Option<usize>
-    requires { most_reply_bytes ≤ length room.old }
-    ensures { MatchOption result (IsNoLine kernel.old line.now room.old kernel.new room.new)
-        (λ written. AnswersWhole kernel.old line.now room.old kernel.new room.new written) }
+    requires { IsWide room.old }
+    ensures { AnswersOrNot kernel.old line.now room.old kernel.new room.new result }
 {
     if line.len() >= WINDOW {
         return run_other(kernel, line, room);
@@ -117,9 +116,8 @@ fn run_short(
     room: &mut [u8],
 ) -> Option<usize>
     requires ended { (rest : List ℕ) × (ended.now ≡ line.now ++ 10 ∷ rest) }
-    requires room { most_reply_bytes ≤ length room.old }
-    ensures { MatchOption result (IsNoLine kernel.old line.now room.old kernel.new room.new)
-        (λ written. AnswersWhole kernel.old line.now room.old kernel.new room.new written) }
+    requires room { IsWide room.old }
+    ensures { AnswersOrNot kernel.old line.now room.old kernel.new room.new result }
 {
     if let Some(read) = read_bytes_line(ended) {
         if read.len == line.len() + 1 {
@@ -132,9 +130,8 @@ fn run_short(
 /// [`run_line`] of any line; out of line, as [`run_short`] is.
 #[inline(never)]
 fn run_other(kernel: &mut Kernel, line: &[u8], room: &mut [u8]) -> Option<usize>
-    requires { most_reply_bytes ≤ length room.old }
-    ensures { MatchOption result (IsNoLine kernel.old line.now room.old kernel.new room.new)
-        (λ written. AnswersWhole kernel.old line.now room.old kernel.new room.new written) }
+    requires { IsWide room.old }
+    ensures { AnswersOrNot kernel.old line.now room.old kernel.new room.new result }
 {
     if let Some(written) = run_write(kernel, line, room) {
         return Some(written);
@@ -145,7 +142,7 @@ fn run_other(kernel: &mut Kernel, line: &[u8], room: &mut [u8]) -> Option<usize>
 /// [`run_line`] of a write of the short path; None, and nothing is done, where it isn't one, or where that is not sure.
 #[inline(always)]
 fn run_write(kernel: &mut Kernel, line: &[u8], room: &mut [u8]) -> Option<usize>
-    requires { most_reply_bytes ≤ length room.old }
+    requires { IsWide room.old }
     ensures { MatchOption result ((kernel.new ≡ kernel.old) × (room.new ≡ room.old))
         (λ written. AnswersWhole kernel.old line.now room.old kernel.new room.new written) }
 {
@@ -166,9 +163,8 @@ fn run_write(kernel: &mut Kernel, line: &[u8], room: &mut [u8]) -> Option<usize>
 #[cold]
 #[inline(never)]
 fn run_any(kernel: &mut Kernel, line: &[u8], room: &mut [u8]) -> Option<usize>
-    requires { most_reply_bytes ≤ length room.old }
-    ensures { MatchOption result (IsNoLine kernel.old line.now room.old kernel.new room.new)
-        (λ written. AnswersWhole kernel.old line.now room.old kernel.new room.new written) }
+    requires { IsWide room.old }
+    ensures { AnswersOrNot kernel.old line.now room.old kernel.new room.new result }
 {
     if line.contains(&b'\n') {
         return None;
@@ -188,10 +184,9 @@ fn put_ended(line: &[u8], out: &mut [u8])
 
 #[inline(always)]
 fn answer_quick(line: QuickLine, kernel: &mut Kernel, room: &mut [u8]) -> usize
-    requires { most_reply_bytes ≤ length room.old }
-    ensures { (text : List ℕ) × AnswersLine kernel.old (Ok (Some (Tenant line.tenant (quick_command line.command))))
-        kernel.new text
-        × IsTextWritten text room.old room.new result }
+    requires { IsWide room.old }
+    ensures { PutsAnswer kernel.old (Ok (Some (Tenant line.tenant (quick_command line.command)))) kernel.new
+        room.old room.new result }
 {
     match kernel.ask_quick(line.tenant, line.command) {
         Some((tenant, told)) => put_told(tenant, told, room),
@@ -200,10 +195,9 @@ fn answer_quick(line: QuickLine, kernel: &mut Kernel, room: &mut [u8]) -> usize
 }
 
 fn answer_read(line: BytesLine, kernel: &Kernel, room: &mut [u8]) -> usize
-    requires { most_reply_bytes ≤ length room.old }
-    ensures { (text : List ℕ)
-        × AnswersLine kernel.now (Ok (Some (Tenant line.tenant (Read line.place line.asked)))) kernel.now text
-        × IsTextWritten text room.old room.new result }
+    requires { IsWide room.old }
+    ensures { PutsAnswer kernel.now (Ok (Some (Tenant line.tenant (Read line.place line.asked)))) kernel.now
+        room.old room.new result }
 {
     match kernel.read_quick(line.tenant, line.place, line.asked) {
         Some((tenant, Ok(bytes))) => put_read(tenant, bytes, room),
@@ -214,11 +208,9 @@ fn answer_read(line: BytesLine, kernel: &Kernel, room: &mut [u8]) -> usize
 
 fn answer_write(line: WriteLine, bytes: &[u8], kernel: &mut Kernel, room: &mut [u8]) -> usize
     requires few { length bytes.now ≤ MOST_BYTES }
-    requires room { most_reply_bytes ≤ length room.old }
-    ensures { (text : List ℕ)
-        × AnswersLine kernel.old (Ok (Some (Tenant line.tenant (Write line.place (record { items = bytes.now })))))
-        kernel.new text
-        × IsTextWritten text room.old room.new result }
+    requires room { IsWide room.old }
+    ensures { PutsAnswer kernel.old
+        (Ok (Some (Tenant line.tenant (Write line.place (record { items = bytes.now }))))) kernel.new room.old room.new result }
 {
     match kernel.write_quick(line.tenant, line.place, bytes) {
         Some((tenant, Ok(count))) => put_written(tenant, count, room),
@@ -230,7 +222,7 @@ fn answer_write(line: WriteLine, bytes: &[u8], kernel: &mut Kernel, room: &mut [
 /// Writes what a tenant is told over the first bytes of `room`, and answers how many they are; so do the others.
 #[inline(always)]
 fn put_told(tenant: u8, told: Told, room: &mut [u8]) -> usize
-    requires { most_reply_bytes ≤ length room.old }
+    requires { IsWide room.old }
     ensures { IsTextWritten (text_of (reply_of_told tenant told)) room.old room.new result }
 {
     let mut text = [0; WINDOW];
@@ -241,7 +233,7 @@ fn put_told(tenant: u8, told: Told, room: &mut [u8]) -> usize
 
 fn put_read(tenant: u8, bytes: &[u8], room: &mut [u8]) -> usize
     requires few { length bytes.now ≤ MOST_BYTES }
-    requires room { most_reply_bytes ≤ length room.old }
+    requires room { IsWide room.old }
     ensures { IsTextWritten (text_of (reply_of_bytes tenant bytes.now)) room.old room.new result }
 {
     let mut text = [0; MOST_BYTES_TEXT];
@@ -252,7 +244,7 @@ fn put_read(tenant: u8, bytes: &[u8], room: &mut [u8]) -> usize
 
 fn put_written(tenant: u8, count: u32, room: &mut [u8]) -> usize
     requires few { count < 1000 }
-    requires room { most_reply_bytes ≤ length room.old }
+    requires room { IsWide room.old }
     ensures { IsTextWritten (text_of (reply_of_written tenant count)) room.old room.new result }
 {
     let mut text = [0; WINDOW];
@@ -264,7 +256,7 @@ fn put_written(tenant: u8, count: u32, room: &mut [u8]) -> usize
 #[cold]
 #[inline(never)]
 fn put_no_tenant(room: &mut [u8]) -> usize
-    requires { most_reply_bytes ≤ length room.old }
+    requires { IsWide room.old }
     ensures { IsTextWritten (text_of (record { addressee = Addressee.Nobody; body = Body.Refused NoTenant }))
         room.old room.new result }
 {
@@ -280,8 +272,8 @@ fn put_no_tenant(room: &mut [u8]) -> usize
 #[inline(never)]
 fn answer(reading: Result<Option<Event>, LineFault>, kernel: &mut Kernel, room: &mut [u8]) -> usize
     requires runnable { IsRunnable reading }
-    requires room { most_reply_bytes ≤ length room.old }
-    ensures { (text : List ℕ) × AnswersLine kernel.old reading kernel.new text × IsTextWritten text room.old room.new result }
+    requires room { IsWide room.old }
+    ensures { PutsAnswer kernel.old reading kernel.new room.old room.new result }
 {
     match reading {
         Ok(None) => 0,
@@ -295,7 +287,7 @@ fn answer(reading: Result<Option<Event>, LineFault>, kernel: &mut Kernel, room: 
 }
 
 fn put_answer(answer: &Answer, room: &mut [u8]) -> usize
-    requires { most_reply_bytes ≤ length room.old }
+    requires { IsWide room.old }
     ensures { IsTextWritten (text_of (reply_of answer.now)) room.old room.new result }
 {
     let mut line = ArrayVec::new();
@@ -308,9 +300,8 @@ fn put_answer(answer: &Answer, room: &mut [u8]) -> usize
 #[cold]
 #[inline(never)]
 fn put_report(tenant: u32, kernel: &Kernel, room: &mut [u8]) -> usize
-    requires { most_reply_bytes ≤ length room.old }
-    ensures { (text : List ℕ) × AnswersLine kernel.now (Ok (Some (Tenant tenant Report))) kernel.now text
-        × IsTextWritten text room.old room.new result }
+    requires { IsWide room.old }
+    ensures { PutsAnswer kernel.now (Ok (Some (Tenant tenant Report))) kernel.now room.old room.new result }
 {
     put_reply(&kernel.report(tenant), room)
 }
@@ -318,9 +309,8 @@ fn put_report(tenant: u32, kernel: &Kernel, room: &mut [u8]) -> usize
 #[cold]
 #[inline(never)]
 fn administer(command: &AdminCommand, kernel: &mut Kernel, room: &mut [u8]) -> usize
-    requires { most_reply_bytes ≤ length room.old }
-    ensures { (text : List ℕ) × AnswersLine kernel.old (Ok (Some (Admin command.now))) kernel.new text
-        × IsTextWritten text room.old room.new result }
+    requires { IsWide room.old }
+    ensures { PutsAnswer kernel.old (Ok (Some (Admin command.now))) kernel.new room.old room.new result }
 {
     put_reply(&kernel.administer(command), room)
 }
@@ -328,7 +318,7 @@ fn administer(command: &AdminCommand, kernel: &mut Kernel, room: &mut [u8]) -> u
 #[cold]
 #[inline(never)]
 fn put_fault(fault: LineFault, room: &mut [u8]) -> usize
-    requires { most_reply_bytes ≤ length room.old }
+    requires { IsWide room.old }
     ensures { IsTextWritten (text_of (record { addressee = Addressee.Nobody; body = Body.Fault fault }))
         room.old room.new result }
 {
@@ -341,7 +331,7 @@ fn put_fault(fault: LineFault, room: &mut [u8]) -> usize
 
 /// Writes the text of a reply, line by line.
 fn put_reply(reply: &Reply, room: &mut [u8]) -> usize
-    requires { most_reply_bytes ≤ length room.old }
+    requires { IsWide room.old }
     ensures { IsTextWritten (text_of reply.now) room.old room.new result }
 {
     let mut line = ArrayVec::new();

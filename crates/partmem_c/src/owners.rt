@@ -27,7 +27,8 @@ pub extern "C" fn partmem_owner(
     owner: &mut Owner,
 ) -> u32
     ensures status { result ≡ owner_status machine.old.slot.held superblock }
-    ensures done { result ≡ DONE → IfSome machine.old.slot.held (λ k. owner.new ≡ owner_numbers (owner_at k.space.owners superblock)) }
+    ensures done { result ≡ DONE
+        → IfSome machine.old.slot.held (λ k. owner.new ≡ owner_numbers (owner_at k.space.owners superblock)) }
     ensures not_done { result ≢ DONE → owner.new ≡ owner.old }
     ensures kept { machine.new.slot.held ≡ machine.old.slot.held }
 {

@@ -14,8 +14,8 @@ use std::ptr::null_mut;
 
 /// The pointer of a boxed kernel, or null; a clause reads as `held` which kernel lies there.
 ///
-/// C may hold one, where it could hold no box. It is no `Drop`: outside of this file a machine leaves it by [`Slot::unpark`] alone.
-/// That its box is then dropped and not forgotten, where a machine ends, no clause says.
+/// C may hold one, where it could hold no box. It is no `Drop`: outside of this file a machine leaves it by [`Slot::unpark`]
+/// alone. That its box is then dropped and not forgotten, where a machine ends, no clause says.
 #[repr(C)]
 pub struct Slot {
     at: *mut u8,
