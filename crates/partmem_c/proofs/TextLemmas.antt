@@ -1,5 +1,6 @@
 -- A text written part by part.
-use Rattle.std.proofs.Common.{◌≡◌, ℕ, cond, suc, ◌+◌, ◌-◌, ◌==◌, Bool, true, false, ◌||◌, List, [], ◌∷◌, ◌++◌, Some, Ok, length, take, drop, position, refl, sym, ap, ◌∙◌, arith, append_assoc, length-append}
+use Rattle.std.proofs.Common.{◌≡◌, ℕ, cond, suc, ◌+◌, ◌-◌, ◌*◌, ◌≤◌, ◌==◌, Bool, true, false, ◌||◌, List, [], ◌∷◌, ◌++◌, Some, Ok, length, take, drop, position, refl, sym, ap, ◌∙◌, arith, append_assoc, length-append}
+use Rattle.std.proofs.lemmas.List.{take-append-le, take-append-drop, take_all, length-take-le, length-drop}
 use Rattle.std.proofs.lemmas.Slice.{drop-append-drop}
 use Rattle.std.specs.List.{position_from}
 use Rattle.std.proofs.lemmas.Iterator.Adapters.{position_from-zero}
@@ -50,13 +51,39 @@ written_more text rest line after room now then written written' had cut put cou
           (sym (append_assoc had.front line (drop (length had.front + length line) room)));
     }
 
+-- the last n bytes, from where they begin on to the end
+abbrev pub last : ℕ → List ℕ → List ℕ
+last n bytes = take (length bytes - (length bytes - n)) (drop (length bytes - n) bytes)
+
+-- the first n bytes and the last n are all of them
+pub ends_put : (n : ℕ) (bytes old mid out : List ℕ) → n ≤ length bytes → length bytes ≤ 2 * n
+    → mid ≡ take 0 old ++ (take n bytes ++ drop (0 + length (take n bytes)) old)
+    → out ≡ take (length bytes - n) mid ++ (last n bytes ++ drop (length bytes - n + length (last n bytes)) mid)
+    → out ≡ bytes ++ drop (length bytes) old
+ends_put n bytes old mid out long short first second =
+    let k = length bytes - n in
+    let same : last n bytes ≡ drop k bytes = take_all (length bytes - k) (drop k bytes) (omega (arith, length-drop k bytes)) in
+    let front : length (take n bytes) ≡ n = length-take-le n bytes long in
+    let back : length (drop k bytes) ≡ n = length-drop k bytes ∙ omega (arith, long) in
+    let few : k ≤ length (take n bytes) = omega (arith, front, long, short) in
+    let begins : mid ≡ take n bytes ++ drop n old = first ∙ ap (λ i. take n bytes ++ drop i old) (omega (arith, front)) in
+    let before : take k mid ≡ take k bytes =
+    ap (take k) begins ∙ take-append-le k (take n bytes) (drop n old) few
+    ∙ sym (take-append-le k (take n bytes) (drop n bytes) few) ∙ ap (take k) (take-append-drop n bytes) in
+    let behind : drop (k + length (drop k bytes)) mid ≡ drop (length bytes) old =
+    ap (λ i. drop i mid) (omega (arith, back, long)) ∙ ap (drop (length bytes)) begins
+    ∙ drop-append-drop n old (take n bytes) (length bytes) long front in
+    second ∙ ap (λ xs. take k mid ++ (xs ++ drop (k + length xs) mid)) same
+    ∙ ap (λ xs. xs ++ (drop k bytes ++ drop (k + length (drop k bytes)) mid)) before
+    ∙ ap (λ xs. take k bytes ++ (drop k bytes ++ xs)) behind
+    ∙ sym (append_assoc (take k bytes) (drop k bytes) (drop (length bytes) old))
+    ∙ ap (λ xs. xs ++ drop (length bytes) old) (take-append-drop k bytes)
+
 -- a line with its line feed in front of other bytes
-pub ended_put : (line old mid out : List ℕ) → mid ≡ take 0 old ++ (line ++ drop (0 + length line) old)
+pub ended_put : (line old mid out : List ℕ) → mid ≡ line ++ drop (length line) old
     → out ≡ take (length line) mid ++ (10 ∷ [] ++ drop (length line + 1) mid)
     → out ≡ line ++ 10 ∷ drop (length line + 1) old
-ended_put line old mid out first second =
-    let from : 0 + length line ≡ length line = omega arith in
-    let line_first : mid ≡ line ++ drop (length line) old = first ∙ ap (λ n. line ++ drop n old) from in
+ended_put line old mid out line_first second =
     let rest : drop (length line + 1) mid ≡ drop (length line + 1) old = ap (drop (length line + 1)) line_first
     ∙ drop-append-drop (length line) old line (length line + 1) (omega arith) refl in
     let front : take (length line) mid ≡ line = ap (take (length line)) line_first ∙ take-front line (drop (length line) old) in

@@ -1,6 +1,6 @@
 //! Events run one at a time, without words.
 
-ghost use Rattle.std.specs.Prelude.{◌≡◌, ◌≢◌, ◌≤◌, ℕ, List, length, Some};
+ghost use Rattle.std.specs.Prelude.{◌≡◌, ◌≢◌, ◌<◌, ◌≤◌, ℕ, List, length, Some};
 ghost use Rattle.words_core.specs.declared.event.Event.TheVariants.{Tenant};
 ghost use Rattle.words_core.specs.declared.event.Command.TheVariants.{Read, Write};
 ghost use Rattle.quick_core.specs.Quick.{quick_command};
@@ -8,7 +8,7 @@ ghost use Rattle.partmem_c.specs.Events.{asked_event, machine_status, status_of_
 ghost use Rattle.partmem_c.specs.Events.{RunsApart, TellsNothing, ChangesNothing};
 
 use crate::asking::{Asked, event_of, is_event};
-use crate::kinds::{ALLOC, FREE, GIVE, READ, TAKE, WRITE};
+use crate::kinds::{ALLOC, FREE, GIVE, NOTHING, READ, TAKE, WRITE};
 use crate::lines::put;
 use crate::machine::Machine;
 use crate::status::{DONE, NO_MACHINE, NO_ROOM, NOT_AN_EVENT};
@@ -38,21 +38,30 @@ pub extern "C" fn partmem_event(
     ensures not_done { result ≢ DONE
         → ChangesNothing machine.old.slot.held machine.new.slot.held told.old told.new room.old room.new }
 {
-    if room.len() < MOST_BYTES {
-        return status_without_room(machine, asked, bytes);
-    }
-    match asked.kind {
+    match kind_with_room(asked.kind, room.len()) {
+        NOTHING => status_without_room(machine, asked, bytes),
         ALLOC => alloc_event(alloc, machine, asked, told),
         FREE => free_event(alloc, machine, asked, told),
         TAKE => take_event(alloc, machine, asked, told),
         GIVE => give_event(alloc, machine, asked, told),
-        READ => read_event(alloc, machine, asked, told, room),
-        WRITE => write_event(alloc, machine, asked, bytes, told),
-        _ => rare_event(alloc, machine, asked, bytes, told, room),
+        _ => event_in_first(alloc, machine, asked, bytes, told, room),
     }
 }
 
-/// What a call answers whose room is too short.
+/// The kind, or `NOTHING`, which is no event's, where the room is too short.
+///
+/// So that one test tells the four kinds of a load, which look neither at the bytes nor at the room, from all else: what C passes
+/// for these is made into slices past that test.
+#[inline(always)]
+fn kind_with_room(kind: u32, room: usize) -> u32
+    ensures same { result ≢ NOTHING → result ≡ kind }
+    ensures wide { result ≢ NOTHING → MOST_BYTES ≤ room }
+    ensures short { result ≡ NOTHING → kind ≢ NOTHING → room < MOST_BYTES }
+{
+    if room < MOST_BYTES { NOTHING } else { kind }
+}
+
+/// What a call answers whose room is too short, or whose kind is `NOTHING`.
 #[cold]
 #[inline(never)]
 fn status_without_room(machine: &Machine, asked: &Asked, bytes: &[u8]) -> u32
@@ -139,6 +148,50 @@ fn ask(alloc: Global, machine: &mut Machine, tenant: u32, command: Quick, told: 
     };
     machine.put_in(kernel);
     DONE
+}
+
+/// [`other_event`] with no more of the room than it writes into, so that its length is none of what is handed on.
+#[inline(always)]
+fn event_in_first(
+    alloc: Global,
+    machine: &mut Machine,
+    asked: &Asked,
+    bytes: &[u8],
+    told: &mut Told,
+    room: &mut [u8],
+) -> u32
+    requires room { MOST_BYTES ≤ length room.old }
+    ensures status { result ≡ status_of_event machine.old.slot.held asked.now bytes.now DONE }
+    ensures done { result ≡ DONE
+        → RunsEvent machine.old.slot.held machine.new.slot.held asked.now bytes.now told.new room.old room.new }
+    ensures not_done { result ≢ DONE
+        → ChangesNothing machine.old.slot.held machine.new.slot.held told.old told.new room.old room.new }
+{
+    other_event(alloc, machine, asked, bytes, told, &mut room[..MOST_BYTES])
+}
+
+/// [`partmem_event`] of the kinds that look at the bytes or the room, and of the rare ones.
+#[inline(never)]
+fn other_event(
+    alloc: Global,
+    machine: &mut Machine,
+    asked: &Asked,
+    bytes: &[u8],
+    told: &mut Told,
+    room: &mut [u8],
+) -> u32
+    requires room { MOST_BYTES ≤ length room.old }
+    ensures status { result ≡ status_of_event machine.old.slot.held asked.now bytes.now DONE }
+    ensures done { result ≡ DONE
+        → RunsEvent machine.old.slot.held machine.new.slot.held asked.now bytes.now told.new room.old room.new }
+    ensures not_done { result ≢ DONE
+        → ChangesNothing machine.old.slot.held machine.new.slot.held told.old told.new room.old room.new }
+{
+    match asked.kind {
+        READ => read_event(alloc, machine, asked, told, room),
+        WRITE => write_event(alloc, machine, asked, bytes, told),
+        _ => rare_event(alloc, machine, asked, bytes, told, room),
+    }
 }
 
 #[inline(never)]

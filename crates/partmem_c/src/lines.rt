@@ -1,6 +1,6 @@
 //! Lines of a trace, run one at a time.
 
-ghost use Rattle.std.specs.Prelude.{◌≡◌, ◌≢◌, ℕ, ◌+◌, ◌<◌, ◌≤◌, ◌∷◌, ◌++◌, false, List, length, take, drop, Some, Ok};
+ghost use Rattle.std.specs.Prelude.{◌≡◌, ◌≢◌, ℕ, ◌+◌, ◌*◌, ◌<◌, ◌≤◌, ◌∷◌, ◌++◌, false, List, length, take, drop, Some, Ok};
 ghost use Rattle.std.specs.Prelude.{IfSome, MatchOption, if◌then◌else◌};
 ghost use Rattle.words_core.specs.Grammar.{reading_of};
 ghost use Rattle.words_core.specs.Texts.{text_of};
@@ -178,7 +178,7 @@ fn put_ended(line: &[u8], out: &mut [u8])
     requires { length line.now < length out.old }
     ensures { out.new ≡ line.now ++ 10 ∷ drop (length line.now + 1) out.old }
 {
-    put(line, out, 0);
+    put_short(line, out);
     put(b"\n", out, line.len());
 }
 
@@ -227,7 +227,7 @@ fn put_told(tenant: u8, told: Told, room: &mut [u8]) -> usize
 {
     let mut text = [0; WINDOW];
     let len = write_quick(tenant, told, &mut text);
-    put(&text[..len], room, 0);
+    put_short(&text[..len], room);
     len
 }
 
@@ -249,7 +249,7 @@ fn put_written(tenant: u8, count: u32, room: &mut [u8]) -> usize
 {
     let mut text = [0; WINDOW];
     let len = write_written(tenant, count, &mut text);
-    put(&text[..len], room, 0);
+    put_short(&text[..len], room);
     len
 }
 
@@ -351,4 +351,31 @@ pub(crate) fn put(bytes: &[u8], room: &mut [u8], at: usize)
     ensures { room.new ≡ take at room.old ++ (bytes.now ++ drop (at + length bytes.now) room.old) }
 {
     room[at..at + bytes.len()].copy_from_slice(bytes);
+}
+
+/// Puts bytes over the first of the room: from 8 to 32 of them by two copies of one size, which share what lies between, since a
+/// copy of a size that is not known is a call.
+#[inline(always)]
+fn put_short(bytes: &[u8], room: &mut [u8])
+    requires { length bytes.now ≤ length room.old }
+    ensures { room.new ≡ bytes.now ++ drop (length bytes.now) room.old }
+{
+    match bytes.len() {
+        8..=16 => put_ends::<8>(bytes, room),
+        17..=32 => put_ends::<16>(bytes, room),
+        _ => put(bytes, room, 0),
+    }
+}
+
+/// Puts the first `N` bytes and the last `N` where they belong.
+#[inline(always)]
+fn put_ends<const N: usize>(bytes: &[u8], room: &mut [u8])
+    requires long { N ≤ length bytes.now }
+    requires short { length bytes.now ≤ 2 * N }
+    requires room { length bytes.now ≤ length room.old }
+    ensures { room.new ≡ bytes.now ++ drop (length bytes.now) room.old }
+{
+    let rest = bytes.len() - N;
+    put(&bytes[..N], room, 0);
+    put(&bytes[rest..], room, rest);
 }

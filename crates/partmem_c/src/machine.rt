@@ -17,16 +17,6 @@ pub struct Machine {
 }
 
 impl Machine {
-    /// A place without a machine.
-    fn vacant() -> Machine
-        ensures { result.slot.held ≡ None }
-    {
-        Machine {
-            is_booted: false,
-            slot: Slot::vacant(),
-        }
-    }
-
     /// Whether it holds a machine.
     pub fn is_booted(&self) -> bool
         ensures { result ≡ is_some self.now.slot.held }
@@ -39,12 +29,9 @@ impl Machine {
         requires { self.old.slot.held ≡ None }
         ensures { self.new.slot.held ≡ Some kernel.value }
     {
-        let booted = Machine {
-            is_booted: true,
-            slot: Slot::park(RawBox::of(kernel)),
-        };
-        let Machine { is_booted: _, slot } = replace(self, booted);
-        slot.discard();
+        let vacant = replace(&mut self.slot, Slot::park(RawBox::of(kernel)));
+        self.is_booted = true;
+        vacant.discard();
     }
 
     /// Takes the kernel out.
@@ -53,7 +40,8 @@ impl Machine {
         ensures held { self.old.slot.held ≡ Some result.value }
         ensures vacant { self.new.slot.held ≡ None }
     {
-        let Machine { is_booted: _, slot } = replace(self, Machine::vacant());
+        let slot = replace(&mut self.slot, Slot::vacant());
+        self.is_booted = false;
         slot.unpark(alloc).into_box()
     }
 }
