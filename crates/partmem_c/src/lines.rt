@@ -21,8 +21,8 @@ use arrayvec::ArrayVec;
 use kernel_core::Kernel;
 use model_core::limits::MOST_BYTES;
 use quick_core::{
-    BytesLine, MOST_BYTES_TEXT, QuickLine, Told, WINDOW, WriteLine, read_bytes_line, read_quick,
-    read_write_line, write_bytes, write_quick, write_written,
+    BytesLine, MOST_BYTES_TEXT, Quick, QuickLine, Told, WINDOW, WriteLine, read_bytes_line,
+    read_quick, read_write_line, write_bytes, write_quick, write_written,
 };
 use std::alloc::Global;
 use words_core::{
@@ -188,7 +188,22 @@ fn answer_quick(line: QuickLine, kernel: &mut Kernel, room: &mut [u8]) -> usize
     ensures { PutsAnswer kernel.old (Ok (Some (Tenant line.tenant (quick_command line.command)))) kernel.new
         room.old room.new result }
 {
-    match kernel.ask_quick(line.tenant, line.command) {
+    let tenant = line.tenant;
+    match line.command {
+        Quick::Alloc { order } => ask(tenant, Quick::Alloc { order }, kernel, room),
+        Quick::Free { frame } => ask(tenant, Quick::Free { frame }, kernel, room),
+        Quick::Take { cache } => ask(tenant, Quick::Take { cache }, kernel, room),
+        Quick::Give { cache, place } => ask(tenant, Quick::Give { cache, place }, kernel, room),
+    }
+}
+
+/// [`answer_quick`] of a command whose kind is known where this is called: what it cannot be told is then not looked at.
+#[inline(always)]
+fn ask(tenant: u32, command: Quick, kernel: &mut Kernel, room: &mut [u8]) -> usize
+    requires { IsWide room.old }
+    ensures { PutsAnswer kernel.old (Ok (Some (Tenant tenant (quick_command command)))) kernel.new room.old room.new result }
+{
+    match kernel.ask_quick(tenant, command) {
         Some((tenant, told)) => put_told(tenant, told, room),
         None => put_no_tenant(room),
     }
