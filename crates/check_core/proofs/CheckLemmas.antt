@@ -13,7 +13,7 @@ use Rattle.judge.specs.Machine.{SeenMachine, ShowsKnown}
 use Rattle.check_core.specs.declared.finding.Finding.TheVariants.{Broken, Kept}
 use Rattle.check_core.specs.Checking.{IsFaultVerdict, IsLineVerdict, IsReplyVerdict}
 use Rattle.check_core.specs.Reading.{readings_of}
-use Rattle.check_core.specs.Finding.{after_line, after_lines, are_ended, broken_by, finding, first_line, first_lines, has_end, lines_to, more_lines, or_broken, reply_in, text_read, verdict_of, verdict_on}
+use Rattle.check_core.specs.Finding.{after_line, after_lines, are_ended, broken_by, finding, first_line, first_lines, has_end, lines_to, more_lines, or_broken, reply_in, text_read, verdict_of, verdict_at}
 
 -- lines that are read as a reply
 
@@ -39,7 +39,7 @@ pub ended_more : (k : ℕ) (bytes : List ℕ) → are_ended 1 bytes ≡ true →
 ended_more k bytes e = ap (λ b. b && are_ended k (after_line bytes)) (first_ended (has_end bytes) e)
 
 -- the first line is not there
-pub not_ended : (event : Event) (bytes : List ℕ) (w : Known) → are_ended 1 bytes ≡ false → verdict_on (Ok (Some event)) bytes w ≡ Err Promise.Form
+pub not_ended : (event : Event) (bytes : List ℕ) (w : Known) → are_ended 1 bytes ≡ false → verdict_at (Ok (Some event)) bytes w ≡ Err Promise.Form
 not_ended event bytes w e =
     elim (has_end bytes) as (λ b. (b && true) ≡ false
     → verdict_of event (if b && are_ended (more_lines event w) (after_line bytes) then text_read (first_lines (suc (more_lines event w)) bytes) else None)
@@ -51,7 +51,7 @@ not_ended event bytes w e =
 -- verdicts on replies
 
 pub by_reply : (event : Event) (bytes : List ℕ) (w : Known) (found : Option Reply) → reply_in (suc (more_lines event w)) bytes ≡ found
-    → verdict_on (Ok (Some event)) bytes w ≡ verdict_of event found (reply_in 1 bytes) w
+    → verdict_at (Ok (Some event)) bytes w ≡ verdict_of event found (reply_in 1 bytes) w
 by_reply event bytes w found e = ap (λ (r : Option Reply). verdict_of event r (reply_in 1 bytes) w) e
 
 pub reply_judged : (verdict : Result ℕ Promise) (lines : ℕ) (event : Event) (reply : Reply) (bytes : List ℕ) (w : Known) (new : SeenMachine)
@@ -67,7 +67,7 @@ reply_judged (Err promise) lines event reply bytes w new left is count found res
 
 -- no reply: the first line alone
 pub first_judged : (event : Event) (bytes : List ℕ) (w : Known) (first : Option Reply) (promise : Promise) → reply_in (suc (more_lines event w)) bytes ≡ None
-    → reply_in 1 bytes ≡ first → promise ≡ broken_by event first w → verdict_on (Ok (Some event)) bytes w ≡ Err promise
+    → reply_in 1 bytes ≡ first → promise ≡ broken_by event first w → verdict_at (Ok (Some event)) bytes w ≡ Err promise
 first_judged event bytes w first promise none is same =
     by_reply event bytes w None none ∙ ap (λ (r : Option Reply). Err (broken_by event r w)) is ∙ ap (λ (p : Promise). Err p) (sym same)
 
@@ -98,14 +98,14 @@ fault_judged (Err promise) fault bytes w m left is shows =
 abbrev Line : Type 0
 Line = Result (Option Event) LineFault
 
-pub goes_on : (line at lines : ℕ) (reading : Line) (readings : List Line) (bytes : List ℕ) (w after : Known) → verdict_on reading bytes w ≡ Ok after
+pub goes_on : (line at lines : ℕ) (reading : Line) (readings : List Line) (bytes : List ℕ) (w after : Known) → verdict_at reading bytes w ≡ Ok after
     → lines ≡ lines_to reading w → finding line at (reading ∷ readings) bytes w ≡ finding (line + 1) (at + lines) readings (after_lines lines bytes) after
 goes_on line at lines reading readings bytes w after is same =
     ap (λ (verdict : Result Known Promise). or_broken verdict (line + 1) (at + 1)
     (λ next. finding (line + 1) (at + lines_to reading w) readings (after_lines (lines_to reading w) bytes) next)) is
     ∙ ap (λ n. finding (line + 1) (at + n) readings (after_lines n bytes) after) (sym same)
 
-pub breaks : (line at : ℕ) (promise : Promise) (reading : Line) (readings : List Line) (bytes : List ℕ) (w : Known) → verdict_on reading bytes w ≡ Err promise
+pub breaks : (line at : ℕ) (promise : Promise) (reading : Line) (readings : List Line) (bytes : List ℕ) (w : Known) → verdict_at reading bytes w ≡ Err promise
     → finding line at (reading ∷ readings) bytes w ≡ Broken (record { line = line + 1; reply = at + 1; promise = promise })
 breaks line at promise reading readings bytes w is =
     ap (λ (verdict : Result Known Promise). or_broken verdict (line + 1) (at + 1)

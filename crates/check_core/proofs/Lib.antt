@@ -1,4 +1,5 @@
 pub mod ReadingLemmas
+pub mod Ending
 pub mod CheckLemmas
 pub mod KeptLemmas
 pub mod Witnesses

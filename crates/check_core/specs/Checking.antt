@@ -5,15 +5,15 @@ use Rattle.words_core.specs.declared.event.LineFault.{LineFault}
 use Rattle.promise_core.specs.declared.promise.Promise.{Promise}
 use Rattle.promise_core.specs.State.{Known}
 use Rattle.judge.specs.Machine.{SeenMachine, ShowsKnown}
-use Rattle.check_core.specs.Finding.{after_lines, lines_to, tells_fault, verdict_on}
+use Rattle.check_core.specs.Finding.{after_lines, lines_to, tells_fault, verdict_at}
 
 -- The verdict on the reply to a line that reads so: how many lines it has, which are not left after it, where it is allowed, and
 -- then what is known after it is shown; or the first promise that it breaks.
 abbrev pub IsLineVerdict : Result ℕ Promise → Result (Option Event) LineFault → List ℕ → Known → SeenMachine
     → Option (List ℕ) → Type 0
 IsLineVerdict (Ok lines) reading bytes w new left = (lines ≡ lines_to reading w) × (left ≡ Some (after_lines lines bytes))
-    × ((after : Known) × (verdict_on reading bytes w ≡ Ok after) × ShowsKnown new after)
-IsLineVerdict (Err promise) reading bytes w new left = verdict_on reading bytes w ≡ Err promise
+    × ((after : Known) × (verdict_at reading bytes w ≡ Ok after) × ShowsKnown new after)
+IsLineVerdict (Err promise) reading bytes w new left = verdict_at reading bytes w ≡ Err promise
 
 -- the same where the line is faulty
 abbrev pub IsFaultVerdict : Result ℕ Promise → LineFault → List ℕ → Option (List ℕ) → Type 0

@@ -94,10 +94,10 @@ abbrev pub tells_fault : LineFault → List ℕ → Bool
 tells_fault fault bytes = are_ended 1 bytes && bytes_eq (first_lines 1 bytes) (text_of (fault_reply fault))
 
 -- What is known after a line that reads so, and the reply that stands first in these bytes; else the first promise that it breaks.
-abbrev pub verdict_on : Result (Option Event) LineFault → List ℕ → Known → Result Known Promise
-verdict_on (Ok None) bytes w = Ok w
-verdict_on (Err fault) bytes w = if tells_fault fault bytes then Ok w else Err Promise.Form
-verdict_on (Ok (Some event)) bytes w = verdict_of event (reply_in (suc (more_lines event w)) bytes) (reply_in 1 bytes) w
+abbrev pub verdict_at : Result (Option Event) LineFault → List ℕ → Known → Result Known Promise
+verdict_at (Ok None) bytes w = Ok w
+verdict_at (Err fault) bytes w = if tells_fault fault bytes then Ok w else Err Promise.Form
+verdict_at (Ok (Some event)) bytes w = verdict_of event (reply_in (suc (more_lines event w)) bytes) (reply_in 1 bytes) w
 
 -- how many lines the reply to such a line has
 abbrev pub lines_to : Result (Option Event) LineFault → Known → ℕ
@@ -115,7 +115,7 @@ or_broken (Err promise) line reply more = Broken (record { line = line; reply = 
 abbrev pub finding : ℕ → ℕ → List (Result (Option Event) LineFault) → List ℕ → Known → Finding
 finding line reply [] [] w = Kept line
 finding line reply [] (_ ∷ _) w = Broken (record { line = line; reply = reply + 1; promise = Promise.Form })
-finding line reply (reading ∷ readings) bytes w = or_broken (verdict_on reading bytes w) (line + 1) (reply + 1)
+finding line reply (reading ∷ readings) bytes w = or_broken (verdict_at reading bytes w) (line + 1) (reply + 1)
     (λ after. finding (line + 1) (reply + lines_to reading w) readings (after_lines (lines_to reading w) bytes) after)
 
 -- of the texts of a trace and of the replies to it

@@ -3,7 +3,9 @@
 ghost use Rattle.std.specs.Prelude.{◌≡◌, ℕ, ◌+◌, ◌^◌, ◌<◌, ◌==◌, List, Some, IfOk, false, length};
 ghost use Rattle.promise_core.specs.State.{Known};
 ghost use Rattle.judge.specs.Machine.{ShowsKnown};
+ghost use Rattle.check_core.specs.Ending.{ComesToAdd, IsEndedBy};
 ghost use Rattle.check_core.specs.Finding.{finding_of};
+ghost use Rattle.check_core.specs.Reading.{readings_of};
 
 use crate::finding::{Breach, Finding, Unchecked};
 use crate::gathered::Gathered;
@@ -27,8 +29,12 @@ pub fn check<T: Feed, R: Feed>(
 ) -> Result<Finding, Unchecked>
     requires trace_fine { trace.old.failed ≡ false }
     requires replies_fine { replies.old.failed ≡ false }
-    ensures { (w : Known) (asked told : List ℕ) → ShowsKnown machine.old w → trace.old.left ≡ Some asked
+    ensures found { (w : Known) (asked told : List ℕ) → ShowsKnown machine.old w → trace.old.left ≡ Some asked
         → replies.old.left ≡ Some told → IfOk result (λ finding. finding ≡ finding_of w asked told) }
+    // Memory runs out only where something more has to be kept, and no promise was broken before.
+    ensures end { IsEndedBy result trace.new.failed replies.new.failed ((w : Known) (asked told : List ℕ)
+        → ShowsKnown machine.old w → trace.old.left ≡ Some asked → replies.old.left ≡ Some told
+        → ComesToAdd (readings_of asked) told w) }
 {
     let _asked_at_most = trace.room();
     let _told_at_most = replies.room();
@@ -66,7 +72,8 @@ fn has_ended<R: Feed>(
     text: &mut Gathered<MOST_TEXT_BYTES>,
 ) -> Result<bool, Unchecked>
     requires fine { replies.old.failed ≡ false }
-    ensures { (bytes : List ℕ) → replies.old.left ≡ Some bytes → IfOk result (λ ended. ended ≡ (length bytes == 0)) }
+    ensures none { (bytes : List ℕ) → replies.old.left ≡ Some bytes → IfOk result (λ ended. ended ≡ (length bytes == 0)) }
+    ensures end { IsEndedBy result false replies.new.failed ⊥ }
 {
     text.clear();
     match replies.next(text) {

@@ -1,8 +1,9 @@
 //! The lines of a reply, gathered and read.
 
-ghost use Rattle.std.specs.Prelude.{◌≡◌, ℕ, ◌+◌, ◌≤◌, List, [], ◌++◌, Some, Ok, IfOk, OnOk, length, true, false};
+ghost use Rattle.std.specs.Prelude.{◌≡◌, ℕ, ◌+◌, ◌≤◌, List, [], ◌++◌, Some, Ok, IfOk, length, true, false};
 ghost use Rattle.std.specs.Str.{bytes_eq};
 ghost use Rattle.words_core.specs.Texts.{text_of};
+ghost use Rattle.check_core.specs.Ending.{IsEndedBy};
 ghost use Rattle.check_core.specs.Finding.{after_lines, are_ended, fault_reply, first_lines, tells_fault, text_read};
 ghost use Rattle.check_core.specs.Gathered.{Gathers};
 
@@ -26,7 +27,7 @@ pub fn reads_fault<F: Feed>(
     ensures told { (bytes : List ℕ) → replies.old.left ≡ Some bytes → IfOk result (λ told. told ≡ tells_fault fault bytes) }
     ensures left { (bytes : List ℕ) → replies.old.left ≡ Some bytes → result ≡ Ok true → replies.new.left ≡ Some (after_lines 1 bytes) }
     ensures room { result ≡ Ok true → replies.new.room + 1 ≤ replies.old.room }
-    ensures fine { OnOk result (replies.new.failed ≡ false) }
+    ensures end { IsEndedBy result false replies.new.failed ⊥ }
 {
     let mut due = ArrayVec::<u8, MOST_REPLY_BYTES>::new();
     write_fault(fault, &mut due);
@@ -77,7 +78,7 @@ pub fn gather<F: Feed>(
     ensures came { (bytes front : List ℕ) → replies.old.left ≡ Some bytes → Gathers MOST_TEXT_BYTES front text.old → result ≡ Ok true
         → Gathers MOST_TEXT_BYTES (front ++ first_lines lines bytes) text.new }
     ensures room { result ≡ Ok true → replies.new.room + lines ≤ replies.old.room }
-    ensures fine { OnOk result (replies.new.failed ≡ false) }
+    ensures end { IsEndedBy result false replies.new.failed ⊥ }
 {
     let mut more = lines;
     'lines: while more > 0 {

@@ -10,6 +10,7 @@ pub mod laws;
 mod lines;
 mod reader;
 mod shown;
+mod taken;
 mod verdicts;
 
 pub use checking::check;
@@ -19,3 +20,4 @@ pub use gathering::{gather, read, reads_fault};
 pub use lines::next_reading;
 pub use reader::LineReader;
 pub use shown::{MOST_PART_BYTES, MOST_TEXT_BYTES, Shown};
+pub use taken::{TakenFrame, taken_frame};

@@ -2,6 +2,7 @@
 
 ghost use Rattle.std.specs.Prelude.{◌≡◌, ℕ, ◌<◌, ◌≤◌, List, Some, IfOk, IfSome, false, is_err, is_ok};
 ghost use Rattle.words_core.specs.Grammar.{reading_of};
+ghost use Rattle.check_core.specs.Ending.{IsEndedBy};
 ghost use Rattle.check_core.specs.Gathered.{Gathers};
 ghost use Rattle.check_core.specs.Reading.{IsNextReading, without_line_feed};
 
@@ -20,7 +21,7 @@ pub fn next_reading<F: Feed>(
     requires fine { trace.old.failed ≡ false }
     ensures reading { (bytes : List ℕ) → trace.old.left ≡ Some bytes → IfOk result (λ reading. IsNextReading bytes reading trace.new.left) }
     ensures less { IfOk result (λ reading. IfSome reading (λ _. trace.new.room < trace.old.room)) }
-    ensures fine { IfOk result (λ _. trace.new.failed ≡ false) }
+    ensures end { IsEndedBy result trace.new.failed false ⊥ }
 {
     line.clear();
     if trace.next(line).is_err() {
@@ -33,7 +34,7 @@ pub fn next_reading<F: Feed>(
 }
 
 /// What a line says that may have its LF.
-fn reading(line: &Gathered<MOST_PART_BYTES>) -> Result<Option<Event>, LineFault>
+pub(crate) fn reading(line: &Gathered<MOST_PART_BYTES>) -> Result<Option<Event>, LineFault>
     ensures { (part : List ℕ) → Gathers MOST_PART_BYTES part line.now → result ≡ reading_of (without_line_feed part) }
 {
     match line.whole() {

@@ -1,6 +1,10 @@
 //! The line that is being checked, and its reply.
 
 use crate::gathered::Gathered;
+use crate::gathering::read;
+use crate::lines::reading;
+use crate::taken::{TakenFrame, taken_frame};
+use judge::Machine;
 
 /// A line of a trace has at most 255 bytes, and then may have a carriage return and a line feed.
 pub const MOST_PART_BYTES: usize = 257;
@@ -13,6 +17,8 @@ pub const MOST_TEXT_BYTES: usize = 65_792;
 pub struct Shown {
     pub line: Gathered<MOST_PART_BYTES>,
     pub reply: Gathered<MOST_TEXT_BYTES>,
+    /// What is in the way of the page block that the reply tells, where that was looked for.
+    pub taken: Option<TakenFrame>,
 }
 
 impl Shown {
@@ -21,6 +27,14 @@ impl Shown {
         Shown {
             line: Gathered::new(),
             reply: Gathered::new(),
+            taken: None,
+        }
+    }
+
+    /// Looks for what is in the way, on the machine that the line was judged on.
+    pub fn look_for_taken(&mut self, machine: &Machine) {
+        if let (Ok(Some(event)), Some(reply)) = (reading(&self.line), read(&self.reply)) {
+            self.taken = taken_frame(machine, &event, &reply.body);
         }
     }
 }

@@ -1,10 +1,12 @@
 //! Verdicts on the reply to one line.
 
-ghost use Rattle.std.specs.Prelude.{◌≡◌, ℕ, ◌+◌, ◌<◌, ◌≤◌, ◌^◌, List, [], Some, Ok, IfOk, OnOk, OnSome, false, true, suc};
+ghost use Rattle.std.specs.Prelude.{◌≡◌, ℕ, ◌+◌, ◌<◌, ◌≤◌, ◌^◌, List, [], Some, Ok, IfOk, OnSome, false, true, suc};
 ghost use Rattle.promise_core.specs.State.{Known};
 ghost use Rattle.promise_core.specs.Promises.{allowed};
+ghost use Rattle.judge.specs.Adding.{IsAllowedAddition};
 ghost use Rattle.judge.specs.Machine.{ShowsKnown};
 ghost use Rattle.check_core.specs.Checking.{IsFaultVerdict, IsLineVerdict, IsReplyVerdict};
+ghost use Rattle.check_core.specs.Ending.{AddsAt, IsEndedBy};
 ghost use Rattle.check_core.specs.Finding.{after_lines, are_ended, broken_by, first_lines, is_refusal, more_lines, reply_in};
 ghost use Rattle.check_core.specs.Gathered.{Gathers};
 
@@ -32,7 +34,8 @@ pub(crate) fn judge_line<R: Feed>(
     ensures judged { (w : Known) (bytes : List ℕ) → ShowsKnown machine.old w → replies.old.left ≡ Some bytes
         → IfOk result (λ verdict. IsLineVerdict verdict reading.now bytes w machine.new replies.new.left) }
     ensures room { IfOk result (λ verdict. IfOk verdict (λ lines. replies.new.room + lines ≤ replies.old.room)) }
-    ensures fine { OnOk result (replies.new.failed ≡ false) }
+    ensures end { IsEndedBy result false replies.new.failed ((w : Known) (bytes : List ℕ) → ShowsKnown machine.old w
+        → replies.old.left ≡ Some bytes → AddsAt reading.now bytes w) }
 {
     text.clear();
     match reading {
@@ -55,7 +58,7 @@ fn judge_fault<R: Feed>(
     ensures told { (bytes : List ℕ) → replies.old.left ≡ Some bytes
         → IfOk result (λ verdict. IsFaultVerdict verdict fault bytes replies.new.left) }
     ensures room { IfOk result (λ verdict. IfOk verdict (λ lines. replies.new.room + lines ≤ replies.old.room)) }
-    ensures fine { OnOk result (replies.new.failed ≡ false) }
+    ensures end { IsEndedBy result false replies.new.failed ⊥ }
 {
     if reads_fault(fault, replies, text)? {
         Ok(Ok(1))
@@ -76,7 +79,8 @@ fn judge_event<R: Feed>(
     ensures judged { (w : Known) (bytes : List ℕ) → ShowsKnown machine.old w → replies.old.left ≡ Some bytes
         → IfOk result (λ verdict. IsLineVerdict verdict (Ok (Some event.now)) bytes w machine.new replies.new.left) }
     ensures room { IfOk result (λ verdict. IfOk verdict (λ lines. replies.new.room + lines ≤ replies.old.room)) }
-    ensures fine { OnOk result (replies.new.failed ≡ false) }
+    ensures end { IsEndedBy result false replies.new.failed ((w : Known) (bytes : List ℕ) → ShowsKnown machine.old w
+        → replies.old.left ≡ Some bytes → AddsAt (Ok (Some event.now)) bytes w) }
 {
     let more = more_lines(machine, event);
     if more == 0 {
@@ -99,7 +103,8 @@ fn judge_single<R: Feed>(
         → replies.old.left ≡ Some bytes
         → IfOk result (λ verdict. IsLineVerdict verdict (Ok (Some event.now)) bytes w machine.new replies.new.left) }
     ensures room { IfOk result (λ verdict. IfOk verdict (λ lines. replies.new.room + lines ≤ replies.old.room)) }
-    ensures fine { OnOk result (replies.new.failed ≡ false) }
+    ensures end { IsEndedBy result false replies.new.failed ((w : Known) (bytes : List ℕ) → ShowsKnown machine.old w
+        → more_lines event.now w ≡ 0 → replies.old.left ≡ Some bytes → AddsAt (Ok (Some event.now)) bytes w) }
 {
     if !gather(replies, 1, text)? {
         return Ok(Err(Promise::Form));
@@ -125,7 +130,8 @@ fn judge_table<R: Feed>(
         → replies.old.left ≡ Some bytes
         → IfOk result (λ verdict. IsLineVerdict verdict (Ok (Some event.now)) bytes w machine.new replies.new.left) }
     ensures room { IfOk result (λ verdict. IfOk verdict (λ lines. replies.new.room + lines ≤ replies.old.room)) }
-    ensures fine { OnOk result (replies.new.failed ≡ false) }
+    ensures end { IsEndedBy result false replies.new.failed ((w : Known) (bytes : List ℕ) → ShowsKnown machine.old w
+        → more_lines event.now w ≡ more → replies.old.left ≡ Some bytes → AddsAt (Ok (Some event.now)) bytes w) }
 {
     if !gather(replies, 1, text)? {
         return Ok(Err(Promise::Form));
@@ -149,7 +155,7 @@ fn read_more<R: Feed>(
     ensures left { (bytes : List ℕ) → replies.old.left ≡ Some bytes
         → IfOk result (λ found. OnSome found (replies.new.left ≡ Some (after_lines more bytes))) }
     ensures room { IfOk result (λ found. OnSome found (replies.new.room + more ≤ replies.old.room)) }
-    ensures fine { OnOk result (replies.new.failed ≡ false) }
+    ensures end { IsEndedBy result false replies.new.failed ⊥ }
 {
     if gather(replies, more, text)? {
         Ok(read(text))
@@ -168,6 +174,7 @@ fn judge_reply(
     ensures judged { (w : Known) → ShowsKnown machine.old w
         → IfOk result (λ verdict. IsReplyVerdict verdict lines (allowed event.now reply.now w) machine.new) }
     ensures lines { IfOk result (λ verdict. IfOk verdict (λ told. told ≡ lines)) }
+    ensures end { IsEndedBy result false false (IsAllowedAddition event.now reply.now machine.old) }
 {
     match machine.judge(event, reply)? {
         Ok(()) => Ok(Ok(lines)),
@@ -181,7 +188,8 @@ fn broken_by(
     event: &Event,
     first: &Option<Reply>,
 ) -> Result<Promise, Unchecked>
-    ensures { (w : Known) → ShowsKnown machine.old w → IfOk result (λ promise. promise ≡ broken_by event.now first.now w) }
+    ensures broken { (w : Known) → ShowsKnown machine.old w → IfOk result (λ promise. promise ≡ broken_by event.now first.now w) }
+    ensures end { IsEndedBy result false false ⊥ }
 {
     let Some(reply) = first else {
         return Ok(Promise::Form);

@@ -15,9 +15,10 @@ use Rattle.world_core.proofs.MachineLists.{slice_get-set_other}
 use Rattle.promise_core.specs.declared.promise.Promise.{Promise}
 use Rattle.promise_core.specs.State.{State, Known, opening_state, state_after, owners_after}
 use Rattle.promise_core.specs.Promises.{is_for, is_no_tenant, named, known_after, verdict, kept, judged, allowed}
-use Rattle.judge_core.specs.Verdicts.{broken, verdict_on}
-use Rattle.judge.specs.Showing.{Seen, Shows, Fits, IsJudged}
+use Rattle.judge_replies.specs.Verdicts.{broken, verdict_on}
+use Rattle.judge.specs.Showing.{Seen, ShowsState, FitsKnown, IsJudged}
 use Rattle.judge.specs.Machine.{SeenMachine, ShowsKnown, IsVerdict}
+use Rattle.judge.specs.Adding.{IsKeptAddition, IsAllowedAddition}
 
 -- Lists
 
@@ -44,14 +45,14 @@ set_is (z ∷ zs) zero x y e = cc
 set_is (z ∷ zs) (suc i) x y e = set_is zs i x y e
 
 -- where one tenant and its state are others, and these are shown
-set_shown : (xs : List Seen) (ss : List State) (t : ℕ) (z : Seen) (n : State) → Shows z n
-    → ((k : ℕ) (y : Seen) (s : State) → slice_get xs k ≡ Some y → slice_get ss k ≡ Some s → Shows y s)
-    → (k : ℕ) (y : Seen) (s : State) → slice_get (slice_set xs t z) k ≡ Some y → slice_get (slice_set ss t n) k ≡ Some s → Shows y s
+set_shown : (xs : List Seen) (ss : List State) (t : ℕ) (z : Seen) (n : State) → ShowsState z n
+    → ((k : ℕ) (y : Seen) (s : State) → slice_get xs k ≡ Some y → slice_get ss k ≡ Some s → ShowsState y s)
+    → (k : ℕ) (y : Seen) (s : State) → slice_get (slice_set xs t z) k ≡ Some y → slice_get (slice_set ss t n) k ≡ Some s → ShowsState y s
 set_shown xs ss t z n sh all k y s a b = elim (cases_eq t k) [
   | inl same ↦
       let at : slice_get (slice_set xs k z) k ≡ Some y = subst (λ i. slice_get (slice_set xs i z) k ≡ Some y) same a in
       let of : slice_get (slice_set ss k n) k ≡ Some s = subst (λ i. slice_get (slice_set ss i n) k ≡ Some s) same b in
-      subst (λ v. Shows v s) (set_is xs k y z at) (subst (Shows z) (set_is ss k s n of) sh)
+      subst (λ v. ShowsState v s) (set_is xs k y z at) (subst (ShowsState z) (set_is ss k s n of) sh)
   | inr other ↦ all k y s (sym (slice_get-set_other xs t k z other) ∙ a) (sym (slice_get-set_other ss t k n other) ∙ b)
 ]
 
@@ -120,16 +121,16 @@ module _ (event : Event) (reply : Reply) (x : SeenMachine) (t : ℕ) (y z : Seen
   state : (s : State) × (slice_get w.states t ≡ Some s)
   state = beside w.states x.tenants t y shown.many here
 
-  fits : Fits y x.owners w
+  fits : FitsKnown y x.owners w
   fits = record { limit = shown.limit; order = shown.order ∙ sym order; owned = shown.owned }
 
-  at : (s : State) → slice_get w.states t ≡ Some s → Shows y s
+  at : (s : State) → slice_get w.states t ≡ Some s → ShowsState y s
   at s is = shown.states t y s here is
 
   after : State → Known
   after next = record w { owners = owners_after event reply.body w.owners; states = slice_set w.states t next }
 
-  shows : (next : State) → Shows z next → ShowsKnown (followed event reply.body x t z) (after next)
+  shows : (next : State) → ShowsState z next → ShowsKnown (followed event reply.body x t z) (after next)
   unfolding after
   shows next sh = record {
     limit = shown.limit;
@@ -156,7 +157,7 @@ module _ (event : Event) (reply : Reply) (x : SeenMachine) (t : ℕ) (y z : Seen
   tenant_judged (Ok u) new judged is =
       let s : State = state.0 in
       let at_t : slice_get w.states t ≡ Some s = state.1 in
-      let sh : Shows y s = at s at_t in
+      let sh : ShowsState y s = at s at_t in
       let f = (judged.kept refl).states s sh in
       let next : state_after w.order event reply.body s ≡ Some f.0 = ap (λ k. state_after k event reply.body s) fits.order ∙ f.1 in (
         after f.0,
@@ -167,6 +168,23 @@ module _ (event : Event) (reply : Reply) (x : SeenMachine) (t : ℕ) (y z : Seen
       let s : State = state.0 in
       let at_t : slice_get w.states t ≡ Some s = state.1 in
       allowed_as (Err promise) s at_t (judged.same w s fits (at s at_t))
+
+  -- a reply that keeps every promise is allowed
+  kept_allowed : ((s : State) → FitsKnown y x.owners w → ShowsState y s → verdict_on event reply.body w s ≡ Ok tt)
+      → (next : Known) × (allowed event reply w ≡ Ok next)
+  kept_allowed kept =
+      let s : State = state.0 in (
+        known_after event reply.body w (unwrap_or (state_after w.order event reply.body s) s),
+        allowed_as (Ok tt) s state.1 (sym (kept s fits (at s state.1))),
+      )
+
+pub addition_allowed : (event : Event) (reply : Reply) (x : SeenMachine) (t : ℕ) (y : Seen) → named event ≡ Some t
+    → is_for event true reply.addressee ≡ true → slice_get x.tenants t ≡ Some y → y.left.order ≡ x.order
+    → IsKeptAddition event reply.body x.owners y → IsAllowedAddition event reply x
+addition_allowed event reply x t y name right here order is = record {
+  adds = is.adds;
+  allowed = λ w shown. kept_allowed event reply x t y y w name right here order shown (λ s fits sh. is.kept w s fits sh);
+}
 
 -- .. and only its own command
 tenant_owns : (t : ℕ) (command : Command) (body : Body) (os : List (Option Owner)) → owners_after (On.Tenant t command) body os ≡ os

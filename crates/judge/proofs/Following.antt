@@ -20,7 +20,7 @@ use Rattle.promise_core.specs.Holdings.{ToldCache, Holdings, cache_told, with_li
 use Rattle.promise_core.specs.State.{is_in_use, with_range, with_object, is_in_no_slab, state_after}
 use Rattle.judge_bytes.specs.Left.{Left, left_slots, left_at, Becomes}
 use Rattle.judge.specs.Showing.{Seen, state_with, Follows}
-use Rattle.judge.specs.Inside.{AreNumbered, known_by, IsKept}
+use Rattle.judge.specs.Inside.{AreNumbered, known_by, IsKeptReply}
 use Rattle.judge.proofs.Keeping.{next}
 
 pub follows : (event : Event) (body : Body) (old new : Seen) (change : Cells → Cells) (held : List ℕ) → Becomes old.left held change new.left
@@ -189,7 +189,7 @@ unfolding state_after
 reported t r old = follows (On.Tenant t Asked.Report) (Say.Report r) old (record old { told = Some r }) (λ cells. cells) (left_slots old.left) (stays old.left) (λ cells. refl)
 
 -- an object is of a cache that is there
-pub not_taken : (t number place : ℕ) (x : Seen) → cache_told x.has number ≡ None → IsKept (On.Tenant t (Asked.Take number)) (Say.Object place) x → ⊥
+pub not_taken : (t number place : ℕ) (x : Seen) → cache_told x.has number ≡ None → IsKeptReply (On.Tenant t (Asked.Take number)) (Say.Object place) x → ⊥
 not_taken t number place x none (os, ok) =
     let n = next (On.Tenant t (Asked.Take number)) (Say.Object place) (known_by os x.left.order) (state_with x (left_at x.left)) ok in
     false≢true (sym (ap (λ o. option_map_or (λ c. can_be_taken x.left.order x.has c place) o false) none) ∙ n.objects)

@@ -22,11 +22,11 @@ use Rattle.promise_core.specs.Promises.{refusals, blocks, objects, new_layout, g
 use Rattle.promise_core.specs.State.{State, Known, opening_state, state_after}
 use Rattle.promise_core.proofs.Confined.{in_put, some_state}
 use Rattle.promise_core.proofs.Laid.{IsLaid, AllGridded, can_stand_is, step, grid_step}
-use Rattle.judge_core.specs.Verdicts.{kept_by, verdict_on}
-use Rattle.judge_core.proofs.Allowed.{all_kept}
+use Rattle.judge_replies.specs.Verdicts.{kept_by, verdict_on}
+use Rattle.judge_replies.proofs.Allowed.{all_kept}
 use Rattle.judge_bytes.specs.Left.{left_slots, left_at, Becomes}
-use Rattle.judge.specs.Showing.{Seen, state_with, Shows, Follows}
-use Rattle.judge.specs.Inside.{AreNumbered, IsSound, known_by, IsKept}
+use Rattle.judge.specs.Showing.{Seen, state_with, ShowsState, Follows}
+use Rattle.judge.specs.Inside.{AreNumbered, LieInSlots, known_by, IsKeptReply}
 
 -- the state after a reply that keeps each promise, and some of these
 pub record IsNext (event : Event) (body : Body) (w : Known) (s : State) : Type 0 where
@@ -61,7 +61,7 @@ next event body w s ok =
     }
 
 -- what was left is shown as it is kept
-pub shown : (x : Seen) → Shows x (state_with x (left_at x.left))
+pub shown : (x : Seen) → ShowsState x (state_with x (left_at x.left))
 shown x = record { cells = λ place held. refl; rest = refl }
 
 -- The numbers of caches stay below the limit
@@ -109,13 +109,13 @@ number_step w event body s s' e limit l g = absurd (cc)
 -- Sound
 
 -- after a reply that keeps each promise, where the slots are those of what was left
-pub sound_after : (event : Event) (body : Body) (old new : Seen) → IsSound old.has old.left → IsKept event body old → Follows event body old new
-    → ((u : ℕ) → list_any (λ v. v == u) (left_slots new.left) ≡ has_slot new.has u) → IsSound new.has new.left
+pub sound_after : (event : Event) (body : Body) (old new : Seen) → LieInSlots old.has old.left → IsKeptReply event body old → Follows event body old new
+    → ((u : ℕ) → list_any (λ v. v == u) (left_slots new.left) ≡ has_slot new.has u) → LieInSlots new.has new.left
 sound_after event body old new sound (os, ok) follows slots =
     let w : Known = known_by os old.left.order in
     let s : State = state_with old (left_at old.left) in
     let n : IsNext event body w s = next event body w s ok in
-    let f : (x : State) × (state_after old.left.order event body s ≡ Some x) × Shows new x = follows.states s (shown old) in
+    let f : (x : State) × (state_after old.left.order event body s ≡ Some x) × ShowsState new x = follows.states s (shown old) in
     let has : f.0.has ≡ new.has = ap (λ (x : State). x.has) f.2.rest in
     record {
       sized = subst (λ k. k ≤ MOST_ORDER) (sym follows.order) sound.sized;
@@ -128,7 +128,7 @@ sound_after event body old new sound (os, ok) follows slots =
     }
 
 -- where both slots stay
-pub same_slots : (old new : Seen) (change : Cells → Cells) → IsSound old.has old.left → Becomes old.left (left_slots old.left) change new.left
+pub same_slots : (old new : Seen) (change : Cells → Cells) → LieInSlots old.has old.left → Becomes old.left (left_slots old.left) change new.left
     → new.has.slots ≡ old.has.slots → (u : ℕ) → list_any (λ v. v == u) (left_slots new.left) ≡ has_slot new.has u
 same_slots old new change sound becomes same u =
     ap (list_any (λ v. v == u)) becomes.slots ∙ sound.slots u ∙ sym (ap (list_any (λ v. v == u)) same)
@@ -144,7 +144,7 @@ is_refusal (Say.Refused r) = inl (r, refl)
 is_refusal b = inr (λ r e. absurd (cc))
 
 -- where only a refusal keeps each promise
-pub unanswered : (event : Event) (body : Body) (x : Seen) → IsKept event body x
+pub unanswered : (event : Event) (body : Body) (x : Seen) → IsKeptReply event body x
     → (((r : Refusal) → body ≡ Say.Refused r → ⊥) → (w : Known) (s : State) → verdict_on event body w s ≡ Err Promise.Form) → Follows event body x x
 unanswered event body x (os, ok) only = elim (is_refusal body) [
   | inl (r, e) ↦ subst (λ b. Follows event b x x) (sym e) (refused event r x)
@@ -153,8 +153,8 @@ unanswered event body x (os, ok) only = elim (is_refusal body) [
 
 -- Of what a function was given, at the fields and at the reply that it found
 
-pub asked : (event : Event) (body b : Body) (x y : Seen) → x ≡ y → body ≡ b → IsKept event body y → IsKept event b x
-asked event body b x y is same k = subst (IsKept event b) (sym is) (subst (λ d. IsKept event d y) same k)
+pub asked : (event : Event) (body b : Body) (x y : Seen) → x ≡ y → body ≡ b → IsKeptReply event body y → IsKeptReply event b x
+asked event body b x y is same k = subst (IsKeptReply event b) (sym is) (subst (λ d. IsKeptReply event d y) same k)
 
 pub turned : (event : Event) (body b : Body) (x y new : Seen) → x ≡ y → body ≡ b → Follows event b x new → Follows event body y new
 turned event body b x y new is same f = subst (λ z. Follows event body z new) is (subst (λ d. Follows event d x new) (sym same) f)
@@ -166,7 +166,7 @@ none_of (Some x) not = absurd (not x refl)
 -- What the promises say of what was told
 
 -- a block that was handed out, or freed, is no greater than a slot
-pub order_allocated : (t k f : ℕ) (x : Seen) → IsSound x.has x.left → IsKept (On.Tenant t (Asked.Alloc k)) (Say.Frame f) x → k ≤ MOST_ORDER
+pub order_allocated : (t k f : ℕ) (x : Seen) → LieInSlots x.has x.left → IsKeptReply (On.Tenant t (Asked.Alloc k)) (Say.Frame f) x → k ≤ MOST_ORDER
 order_allocated t k f x sound (os, ok) =
     let n = next (On.Tenant t (Asked.Alloc k)) (Say.Frame f) (known_by os x.left.order) (state_with x (left_at x.left)) ok in
     let le : k ≤ x.left.order = (can_stand_is x.left.order x.has (block f k) n.blocks).aligned.0 in
@@ -182,7 +182,7 @@ order_listed order f k (b ∷ bs) all e = go (b.first == f) e (order_listed orde
     go true e rest = subst (λ n. n ≤ order) (eqb-true b.order k e) (all b (inl refl))
     go false e rest = rest e
 
-pub order_freed : (t k f : ℕ) (x : Seen) → IsSound x.has x.left → IsKept (On.Tenant t (Asked.Free f)) (Say.Freed k) x → k ≤ MOST_ORDER
+pub order_freed : (t k f : ℕ) (x : Seen) → LieInSlots x.has x.left → IsKeptReply (On.Tenant t (Asked.Free f)) (Say.Freed k) x → k ≤ MOST_ORDER
 order_freed t k f x sound (os, ok) =
     let n = next (On.Tenant t (Asked.Free f)) (Say.Freed k) (known_by os x.left.order) (state_with x (left_at x.left)) ok in
     let le : k ≤ x.left.order = order_listed x.left.order f k x.has.pages (λ b i. (sound.laid.placed None b i).0.0) n.gives in

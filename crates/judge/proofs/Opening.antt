@@ -4,7 +4,7 @@ use Rattle.std.proofs.lemmas.List.{length-replicate}
 use Rattle.model_core.specs.declared.limits.TheConstants.{MOST_CACHES}
 use Rattle.promise_core.specs.State.{opening_state, opening}
 use Rattle.promise_core.proofs.Confined.{replicated}
-use Rattle.judge.specs.Showing.{Seen, Shows, IsOpening}
+use Rattle.judge.specs.Showing.{Seen, ShowsState, IsOpeningTenant}
 use Rattle.judge.specs.Machine.{SeenMachine, ShowsKnown}
 
 -- one more tenant
@@ -16,7 +16,7 @@ each_more P (x ∷ xs) z each new zero y at = each zero y at
 each_more P (x ∷ xs) z each new (suc k) y at = each_more P xs z (λ i v here. each (suc i) v here) new k y at
 
 pub opening_shown : (order superblocks tenants : ℕ) (x : SeenMachine) → x.order ≡ order → x.owners ≡ replicate superblocks None → length x.tenants ≡ tenants
-    → ((k : ℕ) (y : Seen) → slice_get x.tenants k ≡ Some y → IsOpening order y) → ShowsKnown x (opening MOST_CACHES order superblocks tenants)
+    → ((k : ℕ) (y : Seen) → slice_get x.tenants k ≡ Some y → IsOpeningTenant order y) → ShowsKnown x (opening MOST_CACHES order superblocks tenants)
 unfolding opening
 opening_shown order superblocks tenants x sized none many each = record {
   limit = refl;
@@ -25,5 +25,5 @@ opening_shown order superblocks tenants x sized none many each = record {
   many = length-replicate tenants opening_state ∙ sym many;
   states = λ t y s at of.
       let is : s ≡ opening_state = replicated tenants t opening_state s of in
-      subst (Shows y) (sym is) (each t y at).shown;
+      subst (ShowsState y) (sym is) (each t y at).shown;
 }

@@ -13,7 +13,7 @@ use Rattle.world_core.specs.World.{given_up}
 use Rattle.promise_core.specs.State.{owners_after}
 use Rattle.judge_bytes.specs.Left.{left_at}
 use Rattle.judge.specs.Showing.{Seen, state_with}
-use Rattle.judge.specs.Inside.{known_by, IsKept}
+use Rattle.judge.specs.Inside.{known_by, IsKeptReply}
 use Rattle.judge.proofs.Keeping.{next}
 
 abbrev Owners : Type 0
@@ -21,11 +21,11 @@ Owners = List (Option Owner)
 
 -- After the answer to each command, and after any other reply
 
-pub granted : (t named u m : ℕ) (body : Body) (x : Seen) (os : Owners) → body ≡ Say.Granted named u m → IsKept (On.Admin (Do.Grant t)) body x
+pub granted : (t named u m : ℕ) (body : Body) (x : Seen) (os : Owners) → body ≡ Say.Granted named u m → IsKeptReply (On.Admin (Do.Grant t)) body x
     → slice_set os m (Some (owned_by named u)) ≡ owners_after (On.Admin (Do.Grant t)) body os
 unfolding owners_after
 granted t named u m body x os is kept =
-    let k : IsKept (On.Admin (Do.Grant t)) (Say.Granted named u m) x = subst (λ b. IsKept (On.Admin (Do.Grant t)) b x) is kept in
+    let k : IsKeptReply (On.Admin (Do.Grant t)) (Say.Granted named u m) x = subst (λ b. IsKeptReply (On.Admin (Do.Grant t)) b x) is kept in
     let n = next (On.Admin (Do.Grant t)) (Say.Granted named u m) (known_by k.0 x.left.order) (state_with x (left_at x.left)) k.1 in
     let same : named ≡ t = eqb-true named t (and_parts _ _ (and_parts _ _ n.owners).0).0 in
     ap (λ i. slice_set os m (Some (owned_by i u))) same ∙ ap (λ b. owners_after (On.Admin (Do.Grant t)) b os) (sym is)
@@ -53,11 +53,11 @@ unfolding owners_after
 not_reset t (Say.WasReset named m) os not = absurd (not named m refl)
 not_reset t body os not = refl
 
-pub moved : (t u named told m : ℕ) (body : Body) (x : Seen) (os : Owners) → body ≡ Say.Moved named told m → IsKept (On.Admin (Do.Move t u)) body x
+pub moved : (t u named told m : ℕ) (body : Body) (x : Seen) (os : Owners) → body ≡ Say.Moved named told m → IsKeptReply (On.Admin (Do.Move t u)) body x
     → slice_set (map (given_up (is_owner t u)) os) m (Some (owned_by named told)) ≡ owners_after (On.Admin (Do.Move t u)) body os
 unfolding owners_after
 moved t u named told m body x os is kept =
-    let k : IsKept (On.Admin (Do.Move t u)) (Say.Moved named told m) x = subst (λ b. IsKept (On.Admin (Do.Move t u)) b x) is kept in
+    let k : IsKeptReply (On.Admin (Do.Move t u)) (Say.Moved named told m) x = subst (λ b. IsKeptReply (On.Admin (Do.Move t u)) b x) is kept in
     let n = next (On.Admin (Do.Move t u)) (Say.Moved named told m) (known_by k.0 x.left.order) (state_with x (left_at x.left)) k.1 in
     let both = and_parts _ _ (and_parts _ _ n.owners).0 in
     let tenant : named ≡ t = eqb-true named t both.0 in

@@ -14,10 +14,10 @@ use Rattle.promise_core.specs.Bytes.{Cells, without}
 use Rattle.promise_core.specs.Holdings.{Holdings, has_slot}
 use Rattle.promise_core.specs.State.{opening_state, state_after}
 use Rattle.promise_core.proofs.Laid.{nothing_laid, nothing_gridded}
-use Rattle.judge_core.proofs.OnSlots.{no_move, no_pool}
+use Rattle.judge_replies.proofs.OnSlots.{no_move, no_pool}
 use Rattle.judge_bytes.specs.Left.{Left, left_slots, left_at, has_place, Becomes}
-use Rattle.judge.specs.Showing.{Seen, state_with, Shows, Follows}
-use Rattle.judge.specs.Inside.{IsSound, known_by, IsKept}
+use Rattle.judge.specs.Showing.{Seen, state_with, ShowsState, Follows}
+use Rattle.judge.specs.Inside.{LieInSlots, known_by, IsKeptReply}
 use Rattle.judge.proofs.Keeping.{next, unanswered}
 use Rattle.judge.proofs.Following.{changed, follows}
 
@@ -27,7 +27,7 @@ pub none_marked : (n k : ℕ) → slice_index_or (replicate k false) n false ≡
 none_marked n k = grind (arith, common_steps)
 
 pub opened : (x : Seen) (order : ℕ) → x.has ≡ record { slots = []; pages = []; caches = [] } → x.left ≡ record { order = order; slots = [] }
-    → ((n : ℕ) → slice_index_or x.hides n false ≡ false) → x.told ≡ None → Shows x opening_state
+    → ((n : ℕ) → slice_index_or x.hides n false ≡ false) → x.told ≡ None → ShowsState x opening_state
 unfolding opening_state
 opened x order has left hides told = record {
   cells = λ place held. absurd (false≢true (sym (ap (λ l. has_place l place) left) ∙ held));
@@ -35,9 +35,9 @@ opened x order has left hides told = record {
 }
 
 pub nothing_sound : (order : ℕ) (h : Holdings) (l : Left) → order ≤ MOST_ORDER → h ≡ record { slots = []; pages = []; caches = [] }
-    → l ≡ record { order = order; slots = [] } → IsSound h l
+    → l ≡ record { order = order; slots = [] } → LieInSlots h l
 unfolding opening_state
-nothing_sound order h l small has left = subst (λ y. IsSound y l) (sym has) (subst (IsSound (record { slots = []; pages = []; caches = [] })) (sym left) (record {
+nothing_sound order h l small has left = subst (λ y. LieInSlots y l) (sym has) (subst (LieInSlots (record { slots = []; pages = []; caches = [] })) (sym left) (record {
   sized = small;
   slots = λ u. refl;
   laid = nothing_laid order;
@@ -62,7 +62,7 @@ any_put p x (y ∷ ys) = go (nat_lt x y) (p x) (p y) (any_put p x ys) refl
         swap false true c = refl
         swap false false c = refl
 
-pub slots_granted : (old new : Seen) (u : ℕ) (change : Cells → Cells) → IsSound old.has old.left → Becomes old.left (u ∷ left_slots old.left) change new.left
+pub slots_granted : (old new : Seen) (u : ℕ) (change : Cells → Cells) → LieInSlots old.has old.left → Becomes old.left (u ∷ left_slots old.left) change new.left
     → new.has.slots ≡ put_rising (λ v. v) u old.has.slots → (n : ℕ) → list_any (λ v. v == n) (left_slots new.left) ≡ has_slot new.has n
 slots_granted old new u change sound becomes same n = ap (list_any (λ v. v == n)) becomes.slots ∙ (ap (λ r. u == n || r) (sound.slots n)
     ∙ (sym (any_put (λ v. v == n) u old.has.slots) ∙ sym (ap (list_any (λ v. v == n)) same)))
@@ -84,7 +84,7 @@ pub record IsNewSlot (u : ℕ) (x : Seen) : Type 0 where
   pub new : has_slot x.has u ≡ false
   pub low : (u + 1) * 2 ^ x.left.order * FRAME_BYTES ≤ 2 ^ 32
 
-pub new_slot : (t told u m : ℕ) (x : Seen) → IsKept (On.Admin (Do.Grant t)) (Say.Granted told u m) x → IsNewSlot u x
+pub new_slot : (t told u m : ℕ) (x : Seen) → IsKeptReply (On.Admin (Do.Grant t)) (Say.Granted told u m) x → IsNewSlot u x
 new_slot t told u m x (os, ok) =
     let n = next (On.Admin (Do.Grant t)) (Say.Granted told u m) (known_by os x.left.order) (state_with x (left_at x.left)) ok in
     let p = and_parts _ _ (and_parts _ _ n.owners).1 in
@@ -140,7 +140,7 @@ any_dropped u n (x ∷ xs) = go (x == u) (x == n) refl refl (any_dropped u n xs)
         ap (λ c. c || list_any (λ v. v == n) (filter (λ v. not (v == u)) xs)) at ∙ sym (ap (λ c. not c && true) other)
     go false false is at rest = ap (λ c. c || list_any (λ v. v == n) (filter (λ v. not (v == u)) xs)) at ∙ rest
 
-pub slots_taken : (old new : Seen) (u : ℕ) (change : Cells → Cells) → IsSound old.has old.left
+pub slots_taken : (old new : Seen) (u : ℕ) (change : Cells → Cells) → LieInSlots old.has old.left
     → Becomes old.left (filter (λ v. not (v == u)) (left_slots old.left)) change new.left
     → new.has.slots ≡ filter (λ v. not (v == u)) old.has.slots → (n : ℕ) → list_any (λ v. v == n) (left_slots new.left) ≡ has_slot new.has n
 slots_taken old new u change sound becomes same n = ap (list_any (λ v. v == n)) becomes.slots ∙ (any_dropped u n (left_slots old.left)
@@ -166,12 +166,12 @@ emptied t told m old new has left hides none = record {
 
 -- Nothing changes
 
-pub moved : (t u : ℕ) (body : Body) (x : Seen) → IsKept (On.Admin (Do.Move t u)) body x → Follows (On.Admin (Do.Move t u)) body x x
+pub moved : (t u : ℕ) (body : Body) (x : Seen) → IsKeptReply (On.Admin (Do.Move t u)) body x → Follows (On.Admin (Do.Move t u)) body x x
 unfolding state_after
 moved t u (Say.Moved a b m) x k = record { order = refl; states = λ s sh. (s, refl, sh) }
 moved t u body x k = unanswered (On.Admin (Do.Move t u)) body x k (λ refused w s. no_move t u w s body (λ a b m e. absurd (cc)) refused)
 
-pub pooled : (body : Body) (x : Seen) → IsKept (On.Admin Do.Pool) body x → Follows (On.Admin Do.Pool) body x x
+pub pooled : (body : Body) (x : Seen) → IsKeptReply (On.Admin Do.Pool) body x → Follows (On.Admin Do.Pool) body x x
 unfolding state_after
 pooled (Say.Owners os) x k = record { order = refl; states = λ s sh. (s, refl, sh) }
 pooled body x k = unanswered (On.Admin Do.Pool) body x k (λ refused w s. no_pool w s body (λ os e. absurd (cc)) refused)

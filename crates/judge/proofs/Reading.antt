@@ -20,10 +20,10 @@ use Rattle.promise_core.specs.declared.promise.Promise.{Promise}
 use Rattle.promise_core.specs.Bytes.{Holder, Cells, may_all_be, object_with, holder_of}
 use Rattle.promise_core.specs.Holdings.{ToldCache, Holdings, has_slot, slab_around}
 use Rattle.promise_core.specs.State.{State, Known, state_after}
-use Rattle.judge_core.specs.Verdicts.{verdict_on}
+use Rattle.judge_replies.specs.Verdicts.{verdict_on}
 use Rattle.judge_bytes.specs.Left.{Left, has_place, AreLeft}
-use Rattle.judge.specs.Showing.{Seen, Shows}
-use Rattle.judge.specs.Inside.{IsSound}
+use Rattle.judge.specs.Showing.{Seen, ShowsState}
+use Rattle.judge.specs.Inside.{LieInSlots}
 
 pub no_read : (place len t : ℕ) (w : Known) (s : State) (b : Body) → ((bytes : ArrayVec ℕ) → b ≡ Say.Bytes bytes → ⊥) → ((r : Refusal) → b ≡ Say.Refused r → ⊥)
     → verdict_on (On.Tenant t (Asked.Read place len)) b w s ≡ Err Promise.Form
@@ -66,7 +66,7 @@ object_has place len (c ∷ cs) holder e = go (find (λ p. is_within place len p
 last_ends : (j n k : ℕ) → j < n → j * k ≤ (n - 1) * k
 last_ends j n k lt = mul-le j k (n - 1) k (omega (arith, lt)) (omega arith)
 
-pub places_held : (h : Holdings) (left : Left) → IsSound h left → (place len : ℕ) (holder : Holder) → holder_of h place len ≡ Some holder
+pub places_held : (h : Holdings) (left : Left) → LieInSlots h left → (place len : ℕ) (holder : Holder) → holder_of h place len ≡ Some holder
     → (j : ℕ) → j < len → has_place left (place + j) ≡ true
 unfolding holder_of
 places_held h left sound place len holder is j lt =
@@ -98,7 +98,7 @@ places_held h left sound place len holder is j lt =
         let ends = o.ends in
         in_slot left.order (place + j) h b at.0 at.1 (omega (arith, low, is, begins)) (omega (arith, high, is, row, ends, lt))
 
-pub told_right : (x : Seen) (s : State) (place len : ℕ) (bytes : List ℕ) (holder : Holder) (right : Bool) → IsSound x.has x.left → Shows x s
+pub told_right : (x : Seen) (s : State) (place len : ℕ) (bytes : List ℕ) (holder : Holder) (right : Bool) → LieInSlots x.has x.left → ShowsState x s
     → holder_of x.has place len ≡ Some holder → length bytes ≡ len
     → ((cells : Cells) → AreLeft x.left cells → ((j : ℕ) → j < length bytes → has_place x.left (place + j) ≡ true) → right ≡ may_all_be x.has cells holder place bytes)
     → right ≡ (length bytes == len && option_map_or (λ y. may_all_be s.has s.cells y place bytes) (holder_of s.has place len) false)

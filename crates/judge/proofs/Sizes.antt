@@ -55,5 +55,14 @@ pub ok_map : {A E : Type 0} (r : Result A E) (P Q : A → Type 0) → ((a : A) �
 ok_map (Ok a) P Q f h = f a h
 ok_map (Err e) P Q f h = tt
 
+-- of what holds of a failure
+pub err_map : {A E : Type 0} (r : Result A E) (P Q : Type 0) → (P → Q) → OnErr r P → OnErr r Q
+err_map (Ok a) P Q f h = tt
+err_map (Err e) P Q f h = f h
+
+pub at_err : {A E : Type 0} (r : Result A E) (P : Type 0) → P → OnErr r P
+at_err (Ok a) P p = tt
+at_err (Err e) P p = p
+
 pub ok_at : {A E : Type 0} (r : Result A E) (P : A → Type 0) (a : A) → r ≡ Ok a → IfOk r P → P a
 ok_at r P a is h = subst (λ s. IfOk s P) is h

@@ -7,14 +7,14 @@ use Rattle.words_core.specs.declared.event.Event.{Event}
 use Rattle.words_core.specs.declared.report.Report.{Report}
 use Rattle.words_core.specs.declared.reply.Body.{Body}
 use Rattle.promise_core.specs.State.{State, Known}
-use Rattle.judge_core.specs.Verdicts.{verdict_on}
-use Rattle.judge.specs.Showing.{Seen, Shows, Fits}
+use Rattle.judge_replies.specs.Verdicts.{verdict_on}
+use Rattle.judge.specs.Showing.{Seen, ShowsState, FitsKnown}
 
-pub with_has : (x : Seen) (s : State) → Shows x s → record s { has = x.has } ≡ s
+pub with_has : (x : Seen) (s : State) → ShowsState x s → record s { has = x.has } ≡ s
 with_has x s sh = sym (λ i. record s { has = (sh.rest i).has })
 
 -- by what is kept of the tenant
-module _ (event : Event) (body : Body) (x : Seen) (owners : List (Option Owner)) (w : Known) (s : State) (fits : Fits x owners w) (sh : Shows x s) where
+module _ (event : Event) (body : Body) (x : Seen) (owners : List (Option Owner)) (w : Known) (s : State) (fits : FitsKnown x owners w) (sh : ShowsState x s) where
   pub at_has : verdict_on event body w (record s { has = x.has }) ≡ verdict_on event body w s
   at_has = sym (λ i. verdict_on event body w (record s { has = (sh.rest i).has }))
 

@@ -9,7 +9,7 @@ use Rattle.words_core.specs.declared.reply.Body.{Body}
 use Rattle.promise_core.proofs.Laid.{IsLaid, AllGridded}
 use Rattle.promise_core.specs.Holdings.{ToldCache, Holdings, has_slot}
 use Rattle.promise_core.specs.State.{Known}
-use Rattle.judge_core.specs.Verdicts.{verdict_on}
+use Rattle.judge_replies.specs.Verdicts.{verdict_on}
 use Rattle.judge_bytes.specs.Left.{Left, left_slots, left_at}
 use Rattle.judge.specs.Showing.{Seen, state_with}
 
@@ -17,7 +17,7 @@ abbrev pub AreNumbered : Holdings → Type 0
 AreNumbered h = (c : ToldCache) → IsIn c h.caches → c.number < MOST_CACHES
 
 -- what was left is of the held slots; blocks and slabs lie in them, objects in their slabs
-pub record IsSound (h : Holdings) (left : Left) : Type 0 where
+pub record LieInSlots (h : Holdings) (left : Left) : Type 0 where
   pub sized : left.order ≤ MOST_ORDER
   pub slots : (u : ℕ) → list_any (λ v. v == u) (left_slots left) ≡ has_slot h u
   pub laid : IsLaid left.order h
@@ -29,6 +29,6 @@ abbrev pub known_by : List (Option Owner) → ℕ → Known
 known_by owners order = record { limit = MOST_CACHES; order = order; owners = owners; states = [] }
 
 -- the reply keeps every promise
-abbrev pub IsKept : Event → Body → Seen → Type 0
-IsKept event body x = (owners : List (Option Owner))
+abbrev pub IsKeptReply : Event → Body → Seen → Type 0
+IsKeptReply event body x = (owners : List (Option Owner))
     × (verdict_on event body (known_by owners x.left.order) (state_with x (left_at x.left)) ≡ Ok tt)

@@ -1,4 +1,5 @@
 pub mod Showing
 pub mod Inside
 pub mod Machine
+pub mod Adding
 pub mod Sizes

@@ -5,9 +5,9 @@ ghost use Rattle.words_core.specs.declared.event.Command.{Command as Asked};
 ghost use Rattle.words_core.specs.declared.event.Event.TheVariants as On;
 ghost use Rattle.promise_core.specs.declared.promise.Promise.{Promise};
 ghost use Rattle.promise_core.specs.Promises.{is_for, is_no_tenant, named};
-ghost use Rattle.judge_core.specs.Verdicts.{broken};
+ghost use Rattle.judge_replies.specs.Verdicts.{broken};
 
-use judge_core::Verdict;
+use judge_replies::Verdict;
 use promise_core::promise::Promise;
 use words_core::{Addressee, AdminCommand, Body, Event, Refusal, Reply};
 

@@ -6,13 +6,13 @@ ghost use Rattle.words_core.specs.declared.event.Event.TheVariants as On;
 ghost use Rattle.words_core.specs.declared.event.Command.TheVariants as Asked;
 ghost use Rattle.promise_core.specs.Bytes.{holder_of, may_all_be};
 ghost use Rattle.promise_core.specs.State.{State, Known};
-ghost use Rattle.judge_core.specs.Verdicts.{verdict_on};
-ghost use Rattle.judge.specs.Inside.{IsKept};
-ghost use Rattle.judge.specs.Showing.{Shows, Follows};
+ghost use Rattle.judge_replies.specs.Verdicts.{verdict_on};
+ghost use Rattle.judge.specs.Inside.{IsKeptReply};
+ghost use Rattle.judge.specs.Showing.{ShowsState, Follows};
 
 use crate::tenant::Tenant;
 use arrayvec::ArrayVec;
-use judge_core::{Verdict, on_answer};
+use judge_replies::{Verdict, due_of_read, judge_no_read, on_answer};
 use model_core::limits::MOST_BYTES;
 use promise_core::promise::Promise;
 use words_core::Body;
@@ -20,23 +20,23 @@ use words_core::Body;
 impl Tenant {
     /// The verdict on the reply to a read of `len` bytes from a place on.
     pub(crate) fn judge_read(&self, place: u32, len: u32, body: &Body) -> Verdict
-        ensures { (t : ℕ) (w : Known) (s : State) → Shows self.now s
+        ensures { (t : ℕ) (w : Known) (s : State) → ShowsState self.now s
             → result ≡ verdict_on (On.Tenant t (Asked.Read place len)) body.now w s }
     {
         match body {
             Body::Bytes(bytes) => {
-                let due = self.held.due_of_read(place, len);
+                let due = due_of_read(&self.held, place, len);
                 let is_right = self.may_tell(place, len, bytes);
                 on_answer(due, Promise::Bytes, is_right)
             }
-            Body::Refused(refusal) => self.held.judge_no_read(place, len, *refusal),
+            Body::Refused(refusal) => judge_no_read(&self.held, place, len, *refusal),
             _ => Err(Promise::Form),
         }
     }
 
     /// Whether a read of `len` bytes from a place on may tell these.
     fn may_tell(&self, place: u32, len: u32, bytes: &ArrayVec<u8, MOST_BYTES>) -> bool
-        ensures { (s : State) → Shows self.now s → result ≡ (length bytes.now.items == len
+        ensures { (s : State) → ShowsState self.now s → result ≡ (length bytes.now.items == len
             && option_map_or (λ holder. may_all_be s.has s.cells holder place bytes.now.items) (holder_of s.has place len)
             false) }
     {
@@ -51,7 +51,7 @@ impl Tenant {
 
     /// What is known after the reply to such a read, which keeps each promise.
     pub(crate) fn after_read(&mut self, place: u32, len: u32, body: &Body)
-        requires { (t : ℕ) → IsKept (On.Tenant t (Asked.Read place len)) body.now self.old }
+        requires { (t : ℕ) → IsKeptReply (On.Tenant t (Asked.Read place len)) body.now self.old }
         ensures { (t : ℕ) → Follows (On.Tenant t (Asked.Read place len)) body.now self.old self.new }
     {
         if let Body::Bytes(bytes) = body {
@@ -63,7 +63,7 @@ impl Tenant {
 
     /// What is known after the reply to a write of these bytes from a place on, which keeps each promise.
     pub(crate) fn after_write(&mut self, place: u32, bytes: &ArrayVec<u8, MOST_BYTES>, body: &Body)
-        requires { (t : ℕ) → IsKept (On.Tenant t (Asked.Write place bytes.now)) body.now self.old }
+        requires { (t : ℕ) → IsKeptReply (On.Tenant t (Asked.Write place bytes.now)) body.now self.old }
         ensures { (t : ℕ) → Follows (On.Tenant t (Asked.Write place bytes.now)) body.now self.old self.new }
     {
         if let Body::Written(n) = body {

@@ -1,9 +1,10 @@
 //! What is known after replies about caches.
 
-ghost use Rattle.std.specs.Prelude.{◌≡◌, ◌≤◌, ℕ, OnOk, OnErr};
+ghost use Rattle.std.specs.Prelude.{◌≡◌, ◌≤◌, ℕ, true, OnOk, OnErr};
 ghost use Rattle.words_core.specs.declared.event.Event.TheVariants as On;
 ghost use Rattle.words_core.specs.declared.event.Command.TheVariants as Asked;
-ghost use Rattle.judge.specs.Inside.{IsKept};
+ghost use Rattle.judge.specs.Adding.{is_addition};
+ghost use Rattle.judge.specs.Inside.{IsKeptReply};
 ghost use Rattle.judge.specs.Showing.{Follows};
 
 use crate::marks::{clear_mark, marks_of_used};
@@ -24,10 +25,11 @@ impl Tenant {
         pattern: &ArrayVec<u8, MOST_PATTERN>,
         body: &Body,
     ) -> Result<(), AllocError>
-        requires { (t : ℕ) → IsKept (On.Tenant t (Asked.Cache size align pattern.now)) body.now self.old }
+        requires { (t : ℕ) → IsKeptReply (On.Tenant t (Asked.Cache size align pattern.now)) body.now self.old }
         ensures followed { OnOk result ((t : ℕ)
             → Follows (On.Tenant t (Asked.Cache size align pattern.now)) body.now self.old self.new) }
         ensures failed { OnErr result (self.new ≡ self.old) }
+        ensures memory { OnErr result (is_addition body.now ≡ true) }
     {
         match body {
             Body::Cache {
@@ -56,7 +58,7 @@ impl Tenant {
 
     /// What is known after the reply to a destroy of the cache of this number, which keeps each promise.
     pub(crate) fn after_destroy(&mut self, number: u32, body: &Body)
-        requires { (t : ℕ) → IsKept (On.Tenant t (Asked.Destroy number)) body.now self.old }
+        requires { (t : ℕ) → IsKeptReply (On.Tenant t (Asked.Destroy number)) body.now self.old }
         ensures { (t : ℕ) → Follows (On.Tenant t (Asked.Destroy number)) body.now self.old self.new }
     {
         if let Body::Destroyed(_) = body {
@@ -69,7 +71,7 @@ impl Tenant {
 
     /// What is known after the reply to a reap, which keeps each promise.
     pub(crate) fn after_reap(&mut self, body: &Body)
-        requires { (t : ℕ) → IsKept (On.Tenant t Asked.Reap) body.now self.old }
+        requires { (t : ℕ) → IsKeptReply (On.Tenant t Asked.Reap) body.now self.old }
         ensures { (t : ℕ) → Follows (On.Tenant t Asked.Reap) body.now self.old self.new }
     {
         if let Body::Reaped(_) = body {

@@ -3,7 +3,7 @@
 ghost use Rattle.std.specs.Prelude.{◌≡◌, ℕ, length, ◌≤◌};
 ghost use Rattle.words_core.specs.declared.event.Event.TheVariants as On;
 ghost use Rattle.words_core.specs.declared.event.Command.TheVariants as Asked;
-ghost use Rattle.judge.specs.Inside.{IsKept};
+ghost use Rattle.judge.specs.Inside.{IsKeptReply};
 ghost use Rattle.judge.specs.Showing.{Follows};
 
 use crate::tenant::Tenant;
@@ -14,7 +14,7 @@ use words_core::{Body, CACHES, ORDERS, Report};
 impl Tenant {
     /// What is known after the reply to a report, which keeps each promise.
     pub(crate) fn after_report(&mut self, body: &Body)
-        requires { (t : ℕ) → IsKept (On.Tenant t Asked.Report) body.now self.old }
+        requires { (t : ℕ) → IsKeptReply (On.Tenant t Asked.Report) body.now self.old }
         ensures { (t : ℕ) → Follows (On.Tenant t Asked.Report) body.now self.old self.new }
     {
         if let Body::Report(report) = body {

@@ -1,15 +1,18 @@
 //! Verdicts on replies to a tenant, and what is kept after them.
 
-ghost use Rattle.std.specs.Prelude.{◌≡◌, ◌≤◌, ℕ, List, Option, Ok, IfOk, OnOk, OnErr};
+ghost use Rattle.std.specs.Prelude.{◌≡◌, ◌≤◌, ℕ, true, List, Option, Ok, IfOk, OnOk, OnErr};
 ghost use Rattle.model_core.specs.declared.owner.Owner.{Owner as Owning};
 ghost use Rattle.words_core.specs.declared.event.Event.TheVariants as On;
 ghost use Rattle.promise_core.specs.State.{State, Known};
-ghost use Rattle.judge_core.specs.Verdicts.{verdict_on};
-ghost use Rattle.judge.specs.Inside.{IsKept};
-ghost use Rattle.judge.specs.Showing.{Shows, Fits, Follows, IsJudged};
+ghost use Rattle.judge_replies.specs.Verdicts.{verdict_on};
+ghost use Rattle.judge.specs.Adding.{is_addition, IsKeptAddition};
+ghost use Rattle.judge.specs.Inside.{IsKeptReply};
+ghost use Rattle.judge.specs.Showing.{ShowsState, FitsKnown, Follows, IsJudged};
 
 use crate::tenant::Tenant;
-use judge_core::Verdict;
+use judge_replies::{
+    Verdict, judge_alloc, judge_cache, judge_free, judge_give, judge_take, judge_write,
+};
 use judge_report::{judge_destroy, judge_reap, judge_report};
 use std::alloc::AllocError;
 use words_core::{Body, Command};
@@ -21,6 +24,8 @@ impl Tenant {
         ensures judged { IfOk result (λ verdict. (t : ℕ) (owners : List (Option Owning))
             → IsJudged (On.Tenant t command.now) body.now owners self.old self.new verdict) }
         ensures failed { OnErr result (self.new ≡ self.old) }
+        ensures memory { OnErr result ((t : ℕ) (owners : List (Option Owning))
+            → IsKeptAddition (On.Tenant t command.now) body.now owners self.old) }
     {
         match self.verdict(command, body) {
             Ok(()) => {
@@ -34,25 +39,25 @@ impl Tenant {
     /// The verdict on such a reply.
     fn verdict(&self, command: &Command, body: &Body) -> Verdict
         ensures { (t : ℕ) (owners : List (Option Owning)) (w : Known) (s : State)
-            → Fits self.now owners w → Shows self.now s → result ≡ verdict_on (On.Tenant t command.now) body.now w s }
+            → FitsKnown self.now owners w → ShowsState self.now s → result ≡ verdict_on (On.Tenant t command.now) body.now w s }
     {
         let order = self.left.order();
         let told = self.told.as_ref();
         match command {
-            Command::Alloc { order: k } => self.held.judge_alloc(order, *k, body),
-            Command::Free { frame } => self.held.judge_free(*frame, body),
+            Command::Alloc { order: k } => judge_alloc(&self.held, order, *k, body),
+            Command::Free { frame } => judge_free(&self.held, *frame, body),
             Command::Read { place, len } => self.judge_read(*place, *len, body),
-            Command::Write { place, bytes } => self.held.judge_write(*place, bytes, body),
+            Command::Write { place, bytes } => judge_write(&self.held, *place, bytes, body),
             Command::Cache {
                 size,
                 align,
                 pattern,
-            } => self.held.judge_cache(order, *size, *align, pattern, body),
+            } => judge_cache(&self.held, order, *size, *align, pattern, body),
             Command::Destroy { cache } => {
                 judge_destroy(&self.held, order, &self.hides, told, *cache, body)
             }
-            Command::Take { cache } => self.held.judge_take(order, *cache, body),
-            Command::Give { cache, place } => self.held.judge_give(*cache, *place, body),
+            Command::Take { cache } => judge_take(&self.held, order, *cache, body),
+            Command::Give { cache, place } => judge_give(&self.held, *cache, *place, body),
             Command::Reap => judge_reap(&self.held, order, &self.hides, told, body),
             Command::Report => judge_report(&self.held, order, &self.hides, told, body),
         }
@@ -60,9 +65,10 @@ impl Tenant {
 
     /// What is known after a reply that keeps each promise. Fails where memory runs out, and then nothing is changed.
     fn follow(&mut self, command: &Command, body: &Body) -> Result<(), AllocError>
-        requires { (t : ℕ) → IsKept (On.Tenant t command.now) body.now self.old }
+        requires { (t : ℕ) → IsKeptReply (On.Tenant t command.now) body.now self.old }
         ensures followed { OnOk result ((t : ℕ) → Follows (On.Tenant t command.now) body.now self.old self.new) }
         ensures failed { OnErr result (self.new ≡ self.old) }
+        ensures memory { OnErr result (is_addition body.now ≡ true) }
     {
         match command {
             Command::Alloc { order } => self.after_alloc(*order, body),

@@ -17,6 +17,6 @@ mod replies;
 mod slots;
 mod tenant;
 
-pub use judge_core::Verdict;
+pub use judge_replies::Verdict;
 pub use machine::Machine;
 pub use tenant::Tenant;

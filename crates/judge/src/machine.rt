@@ -1,11 +1,14 @@
 //! What is kept of a machine.
 
-ghost use Rattle.std.specs.Prelude.{◌≡◌, ◌≤◌, IfOk, length, option_map, replicate, slice_get};
+ghost use Rattle.std.specs.Prelude.{◌≡◌, ◌≤◌, IfOk, None, find, length, option_map, replicate, slice_get};
 ghost use Rattle.model_core.specs.declared.limits.TheConstants.{MOST_CACHES, MOST_ORDER, MOST_SUPERBLOCKS};
+ghost use Rattle.std.specs.Option.{option_map_or};
+ghost use Rattle.model_core.specs.Operations.{overlaps};
 ghost use Rattle.promise_core.specs.State.{opening};
 ghost use Rattle.judge.specs.Machine.{ShowsKnown};
 
 use crate::tenant::Tenant;
+use judge_core::FrameBlock;
 use model_core::owner::Owner;
 use std::alloc::{AllocError, Global};
 use std::marker::Model;
@@ -70,6 +73,16 @@ impl Machine {
         ensures most { result ≤ MOST_SUPERBLOCKS }
     {
         self.owners.len()
+    }
+
+    /// The first live page block of the tenant that shares a frame with the block; `None` too where there is no such tenant.
+    pub fn page_over(&self, tenant: u32, block: &FrameBlock) -> Option<FrameBlock>
+        ensures { result ≡ option_map_or (λ y. find (overlaps block.now) y.has.pages) (slice_get self.now.tenants tenant) None }
+    {
+        match self.tenants.get(tenant as usize) {
+            Some(tenant) => tenant.page_over(block),
+            None => None,
+        }
     }
 
     /// How many caches the tenant has, `None` where there is no such tenant.

@@ -6,7 +6,7 @@ ghost use Rattle.words_core.specs.declared.event.Event.TheVariants as On;
 ghost use Rattle.words_core.specs.declared.event.AdminCommand.TheVariants as Do;
 ghost use Rattle.world_core.specs.World.{given_up};
 ghost use Rattle.promise_core.specs.State.{owners_after};
-ghost use Rattle.judge.specs.Inside.{IsKept};
+ghost use Rattle.judge.specs.Inside.{IsKeptReply};
 ghost use Rattle.judge.specs.Showing.{Seen};
 
 use model_core::owner::Owner;
@@ -14,7 +14,7 @@ use words_core::{AdminCommand, Body};
 
 /// The owners after a reply of this body to the command, which keeps each promise.
 pub(crate) fn follow_owners(owners: &mut [Option<Owner>], command: &AdminCommand, body: &Body)
-    requires { (x : Seen) × IsKept (On.Admin command.now) body.now x }
+    requires { (x : Seen) × IsKeptReply (On.Admin command.now) body.now x }
     ensures { owners.new ≡ owners_after (On.Admin command.now) body.now owners.old }
 {
     match command {
@@ -28,7 +28,7 @@ pub(crate) fn follow_owners(owners: &mut [Option<Owner>], command: &AdminCommand
 
 /// The owners after the reply to a grant to tenant `t`, which keeps each promise.
 fn follow_grant(owners: &mut [Option<Owner>], t: u32, body: &Body)
-    requires { (x : Seen) × IsKept (On.Admin (Do.Grant t)) body.now x }
+    requires { (x : Seen) × IsKeptReply (On.Admin (Do.Grant t)) body.now x }
     ensures { owners.new ≡ owners_after (On.Admin (Do.Grant t)) body.now owners.old }
 {
     if let Body::Granted {
@@ -61,7 +61,7 @@ fn follow_reset(owners: &mut [Option<Owner>], t: u32, body: &Body)
 
 /// The owners after the reply to a move of a slot of tenant `t`, which keeps each promise.
 fn follow_move(owners: &mut [Option<Owner>], t: u32, slot: u32, body: &Body)
-    requires { (x : Seen) × IsKept (On.Admin (Do.Move t slot)) body.now x }
+    requires { (x : Seen) × IsKeptReply (On.Admin (Do.Move t slot)) body.now x }
     ensures { owners.new ≡ owners_after (On.Admin (Do.Move t slot)) body.now owners.old }
 {
     if let Body::Moved {

@@ -1,9 +1,10 @@
 //! What is known after replies about page blocks.
 
-ghost use Rattle.std.specs.Prelude.{◌≡◌, ◌≤◌, ℕ, OnOk, OnErr};
+ghost use Rattle.std.specs.Prelude.{◌≡◌, ◌≤◌, ℕ, true, OnOk, OnErr};
 ghost use Rattle.words_core.specs.declared.event.Event.TheVariants as On;
 ghost use Rattle.words_core.specs.declared.event.Command.TheVariants as Asked;
-ghost use Rattle.judge.specs.Inside.{IsKept};
+ghost use Rattle.judge.specs.Adding.{is_addition};
+ghost use Rattle.judge.specs.Inside.{IsKeptReply};
 ghost use Rattle.judge.specs.Showing.{Follows};
 
 use crate::tenant::Tenant;
@@ -15,9 +16,10 @@ impl Tenant {
     /// What is known after the reply to a request for a page block of `2^k` frames, which keeps each promise. Fails where memory
     /// runs out, and then nothing is changed.
     pub(crate) fn after_alloc(&mut self, k: u32, body: &Body) -> Result<(), AllocError>
-        requires { (t : ℕ) → IsKept (On.Tenant t (Asked.Alloc k)) body.now self.old }
+        requires { (t : ℕ) → IsKeptReply (On.Tenant t (Asked.Alloc k)) body.now self.old }
         ensures followed { OnOk result ((t : ℕ) → Follows (On.Tenant t (Asked.Alloc k)) body.now self.old self.new) }
         ensures failed { OnErr result (self.new ≡ self.old) }
+        ensures memory { OnErr result (is_addition body.now ≡ true) }
     {
         match body {
             Body::Frame(frame) => {
@@ -33,7 +35,7 @@ impl Tenant {
 
     /// What is known after the reply to a free of the page block at the frame, which keeps each promise.
     pub(crate) fn after_free(&mut self, frame: u32, body: &Body)
-        requires { (t : ℕ) → IsKept (On.Tenant t (Asked.Free frame)) body.now self.old }
+        requires { (t : ℕ) → IsKeptReply (On.Tenant t (Asked.Free frame)) body.now self.old }
         ensures { (t : ℕ) → Follows (On.Tenant t (Asked.Free frame)) body.now self.old self.new }
     {
         if let Body::Freed(k) = body {

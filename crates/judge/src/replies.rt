@@ -5,13 +5,14 @@ ghost use Rattle.words_core.specs.declared.event.Event.TheVariants as On;
 ghost use Rattle.promise_core.specs.declared.promise.Promise.{Promise};
 ghost use Rattle.promise_core.specs.State.{Known};
 ghost use Rattle.promise_core.specs.Promises.{allowed, is_for, named};
+ghost use Rattle.judge.specs.Adding.{IsAllowedAddition};
 ghost use Rattle.judge.specs.Machine.{ShowsKnown, IsVerdict};
 ghost use Rattle.judge.specs.Sizes.{KeepsSizes};
 
 use crate::addressing::{is_for, judge_stranger, tenant_named};
 use crate::machine::Machine;
 use crate::owners::follow_owners;
-use judge_core::{Verdict, judge_pool};
+use judge_replies::{Verdict, judge_pool};
 use promise_core::promise::Promise;
 use std::alloc::AllocError;
 use words_core::{AdminCommand, Command, Event, Reply};
@@ -24,6 +25,7 @@ impl Machine {
             → IsVerdict verdict (allowed event.now reply.now w) self.new) }
         ensures broken { (promise : Promise) → result ≡ Ok (Err promise) → self.new ≡ self.old }
         ensures failed { OnErr result (self.new ≡ self.old) }
+        ensures memory { OnErr result (IsAllowedAddition event.now reply.now self.old) }
         ensures sizes { KeepsSizes self.old self.new }
     {
         match tenant_named(event) {
@@ -39,6 +41,7 @@ impl Machine {
             → IsVerdict verdict (allowed event.now reply.now w) self.new) }
         ensures broken { (promise : Promise) → result ≡ Ok (Err promise) → self.new ≡ self.old }
         ensures failed { OnErr result (self.new ≡ self.old) }
+        ensures memory { OnErr result (IsAllowedAddition event.now reply.now self.old) }
         ensures sizes { KeepsSizes self.old self.new }
     {
         if t as usize >= self.tenants.len() {
@@ -77,6 +80,7 @@ impl Machine {
             → IsVerdict verdict (allowed (On.Tenant t command.now) reply.now w) self.new) }
         ensures broken { (promise : Promise) → result ≡ Ok (Err promise) → self.new ≡ self.old }
         ensures failed { OnErr result (self.new ≡ self.old) }
+        ensures memory { OnErr result (IsAllowedAddition (On.Tenant t command.now) reply.now self.old) }
         ensures sizes { KeepsSizes self.old self.new }
     {
         self.tenants[t as usize].judge(command, &reply.body)
@@ -96,6 +100,7 @@ impl Machine {
             → IsVerdict verdict (allowed (On.Admin command.now) reply.now w) self.new) }
         ensures broken { (promise : Promise) → result ≡ Ok (Err promise) → self.new ≡ self.old }
         ensures failed { OnErr result (self.new ≡ self.old) }
+        ensures memory { OnErr result (IsAllowedAddition (On.Admin command.now) reply.now self.old) }
         ensures sizes { KeepsSizes self.old self.new }
     {
         let tenant = &mut self.tenants[t as usize];

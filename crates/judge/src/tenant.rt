@@ -1,11 +1,12 @@
 //! What is kept of a tenant.
 
-ghost use Rattle.std.specs.Prelude.{◌≡◌, ◌≤◌, IfOk, length};
+ghost use Rattle.std.specs.Prelude.{◌≡◌, ◌≤◌, IfOk, find, length};
 ghost use Rattle.model_core.specs.declared.limits.TheConstants.{MOST_ORDER, MOST_SUPERBLOCKS};
-ghost use Rattle.judge.specs.Showing.{IsOpening};
+ghost use Rattle.model_core.specs.Operations.{overlaps};
+ghost use Rattle.judge.specs.Showing.{IsOpeningTenant};
 
 use judge_bytes::LeftBytes;
-use judge_core::Held;
+use judge_core::{FrameBlock, Held};
 use std::alloc::{AllocError, Global};
 use std::marker::Model;
 use words_core::{CACHES, Report};
@@ -24,13 +25,13 @@ pub struct Tenant {
 
 impl Model for Tenant {
     ghost use Rattle.judge.specs.Showing.{Seen};
-    ghost use Rattle.judge.specs.Inside.{IsSound};
+    ghost use Rattle.judge.specs.Inside.{LieInSlots};
 
     ghost Value = { Seen };
 
     ghost view = { λ t. record { has = t.held; left = t.left; hides = t.hides; told = t.told } };
 
-    ghost invariant = { λ t. IsSound t.held t.left };
+    ghost invariant = { λ t. LieInSlots t.held t.left };
 }
 
 impl Tenant {
@@ -38,7 +39,7 @@ impl Tenant {
     pub fn new(alloc: Global, order: u8, slots: u16) -> Result<Tenant, AllocError>
         requires order { order ≤ MOST_ORDER }
         requires slots { slots ≤ MOST_SUPERBLOCKS }
-        ensures { IfOk result (IsOpening order) }
+        ensures { IfOk result (IsOpeningTenant order) }
     {
         Ok(Tenant {
             alloc,
@@ -55,6 +56,13 @@ impl Tenant {
         ensures most { result ≤ MOST_ORDER }
     {
         self.left.order()
+    }
+
+    /// The first live page block that shares a frame with the block.
+    pub fn page_over(&self, block: &FrameBlock) -> Option<FrameBlock>
+        ensures { result ≡ find (overlaps block.now) self.now.has.pages }
+    {
+        self.held.page_over(block)
     }
 
     /// How many caches the tenant has.

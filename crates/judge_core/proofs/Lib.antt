@@ -1,9 +1,3 @@
 pub mod Lists
-pub mod OnPages
-pub mod OnObjects
-pub mod OnSlots
-pub mod OnCaches
-pub mod OnBytes
 pub mod Putting
 pub mod ByNumber
-pub mod Allowed

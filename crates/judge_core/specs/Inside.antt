@@ -6,7 +6,7 @@ use Rattle.model_core.specs.WellFormed.{RisesFrom}
 use Rattle.promise_core.specs.Holdings.{ToldCache}
 
 -- the numbers of a cache: size, alignment, chunk, order of a slab, objects of a slab
-pub record IsCut (size align chunk order count : ℕ) : Type 0 where
+pub record IsToldLayout (size align chunk order count : ℕ) : Type 0 where
   pub some : 1 ≤ size
   pub most : size ≤ MOST_SIZE
   pub alignment : is_alignment align ≡ true

@@ -1,20 +1,11 @@
 //! What a tenant may read.
 
-ghost use Rattle.std.specs.Prelude.{◌≡◌, ◌≤◌, ◌<◌, ◌+◌, ℕ, length, ◌==◌, ◌&&◌, option_map, Some, None};
-ghost use Rattle.words_core.specs.declared.event.Event.TheVariants as On;
-ghost use Rattle.words_core.specs.declared.event.Command.TheVariants as Asked;
-ghost use Rattle.words_core.specs.declared.reply.Body.TheVariants as Say;
+ghost use Rattle.std.specs.Prelude.{◌≡◌, ◌==◌, ◌&&◌, option_map};
 ghost use Rattle.promise_core.specs.Bytes.{is_same, is_object, may_be, told_fresh_byte};
-ghost use Rattle.promise_core.specs.State.{State, Known};
-ghost use Rattle.promise_core.specs.Promises.{due};
 ghost use Rattle.judge_core.specs.Holders.{shown_holder, shown_cell};
-ghost use Rattle.judge_core.specs.Verdicts.{verdict_on};
 
 use crate::held::Held;
 use crate::holder::RangeHolder;
-use crate::verdict::{Verdict, on_refusal};
-use model_core::limits::MOST_BYTES;
-use words_core::Refusal;
 
 /// What was left at a place: whose byte, which, and whether it is surely there.
 #[derive(Clone, Copy, Debug)]
@@ -76,28 +67,6 @@ impl Held {
                 Some(cache) => cache.fresh_byte(place.saturating_sub(first)),
                 None => 0,
             },
-        }
-    }
-
-    /// The verdict on a refusal of a read.
-    pub fn judge_no_read(&self, place: u32, len: u32, refusal: Refusal) -> Verdict
-        ensures { (t : ℕ) (w : Known) (s : State)
-            → result ≡ verdict_on (On.Tenant t (Asked.Read place len)) (Say.Refused refusal) w (record s { has = self.now }) }
-    {
-        on_refusal(refusal, self.due_of_read(place, len), false, false)
-    }
-
-    /// The refusal that a read has to get.
-    #[tactic(auto, unfolding(promise_core::specs::Promises::due))]
-    pub fn due_of_read(&self, place: u32, len: u32) -> Option<Refusal>
-        ensures { (t : ℕ) (w : Known) (s : State) → result ≡ due (On.Tenant t (Asked.Read place len)) w (record s { has = self.now }) }
-    {
-        if len < 1 || len as usize > MOST_BYTES {
-            Some(Refusal::BadLength)
-        } else if !self.is_in_reach(place, len) {
-            Some(Refusal::OutOfReach)
-        } else {
-            None
         }
     }
 }

@@ -10,7 +10,7 @@ ghost use Rattle.model_core.specs.Layouts.{pattern_byte};
 ghost use Rattle.model_core.specs.Reach.{is_within};
 ghost use Rattle.model_core.specs.Machine.{put_rising};
 ghost use Rattle.promise_core.specs.Holdings.{slab_around, live_beside, is_slab_full, are_apart, is_grid};
-ghost use Rattle.judge_core.specs.Inside.{IsCut};
+ghost use Rattle.judge_core.specs.Inside.{IsToldLayout};
 
 use crate::block::FrameBlock;
 use crate::layout::ToldLayout;
@@ -34,13 +34,13 @@ pub struct HeldCache {
 
 impl Model for HeldCache {
     ghost use Rattle.promise_core.specs.Holdings.{ToldCache};
-    ghost use Rattle.judge_core.specs.Inside.{IsCut};
+    ghost use Rattle.judge_core.specs.Inside.{IsToldLayout};
 
     ghost Value = { ToldCache };
 
     ghost view = { λ c. record { number = c.number; size = c.size; align = c.align; pattern = c.pattern.items; chunk = c.chunk; order = c.order; count = c.count; live = c.live.items } };
 
-    ghost invariant = { λ c. IsCut c.size c.align c.chunk c.order c.count };
+    ghost invariant = { λ c. IsToldLayout c.size c.align c.chunk c.order c.count };
 }
 
 impl HeldCache {
@@ -51,7 +51,7 @@ impl HeldCache {
         layout: ToldLayout,
         pattern: &ArrayVec<u8, MOST_PATTERN>,
     ) -> HeldCache
-        requires { IsCut layout.size layout.align layout.chunk layout.order layout.count }
+        requires { IsToldLayout layout.size layout.align layout.chunk layout.order layout.count }
         ensures { result ≡ record {
           number = number;
           size = layout.size;

@@ -120,6 +120,13 @@ impl Held {
         self.pages.iter().any(|page| block.overlaps(page))
     }
 
+    /// The first live page block that shares a frame with the block.
+    pub fn page_over(&self, block: &FrameBlock) -> Option<FrameBlock>
+        ensures { result ≡ find (overlaps block.now) self.now.pages }
+    {
+        self.pages.iter().copied().find(|page| block.overlaps(page))
+    }
+
     /// Whether the slab of a live object shares a frame with the block.
     fn is_in_slabs(&self, block: &FrameBlock) -> bool
         ensures { result ≡ list_any (λ c. list_any (λ p. overlaps block.now (slab_around c p)) c.live) self.now.caches }

@@ -9,7 +9,7 @@ use Rattle.words_core.specs.declared.reply.Refusal.{Refusal}
 use Rattle.promise_core.specs.declared.promise.Promise.{Promise}
 use Rattle.promise_core.specs.State.{State, Known, state_after}
 use Rattle.promise_core.specs.Promises.{due}
-use Rattle.judge_core.specs.Verdicts.{verdict_on, on_refusal}
+use Rattle.judge_replies.specs.Verdicts.{verdict_on, on_refusal}
 
 module _ (t : ℕ) (w : Known) (s : State) where
   pub not_reported : (r : Refusal) → verdict_on (On.Tenant t Asked.Report) (Say.Refused r) w s ≡ on_refusal r None false false

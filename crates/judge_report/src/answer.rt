@@ -2,9 +2,9 @@
 
 ghost use Rattle.std.specs.Prelude.{◌≡◌, [], ◌∷◌, is_none};
 ghost use Rattle.promise_core.specs.declared.promise.Promise.{Promise};
-ghost use Rattle.judge_core.specs.Verdicts.{broken};
+ghost use Rattle.judge_replies.specs.Verdicts.{broken};
 
-use judge_core::Verdict;
+use judge_replies::Verdict;
 use promise_core::promise::Promise;
 use words_core::Refusal;
 

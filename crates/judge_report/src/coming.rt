@@ -9,12 +9,13 @@ ghost use Rattle.words_core.specs.declared.event.Event.TheVariants as On;
 ghost use Rattle.words_core.specs.declared.event.Command.TheVariants as Asked;
 ghost use Rattle.promise_core.specs.State.{State, Known};
 ghost use Rattle.promise_core.specs.Promises.{due, can_come_back, empty_frames};
-ghost use Rattle.judge_core.specs.Verdicts.{verdict_on};
+ghost use Rattle.judge_replies.specs.Verdicts.{verdict_on};
 
 use crate::answer::on_answer;
 use crate::rows::is_marked;
 use crate::taken::empty_frames;
-use judge_core::{Held, HeldCache, Verdict, on_refusal};
+use judge_core::{Held, HeldCache};
+use judge_replies::{Verdict, on_refusal};
 use promise_core::promise::Promise;
 use words_core::{Body, Refusal, Report};
 

@@ -12,7 +12,7 @@ ghost use Rattle.words_core.specs.declared.reply.Body.TheVariants as Say;
 ghost use Rattle.promise_core.specs.Holdings.{vacant_blocks};
 ghost use Rattle.promise_core.specs.State.{State, Known};
 ghost use Rattle.promise_core.specs.Promises.{report, frames_of_counts, is_row, told_count};
-ghost use Rattle.judge_core.specs.Verdicts.{verdict_on};
+ghost use Rattle.judge_replies.specs.Verdicts.{verdict_on};
 
 use crate::answer::on_answer;
 use crate::counts::{
@@ -20,7 +20,8 @@ use crate::counts::{
 };
 use crate::rows::are_rows;
 use crate::taken::are_taken;
-use judge_core::{Held, Verdict, on_refusal};
+use judge_core::Held;
+use judge_replies::{Verdict, on_refusal};
 use model_core::report::{CacheRow, OrderRow};
 use promise_core::promise::Promise;
 use words_core::{Body, CACHES, ORDERS, Report};

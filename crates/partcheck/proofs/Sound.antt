@@ -6,9 +6,9 @@ use Rattle.check_core.specs.declared.finding.Finding.{Finding}
 use Rattle.check_core.specs.declared.finding.Finding.TheVariants.{Kept, Broken}
 use Rattle.check_core.specs.Finding.{finding_of}
 use Rattle.check_core.specs.Laws.{KeptIsAllowed}
-use Rattle.partcheck.specs.Checked.{IsSound, opening_of}
+use Rattle.partcheck.specs.Checked.{IsSoundFinding, opening_of}
 
 pub sound : KeptIsAllowed → (config : Config) (finding : Finding) (asked told : List ℕ) → finding ≡ finding_of (opening_of config) asked told
-    → IsSound config finding asked told
+    → IsSoundFinding config finding asked told
 sound law config (Kept lines) asked told is = law MOST_CACHES config.order config.superblocks config.tenants lines asked told (sym is)
 sound law config (Broken breach) asked told is = tt

@@ -12,20 +12,20 @@ use Rattle.partcheck.specs.declared.checked.Checked.{Checked}
 use Rattle.partcheck.specs.declared.checked.Checked.TheVariants.{Found, Failed, Unwritten}
 
 -- the exit status
-abbrev pub status_of : Checked → ℕ
-status_of (Found (Kept lines)) = 0
-status_of (Found (Broken breach)) = 4
-status_of (Failed Not.Trace) = 1
-status_of (Failed Not.Replies) = 1
-status_of (Failed Not.Memory) = 3
-status_of Unwritten = 1
+abbrev pub status_of_check : Checked → ℕ
+status_of_check (Found (Kept lines)) = 0
+status_of_check (Found (Broken breach)) = 4
+status_of_check (Failed Not.Trace) = 1
+status_of_check (Failed Not.Replies) = 1
+status_of_check (Failed Not.Memory) = 3
+status_of_check Unwritten = 1
 
 -- before the first line of a machine of these sizes
 abbrev pub opening_of : Config → Known
 opening_of config = opening MOST_CACHES config.order config.superblocks config.tenants
 
 -- where they are found kept, the replies are the text of replies to the trace's events, each of which is allowed
-abbrev pub IsSound : Config → Finding → (trace replies : List ℕ) → Type 0
-IsSound config (Kept lines) trace replies =
+abbrev pub IsSoundFinding : Config → Finding → (trace replies : List ℕ) → Type 0
+IsSoundFinding config (Kept lines) trace replies =
     IsAllowedText None MOST_CACHES config.order config.superblocks config.tenants (lines_of_trace trace) replies
-IsSound config (Broken breach) trace replies = Unit {0}
+IsSoundFinding config (Broken breach) trace replies = Unit {0}

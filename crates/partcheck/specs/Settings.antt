@@ -7,7 +7,7 @@ use Rattle.command_line.specs.Machine.{AsksSizes}
 use Rattle.partcheck.specs.declared.settings.Settings.{Settings}
 
 -- the settings are what stands under the arguments' names: `read` of those that are read as a type, `whole` of the files
-pub record Asks (read whole : Text → Option Text) (settings : Settings) : Type 0 where
+pub record AsksCheck (read whole : Text → Option Text) (settings : Settings) : Type 0 where
   pub sizes : AsksSizes read settings.config
   pub trace : whole (codes "TRACE") ≡ Some (string_bytes settings.trace)
   pub replies : whole (codes "REPLIES") ≡ Some (string_bytes settings.replies)
@@ -16,10 +16,11 @@ pub record Asks (read whole : Text → Option Text) (settings : Settings) : Type
 abbrev pub file_rule : Text → Rule
 file_rule name = record (positional_rule name) { required = true }
 
-abbrev pub command_line : App
-command_line = with_rule (with_rule (sizes_command (codes "partcheck")) (file_rule (codes "TRACE"))) (file_rule (codes "REPLIES"))
+abbrev pub check_command_line : App
+check_command_line =
+    with_rule (with_rule (sizes_command (codes "partcheck")) (file_rule (codes "TRACE"))) (file_rule (codes "REPLIES"))
 
 -- the settings are what clap finds in these words
-abbrev pub IsAskedBy : List Text → Settings → Type 0
-IsAskedBy words settings = let rows = matches_of command_line words in
-    Asks (λ name. one_of name rows) (λ name. first_of name rows) settings
+abbrev pub IsCheckAskedBy : List Text → Settings → Type 0
+IsCheckAskedBy words settings = let rows = matches_of check_command_line words in
+    AsksCheck (λ name. one_of name rows) (λ name. first_of name rows) settings

@@ -2,7 +2,7 @@
 
 ghost use Rattle.std.specs.Prelude.{◌≡◌};
 ghost use Rattle.std.specs.Process.{exit_status};
-ghost use Rattle.partcheck.specs.Checked.{status_of};
+ghost use Rattle.partcheck.specs.Checked.{status_of_check};
 
 use crate::settings::{PROGRAM, REPLIES_PROGRAM};
 use check_core::{Finding, Unchecked};
@@ -25,7 +25,7 @@ const BROKEN: u8 = 4;
 
 /// Tells on standard error why there is no finding, if there is none, and answers the exit status.
 pub fn tell_checked(rt: &impl Eprint, checked: Checked) -> ExitCode
-    ensures { exit_status result ≡ status_of checked }
+    ensures { exit_status result ≡ status_of_check checked }
 {
     match checked {
         Checked::Found(Finding::Kept(_)) => tell(rt, PROGRAM, &Exit::Ran(Outcome::Done)),

@@ -1,9 +1,11 @@
 //! A check on a new machine.
 
-ghost use Rattle.std.specs.Prelude.{◌≡◌, ℕ, List, true, false, Some, IfOk};
+ghost use Rattle.std.specs.Prelude.{◌≡◌, ℕ, List, true, false, Some, IfOk, ◌⊎◌};
 ghost use Rattle.kernel_core.specs.Booting.{is_bootable};
+ghost use Rattle.check_core.specs.Ending.{ComesToAdd, IsEndedBy};
 ghost use Rattle.check_core.specs.Finding.{finding_of};
-ghost use Rattle.partcheck.specs.Checked.{IsSound, opening_of};
+ghost use Rattle.check_core.specs.Reading.{readings_of};
+ghost use Rattle.partcheck.specs.Checked.{IsSoundFinding, opening_of};
 
 use check_core::{Finding, LineReader, Shown, Unchecked, check, laws};
 use judge::Machine;
@@ -28,7 +30,11 @@ pub fn run<T: Feed, R: Feed>(
     ensures found { (asked told : List ℕ) → trace.old.left ≡ Some asked → replies.old.left ≡ Some told
         → IfOk result (λ finding. finding ≡ finding_of (opening_of config) asked told) }
     ensures sound { (asked told : List ℕ) → trace.old.left ≡ Some asked → replies.old.left ≡ Some told
-        → IfOk result (λ finding. IsSound config finding asked told) }
+        → IfOk result (λ finding. IsSoundFinding config finding asked told) }
+    // Memory runs out before the first line, or where something more has to be kept and no promise was broken before.
+    ensures end { IsEndedBy result trace.new.failed replies.new.failed
+        (((trace.new ≡ trace.old) × (replies.new ≡ replies.old)) ⊎ ((asked told : List ℕ) → trace.old.left ≡ Some asked
+        → replies.old.left ≡ Some told → ComesToAdd (readings_of asked) told (opening_of config))) }
 {
     laws::kept_is_allowed();
     let mut machine = Machine::new(
@@ -38,6 +44,9 @@ pub fn run<T: Feed, R: Feed>(
         config.tenants as u8,
     )?;
     let found = check(&mut machine, trace, replies, shown);
+    if let Ok(Finding::Broken(_)) = &found {
+        shown.look_for_taken(&machine);
+    }
     // The system takes all memory back at once when the process ends, sooner than piece by piece.
     mem::forget(machine);
     found

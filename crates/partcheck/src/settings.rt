@@ -27,9 +27,9 @@ The sizes are those of the machine that ran the trace. Lines of both files are t
 --help; which frames, objects and superblocks are handed out is open. What is found is a line
 on standard output, as
   kept: 218508 lines, 6 tenants
-  line 391, reply 402: 0 alloc 0, answered 0> frame 12: Blocks: a page block ..
+  line 391, reply 402: 0 alloc 0, answered 0> frame 12: Blocks: frame 12 lies in the block of order 1 at frame 12
 of the first reply that breaks a promise: the number of its line in TRACE and in REPLIES, the
-line, the reply, the promise and what it asks. What follows is not judged.
+line, the reply, the promise, and what it asks or the block in the way. What follows is not judged.
 
 Exit status:
   0  every reply keeps every promise; or --help or --version

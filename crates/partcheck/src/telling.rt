@@ -1,6 +1,6 @@
 //! The line that tells a finding.
 
-use check_core::{Breach, Finding, Shown};
+use check_core::{Breach, Finding, Shown, TakenFrame};
 use promise_core::promise::Promise;
 use std::fmt;
 use std::io::{self, Write};
@@ -47,7 +47,10 @@ fn write_breach<W: Write>(out: &mut W, breach: &Breach, shown: &Shown) -> io::Re
         most: MOST_REPLY_BYTES,
         none: "nothing",
     };
-    let words = words_of(*promise);
+    let words = Reason {
+        promise: *promise,
+        taken: shown.taken,
+    };
     writeln!(
         out,
         "line {line}, reply {reply}: {asked}, answered {told}: {promise}: {words}"
@@ -103,6 +106,33 @@ fn write_byte<W: fmt::Write>(byte: u8, f: &mut fmt::Formatter<W>) -> fmt::Result
         b'\n' => write!(f, " / "),
         b' '..=b'~' => write!(f, "{}", char::from(byte)),
         _ => write!(f, "\\x{byte:02x}"),
+    }
+}
+
+/// What a promise asks, or which page block is in the way of the one that was told.
+#[derive(Clone, Copy)]
+struct Reason {
+    promise: Promise,
+    taken: Option<TakenFrame>,
+}
+
+impl fmt::Display for Reason {
+    fn fmt<W: fmt::Write>(&self, f: &mut fmt::Formatter<W>) -> fmt::Result {
+        match (self.promise, self.taken) {
+            (Promise::Blocks, Some(taken)) => {
+                let frame = taken.frame;
+                let order = taken.page.order();
+                let first = taken.page.first();
+                write!(
+                    f,
+                    "frame {frame} lies in the block of order {order} at frame {first}"
+                )
+            }
+            (promise, _) => {
+                let words = words_of(promise);
+                write!(f, "{words}")
+            }
+        }
     }
 }
 

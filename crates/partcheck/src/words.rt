@@ -3,7 +3,7 @@
 ghost use Rattle.std.specs.Prelude.{◌≡◌, Some, IfOk, map};
 ghost use Rattle.std.specs.String.{string_bytes};
 ghost use Rattle.clap.specs.Words.{app_of, first_value, found_of};
-ghost use Rattle.partcheck.specs.Settings.{IsAskedBy, command_line};
+ghost use Rattle.partcheck.specs.Settings.{IsCheckAskedBy, check_command_line};
 
 use crate::settings::{PROGRAM, Settings};
 use clap::{ArgMatches, Command};
@@ -13,7 +13,7 @@ use std::alloc::{AllocError, Global};
 /// Reads the words of a command line, without the program's name.
 pub fn read_words<'a>(alloc: Global, words: &'a [String]) -> Result<Settings, Refused>
     // Which word stands under which name is as clap's model says.
-    ensures asked { IfOk result (IsAskedBy (map (λ word. string_bytes word) words.entry.now)) }
+    ensures asked { IfOk result (IsCheckAskedBy (map (λ word. string_bytes word) words.entry.now)) }
 {
     let matches = parse(alloc, command(alloc)?, words)?;
     Ok(Settings {
@@ -40,7 +40,7 @@ fn required_path(alloc: Global, matches: &ArgMatches<'_>, name: &str) -> Result<
 
 /// The arguments that there are, with their ranges.
 fn command<'a>(alloc: Global) -> Result<Command<'a>, AllocError>
-    ensures { IfOk result (λ command. app_of command ≡ command_line) }
+    ensures { IfOk result (λ command. app_of command ≡ check_command_line) }
 {
     let trace = positional(alloc, "TRACE", "The trace; - is standard input").required(true);
     let replies = positional(alloc, "REPLIES", "The replies to it").required(true);

@@ -5,7 +5,7 @@ use Rattle.words_core.specs.declared.event.Event.TheVariants as On
 use Rattle.words_core.specs.declared.event.Command.TheVariants as Asked
 use Rattle.promise_core.specs.declared.promise.Promise.{Promise}
 use Rattle.promise_core.specs.State.{State, Known, state_after}
-use Rattle.judge_core.specs.Verdicts.{broken, verdict_on, on_refusal}
+use Rattle.judge_replies.specs.Verdicts.{broken, verdict_on, on_refusal}
 use Rattle.judge_report.proofs.OnFigures.{not_destroyed, no_destroy}
 use Rattle.judge_report.proofs.coming.judge_destroy.Goals as goal
 

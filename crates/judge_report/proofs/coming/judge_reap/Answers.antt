@@ -6,7 +6,7 @@ use Rattle.words_core.specs.declared.event.Command.TheVariants as Asked
 use Rattle.promise_core.specs.declared.promise.Promise.{Promise}
 use Rattle.promise_core.specs.Promises.{due}
 use Rattle.promise_core.specs.State.{State, Known, state_after}
-use Rattle.judge_core.specs.Verdicts.{broken, verdict_on}
+use Rattle.judge_replies.specs.Verdicts.{broken, verdict_on}
 use Rattle.judge_report.proofs.OnFigures.{not_reaped, no_reap}
 use Rattle.judge_report.proofs.coming.judge_reap.Goals as goal
 

@@ -6,8 +6,9 @@ use Rattle.words_core.specs.declared.event.Event.TheVariants as On
 use Rattle.promise_core.specs.State.{owners_after}
 use Rattle.judge.specs.Showing.{Seen, IsJudged}
 use Rattle.judge.specs.Machine.{SeenMachine, ShowsKnown}
-use Rattle.judge.proofs.Bridging.{tenant_judged}
-use Rattle.judge.proofs.Sizes.{still_fits}
+use Rattle.judge.specs.Adding.{IsKeptAddition, IsAllowedAddition}
+use Rattle.judge.proofs.Bridging.{addition_allowed, tenant_judged}
+use Rattle.judge.proofs.Sizes.{at_err, still_fits}
 use Rattle.judge.proofs.machine.Machine.judge_admin.Goals as goal
 
 pub invariant_of-self-in-Ok : goal.invariant_of-self-in-Ok
@@ -55,3 +56,15 @@ returns-in-Err-clause-judged c w shown =
     (subst (λ os. IsJudged event c.args.reply.now.body os y z c.in_ok-judge_admin.field-0) c.deref.ensures.value c.in_ok-judge_admin.ensures.judged) in
     tenant_judged event c.args.reply.now x c.args.t y z w c.requires.named c.requires.addressee here (c.self.invariant.ordered c.args.t y here)
     (subst (λ m. ShowsKnown m w) (sym c.self.view_is) shown) (Err c.in-Err.promise) x judged (λ ok. absurd (cc))
+
+pub returns-in_err-judge_admin-clause-memory : goal.returns-in_err-judge_admin-clause-memory
+returns-in_err-judge_admin-clause-memory c =
+    let x : SeenMachine = record { order = c.self.inside.order; owners = c.self.inside.owners.items; tenants = c.self.inside.tenants.items } in
+    let event = On.Admin c.args.command.now in
+    let y : Seen = c.index_mut-tenant.result.now in
+    let here : slice_get x.tenants c.args.t ≡ Some y = slice_get_read x.tenants (length c.args.self.now.tenants) c.args.t y
+    (sym (ap (λ (m : SeenMachine). length m.tenants) c.self.view_is)) c.requires.tenant c.index_mut-tenant.ensures.value in
+    let kept : IsKeptAddition event c.args.reply.now.body x.owners y =
+    subst (λ os. IsKeptAddition event c.args.reply.now.body os y) c.deref.ensures.value c.in_err-judge_admin.ensures.memory in
+    at_err _ _ (subst (λ m. IsAllowedAddition event c.args.reply.now m) c.self.view_is
+    (addition_allowed event c.args.reply.now x c.args.t y c.requires.named c.requires.addressee here (c.self.invariant.ordered c.args.t y here) kept))

@@ -1,5 +1,5 @@
 use Rattle.std.proofs.Common.{[], ◌∷◌, length, length-append, refl, ap, rules, arith}
-use Rattle.judge.specs.Showing.{IsOpening}
+use Rattle.judge.specs.Showing.{IsOpeningTenant}
 use Rattle.judge.specs.Machine.{SeenMachine}
 use Rattle.judge.proofs.Opening.{each_more, opening_shown}
 use Rattle.judge.proofs.machine.Machine.new.Goals as goal
@@ -7,7 +7,7 @@ use Rattle.judge.proofs.machine.Machine.new.Goals as goal
 pub loop-tenant-preserved : goal.loop-tenant-preserved
 loop-tenant-preserved c = record {
   many = omega (arith, ap length c.in_ok-push.ensures.items, length-append c.loop-tenant.all.items (c.in_ok-new.field-0 ∷ []), c.loop-tenant.invariant.many);
-  each = rw c.in_ok-push.ensures.items (each_more (IsOpening c.args.order) c.loop-tenant.all.items c.in_ok-new.field-0 c.loop-tenant.invariant.each c.in_ok-new.ensures);
+  each = rw c.in_ok-push.ensures.items (each_more (IsOpeningTenant c.args.order) c.loop-tenant.all.items c.in_ok-new.field-0 c.loop-tenant.invariant.each c.in_ok-new.ensures);
 }
 
 pub returns : goal.returns

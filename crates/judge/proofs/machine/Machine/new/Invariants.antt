@@ -1,9 +1,9 @@
 use Rattle.std.proofs.Common.{◌≡◌, ℕ, Some, length, slice_get}
-use Rattle.judge.specs.Showing.{Seen, IsOpening}
+use Rattle.judge.specs.Showing.{Seen, IsOpeningTenant}
 use Rattle.judge.proofs.machine.Machine.new.Given as goal
 
 abbrev pub invariant-loop-tenant : goal.invariant-loop-tenant
 invariant-loop-tenant l = record {
   many : length l.all.items ≡ l._tenant;
-  each : (k : ℕ) (y : Seen) → slice_get l.all.items k ≡ Some y → IsOpening l.order y;
+  each : (k : ℕ) (y : Seen) → slice_get l.all.items k ≡ Some y → IsOpeningTenant l.order y;
 }

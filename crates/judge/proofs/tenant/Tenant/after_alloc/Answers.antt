@@ -3,7 +3,7 @@ use Rattle.words_core.specs.declared.event.Event.TheVariants as On
 use Rattle.words_core.specs.declared.event.Command.TheVariants as Asked
 use Rattle.words_core.specs.declared.reply.Body.TheVariants as Say
 use Rattle.judge.specs.Showing.{Seen}
-use Rattle.judge_core.proofs.OnPages.{no_alloc}
+use Rattle.judge_replies.proofs.OnPages.{no_alloc}
 use Rattle.judge.proofs.Keeping.{asked, turned, unanswered, sound_after, same_slots, order_allocated}
 use Rattle.judge.proofs.Following.{changed, allocated}
 use Rattle.judge.proofs.tenant.Tenant.after_alloc.Goals as goal
@@ -43,4 +43,5 @@ returns-in_default c = record {
   followed = λ t. unanswered (On.Tenant t (Asked.Alloc c.args.k)) c.args.body.now c.args.self.now (c.requires t)
       (λ refused w s. no_alloc c.args.k t w s c.args.body.now c.in_default.not-Frame refused);
   failed = tt;
+  memory = tt;
 }

@@ -7,8 +7,8 @@ use Rattle.promise_core.specs.Holdings.{cache_told}
 use Rattle.judge_bytes.specs.Left.{left_at}
 use Rattle.judge.specs.Showing.{state_with}
 use Rattle.judge.specs.Inside.{known_by}
-use Rattle.judge_core.proofs.Allowed.{new_where_allowed, cut_where_allowed}
-use Rattle.judge_core.proofs.OnCaches.{no_new_cache}
+use Rattle.judge_replies.proofs.Allowed.{new_where_allowed, cut_where_allowed}
+use Rattle.judge_replies.proofs.OnCaches.{no_new_cache}
 use Rattle.judge.proofs.Keeping.{asked, turned, unanswered, sound_after, same_slots}
 use Rattle.judge.proofs.Following.{changed, stays, made}
 use Rattle.judge.proofs.tenant.Tenant.after_cache.Goals as goal
@@ -46,4 +46,5 @@ returns-in_default c = record {
   followed = λ t. unanswered (On.Tenant t (Asked.Cache c.args.size c.args.align c.args.pattern.now)) c.args.body.now c.args.self.now (c.requires t)
       (λ refused w s. no_new_cache c.args.size c.args.align t c.args.pattern.now w s c.args.body.now c.in_default.not-Cache refused);
   failed = tt;
+  memory = tt;
 }

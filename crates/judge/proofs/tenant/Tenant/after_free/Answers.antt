@@ -3,7 +3,7 @@ use Rattle.words_core.specs.declared.event.Event.TheVariants as On
 use Rattle.words_core.specs.declared.event.Command.TheVariants as Asked
 use Rattle.words_core.specs.declared.reply.Body.TheVariants as Say
 use Rattle.judge.specs.Showing.{Seen}
-use Rattle.judge_core.proofs.OnPages.{no_free}
+use Rattle.judge_replies.proofs.OnPages.{no_free}
 use Rattle.judge.proofs.Keeping.{asked, turned, unanswered, sound_after, same_slots, order_freed}
 use Rattle.judge.proofs.Following.{changed, freed}
 use Rattle.judge.proofs.tenant.Tenant.after_free.Goals as goal

@@ -3,10 +3,10 @@ use Rattle.words_core.specs.declared.event.Event.TheVariants as On
 use Rattle.words_core.specs.declared.event.AdminCommand.TheVariants as Do
 use Rattle.words_core.specs.declared.reply.Body.TheVariants as Say
 use Rattle.judge.specs.Showing.{Seen}
-use Rattle.judge.specs.Inside.{IsSound}
+use Rattle.judge.specs.Inside.{LieInSlots}
 use Rattle.std.proofs.Common.{not, ◌==◌}
 use Rattle.std.specs.Prelude.{filter}
-use Rattle.judge_core.proofs.OnSlots.{no_grant}
+use Rattle.judge_replies.proofs.OnSlots.{no_grant}
 use Rattle.judge.proofs.Keeping.{asked, turned, unanswered, sound_after, if_kept}
 use Rattle.judge.proofs.Following.{changed}
 use Rattle.judge.proofs.Owning.{granted, granted_back, slots_granted, new_slot}
@@ -19,7 +19,7 @@ invariant_of-self-in-Err c =
     let new = new_slot c.args.t c.in-Granted.tenant c.in-Granted.slot c.in-Granted.superblock x kept in
     let held = granted_back c.in-Granted.slot x.has c.grant.new.self c.take_back.new.self new.new c.in_ok-grant-in-Granted.ensures.granted
     (c.take_back.ensures ∙ ap (λ u. record c.grant.new.self { slots = filter (λ v. not (v == u)) c.grant.new.self.slots }) c.from.ensures) in
-    subst (λ h. IsSound h c.grant-in-Granted.new.self) (sym held) (subst (IsSound x.has) (sym c.in-Err.ensures.kept) c.self.invariant)
+    subst (λ h. LieInSlots h c.grant-in-Granted.new.self) (sym held) (subst (LieInSlots x.has) (sym c.in-Err.ensures.kept) c.self.invariant)
 
 pub returns-in-Err-clause-failed : goal.returns-in-Err-clause-failed
 returns-in-Err-clause-failed c =
@@ -52,4 +52,5 @@ returns-in_default c = record {
       (λ refused w s. no_grant c.args.t w s c.args.body.now
       c.in_default.not-Granted refused);
   failed = tt;
+  memory = tt;
 }

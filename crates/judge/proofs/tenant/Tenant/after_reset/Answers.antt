@@ -4,7 +4,7 @@ use Rattle.words_core.specs.declared.event.AdminCommand.TheVariants as Do
 use Rattle.words_core.specs.declared.reply.Body.TheVariants as Say
 use Rattle.judge.specs.Showing.{Seen}
 use Rattle.std.proofs.Common.{None, replicate, false}
-use Rattle.judge_core.proofs.OnSlots.{no_reset}
+use Rattle.judge_replies.proofs.OnSlots.{no_reset}
 use Rattle.judge.proofs.Keeping.{turned, unanswered}
 use Rattle.judge.proofs.Owning.{emptied, none_marked}
 use Rattle.judge.proofs.tenant.Tenant.after_reset.Goals as goal

@@ -2,14 +2,14 @@ use Rattle.std.proofs.Common.{sym, subst}
 use Rattle.words_core.specs.declared.event.Event.TheVariants as On
 use Rattle.words_core.specs.declared.event.Command.TheVariants as Asked
 use Rattle.words_core.specs.declared.reply.Body.TheVariants as Say
-use Rattle.judge_core.proofs.OnObjects.{no_take}
+use Rattle.judge_replies.proofs.OnObjects.{no_take}
 use Rattle.judge.specs.Showing.{Follows}
-use Rattle.judge.specs.Inside.{IsKept}
+use Rattle.judge.specs.Inside.{IsKeptReply}
 use Rattle.judge.proofs.Keeping.{if_ok, unanswered}
 use Rattle.judge.proofs.tenant.Tenant.after_take.Goals as goal
 
 pub take-requires : goal.take-requires
-take-requires c t = subst (λ b. IsKept (On.Tenant t (Asked.Take c.args.number)) b c.args.self.now) c.in-Object.is (c.requires t)
+take-requires c t = subst (λ b. IsKeptReply (On.Tenant t (Asked.Take c.args.number)) b c.args.self.now) c.in-Object.is (c.requires t)
 
 pub returns-in-Object-clause-followed : goal.returns-in-Object-clause-followed
 returns-in-Object-clause-followed c = if_ok c.take.result
@@ -22,4 +22,5 @@ returns-in_default c = record {
   followed = λ t. unanswered (On.Tenant t (Asked.Take c.args.number)) c.args.body.now c.args.self.now (c.requires t)
       (λ refused w s. no_take c.args.number t w s c.args.body.now c.in_default.not-Object refused);
   failed = tt;
+  memory = tt;
 }

@@ -3,7 +3,7 @@ use Rattle.words_core.specs.declared.event.Event.TheVariants as On
 use Rattle.words_core.specs.declared.event.AdminCommand.TheVariants as Do
 use Rattle.words_core.specs.declared.reply.Body.TheVariants as Say
 use Rattle.judge.specs.Showing.{Seen}
-use Rattle.judge_core.proofs.OnSlots.{no_take_back}
+use Rattle.judge_replies.proofs.OnSlots.{no_take_back}
 use Rattle.judge.proofs.Keeping.{asked, turned, unanswered, sound_after}
 use Rattle.judge.proofs.Following.{changed}
 use Rattle.judge.proofs.Owning.{taken_back, slots_taken}

@@ -10,7 +10,7 @@ use Rattle.promise_core.specs.Bytes.{holder_of}
 use Rattle.judge_bytes.proofs.ReadBytes.{begins}
 use Rattle.judge.proofs.Keeping.{asked, turned, unanswered, none_of, sound_after, same_slots}
 use Rattle.judge.proofs.Following.{written, none_written}
-use Rattle.judge_core.proofs.OnBytes.{no_write}
+use Rattle.judge_replies.proofs.OnBytes.{no_write}
 use Rattle.judge.proofs.tenant.Tenant.after_write.Goals as goal
 
 pub put-requires : goal.put-requires

@@ -1,8 +1,12 @@
-use Rattle.std.proofs.Common.{[], refl, sym, ◌∙◌}
+use Rattle.std.proofs.Common.{ℕ, List, [], Option, refl, sym, ◌∙◌}
+use Rattle.model_core.specs.declared.owner.Owner.{Owner}
+use Rattle.words_core.specs.declared.event.Event.TheVariants as On
 use Rattle.judge_bytes.specs.Left.{left_at}
 use Rattle.judge.specs.Showing.{state_with}
 use Rattle.judge.specs.Inside.{known_by}
+use Rattle.judge.specs.Adding.{IsKeptAddition}
 use Rattle.judge.proofs.Keeping.{shown}
+use Rattle.judge.proofs.Sizes.{at_err}
 use Rattle.judge.proofs.tenant.Tenant.judge.Goals as goal
 
 pub follow-requires : goal.follow-requires
@@ -26,3 +30,11 @@ returns-in-Err-clause-judged c t owners = record {
   kept = λ ok. absurd (cc);
   broken = λ promise err. refl;
 }
+
+pub returns-in_err-follow-in-Ok-clause-memory : goal.returns-in_err-follow-in-Ok-clause-memory
+returns-in_err-follow-in-Ok-clause-memory c =
+    let is : (t : ℕ) (owners : List (Option Owner)) → IsKeptAddition (On.Tenant t c.args.command.now) c.args.body.now owners c.args.self.now =
+    λ t owners. record {
+      adds = c.in_err-follow-in-Ok.ensures.memory;
+      kept = λ w s fits shows. sym (c.verdict.ensures t owners w s fits shows) ∙ c.in-Ok.is;
+    } in at_err _ _ is

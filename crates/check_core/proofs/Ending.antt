@@ -1,0 +1,69 @@
+-- How a call ends by what it called.
+use Rattle.std.proofs.Common.{◌≡◌, ℕ, suc, Bool, true, false, List, ◌∷◌, Option, Some, Result, Ok, Err, inr, subst, sym}
+use Rattle.std.specs.Prelude.{IsErrAnd}
+use Rattle.words_core.specs.declared.event.Event.{Event}
+use Rattle.words_core.specs.declared.event.LineFault.{LineFault}
+use Rattle.words_core.specs.declared.reply.Body.{Body}
+use Rattle.words_core.specs.declared.reply.Body.TheVariants as Say
+use Rattle.words_core.specs.declared.reply.Reply.{Reply}
+use Rattle.promise_core.specs.State.{Known}
+use Rattle.judge.specs.Adding.{is_addition, IsAllowedAddition}
+use Rattle.judge.specs.Machine.{SeenMachine, ShowsKnown}
+use Rattle.check_core.specs.declared.finding.Unchecked.{Unchecked}
+use Rattle.check_core.specs.declared.finding.Unchecked.TheVariants as Not
+use Rattle.check_core.specs.Ending.{AddsAt, ComesToAdd, IsEndedBy, IsStoppedBy}
+use Rattle.check_core.specs.Finding.{after_lines, is_refusal, lines_to, more_lines, reply_in, verdict_at}
+
+pub stopped_so : (why : Unchecked) (u v : Bool) (S T : Type 0) → (S → T) → IsStoppedBy why u v S → IsStoppedBy why u v T
+stopped_so Not.Trace u v S T f is = is
+stopped_so Not.Replies u v S T f is = is
+stopped_so Not.Memory u v S T f is = (is.0, is.1, f is.2)
+
+pub ended_so : {A : Type 0} (r : Result A Unchecked) (u v : Bool) (S T : Type 0) → (S → T) → IsEndedBy r u v S → IsEndedBy r u v T
+ended_so (Ok done) u v S T f is = is
+ended_so (Err why) u v S T f is = stopped_so why u v S T f is
+
+-- what ended without reading, where the reader had not failed
+pub ended_where : {A : Type 0} (r : Result A Unchecked) (v : Bool) (S T : Type 0) → v ≡ false → (S → T) → IsEndedBy r false false S
+    → IsEndedBy r false v T
+ended_where r v S T fine f is = subst (λ untold. IsEndedBy r false untold T) (sym fine) (ended_so r false false S T f is)
+
+-- a failure is handed on
+pub stopped_on : {A : Type 0} (why : Unchecked) (r : Result A Unchecked) (u v : Bool) (S : Type 0) → IsErrAnd r (λ e. e ≡ why)
+    → IsStoppedBy why u v S → IsEndedBy r u v S
+stopped_on why (Ok done) u v S same is = absurd same
+stopped_on why (Err e) u v S same is = subst (λ x. IsStoppedBy x u v S) (sym same) is
+
+-- .. of one reader, where the other had not failed
+pub stopped_reading : {A : Type 0} (why : Unchecked) (r : Result A Unchecked) (u v : Bool) (S : Type 0) → IsErrAnd r (λ e. e ≡ why)
+    → v ≡ false → IsStoppedBy why u false ⊥ → IsEndedBy r u v S
+stopped_reading why r u v S same fine is = stopped_on why r u v S same
+    (subst (λ untold. IsStoppedBy why u untold S) (sym fine) (stopped_so why u false ⊥ S (λ none. absurd none) is))
+
+pub stopped_telling : {A : Type 0} (why : Unchecked) (r : Result A Unchecked) (u v : Bool) (S T : Type 0) → IsErrAnd r (λ e. e ≡ why)
+    → u ≡ false → (S → T) → IsStoppedBy why false v S → IsEndedBy r u v T
+stopped_telling why r u v S T same fine f is = stopped_on why r u v T same
+    (subst (λ unread. IsStoppedBy why unread v T) (sym fine) (stopped_so why false v S T f is))
+
+-- memory ran out
+pub ran_out : {A : Type 0} (r : Result A Unchecked) (u v : Bool) (S : Type 0) → IsErrAnd r (λ e. e ≡ Not.Memory) → u ≡ false → v ≡ false → S
+    → IsEndedBy r u v S
+ran_out r u v S same fine_u fine_v on = stopped_on Not.Memory r u v S same (fine_u, fine_v, on)
+
+-- a refusal adds nothing
+pub refused_adds_nothing : (body : Body) → is_refusal body ≡ true → is_addition body ≡ true → ⊥
+refused_adds_nothing (Say.Refused refusal) is adds = absurd cc
+refused_adds_nothing body is adds = absurd cc
+
+-- the line whose reply was judged
+pub adds_at : (event : Event) (reply : Reply) (bytes : List ℕ) (m : SeenMachine) (w : Known) → reply_in (suc (more_lines event w)) bytes ≡ Some reply
+    → ShowsKnown m w → IsAllowedAddition event reply m → AddsAt (Ok (Some event)) bytes w
+adds_at event reply bytes m w found shown is =
+    let after = is.allowed w shown in (reply, after.0, found, after.1, is.adds)
+
+-- a later line
+pub adds_later : (lines : ℕ) (reading : Result (Option Event) LineFault) (readings : List (Result (Option Event) LineFault)) (bytes : List ℕ)
+    (w after : Known) → verdict_at reading bytes w ≡ Ok after → lines ≡ lines_to reading w → ComesToAdd readings (after_lines lines bytes) after
+    → ComesToAdd (reading ∷ readings) bytes w
+adds_later lines reading readings bytes w after is same more =
+    inr (after, is, subst (λ n. ComesToAdd readings (after_lines n bytes) after) same more)

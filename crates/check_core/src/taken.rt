@@ -1,0 +1,36 @@
+//! What is in the way of a page block that is told.
+
+ghost use Rattle.std.specs.Prelude.{◌≡◌, option_map};
+ghost use Rattle.check_core.specs.Taken.{page_in_way};
+
+use judge::Machine;
+use judge_core::FrameBlock;
+use model_core::limits::MOST_ORDER;
+use words_core::{Body, Command, Event};
+
+/// A frame of a page block that is told, and the live page block that has it already.
+#[derive(Clone, Copy, Debug)]
+pub struct TakenFrame {
+    pub frame: u32,
+    pub page: FrameBlock,
+}
+
+/// What is in the way of the page block that a reply of this body to the event tells: the first live page block of the tenant
+/// that has a frame of it, if one has.
+pub fn taken_frame(machine: &Machine, event: &Event, body: &Body) -> Option<TakenFrame>
+    ensures { option_map (λ taken. taken.page) result ≡ page_in_way machine.now event.now body.now }
+{
+    match (event, body) {
+        (Event::Tenant(tenant, Command::Alloc { order }), Body::Frame(frame)) => {
+            if *order > u32::from(MOST_ORDER) {
+                return None;
+            }
+            let page = machine.page_over(*tenant, &FrameBlock::new(*frame, *order as u8))?;
+            Some(TakenFrame {
+                frame: page.first().max(*frame),
+                page,
+            })
+        }
+        _ => None,
+    }
+}
