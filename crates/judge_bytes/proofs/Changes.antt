@@ -1,8 +1,9 @@
 -- The steps of the changes that replies make.
-use Rattle.std.proofs.Common.{◌≡◌, ℕ, ◌+◌, ◌-◌, ◌*◌, ◌^◌, ◌<◌, ◌≤◌, Bool, true, false, not, leb, ltb, List, length, get_or, min, Option, Some, None, option_map, refl, sym, ap, ◌∙◌, subst, arith}
+use Rattle.std.proofs.Common.{◌≡◌, ℕ, ◌+◌, ◌-◌, ◌*◌, ◌^◌, ◌<◌, ◌≤◌, Bool, true, false, not, leb, ltb, List, length, get_or, min, max, Option, Some, None, option_map, inl, inr, refl, sym, ap, ◌∙◌, subst, arith}
 use Rattle.std.specs.Prelude.{if◌then◌else◌, ◌&&◌, ◌||◌, ◌==◌, nat_le, nat_lt, slice_index}
 use Rattle.std.specs.Option.{option_and_then}
-use Rattle.std.proofs.lemmas.Bool.{eqb-true, false≢true, le-leb, lt-ltb, leb-true, ltb-true}
+use Rattle.std.proofs.lemmas.Bool.Decides.{nat_tests}
+use Rattle.std.proofs.lemmas.Bool.{eqb-true, false≢true, le-leb, lt-ltb, leb-true, ltb-true, cases_lt}
 use Rattle.model_core.specs.Blocks.{Block}
 use Rattle.model_core.specs.Machine.{in_block}
 use Rattle.promise_core.specs.Bytes.{Holder, Cell, Cells, is_object, is_same, doubted, without, with_bytes}
@@ -180,3 +181,105 @@ taken number first size slab begin end is_begin is_end c is_number is_size is_sl
     (subst (λ (z : ℕ). within begin end (removed_of (not_beside c.number first z)) place (cells place) ≡ with_object first (Some c) cells place) is_size
     (removed_in (slab_around c first) begin end (is_begin ∙ ap (λ (b : Block). 4096 * b.first) (sym is_slab))
     (is_end ∙ ap (λ (b : Block). 4096 * (b.first + 2 ^ b.order)) (sym is_slab)) (not_beside c.number first c.size) place cells))
+
+-- what is no object of a cache
+abbrev pub elsewhere : ℕ → Holder → Bool
+elsewhere number holder = not (is_object (λ n p. n == number) holder)
+
+-- it can't lie beside an object of the cache
+not_beside_else : (number first size : ℕ) (h : Holder) → elsewhere number h ≡ true → not_beside number first size h ≡ true
+not_beside_else number first size Holder.Page is = refl
+not_beside_else number first size (Holder.Object n p) is = go (n == number) is
+  where
+    go : (b : Bool) → not b ≡ true → not (b && (p == first || (nat_le (first + size) p || nat_le (p + size) first))) ≡ true
+    go true is = absurd (false≢true is)
+    go false is = refl
+
+or_true : (b : Bool) → (b || true) ≡ true
+or_true true = refl
+or_true false = refl
+
+-- an object beside another, or not
+is_beside : (first size p : ℕ) → (p < first + size → first < p + size → ⊥) → (p == first || (leb (first + size) p || leb (p + size) first)) ≡ true
+is_beside first size p apart = elim (cases_lt p (first + size)) [
+  | inr ge ↦ ap (λ (t : Bool). p == first || (t || leb (p + size) first)) (le-leb (first + size) p ge) ∙ or_true (p == first)
+  | inl lt ↦ elim (cases_lt first (p + size)) [
+    | inl over ↦ absurd (apart lt over)
+    | inr ge ↦ ap (λ (t : Bool). p == first || (leb (first + size) p || t)) (le-leb (p + size) first ge)
+        ∙ (ap (λ (t : Bool). p == first || t) (or_true (leb (first + size) p)) ∙ or_true (p == first))
+  ]
+]
+
+-- far from the object all of its cache lie beside it
+far_beside : (reach : List ℕ) (number first size begin end low high place : ℕ) (h : Holder) → place < 2 ^ 32
+    → low ≡ max begin (first - size) → high ≡ min end (min (first + size + slice_index reach number) (2 ^ 64 - 1)) → begin ≤ place → place < end
+    → (leb low place && ltb place high) ≡ false → IsHolderNear reach place h → not_beside number first size h ≡ elsewhere number h
+far_beside reach number first size begin end low high place Holder.Page small is_low is_high le lt off near = refl
+far_beside reach number first size begin end low high place (Holder.Object n p) small is_low is_high le lt off near = go (n == number) refl
+  where
+    out : low ≤ place → place < high → ⊥
+    out above below = false≢true (sym off ∙ (ap (λ (t : Bool). t && ltb place high) (le-leb low place above) ∙ lt-ltb place high below))
+
+    apart : n ≡ number → p < first + size → first < p + size → ⊥
+    apart e under over =
+        let behind : p ≤ place = near.0 in
+        let within_reach : place < p + slice_index reach number = subst (λ (m : ℕ). place < p + slice_index reach m) e near.1 in
+        let below : place < high = omega arith in
+        out (omega arith) below
+
+    go : (b : Bool) → (n == number) ≡ b → not (b && (p == first || (nat_le (first + size) p || nat_le (p + size) first))) ≡ not b
+    go true e = ap not (is_beside first size p (apart (eqb-true n number e)))
+    go false e = refl
+
+-- so what can't lie beside it is looked for near it, where all else than its cache's is gone
+narrowed : (reach : List ℕ) (number first size begin end low high place : ℕ) (x : Option Cell) → place < 2 ^ 32
+    → low ≡ max begin (first - size) → high ≡ min end (min (first + size + slice_index reach number) (2 ^ 64 - 1)) → IsNear reach place x
+    → within low high (removed_of (not_beside number first size)) place (within begin end (removed_of (elsewhere number)) place x)
+    ≡ within begin end (removed_of (not_beside number first size)) place x
+narrowed reach number first size begin end low high place None small is_low is_high near =
+    go (leb low place && ltb place high) (leb begin place && ltb place end)
+  where
+    go : (t u : Bool) → (if t then removed_of (not_beside number first size) place (if u then None else None) else (if u then None else None))
+        ≡ (if u then None else None)
+    go true true = refl
+    go true false = refl
+    go false true = refl
+    go false false = refl
+narrowed reach number first size begin end low high place (Some cell) small is_low is_high near =
+    go (leb low place && ltb place high) (leb begin place && ltb place end) refl refl
+  where
+    twice : (b : Bool) → (b ≡ true → not_beside number first size cell.holder ≡ true)
+        → removed_of (not_beside number first size) place (if b then None else Some cell) ≡ (if not_beside number first size cell.holder then None else Some cell)
+    twice true gone = sym (ap (λ (t : Bool). if t then None else Some cell) (gone refl))
+    twice false gone = refl
+
+    covered : (leb low place && ltb place high) ≡ true → (leb begin place && ltb place end) ≡ true
+    covered is = grind (arith, nat_tests)
+
+    over : (leb begin place && ltb place end) ≡ true → begin ≤ place
+    over is = grind (arith, nat_tests)
+
+    under : (leb begin place && ltb place end) ≡ true → place < end
+    under is = grind (arith, nat_tests)
+
+    go : (t u : Bool) → (leb low place && ltb place high) ≡ t → (leb begin place && ltb place end) ≡ u
+        → (if t then removed_of (not_beside number first size) place (if u then removed_of (elsewhere number) place (Some cell) else Some cell)
+        else (if u then removed_of (elsewhere number) place (Some cell) else Some cell))
+        ≡ (if u then removed_of (not_beside number first size) place (Some cell) else Some cell)
+    go true true near_it is = twice (elsewhere number cell.holder) (not_beside_else number first size cell.holder)
+    go true false near_it off = absurd (false≢true (sym off ∙ covered near_it))
+    go false true far is = ap (λ (t : Bool). if t then None else Some cell)
+        (sym (far_beside reach number first size begin end low high place cell.holder small is_low is_high (over is) (under is) far near))
+    go false false far off = refl
+
+-- so it is where the object is handed out
+pub taken_twice : (reach : List ℕ) (number first size : ℕ) (slab : Block) (begin end low high : ℕ) → begin ≡ 4096 * slab.first
+    → end ≡ 4096 * (slab.first + 2 ^ slab.order) → low ≡ max begin (first - size)
+    → high ≡ min end (min (first + size + slice_index reach number) (2 ^ 64 - 1))
+    → (c : ToldCache) → c.number ≡ number → c.size ≡ size → slab_around c first ≡ slab → (place : ℕ) (cells : Cells) → place < 2 ^ 32
+    → IsNear reach place (cells place)
+    → within low high (removed_of (not_beside number first size)) place (within begin end (removed_of (elsewhere number)) place (cells place))
+    ≡ with_object first (Some c) cells place
+taken_twice reach number first size slab begin end low high is_begin is_end is_low is_high c is_number is_size is_slab place cells small near =
+    narrowed reach number first size begin end low high place (cells place) small is_low is_high near
+    ∙ taken number first size slab begin end is_begin is_end c is_number is_size is_slab place cells

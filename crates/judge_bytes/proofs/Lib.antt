@@ -3,4 +3,4 @@ pub mod Stepping
 pub mod Changes
 pub mod SlotsHeld
 pub mod ReadBytes
-pub mod KeptBytes
+pub mod Passing

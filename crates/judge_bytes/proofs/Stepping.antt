@@ -47,6 +47,18 @@ stepped order step (s ∷ ss) (t ∷ ts) len each w =
           (list_any (λ u. u == slot_of order place) (slots_in ss)) refl w.0 here has (rest.cells place));
     }
 
+-- a step after a step
+pub stepped_twice : (order : ℕ) (one two : Step) (ss ts us : List LeftSlot) → AreStepped order one ss ts → AreStepped order two ts us
+    → AreStepped order (λ place cell. two place (one place cell)) ss us
+stepped_twice order one two ss ts us before after = record {
+  slots = after.slots ∙ before.slots;
+  whole = after.whole;
+  cells = λ place has.
+      let at = before.cells place has in
+      let now = after.cells place (ap (list_any (λ u. u == slot_of order place)) before.slots ∙ has) in
+      (at.0, now.1 ∙ ap (two place) at.1);
+}
+
 -- in no slot nothing was left
 pub none_left : (order place : ℕ) (ss : List LeftSlot) → list_any (λ u. u == slot_of order place) (slots_in ss) ≡ false → left_in order ss place ≡ None
 none_left order place [] off = refl

@@ -1,12 +1,14 @@
 //! What replies make of what was left at a place.
 
-ghost use Rattle.std.specs.Prelude.{◌≡◌, ℕ, ◌<◌, ◌≤◌, Bool, not, Option};
+ghost use Rattle.std.specs.Prelude.{◌≡◌, ℕ, ◌<◌, ◌≤◌, Bool, true, false, not, Option};
 ghost use Rattle.promise_core.specs.Bytes.{Cell, with_bytes};
 ghost use Rattle.judge_core.specs.Holders.{shown_holder};
 ghost use Rattle.judge_bytes.specs.Inside.{Step, shown_kept, doubted_of, removed_of};
+ghost use Rattle.judge_bytes.specs.Marks.{IsMarked};
 
 use crate::kept::KeptByte;
-use crate::tests_of_holders::HolderTest;
+use crate::mark::Mark;
+use crate::tests_of_holders::{HolderTest, fails_all, passes_all};
 use judge_core::{LeftByte, RangeHolder};
 
 /// What becomes of what was left at a place.
@@ -16,6 +18,15 @@ pub(crate) trait Change {
     /// What is stored then.
     fn change(&self, place: u64, kept: KeptByte) -> KeptByte
         ensures { shown_kept result ≡ step self.now place (shown_kept kept) };
+
+    /// Whether it surely leaves all as it is where there is this mark.
+    fn leaves(&self, mark: Mark) -> bool
+        ensures { result ≡ true → (place : ℕ) (cell : Option Cell) → IsMarked mark cell → step self.now place cell ≡ cell };
+
+    /// The mark of some places after it, whose mark was this: of all of them, or of any part.
+    fn mark_after(&self, mark: Mark, all: bool) -> Mark
+        ensures changed { (place : ℕ) (cell : Option Cell) → IsMarked mark cell → IsMarked result (step self.now place cell) }
+        ensures kept { all ≡ false → (cell : Option Cell) → IsMarked mark cell → IsMarked result cell };
 }
 
 /// What is of a holder that passes is in doubt.
@@ -41,6 +52,21 @@ impl<T: HolderTest> Change for Doubt<T> {
             None => kept,
         }
     }
+
+    fn leaves(&self, mark: Mark) -> bool {
+        !mark.sure || fails_all(&self.0, mark.owners)
+    }
+
+    fn mark_after(&self, mark: Mark, all: bool) -> Mark {
+        if all && passes_all(&self.0, mark.owners) {
+            Mark {
+                owners: mark.owners,
+                sure: false,
+            }
+        } else {
+            mark
+        }
+    }
 }
 
 /// What is of a holder that passes is gone.
@@ -60,6 +86,18 @@ impl<T: HolderTest> Change for Remove<T> {
                 }
             }
             None => kept,
+        }
+    }
+
+    fn leaves(&self, mark: Mark) -> bool {
+        fails_all(&self.0, mark.owners)
+    }
+
+    fn mark_after(&self, mark: Mark, all: bool) -> Mark {
+        if all && passes_all(&self.0, mark.owners) {
+            Mark::FRESH
+        } else {
+            mark
         }
     }
 }
@@ -88,5 +126,13 @@ impl<'a> Change for Put<'a> {
             }),
             None => kept,
         }
+    }
+
+    fn leaves(&self, _mark: Mark) -> bool {
+        false
+    }
+
+    fn mark_after(&self, mark: Mark, _all: bool) -> Mark {
+        mark.with(self.holder)
     }
 }

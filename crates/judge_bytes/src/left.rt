@@ -13,7 +13,9 @@ ghost use Rattle.judge_bytes.specs.Inside.{StaysNear, AreStepped, within};
 use crate::change::{Change, Doubt, Put, Remove};
 use crate::slot::SlotBytes;
 use crate::slots::{change_slots, drop_slot, left_in, places_of};
-use crate::tests_of_holders::{IsInNoSlab, IsNoPage, IsNotBeside, IsObject, IsOfCache, IsPage};
+use crate::tests_of_holders::{
+    IsElse, IsInNoSlab, IsNoPage, IsNotBeside, IsObject, IsOfCache, IsPage,
+};
 use arrayvec::ArrayVec;
 use judge_core::{FrameBlock, Held, LeftByte, RangeHolder};
 use model_core::limits::MOST_BYTES;
@@ -138,12 +140,21 @@ impl LeftBytes {
         ensures { (c : ToldCache) → c.number ≡ number → c.size ≡ size → slab_around c first ≡ slab.now
             → Becomes self.old (left_slots self.old) (with_object first (Some c)) self.new }
     {
+        // an object that is not beside it begins before its end, and ends behind its first byte
+        let low = u64::from(first.saturating_sub(size));
+        let high = (u64::from(first) + u64::from(size)).saturating_add(reach_of(
+            &self.reach,
+            u32::from(number),
+        ));
+        let begin = slab.first_byte();
+        let end = slab.end_byte();
+        self.change(begin, end, &Remove(IsElse { number }));
         let test = IsNotBeside {
             number,
             first,
             size,
         };
-        self.change(slab.first_byte(), slab.end_byte(), &Remove(test));
+        self.change(begin.max(low), end.min(high), &Remove(test));
     }
 
     /// The cache of this number is destroyed: what was left of its objects is gone.

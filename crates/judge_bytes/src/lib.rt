@@ -4,6 +4,8 @@
 mod change;
 mod kept;
 mod left;
+mod mark;
+mod ranges;
 mod reading;
 mod slot;
 mod slots;

@@ -3,10 +3,12 @@
 ghost use Rattle.std.specs.Prelude.{◌≡◌, ℕ, ◌+◌, ◌*◌, ◌^◌, ◌<◌, ◌≤◌, Option, None, IfOk, length, option_map, replicate, slice_index_or};
 ghost use Rattle.judge_core.specs.Holders.{shown_cell};
 ghost use Rattle.judge_bytes.specs.declared.kept.KeptByte.TheVariants as Kept;
-ghost use Rattle.judge_bytes.specs.Inside.{shown_kept, within};
+ghost use Rattle.judge_bytes.specs.Inside.{within};
 
 use crate::change::Change;
 use crate::kept::KeptByte;
+use crate::mark::Mark;
+use crate::ranges::{CHUNK, FRAME, change_range};
 use judge_core::LeftByte;
 use std::alloc::{AllocError, Global};
 use std::marker::Model;
@@ -16,16 +18,23 @@ use std::marker::Model;
 pub(crate) struct SlotBytes {
     slot: u16,
     cells: Vec<KeptByte>,
+    /// What may have been left in each chunk.
+    chunks: Vec<Mark>,
+    /// The same of each frame.
+    frames: Vec<Mark>,
 }
 
 impl Model for SlotBytes {
     ghost use Rattle.std.specs.Prelude.{map};
     ghost use Rattle.judge_bytes.specs.Left.{LeftSlot};
     ghost use Rattle.judge_bytes.specs.Inside.{shown_kept};
+    ghost use Rattle.judge_bytes.specs.Marks.{AreMarked};
 
     ghost Value = { LeftSlot };
 
     ghost view = { λ s. record { slot = s.slot; cells = map shown_kept s.cells.items } };
+
+    ghost invariant = { λ s. AreMarked 64 s.chunks.items s.cells.items × AreMarked 4096 s.frames.items s.cells.items };
 }
 
 impl SlotBytes {
@@ -36,6 +45,8 @@ impl SlotBytes {
         Ok(SlotBytes {
             slot,
             cells: vec![in alloc; KeptByte::Fresh; places]?,
+            chunks: vec![in alloc; Mark::FRESH; places / CHUNK]?,
+            frames: vec![in alloc; Mark::FRESH; places / FRAME]?,
         })
     }
 
@@ -61,7 +72,15 @@ impl SlotBytes {
         ensures cells { (k : ℕ) → k < length self.old.cells → slice_index_or self.new.cells k None
             ≡ within begin end (C.step change.now) (first + k) (slice_index_or self.old.cells k None) }
     {
-        change_bytes(&mut self.cells, first, begin, end, change);
+        change_range(
+            &mut self.cells,
+            &mut self.chunks,
+            &mut self.frames,
+            first,
+            begin,
+            end,
+            change,
+        );
     }
 }
 
@@ -72,19 +91,5 @@ fn kept_at(cells: &[KeptByte], index: usize) -> KeptByte
     match cells.get(index) {
         Some(kept) => *kept,
         None => KeptByte::Fresh,
-    }
-}
-
-/// Changes what is stored of the places from `begin` on, before `end`, where the first is `first`.
-fn change_bytes<C: Change>(cells: &mut [KeptByte], first: u64, begin: u64, end: u64, change: &C)
-    requires { first + length cells.old ≤ 2 ^ 32 }
-    ensures { (k : ℕ) → k < length cells.old → shown_kept (slice_index_or cells.new k Kept.Fresh)
-        ≡ within begin end (C.step change.now) (first + k) (shown_kept (slice_index_or cells.old k Kept.Fresh)) }
-{
-    let most = cells.len() as u64;
-    let low = begin.saturating_sub(first).min(most) as usize;
-    let high = end.saturating_sub(first).min(most).max(low as u64) as usize;
-    for k in low..high {
-        cells[k] = change.change(first + k as u64, cells[k]);
     }
 }

@@ -1,13 +1,15 @@
 //! Tests of what has a byte.
 
-ghost use Rattle.std.specs.Prelude.{◌≡◌, ℕ, Bool, not, ◌==◌, ◌&&◌, ◌||◌, nat_le, ◌+◌};
+ghost use Rattle.std.specs.Prelude.{◌≡◌, ℕ, Bool, true, false, not, IfSome, ◌==◌, ◌&&◌, ◌||◌, nat_le, ◌+◌};
 ghost use Rattle.std.specs.List.{list_any};
 ghost use Rattle.model_core.specs.Machine.{in_block};
 ghost use Rattle.promise_core.specs.Holdings.{slab_around};
 ghost use Rattle.promise_core.specs.Bytes.{Holder, is_same, is_object};
 ghost use Rattle.promise_core.specs.State.{is_in_no_slab};
 ghost use Rattle.judge_core.specs.Holders.{shown_holder};
+ghost use Rattle.judge_bytes.specs.Marks.{MayOwn};
 
+use crate::mark::Owners;
 use judge_core::{FrameBlock, Held, HeldCache, RangeHolder};
 use model_core::limits::FRAME_BYTES;
 
@@ -18,6 +20,42 @@ pub(crate) trait HolderTest {
     /// Whether it passes.
     fn passes(&self, holder: RangeHolder) -> bool
         ensures { result ≡ test self.now (shown_holder holder) };
+
+    /// What it tells of each object of the cache of this number, where it tells the same of all.
+    fn tells_of_cache(&self, number: u8) -> Option<bool>
+        ensures { IfSome result (λ told. (first : ℕ) → test self.now (Holder.Object number first) ≡ told) };
+}
+
+/// What the test tells of each that may be one of these, where it tells the same of all.
+fn tells_of<T: HolderTest>(test: &T, owners: Owners) -> Option<bool>
+    ensures { IfSome result (λ told. (h : Holder) → MayOwn owners h → T.test test.now h ≡ told) }
+{
+    match owners {
+        Owners::Nobody => Some(false),
+        Owners::One(holder) => Some(test.passes(holder)),
+        Owners::Objects(number) => test.tells_of_cache(number),
+        Owners::Any => None,
+    }
+}
+
+/// Whether each that may be one of these surely passes.
+pub(crate) fn passes_all<T: HolderTest>(test: &T, owners: Owners) -> bool
+    ensures { result ≡ true → (h : Holder) → MayOwn owners h → T.test test.now h ≡ true }
+{
+    match tells_of(test, owners) {
+        Some(told) => told,
+        None => false,
+    }
+}
+
+/// Whether each that may be one of these surely fails.
+pub(crate) fn fails_all<T: HolderTest>(test: &T, owners: Owners) -> bool
+    ensures { result ≡ true → (h : Holder) → MayOwn owners h → T.test test.now h ≡ false }
+{
+    match tells_of(test, owners) {
+        Some(told) => !told,
+        None => false,
+    }
 }
 
 /// Whether it is a page block.
@@ -33,6 +71,10 @@ impl HolderTest for IsPage {
             RangeHolder::Object { .. } => false,
         }
     }
+
+    fn tells_of_cache(&self, _number: u8) -> Option<bool> {
+        Some(false)
+    }
 }
 
 /// Whether it is no page block.
@@ -47,6 +89,10 @@ impl HolderTest for IsNoPage {
             RangeHolder::Page => false,
             RangeHolder::Object { .. } => true,
         }
+    }
+
+    fn tells_of_cache(&self, _number: u8) -> Option<bool> {
+        Some(true)
     }
 }
 
@@ -68,6 +114,14 @@ impl HolderTest for IsObject {
             }
         }
     }
+
+    fn tells_of_cache(&self, number: u8) -> Option<bool> {
+        if u32::from(number) == self.number {
+            None
+        } else {
+            Some(false)
+        }
+    }
 }
 
 /// Whether it is an object of this cache.
@@ -84,6 +138,31 @@ impl HolderTest for IsOfCache {
             RangeHolder::Page => false,
             RangeHolder::Object { cache, .. } => u32::from(cache) == self.number,
         }
+    }
+
+    fn tells_of_cache(&self, number: u8) -> Option<bool> {
+        Some(u32::from(number) == self.number)
+    }
+}
+
+/// Whether it is no object of this cache.
+#[derive(Drop)]
+pub(crate) struct IsElse {
+    pub number: u8,
+}
+
+impl HolderTest for IsElse {
+    ghost test = { λ o holder. not (is_object (λ n p. n == o.number) holder) };
+
+    fn passes(&self, holder: RangeHolder) -> bool {
+        match holder {
+            RangeHolder::Page => true,
+            RangeHolder::Object { cache, .. } => cache != self.number,
+        }
+    }
+
+    fn tells_of_cache(&self, number: u8) -> Option<bool> {
+        Some(number != self.number)
     }
 }
 
@@ -111,6 +190,14 @@ impl HolderTest for IsNotBeside {
             }
         }
     }
+
+    fn tells_of_cache(&self, number: u8) -> Option<bool> {
+        if number == self.number {
+            None
+        } else {
+            Some(true)
+        }
+    }
 }
 
 /// Whether it is an object that no slab has which has a live one.
@@ -129,6 +216,10 @@ impl<'a> HolderTest for IsInNoSlab<'a> {
                 !is_in_some_slab(self.held.caches(), cache, first)
             }
         }
+    }
+
+    fn tells_of_cache(&self, _number: u8) -> Option<bool> {
+        None
     }
 }
 
