@@ -12,13 +12,6 @@ use Rattle.judge_bytes.specs.declared.mark.Mark.{Mark}
 use Rattle.judge_bytes.specs.Inside.{Step, shown_kept, within}
 use Rattle.judge_bytes.specs.Marks.{IsMarked, any_mark, cell_in, AreMarked, IsChanged}
 
-pub changed_none : (step : Step) (first low : ℕ) (old : List KeptByte) → IsChanged step first low low old old
-changed_none step first low old = record {
-  before = λ k lt. refl;
-  inside = λ k le lt. absurd (omega arith);
-  behind = λ k le. refl;
-}
-
 -- one place more
 pub changed_more : (step : Step) (first low k : ℕ) (old new : List KeptByte) (kept : KeptByte) → low ≤ k → k < length new
     → IsChanged step first low k old new → shown_kept kept ≡ step (first + k) (cell_in new k)

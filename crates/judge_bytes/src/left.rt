@@ -140,7 +140,7 @@ impl LeftBytes {
         ensures { (c : ToldCache) → c.number ≡ number → c.size ≡ size → slab_around c first ≡ slab.now
             → Becomes self.old (left_slots self.old) (with_object first (Some c)) self.new }
     {
-        // an object that is not beside it begins before its end, and ends behind its first byte
+        // all of other caches goes; of its own cache only an object goes that begins before its end and ends behind its first byte
         let low = u64::from(first.saturating_sub(size));
         let high = (u64::from(first) + u64::from(size)).saturating_add(reach_of(
             &self.reach,

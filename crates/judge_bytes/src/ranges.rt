@@ -7,12 +7,13 @@ ghost use Rattle.judge_bytes.specs.Marks.{cell_in, AreMarked, IsChanged};
 use crate::change::Change;
 use crate::kept::KeptByte;
 use crate::mark::{Mark, mark_at, set_mark};
+use model_core::limits::FRAME_BYTES;
 
-/// How many places of a frame have a mark of their own.
+/// How many places a chunk has: a part of a frame that has a mark of its own.
 pub(crate) const CHUNK: usize = 64;
 
-/// How many a frame has.
-pub(crate) const FRAME: usize = 4096;
+/// How many places a frame has.
+pub(crate) const FRAME: usize = FRAME_BYTES as usize;
 
 /// Changes the places from `low` on, before `high`, where the first is `first`.
 fn change_places<C: Change>(cells: &mut [KeptByte], first: u64, low: usize, high: usize, change: &C)

@@ -20,7 +20,7 @@ pub(crate) struct SlotBytes {
     cells: Vec<KeptByte>,
     /// What may have been left in each chunk.
     chunks: Vec<Mark>,
-    /// The same of each frame.
+    /// What may have been left in each frame.
     frames: Vec<Mark>,
 }
 
