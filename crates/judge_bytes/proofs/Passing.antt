@@ -9,11 +9,11 @@ use Rattle.promise_core.specs.Bytes.{Cell}
 use Rattle.judge_bytes.specs.declared.kept.KeptByte.{KeptByte}
 use Rattle.judge_bytes.specs.declared.kept.KeptByte.TheVariants as Kept
 use Rattle.judge_bytes.specs.declared.mark.Mark.{Mark}
-use Rattle.judge_bytes.specs.Inside.{Step, shown_kept, within}
-use Rattle.judge_bytes.specs.Marks.{IsMarked, any_mark, cell_in, AreMarked, IsChanged}
+use Rattle.judge_bytes.specs.Inside.{CellStep, shown_kept, within}
+use Rattle.judge_bytes.specs.Marks.{IsMarkedAs, any_mark, cell_in, AreMarked, IsChanged}
 
 -- one place more
-pub changed_more : (step : Step) (first low k : ℕ) (old new : List KeptByte) (kept : KeptByte) → low ≤ k → k < length new
+pub changed_more : (step : CellStep) (first low k : ℕ) (old new : List KeptByte) (kept : KeptByte) → low ≤ k → k < length new
     → IsChanged step first low k old new → shown_kept kept ≡ step (first + k) (cell_in new k)
     → IsChanged step first low (k + 1) old (set new k kept)
 changed_more step first low k old new kept le lt was is = record {
@@ -32,7 +32,7 @@ changed_more step first low k old new kept le lt was is = record {
     here = ap shown_kept (get_or-set_same new k kept Kept.Fresh lt) ∙ (is ∙ ap (step (first + k)) (was.behind k (omega arith)))
 
 -- two ranges that follow one another
-pub changed_join : (step : Step) (first low m high : ℕ) (old mid new : List KeptByte) → low ≤ m → m ≤ high
+pub changed_join : (step : CellStep) (first low m high : ℕ) (old mid new : List KeptByte) → low ≤ m → m ≤ high
     → IsChanged step first low m old mid → IsChanged step first m high mid new → IsChanged step first low high old new
 changed_join step first low m high old mid new le more one two = record {
   before = λ k lt. two.before k (omega arith) ∙ one.before k lt;
@@ -44,7 +44,7 @@ changed_join step first low m high old mid new le more one two = record {
 }
 
 -- a range that a step leaves as it is
-pub changed_left : (step : Step) (first low high : ℕ) (old : List KeptByte)
+pub changed_left : (step : CellStep) (first low high : ℕ) (old : List KeptByte)
     → ((k : ℕ) → low ≤ k → k < high → step (first + k) (cell_in old k) ≡ cell_in old k) → IsChanged step first low high old old
 changed_left step first low high old same = record {
   before = λ k lt. refl;
@@ -53,7 +53,7 @@ changed_left step first low high old same = record {
 }
 
 -- one part more, of `size` places
-pub changed_part : (step : Step) (first size part low high begin end : ℕ) (old mid new : List KeptByte) → low < part * size + size → part * size < high
+pub changed_part : (step : CellStep) (first size part low high begin end : ℕ) (old mid new : List KeptByte) → low < part * size + size → part * size < high
     → low ≤ high → begin ≡ max (part * size) low → end ≡ min (part * size + size) high
     → IsChanged step first low (max low (min (part * size) high)) old mid → IsChanged step first begin end mid new
     → IsChanged step first low (max low (min ((part + 1) * size) high)) old new
@@ -64,36 +64,36 @@ changed_part step first size part low high begin end old mid new over under le i
     (changed_join step first low begin end old mid new (omega arith) (omega arith)
     (subst (λ (n : ℕ). IsChanged step first low n old mid) b one) two)
 
-any_marked : (cell : Option Cell) → IsMarked any_mark cell
+any_marked : (cell : Option Cell) → IsMarkedAs any_mark cell
 any_marked None = tt
 any_marked (Some cell) = (tt, λ e. absurd (cc))
 
 -- the mark of a part after it
-mark_set : (marks : List Mark) (part : ℕ) (after : Mark) (cell : Option Cell) → IsMarked after cell → IsMarked (get_or (set marks part after) part any_mark) cell
+mark_set : (marks : List Mark) (part : ℕ) (after : Mark) (cell : Option Cell) → IsMarkedAs after cell → IsMarkedAs (get_or (set marks part after) part any_mark) cell
 mark_set marks part after cell marked = elim (cases_lt part (length marks)) [
-  | inl lt ↦ subst (λ (m : Mark). IsMarked m cell) (sym (get_or-set_same marks part after any_mark lt)) marked
-  | inr ge ↦ subst (λ (m : Mark). IsMarked m cell)
+  | inl lt ↦ subst (λ (m : Mark). IsMarkedAs m cell) (sym (get_or-set_same marks part after any_mark lt)) marked
+  | inr ge ↦ subst (λ (m : Mark). IsMarkedAs m cell)
       (sym (ap (λ (ms : List Mark). get_or ms part any_mark) (set_past marks part after ge) ∙ get_or_past marks part any_mark ge)) (any_marked cell)
 ]
 
 -- places whose mark was this, when some of them have been changed
-pub marked_part : (step : Step) (first size part low high : ℕ) (marks : List Mark) (mark after : Mark) (all : Bool) (old new : List KeptByte)
+pub marked_part : (step : CellStep) (first size part low high : ℕ) (marks : List Mark) (mark after : Mark) (all : Bool) (old new : List KeptByte)
     → ((k : ℕ) → part * size ≤ k → k < part * size + size → k / size ≡ part)
     → ((k : ℕ) → k / size ≡ part → (part * size ≤ k) × (k < part * size + size))
     → part * size ≤ low → high ≤ part * size + size → low ≤ high → all ≡ eqb (high - low) size → mark ≡ get_or marks part any_mark
-    → ((place : ℕ) (cell : Option Cell) → IsMarked mark cell → IsMarked after (step place cell))
-    → (all ≡ false → (cell : Option Cell) → IsMarked mark cell → IsMarked after cell)
+    → ((place : ℕ) (cell : Option Cell) → IsMarkedAs mark cell → IsMarkedAs after (step place cell))
+    → (all ≡ false → (cell : Option Cell) → IsMarkedAs mark cell → IsMarkedAs after cell)
     → AreMarked size marks old → IsChanged step first low high old new → AreMarked size (set marks part after) new
 marked_part step first size part low high marks mark after all old new here only begins ends order is_all is changed kept were by k =
     elim (cases_eq (k / size) part) [
-      | inl e ↦ subst (λ (n : ℕ). IsMarked (get_or (set marks part after) n any_mark) (cell_in new k)) (sym e)
+      | inl e ↦ subst (λ (n : ℕ). IsMarkedAs (get_or (set marks part after) n any_mark) (cell_in new k)) (sym e)
           (mark_set marks part after (cell_in new k) (inside e))
-      | inr ne ↦ subst (λ (m : Mark). IsMarked m (cell_in new k)) (sym (get_or-set_other marks part (k / size) after any_mark ne))
-          (subst (IsMarked (get_or marks (k / size) any_mark)) (sym (outside ne)) (were k))
+      | inr ne ↦ subst (λ (m : Mark). IsMarkedAs m (cell_in new k)) (sym (get_or-set_other marks part (k / size) after any_mark ne))
+          (subst (IsMarkedAs (get_or marks (k / size) any_mark)) (sym (outside ne)) (were k))
     ]
   where
-    was : k / size ≡ part → IsMarked mark (cell_in old k)
-    was e = subst (λ (m : Mark). IsMarked m (cell_in old k)) (sym is) (subst (λ (n : ℕ). IsMarked (get_or marks n any_mark) (cell_in old k)) e (were k))
+    was : k / size ≡ part → IsMarkedAs mark (cell_in old k)
+    was e = subst (λ (m : Mark). IsMarkedAs m (cell_in old k)) (sym is) (subst (λ (n : ℕ). IsMarkedAs (get_or marks n any_mark) (cell_in old k)) e (were k))
 
     outside : k / size ≢ part → cell_in new k ≡ cell_in old k
     outside ne = elim (cases_lt k low) [
@@ -107,27 +107,27 @@ marked_part step first size part low high marks mark after all old new here only
     some : k / size ≡ part → (k < low) ⊎ (high ≤ k) → all ≡ false
     some e out = let at = only k e in is_all ∙ grind (arith, nat_tests, at, out)
 
-    inside : k / size ≡ part → IsMarked after (cell_in new k)
+    inside : k / size ≡ part → IsMarkedAs after (cell_in new k)
     inside e = elim (cases_lt k low) [
-      | inl lt ↦ subst (IsMarked after) (sym (by.before k lt)) (kept (some e (inl lt)) (cell_in old k) (was e))
+      | inl lt ↦ subst (IsMarkedAs after) (sym (by.before k lt)) (kept (some e (inl lt)) (cell_in old k) (was e))
       | inr ge ↦ elim (cases_lt k high) [
-        | inl lt ↦ subst (IsMarked after) (sym (by.inside k ge lt)) (changed (first + k) (cell_in old k) (was e))
-        | inr far ↦ subst (IsMarked after) (sym (by.behind k far)) (kept (some e (inr far)) (cell_in old k) (was e))
+        | inl lt ↦ subst (IsMarkedAs after) (sym (by.inside k ge lt)) (changed (first + k) (cell_in old k) (was e))
+        | inr far ↦ subst (IsMarkedAs after) (sym (by.behind k far)) (kept (some e (inr far)) (cell_in old k) (was e))
       ]
     ]
 
 -- places whose mark says that the step leaves them as they are
-pub left_part : (step : Step) (first size part low high : ℕ) (marks : List Mark) (mark : Mark) (old : List KeptByte)
+pub left_part : (step : CellStep) (first size part low high : ℕ) (marks : List Mark) (mark : Mark) (old : List KeptByte)
     → ((k : ℕ) → part * size ≤ k → k < part * size + size → k / size ≡ part)
     → part * size ≤ low → high ≤ part * size + size → mark ≡ get_or marks part any_mark
-    → ((place : ℕ) (cell : Option Cell) → IsMarked mark cell → step place cell ≡ cell)
+    → ((place : ℕ) (cell : Option Cell) → IsMarkedAs mark cell → step place cell ≡ cell)
     → AreMarked size marks old → IsChanged step first low high old old
 left_part step first size part low high marks mark old here begins ends is same were = changed_left step first low high old
-    (λ k from below. same (first + k) (cell_in old k) (subst (λ (m : Mark). IsMarked m (cell_in old k)) (sym is)
-    (subst (λ (n : ℕ). IsMarked (get_or marks n any_mark) (cell_in old k)) (here k (omega arith) (omega arith)) (were k))))
+    (λ k from below. same (first + k) (cell_in old k) (subst (λ (m : Mark). IsMarkedAs m (cell_in old k)) (sym is)
+    (subst (λ (n : ℕ). IsMarkedAs (get_or marks n any_mark) (cell_in old k)) (here k (omega arith) (omega arith)) (were k))))
 
 -- so all are within the range
-pub changed_within : (step : Step) (first low high begin end : ℕ) (old new : List KeptByte) → low ≡ min (begin - first) (length old)
+pub changed_within : (step : CellStep) (first low high begin end : ℕ) (old new : List KeptByte) → low ≡ min (begin - first) (length old)
     → high ≡ max (min (end - first) (length old)) low → IsChanged step first low high old new
     → (k : ℕ) → k < length old → cell_in new k ≡ within begin end step (first + k) (cell_in old k)
 changed_within step first low high begin end old new is_low is_high by k lt = elim (cases_lt k low) [

@@ -6,7 +6,7 @@ use Rattle.std.proofs.lemmas.Nat.{shr_split, pow_pos}
 use Rattle.std.proofs.Math.Nat.{mod-lt, div-add-mod}
 use Rattle.model_core.specs.Blocks.{Block}
 use Rattle.model_core.specs.Machine.{slot_of, in_block}
-use Rattle.judge_bytes.specs.Left.{slot_bytes}
+use Rattle.judge_bytes.specs.Left.{slot_places}
 
 places_apart : (u m r f q place : ℕ) → u * m + r ≡ f → r < m → 4096 * f + q ≡ place → q < 4096
     → (u * (m * 4096) ≤ place) × (place - u * (m * 4096) < m * 4096)
@@ -14,8 +14,8 @@ places_apart u m r f q place ef lr ep lq = (omega arith, omega arith)
 
 -- a place of a slot is one of the places from the slot's first on
 pub inside_slot : (order place u : ℕ) → slot_of order place ≡ u
-    → (u * slot_bytes order ≤ place) × (place - u * slot_bytes order < slot_bytes order)
-inside_slot order place u e = subst (λ (v : ℕ). (v * slot_bytes order ≤ place) × (place - v * slot_bytes order < slot_bytes order)) e
+    → (u * slot_places order ≤ place) × (place - u * slot_places order < slot_places order)
+inside_slot order place u e = subst (λ (v : ℕ). (v * slot_places order ≤ place) × (place - v * slot_places order < slot_places order)) e
     (places_apart (place / 4096 / 2 ^ order) (2 ^ order) (place / 4096 % 2 ^ order) (place / 4096) (place % 4096) place
     (shr_split (place / 4096) order) (mod-lt (place / 4096) (pow_pos order)) (div-add-mod place 4096) (omega arith))
 

@@ -8,8 +8,8 @@ use Rattle.std.proofs.lemmas.Bool.Decides.{nat_tests}
 use Rattle.std.proofs.lemmas.List.{get_or-replicate, get_or_past, length-replicate}
 use Rattle.model_core.specs.Machine.{slot_of}
 use Rattle.promise_core.specs.Bytes.{Cell, Cells, without}
-use Rattle.judge_bytes.specs.Left.{LeftSlot, Left, slot_bytes, left_in, slots_in, left_slots, AreLeft, Becomes}
-use Rattle.judge_bytes.specs.Inside.{IsNear, IsWhole, AreSlots}
+use Rattle.judge_bytes.specs.Left.{LeftSlot, Left, slot_places, left_in, slots_in, left_slots, AreLeft, Becomes}
+use Rattle.judge_bytes.specs.Inside.{IsNear, IsSlotWhole, AreSlots}
 use Rattle.judge_bytes.proofs.Stepping.{none_left}
 
 -- the slots without one
@@ -25,11 +25,11 @@ slots_less u (s ∷ ss) = go (s.slot == u) (slots_less u ss)
     go true rest = rest
     go false rest = ap (λ (us : List ℕ). s.slot ∷ us) rest
 
-whole_less : (order u : ℕ) (ss : List LeftSlot) → AllByRecursion (IsWhole order) ss → AllByRecursion (IsWhole order) (less u ss)
+whole_less : (order u : ℕ) (ss : List LeftSlot) → AllByRecursion (IsSlotWhole order) ss → AllByRecursion (IsSlotWhole order) (less u ss)
 whole_less order u [] w = tt
 whole_less order u (s ∷ ss) w = go (s.slot == u) (whole_less order u ss w.1)
   where
-    go : (b : Bool) → AllByRecursion (IsWhole order) (less u ss) → AllByRecursion (IsWhole order) (if not b then s ∷ less u ss else less u ss)
+    go : (b : Bool) → AllByRecursion (IsSlotWhole order) (less u ss) → AllByRecursion (IsSlotWhole order) (if not b then s ∷ less u ss else less u ss)
     go true rest = rest
     go false rest = (w.0, rest)
 
@@ -55,14 +55,14 @@ left_less order u place (s ∷ ss) has =
         → (list_any (λ w. w == slot_of order place) (slots_in (less u ss)) ≡ true → left_in order (less u ss) place ≡ left_in order ss place)
         → list_any (λ w. w == slot_of order place) (slots_in (if not b then s ∷ less u ss else less u ss)) ≡ true
         → left_in order (if not b then s ∷ less u ss else less u ss) place
-        ≡ (if c then get_or s.cells (place - s.slot * slot_bytes order) None else left_in order ss place)
+        ≡ (if c then get_or s.cells (place - s.slot * slot_places order) None else left_in order ss place)
     go true true is at rest has = absurd (false≢true (sym (gone u (slot_of order place) ss
         (eq-eqb u (slot_of order place) (sym (eqb-true s.slot u is) ∙ eqb-true s.slot (slot_of order place) at))) ∙ has))
     go true false is at rest has = rest has
     go false true is at rest has =
-        ap (λ (t : Bool). if t then get_or s.cells (place - s.slot * slot_bytes order) None else left_in order (less u ss) place) at
+        ap (λ (t : Bool). if t then get_or s.cells (place - s.slot * slot_places order) None else left_in order (less u ss) place) at
     go false false is at rest has =
-        ap (λ (t : Bool). if t then get_or s.cells (place - s.slot * slot_bytes order) None else left_in order (less u ss) place) at
+        ap (λ (t : Bool). if t then get_or s.cells (place - s.slot * slot_places order) None else left_in order (less u ss) place) at
         ∙ rest (ap (λ (t : Bool). t || list_any (λ w. w == slot_of order place) (slots_in (less u ss))) (sym at) ∙ has)
 
 or_true : (b : Bool) → (b || true) ≡ true
@@ -114,15 +114,15 @@ eqb_sym : (a b : ℕ) → eqb a b ≡ eqb b a
 eqb_sym a b = grind (arith, nat_tests)
 
 pub slots_granted : (order u : ℕ) (ss : List LeftSlot) (reach : List ℕ) → AreSlots order ss reach → (u + 1) * 2 ^ order * 4096 ≤ 2 ^ 32
-    → AreSlots order (record { slot = u; cells = replicate (slot_bytes order) None } ∷ ss) reach
+    → AreSlots order (record { slot = u; cells = replicate (slot_places order) None } ∷ ss) reach
 slots_granted order u ss reach are low = record {
-  whole = (record { all = length-replicate (slot_bytes order) None; low = omega (arith, low) }, are.whole);
+  whole = (record { all = length-replicate (slot_places order) None; low = omega (arith, low) }, are.whole);
   near = λ place. go place (u == slot_of order place);
 }
   where
     go : (place : ℕ) (b : Bool)
-        → IsNear reach place (if b then get_or (replicate (slot_bytes order) None) (place - u * slot_bytes order) None else left_in order ss place)
-    go place true = subst (IsNear reach place) (sym (fresh_at (slot_bytes order) (place - u * slot_bytes order))) tt
+        → IsNear reach place (if b then get_or (replicate (slot_places order) None) (place - u * slot_places order) None else left_in order ss place)
+    go place true = subst (IsNear reach place) (sym (fresh_at (slot_places order) (place - u * slot_places order))) tt
     go place false = are.near place
 
 fresh : (t : Bool) (x : Option Cell) → t ≡ true → option_and_then (λ (cell : Cell). if t then None else Some cell) x ≡ None
@@ -136,7 +136,7 @@ kept false None is = refl
 kept false (Some cell) is = refl
 
 pub granted : (old : Left) (u : ℕ) → Becomes old (u ∷ left_slots old) (without (λ place holder. slot_of old.order place == u))
-    (record { order = old.order; slots = record { slot = u; cells = replicate (slot_bytes old.order) None } ∷ old.slots })
+    (record { order = old.order; slots = record { slot = u; cells = replicate (slot_places old.order) None } ∷ old.slots })
 granted old u = record {
   order = refl;
   slots = refl;
@@ -145,8 +145,8 @@ granted old u = record {
   where
     go : (cells : Cells) → AreLeft old cells → (place : ℕ) (b : Bool) → (u == slot_of old.order place) ≡ b
         → (b || list_any (λ w. w == slot_of old.order place) (left_slots old)) ≡ true
-        → (if b then get_or (replicate (slot_bytes old.order) None) (place - u * slot_bytes old.order) None else left_in old.order old.slots place)
+        → (if b then get_or (replicate (slot_places old.order) None) (place - u * slot_places old.order) None else left_in old.order old.slots place)
         ≡ option_and_then (λ (cell : Cell). if slot_of old.order place == u then None else Some cell) (cells place)
-    go cells are place true is has = fresh_at (slot_bytes old.order) (place - u * slot_bytes old.order)
+    go cells are place true is has = fresh_at (slot_places old.order) (place - u * slot_places old.order)
         ∙ sym (fresh (slot_of old.order place == u) (cells place) (eqb_sym (slot_of old.order place) u ∙ is))
     go cells are place false is has = are place has ∙ sym (kept (slot_of old.order place == u) (cells place) (eqb_sym (slot_of old.order place) u ∙ is))

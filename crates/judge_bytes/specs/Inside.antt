@@ -4,7 +4,7 @@ use Rattle.std.specs.List.{list_any, AllByRecursion}
 use Rattle.std.specs.Option.{option_and_then}
 use Rattle.model_core.specs.Machine.{slot_of}
 use Rattle.promise_core.specs.Bytes.{Holder, Cell}
-use Rattle.judge_bytes.specs.Left.{LeftSlot, left_in, slots_in, slot_bytes}
+use Rattle.judge_bytes.specs.Left.{LeftSlot, left_in, slots_in, slot_places}
 use Rattle.judge_bytes.specs.declared.kept.KeptByte.{KeptByte}
 use Rattle.judge_bytes.specs.declared.kept.KeptByte.TheVariants as Kept
 
@@ -14,19 +14,19 @@ shown_kept (Kept.Page byte sure) = Some (record { holder = Holder.Page; byte = b
 shown_kept (Kept.Object cache byte sure first) = Some (record { holder = Holder.Object cache first; byte = byte; sure = sure })
 
 -- what becomes of what was left, by place
-abbrev pub Step : Type 0
-Step = ℕ → Option Cell → Option Cell
+abbrev pub CellStep : Type 0
+CellStep = ℕ → Option Cell → Option Cell
 
 -- so it becomes from `begin` on, before `end`
-abbrev pub within : ℕ → ℕ → Step → Step
+abbrev pub within : ℕ → ℕ → CellStep → CellStep
 within begin end step place cell = if nat_le begin place && nat_lt place end then step place cell else cell
 
 -- what is of a holder that passes is in doubt
-abbrev pub doubted_of : (Holder → Bool) → Step
+abbrev pub doubted_of : (Holder → Bool) → CellStep
 doubted_of test place = option_map (λ (cell : Cell). record cell { sure = cell.sure && not (test cell.holder) })
 
 -- it is gone
-abbrev pub removed_of : (Holder → Bool) → Step
+abbrev pub removed_of : (Holder → Bool) → CellStep
 removed_of test place = option_and_then (λ (cell : Cell). if test cell.holder then None else Some cell)
 
 -- a byte of an object lies behind the object's first place, by less than the reach of its cache
@@ -39,30 +39,30 @@ IsNear reach place None = Unit {0}
 IsNear reach place (Some cell) = IsHolderNear reach place cell.holder
 
 -- where it was so, it is so then
-abbrev pub StaysNear : Step → Type 0
+abbrev pub StaysNear : CellStep → Type 0
 StaysNear step = (reach : List ℕ) (place : ℕ) (cell : Option Cell)
     → IsNear reach place cell → IsNear reach place (step place cell)
 
 -- the slot is stored whole, and its places are below 2 ^ 32
-pub record IsWhole (order : ℕ) (s : LeftSlot) : Type 0 where
-  pub all : length s.cells ≡ slot_bytes order
-  pub low : (s.slot + 1) * slot_bytes order ≤ 2 ^ 32
+pub record IsSlotWhole (order : ℕ) (s : LeftSlot) : Type 0 where
+  pub all : length s.cells ≡ slot_places order
+  pub low : (s.slot + 1) * slot_places order ≤ 2 ^ 32
 
 -- slots of 2 ^ order frames
 pub record AreSlots (order : ℕ) (slots : List LeftSlot) (reach : List ℕ) : Type 0 where
-  pub whole : AllByRecursion (IsWhole order) slots
+  pub whole : AllByRecursion (IsSlotWhole order) slots
   pub near : (place : ℕ) → IsNear reach place (left_in order slots place)
 
 -- the slot after a step at each of its places
-pub record IsStepped (order : ℕ) (step : Step) (old new : LeftSlot) : Type 0 where
+pub record IsStepped (order : ℕ) (step : CellStep) (old new : LeftSlot) : Type 0 where
   pub slot : new.slot ≡ old.slot
   pub len : length new.cells ≡ length old.cells
   pub cells : (k : ℕ) → k < length old.cells
-      → slice_index_or new.cells k None ≡ step (old.slot * slot_bytes order + k) (slice_index_or old.cells k None)
+      → slice_index_or new.cells k None ≡ step (old.slot * slot_places order + k) (slice_index_or old.cells k None)
 
 -- the slots after it
-pub record AreStepped (order : ℕ) (step : Step) (old new : List LeftSlot) : Type 0 where
+pub record AreStepped (order : ℕ) (step : CellStep) (old new : List LeftSlot) : Type 0 where
   pub slots : slots_in new ≡ slots_in old
-  pub whole : AllByRecursion (IsWhole order) new
+  pub whole : AllByRecursion (IsSlotWhole order) new
   pub cells : (place : ℕ) → list_any (λ u. u == slot_of order place) (slots_in old) ≡ true
       → (place < 2 ^ 32) × (left_in order new place ≡ step place (left_in order old place))

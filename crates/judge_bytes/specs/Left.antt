@@ -16,14 +16,14 @@ pub record Left : Type 0 where
   pub slots : List LeftSlot
 
 -- how many places a slot has
-abbrev pub slot_bytes : ℕ → ℕ
-slot_bytes order = 2 ^ order * FRAME_BYTES
+abbrev pub slot_places : ℕ → ℕ
+slot_places order = 2 ^ order * FRAME_BYTES
 
 -- what was left at a place of these slots
 abbrev pub left_in : ℕ → List LeftSlot → Cells
 left_in order [] place = None
 left_in order (s ∷ ss) place =
-    if s.slot == slot_of order place then slice_index_or s.cells (place - s.slot * slot_bytes order) None
+    if s.slot == slot_of order place then slice_index_or s.cells (place - s.slot * slot_places order) None
     else left_in order ss place
 
 abbrev pub left_at : Left → Cells

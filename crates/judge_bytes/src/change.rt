@@ -3,8 +3,8 @@
 ghost use Rattle.std.specs.Prelude.{◌≡◌, ℕ, ◌<◌, ◌≤◌, Bool, true, false, not, Option};
 ghost use Rattle.promise_core.specs.Bytes.{Cell, with_bytes};
 ghost use Rattle.judge_core.specs.Holders.{shown_holder};
-ghost use Rattle.judge_bytes.specs.Inside.{Step, shown_kept, doubted_of, removed_of};
-ghost use Rattle.judge_bytes.specs.Marks.{IsMarked};
+ghost use Rattle.judge_bytes.specs.Inside.{CellStep, shown_kept, doubted_of, removed_of};
+ghost use Rattle.judge_bytes.specs.Marks.{IsMarkedAs};
 
 use crate::kept::KeptByte;
 use crate::mark::Mark;
@@ -13,7 +13,7 @@ use judge_core::{LeftByte, RangeHolder};
 
 /// What becomes of what was left at a place.
 pub(crate) trait Change {
-    ghost step: { Self → Step };
+    ghost step: { Self → CellStep };
 
     /// What is stored then.
     fn change(&self, place: u64, kept: KeptByte) -> KeptByte
@@ -21,12 +21,12 @@ pub(crate) trait Change {
 
     /// Whether it surely leaves all as it is where there is this mark.
     fn leaves(&self, mark: Mark) -> bool
-        ensures { result ≡ true → (place : ℕ) (cell : Option Cell) → IsMarked mark cell → step self.now place cell ≡ cell };
+        ensures { result ≡ true → (place : ℕ) (cell : Option Cell) → IsMarkedAs mark cell → step self.now place cell ≡ cell };
 
     /// The mark of some places after it, whose mark was this: of all of them, or of any part.
     fn mark_after(&self, mark: Mark, all: bool) -> Mark
-        ensures changed { (place : ℕ) (cell : Option Cell) → IsMarked mark cell → IsMarked result (step self.now place cell) }
-        ensures kept { all ≡ false → (cell : Option Cell) → IsMarked mark cell → IsMarked result cell };
+        ensures changed { (place : ℕ) (cell : Option Cell) → IsMarkedAs mark cell → IsMarkedAs result (step self.now place cell) }
+        ensures kept { all ≡ false → (cell : Option Cell) → IsMarkedAs mark cell → IsMarkedAs result cell };
 }
 
 /// What is of a holder that passes is in doubt.

@@ -3,7 +3,7 @@
 ghost use Rattle.std.specs.Prelude.{◌≡◌, ℕ, true, Option, slice_index_or, slice_set};
 ghost use Rattle.promise_core.specs.Bytes.{Holder, Cell};
 ghost use Rattle.judge_core.specs.Holders.{shown_holder};
-ghost use Rattle.judge_bytes.specs.Marks.{MayOwn, IsMarked, any_mark};
+ghost use Rattle.judge_bytes.specs.Marks.{MayOwn, IsMarkedAs, any_mark};
 
 use judge_core::RangeHolder;
 
@@ -42,7 +42,7 @@ impl Mark {
 
     /// The same, or bytes of the holder that are surely there.
     pub fn with(self, holder: RangeHolder) -> Mark
-        ensures more { (cell : Option Cell) → IsMarked self cell → IsMarked result cell }
+        ensures more { (cell : Option Cell) → IsMarkedAs self cell → IsMarkedAs result cell }
         ensures owners { MayOwn result.owners (shown_holder holder) }
         ensures sure { result.sure ≡ true }
     {

@@ -4,8 +4,8 @@ ghost use Rattle.std.specs.Prelude.{◌≡◌, ◌^◌, ◌≤◌, ◌==◌, not
 ghost use Rattle.std.specs.List.{AllByRecursion};
 ghost use Rattle.model_core.specs.declared.limits.TheConstants.{MOST_ORDER};
 ghost use Rattle.judge_core.specs.Holders.{shown_cell};
-ghost use Rattle.judge_bytes.specs.Left.{left_in, slot_bytes};
-ghost use Rattle.judge_bytes.specs.Inside.{IsWhole, AreStepped, within};
+ghost use Rattle.judge_bytes.specs.Left.{left_in, slot_places};
+ghost use Rattle.judge_bytes.specs.Inside.{IsSlotWhole, AreStepped, within};
 
 use crate::change::Change;
 use crate::slot::SlotBytes;
@@ -15,7 +15,7 @@ use model_core::limits::FRAME_BYTES;
 /// How many places a slot of `2^order` frames has.
 pub(crate) fn places_of(order: u8) -> u64
     requires { order ≤ MOST_ORDER }
-    ensures value { result ≡ slot_bytes order }
+    ensures value { result ≡ slot_places order }
     ensures most { result ≤ 2 ^ 20 }
 {
     (1u64 << order) * u64::from(FRAME_BYTES)
@@ -46,7 +46,7 @@ pub(crate) fn change_slots<C: Change>(
     change: &C,
 )
     requires order { order ≤ MOST_ORDER }
-    requires whole { AllByRecursion (IsWhole order) slots.old }
+    requires whole { AllByRecursion (IsSlotWhole order) slots.old }
     ensures { AreStepped order (within begin end (C.step change.now)) slots.old slots.new }
 {
     let places = places_of(order);
