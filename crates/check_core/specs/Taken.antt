@@ -1,5 +1,5 @@
 -- What is in the way of a page block that is told.
-use Rattle.std.specs.Prelude.{ℕ, nat_le, if◌then◌else◌, Option, None, find, slice_get}
+use Rattle.std.specs.Prelude.{nat_le, if◌then◌else◌, Option, None, find, slice_get}
 use Rattle.std.specs.Option.{option_map_or}
 use Rattle.model_core.specs.declared.limits.TheConstants.{MOST_ORDER}
 use Rattle.model_core.specs.Blocks.{Block, block}
