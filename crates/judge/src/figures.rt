@@ -12,7 +12,9 @@ use model_core::report::{CacheRow, OrderRow};
 use words_core::{Body, CACHES, ORDERS, Report};
 
 impl Tenant {
-    /// What is known after the reply to a report, which keeps each promise.
+    /// What is known after the reply to a report, which keeps each promise. It stands apart since a function clears room for a report
+    /// that it copies when it is entered.
+    #[inline(never)]
     pub(crate) fn after_report(&mut self, body: &Body)
         requires { (t : ℕ) → IsKeptReply (On.Tenant t Asked.Report) body.now self.old }
         ensures { (t : ℕ) → Follows (On.Tenant t Asked.Report) body.now self.old self.new }

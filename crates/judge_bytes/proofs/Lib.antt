@@ -4,3 +4,4 @@ pub mod Changes
 pub mod SlotsHeld
 pub mod ReadBytes
 pub mod Passing
+pub mod Padding

@@ -3,7 +3,7 @@ use Rattle.std.proofs.Common.{◌≡◌, ℕ, ◌+◌, ◌-◌, ◌*◌, ◌/◌
 use Rattle.std.specs.Prelude.{◌&&◌, nat_le, nat_lt}
 use Rattle.std.proofs.lemmas.Bool.Decides.{nat_tests}
 use Rattle.std.proofs.lemmas.Nat.{shr_split, pow_pos}
-use Rattle.std.proofs.Math.Nat.{mod-lt, div-add-mod}
+use Rattle.std.proofs.Math.Nat.{mod-lt, div-add-mod, div-eq_of_lt-le}
 use Rattle.model_core.specs.Blocks.{Block}
 use Rattle.model_core.specs.Machine.{slot_of, in_block}
 use Rattle.judge_bytes.specs.Left.{slot_places}
@@ -18,6 +18,17 @@ pub inside_slot : (order place u : ℕ) → slot_of order place ≡ u
 inside_slot order place u e = subst (λ (v : ℕ). (v * slot_places order ≤ place) × (place - v * slot_places order < slot_places order)) e
     (places_apart (place / 4096 / 2 ^ order) (2 ^ order) (place / 4096 % 2 ^ order) (place / 4096) (place % 4096) place
     (shr_split (place / 4096) order) (mod-lt (place / 4096) (pow_pos order)) (div-add-mod place 4096) (omega arith))
+
+stays_inside : (u m f r place j : ℕ) → u * (m * 4096) ≤ place → place - u * (m * 4096) + j < m * 4096 → 4096 * f + r ≡ place + j → r < 4096
+    → (u * m ≤ f) × (f < (u + 1) * m)
+stays_inside u m f r place j low inside is few = (omega arith, omega arith)
+
+-- what comes behind it within as many places is one of the slot
+pub inside_behind : (order place u j : ℕ) → slot_of order place ≡ u → place - u * slot_places order + j < slot_places order
+    → slot_of order (place + j) ≡ u
+inside_behind order place u j e lt =
+    let at = stays_inside u (2 ^ order) ((place + j) / 4096) ((place + j) % 4096) place j (inside_slot order place u e).0 lt (div-add-mod (place + j) 4096) (omega arith) in
+    div-eq_of_lt-le (2 ^ order) at.0 at.1
 
 leb_scaled : (a p : ℕ) → leb (4096 * a) p ≡ leb a (p / 4096)
 leb_scaled a p = grind (arith, nat_tests)

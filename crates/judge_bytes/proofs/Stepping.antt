@@ -2,13 +2,13 @@
 use Rattle.std.proofs.Common.{◌≡◌, ℕ, zero, suc, ◌+◌, ◌-◌, ◌*◌, ◌^◌, ◌<◌, ◌≤◌, Bool, true, false, leb, ltb, List, [], ◌∷◌, length, get_or, drop, Option, None, refl, sym, ap, ◌∙◌, subst, arith}
 use Rattle.std.specs.Prelude.{if◌then◌else◌, ◌&&◌, ◌||◌, ◌==◌}
 use Rattle.std.specs.List.{list_any, AllByRecursion}
-use Rattle.std.proofs.lemmas.Bool.{eqb-true, false≢true}
+use Rattle.std.proofs.lemmas.Bool.{eqb-true, eq-eqb, false≢true}
 use Rattle.model_core.specs.Machine.{slot_of}
 use Rattle.promise_core.specs.Bytes.{Cell, Cells}
 use Rattle.judge_bytes.specs.Left.{LeftSlot, Left, slot_places, left_in, slots_in, left_slots, Becomes}
 use Rattle.judge_bytes.specs.Inside.{CellStep, IsNear, StaysNear, IsSlotWhole, AreSlots, IsStepped, AreStepped, within}
 use Rattle.std.proofs.lemmas.List.{at_drop_more}
-use Rattle.judge_bytes.proofs.Places.{inside_slot}
+use Rattle.judge_bytes.proofs.Places.{inside_slot, inside_behind}
 
 stepped_at : (order : ℕ) (step : CellStep) (s t : LeftSlot) (x y : Option Cell) (place : ℕ) (b more : Bool) → (s.slot == slot_of order place) ≡ b
     → IsSlotWhole order s → IsStepped order step s t → (b || more) ≡ true → (more ≡ true → (place < 2 ^ 32) × (y ≡ step place x))
@@ -155,3 +155,17 @@ slot_ends order i ss ts d slot places w lt same is_slot is_places =
     let low : ((get_or ts i d).slot + 1) * slot_places order ≤ 2 ^ 32 = at.low in
     let product : slot * places ≡ (get_or ts i d).slot * slot_places order = ap (λ (n : ℕ). n * places) is_slot ∙ ap (λ (n : ℕ). (get_or ts i d).slot * n) is_places in
     omega (arith, product, all, low)
+
+-- the cells of a slot from a place on, which is found behind others
+pub kept_behind : (order place i index : ℕ) (ss : List LeftSlot) (s : LeftSlot) → AllByRecursion (IsSlotWhole order) ss → i < length ss
+    → s ≡ get_or ss i s → s.slot ≡ slot_of order place → index ≡ place - s.slot * slot_places order
+    → ((p : ℕ) → slot_of order p ≡ slot_of order place → left_in order (drop i ss) p ≡ left_in order ss p)
+    → (j : ℕ) → index + j < length s.cells → get_or s.cells (index + j) None ≡ left_in order ss (place + j)
+kept_behind order place i index ss s w lt is at is_index same j inside =
+    let whole : IsSlotWhole order s = subst (IsSlotWhole order) (sym is) (whole_at order i ss s w lt) in
+    let all : length s.cells ≡ slot_places order = whole.all in
+    let low : s.slot * slot_places order ≤ place = (inside_slot order place s.slot (sym at)).0 in
+    let behind : slot_of order (place + j) ≡ s.slot = inside_behind order place s.slot j (sym at) (omega arith) in
+    let here : (s.slot == slot_of order (place + j)) ≡ true = eq-eqb s.slot (slot_of order (place + j)) (sym behind) in
+    let e : index + j ≡ place + j - s.slot * slot_places order = omega arith in
+    ap (λ (n : ℕ). get_or s.cells n None) e ∙ (sym (found_slot order (place + j) i ss s lt is here) ∙ same (place + j) (behind ∙ at))

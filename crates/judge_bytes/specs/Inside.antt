@@ -1,10 +1,10 @@
 -- What is stored, what is true of it, and what changes of it are.
-use Rattle.std.specs.Prelude.{◌≡◌, ℕ, ◌+◌, ◌*◌, ◌^◌, ◌<◌, ◌≤◌, Bool, true, not, List, length, Option, Some, None, option_map, slice_index, slice_index_or, nat_le, nat_lt, if◌then◌else◌, ◌&&◌, ◌==◌}
+use Rattle.std.specs.Prelude.{◌≡◌, ℕ, ◌+◌, ◌-◌, ◌++◌, ◌*◌, ◌^◌, ◌<◌, ◌≤◌, Bool, true, not, List, length, replicate, Option, Some, None, option_map, slice_index, slice_index_or, nat_le, nat_lt, if◌then◌else◌, ◌&&◌, ◌==◌}
 use Rattle.std.specs.List.{list_any, AllByRecursion}
 use Rattle.std.specs.Option.{option_and_then}
 use Rattle.model_core.specs.Machine.{slot_of}
 use Rattle.promise_core.specs.Bytes.{Holder, Cell}
-use Rattle.judge_bytes.specs.Left.{LeftSlot, left_in, slots_in, slot_places}
+use Rattle.judge_bytes.specs.Left.{LeftSlot, Left, left_in, slots_in, slot_places}
 use Rattle.judge_bytes.specs.declared.kept.KeptByte.{KeptByte}
 use Rattle.judge_bytes.specs.declared.kept.KeptByte.TheVariants as Kept
 
@@ -12,6 +12,17 @@ abbrev pub shown_kept : KeptByte → Option Cell
 shown_kept Kept.Fresh = None
 shown_kept (Kept.Page byte sure) = Some (record { holder = Holder.Page; byte = byte; sure = sure })
 shown_kept (Kept.Object cache byte sure first) = Some (record { holder = Holder.Object cache first; byte = byte; sure = sure })
+
+-- these, and nothing at the places behind them, so many in all
+abbrev pub padded : ℕ → List KeptByte → List KeptByte
+padded places kept = kept ++ replicate (places - length kept) Kept.Fresh
+
+-- these are stored from a place on
+abbrev pub AreKeptFrom : ℕ → List LeftSlot → ℕ → List KeptByte → Type 0
+AreKeptFrom order slots place kept = (j : ℕ) → j < length kept → shown_kept (slice_index_or kept j Kept.Fresh) ≡ left_in order slots (place + j)
+
+abbrev pub AreFrom : Left → ℕ → List KeptByte → Type 0
+AreFrom left = AreKeptFrom left.order left.slots
 
 -- what becomes of what was left, by place
 abbrev pub CellStep : Type 0

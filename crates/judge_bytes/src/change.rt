@@ -1,6 +1,6 @@
 //! What replies make of what was left at a place.
 
-ghost use Rattle.std.specs.Prelude.{◌≡◌, ℕ, ◌<◌, ◌≤◌, Bool, true, false, not, Option};
+ghost use Rattle.std.specs.Prelude.{◌≡◌, ℕ, ◌<◌, ◌≤◌, Bool, true, false, not, Option, None};
 ghost use Rattle.promise_core.specs.Bytes.{Cell, with_bytes};
 ghost use Rattle.judge_core.specs.Holders.{shown_holder};
 ghost use Rattle.judge_bytes.specs.Inside.{CellStep, shown_kept, doubted_of, removed_of};
@@ -18,6 +18,10 @@ pub(crate) trait Change {
     /// What is stored then.
     fn change(&self, place: u64, kept: KeptByte) -> KeptByte
         ensures { shown_kept result ≡ step self.now place (shown_kept kept) };
+
+    /// Whether something may come to be where nothing was.
+    fn adds(&self) -> bool
+        ensures { result ≡ false → (place : ℕ) → step self.now place None ≡ None };
 
     /// Whether it surely leaves all as it is where there is this mark.
     fn leaves(&self, mark: Mark) -> bool
@@ -51,6 +55,10 @@ impl<T: HolderTest> Change for Doubt<T> {
             }
             None => kept,
         }
+    }
+
+    fn adds(&self) -> bool {
+        false
     }
 
     fn leaves(&self, mark: Mark) -> bool {
@@ -87,6 +95,10 @@ impl<T: HolderTest> Change for Remove<T> {
             }
             None => kept,
         }
+    }
+
+    fn adds(&self) -> bool {
+        false
     }
 
     fn leaves(&self, mark: Mark) -> bool {
@@ -126,6 +138,10 @@ impl<'a> Change for Put<'a> {
             }),
             None => kept,
         }
+    }
+
+    fn adds(&self) -> bool {
+        true
     }
 
     fn leaves(&self, _mark: Mark) -> bool {

@@ -8,11 +8,12 @@ ghost use Rattle.promise_core.specs.Bytes.{Holder, is_object, is_same, with_byte
 ghost use Rattle.promise_core.specs.State.{with_object, is_in_no_slab};
 ghost use Rattle.judge_core.specs.Holders.{shown_holder, shown_cell};
 ghost use Rattle.judge_bytes.specs.Left.{left_slots, left_at, has_place, Becomes};
-ghost use Rattle.judge_bytes.specs.Inside.{StaysNear, AreStepped, within};
+ghost use Rattle.judge_bytes.specs.Inside.{StaysNear, AreFrom, AreStepped, within};
 
 use crate::change::{Change, Doubt, Put, Remove};
+use crate::kept::KeptByte;
 use crate::slot::SlotBytes;
-use crate::slots::{change_slots, drop_slot, left_in, places_of};
+use crate::slots::{change_slots, drop_slot, kept_from, left_in, places_of};
 use crate::tests_of_holders::{
     IsElse, IsInNoSlab, IsNoPage, IsNotBeside, IsObject, IsOfCache, IsPage,
 };
@@ -176,6 +177,13 @@ impl LeftBytes {
         ensures { option_map shown_cell result ≡ left_at self.now place }
     {
         left_in(&self.slots, self.order, place)
+    }
+
+    /// What is stored from a place on, to the end of its slot; nothing of a slot that the tenant does not hold.
+    pub(crate) fn kept_from(&self, place: u32) -> &[KeptByte]
+        ensures { AreFrom self.now place result.now }
+    {
+        kept_from(&self.slots, self.order, place)
     }
 
     /// The places of its slots are below `2^32`.

@@ -1,13 +1,15 @@
 //! What may be read.
 
-ghost use Rattle.std.specs.Prelude.{◌≡◌, ℕ, ◌+◌, ◌^◌, ◌<◌, ◌≤◌, true, length};
-ghost use Rattle.promise_core.specs.Bytes.{Cells, may_all_be};
-ghost use Rattle.judge_core.specs.Holders.{shown_holder};
+ghost use Rattle.std.specs.Prelude.{◌≡◌, ℕ, ◌+◌, ◌^◌, ◌<◌, ◌≤◌, true, length, option_map};
+ghost use Rattle.promise_core.specs.Bytes.{Cells, may_all_be, may_be, told_fresh_byte};
+ghost use Rattle.judge_core.specs.Holders.{shown_holder, shown_cell};
 ghost use Rattle.judge_bytes.specs.Left.{left_at, has_place, AreLeft};
+ghost use Rattle.judge_bytes.specs.Inside.{AreFrom};
 
+use crate::kept::KeptByte;
 use crate::left::LeftBytes;
 use arrayvec::ArrayVec;
-use judge_core::{Held, RangeHolder};
+use judge_core::{Held, LeftByte, RangeHolder};
 use model_core::limits::MOST_BYTES;
 
 impl LeftBytes {
@@ -35,13 +37,50 @@ impl LeftBytes {
         requires { place + length bytes.now ≤ 2 ^ 32 }
         ensures { result ≡ may_all_be held.now (left_at self.now) (shown_holder holder) place bytes.now }
     {
+        // mostly all of them: a page block or an object lies in one slot
+        let kept = self.kept_from(place);
         for (i, byte) in bytes.iter().enumerate() {
-            let here = place + i as u32;
-            let fresh = held.fresh_byte(holder, here);
-            if !holder.may_have(fresh, self.at(here), *byte) {
+            let left = self.left_behind(kept, place, i as u32);
+            if !may_be_read(held, holder, place + i as u32, left, *byte) {
                 return false;
             }
         }
         true
+    }
+
+    /// What was left so far behind a place, from which on these are stored.
+    fn left_behind(&self, kept: &[KeptByte], place: u32, i: u32) -> Option<LeftByte>
+        requires kept { AreFrom self.now place kept.now }
+        requires low { place + i < 2 ^ 32 }
+        ensures { option_map shown_cell result ≡ left_at self.now (place + i) }
+    {
+        match kept.get(i as usize) {
+            Some(kept) => kept.left(),
+            None => self.at(place + i),
+        }
+    }
+}
+
+/// Whether the byte may be read of the holder at a place where this was left.
+fn may_be_read(
+    held: &Held,
+    holder: RangeHolder,
+    place: u32,
+    left: Option<LeftByte>,
+    byte: u8,
+) -> bool
+    ensures { result ≡ may_be (shown_holder holder) (told_fresh_byte held.now (shown_holder holder) place)
+        (option_map shown_cell left) byte }
+{
+    is_left(holder, left, byte) || holder.may_have(held.fresh_byte(holder, place), left, byte)
+}
+
+/// Whether it is the byte that was left of the holder: then no fresh one is looked up.
+fn is_left(holder: RangeHolder, left: Option<LeftByte>, byte: u8) -> bool
+    ensures { (fresh : ℕ) → result ≡ true → may_be (shown_holder holder) fresh (option_map shown_cell left) byte ≡ true }
+{
+    match left {
+        Some(left) => left.holder.is_same(&holder) && byte == left.byte,
+        None => false,
     }
 }

@@ -1,9 +1,10 @@
 //! What was left in a slot.
 
-ghost use Rattle.std.specs.Prelude.{◌≡◌, ℕ, ◌+◌, ◌*◌, ◌^◌, ◌<◌, ◌≤◌, Option, None, IfOk, length, option_map, replicate, slice_index_or};
+ghost use Rattle.std.specs.Prelude.{◌≡◌, ℕ, ◌+◌, ◌-◌, ◌*◌, ◌^◌, ◌<◌, ◌≤◌, Option, None, IfOk, length, option_map, replicate, slice_index_or};
 ghost use Rattle.judge_core.specs.Holders.{shown_cell};
 ghost use Rattle.judge_bytes.specs.declared.kept.KeptByte.TheVariants as Kept;
-ghost use Rattle.judge_bytes.specs.Inside.{within};
+ghost use Rattle.std.specs.Vec.{vec_capacity};
+ghost use Rattle.judge_bytes.specs.Inside.{padded, shown_kept, within};
 
 use crate::change::Change;
 use crate::kept::KeptByte;
@@ -17,6 +18,9 @@ use std::marker::Model;
 #[derive(Debug, Drop)]
 pub(crate) struct SlotBytes {
     slot: u16,
+    /// How many places it has.
+    places: usize,
+    /// The first of them, up to the last at which something was left; there is room for all.
     cells: Vec<KeptByte>,
     /// What may have been left in each chunk.
     chunks: Vec<Mark>,
@@ -25,16 +29,18 @@ pub(crate) struct SlotBytes {
 }
 
 impl Model for SlotBytes {
-    ghost use Rattle.std.specs.Prelude.{map};
+    ghost use Rattle.std.specs.Prelude.{◌≤◌, length, map};
+    ghost use Rattle.std.specs.Vec.{vec_capacity};
     ghost use Rattle.judge_bytes.specs.Left.{LeftSlot};
-    ghost use Rattle.judge_bytes.specs.Inside.{shown_kept};
+    ghost use Rattle.judge_bytes.specs.Inside.{padded, shown_kept};
     ghost use Rattle.judge_bytes.specs.Marks.{AreMarked};
 
     ghost Value = { LeftSlot };
 
-    ghost view = { λ s. record { slot = s.slot; cells = map shown_kept s.cells.items } };
+    ghost view = { λ s. record { slot = s.slot; cells = map shown_kept (padded s.places s.cells.items) } };
 
-    ghost invariant = { λ s. AreMarked 64 s.chunks.items s.cells.items × AreMarked 4096 s.frames.items s.cells.items };
+    ghost invariant = { λ s. AreMarked 64 s.chunks.items s.cells.items × AreMarked 4096 s.frames.items s.cells.items
+        × (length s.cells.items ≤ s.places) × (s.places ≤ vec_capacity s.cells) };
 }
 
 impl SlotBytes {
@@ -44,7 +50,8 @@ impl SlotBytes {
     {
         Ok(SlotBytes {
             slot,
-            cells: vec![in alloc; KeptByte::Fresh; places]?,
+            places,
+            cells: Vec::with_capacity(alloc, places)?,
             chunks: vec![in alloc; Mark::FRESH; places / CHUNK]?,
             frames: vec![in alloc; Mark::FRESH; places / FRAME]?,
         })
@@ -64,6 +71,18 @@ impl SlotBytes {
         kept_at(&self.cells, index).left()
     }
 
+    /// What is stored this far from its first place and behind that; nothing was left at the places behind.
+    pub fn kept_from(&self, index: usize) -> &[KeptByte]
+        ensures len { length result.now ≤ length self.now.cells - index }
+        ensures kept { (j : ℕ) → j < length result.now → shown_kept (slice_index_or result.now j Kept.Fresh)
+            ≡ slice_index_or self.now.cells (index + j) None }
+    {
+        match self.cells.get(index..) {
+            Some(kept) => kept,
+            None => &[],
+        }
+    }
+
     /// Changes what was left at the places from `begin` on, before `end`, where its first place is `first`.
     pub fn change<C: Change>(&mut self, first: u64, begin: u64, end: u64, change: &C)
         requires { first + length self.old.cells ≤ 2 ^ 32 }
@@ -72,6 +91,7 @@ impl SlotBytes {
         ensures cells { (k : ℕ) → k < length self.old.cells → slice_index_or self.new.cells k None
             ≡ within begin end (C.step change.now) (first + k) (slice_index_or self.old.cells k None) }
     {
+        make_room(&mut self.cells, self.places, first, end, change);
         change_range(
             &mut self.cells,
             &mut self.chunks,
@@ -81,6 +101,34 @@ impl SlotBytes {
             end,
             change,
         );
+    }
+}
+
+/// Stores as many of the first places as the change may add something at before `end`, where the first is `first`.
+fn make_room<C: Change>(cells: &mut Vec<KeptByte>, places: usize, first: u64, end: u64, change: &C)
+    requires few { length cells.old.items ≤ places }
+    requires room { places ≤ vec_capacity cells.old }
+    ensures same { (k : ℕ) → slice_index_or cells.new.items k Kept.Fresh ≡ slice_index_or cells.old.items k Kept.Fresh }
+    ensures behind { (begin k : ℕ) → length cells.new.items ≤ k → k < places
+        → within begin end (C.step change.now) (first + k) None ≡ None }
+    ensures few { length cells.new.items ≤ places }
+    ensures room { places ≤ vec_capacity cells.new }
+{
+    if !change.adds() {
+        return;
+    }
+    let wanted = end.saturating_sub(first).min(places as u64) as usize;
+    grow(cells, wanted);
+}
+
+/// Makes them so many, if they are fewer: nothing was left at the new ones.
+fn grow(cells: &mut Vec<KeptByte>, wanted: usize)
+    requires { wanted ≤ vec_capacity cells.old }
+    ensures items { cells.new.items ≡ padded wanted cells.old.items }
+    ensures room { vec_capacity cells.old ≤ vec_capacity cells.new }
+{
+    if cells.len() < wanted {
+        cells.resize(wanted, KeptByte::Fresh).unwrap();
     }
 }
 

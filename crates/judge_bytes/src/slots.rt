@@ -5,9 +5,10 @@ ghost use Rattle.std.specs.List.{AllByRecursion};
 ghost use Rattle.model_core.specs.declared.limits.TheConstants.{MOST_ORDER};
 ghost use Rattle.judge_core.specs.Holders.{shown_cell};
 ghost use Rattle.judge_bytes.specs.Left.{left_in, slot_places};
-ghost use Rattle.judge_bytes.specs.Inside.{IsSlotWhole, AreStepped, within};
+ghost use Rattle.judge_bytes.specs.Inside.{IsSlotWhole, AreKeptFrom, AreStepped, within};
 
 use crate::change::Change;
+use crate::kept::KeptByte;
 use crate::slot::SlotBytes;
 use judge_core::LeftByte;
 use model_core::limits::FRAME_BYTES;
@@ -35,6 +36,23 @@ pub(crate) fn left_in(slots: &[SlotBytes], order: u8, place: u32) -> Option<Left
         }
     }
     None
+}
+
+/// What is stored from a place on, to the end of its slot; nothing where none of these has the place.
+pub(crate) fn kept_from(slots: &[SlotBytes], order: u8, place: u32) -> &[KeptByte]
+    requires order { order ≤ MOST_ORDER }
+    requires whole { AllByRecursion (IsSlotWhole order) slots.now }
+    ensures { AreKeptFrom order slots.now place result.now }
+{
+    let places = places_of(order);
+    let slot = place / FRAME_BYTES / (1u32 << order);
+    for s in slots {
+        if u32::from(s.slot()) == slot {
+            let before = u64::from(s.slot()) * places;
+            return s.kept_from(u64::from(place).saturating_sub(before) as usize);
+        }
+    }
+    &[]
 }
 
 /// Changes what was left at the places from `begin` on, before `end`, where slots have `2^order` frames.

@@ -1,9 +1,12 @@
 -- What is true of the fields of what is stored.
-use Rattle.std.specs.Prelude.{◌≡◌, ℕ, ◌*◌, ◌%◌, ◌^◌, ◌≤◌, true, List, map}
+use Rattle.std.specs.Prelude.{◌≡◌, ℕ, ◌+◌, ◌-◌, ◌*◌, ◌%◌, ◌^◌, ◌≤◌, true, List, map}
+use Rattle.std.specs.List.{All}
+use Rattle.std.specs.List.Sorted.{IsNonDecreasingBy}
 use Rattle.model_core.specs.declared.limits.TheConstants.{FRAME_BYTES, MOST_SIZE, MOST_ORDER}
+use Rattle.model_core.specs.Blocks.{Block}
 use Rattle.model_core.specs.Layouts.{is_alignment}
 use Rattle.model_core.specs.WellFormed.{RisesFrom}
-use Rattle.promise_core.specs.Holdings.{ToldCache}
+use Rattle.promise_core.specs.Holdings.{ToldCache, slab_around}
 
 -- the numbers of a cache: size, alignment, chunk, order of a slab, objects of a slab
 pub record IsToldLayout (size align chunk order count : ℕ) : Type 0 where
@@ -15,6 +18,18 @@ pub record IsToldLayout (size align chunk order count : ℕ) : Type 0 where
   pub small : order ≤ MOST_ORDER
   pub counted : 1 ≤ count
   pub fits : count * chunk ≤ FRAME_BYTES * 2 ^ order
+
+-- object `i` of a slab is at the place, and all of its objects lie in the frames of the slab that has the place
+abbrev pub IsObjectAt : ToldCache → ℕ → ℕ → Type 0
+IsObjectAt c place i = let slab = slab_around c place in let origin = place - i * c.chunk in
+    (i * c.chunk ≤ place) × (FRAME_BYTES * slab.first ≤ origin)
+    × (origin + (c.count - 1) * c.chunk + c.size ≤ FRAME_BYTES * (slab.first + 2 ^ slab.order))
+
+-- the live page blocks rise, and none has more than 2 ^ longest frames
+pub record ArePages (longest : ℕ) (pages : List Block) : Type 0 where
+  pub most : longest ≤ MOST_ORDER
+  pub rise : IsNonDecreasingBy (λ b. b.first) pages
+  pub short : All (λ b. b.order ≤ longest) pages
 
 -- the caches
 abbrev pub AreListed : List ToldCache → Type 0

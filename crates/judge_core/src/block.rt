@@ -90,7 +90,7 @@ impl FrameBlock {
     }
 
     /// The frame behind the last.
-    fn end(&self) -> u64
+    pub(crate) fn end(&self) -> u64
         ensures value { result ≡ self.now.first + 2 ^ self.now.order }
         ensures small { result < 2 ^ 33 }
     {

@@ -1,8 +1,9 @@
 //! A cache of a tenant, as it was asked for and as its reply told it.
 
-ghost use Rattle.std.specs.Prelude.{◌≡◌, ◌+◌, ◌-◌, ◌*◌, ◌/◌, ◌%◌, ◌<◌, ◌≤◌, nat_le, nat_lt, ◌==◌, ◌&&◌, not};
+ghost use Rattle.std.specs.Prelude.{◌≡◌, ℕ, ◌+◌, ◌-◌, ◌*◌, ◌/◌, ◌%◌, ◌^◌, ◌<◌, ◌≤◌, nat_le, nat_lt, ◌==◌, ◌&&◌, not};
 ghost use Rattle.std.specs.Prelude.{find, filter, length, [], IfOk, OnErr};
 ghost use Rattle.std.specs.List.{list_any, list_all, prefix_len};
+ghost use Rattle.std.specs.List.Sorted.{IsNonDecreasing, IsPartitionPoint};
 ghost use Rattle.model_core.specs.declared.limits.TheConstants.{FRAME_BYTES, MOST_ORDER, MOST_SIZE};
 ghost use Rattle.model_core.specs.Choice.{is_any_below};
 ghost use Rattle.model_core.specs.Operations.{overlaps};
@@ -10,10 +11,11 @@ ghost use Rattle.model_core.specs.Layouts.{pattern_byte};
 ghost use Rattle.model_core.specs.Reach.{is_within};
 ghost use Rattle.model_core.specs.Machine.{put_rising};
 ghost use Rattle.promise_core.specs.Holdings.{slab_around, live_beside, is_slab_full, are_apart, is_grid};
-ghost use Rattle.judge_core.specs.Inside.{IsToldLayout};
+ghost use Rattle.judge_core.specs.Inside.{IsToldLayout, IsObjectAt};
 
 use crate::block::FrameBlock;
 use crate::layout::ToldLayout;
+use crate::rising::{places_before, remove_range};
 use arrayvec::ArrayVec;
 use model_core::limits::{FRAME_BYTES, MOST_PATTERN};
 use std::alloc::{AllocError, Global};
@@ -29,18 +31,20 @@ pub struct HeldCache {
     chunk: u32,
     order: u8,
     count: u32,
+    /// Rising.
     live: Vec<u32>,
 }
 
 impl Model for HeldCache {
     ghost use Rattle.promise_core.specs.Holdings.{ToldCache};
+    ghost use Rattle.std.specs.List.Sorted.{IsNonDecreasing};
     ghost use Rattle.judge_core.specs.Inside.{IsToldLayout};
 
     ghost Value = { ToldCache };
 
     ghost view = { λ c. record { number = c.number; size = c.size; align = c.align; pattern = c.pattern.items; chunk = c.chunk; order = c.order; count = c.count; live = c.live.items } };
 
-    ghost invariant = { λ c. IsToldLayout c.size c.align c.chunk c.order c.count };
+    ghost invariant = { λ c. IsToldLayout c.size c.align c.chunk c.order c.count × IsNonDecreasing c.live.items };
 }
 
 impl HeldCache {
@@ -134,7 +138,11 @@ impl HeldCache {
     pub fn has_live(&self, place: u32) -> bool
         ensures { result ≡ list_any (λ p. p == place) self.now.live }
     {
-        self.live.iter().any(|p| *p == place)
+        let at = places_before(&self.live, u64::from(place));
+        match self.live.get(at) {
+            Some(first) => *first == place,
+            None => false,
+        }
     }
 
     /// The slab that an object at this place is in.
@@ -148,20 +156,29 @@ impl HeldCache {
     pub fn has_slab_over(&self, block: &FrameBlock) -> bool
         ensures { result ≡ list_any (λ p. overlaps block.now (slab_around self.now p)) self.now.live }
     {
-        self.live
-            .iter()
-            .any(|place| block.overlaps(&self.slab_around(*place)))
+        let slab = FrameBlock::around(block.first(), self.order);
+        let at = places_before(&self.live, slab.first_byte());
+        match self.live.get(at) {
+            Some(place) => block.overlaps(&self.slab_around(*place)),
+            None => false,
+        }
+    }
+
+    /// The live objects of the slab that has the place.
+    fn beside(&self, place: u32) -> &[u32]
+        ensures { result.now ≡ live_beside self.now place }
+    {
+        let slab = self.slab_around(place);
+        let begin = places_before(&self.live, slab.first_byte());
+        let end = places_before(&self.live, slab.end_byte());
+        &self.live[begin..end]
     }
 
     /// How many live objects are in the slab that has the place.
     pub fn count_beside(&self, place: u32) -> usize
         ensures { result ≡ length (live_beside self.now place) }
     {
-        let first = self.slab_around(place).first();
-        self.live
-            .iter()
-            .filter(|p| self.slab_around(**p).first() == first)
-            .count()
+        self.beside(place).len()
     }
 
     /// Whether all objects of that slab are live.
@@ -182,23 +199,20 @@ impl HeldCache {
     pub fn object_with(&self, place: u32, len: u32) -> Option<u32>
         ensures { result ≡ find (λ first. is_within place len first self.now.size) self.now.live }
     {
+        // no object before this one reaches the end of the range, and no later one begins before it
         let end = u64::from(place) + u64::from(len);
-        let size = u64::from(self.size);
-        self.live
-            .iter()
-            .copied()
-            .find(|first| *first <= place && end <= u64::from(*first) + size)
+        let at = places_before(&self.live, end.saturating_sub(u64::from(self.size)));
+        match self.live.get(at) {
+            Some(first) => (*first <= place).then_some(*first),
+            None => None,
+        }
     }
 
-    /// Whether an object at the place shares no byte with a live one of its slab.
-    pub fn is_apart(&self, place: u32) -> bool
-        ensures { result ≡ list_all (are_apart self.now place) (live_beside self.now place) }
+    /// Whether an object at the place shares no byte with these.
+    fn is_apart(&self, place: u32, beside: &[u32]) -> bool
+        ensures { result ≡ list_all (are_apart self.now place) beside.now }
     {
-        let first = self.slab_around(place).first();
-        self.live
-            .iter()
-            .filter(|p| self.slab_around(**p).first() == first)
-            .all(|p| self.are_apart(place, *p))
+        beside.iter().all(|p| self.are_apart(place, *p))
     }
 
     fn are_apart(&self, p: u32, q: u32) -> bool
@@ -222,35 +236,39 @@ impl HeldCache {
         self.count
     }
 
-    /// Whether the live objects of the slab that has the place are such as a slab has whose object `i` is at the place.
-    fn is_on_grid(&self, place: u32, i: u32) -> bool
+    /// Whether these live objects of the slab that has the place are such as a slab has whose object `i` is at the place.
+    fn is_on_grid(&self, place: u32, i: u32, beside: &[u32]) -> bool
         requires { i < self.now.count }
         ensures { result ≡ (nat_le (i * self.now.chunk) place
-            && is_grid self.now (slab_around self.now place) (place - i * self.now.chunk) (live_beside self.now place)) }
+            && is_grid self.now (slab_around self.now place) (place - i * self.now.chunk) beside.now) }
     {
         let before = i * self.chunk;
-        before <= place && self.is_grid(place, place - before)
+        before <= place && self.is_grid(place, place - before, beside)
     }
 
     /// Whether they are such as a slab has whose first object is at `origin`.
     #[tactic(auto, using(crate::proofs::Lists::inside_slab))]
-    fn is_grid(&self, place: u32, origin: u32) -> bool
-        ensures { result ≡ is_grid self.now (slab_around self.now place) origin (live_beside self.now place) }
+    fn is_grid(&self, place: u32, origin: u32, beside: &[u32]) -> bool
+        ensures { result ≡ is_grid self.now (slab_around self.now place) origin beside.now }
     {
-        let objects = (self.count - 1) * self.chunk + self.size;
-        self.slab_around(place).has_range(origin, objects) && self.are_steps(place, origin)
+        let slab = self.slab_around(place);
+        slab.has_range(origin, self.objects_bytes()) && self.are_steps(origin, beside)
     }
 
-    /// Whether each live object of the slab that has the place is one of a slab whose first object is at `origin`.
-    fn are_steps(&self, place: u32, origin: u32) -> bool
-        ensures { result ≡ list_all (λ p. nat_le origin p && ((p - origin) % self.now.chunk == 0
-            && nat_lt ((p - origin) / self.now.chunk) self.now.count)) (live_beside self.now place) }
+    /// How many bytes there are from the first object of a slab to the end of the last.
+    fn objects_bytes(&self) -> u32
+        ensures value { result ≡ (self.now.count - 1) * self.now.chunk + self.now.size }
+        ensures small { result < 2 ^ 21 }
     {
-        let first = self.slab_around(place).first();
-        self.live
-            .iter()
-            .filter(|p| self.slab_around(**p).first() == first)
-            .all(|p| self.is_step(origin, *p))
+        (self.count - 1) * self.chunk + self.size
+    }
+
+    /// Whether each of these is an object of a slab whose first object is at `origin`.
+    fn are_steps(&self, origin: u32, beside: &[u32]) -> bool
+        ensures { result ≡ list_all (λ p. nat_le origin p && ((p - origin) % self.now.chunk == 0
+            && nat_lt ((p - origin) / self.now.chunk) self.now.count)) beside.now }
+    {
+        beside.iter().all(|p| self.is_step(origin, *p))
     }
 
     /// Whether an object begins at the place in a slab whose first object is at `origin`.
@@ -263,13 +281,29 @@ impl HeldCache {
             && (place - origin) / self.chunk < self.count
     }
 
-    /// Whether the live objects of the slab that has the place are such as a slab has with some object at the place.
-    fn is_on_some_grid(&self, place: u32) -> bool
-        ensures { result ≡ is_any_below (λ i. nat_le (i * self.now.chunk) place
-            && is_grid self.now (slab_around self.now place) (place - i * self.now.chunk) (live_beside self.now place)) self.now.count }
+    /// An object at the place, of a slab that lies inside the one that has the place, has none but these numbers: from the first
+    /// on, before the second.
+    fn numbers_at(&self, place: u32) -> (u32, u32)
+        ensures most { result.1 ≤ self.now.count }
+        ensures others { (i : ℕ) → i < self.now.count → IsObjectAt self.now place i → (result.0 ≤ i) × (i < result.1) }
     {
-        for i in 0..self.count() {
-            if self.is_on_grid(place, i) {
+        let slab = self.slab_around(place);
+        let chunk = u64::from(self.chunk);
+        let count = u64::from(self.count);
+        let objects = u64::from(place) + u64::from(self.objects_bytes());
+        let low = (objects.saturating_sub(slab.end_byte()) + chunk - 1) / chunk;
+        let high = u64::from(place).saturating_sub(slab.first_byte()) / chunk + 1;
+        (low.min(count) as u32, high.min(count) as u32)
+    }
+
+    /// Whether these live objects of the slab that has the place are such as a slab has with some object at the place.
+    fn is_on_some_grid(&self, place: u32, beside: &[u32]) -> bool
+        ensures { result ≡ is_any_below (λ i. nat_le (i * self.now.chunk) place
+            && is_grid self.now (slab_around self.now place) (place - i * self.now.chunk) beside.now) self.now.count }
+    {
+        let (low, high) = self.numbers_at(place);
+        for i in low..high {
+            if self.is_on_grid(place, i, beside) {
                 return true;
             }
         }
@@ -282,9 +316,10 @@ impl HeldCache {
             && (list_all (are_apart self.now place) beside && is_any_below (λ i. nat_le (i * self.now.chunk) place
             && is_grid self.now (slab_around self.now place) (place - i * self.now.chunk) beside) self.now.count)) }
     {
-        self.count_beside(place) < self.count as usize
-            && self.is_apart(place)
-            && self.is_on_some_grid(place)
+        let beside = self.beside(place);
+        beside.len() < self.count as usize
+            && self.is_apart(place, beside)
+            && self.is_on_some_grid(place, beside)
     }
 
     /// The byte of a fresh object this far from its first.
@@ -316,17 +351,21 @@ fn copy_of(pattern: &ArrayVec<u8, MOST_PATTERN>) -> ArrayVec<u8, MOST_PATTERN>
 }
 
 /// Where a live object that begins at the place goes among these.
-#[tactic(auto, using(crate::proofs::Putting::prefix_within))]
 fn index_of_place(live: &[u32], place: u32) -> usize
+    requires { IsNonDecreasing live.now }
     ensures value { result ≡ prefix_len (λ p. not (nat_lt place p)) live.now }
     ensures inside { result ≤ length live.now }
+    ensures point { IsPartitionPoint (λ p. p ≤ place) (λ p. place < p) live.now result }
 {
-    live.iter().take_while(|held| !(place < **held)).count()
+    places_before(live, u64::from(place) + 1)
 }
 
 /// The live objects without the one that begins at the place.
 fn drop_place(live: &mut Vec<u32>, place: u32)
+    requires { IsNonDecreasing live.old.items }
     ensures { live.new.items ≡ filter (λ p. not (p == place)) live.old.items }
 {
-    live.retain(|held| *held != place);
+    let begin = places_before(live, u64::from(place));
+    let end = places_before(live, u64::from(place) + 1);
+    remove_range(live, begin, end);
 }

@@ -1,11 +1,13 @@
 //! What becomes of a tenant's holdings by answers that take something away.
 
 ghost use Rattle.std.specs.Prelude.{◌≡◌, ◌==◌, not, filter, []};
+ghost use Rattle.std.specs.List.Sorted.{IsNonDecreasingBy};
 ghost use Rattle.promise_core.specs.Holdings.{with_live_places};
 
 use crate::block::FrameBlock;
 use crate::cache::HeldCache;
 use crate::held::{Held, index_of_cache};
+use crate::rising::{pages_before, remove_range};
 
 impl Held {
     /// The page block that begins at the frame is freed.
@@ -50,9 +52,12 @@ impl Held {
 
 /// The page blocks without the one that begins at the frame.
 fn drop_page(pages: &mut Vec<FrameBlock>, frame: u32)
+    requires { IsNonDecreasingBy (λ b. b.first) pages.old.items }
     ensures { pages.new.items ≡ filter (λ b. not (b.first == frame)) pages.old.items }
 {
-    pages.retain(|page| page.first() != frame);
+    let begin = pages_before(pages, u64::from(frame));
+    let end = pages_before(pages, u64::from(frame) + 1);
+    remove_range(pages, begin, end);
 }
 
 /// The caches without the one of this number.

@@ -1,7 +1,8 @@
 //! What becomes of a tenant's holdings by answers that add something.
 
-ghost use Rattle.std.specs.Prelude.{◌≡◌, ◌≤◌, not, nat_lt, length, [], None, IfOk, OnErr};
+ghost use Rattle.std.specs.Prelude.{◌≡◌, ◌<◌, ◌≤◌, not, nat_lt, length, [], None, IfOk, OnErr};
 ghost use Rattle.std.specs.List.{prefix_len};
+ghost use Rattle.std.specs.List.Sorted.{IsNonDecreasingBy, IsPartitionPoint};
 ghost use Rattle.model_core.specs.declared.limits.TheConstants.{MOST_ORDER, MOST_SUPERBLOCKS};
 ghost use Rattle.model_core.specs.Machine.{put_rising};
 ghost use Rattle.promise_core.specs.Holdings.{cache_told, with_live_places};
@@ -9,6 +10,7 @@ ghost use Rattle.promise_core.specs.Holdings.{cache_told, with_live_places};
 use crate::block::FrameBlock;
 use crate::cache::HeldCache;
 use crate::held::{Held, index_of_cache};
+use crate::rising::pages_before;
 use model_core::limits::MOST_CACHES;
 use std::alloc::{AllocError, Global};
 
@@ -23,6 +25,7 @@ impl Held {
         Ok(Held {
             slots: Vec::with_capacity(alloc, slots.into())?,
             pages: Vec::with_capacity(alloc, frames)?,
+            longest: 0,
             caches: Vec::with_capacity(alloc, MOST_CACHES.into())?,
         })
     }
@@ -44,6 +47,7 @@ impl Held {
     {
         let place = place_of_page(&self.pages, block.first());
         self.pages.insert(place, block)?;
+        self.longest = self.longest.max(block.order());
         Ok(())
     }
 
@@ -82,15 +86,13 @@ fn place_of_slot(slots: &[u16], slot: u16) -> usize
 }
 
 /// Where a page block that begins at the frame goes among these.
-#[tactic(auto, using(crate::proofs::Putting::prefix_within))]
 fn place_of_page(pages: &[FrameBlock], frame: u32) -> usize
+    requires { IsNonDecreasingBy (λ b. b.first) pages.now }
     ensures value { result ≡ prefix_len (λ b. not (nat_lt frame b.first)) pages.now }
     ensures inside { result ≤ length pages.now }
+    ensures point { IsPartitionPoint (λ b. b.first ≤ frame) (λ b. frame < b.first) pages.now result }
 {
-    pages
-        .iter()
-        .take_while(|page| !(frame < page.first()))
-        .count()
+    pages_before(pages, u64::from(frame) + 1)
 }
 
 /// Where a cache of this number goes among these.

@@ -1,12 +1,12 @@
 //! What a tenant has, as replies told it.
 
-ghost use Rattle.std.specs.Prelude.{◌≡◌, ℕ, ◌+◌, ◌-◌, ◌*◌, ◌/◌, ◌%◌, ◌^◌, ◌<◌, ◌≤◌, nat_le, nat_lt, ◌==◌, ◌&&◌, map, find, filter, length, Some, option_map, true, false, MatchOption, slice_index_or, position, IfSome};
+ghost use Rattle.std.specs.Prelude.{◌≡◌, ℕ, ◌+◌, ◌-◌, ◌*◌, ◌/◌, ◌%◌, ◌^◌, ◌<◌, ◌≤◌, nat_le, nat_lt, ◌==◌, ◌&&◌, Bool, map, find, filter, length, Some, option_map, true, false, MatchOption, slice_index_or, position, IfSome};
 ghost use Rattle.std.specs.List.{list_any, list_all};
 ghost use Rattle.std.specs.Option.{option_copied};
 ghost use Rattle.model_core.specs.declared.limits.TheConstants.{MOST_ORDER, MOST_CACHES};
 ghost use Rattle.model_core.specs.Machine.{order_in};
 ghost use Rattle.std.specs.List.{range_with_len};
-ghost use Rattle.model_core.specs.Blocks.{block};
+ghost use Rattle.model_core.specs.Blocks.{Block, block};
 ghost use Rattle.model_core.specs.Operations.{overlaps};
 ghost use Rattle.model_core.specs.Reach.{within_block};
 ghost use Rattle.promise_core.specs.Bytes.{holder_of, object_with};
@@ -16,7 +16,8 @@ ghost use Rattle.promise_core.specs.Holdings.{blocks_of_slot, vacant_blocks, has
 use crate::block::FrameBlock;
 use crate::cache::HeldCache;
 use crate::holder::RangeHolder;
-use model_core::limits::MOST_CACHES;
+use crate::rising::pages_before;
+use model_core::limits::{FRAME_BYTES, MOST_CACHES};
 use std::marker::Model;
 
 /// The held slots, rising, the live page blocks, by rising first frame, and the caches, by rising number.
@@ -24,18 +25,20 @@ use std::marker::Model;
 pub struct Held {
     pub(crate) slots: Vec<u16>,
     pub(crate) pages: Vec<FrameBlock>,
+    /// No live page block has more than `2^longest` frames.
+    pub(crate) longest: u8,
     pub(crate) caches: Vec<HeldCache>,
 }
 
 impl Model for Held {
     ghost use Rattle.promise_core.specs.Holdings.{Holdings};
-    ghost use Rattle.judge_core.specs.Inside.{AreListed};
+    ghost use Rattle.judge_core.specs.Inside.{AreListed, ArePages};
 
     ghost Value = { Holdings };
 
     ghost view = { λ h. record { slots = h.slots.items; pages = h.pages.items; caches = h.caches.items } };
 
-    ghost invariant = { λ h. AreListed h.caches.items };
+    ghost invariant = { λ h. AreListed h.caches.items × ArePages h.longest h.pages.items };
 }
 
 impl Held {
@@ -86,7 +89,11 @@ impl Held {
     pub fn page_at(&self, frame: u32) -> Option<&FrameBlock>
         ensures { option_copied result ≡ find (λ b. b.first == frame) self.now.pages }
     {
-        self.pages.iter().find(|page| page.first() == frame)
+        let at = pages_before(&self.pages, u64::from(frame));
+        match self.pages.get(at) {
+            Some(page) => (page.first() == frame).then_some(page),
+            None => None,
+        }
     }
 
     /// The cache of this number.
@@ -117,7 +124,25 @@ impl Held {
     fn is_in_pages(&self, block: &FrameBlock) -> bool
         ensures { result ≡ list_any (overlaps block.now) self.now.pages }
     {
-        self.pages.iter().any(|page| block.overlaps(page))
+        is_over_some(
+            block,
+            self.pages_near(u64::from(block.first()), block.end()),
+        )
+    }
+
+    /// All live page blocks that end behind the frame `begin` and begin before the frame `end`, and maybe others.
+    fn pages_near(&self, begin: u64, end: u64) -> &[FrameBlock]
+        requires order { begin ≤ end }
+        requires small { end < 2 ^ 33 }
+        ensures { (test : Block → Bool)
+            → ((b : Block) → test b ≡ true → (begin < b.first + 2 ^ b.order) × (b.first < end))
+            → list_any test self.now.pages ≡ list_any test result.now }
+    {
+        // those before do not reach the frame
+        let first = begin.saturating_sub((1u64 << self.longest) - 1);
+        let low = pages_before(&self.pages, first);
+        let high = pages_before(&self.pages, end);
+        &self.pages[low..high]
     }
 
     /// The first live page block that shares a frame with the block.
@@ -229,9 +254,11 @@ impl Held {
     }
 
     fn has_page_with(&self, place: u32, len: u32) -> bool
+        requires { 1 ≤ len }
         ensures { result ≡ list_any (within_block place len) self.now.pages }
     {
-        self.pages.iter().any(|page| page.has_range(place, len))
+        let frame = u64::from(place / FRAME_BYTES);
+        some_has_range(self.pages_near(frame, frame + 1), place, len)
     }
 
     fn object_with(&self, place: u32, len: u32) -> Option<RangeHolder>
@@ -247,6 +274,20 @@ impl Held {
         }
         None
     }
+}
+
+/// Whether one of these page blocks shares a frame with the block.
+fn is_over_some(block: &FrameBlock, pages: &[FrameBlock]) -> bool
+    ensures { result ≡ list_any (overlaps block.now) pages.now }
+{
+    pages.iter().any(|page| block.overlaps(page))
+}
+
+/// Whether the `len` bytes from a place on lie inside one of these page blocks.
+fn some_has_range(pages: &[FrameBlock], place: u32, len: u32) -> bool
+    ensures { result ≡ list_any (within_block place len) pages.now }
+{
+    pages.iter().any(|page| page.has_range(place, len))
 }
 
 /// The mark of this number, false where there is none.

@@ -10,6 +10,7 @@ mod growing;
 mod held;
 mod holder;
 mod layout;
+mod rising;
 mod walking;
 
 pub use block::FrameBlock;

@@ -1,7 +1,8 @@
-use Rattle.std.proofs.Common.{rules, ◌≡◌, ℕ, zero, suc, List, ◌∷◌, map, Option, None, replicate, refl, ap, ◌∙◌}
+use Rattle.std.proofs.Common.{◌≡◌, ℕ, ◌-◌, zero, suc, List, ◌∷◌, map, Option, None, replicate, refl, ap, ◌∙◌, arith}
 use Rattle.promise_core.specs.Bytes.{Cell}
 use Rattle.judge_bytes.specs.declared.kept.KeptByte.TheVariants as Kept
-use Rattle.judge_bytes.specs.Inside.{shown_kept}
+use Rattle.judge_bytes.specs.declared.kept.KeptByte.{KeptByte}
+use Rattle.judge_bytes.specs.Inside.{padded, shown_kept}
 use Rattle.judge_bytes.proofs.slot.SlotBytes.fresh.Goals as goal
 
 all_fresh : (n : ℕ) → map shown_kept (replicate n Kept.Fresh) ≡ replicate {A = Option Cell} n None
@@ -10,5 +11,7 @@ all_fresh (suc n) = ap (λ (cells : List (Option Cell)). None ∷ cells) (all_fr
 
 pub returns : goal.returns
 returns c =
-    let items : c.in_ok-vec.field-0.items ≡ replicate c.args.places Kept.Fresh = c.in_ok-vec.ensures.items_if_clones_equal (λ y e. search rules) in
-    ap (λ (cells : List (Option Cell)). record { slot = c.args.slot; cells = cells }) (ap (map shown_kept) items ∙ all_fresh c.args.places)
+    let none : c.args.places - 0 ≡ c.args.places = omega arith in
+    ap (λ (xs : List KeptByte). record { slot = c.args.slot; cells = map shown_kept (padded c.args.places xs) }) c.in_ok-with_capacity.ensures.items
+    ∙ ap (λ (cells : List (Option Cell)). record { slot = c.args.slot; cells = cells })
+    (all_fresh (c.args.places - 0) ∙ ap (λ (n : ℕ). replicate {A = Option Cell} n None) none)

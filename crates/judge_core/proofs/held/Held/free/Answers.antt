@@ -1,4 +1,15 @@
+use Rattle.std.proofs.Common.{not, eqb, sym, subst}
+use Rattle.model_core.specs.Blocks.{Block}
+use Rattle.judge_core.specs.Inside.{ArePages}
+use Rattle.judge_core.proofs.Pages.{pages_less}
 use Rattle.judge_core.proofs.held.Held.free.Goals as goal
+
+pub invariant_of-self : goal.invariant_of-self
+invariant_of-self c = (
+  c.self.invariant.0,
+  subst (ArePages c.self.inside.longest) (sym c.drop_page.ensures)
+      (pages_less c.self.inside.longest (λ (b : Block). not (eqb b.first c.args.frame)) c.self.inside.pages.items c.self.invariant.1),
+)
 
 pub returns : goal.returns
 returns c = rw (c.drop_page.ensures, ← c.self.view_is)

@@ -10,10 +10,12 @@ pub invariant_of-self : goal.invariant_of-self
 invariant_of-self c =
     let caches = c.self.inside.caches.items in
     let old = c.index_mut.result.now in
-    let same = ap (λ (x : ToldCache). x.number) c.give.ensures ∙ ap (λ (x : ToldCache). x.number) c.index_mut.ensures.value in
-    subst (RisesFrom 0)
-    (sym (map-set_same (λ (x : ToldCache). x.number) caches c.in-Some.i c.give.new.self old same))
-    c.self.invariant
+    let same = ap (λ (x : ToldCache). x.number) c.give.ensures ∙ ap (λ (x : ToldCache). x.number) c.index_mut.ensures.value in (
+      subst (RisesFrom 0)
+          (sym (map-set_same (λ (x : ToldCache). x.number) caches c.in-Some.i c.give.new.self old same))
+          c.self.invariant.0,
+      c.self.invariant.1,
+    )
 
 pub returns-in-Some : goal.returns-in-Some
 returns-in-Some c =
@@ -25,7 +27,7 @@ returns-in-Some c =
     ≡ map {B = ToldCache} (λ (x : ToldCache). if x.number == c.args.number then change x else x) caches =
     ap (λ x. slice_set caches c.in-Some.i x) (c.give.ensures ∙ ap change c.index_mut.ensures.value)
     ∙ sym (changed_at (λ (x : ToldCache). x.number) c.args.number c.in-Some.i change c.index_mut.result.now caches
-    c.self.invariant is) in
+    c.self.invariant.0 is) in
     rw (e, ← c.self.view_is)
 
 pub returns-in_default : goal.returns-in_default

@@ -28,7 +28,9 @@ invariant_of-self-2 c =
     c.in_ok-insert.ensures.items ∙ (ap (λ n. insert caches n c.args.cache) at
     ∙ sym (put_at (λ (x : ToldCache). x.number) c.args.cache caches)) in
     let none : find (λ (x : ToldCache). x.number == c.args.cache.number) caches ≡ None =
-    ap (λ (h : Holdings). cache_told h c.args.cache.number) c.self.view_is ∙ c.requires in
-    subst (λ xs. RisesFrom 0 (map (λ (x : ToldCache). x.number) xs)) (sym e)
-    (put_rises (λ (x : ToldCache). x.number) 0 c.args.cache caches c.self.invariant (omega arith)
-    (all_other (λ (x : ToldCache). x.number) c.args.cache.number caches none))
+    ap (λ (h : Holdings). cache_told h c.args.cache.number) c.self.view_is ∙ c.requires in (
+      subst (λ xs. RisesFrom 0 (map (λ (x : ToldCache). x.number) xs)) (sym e)
+          (put_rises (λ (x : ToldCache). x.number) 0 c.args.cache caches c.self.invariant.0 (omega arith)
+          (all_other (λ (x : ToldCache). x.number) c.args.cache.number caches none)),
+      c.self.invariant.1,
+    )

@@ -13,10 +13,12 @@ invariant_of-self c =
     let old = c.index_mut.result.now in
     let same = number_stays c.take.result (put_rising (λ (p : ℕ). p) c.args.place) old c.take.new.self
     c.take.ensures.taken c.take.ensures.kept
-    ∙ ap (λ (x : ToldCache). x.number) c.index_mut.ensures.value in
-    subst (RisesFrom 0)
-    (sym (map-set_same (λ (x : ToldCache). x.number) caches c.in-Some.i c.take.new.self old same))
-    c.self.invariant
+    ∙ ap (λ (x : ToldCache). x.number) c.index_mut.ensures.value in (
+      subst (RisesFrom 0)
+          (sym (map-set_same (λ (x : ToldCache). x.number) caches c.in-Some.i c.take.new.self old same))
+          c.self.invariant.0,
+      c.self.invariant.1,
+    )
 
 pub returns-in-Some-clause-taken : goal.returns-in-Some-clause-taken
 returns-in-Some-clause-taken c =
@@ -36,7 +38,7 @@ returns-in-Some-clause-taken c =
     ≡ map {B = ToldCache} (λ (x : ToldCache). if x.number == c.args.number then change x else x) caches =
     ap (λ x. slice_set caches c.in-Some.i x) (taken ∙ ap change c.index_mut.ensures.value)
     ∙ sym (changed_at (λ (x : ToldCache). x.number) c.args.number c.in-Some.i change c.index_mut.result.now caches
-    c.self.invariant is) in
+    c.self.invariant.0 is) in
     rw (e, ← c.self.view_is)) in
     if_ok c.take.result (λ u. c.take.new.self ≡ change c.index_mut.result.now) goal_is made c.take.ensures.taken
 

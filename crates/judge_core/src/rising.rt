@@ -1,0 +1,35 @@
+//! Searches in what rises.
+
+ghost use Rattle.std.specs.Prelude.{◌≡◌, ◌++◌, ◌<◌, ◌≤◌, length, take, drop};
+ghost use Rattle.std.specs.List.Sorted.{IsNonDecreasing, IsNonDecreasingBy, IsPartitionPoint};
+
+use crate::block::FrameBlock;
+
+/// How many of the places come before this one.
+pub(crate) fn places_before(places: &[u32], place: u64) -> usize
+    requires { IsNonDecreasing places.now }
+    ensures inside { result ≤ length places.now }
+    ensures point { IsPartitionPoint (λ p. p < place) (λ p. place ≤ p) places.now result }
+{
+    places.partition_point(|p| u64::from(*p) < place)
+}
+
+/// How many of the page blocks begin before the frame.
+pub(crate) fn pages_before(pages: &[FrameBlock], frame: u64) -> usize
+    requires { IsNonDecreasingBy (λ b. b.first) pages.now }
+    ensures inside { result ≤ length pages.now }
+    ensures point { IsPartitionPoint (λ b. b.first < frame) (λ b. frame ≤ b.first) pages.now result }
+{
+    pages.partition_point(|page| u64::from(page.first()) < frame)
+}
+
+/// Removes those from index `begin` on before index `end`.
+pub(crate) fn remove_range<T: Drop>(items: &mut Vec<T>, begin: usize, end: usize)
+    requires order { begin ≤ end }
+    requires inside { end ≤ length items.old.items }
+    ensures { items.new.items ≡ take begin items.old.items ++ drop end items.old.items }
+{
+    for _ in begin..end {
+        items.remove(begin);
+    }
+}
