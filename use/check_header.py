@@ -100,7 +100,7 @@ def structs_of_source():
 
 def numbers_of_source():
     for path, text in sources.items():
-        if path.endswith(("/status.rt", "/kinds.rt")):
+        if path.endswith(("/status.rt", "/kinds.rt", "/events.rt")):
             for name, number in re.findall(r"pub const (\w+): u32 = (\d+);", text):
                 yield name, int(number)
 

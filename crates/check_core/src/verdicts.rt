@@ -48,6 +48,7 @@ pub(crate) fn judge_line<R: Feed>(
 }
 
 /// Reads what a faulty line is answered, and judges it.
+#[inline(never)]
 fn judge_fault<R: Feed>(
     fault: LineFault,
     replies: &mut LineReader<R>,
@@ -115,7 +116,9 @@ fn judge_single<R: Feed>(
     }
 }
 
-/// Reads the reply to an event that has so many lines behind the first, and judges it.
+/// Reads the reply to an event that has so many lines behind the first, and judges it. It stands apart since a function clears room
+/// for each reply that it may read when it is entered.
+#[inline(never)]
 fn judge_table<R: Feed>(
     machine: &mut Machine,
     event: &Event,

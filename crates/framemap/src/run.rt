@@ -12,7 +12,7 @@ use picture_svg::picture::Picture;
 use replay_core::{Feed, Pending, Stopped};
 use std::alloc::Global;
 use std::io::Write;
-use words_core::{Addressee, Answer, Event, LineFault, Refusal, Said};
+use words_core::{Answer, Event, LineFault, Refusal};
 
 /// A trace has fewer lines than this, 2^30.
 const LINES_ABOVE: u32 = 1 << 30;
@@ -141,8 +141,9 @@ fn watch_line(
             1
         }
         Ok(Some(Event::Tenant(tenant, command))) => {
-            let answer = kernel.ask(tenant, &command);
-            note_refusal(&answer, history);
+            if let Some(request) = command.request() {
+                note_refusal(kernel.ask(tenant, request), history);
+            }
             1
         }
         Ok(None) | Err(_) => 0,
@@ -152,14 +153,8 @@ fn watch_line(
 }
 
 /// Notes a request that was refused for want of frames.
-fn note_refusal(answer: &Option<Answer>, history: &mut History) {
-    if let Some(
-        Answer {
-            addressee: Addressee::Tenant(t),
-            said: Said::Refused(Refusal::NoFrames),
-        },
-    ) = answer
-    {
-        history.add_refusal(*t);
+fn note_refusal(answered: Option<(u8, Answer<'_>)>, history: &mut History) {
+    if let Some((t, Answer::Refused(Refusal::NoFrames))) = answered {
+        history.add_refusal(t);
     }
 }

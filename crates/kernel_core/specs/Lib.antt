@@ -1,3 +1,4 @@
 pub mod Shows
 pub mod Steps
 pub mod Booting
+pub mod Asking

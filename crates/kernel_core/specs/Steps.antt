@@ -4,8 +4,7 @@ use Rattle.words_core.specs.declared.event.Event.{Event}
 use Rattle.words_core.specs.declared.event.Event.TheVariants as On
 use Rattle.words_core.specs.declared.event.AdminCommand.TheVariants as Do
 use Rattle.words_core.specs.declared.event.Command.{Command}
-use Rattle.words_core.specs.declared.event.Command.TheVariants as Asked
-use Rattle.model_core.specs.Layouts.{is_pattern}
+use Rattle.words_core.specs.Requests.{AsksPattern}
 use Rattle.words_core.specs.declared.reply.Body.{Body}
 use Rattle.words_core.specs.declared.reply.Body.TheVariants.{Refused}
 use Rattle.words_core.specs.declared.reply.Refusal.{Refusal}
@@ -30,16 +29,7 @@ is_named t (On.Admin Do.Pool) = false
 
 -- the pattern of a cache that the event asks for has 1 to 16 bytes
 abbrev pub HasPattern : Event → Type 0
-HasPattern (On.Tenant t (Asked.Cache size align pattern)) = is_pattern pattern.items ≡ true
-HasPattern (On.Tenant t (Asked.Alloc k)) = Unit {0}
-HasPattern (On.Tenant t (Asked.Free frame)) = Unit {0}
-HasPattern (On.Tenant t (Asked.Read place len)) = Unit {0}
-HasPattern (On.Tenant t (Asked.Write place bytes)) = Unit {0}
-HasPattern (On.Tenant t (Asked.Destroy number)) = Unit {0}
-HasPattern (On.Tenant t (Asked.Take number)) = Unit {0}
-HasPattern (On.Tenant t (Asked.Give number place)) = Unit {0}
-HasPattern (On.Tenant t Asked.Reap) = Unit {0}
-HasPattern (On.Tenant t Asked.Report) = Unit {0}
+HasPattern (On.Tenant t command) = AsksPattern command
 HasPattern (On.Admin command) = Unit {0}
 
 -- the event is a step of whichever world the parts show

@@ -1,20 +1,75 @@
 //! A tenant's commands as calls of the parts, with the refusals in words.
 
-ghost use Rattle.std.specs.Prelude.{◌≡◌, ◌<◌, ◌≤◌, length, IfOk, true};
+ghost use Rattle.std.specs.Prelude.{◌≡◌, ◌<◌, ◌≤◌, length, IfOk, true, false};
 ghost use Rattle.model_core.specs.Layouts.{is_pattern};
-ghost use Rattle.words_core.specs.Answers.{body_of_said};
+ghost use Rattle.std.specs.Borrow.{sem};
+ghost use Rattle.words_core.specs.Requests.{body_of_answer, HasFewBytes, IsAskable, asks_bytes, tells_bytes};
 ghost use Rattle.words_core.specs.declared.event.Command.TheVariants as Command;
 ghost use Rattle.words_core.specs.declared.reply.Body.TheVariants.{Frame, Freed, Bytes, Written, Destroyed, Object, Given, Reaped};
+ghost use Rattle.kernel_core.specs.Asking.{RestsStepped};
 ghost use Rattle.kernel_core.specs.Steps.{StepsMachine, body_of};
 
 use crate::Kernel;
 use crate::refusals::{of_alloc, of_cache, of_destroy, of_give, of_read, of_take};
-use arrayvec::ArrayVec;
 use layout_core::Pattern;
-use model_core::limits::{MOST_BYTES, MOST_PATTERN};
-use words_core::{Refusal, Said};
+use model_core::limits::MOST_BYTES;
+use words_core::{Answer, Refusal, Request};
 
 impl Kernel {
+    /// Runs a command of a tenant that there is.
+    #[inline(always)]
+    pub(crate) fn run(&mut self, t: u8, request: Request<'_>) -> Answer<'_>
+        requires tenant { t < self.old.tenants }
+        requires askable { IsAskable request }
+        ensures* steps { sem 𝓛 (RestsStepped self.entry t request.entry result) }
+        ensures few { HasFewBytes result }
+        ensures bytes { asks_bytes request.entry ≡ false → tells_bytes result ≡ false }
+    {
+        let answer = match request {
+            Request::Alloc { order } => match self.alloc(t, order) {
+                Ok(frame) => Answer::Frame(frame),
+                Err(refusal) => Answer::Refused(refusal),
+            },
+            Request::Free { frame } => match self.free(t, frame) {
+                Ok(order) => Answer::Freed(order),
+                Err(refusal) => Answer::Refused(refusal),
+            },
+            Request::Read { place, len } => {
+                return match self.read(t, place, len) {
+                    Ok(bytes) => Answer::Bytes(bytes),
+                    Err(refusal) => Answer::Refused(refusal),
+                };
+            }
+            Request::Write { place, bytes } => match self.write(t, place, bytes) {
+                Ok(count) => Answer::Written(count),
+                Err(refusal) => Answer::Refused(refusal),
+            },
+            Request::Cache {
+                size,
+                align,
+                pattern,
+            } => match self.make_cache(t, size, align, pattern) {
+                Ok(answer) => answer,
+                Err(refusal) => Answer::Refused(refusal),
+            },
+            Request::Destroy { cache } => match self.destroy(t, cache) {
+                Ok(frames) => Answer::Destroyed(frames),
+                Err(refusal) => Answer::Refused(refusal),
+            },
+            Request::Take { cache } => match self.take(t, cache) {
+                Ok(place) => Answer::Object(place),
+                Err(refusal) => Answer::Refused(refusal),
+            },
+            Request::Give { cache, place } => match self.give(t, cache, place) {
+                Ok(()) => Answer::Given,
+                Err(refusal) => Answer::Refused(refusal),
+            },
+            Request::Reap => Answer::Reaped(self.reap(t)),
+        };
+        self.parts_agree();
+        answer
+    }
+
     /// Takes a page block of `2^order` frames.
     #[inline(always)]
     pub(crate) fn alloc(&mut self, t: u8, order: u32) -> Result<u32, Refusal>
@@ -66,18 +121,20 @@ impl Kernel {
         t: u8,
         size: u32,
         align: u32,
-        pattern: &ArrayVec<u8, MOST_PATTERN>,
-    ) -> Result<Said, Refusal>
+        pattern: &[u8],
+    ) -> Result<Answer<'static>, Refusal>
         requires tenant { t < self.old.tenants }
-        requires pattern { is_pattern pattern.now.items ≡ true }
-        ensures { StepsMachine self.old t (Command.Cache size align pattern.now) self.new (body_of body_of_said result) }
+        requires pattern { is_pattern pattern.now ≡ true }
+        ensures steps { StepsMachine self.old t (Command.Cache size align (record { items = pattern.now })) self.new (body_of body_of_answer result) }
+        ensures few { IfOk result (λ answer. HasFewBytes answer) }
+        ensures bytes { IfOk result (λ answer. tells_bytes answer ≡ false) }
     {
-        let pattern = Pattern::new(pattern.as_slice()).unwrap();
+        let pattern = Pattern::new(pattern).unwrap();
         let (cache, layout) = match self.parts.make_cache(t, size, align, pattern) {
             Ok(made) => made,
             Err(refusal) => return Err(of_cache(refusal)),
         };
-        Ok(Said::Cache {
+        Ok(Answer::Cache {
             cache,
             chunk: layout.chunk(),
             order: layout.order(),
@@ -126,16 +183,4 @@ impl Kernel {
     {
         self.parts.reap(t)
     }
-}
-
-/// These bytes, as a value of their own.
-pub(crate) fn copied(bytes: &[u8]) -> ArrayVec<u8, MOST_BYTES>
-    requires { length bytes.now ≤ MOST_BYTES }
-    ensures { result.items ≡ bytes.now }
-{
-    let mut copied = ArrayVec::new();
-    for byte in bytes {
-        copied.push(*byte);
-    }
-    copied
 }

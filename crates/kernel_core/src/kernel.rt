@@ -1,12 +1,12 @@
 //! The kernel: the memory of the machine with its pool, the buddy systems of all tenants over it, and their caches.
 
-ghost use Rattle.std.specs.Prelude.{◌≡◌, ◌≢◌, ◌↔◌, ℕ, ◌+◌, ◌*◌, ◌^◌, ◌<◌, ◌≤◌, length, IfOk, IsSome, true, false};
+ghost use Rattle.std.specs.Prelude.{◌≡◌, ◌≢◌, ◌↔◌, ℕ, ◌+◌, ◌*◌, ◌^◌, ◌<◌, ◌≤◌, length, IfOk, IfSome, IsSome, true, false};
 ghost use Rattle.model_core.specs.Machine.{Machine};
 ghost use Rattle.model_core.specs.declared.limits.TheConstants.{FRAME_BYTES};
+ghost use Rattle.words_core.specs.declared.event.Command.TheVariants as Command;
 ghost use Rattle.world_core.specs.Limits.{cache_limit};
 ghost use Rattle.world_core.specs.World.{World, opening_world, world_step};
 
-use crate::commands::copied;
 use buddy_core::Buddy;
 use model_core::limits::{LEAST_ORDER, MOST_ORDER, MOST_SUPERBLOCKS, MOST_TENANTS};
 use parts_core::{FrameKind, Parts};
@@ -15,7 +15,7 @@ use space_core::Space;
 use std::alloc::Global;
 use std::marker::Model;
 use thiserror::Error;
-use words_core::{Addressee, AdminCommand, Answer, Body, Command, Event, Refusal, Reply, Said};
+use words_core::{Addressee, AdminCommand, Answer, Body, Event, Refusal, Reply, Request};
 
 /// The sizes of a machine.
 #[derive(Clone, Copy, Debug, PartialEq, Eq)]
@@ -76,8 +76,10 @@ impl Kernel {
     ghost use Rattle.parts_core.specs.Records.{RecordsStand};
     ghost use Rattle.parts_core.specs.Shows.{ShowsMachine};
     ghost use Rattle.kernel_core.specs.Shows.{Shows};
-    ghost use Rattle.kernel_core.specs.Steps.{is_named, HasPattern, Steps, StepsMachine};
-    ghost use Rattle.words_core.specs.Answers.{body_of_said, reply_of};
+    ghost use Rattle.kernel_core.specs.Steps.{is_named, HasPattern, Steps};
+    ghost use Rattle.words_core.specs.Requests.{command_of, HasFewBytes, IsAskable, asks_bytes, tells_bytes};
+    ghost use Rattle.kernel_core.specs.Asking.{RestsAsked};
+    ghost use Rattle.std.specs.Borrow.{sem};
     ghost use Rattle.space_core.specs.Content.{mark_at, owner_at};
     ghost use Rattle.model_core.specs.Owners.{owned_by};
 
@@ -125,9 +127,26 @@ impl Kernel {
     {
         match event {
             Event::Admin(command) => self.administer(command),
-            Event::Tenant(tenant, command) => match self.ask(*tenant, command) {
-                Some(answer) => answer.into_reply(),
+            Event::Tenant(tenant, command) => match command.request() {
+                Some(request) => self.reply_to(*tenant, request),
                 None => self.report(*tenant),
+            },
+        }
+    }
+
+    /// Runs a command of a tenant but for the report, and answers it with a value of its own.
+    fn reply_to(&mut self, tenant: u32, request: Request<'_>) -> Reply
+        requires { IsAskable request }
+        ensures { Steps self.old (Event.Tenant tenant (command_of request.entry)) self.new result }
+    {
+        match self.ask(tenant, request) {
+            Some((t, answer)) => Reply {
+                addressee: Addressee::Tenant(t),
+                body: answer.into_body(),
+            },
+            None => Reply {
+                addressee: Addressee::Nobody,
+                body: Body::Refused(Refusal::NoTenant),
             },
         }
     }
@@ -149,26 +168,25 @@ impl Kernel {
         reply
     }
 
-    /// Runs a command of a tenant, be there such a tenant or not: [`Kernel::step`] of that event, with an answer of few bytes.
+    /// Runs a command of a tenant but for the report: [`Kernel::step`] of that event, with an answer to the tenant in few bytes. The
+    /// bytes of a read are lent from where they lie.
     ///
-    /// None, and nothing is done, for the report of a tenant that there is: see [`Kernel::report`].
-    pub fn ask(&mut self, tenant: u32, command: &Command) -> Option<Answer>
-        requires pattern { HasPattern (Event.Tenant tenant command.now) }
-        ensures { MatchOption result ((command.now ≡ Command.Report) × (self.new ≡ self.old))
-            (λ answer. Steps self.old (Event.Tenant tenant command.now) self.new (reply_of answer)) }
+    /// None where there is no tenant of that number: nobody is told so, and nothing is done.
+    #[inline(always)]
+    pub fn ask(&mut self, tenant: u32, request: Request<'_>) -> Option<(u8, Answer<'_>)>
+        requires { IsAskable request }
+        ensures* asked { sem 𝓛 (RestsAsked self.entry tenant request.entry result) }
+        ensures few { IfSome result (λ answer. HasFewBytes answer.1) }
+        // Bytes are told to a read alone.
+        ensures bytes { IfSome result (λ answer. asks_bytes request.entry ≡ false → tells_bytes answer.1 ≡ false) }
     {
-        let Some(t) = self.tenant(tenant) else {
-            return Some(Answer {
-                addressee: Addressee::Nobody,
-                said: Said::Refused(Refusal::NoTenant),
-            });
-        };
-        let said = self.run(t, command)?;
+        if tenant >= u32::from(self.parts.tenants()) {
+            return None;
+        }
+        let t = tenant as u8;
         self.parts_agree();
-        Some(Answer {
-            addressee: Addressee::Tenant(t),
-            said,
-        })
+        let answer = self.run(t, request);
+        Some((t, answer))
     }
 
     /// Tells the figures of a tenant, be there such a tenant or not: [`Kernel::step`] of the event that asks for a report.
@@ -198,55 +216,6 @@ impl Kernel {
             return None;
         }
         Some(tenant as u8)
-    }
-
-    /// Runs a command of a tenant that there is; None, and nothing is done, for a report.
-    fn run(&mut self, t: u8, command: &Command) -> Option<Said>
-        requires tenant { t < self.old.tenants }
-        requires pattern { HasPattern (Event.Tenant t command.now) }
-        ensures { MatchOption result ((command.now ≡ Command.Report) × (self.new ≡ self.old))
-            (λ said. StepsMachine self.old t command.now self.new (body_of_said said)) }
-    {
-        Some(match command {
-            Command::Alloc { order } => match self.alloc(t, *order) {
-                Ok(frame) => Said::Frame(frame),
-                Err(refusal) => Said::Refused(refusal),
-            },
-            Command::Free { frame } => match self.free(t, *frame) {
-                Ok(order) => Said::Freed(order),
-                Err(refusal) => Said::Refused(refusal),
-            },
-            Command::Read { place, len } => match self.read(t, *place, *len) {
-                Ok(bytes) => Said::Bytes(copied(bytes)),
-                Err(refusal) => Said::Refused(refusal),
-            },
-            Command::Write { place, bytes } => match self.write(t, *place, bytes.as_slice()) {
-                Ok(len) => Said::Written(len),
-                Err(refusal) => Said::Refused(refusal),
-            },
-            Command::Cache {
-                size,
-                align,
-                pattern,
-            } => match self.make_cache(t, *size, *align, pattern) {
-                Ok(said) => said,
-                Err(refusal) => Said::Refused(refusal),
-            },
-            Command::Destroy { cache } => match self.destroy(t, *cache) {
-                Ok(frames) => Said::Destroyed(frames),
-                Err(refusal) => Said::Refused(refusal),
-            },
-            Command::Take { cache } => match self.take(t, *cache) {
-                Ok(place) => Said::Object(place),
-                Err(refusal) => Said::Refused(refusal),
-            },
-            Command::Give { cache, place } => match self.give(t, *cache, *place) {
-                Ok(()) => Said::Given,
-                Err(refusal) => Said::Refused(refusal),
-            },
-            Command::Reap => Said::Reaped(self.reap(t)),
-            Command::Report => return None,
-        })
     }
 
     /// The superblock under slot `slot` of tenant `t`: the one that has both as its owner.

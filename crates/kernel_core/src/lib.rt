@@ -27,7 +27,6 @@ mod administering;
 mod commands;
 mod kernel;
 pub mod laws;
-mod quick;
 mod refusals;
 mod reporting;
 

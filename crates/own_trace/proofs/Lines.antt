@@ -14,12 +14,12 @@ use Rattle.world_core.specs.Output.{event_in, events_of, with_line_feeds, ended_
 use Rattle.world_core.proofs.Worlds.{world_both}
 use Rattle.parts_core.specs.Parts.{Parts, SameSizes}
 use Rattle.kernel_core.specs.Shows.{Shows}
-use Rattle.replay_core.specs.declared.feed.Stopped.{Stopped}
+use Rattle.ends.specs.declared.feed.Stopped.{Stopped}
 use Rattle.replay_core.specs.declared.pending.Pending.{Pending}
 use Rattle.replay_core.specs.Pending.{HoldsLine}
 use Rattle.replay_core.specs.Runs.{StandsAfter}
 use Rattle.replay_core.specs.Standing.{IsOneLine}
-use Rattle.replay_core.proofs.MoveLemmas.{appends_nothing, appends_more, appends_kept}
+use Rattle.ends.proofs.MoveLemmas.{appends_nothing, appends_more, appends_kept}
 use Rattle.replay_core.proofs.LineLemmas.{one_line_append, lines_append, with_line_feeds_append, lines_cut, lines_ended, one_line_cut, one_line_unended}
 use Rattle.replay_core.proofs.PendingLemmas.{take-short}
 use Rattle.own_trace.specs.Kept.{has_entry, own_text}

@@ -8,7 +8,7 @@ use Rattle.kernel_core.specs.Shows.{Shows}
 use Rattle.world_core.specs.Limits.{cache_limit}
 use Rattle.world_core.specs.World.{World, world_after}
 use Rattle.world_core.specs.Output.{event_in, ended_lines, with_line_feeds}
-use Rattle.replay_core.specs.declared.feed.Stopped.{Stopped}
+use Rattle.ends.specs.declared.feed.Stopped.{Stopped}
 use Rattle.replay_core.specs.declared.pending.Pending.{Pending}
 use Rattle.replay_core.specs.Pending.{HoldsLine}
 use Rattle.replay_core.specs.Runs.{StandsAfter, HasCome}

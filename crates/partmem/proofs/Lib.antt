@@ -1,4 +1,3 @@
 pub mod Keeping
 pub mod Promising
-pub mod Reading
 pub mod Writing

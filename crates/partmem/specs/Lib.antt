@@ -2,4 +2,3 @@ pub mod Outcome
 pub mod Own
 pub mod Promised
 pub mod Run
-pub mod Settings

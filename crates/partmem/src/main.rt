@@ -16,7 +16,6 @@ ghost use Rattle.partmem.specs.Outcome.{ended_at_once};
 mod outcome;
 mod own;
 mod run;
-mod settings;
 
 use command_line::{Exit, Machine, Outcome, Refused, hand_out, tell, words_given};
 use outcome::Ended;
@@ -24,7 +23,7 @@ use own::run_own;
 use replay_core::{ReaderFeed, Tally, WriterDrain};
 use run::run;
 use run_notes::{FaultNotes, MOST_NUMBER, NotedReader, NotedWriter, RefusalNotes};
-use settings::{OWN_PROGRAM, PROGRAM, Settings, read_words};
+use run_settings::{OWN_PROGRAM, PROGRAM, Settings, read_words};
 use std::fs::File;
 use std::io::{self, Read, Write};
 use std::process::ExitCode;

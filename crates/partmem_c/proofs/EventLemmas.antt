@@ -2,7 +2,7 @@
 use Rattle.std.proofs.Common.{◌≡◌, ℕ, ◌≤◌, List, ◌++◌, Option, length, take, drop, sym, ap, ◌∙◌, arith, append_assoc, length-append}
 use Rattle.std.proofs.lemmas.List.{drop-append-le, take-append-drop, length-take-le, length-drop}
 use Rattle.parts_core.specs.Parts.{Parts}
-use Rattle.partmem_c.specs.declared.asking.Asked.{Asked}
+use Rattle.partmem_c.specs.declared.events.Asked.{Asked}
 use Rattle.partmem_c.specs.declared.telling.Told.{Told}
 use Rattle.partmem_c.specs.Events.{answered_bytes, RunsEvent}
 

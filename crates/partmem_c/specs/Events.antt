@@ -15,8 +15,9 @@ use Rattle.model_core.specs.declared.limits.TheConstants.{MOST_BYTES, MOST_PATTE
 use Rattle.parts_core.specs.Parts.{Parts}
 use Rattle.kernel_core.specs.Steps.{Steps}
 use Rattle.partmem_c.specs.declared.status.TheConstants.{DONE, NO_MACHINE, NOT_AN_EVENT, NO_ROOM}
+use Rattle.partmem_c.specs.declared.events.TheConstants as asked
 use Rattle.partmem_c.specs.declared.kinds.TheConstants as kind
-use Rattle.partmem_c.specs.declared.asking.Asked.{Asked}
+use Rattle.partmem_c.specs.declared.events.Asked.{Asked}
 use Rattle.partmem_c.specs.declared.telling.Told.{Told}
 
 -- these bytes, where there are any and no more than so many
@@ -27,32 +28,32 @@ some_bytes most bytes =
 -- the commands of the administrator, by their kinds
 abbrev pub admin_command_of : Asked → Option AdminCommand
 admin_command_of a =
-    if a.kind == kind.GRANT then Some (Do.Grant a.tenant)
-    else (if a.kind == kind.TAKE_BACK then Some (Do.TakeBack a.tenant a.first)
-    else (if a.kind == kind.RESET then Some (Do.Reset a.tenant)
-    else (if a.kind == kind.MOVE then Some (Do.Move a.tenant a.first)
-    else (if a.kind == kind.POOL then Some Do.Pool
+    if a.kind == asked.GRANT then Some (Do.Grant a.tenant)
+    else (if a.kind == asked.TAKE_BACK then Some (Do.TakeBack a.tenant a.first)
+    else (if a.kind == asked.RESET then Some (Do.Reset a.tenant)
+    else (if a.kind == asked.MOVE then Some (Do.Move a.tenant a.first)
+    else (if a.kind == asked.POOL then Some Do.Pool
     else None))))
 
 -- the commands of a tenant
 abbrev pub asked_command : Asked → List ℕ → Option Command
 asked_command a bytes =
-    if a.kind == kind.ALLOC then Some (Ask.Alloc a.first)
-    else (if a.kind == kind.FREE then Some (Ask.Free a.first)
-    else (if a.kind == kind.READ then Some (Ask.Read a.first a.second)
-    else (if a.kind == kind.WRITE then option_map (Ask.Write a.first) (some_bytes MOST_BYTES bytes)
-    else (if a.kind == kind.CACHE then option_map (Ask.Cache a.first a.second) (some_bytes MOST_PATTERN bytes)
-    else (if a.kind == kind.DESTROY then Some (Ask.Destroy a.first)
-    else (if a.kind == kind.TAKE then Some (Ask.Take a.first)
-    else (if a.kind == kind.GIVE then Some (Ask.Give a.first a.second)
-    else (if a.kind == kind.REAP then Some Ask.Reap
-    else (if a.kind == kind.REPORT then Some Ask.Report
+    if a.kind == asked.ALLOC then Some (Ask.Alloc a.first)
+    else (if a.kind == asked.FREE then Some (Ask.Free a.first)
+    else (if a.kind == asked.READ then Some (Ask.Read a.first a.second)
+    else (if a.kind == asked.WRITE then option_map (Ask.Write a.first) (some_bytes MOST_BYTES bytes)
+    else (if a.kind == asked.CACHE then option_map (Ask.Cache a.first a.second) (some_bytes MOST_PATTERN bytes)
+    else (if a.kind == asked.DESTROY then Some (Ask.Destroy a.first)
+    else (if a.kind == asked.TAKE then Some (Ask.Take a.first)
+    else (if a.kind == asked.GIVE then Some (Ask.Give a.first a.second)
+    else (if a.kind == asked.REAP then Some Ask.Reap
+    else (if a.kind == asked.REPORT then Some Ask.Report
     else None)))))))))
 
 -- the event that the numbers and bytes say, if they say one
 abbrev pub asked_event : Asked → List ℕ → Option Event
 asked_event a bytes =
-    if nat_le a.kind kind.POOL then option_map On.Admin (admin_command_of a)
+    if nat_le a.kind asked.POOL then option_map On.Admin (admin_command_of a)
     else option_map (On.Tenant a.tenant) (asked_command a bytes)
 
 abbrev pub told_of_numbers : ℕ → ℕ → ℕ → ℕ → ℕ → ℕ → Told

@@ -1,23 +1,163 @@
-//! Events run one at a time, without words.
+//! Events run one at a time, without words: as numbers.
 
-ghost use Rattle.std.specs.Prelude.{◌≡◌, ◌≢◌, ◌<◌, ◌≤◌, ℕ, List, length, Some};
+ghost use Rattle.std.specs.Prelude.{◌≡◌, ◌≢◌, ◌<◌, ◌≤◌, ◌^◌, ℕ, false, List, length, Some, IfSome, is_some, if◌then◌else◌};
+ghost use Rattle.words_core.specs.Requests.{command_of, IsAskable, asks_bytes};
+ghost use Rattle.words_core.specs.declared.event.Event.TheVariants as Event;
 ghost use Rattle.words_core.specs.declared.event.Event.TheVariants.{Tenant};
-ghost use Rattle.words_core.specs.declared.event.Command.TheVariants.{Read, Write};
-ghost use Rattle.quick_core.specs.Quick.{quick_command};
+ghost use Rattle.words_core.specs.declared.event.Command.TheVariants.{Read};
+ghost use Rattle.kernel_core.specs.Steps.{HasPattern};
 ghost use Rattle.partmem_c.specs.Events.{asked_event, machine_status, status_of_event, event_status, AnswersEvent, RunsEvent};
 ghost use Rattle.partmem_c.specs.Events.{RunsApart, TellsNothing, ChangesNothing};
+ghost use Rattle.partmem_c.specs.Events.{some_bytes, admin_command_of, asked_command};
 
-use crate::asking::{Asked, event_of, is_event};
-use crate::kinds::{ALLOC, FREE, GIVE, NOTHING, READ, TAKE, WRITE};
+use crate::kinds::NOTHING;
 use crate::lines::put;
 use crate::machine::Machine;
 use crate::status::{DONE, NO_MACHINE, NO_ROOM, NOT_AN_EVENT};
-use crate::telling::{Told, bytes_of, read_told, refused, told_of, told_of_quick, written_told};
+use crate::telling::{Told, bytes_of, bytes_of_body, told_of, told_of_answer};
+use arrayvec::ArrayVec;
 use kernel_core::Kernel;
-use model_core::limits::MOST_BYTES;
-use quick_core::Quick;
+use model_core::limits::{MOST_BYTES, MOST_PATTERN};
 use std::alloc::Global;
-use words_core::Refusal;
+use words_core::{AdminCommand, Answer, Command, Event, Refusal, Request};
+
+/// The administrator grants the tenant a superblock.
+pub const GRANT: u32 = 1;
+/// The administrator takes the superblock under slot `first` of the tenant back.
+pub const TAKE_BACK: u32 = 2;
+/// The administrator takes all that the tenant has.
+pub const RESET: u32 = 3;
+/// The administrator puts slot `first` of the tenant over another superblock.
+pub const MOVE: u32 = 4;
+/// The administrator asks for the table of owners, and is told how many superblocks there are.
+pub const POOL: u32 = 5;
+/// The tenant asks for a page block of order `first`.
+pub const ALLOC: u32 = 6;
+/// The tenant gives back the page block that begins at frame `first`.
+pub const FREE: u32 = 7;
+/// The tenant reads `second` bytes, 1 to 64, from place `first` on. Another count is an event too, which is refused.
+pub const READ: u32 = 8;
+/// The tenant writes the bytes that are passed, 1 to 64, from place `first` on.
+pub const WRITE: u32 = 9;
+/// The tenant makes a cache of objects of `first` bytes, aligned to `second`, constructed as the bytes that are passed, 1 to 16.
+pub const CACHE: u32 = 10;
+/// The tenant destroys cache `first`.
+pub const DESTROY: u32 = 11;
+/// The tenant takes an object of cache `first`.
+pub const TAKE: u32 = 12;
+/// The tenant gives the object of cache `first` at place `second` back.
+pub const GIVE: u32 = 13;
+/// The tenant gives back the empty slabs of all its caches.
+pub const REAP: u32 = 14;
+/// The tenant asks for the figures of its memory.
+pub const REPORT: u32 = 15;
+
+/// An event as numbers: what is asked, which tenant asks it or is meant by it, and the command's numbers, as the constants say.
+///
+/// A number that the kind has no use for is not looked at.
+#[repr(C)]
+#[derive(Clone, Copy)]
+pub struct Asked {
+    pub kind: u32,
+    pub tenant: u32,
+    pub first: u32,
+    pub second: u32,
+}
+
+/// Whether the numbers and bytes say an event.
+#[inline(always)]
+pub fn is_event(asked: &Asked, bytes: &[u8]) -> bool
+    ensures { result ≡ is_some (asked_event asked.now bytes.now) }
+{
+    match asked.kind {
+        WRITE => (1..=MOST_BYTES).contains(&bytes.len()),
+        CACHE => (1..=MOST_PATTERN).contains(&bytes.len()),
+        kind => (GRANT..=REPORT).contains(&kind),
+    }
+}
+
+/// The event that the numbers and bytes say; None, where they say none.
+pub fn event_of(asked: &Asked, bytes: &[u8]) -> Option<Event>
+    ensures says { result ≡ asked_event asked.now bytes.now }
+    ensures pattern { IfSome result (λ event. HasPattern event) }
+{
+    if asked.kind <= POOL {
+        let command = admin_command_of(asked)?;
+        Some(Event::Admin(command))
+    } else {
+        let command = command_of(asked, bytes)?;
+        Some(Event::Tenant(asked.tenant, command))
+    }
+}
+
+fn admin_command_of(asked: &Asked) -> Option<AdminCommand>
+    ensures { result ≡ admin_command_of asked.now }
+{
+    let tenant = asked.tenant;
+    let slot = asked.first;
+    match asked.kind {
+        GRANT => Some(AdminCommand::Grant { tenant }),
+        TAKE_BACK => Some(AdminCommand::TakeBack { tenant, slot }),
+        RESET => Some(AdminCommand::Reset { tenant }),
+        MOVE => Some(AdminCommand::Move { tenant, slot }),
+        POOL => Some(AdminCommand::Pool),
+        _ => None,
+    }
+}
+
+fn command_of(asked: &Asked, bytes: &[u8]) -> Option<Command>
+    ensures says { result ≡ asked_command asked.now bytes.now }
+    ensures pattern { IfSome result (λ command. HasPattern (Event.Tenant asked.now.tenant command)) }
+{
+    let first = asked.first;
+    let second = asked.second;
+    match asked.kind {
+        ALLOC => Some(Command::Alloc { order: first }),
+        FREE => Some(Command::Free { frame: first }),
+        READ => Some(Command::Read {
+            place: first,
+            len: second,
+        }),
+        WRITE => {
+            let bytes = some_bytes(bytes)?;
+            Some(Command::Write {
+                place: first,
+                bytes,
+            })
+        }
+        CACHE => {
+            let pattern = some_bytes(bytes)?;
+            Some(Command::Cache {
+                size: first,
+                align: second,
+                pattern,
+            })
+        }
+        DESTROY => Some(Command::Destroy { cache: first }),
+        TAKE => Some(Command::Take { cache: first }),
+        GIVE => Some(Command::Give {
+            cache: first,
+            place: second,
+        }),
+        REAP => Some(Command::Reap),
+        REPORT => Some(Command::Report),
+        _ => None,
+    }
+}
+
+/// These bytes, where there are any and they fit.
+fn some_bytes<const N: usize>(bytes: &[u8]) -> Option<ArrayVec<u8, N>>
+    requires { N < 2 ^ 32 }
+    ensures { result ≡ some_bytes N bytes.now }
+{
+    if bytes.len() < 1 || bytes.len() > N {
+        return None;
+    }
+    let mut held = ArrayVec::new();
+    let taken = held.try_extend_from_slice(bytes);
+    prove!(taken.is_ok());
+    Some(held)
+}
 
 /// Runs an event that numbers say, with the bytes that it writes or constructs objects of, and tells its answer.
 ///
@@ -87,7 +227,7 @@ fn alloc_event(alloc: Global, machine: &mut Machine, asked: &Asked, told: &mut T
     ensures not_done { result ≢ DONE → TellsNothing machine.old.slot.held machine.new.slot.held told.old told.new }
 {
     let order = asked.first;
-    ask(alloc, machine, asked.tenant, Quick::Alloc { order }, told)
+    ask(alloc, machine, asked.tenant, Request::Alloc { order }, told)
 }
 
 #[inline(never)]
@@ -98,7 +238,7 @@ fn free_event(alloc: Global, machine: &mut Machine, asked: &Asked, told: &mut To
     ensures not_done { result ≢ DONE → TellsNothing machine.old.slot.held machine.new.slot.held told.old told.new }
 {
     let frame = asked.first;
-    ask(alloc, machine, asked.tenant, Quick::Free { frame }, told)
+    ask(alloc, machine, asked.tenant, Request::Free { frame }, told)
 }
 
 #[inline(never)]
@@ -109,7 +249,7 @@ fn take_event(alloc: Global, machine: &mut Machine, asked: &Asked, told: &mut To
     ensures not_done { result ≢ DONE → TellsNothing machine.old.slot.held machine.new.slot.held told.old told.new }
 {
     let cache = asked.first;
-    ask(alloc, machine, asked.tenant, Quick::Take { cache }, told)
+    ask(alloc, machine, asked.tenant, Request::Take { cache }, told)
 }
 
 #[inline(never)]
@@ -125,16 +265,24 @@ fn give_event(alloc: Global, machine: &mut Machine, asked: &Asked, told: &mut To
         alloc,
         machine,
         asked.tenant,
-        Quick::Give { cache, place },
+        Request::Give { cache, place },
         told,
     )
 }
 
 #[inline(always)]
-fn ask(alloc: Global, machine: &mut Machine, tenant: u32, command: Quick, told: &mut Told) -> u32
+fn ask(
+    alloc: Global,
+    machine: &mut Machine,
+    tenant: u32,
+    request: Request<'_>,
+    told: &mut Told,
+) -> u32
+    requires askable { IsAskable request }
+    requires apart { asks_bytes request ≡ false }
     ensures status { result ≡ machine_status machine.old.slot.held }
     ensures done { result ≡ DONE → (asked : Asked) (bytes room : List ℕ)
-        → asked_event asked bytes ≡ Some (Tenant tenant (quick_command command))
+        → asked_event asked bytes ≡ Some (Tenant tenant (command_of request.entry))
         → RunsEvent machine.old.slot.held machine.new.slot.held asked bytes told.new room room }
     ensures not_done { result ≢ DONE → TellsNothing machine.old.slot.held machine.new.slot.held told.old told.new }
 {
@@ -142,10 +290,7 @@ fn ask(alloc: Global, machine: &mut Machine, tenant: u32, command: Quick, told: 
         return NO_MACHINE;
     }
     let mut kernel = machine.take_out(alloc);
-    *told = match kernel.ask_quick(tenant, command) {
-        Some((_, told)) => told_of_quick(told),
-        None => refused(Refusal::NoTenant),
-    };
+    *told = run(&mut kernel, tenant, request);
     machine.put_in(kernel);
     DONE
 }
@@ -190,6 +335,9 @@ fn other_event(
     match asked.kind {
         READ => read_event(alloc, machine, asked, told, room),
         WRITE => write_event(alloc, machine, asked, bytes, told),
+        CACHE => cache_event(alloc, machine, asked, bytes, told),
+        DESTROY => destroy_event(alloc, machine, asked, told),
+        REAP => reap_event(alloc, machine, asked, told),
         _ => rare_event(alloc, machine, asked, bytes, told, room),
     }
 }
@@ -213,8 +361,8 @@ fn read_event(
     if !machine.is_booted() {
         return NO_MACHINE;
     }
-    let kernel = machine.take_out(alloc);
-    *told = read(&kernel, asked.tenant, asked.first, asked.second, room);
+    let mut kernel = machine.take_out(alloc);
+    *told = read(&mut kernel, asked.tenant, asked.first, asked.second, room);
     machine.put_in(kernel);
     DONE
 }
@@ -233,16 +381,83 @@ fn write_event(
         → RunsEvent machine.old.slot.held machine.new.slot.held asked.now bytes.now told.new room room }
     ensures not_done { result ≢ DONE → TellsNothing machine.old.slot.held machine.new.slot.held told.old told.new }
 {
-    if !machine.is_booted() {
-        return NO_MACHINE;
-    }
     if !is_event(asked, bytes) {
-        return NOT_AN_EVENT;
+        return status_of_none(machine);
     }
-    let mut kernel = machine.take_out(alloc);
-    *told = write(&mut kernel, asked.tenant, asked.first, bytes);
-    machine.put_in(kernel);
-    DONE
+    let place = asked.first;
+    ask(
+        alloc,
+        machine,
+        asked.tenant,
+        Request::Write { place, bytes },
+        told,
+    )
+}
+
+#[cold]
+#[inline(never)]
+fn cache_event(
+    alloc: Global,
+    machine: &mut Machine,
+    asked: &Asked,
+    bytes: &[u8],
+    told: &mut Told,
+) -> u32
+    requires kind { asked.now.kind ≡ CACHE }
+    ensures status { result ≡ status_of_event machine.old.slot.held asked.now bytes.now DONE }
+    ensures done { result ≡ DONE → (room : List ℕ)
+        → RunsEvent machine.old.slot.held machine.new.slot.held asked.now bytes.now told.new room room }
+    ensures not_done { result ≢ DONE → TellsNothing machine.old.slot.held machine.new.slot.held told.old told.new }
+{
+    if !is_event(asked, bytes) {
+        return status_of_none(machine);
+    }
+    let request = Request::Cache {
+        size: asked.first,
+        align: asked.second,
+        pattern: bytes,
+    };
+    ask(alloc, machine, asked.tenant, request, told)
+}
+
+/// What a call answers whose numbers and bytes say no event.
+fn status_of_none(machine: &Machine) -> u32
+    ensures { result ≡ (if is_some machine.now.slot.held then NOT_AN_EVENT else NO_MACHINE) }
+{
+    if machine.is_booted() {
+        NOT_AN_EVENT
+    } else {
+        NO_MACHINE
+    }
+}
+
+#[cold]
+#[inline(never)]
+fn destroy_event(alloc: Global, machine: &mut Machine, asked: &Asked, told: &mut Told) -> u32
+    requires kind { asked.now.kind ≡ DESTROY }
+    ensures status { result ≡ machine_status machine.old.slot.held }
+    ensures done { result ≡ DONE → RunsApart machine.old.slot.held machine.new.slot.held asked.now told.new }
+    ensures not_done { result ≢ DONE → TellsNothing machine.old.slot.held machine.new.slot.held told.old told.new }
+{
+    let cache = asked.first;
+    ask(
+        alloc,
+        machine,
+        asked.tenant,
+        Request::Destroy { cache },
+        told,
+    )
+}
+
+#[cold]
+#[inline(never)]
+fn reap_event(alloc: Global, machine: &mut Machine, asked: &Asked, told: &mut Told) -> u32
+    requires kind { asked.now.kind ≡ REAP }
+    ensures status { result ≡ machine_status machine.old.slot.held }
+    ensures done { result ≡ DONE → RunsApart machine.old.slot.held machine.new.slot.held asked.now told.new }
+    ensures not_done { result ≢ DONE → TellsNothing machine.old.slot.held machine.new.slot.held told.old told.new }
+{
+    ask(alloc, machine, asked.tenant, Request::Reap, told)
 }
 
 /// [`partmem_event`] of any event, by way of a reply, which has room for the owners of all superblocks: all of that is cleared.
@@ -272,36 +487,35 @@ fn rare_event(
     let mut kernel = machine.take_out(alloc);
     let reply = kernel.step(&event);
     machine.put_in(kernel);
-    put(bytes_of(&reply.body), room, 0);
+    put(bytes_of_body(&reply.body), room, 0);
     *told = told_of(&reply.body);
     DONE
 }
 
-/// Puts the bytes that are read over the first of `room`.
+/// Runs a request that asks for no bytes, and answers it in numbers.
 #[inline(always)]
-fn read(kernel: &Kernel, tenant: u32, place: u32, asked: u32, room: &mut [u8]) -> Told
-    requires { MOST_BYTES ≤ length room.old }
-    ensures { AnswersEvent kernel.now (Tenant tenant (Read place asked)) kernel.now result room.old room.new }
+fn run(kernel: &mut Kernel, tenant: u32, request: Request<'_>) -> Told
+    requires askable { IsAskable request }
+    requires apart { asks_bytes request ≡ false }
+    ensures { (room : List ℕ) → AnswersEvent kernel.old (Tenant tenant (command_of request.entry)) kernel.new result room room }
 {
-    match kernel.read_quick(tenant, place, asked) {
-        Some((_, Ok(bytes))) => {
-            put(bytes, room, 0);
-            read_told(bytes.len())
-        }
-        Some((_, Err(refusal))) => refused(refusal),
-        None => refused(Refusal::NoTenant),
+    match kernel.ask(tenant, request) {
+        Some((_, answer)) => told_of_answer(answer),
+        None => told_of_answer(Answer::Refused(Refusal::NoTenant)),
     }
 }
 
+/// Runs a read, puts its bytes over the first of `room`, and answers it in numbers.
 #[inline(always)]
-fn write(kernel: &mut Kernel, tenant: u32, place: u32, bytes: &[u8]) -> Told
-    requires { length bytes.now ≤ MOST_BYTES }
-    ensures { (room : List ℕ) → AnswersEvent kernel.old (Tenant tenant (Write place (record { items = bytes.now })))
-        kernel.new result room room }
+fn read(kernel: &mut Kernel, tenant: u32, place: u32, len: u32, room: &mut [u8]) -> Told
+    requires { MOST_BYTES ≤ length room.old }
+    ensures { AnswersEvent kernel.old (Tenant tenant (Read place len)) kernel.new result room.old room.new }
 {
-    match kernel.write_quick(tenant, place, bytes) {
-        Some((_, Ok(count))) => written_told(count),
-        Some((_, Err(refusal))) => refused(refusal),
-        None => refused(Refusal::NoTenant),
+    match kernel.ask(tenant, Request::Read { place, len }) {
+        Some((_, answer)) => {
+            put(bytes_of(answer), room, 0);
+            told_of_answer(answer)
+        }
+        None => told_of_answer(Answer::Refused(Refusal::NoTenant)),
     }
 }

@@ -5,7 +5,6 @@
 //! that [`lines::partmem_line`] says that 0 bytes were written.
 #![tactic(auto)]
 
-pub mod asking;
 pub mod booting;
 pub mod events;
 pub mod kinds;

@@ -4,13 +4,12 @@ ghost use Rattle.std.specs.Prelude.{◌≡◌, ◌≢◌, ℕ, ◌+◌, ◌*◌,
 ghost use Rattle.std.specs.Prelude.{IfSome, MatchOption, if◌then◌else◌};
 ghost use Rattle.words_core.specs.Grammar.{reading_of};
 ghost use Rattle.words_core.specs.Texts.{text_of};
-ghost use Rattle.words_core.specs.Answers.{reply_of};
+ghost use Rattle.words_core.specs.Requests.{command_of, reply_of_answer, HasFewBytes, IsAskable};
 ghost use Rattle.words_core.specs.declared.event.Event.TheVariants.{Tenant, Admin};
-ghost use Rattle.words_core.specs.declared.event.Command.TheVariants.{Read, Write, Report};
+ghost use Rattle.words_core.specs.declared.event.Command.TheVariants.{Report};
 ghost use Rattle.words_core.specs.declared.reply.Addressee.TheVariants as Addressee;
 ghost use Rattle.words_core.specs.declared.reply.Body.TheVariants as Body;
 ghost use Rattle.words_core.specs.declared.reply.Refusal.TheVariants.{NoTenant};
-ghost use Rattle.quick_core.specs.Quick.{quick_command, reply_of_told, reply_of_bytes, reply_of_written};
 ghost use Rattle.replay_core.specs.Standing.{IsRunnable};
 ghost use Rattle.partmem_c.specs.Lines.{has_line_feed, line_status, IsWide, IsTextWritten, PutsAnswer};
 ghost use Rattle.partmem_c.specs.Lines.{AnswersWhole, AnswersOrNot, RunsLine};
@@ -20,14 +19,12 @@ use crate::status::{DONE, NO_MACHINE, NO_ROOM, NOT_A_LINE};
 use arrayvec::ArrayVec;
 use kernel_core::Kernel;
 use model_core::limits::MOST_BYTES;
-use quick_core::{
-    BytesLine, MOST_BYTES_TEXT, Quick, QuickLine, Told, WINDOW, WriteLine, read_bytes_line,
-    read_quick, read_write_line, write_bytes, write_quick, write_written,
-};
+use quick_core::{WINDOW, read_request};
 use std::alloc::Global;
 use words_core::{
-    Addressee, AdminCommand, Answer, Body, Event, LineFault, MOST_REPLY_BYTES, MOST_ROWS, Refusal,
-    Reply, Said, read_line, rows, write_answer, write_line,
+    Addressee, AdminCommand, Answer, Body, Event, LineFault, MOST_ANSWER_BYTES, MOST_REPLY_BYTES,
+    MOST_ROWS, Refusal, Reply, Request, SHORT_ANSWER_BYTES, read_line, rows, write_answer,
+    write_line,
 };
 
 /// No line is answered by more bytes than these: the owners of all superblocks, with a line in front of them.
@@ -81,13 +78,13 @@ fn status_without_room(line: &[u8]) -> u32
     }
 }
 
-/// Room for a line of the short path with its line feed: a tenant, a word, a place, and bytes in hex.
+/// Room for a line that makes up a load with its line feed: a tenant, a word, a place, and bytes in hex.
 const MOST_SHORT_LINE: usize = 160;
 
 /// Runs a line on the kernel, writes what it is answered over the first bytes of `room`, and answers how many; None, and nothing
 /// is done, where it has a line feed.
 ///
-/// A line that was read of the short path as a whole has none, and is not searched for one.
+/// A line that was read the short way as a whole has none, and is not searched for one.
 #[inline(always)]
 fn run_line(kernel: &mut Kernel, line: &[u8], room: &mut [u8]) -> Option<usize>
     requires { IsWide room.old }
@@ -98,50 +95,31 @@ fn run_line(kernel: &mut Kernel, line: &[u8], room: &mut [u8]) -> Option<usize>
     }
     let mut ended = [0; WINDOW];
     put_ended(line, &mut ended);
-    if let Some(quick) = read_quick(&ended) {
-        if quick.len == line.len() + 1 {
-            return Some(answer_quick(quick, kernel, room));
-        }
-    }
-    run_short(&ended, line, kernel, room)
-}
-
-/// [`run_line`] of a short line that stands in `ended` with its line feed; out of line, since it needs more registers than most
-/// lines of a load.
-#[inline(never)]
-fn run_short(
-    ended: &[u8; WINDOW],
-    line: &[u8],
-    kernel: &mut Kernel,
-    room: &mut [u8],
-) -> Option<usize>
-    requires ended { (rest : List ℕ) × (ended.now ≡ line.now ++ 10 ∷ rest) }
-    requires room { IsWide room.old }
-    ensures { AnswersOrNot kernel.old line.now room.old kernel.new room.new result }
-{
-    if let Some(read) = read_bytes_line(ended) {
+    let mut bytes = [0; MOST_BYTES];
+    if let Some(read) = read_request(&ended, &mut bytes) {
         if read.len == line.len() + 1 {
-            return Some(answer_read(read, kernel, room));
+            return Some(answer_request(read.tenant, read.request, kernel, room));
         }
     }
-    run_other(kernel, line, room)
+    run_any(kernel, line, room)
 }
 
-/// [`run_line`] of any line; out of line, as [`run_short`] is.
+/// [`run_line`] of a longer line; out of line, since it needs more room than most lines of a load.
 #[inline(never)]
 fn run_other(kernel: &mut Kernel, line: &[u8], room: &mut [u8]) -> Option<usize>
     requires { IsWide room.old }
     ensures { AnswersOrNot kernel.old line.now room.old kernel.new room.new result }
 {
-    if let Some(written) = run_write(kernel, line, room) {
+    if let Some(written) = run_long(kernel, line, room) {
         return Some(written);
     }
     run_any(kernel, line, room)
 }
 
-/// [`run_line`] of a write of the short path; None, and nothing is done, where it isn't one, or where that is not sure.
+/// [`run_line`] of a longer line that makes up a load, as a write; None, and nothing is done, where it isn't one, or where that is
+/// not sure.
 #[inline(always)]
-fn run_write(kernel: &mut Kernel, line: &[u8], room: &mut [u8]) -> Option<usize>
+fn run_long(kernel: &mut Kernel, line: &[u8], room: &mut [u8]) -> Option<usize>
     requires { IsWide room.old }
     ensures { MatchOption result ((kernel.new ≡ kernel.old) × (room.new ≡ room.old))
         (λ written. AnswersWhole kernel.old line.now room.old kernel.new room.new written) }
@@ -152,11 +130,11 @@ fn run_write(kernel: &mut Kernel, line: &[u8], room: &mut [u8]) -> Option<usize>
     let mut ended = [0; MOST_SHORT_LINE];
     put_ended(line, &mut ended);
     let mut bytes = [0; MOST_BYTES];
-    let write = read_write_line(&ended, &mut bytes)?;
-    if write.len != line.len() + 1 {
+    let read = read_request(&ended, &mut bytes)?;
+    if read.len != line.len() + 1 {
         return None;
     }
-    Some(answer_write(write, &bytes[..write.count], kernel, room))
+    Some(answer_apart(read.tenant, read.request, kernel, room))
 }
 
 /// [`run_line`] by way of the event that it reads as; out of line, since all the room of an event is cleared.
@@ -182,89 +160,61 @@ fn put_ended(line: &[u8], out: &mut [u8])
     put(b"\n", out, line.len());
 }
 
+/// Runs a request, and writes what it is answered over the first bytes of `room`; answers how many they are. [`run_line`] alone
+/// calls it: of a function that has one caller the compiler makes a part of it, however long it is.
 #[inline(always)]
-fn answer_quick(line: QuickLine, kernel: &mut Kernel, room: &mut [u8]) -> usize
-    requires { IsWide room.old }
-    ensures { PutsAnswer kernel.old (Ok (Some (Tenant line.tenant (quick_command line.command)))) kernel.new
-        room.old room.new result }
-{
-    let tenant = line.tenant;
-    match line.command {
-        Quick::Alloc { order } => ask(tenant, Quick::Alloc { order }, kernel, room),
-        Quick::Free { frame } => ask(tenant, Quick::Free { frame }, kernel, room),
-        Quick::Take { cache } => ask(tenant, Quick::Take { cache }, kernel, room),
-        Quick::Give { cache, place } => ask(tenant, Quick::Give { cache, place }, kernel, room),
-    }
-}
-
-/// [`answer_quick`] of a command whose kind is known where this is called: what it cannot be told is then not looked at.
-#[inline(always)]
-fn ask(tenant: u32, command: Quick, kernel: &mut Kernel, room: &mut [u8]) -> usize
-    requires { IsWide room.old }
-    ensures { PutsAnswer kernel.old (Ok (Some (Tenant tenant (quick_command command)))) kernel.new room.old room.new result }
-{
-    match kernel.ask_quick(tenant, command) {
-        Some((tenant, told)) => put_told(tenant, told, room),
-        None => put_no_tenant(room),
-    }
-}
-
-fn answer_read(line: BytesLine, kernel: &Kernel, room: &mut [u8]) -> usize
-    requires { IsWide room.old }
-    ensures { PutsAnswer kernel.now (Ok (Some (Tenant line.tenant (Read line.place line.asked)))) kernel.now
-        room.old room.new result }
-{
-    match kernel.read_quick(line.tenant, line.place, line.asked) {
-        Some((tenant, Ok(bytes))) => put_read(tenant, bytes, room),
-        Some((tenant, Err(refusal))) => put_told(tenant, Told::Refused(refusal), room),
-        None => put_no_tenant(room),
-    }
-}
-
-fn answer_write(line: WriteLine, bytes: &[u8], kernel: &mut Kernel, room: &mut [u8]) -> usize
-    requires few { length bytes.now ≤ MOST_BYTES }
+fn answer_request(tenant: u32, request: Request<'_>, kernel: &mut Kernel, room: &mut [u8]) -> usize
+    requires askable { IsAskable request }
     requires room { IsWide room.old }
-    ensures { PutsAnswer kernel.old
-        (Ok (Some (Tenant line.tenant (Write line.place (record { items = bytes.now }))))) kernel.new room.old room.new result }
+    ensures { PutsAnswer kernel.old (Ok (Some (Tenant tenant (command_of request.entry)))) kernel.new room.old room.new result }
 {
-    match kernel.write_quick(line.tenant, line.place, bytes) {
-        Some((tenant, Ok(count))) => put_written(tenant, count, room),
-        Some((tenant, Err(refusal))) => put_told(tenant, Told::Refused(refusal), room),
+    match kernel.ask(tenant, request) {
+        Some((t, answer)) => put_answer(t, answer, room),
         None => put_no_tenant(room),
     }
 }
 
-/// Writes what a tenant is told over the first bytes of `room`, and answers how many they are; so do the others.
-#[inline(always)]
-fn put_told(tenant: u8, told: Told, room: &mut [u8]) -> usize
-    requires { IsWide room.old }
-    ensures { IsTextWritten (text_of (reply_of_told tenant told)) room.old room.new result }
+/// [`answer_request`] for all others.
+#[inline(never)]
+fn answer_apart(tenant: u32, request: Request<'_>, kernel: &mut Kernel, room: &mut [u8]) -> usize
+    requires askable { IsAskable request }
+    requires room { IsWide room.old }
+    ensures { PutsAnswer kernel.old (Ok (Some (Tenant tenant (command_of request.entry)))) kernel.new room.old room.new result }
 {
-    let mut text = [0; WINDOW];
-    let len = write_quick(tenant, told, &mut text);
-    put_short(&text[..len], room);
-    len
+    match kernel.ask(tenant, request) {
+        Some((t, answer)) => put_answer(t, answer, room),
+        None => put_no_tenant(room),
+    }
 }
 
-fn put_read(tenant: u8, bytes: &[u8], room: &mut [u8]) -> usize
-    requires few { length bytes.now ≤ MOST_BYTES }
+/// Writes what a tenant is answered over the first bytes of `room`, and answers how many they are; so do the others.
+#[inline(always)]
+fn put_answer(tenant: u8, answer: Answer<'_>, room: &mut [u8]) -> usize
+    requires few { HasFewBytes answer }
     requires room { IsWide room.old }
-    ensures { IsTextWritten (text_of (reply_of_bytes tenant bytes.now)) room.old room.new result }
+    ensures { IsTextWritten (text_of (reply_of_answer tenant answer.entry)) room.old room.new result }
 {
-    let mut text = [0; MOST_BYTES_TEXT];
-    let len = write_bytes(tenant, bytes, &mut text);
+    match answer {
+        Answer::Bytes(_) | Answer::Cache { .. } => put_long_answer(tenant, answer, room),
+        _ => {
+            let mut text = [0; SHORT_ANSWER_BYTES];
+            let len = write_answer(tenant, answer, &mut text);
+            put_short(&text[..len], room);
+            len
+        }
+    }
+}
+
+/// [`put_answer`] of a longer text; out of line, so that only it pays for its room.
+#[inline(never)]
+fn put_long_answer(tenant: u8, answer: Answer<'_>, room: &mut [u8]) -> usize
+    requires few { HasFewBytes answer }
+    requires room { IsWide room.old }
+    ensures { IsTextWritten (text_of (reply_of_answer tenant answer.entry)) room.old room.new result }
+{
+    let mut text = [0; MOST_ANSWER_BYTES];
+    let len = write_answer(tenant, answer, &mut text);
     put(&text[..len], room, 0);
-    len
-}
-
-fn put_written(tenant: u8, count: u32, room: &mut [u8]) -> usize
-    requires few { count < 1000 }
-    requires room { IsWide room.old }
-    ensures { IsTextWritten (text_of (reply_of_written tenant count)) room.old room.new result }
-{
-    let mut text = [0; WINDOW];
-    let len = write_written(tenant, count, &mut text);
-    put_short(&text[..len], room);
     len
 }
 
@@ -275,11 +225,11 @@ fn put_no_tenant(room: &mut [u8]) -> usize
     ensures { IsTextWritten (text_of (record { addressee = Addressee.Nobody; body = Body.Refused NoTenant }))
         room.old room.new result }
 {
-    let answer = Answer {
+    let reply = Reply {
         addressee: Addressee::Nobody,
-        said: Said::Refused(Refusal::NoTenant),
+        body: Body::Refused(Refusal::NoTenant),
     };
-    put_answer(&answer, room)
+    put_reply(&reply, room)
 }
 
 /// Runs a line that was read so, and writes what it is answered.
@@ -292,23 +242,13 @@ fn answer(reading: Result<Option<Event>, LineFault>, kernel: &mut Kernel, room: 
 {
     match reading {
         Ok(None) => 0,
-        Ok(Some(Event::Tenant(tenant, command))) => match kernel.ask(tenant, &command) {
-            Some(answer) => put_answer(&answer, room),
+        Ok(Some(Event::Tenant(tenant, command))) => match command.request() {
+            Some(request) => answer_apart(tenant, request, kernel, room),
             None => put_report(tenant, kernel, room),
         },
         Ok(Some(Event::Admin(command))) => administer(&command, kernel, room),
         Err(fault) => put_fault(fault, room),
     }
-}
-
-fn put_answer(answer: &Answer, room: &mut [u8]) -> usize
-    requires { IsWide room.old }
-    ensures { IsTextWritten (text_of (reply_of answer.now)) room.old room.new result }
-{
-    let mut line = ArrayVec::new();
-    write_answer(answer, &mut line);
-    put(line.as_slice(), room, 0);
-    line.len()
 }
 
 /// By itself, as all that takes room for a reply, which no other line pays for.

@@ -1,8 +1,7 @@
 //! A reply as numbers and bytes.
 
 ghost use Rattle.std.specs.Prelude.{◌≡◌, ◌≤◌, length};
-ghost use Rattle.words_core.specs.declared.reply.Body.TheVariants.{Written, Refused};
-ghost use Rattle.quick_core.specs.Quick.{body_of_told};
+ghost use Rattle.words_core.specs.Requests.{body_of_answer, HasFewBytes};
 ghost use Rattle.partmem_c.specs.Events.{told_of, answered_bytes, told_of_numbers, top_number};
 
 use crate::kinds::{
@@ -10,7 +9,7 @@ use crate::kinds::{
     REAPED, REFUSED, TAKEN_BACK, WAS_RESET, WRITTEN,
 };
 use model_core::limits::MOST_BYTES;
-use words_core::{Body, Refusal};
+use words_core::{Answer, Body};
 
 /// What an event is answered, as numbers in the order that [`crate::kinds`] says of each kind; all others are 0.
 #[repr(C)]
@@ -55,28 +54,27 @@ pub fn told_of(body: &Body) -> Told
             u32::from(*superblock),
         ),
         Body::Owners(owners) => one(OWNERS, owners.len() as u32),
-        Body::Frame(frame) => one(FRAME, *frame),
-        Body::Freed(order) => one(FREED, u32::from(*order)),
-        Body::Bytes(bytes) => one(BYTES, bytes.len() as u32),
-        Body::Written(count) => one(WRITTEN, *count),
+        Body::Frame(frame) => told_of_answer(Answer::Frame(*frame)),
+        Body::Freed(order) => told_of_answer(Answer::Freed(*order)),
+        Body::Bytes(bytes) => told_of_answer(Answer::Bytes(bytes.as_slice())),
+        Body::Written(count) => told_of_answer(Answer::Written(*count)),
         Body::Cache {
             cache,
             chunk,
             order,
             objects,
             colours,
-        } => Told {
-            kind: MADE,
-            first: u32::from(*cache),
-            second: *chunk,
-            third: u32::from(*order),
-            fourth: *objects,
-            fifth: *colours,
-        },
-        Body::Destroyed(frames) => one(DESTROYED, *frames),
-        Body::Object(place) => one(OBJECT, *place),
-        Body::Given => one(GIVEN, 0),
-        Body::Reaped(frames) => one(REAPED, *frames),
+        } => told_of_answer(Answer::Cache {
+            cache: *cache,
+            chunk: *chunk,
+            order: *order,
+            objects: *objects,
+            colours: *colours,
+        }),
+        Body::Destroyed(frames) => told_of_answer(Answer::Destroyed(*frames)),
+        Body::Object(place) => told_of_answer(Answer::Object(*place)),
+        Body::Given => told_of_answer(Answer::Given),
+        Body::Reaped(frames) => told_of_answer(Answer::Reaped(*frames)),
         Body::Report(report) => Told {
             kind: FIGURES,
             first: report.frames,
@@ -85,48 +83,42 @@ pub fn told_of(body: &Body) -> Told
             fourth: top_number(report.top),
             fifth: report.split,
         },
-        Body::Refused(refusal) => refused(*refusal),
+        Body::Refused(refusal) => told_of_answer(Answer::Refused(*refusal)),
         Body::Fault(_) => one(NOTHING, 0),
     }
 }
 
-/// An answer of the short path as numbers.
+/// An answer as numbers.
 #[inline(always)]
-pub fn told_of_quick(told: quick_core::Told) -> Told
-    ensures { result ≡ told_of (body_of_told told) }
+pub fn told_of_answer(answer: Answer<'_>) -> Told
+    requires { HasFewBytes answer }
+    ensures { result ≡ told_of (body_of_answer answer.entry) }
 {
-    match told {
-        quick_core::Told::Frame(frame) => one(FRAME, frame),
-        quick_core::Told::Freed(order) => one(FREED, u32::from(order)),
-        quick_core::Told::Object(place) => one(OBJECT, place),
-        quick_core::Told::Given => one(GIVEN, 0),
-        quick_core::Told::Refused(refusal) => refused(refusal),
+    match answer {
+        Answer::Frame(frame) => one(FRAME, frame),
+        Answer::Freed(order) => one(FREED, u32::from(order)),
+        Answer::Bytes(bytes) => one(BYTES, bytes.len() as u32),
+        Answer::Written(count) => one(WRITTEN, count),
+        Answer::Cache {
+            cache,
+            chunk,
+            order,
+            objects,
+            colours,
+        } => Told {
+            kind: MADE,
+            first: u32::from(cache),
+            second: chunk,
+            third: u32::from(order),
+            fourth: objects,
+            fifth: colours,
+        },
+        Answer::Destroyed(frames) => one(DESTROYED, frames),
+        Answer::Object(place) => one(OBJECT, place),
+        Answer::Given => one(GIVEN, 0),
+        Answer::Reaped(frames) => one(REAPED, frames),
+        Answer::Refused(refusal) => one(REFUSED, u32::from(refusal.number())),
     }
-}
-
-/// A refusal as numbers.
-#[inline(always)]
-pub fn refused(refusal: Refusal) -> Told
-    ensures { result ≡ told_of (Refused refusal) }
-{
-    one(REFUSED, u32::from(refusal.number()))
-}
-
-/// That so many bytes were read.
-#[inline(always)]
-pub fn read_told(count: usize) -> Told
-    requires { count ≤ MOST_BYTES }
-    ensures { result ≡ told_of_numbers BYTES count 0 0 0 0 }
-{
-    one(BYTES, count as u32)
-}
-
-/// That so many bytes were written.
-#[inline(always)]
-pub fn written_told(count: u32) -> Told
-    ensures { result ≡ told_of (Written count) }
-{
-    one(WRITTEN, count)
 }
 
 #[inline(always)]
@@ -159,8 +151,21 @@ fn top_number(top: Option<u8>) -> u32
     }
 }
 
+/// The bytes that an answer tells.
+#[inline(always)]
+pub fn bytes_of(answer: Answer<'_>) -> &[u8]
+    requires { HasFewBytes answer }
+    ensures value { result.now ≡ answered_bytes (body_of_answer answer.entry) }
+    ensures few { length result.now ≤ MOST_BYTES }
+{
+    match answer {
+        Answer::Bytes(bytes) => bytes,
+        _ => &[],
+    }
+}
+
 /// The bytes that a reply tells.
-pub fn bytes_of(body: &Body) -> &[u8]
+pub fn bytes_of_body(body: &Body) -> &[u8]
     ensures value { result.now ≡ answered_bytes body.now }
     ensures few { length result.now ≤ MOST_BYTES }
 {

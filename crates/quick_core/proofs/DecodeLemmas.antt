@@ -1,5 +1,5 @@
 -- Pairs of hex digits, one after the other, and the line that they end.
-use Rattle.std.proofs.Common.{◌≡◌, ℕ, ◌+◌, ◌-◌, ◌*◌, ◌<◌, ◌≤◌, true, nat_le, ◌&&◌, if◌then◌else◌, List, [], ◌∷◌, ◌++◌, codes, length, get_or, take, drop, map, unwrap_or, Option, Some, None, Result, Ok, Err, refl, sym, ◌∙◌, ap, arith, append_assoc}
+use Rattle.std.proofs.Common.{◌≡◌, ℕ, ◌+◌, ◌-◌, ◌*◌, ◌<◌, ◌≤◌, true, nat_le, ◌&&◌, if◌then◌else◌, List, [], ◌∷◌, ◌++◌, codes, length, get_or, take, drop, map, Option, Some, None, Result, Ok, Err, refl, sym, ◌∙◌, ap, arith}
 use Rattle.std.specs.List.{range_with_len, slice_range}
 use Rattle.std.specs.Result.{result_unwrap_or}
 use Rattle.std.proofs.lemmas.Bool.Decides.{nat_tests}
@@ -14,7 +14,7 @@ use Rattle.words_core.specs.Numbers.{number_of}
 use Rattle.words_core.specs.declared.event.Command.TheVariants.{Write}
 use Rattle.words_core.specs.declared.event.LineFault.TheVariants.{Number, Hex}
 use Rattle.quick_core.specs.Lines.{ReadsAs}
-use Rattle.quick_core.specs.declared.written.TheConstants.{HIGH_VALUES, LOW_VALUES}
+use Rattle.quick_core.specs.declared.decode.TheConstants.{HIGH_VALUES, LOW_VALUES}
 use Rattle.quick_core.proofs.LineLemmas.{IsPlain, IsPlainWord, SomeCase, OneCase, spaced, is_read, three_words, plain_number}
 use Rattle.quick_core.specs.Pairs.{Decodes}
 use Rattle.quick_core.proofs.WindowLemmas.{cut, front}

@@ -1,4 +1,2 @@
-pub mod Digits
-pub mod Quick
 pub mod Lines
 pub mod Pairs

@@ -5,7 +5,7 @@ use Rattle.words_core.specs.Grammar.{reading_of}
 use Rattle.words_core.specs.Numbers.{number_of}
 use Rattle.words_core.specs.declared.event.Command.{Command}
 use Rattle.words_core.specs.declared.event.Event.TheVariants.{Tenant}
-use Rattle.quick_core.specs.declared.line.TheConstants.{MOST_TENANT_DIGITS}
+use Rattle.quick_core.specs.declared.request.TheConstants.{MOST_TENANT_DIGITS}
 use Rattle.quick_core.specs.declared.number.Number.{Number}
 
 -- the first line feed (byte 10) of the bytes ends a line of so many, and it reads as this command of this tenant

@@ -1,6 +1,7 @@
 //! A number of few digits, read off a window.
 
-ghost use Rattle.std.specs.Prelude.{◌≡◌, ◌+◌, ◌<◌, ◌≤◌, Some, IfSome, length, slice_range};
+ghost use Rattle.std.specs.Prelude.{◌≡◌, true, ◌+◌, ◌-◌, ◌<◌, ◌≤◌, Some, IfSome, length, slice_range};
+ghost use Rattle.std.specs.Char.{is_ascii_digit};
 ghost use Rattle.words_core.specs.Numbers.{number_of};
 
 /// No number that is read has more digits: its value then fits a `u32`.
@@ -25,8 +26,8 @@ pub fn number_at(bytes: &[u8], from: usize, most: usize) -> Option<Number>
 {
     let mut value = 0;
     for count in 0..most {
-        let byte = bytes[from + count];
-        if !byte.is_ascii_digit() {
+        let digit = digit_of(bytes[from + count]);
+        if digit > 9 {
             if count == 0 {
                 return None;
             }
@@ -35,10 +36,19 @@ pub fn number_at(bytes: &[u8], from: usize, most: usize) -> Option<Number>
                 end: from + count,
             });
         }
-        value = value * 10 + u32::from(byte - b'0');
+        value = value * 10 + digit;
     }
     Some(Number {
         value,
         end: from + most,
     })
+}
+
+/// The value of a digit; more than 9 for a byte that is none.
+#[inline(always)]
+fn digit_of(byte: u8) -> u32
+    ensures digit { result ≤ 9 → is_ascii_digit byte ≡ true }
+    ensures value { result ≤ 9 → result ≡ byte - 48 }
+{
+    u32::from(byte).wrapping_sub(48)
 }

@@ -1,5 +1,4 @@
 pub mod LineLemmas
-pub mod MoveLemmas
 pub mod OwnLemmas
 pub mod PendingLemmas
 pub mod PromiseLemmas

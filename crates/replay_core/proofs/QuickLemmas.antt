@@ -8,7 +8,7 @@ use Rattle.words_core.specs.Grammar.{reading_of}
 use Rattle.words_core.specs.declared.event.Command.{Command}
 use Rattle.parts_core.specs.Parts.{Parts}
 use Rattle.quick_core.specs.Lines.{ReadsAs}
-use Rattle.replay_core.specs.declared.feed.Stopped.{Stopped}
+use Rattle.ends.specs.declared.feed.Stopped.{Stopped}
 use Rattle.replay_core.specs.declared.pending.Pending.{Pending}
 use Rattle.replay_core.specs.declared.run.Run.{Run}
 use Rattle.replay_core.specs.Pending.{HoldsLine, HoldsNothing}

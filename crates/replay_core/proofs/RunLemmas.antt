@@ -14,7 +14,7 @@ use Rattle.world_core.specs.Output.{event_in, events_of, shown_reading, shown_li
 use Rattle.world_core.proofs.Worlds.{world_both}
 use Rattle.parts_core.specs.Parts.{Parts, SameSizes}
 use Rattle.kernel_core.specs.Shows.{Shows}
-use Rattle.replay_core.specs.declared.feed.Stopped.{Stopped}
+use Rattle.ends.specs.declared.feed.Stopped.{Stopped}
 use Rattle.replay_core.specs.declared.pending.Pending.{Pending}
 use Rattle.replay_core.specs.declared.replaying.Tally.{Tally}
 use Rattle.replay_core.specs.declared.run.Run.{Run}
@@ -22,7 +22,7 @@ use Rattle.replay_core.specs.declared.replaying.ReplayError.TheVariants as Of
 use Rattle.replay_core.specs.Pending.{HoldsLine}
 use Rattle.replay_core.specs.Runs.{fault_in, faults_of, Counts, StandsAfter, HasRun, IsCutShort, Replays}
 use Rattle.replay_core.specs.Standing.{IsOneLine, HasAnswered, Stands, HasStopped, tally_of_run}
-use Rattle.replay_core.proofs.MoveLemmas.{appends_nothing, appends_more, appends_kept}
+use Rattle.ends.proofs.MoveLemmas.{appends_nothing, appends_more, appends_kept}
 use Rattle.replay_core.proofs.LineLemmas.{one_line_append, lines_append, with_line_feeds_append, with_line_feeds_long, lines_cut, lines_ended, one_line_cut, one_line_unended}
 
 events_more : (xs : List (List ℕ)) (line : List ℕ) → events_of (xs ++ line ∷ []) ≡ events_of xs ++ event_in (reading_of line)

@@ -1,6 +1,4 @@
 pub mod Bounds
-pub mod Held
-pub mod Moves
 pub mod Pending
 pub mod Promised
 pub mod Pushes

@@ -10,7 +10,7 @@ use Rattle.kernel_core.specs.Steps.{HasPattern}
 use Rattle.world_core.specs.Limits.{cache_limit}
 use Rattle.world_core.specs.World.{World, world_after}
 use Rattle.world_core.specs.Output.{event_in, shown_reading, ended_lines, line_feed, with_line_feeds}
-use Rattle.replay_core.specs.declared.feed.Stopped.{Stopped}
+use Rattle.ends.specs.declared.feed.Stopped.{Stopped}
 use Rattle.replay_core.specs.declared.pending.Pending.{Pending}
 use Rattle.replay_core.specs.declared.replaying.Tally.{Tally}
 use Rattle.replay_core.specs.declared.run.Run.{Run}

@@ -1,26 +1,24 @@
-//! The short path of a replay: the lines that make up a load, run one after the other.
+//! Requests of tenants: the lines that make up a load, run one after the other, and a request by itself.
 
 ghost use Rattle.std.specs.Prelude.{◌≡◌, ℕ, ◌+◌, ◌^◌, ◌<◌, ◌≤◌, List, Option, Some, Ok, length, is_err};
-ghost use Rattle.std.specs.Prelude.{IfOk, MatchResult};
+ghost use Rattle.std.specs.Prelude.{IfOk, IfSome, MatchResult};
+ghost use Rattle.words_core.specs.Grammar.{reading_of};
+ghost use Rattle.words_core.specs.Requests.{command_of, IsAskable};
 ghost use Rattle.words_core.specs.declared.event.Event.TheVariants.{Tenant};
-ghost use Rattle.words_core.specs.declared.event.Command.TheVariants.{Read, Write};
-ghost use Rattle.quick_core.specs.Quick.{quick_command};
 ghost use Rattle.parts_core.specs.Parts.{Parts};
 ghost use Rattle.replay_core.specs.declared.pending.Pending.{Pending};
 ghost use Rattle.replay_core.specs.Pending.{HoldsNothing};
 ghost use Rattle.replay_core.specs.Standing.{IsReady, HasAnswered, Stands, HasStopped};
 
-use crate::drain::Drain;
-use crate::feed::Stopped;
 use crate::run::Run;
+use ends::{Drain, Stopped};
 use kernel_core::Kernel;
 use model_core::limits::MOST_BYTES;
-use quick_core::{
-    BytesLine, QuickLine, Told, WriteLine, read_bytes_line, read_quick, read_write_line,
-};
+use quick_core::{RequestLine, WINDOW, read_request};
+use words_core::Request;
 
 impl Run {
-    /// Runs the lines at the front of a piece as long as they are of the short path, and answers the rest of the piece. No
+    /// Runs the lines at the front of a piece as long as they are read the short way, and answers the rest of the piece. No
     /// beginning of a line may be pending. By itself, so that its loop has all registers.
     #[inline(never)]
     pub fn run_quick_lines<'a, D: Drain>(
@@ -41,89 +39,75 @@ impl Run {
         // What a write stores: one room for all lines, filled anew by each.
         let mut room = [0; MOST_BYTES];
         let mut rest = piece;
-        'lines: loop {
-            if let Some(line) = read_quick(rest) {
-                self.answer_quick(line, kernel, drain)?;
-                rest = &rest[line.len..];
-            } else if let Some(line) = read_bytes_line(rest) {
-                self.answer_read(line, kernel, drain)?;
-                rest = &rest[line.len..];
-            } else if let Some(line) = read_write_line(rest, &mut room) {
-                self.answer_write(line, &room[..line.count], kernel, drain)?;
-                rest = &rest[line.len..];
-            } else {
-                return Ok(rest);
-            }
+        'lines: while let Some(line) = read_request(rest, &mut room) {
+            let len = line.len;
+            self.answer_request(line.tenant, line.request, kernel, drain)?;
+            rest = &rest[len..];
         }
+        Ok(rest)
     }
 
-    /// Runs a line of the short path, counts it, and pushes what it shows.
+    /// Runs a request that was read off a line, counts the line, and pushes what it shows. The loop alone calls it: of a function
+    /// that has one caller the compiler makes a part of it, however long it is.
     #[inline(always)]
-    fn answer_quick<D: Drain>(
+    fn answer_request<D: Drain>(
         &mut self,
-        line: QuickLine,
+        tenant: u32,
+        request: Request<'_>,
         kernel: &mut Kernel,
         drain: &mut D,
     ) -> Result<(), Stopped>
-        requires { IsReady (D.has_failed drain.old) self.old 1 }
-        ensures { HasAnswered (Ok (Some (Tenant line.tenant (quick_command line.command)))) kernel.old kernel.new
-            (D.contents drain.old) (D.contents drain.new) (D.has_failed drain.new) self.old self.new result }
-    {
-        self.lines += 1;
-        self.events += 1;
-        match kernel.ask_quick(line.tenant, line.command) {
-            Some((tenant, told)) => self.replies.show_told(tenant, told, drain),
-            None => self.replies.show_no_tenant(drain),
-        }
-    }
-
-    /// Runs a read of the short path, counts it, and pushes what it shows.
-    #[inline(always)]
-    fn answer_read<D: Drain>(
-        &mut self,
-        line: BytesLine,
-        kernel: &Kernel,
-        drain: &mut D,
-    ) -> Result<(), Stopped>
-        requires { IsReady (D.has_failed drain.old) self.old 1 }
-        ensures { HasAnswered (Ok (Some (Tenant line.tenant (Read line.place line.asked)))) kernel.now kernel.now
-            (D.contents drain.old) (D.contents drain.new) (D.has_failed drain.new) self.old self.new result }
-    {
-        self.lines += 1;
-        self.events += 1;
-        match kernel.read_quick(line.tenant, line.place, line.asked) {
-            Some((tenant, Ok(bytes))) => self.replies.show_bytes(tenant, bytes, drain),
-            Some((tenant, Err(refusal))) => {
-                self.replies
-                    .show_told(tenant, Told::Refused(refusal), drain)
-            }
-            None => self.replies.show_no_tenant(drain),
-        }
-    }
-
-    /// Runs a write of the short path, which stores these bytes, counts it, and pushes what it shows.
-    #[inline(always)]
-    fn answer_write<D: Drain>(
-        &mut self,
-        line: WriteLine,
-        bytes: &[u8],
-        kernel: &mut Kernel,
-        drain: &mut D,
-    ) -> Result<(), Stopped>
-        requires few { length bytes.now ≤ MOST_BYTES }
+        requires askable { IsAskable request }
         requires ready { IsReady (D.has_failed drain.old) self.old 1 }
-        ensures { HasAnswered (Ok (Some (Tenant line.tenant (Write line.place (record { items = bytes.now })))))
-            kernel.old kernel.new (D.contents drain.old) (D.contents drain.new) (D.has_failed drain.new) self.old self.new result }
+        ensures { HasAnswered (Ok (Some (Tenant tenant (command_of request.entry)))) kernel.old kernel.new
+            (D.contents drain.old) (D.contents drain.new) (D.has_failed drain.new) self.old self.new result }
     {
         self.lines += 1;
         self.events += 1;
-        match kernel.write_quick(line.tenant, line.place, bytes) {
-            Some((tenant, Ok(count))) => self.replies.show_written(tenant, count, drain),
-            Some((tenant, Err(refusal))) => {
-                self.replies
-                    .show_told(tenant, Told::Refused(refusal), drain)
-            }
+        match kernel.ask(tenant, request) {
+            Some((t, answer)) => self.replies.show_answer(t, answer, drain),
             None => self.replies.show_no_tenant(drain),
         }
     }
+
+    /// [`Run::answer_request`] for all others.
+    #[inline(never)]
+    pub fn answer_apart<D: Drain>(
+        &mut self,
+        tenant: u32,
+        request: Request<'_>,
+        kernel: &mut Kernel,
+        drain: &mut D,
+    ) -> Result<(), Stopped>
+        requires askable { IsAskable request }
+        requires ready { IsReady (D.has_failed drain.old) self.old 1 }
+        ensures { HasAnswered (Ok (Some (Tenant tenant (command_of request.entry)))) kernel.old kernel.new
+            (D.contents drain.old) (D.contents drain.new) (D.has_failed drain.new) self.old self.new result }
+    {
+        self.lines += 1;
+        self.events += 1;
+        match kernel.ask(tenant, request) {
+            Some((t, told)) => self.replies.show_answer(t, told, drain),
+            None => self.replies.show_no_tenant(drain),
+        }
+    }
+}
+
+/// A line by itself, without its line feed, where it has less than `WINDOW` bytes and is read the short way; `None` where it isn't,
+/// or where that is not sure.
+pub fn read_alone<'a>(line: &[u8], room: &'a mut [u8; MOST_BYTES]) -> Option<RequestLine<'a>>
+    ensures reads { IfSome result (λ read. reading_of line.now ≡ Ok (Some (Tenant read.tenant (command_of read.request)))) }
+    ensures askable { IfSome result (λ read. IsAskable read.request) }
+{
+    if line.len() >= WINDOW {
+        return None;
+    }
+    let mut window = [0; WINDOW];
+    window[..line.len()].copy_from_slice(line);
+    window[line.len()] = b'\n';
+    let read = read_request(&window, room)?;
+    if read.len != line.len() + 1 {
+        return None;
+    }
+    Some(read)
 }

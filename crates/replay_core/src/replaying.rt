@@ -5,10 +5,9 @@ ghost use Rattle.std.specs.Io.KnownBytes.{Consumes, Appends, IsAtEnd};
 ghost use Rattle.replay_core.specs.Runs.{Replays, HasOwnLines, IsDone, NamesFailed};
 ghost use Rattle.replay_core.specs.Promised.{TakesAllowed};
 
-use crate::drain::Drain;
-use crate::feed::Feed;
 use crate::pending::Pending;
 use crate::run::Run;
+use ends::{Drain, Feed};
 use kernel_core::{Kernel, laws};
 use thiserror::Error;
 

@@ -1,28 +1,25 @@
 //! The replies of a replay, into a drain.
 
-ghost use Rattle.std.specs.Prelude.{◌≡◌, ◌<◌, ◌≤◌, length, take};
+ghost use Rattle.std.specs.Prelude.{◌≡◌, ◌+◌, ◌<◌, ◌≤◌, length, take};
 ghost use Rattle.words_core.specs.declared.event.Event.TheVariants as Event;
 ghost use Rattle.words_core.specs.declared.event.Command.TheVariants as Command;
 ghost use Rattle.words_core.specs.declared.reply.Reply.{Reply};
 ghost use Rattle.words_core.specs.declared.reply.Addressee.TheVariants as Addressee;
 ghost use Rattle.words_core.specs.declared.reply.Body.TheVariants as Body;
 ghost use Rattle.words_core.specs.declared.reply.Refusal.TheVariants.{NoTenant};
-ghost use Rattle.words_core.specs.Answers.{reply_of};
-ghost use Rattle.quick_core.specs.Quick.{reply_of_told, reply_of_bytes, reply_of_written};
+ghost use Rattle.words_core.specs.Requests.{reply_of_answer, HasFewBytes};
+ghost use Rattle.words_core.specs.Texts.{text_of};
 ghost use Rattle.kernel_core.specs.Steps.{Steps};
 ghost use Rattle.world_core.specs.Output.{is_shown, shown_text};
 ghost use Rattle.replay_core.specs.Pushes.{HasRoomToWrite, HasPushed, most_reply_bytes};
 ghost use Rattle.replay_core.specs.Shown.{HasShown};
 
-use crate::drain::Drain;
-use crate::feed::Stopped;
 use arrayvec::ArrayVec;
+use ends::{Drain, SHORT_BYTES, Stopped};
 use kernel_core::Kernel;
-use model_core::limits::MOST_BYTES;
-use quick_core::{MOST_BYTES_TEXT, Told, WINDOW, write_bytes, write_quick, write_written};
 use words_core::{
-    Addressee, AdminCommand, Answer, Body, LineFault, MOST_REPLY_BYTES, Refusal, Reply, rows,
-    write_answer, write_line,
+    Addressee, AdminCommand, Answer, Body, LineFault, MOST_ANSWER_BYTES, MOST_REPLY_BYTES, Refusal,
+    Reply, rows, write_answer, write_line,
 };
 
 /// The replies of a replay: those to one tenant alone are shown, or all, and the bytes that the drain took are counted.
@@ -58,17 +55,50 @@ impl Replies {
         }
     }
 
-    /// Pushes the answer to a tenant's command.
-    pub fn show_answer<D: Drain>(&mut self, answer: &Answer, drain: &mut D) -> Result<(), Stopped>
-        requires { HasRoomToWrite (D.has_failed drain.old) self.old.written most_reply_bytes }
+    /// Pushes what a tenant is answered, a short text at once where the drain has room at hand.
+    #[inline(always)]
+    pub fn show_answer<D: Drain>(
+        &mut self,
+        tenant: u8,
+        answer: Answer<'_>,
+        drain: &mut D,
+    ) -> Result<(), Stopped>
+        requires few { HasFewBytes answer }
+        requires room { HasRoomToWrite (D.has_failed drain.old) self.old.written most_reply_bytes }
         ensures { HasShown (D.contents drain.old) (D.contents drain.new) (D.has_failed drain.new)
-            (shown_text self.old.only (reply_of answer.now)) self.old self.new result }
+            (shown_text self.old.only (reply_of_answer tenant answer.entry)) self.old self.new result }
     {
-        if !self.is_shown(answer.addressee) {
+        if !self.is_shown(Addressee::Tenant(tenant)) {
             return Ok(());
         }
-        write_answer(answer, &mut self.line);
-        push_all(self.line.as_slice(), drain, &mut self.written)
+        match answer {
+            Answer::Bytes(_) | Answer::Cache { .. } => self.show_long(tenant, answer, drain),
+            _ => {
+                let mut text = [0; SHORT_BYTES];
+                let len = write_answer(tenant, answer, &mut text);
+                push_short(&text, len, drain, &mut self.written)
+            }
+        }
+    }
+
+    /// [`Replies::show_answer`] of a longer text; out of line, so that only it pays for its room.
+    #[inline(never)]
+    fn show_long<D: Drain>(
+        &mut self,
+        tenant: u8,
+        answer: Answer<'_>,
+        drain: &mut D,
+    ) -> Result<(), Stopped>
+        requires few { HasFewBytes answer }
+        requires room { HasRoomToWrite (D.has_failed drain.old) self.old.written most_reply_bytes }
+        ensures pushed { HasPushed (D.contents drain.old) (D.contents drain.new) (D.has_failed drain.new)
+            (text_of (reply_of_answer tenant answer.entry)) self.old.written self.new.written result }
+        ensures few { self.new.written ≤ self.old.written + most_reply_bytes }
+        ensures same { self.new.only ≡ self.old.only }
+    {
+        let mut text = [0; MOST_ANSWER_BYTES];
+        let len = write_answer(tenant, answer, &mut text);
+        push_all(&text[..len], drain, &mut self.written)
     }
 
     /// Pushes a reply, line by line.
@@ -156,88 +186,26 @@ impl Replies {
         };
         self.show(&reply, drain)
     }
+}
 
-    /// Pushes what a tenant is told.
-    #[inline(always)]
-    pub fn show_told<D: Drain>(
-        &mut self,
-        tenant: u8,
-        told: Told,
-        drain: &mut D,
-    ) -> Result<(), Stopped>
-        requires { HasRoomToWrite (D.has_failed drain.old) self.old.written most_reply_bytes }
-        ensures { HasShown (D.contents drain.old) (D.contents drain.new) (D.has_failed drain.new)
-            (shown_text self.old.only (reply_of_told tenant told)) self.old self.new result }
-    {
-        if !self.is_shown(Addressee::Tenant(tenant)) {
-            return Ok(());
-        }
-        let mut text = [0; WINDOW];
-        let len = write_quick(tenant, told, &mut text);
-        self.push_short(&text, len, drain)
+/// Pushes the first `len` bytes of a short text, at once where the drain has room at hand.
+#[inline(always)]
+fn push_short<D: Drain>(
+    text: &[u8; SHORT_BYTES],
+    len: usize,
+    drain: &mut D,
+    written: &mut u128,
+) -> Result<(), Stopped>
+    requires within { len ≤ SHORT_BYTES }
+    requires room { HasRoomToWrite (D.has_failed drain.old) written.old len }
+    ensures { HasPushed (D.contents drain.old) (D.contents drain.new) (D.has_failed drain.new)
+        (take len text.now) written.old written.new result }
+{
+    if drain.take_short(text, len) {
+        *written += len as u128;
+        return Ok(());
     }
-
-    /// Pushes the bytes that a tenant read.
-    #[inline(always)]
-    pub fn show_bytes<D: Drain>(
-        &mut self,
-        tenant: u8,
-        bytes: &[u8],
-        drain: &mut D,
-    ) -> Result<(), Stopped>
-        requires few { length bytes.now ≤ MOST_BYTES }
-        requires room { HasRoomToWrite (D.has_failed drain.old) self.old.written most_reply_bytes }
-        ensures { HasShown (D.contents drain.old) (D.contents drain.new) (D.has_failed drain.new)
-            (shown_text self.old.only (reply_of_bytes tenant bytes.now)) self.old self.new result }
-    {
-        if !self.is_shown(Addressee::Tenant(tenant)) {
-            return Ok(());
-        }
-        let mut text = [0; MOST_BYTES_TEXT];
-        let len = write_bytes(tenant, bytes, &mut text);
-        push_all(&text[..len], drain, &mut self.written)
-    }
-
-    /// Pushes to a tenant how many bytes it wrote.
-    #[inline(always)]
-    pub fn show_written<D: Drain>(
-        &mut self,
-        tenant: u8,
-        count: u32,
-        drain: &mut D,
-    ) -> Result<(), Stopped>
-        requires few { count < 1000 }
-        requires room { HasRoomToWrite (D.has_failed drain.old) self.old.written most_reply_bytes }
-        ensures { HasShown (D.contents drain.old) (D.contents drain.new) (D.has_failed drain.new)
-            (shown_text self.old.only (reply_of_written tenant count)) self.old self.new result }
-    {
-        if !self.is_shown(Addressee::Tenant(tenant)) {
-            return Ok(());
-        }
-        let mut text = [0; WINDOW];
-        let len = write_written(tenant, count, &mut text);
-        self.push_short(&text, len, drain)
-    }
-
-    /// Pushes the first `len` bytes of a short text, at once where the drain has room at hand.
-    #[inline(always)]
-    fn push_short<D: Drain>(
-        &mut self,
-        text: &[u8; WINDOW],
-        len: usize,
-        drain: &mut D,
-    ) -> Result<(), Stopped>
-        requires within { len ≤ WINDOW }
-        requires room { HasRoomToWrite (D.has_failed drain.old) self.old.written most_reply_bytes }
-        ensures { HasShown (D.contents drain.old) (D.contents drain.new) (D.has_failed drain.new)
-            (take len text.now) self.old self.new result }
-    {
-        if drain.take_short(text, len) {
-            self.written += len as u128;
-            return Ok(());
-        }
-        push_rest(&text[..len], drain, &mut self.written)
-    }
+    push_rest(&text[..len], drain, written)
 }
 
 /// [`push_all`] out of line, which keeps its loop out of the path of a text that is taken at once.

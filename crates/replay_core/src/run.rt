@@ -1,15 +1,18 @@
 //! Lines of a trace, run one after the other.
 
-ghost use Rattle.std.specs.Prelude.{◌≡◌, ℕ, List, [], Option, length, is_err, MatchResult};
+ghost use Rattle.std.specs.Prelude.{◌≡◌, ℕ, ◌+◌, ◌^◌, ◌<◌, List, [], ◌++◌, Option, length, is_err, IfOk, MatchResult};
+ghost use Rattle.words_core.specs.Grammar.{reading_of};
+ghost use Rattle.replay_core.specs.Pending.{HoldsLine, HoldsNothing};
 ghost use Rattle.parts_core.specs.Parts.{Parts};
 ghost use Rattle.replay_core.specs.Bounds.{IsBounded};
 
-use crate::drain::Drain;
-use crate::feed::Stopped;
 use crate::pending::{Pending, line_end};
+use crate::quick::read_alone;
 use crate::replaying::Tally;
 use crate::replies::Replies;
+use ends::{Drain, Stopped};
 use kernel_core::Kernel;
+use model_core::limits::MOST_BYTES;
 use words_core::{Event, LineFault};
 
 /// What a replay keeps from one line to the next: the counts of a [`Tally`], and the replies.
@@ -66,14 +69,65 @@ impl Run {
             (λ _. HasStopped only before kernel.new given start (D.contents drain.new) self.new) }
         ensures failed { D.has_failed drain.new ≡ is_err result }
     {
-        let mut rest = piece;
+        let mut rest = self.begin_piece(piece, pending, kernel, drain)?;
         'lines: while let Some(end) = line_end(rest) {
-            let reading = pending.end_with(&rest[..end]);
-            self.answer(reading, kernel, drain)?;
+            self.end_line(&rest[..end], pending, kernel, drain)?;
             rest = self.run_quick_lines(&rest[end + 1..], kernel, drain)?;
         }
         pending.add(rest);
         Ok(())
+    }
+
+    /// Runs the lines at the front of a piece that are read the short way, where no beginning of a line is pending, and answers the
+    /// rest of the piece.
+    fn begin_piece<'a, D: Drain>(
+        &mut self,
+        piece: &'a [u8],
+        pending: &Pending,
+        kernel: &mut Kernel,
+        drain: &mut D,
+    ) -> Result<&'a [u8], Stopped>
+        requires { IsReady (D.has_failed drain.old) self.old (length piece.now) }
+        ensures ran { (only : Option ℕ) (before : Parts) (given : List ℕ) (start : Option (List ℕ))
+            → Stands only before kernel.old given piece.now start (D.contents drain.old) pending.now self.old
+            → MatchResult result
+            (λ rest. Stands only before kernel.new given rest.now start (D.contents drain.new) pending.now self.new)
+            (λ _. HasStopped only before kernel.new given start (D.contents drain.new) self.new) }
+        ensures left { IfOk result (λ rest. self.new.lines + length rest.now < 2 ^ 64) }
+        ensures failed { D.has_failed drain.new ≡ is_err result }
+    {
+        if pending.is_empty() {
+            self.run_quick_lines(piece, kernel, drain)
+        } else {
+            Ok(piece)
+        }
+    }
+
+    /// Runs the line that ends with these bytes, counts it, and pushes what it shows. The next line begins.
+    fn end_line<D: Drain>(
+        &mut self,
+        bytes: &[u8],
+        pending: &mut Pending,
+        kernel: &mut Kernel,
+        drain: &mut D,
+    ) -> Result<(), Stopped>
+        requires { IsReady (D.has_failed drain.old) self.old 1 }
+        ensures answered { (line : List ℕ) → HoldsLine line pending.old
+            → HasAnswered (reading_of (line ++ bytes.now)) kernel.old kernel.new
+            (D.contents drain.old) (D.contents drain.new) (D.has_failed drain.new) self.old self.new result }
+        ensures cleared { (line : List ℕ) → HoldsLine line pending.old → HoldsLine [] pending.new }
+        ensures none_held { HoldsNothing pending.new }
+        ensures lines { self.new.lines ≡ self.old.lines + 1 }
+        ensures failed { D.has_failed drain.new ≡ is_err result }
+    {
+        if pending.is_empty() {
+            let mut room = [0; MOST_BYTES];
+            if let Some(read) = read_alone(bytes, &mut room) {
+                return self.answer_apart(read.tenant, read.request, kernel, drain);
+            }
+        }
+        let reading = pending.end_with(bytes);
+        self.answer(reading, kernel, drain)
     }
 
     /// Runs a line that was read so, counts it, and pushes what it shows.
@@ -88,21 +142,26 @@ impl Run {
         ensures { HasAnswered reading kernel.old kernel.new (D.contents drain.old) (D.contents drain.new) (D.has_failed drain.new)
             self.old self.new result }
     {
-        self.lines += 1;
         match reading {
-            Ok(None) => Ok(()),
-            Ok(Some(Event::Tenant(tenant, command))) => {
-                self.events += 1;
-                match kernel.ask(tenant, &command) {
-                    Some(answer) => self.replies.show_answer(&answer, drain),
-                    None => self.replies.report(tenant, kernel, drain),
+            Ok(Some(Event::Tenant(tenant, command))) => match command.request() {
+                Some(request) => self.answer_apart(tenant, request, kernel, drain),
+                None => {
+                    self.lines += 1;
+                    self.events += 1;
+                    self.replies.report(tenant, kernel, drain)
                 }
-            }
+            },
             Ok(Some(Event::Admin(command))) => {
+                self.lines += 1;
                 self.events += 1;
                 self.replies.administer(&command, kernel, drain)
             }
+            Ok(None) => {
+                self.lines += 1;
+                Ok(())
+            }
             Err(fault) => {
+                self.lines += 1;
                 self.faults += 1;
                 self.replies.show_fault(fault, drain)
             }

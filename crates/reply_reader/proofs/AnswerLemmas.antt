@@ -1,23 +1,21 @@
 -- An answer is what its whole text was read as.
-use Rattle.std.proofs.Common.{◌≡◌, ℕ, ◌^◌, ◌<◌, cond, List, [], ◌∷◌, ◌++◌, map, length, get_or, Option, Some, None, refl, sym, ◌∙◌, ap, arith, append_assoc, append-nil}
+use Rattle.std.proofs.Common.{◌≡◌, ℕ, ◌^◌, ◌<◌, cond, List, [], ◌∷◌, ◌++◌, map, get_or, Option, Some, None, refl, sym, subst, ◌∙◌, ap, arith, append_assoc, append-nil}
 use Rattle.std.specs.Prelude.{codes, decimal, nat_lt}
 use Rattle.std.specs.List.{concat}
 use Rattle.std.proofs.lemmas.Option.{same_Some, cond_some}
 use Rattle.hex.specs.Hex.{encode_lower}
 use Rattle.words_core.specs.Texts.{addressee_text, number_of_refusal, name_of_refusal, body_texts, text_of}
-use Rattle.words_core.specs.Answers.{body_of_said, reply_of}
-use Rattle.words_core.specs.declared.answer.Answer.{Answer}
-use Rattle.words_core.specs.declared.answer.Said.{Said}
-use Rattle.words_core.specs.declared.answer.Said.TheVariants.{Frame, Freed, Bytes, Written, Cache, Destroyed, Object, Given, Reaped, Refused}
+use Rattle.words_core.specs.declared.reply.Body.{Body}
+use Rattle.words_core.specs.declared.reply.Body.TheVariants.{Frame, Freed, Bytes, Written, Cache, Destroyed, Object, Given, Reaped, Refused}
 use Rattle.words_core.specs.declared.reply.Addressee.{Addressee}
 use Rattle.words_core.specs.declared.reply.Addressee.TheVariants.{Admin, Nobody, Tenant}
 use Rattle.words_core.specs.declared.reply.Reply.{Reply}
 use Rattle.reply_reader.specs.Ranges.{AddresseeFits, Fits}
 use Rattle.reply_reader.specs.Forms.{◌>>=◌, number_at, mark_at, form_at}
-use Rattle.reply_reader.specs.Reading.{made_at, ◌or_else◌, tenant_from, admin_of, nobody_of, tenant_at, admin_at, nobody_at, addressee_at, whole, said_at, answer_of}
+use Rattle.reply_reader.specs.Reading.{◌or_else◌, tenant_from, admin_of, nobody_of, tenant_at, admin_at, nobody_at, addressee_at, whole, said_at, answer_of}
 use Rattle.reply_reader.proofs.FormLemmas.{bind_some}
 use Rattle.reply_reader.proofs.KindLemmas.{kind_takes, kind_again, either, small_one, below}
-use Rattle.reply_reader.proofs.SaidLemmas.{spelled, said_takes, said_again}
+use Rattle.reply_reader.proofs.SaidLemmas.{spelled, IsAnswer, said_takes, said_again}
 
 tenant_takes : (text : List ℕ) (who : Addressee) (rest : List ℕ) → tenant_at text ≡ Some (who, rest) → text ≡ addressee_text who ++ rest
 unfolding tenant_at
@@ -87,53 +85,54 @@ line_of_five front a m b n c o d p e q =
     ∙ append_assoc (front ++ a) m (b ++ (n ++ (c ++ (o ++ (d ++ (p ++ (e ++ (q ++ 10 ∷ []))))))))
     ∙ append_assoc front a (m ++ (b ++ (n ++ (c ++ (o ++ (d ++ (p ++ (e ++ (q ++ 10 ∷ [])))))))))
 
-said_text : (front : List ℕ) (said : Said) → concat (map (λ text. text ++ 10 ∷ []) (body_texts front (body_of_said said))) ≡ front ++ spelled said
-said_text front (Frame n) = line_of_one front (codes "frame ") (decimal n)
-said_text front (Freed n) = line_of_one front (codes "freed ") (decimal n)
-said_text front (Bytes bytes) = line_of_one front (codes "bytes ") (encode_lower bytes.items)
-said_text front (Written n) = line_of_one front (codes "written ") (decimal n)
-said_text front (Cache cache chunk order objects colours) =
+said_text : (front : List ℕ) (said : Body) → IsAnswer said → concat (map (λ text. text ++ 10 ∷ []) (body_texts front said)) ≡ front ++ spelled said
+said_text front (Frame n) answers = line_of_one front (codes "frame ") (decimal n)
+said_text front (Freed n) answers = line_of_one front (codes "freed ") (decimal n)
+said_text front (Bytes bytes) answers = line_of_one front (codes "bytes ") (encode_lower bytes.items)
+said_text front (Written n) answers = line_of_one front (codes "written ") (decimal n)
+said_text front (Cache cache chunk order objects colours) answers =
     line_of_five front (codes "cache ") (decimal cache) (codes " chunk ") (decimal chunk) (codes " order ") (decimal order)
     (codes " objects ") (decimal objects) (codes " colours ") (decimal colours)
-said_text front (Destroyed n) = line_of_one front (codes "destroyed ") (decimal n)
-said_text front (Object n) = line_of_one front (codes "object ") (decimal n)
-said_text front Given = line front (codes "given")
-said_text front (Reaped n) = line_of_one front (codes "reaped ") (decimal n)
-said_text front (Refused refusal) =
+said_text front (Destroyed n) answers = line_of_one front (codes "destroyed ") (decimal n)
+said_text front (Object n) answers = line_of_one front (codes "object ") (decimal n)
+said_text front Given answers = line front (codes "given")
+said_text front (Reaped n) answers = line_of_one front (codes "reaped ") (decimal n)
+said_text front (Refused refusal) answers =
     line_of_two front (codes "refused ") (decimal (number_of_refusal refusal)) (codes " ") (name_of_refusal refusal)
     ∙ ap (λ t. front ++ (codes "refused " ++ t)) (sym (append_assoc (decimal (number_of_refusal refusal)) (codes " ") (name_of_refusal refusal ++ 10 ∷ [])))
+said_text front _ answers = absurd answers
 
-answer_text : (answer : Answer) → text_of (reply_of answer) ≡ addressee_text answer.addressee ++ spelled answer.said
-answer_text answer = said_text (addressee_text answer.addressee) answer.said
+answer_text : (reply : Reply) → IsAnswer reply.body → text_of reply ≡ addressee_text reply.addressee ++ spelled reply.body
+answer_text reply answers = said_text (addressee_text reply.addressee) reply.body answers
 
-abbrev pub alone_of : Addressee → Said × List ℕ → Option Answer
-alone_of who said = whole said >>= (λ alone. Some (record { addressee = who; said = alone }))
+abbrev pub alone_of : Addressee → Body × List ℕ → Option Reply
+alone_of who said = whole said >>= (λ alone. Some (record { addressee = who; body = alone }))
 
-abbrev pub said_of : Addressee × List ℕ → Option Answer
+abbrev pub said_of : Addressee × List ℕ → Option Reply
 said_of front = said_at front.1 >>= alone_of front.0
 
 -- what was read is the answer whose text it is
-pub answer_takes : (text : List ℕ) (answer : Answer) → answer_of text ≡ Some answer → text_of (reply_of answer) ≡ text
+pub answer_takes : (text : List ℕ) (reply : Reply) → answer_of text ≡ Some reply → text_of reply ≡ text
 unfolding answer_of
-answer_takes text answer e =
-    let (front, front_is, next) = bind_some (addressee_at text) said_of answer e in
-    let (said, said_is, rest_next) = bind_some (said_at front.1) (alone_of front.0) answer next in
-    let (alone, alone_is, last) = bind_some (whole said) (λ alone. Some (record { addressee = front.0; said = alone })) answer rest_next in
+answer_takes text reply e =
+    let (front, front_is, next) = bind_some (addressee_at text) said_of reply e in
+    let (said, said_is, rest_next) = bind_some (said_at front.1) (alone_of front.0) reply next in
+    let (alone, alone_is, last) = bind_some (whole said) (λ alone. Some (record { addressee = front.0; body = alone })) reply rest_next in
     let (same, ends) = whole_is said alone alone_is in
-    let made : Answer = record { addressee = front.0; said = alone } in
+    let (rest_is, answers) = said_takes front.1 said.0 said.1 said_is in
+    let made : Reply = record { addressee = front.0; body = alone } in
     let parts : text ≡ addressee_text front.0 ++ spelled alone =
     addressee_takes text front.0 front.1 front_is
-    ∙ ap (λ t. addressee_text front.0 ++ t)
-    (said_takes front.1 said.0 said.1 said_is ∙ (λ i. spelled (same i) ++ ends i) ∙ append-nil (spelled alone)) in
-    ap (λ answer. text_of (reply_of answer)) (sym (same_Some made answer last)) ∙ answer_text made ∙ sym parts
+    ∙ ap (λ t. addressee_text front.0 ++ t) (rest_is ∙ (λ i. spelled (same i) ++ ends i) ∙ append-nil (spelled alone)) in
+    ap text_of (sym (same_Some made reply last)) ∙ answer_text made (subst IsAnswer same answers) ∙ sym parts
 
 -- the text of an answer is read as it
-pub answer_again : (text : List ℕ) (answer : Answer) → Fits (reply_of answer) → text_of (reply_of answer) ≡ text → answer_of text ≡ Some answer
+pub answer_again : (text : List ℕ) (reply : Reply) → IsAnswer reply.body → Fits reply → text_of reply ≡ text → answer_of text ≡ Some reply
 unfolding answer_of
-answer_again text answer (who_fits, said_fits) text_is =
-    let who = answer.addressee in
-    let said = answer.said in
-    ap answer_of (sym text_is ∙ answer_text answer)
+answer_again text reply answers (who_fits, said_fits) text_is =
+    let who = reply.addressee in
+    let said = reply.body in
+    ap answer_of (sym text_is ∙ answer_text reply answers)
     ∙ ap (λ front. front >>= said_of) (addressee_again who (spelled said) who_fits)
     ∙ ap (λ t. said_at t >>= alone_of who) (sym (append-nil (spelled said)))
-    ∙ ap (λ found. found >>= alone_of who) (said_again said [] said_fits)
+    ∙ ap (λ found. found >>= alone_of who) (said_again said [] answers said_fits)

@@ -1,15 +1,15 @@
 -- What stands in a form is the text of the form, and is found again in it.
-use Rattle.std.proofs.Common.{rules, ◌≡◌, ℕ, zero, suc, ◌+◌, ◌-◌, ◌*◌, ◌^◌, ◌<◌, ◌≤◌, Bool, true, false, cond, not, ◌&&◌, nat_lt, List, [], ◌∷◌, ◌++◌, length, get_or, take, drop, fold, Option, Some, None, refl, sym, ◌∙◌, ap, subst, append-nil, append_assoc, arith, take-append-drop}
-use Rattle.std.specs.Prelude.{decimal, ◌==◌, take_while, count_by}
+use Rattle.std.proofs.Common.{rules, ◌≡◌, ℕ, zero, suc, ◌+◌, ◌-◌, ◌*◌, ◌^◌, ◌<◌, ◌≤◌, Bool, true, false, cond, not, ◌&&◌, List, [], ◌∷◌, ◌++◌, length, get_or, take, drop, fold, Option, Some, None, refl, sym, ◌∙◌, ap, subst, append_assoc, arith, take-append-drop}
+use Rattle.std.specs.Prelude.{decimal, ◌==◌, take_while}
 use Rattle.std.specs.List.{list_all, prefix_len, All}
 use Rattle.std.specs.Char.{is_ascii_digit}
 use Rattle.std.proofs.lemmas.Bool.Decides.{nat_tests}
 use Rattle.std.proofs.lemmas.Fmt.{decimal-digits_value, digits_decimal, digits_value-decimal, length-decimal-le, first_decimal, decimal_nonempty, decimal_digit}
 use Rattle.std.proofs.lemmas.Str.Parse.{IsNumeralModel, numerals_by_fold}
 use Rattle.std.proofs.lemmas.Option.{some_pair_parts, same_Some, cond_some}
-use Rattle.std.proofs.lemmas.List.{take_at, drop_at, length-take-le}
+use Rattle.std.proofs.lemmas.List.{take_at, drop_at}
 use Rattle.std.proofs.lemmas.List.Elements.{All-head, All-tail}
-use Rattle.words_core.specs.Numbers.{value_of, is_number, number_of}
+use Rattle.words_core.specs.Numbers.{value_of}
 use Rattle.reply_reader.specs.Forms.{◌>>=◌, plain_number, number_at, letter_at, mark_at, onto, form_at}
 use Rattle.reply_reader.proofs.FormLoop.{marks, first_mark, mark_is, letter_is}
 

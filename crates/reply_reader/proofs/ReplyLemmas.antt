@@ -1,8 +1,6 @@
 -- A reply is what its whole text was read as.
-use Rattle.std.proofs.Common.{◌≡◌, ℕ, List, [], ◌∷◌, ◌++◌, Option, Some, None, refl, sym, ◌∙◌, ap}
-use Rattle.std.specs.Option.{option_map}
+use Rattle.std.proofs.Common.{◌≡◌, ℕ, List, ◌++◌, Some, None, refl, sym, ◌∙◌, ap}
 use Rattle.words_core.specs.Texts.{addressee_text, text_of}
-use Rattle.words_core.specs.Answers.{reply_of}
 use Rattle.words_core.specs.declared.reply.Addressee.{Addressee}
 use Rattle.words_core.specs.declared.reply.Reply.{Reply}
 use Rattle.words_core.specs.declared.reply.Body.{Body}
@@ -14,7 +12,7 @@ use Rattle.reply_reader.specs.Single.{granted_at, taken_at, reset_at, moved_at, 
 use Rattle.reply_reader.specs.Tables.{table_of, reply_of_text}
 use Rattle.reply_reader.proofs.KindLemmas.{either, first_is}
 use Rattle.reply_reader.proofs.AnswerLemmas.{said_of, alone_of, addressee_again}
-use Rattle.reply_reader.proofs.SingleLemmas.{body_of, alone_reply, single_takes, single_again}
+use Rattle.reply_reader.proofs.SingleLemmas.{body_of, single_takes, single_again}
 use Rattle.reply_reader.proofs.TableLemmas.{report_lines, report_text, pool_lines, pool_text, table_takes, report_read_again, pool_read_again}
 
 -- what was read is the reply whose text it is
@@ -29,8 +27,8 @@ no_single text who lines fits is no_said no_body =
     let answers : answer_of text ≡ None =
     ap answer_of is ∙ ap (λ front. front >>= said_of) (addressee_again who lines fits) ∙ ap (λ found. found >>= alone_of who) no_said in
     let others : other_of text ≡ None =
-    ap other_of is ∙ ap (λ front. front >>= body_of) (addressee_again who lines fits) ∙ ap (λ found. found >>= alone_reply who) no_body in
-    (λ i. option_map reply_of (answers i) or_else others i)
+    ap other_of is ∙ ap (λ front. front >>= body_of) (addressee_again who lines fits) ∙ ap (λ found. found >>= alone_of who) no_body in
+    (λ i. answers i or_else others i)
 
 again : (text : List ℕ) (who : Addressee) (body : Body) → AddresseeFits who → BodyFits body
     → text_of (record { addressee = who; body = body }) ≡ text → reply_of_text text ≡ Some (record { addressee = who; body = body })

@@ -1,19 +1,19 @@
 -- Rows that are read are the rows that stand there, and rows are read again.
-use Rattle.std.proofs.Common.{◌≡◌, ℕ, zero, suc, ◌+◌, ◌^◌, ◌<◌, ◌≤◌, Bool, true, false, cond, List, [], ◌∷◌, ◌++◌, length, take, drop, get_or, Option, Some, None, refl, sym, ◌∙◌, ap, subst, arith, append-nil, append_assoc, take-append-drop, take_at, drop_at}
-use Rattle.std.specs.Prelude.{codes, nat_lt, ◌==◌, ◌&&◌, IfSome}
+use Rattle.std.proofs.Common.{◌≡◌, ℕ, zero, suc, ◌+◌, ◌^◌, ◌<◌, ◌≤◌, Bool, true, false, cond, List, [], ◌∷◌, ◌++◌, length, take, drop, get_or, Option, Some, None, refl, sym, ◌∙◌, ap, arith, append_assoc, take-append-drop, take_at, drop_at}
+use Rattle.std.specs.Prelude.{codes, nat_lt, ◌==◌, ◌&&◌}
 use Rattle.std.specs.List.{AllByRecursion}
 use Rattle.std.specs.Str.{bytes_eq}
-use Rattle.std.proofs.lemmas.Option.{some_pair_parts, same_Some, cond_some}
+use Rattle.std.proofs.lemmas.Option.{same_Some, cond_some}
 use Rattle.std.proofs.lemmas.Slice.Eq.{bytes_eq-Decides}
 use Rattle.model_core.specs.declared.owner.Owner.{Owner}
 use Rattle.model_core.specs.declared.report.OrderRow.{OrderRow}
 use Rattle.model_core.specs.declared.report.CacheRow.{CacheRow}
 use Rattle.reply_reader.specs.Ranges.{OwnerFits, OrderFits, CacheFits}
-use Rattle.reply_reader.specs.Forms.{◌>>=◌, number_at, mark_at, form_at}
+use Rattle.reply_reader.specs.Forms.{◌>>=◌, mark_at, form_at}
 use Rattle.reply_reader.specs.Reading.{made_at, ◌or_else◌}
 use Rattle.reply_reader.specs.Tables.{after_front, then_rows, rows_from, order_row_of, order_at, cache_row_of, cache_row_at, unowned_of, owned_of, unowned_at, owned_at, owner_of, owner_at}
 use Rattle.reply_reader.proofs.FormLemmas.{bind_some, same_byte, itself, form_text, form_takes, form_again}
-use Rattle.reply_reader.proofs.KindLemmas.{kind_takes, kind_again, either, first_is, two, three, five, small_one, small_more, below}
+use Rattle.reply_reader.proofs.KindLemmas.{kind_takes, kind_again, either, two, three, five, small_one, small_more, below}
 
 -- the rows as they stand, the first of this index
 abbrev pub shown : {A : Type 0} → (ℕ → A → List ℕ) → ℕ → List A → List ℕ

@@ -1,5 +1,5 @@
 -- Rows, one after the other.
-use Rattle.std.proofs.Common.{◌≡◌, ℕ, zero, suc, ◌+◌, List, [], ◌∷◌, ◌++◌, Option, Some, None, refl, sym, ◌∙◌, ap, append-nil, append_assoc}
+use Rattle.std.proofs.Common.{◌≡◌, ℕ, suc, ◌+◌, List, [], ◌∷◌, ◌++◌, Option, Some, None, sym, ◌∙◌, ap, append-nil, append_assoc}
 use Rattle.reply_reader.specs.Tables.{then_rows, rows_from}
 
 abbrev paired : {A : Type 0} → List A → List ℕ → List A × List ℕ

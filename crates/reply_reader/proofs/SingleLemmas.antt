@@ -1,14 +1,9 @@
 -- A reply of one line is what its whole text was read as.
-use Rattle.std.proofs.Common.{◌≡◌, subst, ℕ, ◌^◌, ◌<◌, cond, List, [], ◌∷◌, ◌++◌, map, length, get_or, Option, Some, None, refl, sym, ◌∙◌, ap, arith, append_assoc, append-nil}
+use Rattle.std.proofs.Common.{◌≡◌, subst, ℕ, ◌^◌, ◌<◌, cond, List, [], ◌∷◌, ◌++◌, map, get_or, Option, Some, None, refl, sym, ◌∙◌, ap, arith, append_assoc, append-nil}
 use Rattle.std.specs.Prelude.{codes, decimal, nat_lt, ◌&&◌}
 use Rattle.std.specs.List.{concat}
-use Rattle.std.specs.Option.{option_map}
 use Rattle.std.proofs.lemmas.Option.{some_pair_parts, same_Some, cond_some}
 use Rattle.words_core.specs.Texts.{addressee_text, name_of_fault, body_texts, text_of}
-use Rattle.words_core.specs.Answers.{body_of_said, reply_of}
-use Rattle.words_core.specs.declared.answer.Answer.{Answer}
-use Rattle.words_core.specs.declared.answer.Said.{Said}
-use Rattle.words_core.specs.declared.answer.Said.TheVariants as Tell
 use Rattle.words_core.specs.declared.event.LineFault.{LineFault}
 use Rattle.words_core.specs.declared.event.LineFault.TheVariants.{Long, Unknown, Words, Number, Hex}
 use Rattle.words_core.specs.declared.reply.Addressee.{Addressee}
@@ -16,13 +11,13 @@ use Rattle.words_core.specs.declared.reply.Reply.{Reply}
 use Rattle.words_core.specs.declared.reply.Body.{Body}
 use Rattle.words_core.specs.declared.reply.Body.TheVariants.{Granted, TakenBack, WasReset, Moved, Owners, Frame, Freed, Bytes, Written, Cache, Destroyed, Object, Given, Reaped, Report, Refused, Fault}
 use Rattle.reply_reader.specs.Ranges.{AddresseeFits, BodyFits, Fits, IsSingle}
-use Rattle.reply_reader.specs.Forms.{◌>>=◌, number_at, mark_at, form_at}
-use Rattle.reply_reader.specs.Reading.{made_at, ◌or_else◌, addressee_at, tenant_at, whole, said_at, written_at, bytes_at, frame_at, freed_at, object_at, given_at, refused_at, cache_at, destroyed_at, reaped_at, answer_of}
+use Rattle.reply_reader.specs.Forms.{◌>>=◌, mark_at, form_at}
+use Rattle.reply_reader.specs.Reading.{◌or_else◌, addressee_at, whole, said_at, written_at, bytes_at, frame_at, freed_at, object_at, given_at, refused_at, cache_at, destroyed_at, reaped_at, answer_of}
 use Rattle.reply_reader.specs.Single.{granted_of, taken_back_of, reset_of, moved_of, granted_at, taken_at, reset_at, moved_at, fault_at, some_fault_at, body_at, other_of, single_of}
 use Rattle.reply_reader.proofs.FormLemmas.{bind_some, form_text, form_takes}
 use Rattle.reply_reader.proofs.KindLemmas.{kind_takes_with, kind_again, either, two, three, small_one, small_more, below}
-use Rattle.reply_reader.proofs.SaidLemmas.{ended_again}
-use Rattle.reply_reader.proofs.AnswerLemmas.{said_of, alone_of, addressee_takes, addressee_again, whole_is, line, line_of_one, line_of_two, answer_takes, answer_again}
+use Rattle.reply_reader.proofs.SaidLemmas.{IsAnswer}
+use Rattle.reply_reader.proofs.AnswerLemmas.{said_of, alone_of, addressee_takes, addressee_again, whole_is, line_of_one, line_of_two, answer_takes, answer_again}
 
 -- how the bodies that are no answers are spelled
 abbrev pub told : Body → List ℕ
@@ -201,17 +196,14 @@ told_text front (Moved a b c) other = line_of_three front (codes "moved ") (deci
 told_text front (Fault fault) other = line_of_one front (codes "fault ") (name_of_fault fault)
 told_text front _ other = absurd other
 
-abbrev pub alone_reply : Addressee → Body × List ℕ → Option Reply
-alone_reply who body = whole body >>= (λ alone. Some (record { addressee = who; body = alone }))
-
 abbrev pub body_of : Addressee × List ℕ → Option Reply
-body_of front = body_at front.1 >>= alone_reply front.0
+body_of front = body_at front.1 >>= alone_of front.0
 
 other_takes : (text : List ℕ) (reply : Reply) → other_of text ≡ Some reply → text_of reply ≡ text
 unfolding other_of
 other_takes text reply e =
     let (front, front_is, next) = bind_some (addressee_at text) body_of reply e in
-    let (body, body_is, rest_next) = bind_some (body_at front.1) (alone_reply front.0) reply next in
+    let (body, body_is, rest_next) = bind_some (body_at front.1) (alone_of front.0) reply next in
     let (alone, alone_is, last) = bind_some (whole body) (λ alone. Some (record { addressee = front.0; body = alone })) reply rest_next in
     let (same, ends) = whole_is body alone alone_is in
     let (rest_is, other) = body_takes front.1 body.0 body.1 body_is in
@@ -228,20 +220,16 @@ other_again text reply other (who_fits, body_fits) text_is =
     let body = reply.body in
     ap other_of (sym text_is ∙ told_text (addressee_text who) body other)
     ∙ ap (λ front. front >>= body_of) (addressee_again who (told body) who_fits)
-    ∙ ap (λ t. body_at t >>= alone_reply who) (sym (append-nil (told body)))
-    ∙ ap (λ found. found >>= alone_reply who) (body_again body [] other body_fits)
+    ∙ ap (λ t. body_at t >>= alone_of who) (sym (append-nil (told body)))
+    ∙ ap (λ found. found >>= alone_of who) (body_again body [] other body_fits)
 
 -- ---- answers and the others
-
-from_answer : (text : List ℕ) (answer : Option Answer) (reply : Reply) → answer_of text ≡ answer → option_map reply_of answer ≡ Some reply → text_of reply ≡ text
-from_answer text (Some answer) reply is e = ap text_of (sym (same_Some (reply_of answer) reply e)) ∙ answer_takes text answer is
-from_answer text None reply is e = absurd cc
 
 -- what was read is the reply whose text it is
 pub single_takes : (text : List ℕ) (reply : Reply) → single_of text ≡ Some reply → text_of reply ≡ text
 unfolding single_of
 single_takes text reply e =
-    either (option_map reply_of (answer_of text)) (other_of text) reply e (from_answer text (answer_of text) reply refl) (other_takes text reply)
+    either (answer_of text) (other_of text) reply e (answer_takes text reply) (other_takes text reply)
 
 said_none : (body : Body) (rest : List ℕ) → IsOther body → said_at (told body ++ rest) ≡ None
 unfolding said_at written_at bytes_at frame_at freed_at object_at given_at refused_at cache_at destroyed_at reaped_at form_at mark_at
@@ -262,15 +250,14 @@ no_answer text reply other who_fits text_is =
     ∙ ap (λ t. said_at t >>= alone_of who) (sym (append-nil (told body)))
     ∙ ap (λ found. found >>= alone_of who) (said_none body [] other)
 
-again_answer : (text : List ℕ) (answer : Answer) → Fits (reply_of answer) → text_of (reply_of answer) ≡ text → single_of text ≡ Some (reply_of answer)
+again_answer : (text : List ℕ) (reply : Reply) → IsAnswer reply.body → Fits reply → text_of reply ≡ text → single_of text ≡ Some reply
 unfolding single_of
-again_answer text answer fits text_is =
-    ap (λ found. option_map reply_of found or_else other_of text) (answer_again text answer fits text_is)
+again_answer text reply answers fits text_is = ap (λ found. found or_else other_of text) (answer_again text reply answers fits text_is)
 
 again_other : (text : List ℕ) (reply : Reply) → IsOther reply.body → Fits reply → text_of reply ≡ text → single_of text ≡ Some reply
 unfolding single_of
 again_other text reply other fits text_is =
-    ap (λ found. option_map reply_of found or_else other_of text) (no_answer text reply other fits.0 text_is)
+    ap (λ found. found or_else other_of text) (no_answer text reply other fits.0 text_is)
     ∙ other_again text reply other fits text_is
 
 again : (text : List ℕ) (who : Addressee) (body : Body) → IsSingle body → AddresseeFits who → BodyFits body
@@ -280,16 +267,16 @@ again text who (TakenBack a) single who_fits fits is = again_other text (record 
 again text who (WasReset a b) single who_fits fits is = again_other text (record { addressee = who; body = WasReset a b }) tt (who_fits, fits) is
 again text who (Moved a b c) single who_fits fits is = again_other text (record { addressee = who; body = Moved a b c }) tt (who_fits, fits) is
 again text who (Fault fault) single who_fits fits is = again_other text (record { addressee = who; body = Fault fault }) tt (who_fits, fits) is
-again text who (Frame n) single who_fits fits is = again_answer text (record { addressee = who; said = Tell.Frame n }) (who_fits, fits) is
-again text who (Freed n) single who_fits fits is = again_answer text (record { addressee = who; said = Tell.Freed n }) (who_fits, fits) is
-again text who (Bytes bytes) single who_fits fits is = again_answer text (record { addressee = who; said = Tell.Bytes bytes }) (who_fits, fits) is
-again text who (Written n) single who_fits fits is = again_answer text (record { addressee = who; said = Tell.Written n }) (who_fits, fits) is
-again text who (Cache a b c d e) single who_fits fits is = again_answer text (record { addressee = who; said = Tell.Cache a b c d e }) (who_fits, fits) is
-again text who (Destroyed n) single who_fits fits is = again_answer text (record { addressee = who; said = Tell.Destroyed n }) (who_fits, fits) is
-again text who (Object n) single who_fits fits is = again_answer text (record { addressee = who; said = Tell.Object n }) (who_fits, fits) is
-again text who Given single who_fits fits is = again_answer text (record { addressee = who; said = Tell.Given }) (who_fits, fits) is
-again text who (Reaped n) single who_fits fits is = again_answer text (record { addressee = who; said = Tell.Reaped n }) (who_fits, fits) is
-again text who (Refused refusal) single who_fits fits is = again_answer text (record { addressee = who; said = Tell.Refused refusal }) (who_fits, fits) is
+again text who (Frame n) single who_fits fits is = again_answer text (record { addressee = who; body = Frame n }) tt (who_fits, fits) is
+again text who (Freed n) single who_fits fits is = again_answer text (record { addressee = who; body = Freed n }) tt (who_fits, fits) is
+again text who (Bytes bytes) single who_fits fits is = again_answer text (record { addressee = who; body = Bytes bytes }) tt (who_fits, fits) is
+again text who (Written n) single who_fits fits is = again_answer text (record { addressee = who; body = Written n }) tt (who_fits, fits) is
+again text who (Cache a b c d e) single who_fits fits is = again_answer text (record { addressee = who; body = Cache a b c d e }) tt (who_fits, fits) is
+again text who (Destroyed n) single who_fits fits is = again_answer text (record { addressee = who; body = Destroyed n }) tt (who_fits, fits) is
+again text who (Object n) single who_fits fits is = again_answer text (record { addressee = who; body = Object n }) tt (who_fits, fits) is
+again text who Given single who_fits fits is = again_answer text (record { addressee = who; body = Given }) tt (who_fits, fits) is
+again text who (Reaped n) single who_fits fits is = again_answer text (record { addressee = who; body = Reaped n }) tt (who_fits, fits) is
+again text who (Refused refusal) single who_fits fits is = again_answer text (record { addressee = who; body = Refused refusal }) tt (who_fits, fits) is
 again text who (Owners owners) single who_fits fits is = absurd single
 again text who (Report report) single who_fits fits is = absurd single
 

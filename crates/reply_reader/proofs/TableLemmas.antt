@@ -1,5 +1,5 @@
 -- A report or a table of owners is what its whole text was read as.
-use Rattle.std.proofs.Common.{◌≡◌, ℕ, zero, suc, ◌+◌, ◌-◌, ◌^◌, ◌<◌, ◌≤◌, Bool, true, false, cond, List, [], ◌∷◌, ◌++◌, map, length, take, drop, get_or, Option, Some, None, refl, sym, ◌∙◌, ap, subst, arith, append-nil, append_assoc, length-append, take_at}
+use Rattle.std.proofs.Common.{◌≡◌, ℕ, ◌+◌, ◌-◌, ◌^◌, ◌<◌, ◌≤◌, Bool, true, false, cond, List, [], ◌∷◌, ◌++◌, map, length, take, drop, get_or, Option, Some, None, refl, sym, ◌∙◌, ap, arith, append-nil, append_assoc, length-append, take_at}
 use Rattle.std.proofs.Math.Seq.{drop-nil}
 use Rattle.std.proofs.lemmas.List.Sums.{count_by-le-length}
 use Rattle.arrayvec.specs.ArrayVec.{ArrayVec}
@@ -17,7 +17,7 @@ use Rattle.words_core.specs.declared.reply.Addressee.{Addressee}
 use Rattle.words_core.specs.declared.reply.Reply.{Reply}
 use Rattle.words_core.specs.declared.reply.Body.{Body}
 use Rattle.words_core.specs.declared.reply.Body.TheVariants as Say
-use Rattle.reply_reader.specs.Ranges.{AddresseeFits, OwnerFits, OrderFits, CacheFits, ReportFits, BodyFits, Fits}
+use Rattle.reply_reader.specs.Ranges.{AddresseeFits, OwnerFits, OrderFits, CacheFits, ReportFits}
 use Rattle.reply_reader.specs.Forms.{◌>>=◌, number_at, mark_at, form_at}
 use Rattle.reply_reader.specs.Reading.{made_at, ◌or_else◌, addressee_at, whole}
 use Rattle.reply_reader.specs.Tables.{after_front, rows_from, order_row_of, order_at, cache_row_of, cache_row_at, top_of, no_top_of, top_at, no_top_at, some_top_at, report_at, owner_of, owner_at, pool_at, table_of}

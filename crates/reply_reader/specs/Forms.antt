@@ -1,5 +1,5 @@
 -- Forms: texts in which each `#` stands for a number.
-use Rattle.std.specs.Prelude.{◌≡◌, ℕ, ◌==◌, ◌&&◌, List, [], ◌∷◌, ◌++◌, length, take, drop, take_while, slice_index, nat_lt, if◌then◌else◌, Option, Some, None, decimal}
+use Rattle.std.specs.Prelude.{◌≡◌, ℕ, ◌==◌, ◌&&◌, List, [], ◌∷◌, length, take, drop, take_while, slice_index, nat_lt, if◌then◌else◌, Option, Some, None}
 use Rattle.std.specs.Char.{is_ascii_digit}
 use Rattle.words_core.specs.Numbers.{number_of}
 

@@ -1,5 +1,5 @@
 -- What the types of a reply have room for.
-use Rattle.std.specs.Prelude.{ℕ, ◌^◌, ◌<◌, ◌≤◌, List, length, Option, Some, None, IfSome}
+use Rattle.std.specs.Prelude.{◌^◌, ◌<◌, ◌≤◌, length, Option, Some, None, IfSome}
 use Rattle.std.specs.List.{AllByRecursion}
 use Rattle.model_core.specs.declared.limits.TheConstants.{MOST_BYTES}
 use Rattle.model_core.specs.declared.owner.Owner.{Owner}

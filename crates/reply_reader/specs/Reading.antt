@@ -1,16 +1,15 @@
 -- Reading a reply from left to right: the first form that stands at the front says what it is.
-use Rattle.std.specs.Prelude.{ℕ, ◌*◌, ◌^◌, ◌==◌, ◌&&◌, ◌||◌, List, [], ◌∷◌, ◌++◌, codes, length, take, drop, take_while, not, find, slice_index, nat_lt, nat_le, if◌then◌else◌, Option, Some, None, Result, Ok, Err}
+use Rattle.std.specs.Prelude.{ℕ, ◌*◌, ◌^◌, ◌==◌, ◌&&◌, List, [], ◌∷◌, codes, length, take, drop, take_while, not, find, slice_index, nat_lt, nat_le, if◌then◌else◌, Option, Some, None, Result, Ok, Err}
 use Rattle.std.specs.Str.{bytes_eq}
-use Rattle.arrayvec.specs.ArrayVec.{ArrayVec}
 use Rattle.hex.specs.Hex.{decode_of, encode_lower}
 use Rattle.hex.specs.declared.error.FromHexError.{FromHexError}
 use Rattle.model_core.specs.declared.limits.TheConstants.{MOST_BYTES}
-use Rattle.words_core.specs.declared.answer.Answer.{Answer}
-use Rattle.words_core.specs.declared.answer.Said.{Said}
-use Rattle.words_core.specs.declared.answer.Said.TheVariants.{Frame, Freed, Bytes, Written, Cache, Destroyed, Object, Given, Reaped, Refused}
 use Rattle.words_core.specs.declared.reply.Addressee.{Addressee}
 use Rattle.words_core.specs.declared.reply.Addressee.TheVariants.{Admin, Nobody, Tenant}
+use Rattle.words_core.specs.declared.reply.Body.{Body}
+use Rattle.words_core.specs.declared.reply.Body.TheVariants.{Frame, Freed, Bytes, Written, Cache, Destroyed, Object, Given, Reaped, Refused}
 use Rattle.words_core.specs.declared.reply.Refusal.{Refusal}
+use Rattle.words_core.specs.declared.reply.Reply.{Reply}
 use Rattle.words_core.specs.Texts.{number_of_refusal, name_of_refusal}
 use Rattle.reply_reader.specs.declared.said.TheConstants.{REFUSALS}
 use Rattle.reply_reader.specs.Forms.{◌>>=◌, form_at}
@@ -30,62 +29,62 @@ None or_else other = other
 
 -- ---- what is said to a tenant
 
-abbrev pub frame_of : List ℕ → Option Said
+abbrev pub frame_of : List ℕ → Option Body
 frame_of ns = Some (Frame (slice_index ns 0))
 
-abbrev pub freed_of : List ℕ → Option Said
+abbrev pub freed_of : List ℕ → Option Body
 freed_of ns = if nat_lt (slice_index ns 0) (2 ^ 8) then Some (Freed (slice_index ns 0)) else None
 
-abbrev pub written_of : List ℕ → Option Said
+abbrev pub written_of : List ℕ → Option Body
 written_of ns = Some (Written (slice_index ns 0))
 
-abbrev pub cache_from : List ℕ → Option Said
+abbrev pub cache_from : List ℕ → Option Body
 cache_from ns =
     if nat_lt (slice_index ns 0) (2 ^ 8) && nat_lt (slice_index ns 2) (2 ^ 8)
     then Some (Cache (slice_index ns 0) (slice_index ns 1) (slice_index ns 2) (slice_index ns 3) (slice_index ns 4))
     else None
 
-abbrev pub destroyed_of : List ℕ → Option Said
+abbrev pub destroyed_of : List ℕ → Option Body
 destroyed_of ns = Some (Destroyed (slice_index ns 0))
 
-abbrev pub object_of : List ℕ → Option Said
+abbrev pub object_of : List ℕ → Option Body
 object_of ns = Some (Object (slice_index ns 0))
 
-abbrev pub given_of : List ℕ → Option Said
+abbrev pub given_of : List ℕ → Option Body
 given_of ns = Some Given
 
-abbrev pub reaped_of : List ℕ → Option Said
+abbrev pub reaped_of : List ℕ → Option Body
 reaped_of ns = Some (Reaped (slice_index ns 0))
 
-unfoldable pub frame_at : List ℕ → Option (Said × List ℕ)
+unfoldable pub frame_at : List ℕ → Option (Body × List ℕ)
 frame_at text = made_at (codes "frame #\n") frame_of text
 
-unfoldable pub freed_at : List ℕ → Option (Said × List ℕ)
+unfoldable pub freed_at : List ℕ → Option (Body × List ℕ)
 freed_at text = made_at (codes "freed #\n") freed_of text
 
-unfoldable pub written_at : List ℕ → Option (Said × List ℕ)
+unfoldable pub written_at : List ℕ → Option (Body × List ℕ)
 written_at text = made_at (codes "written #\n") written_of text
 
-unfoldable pub cache_at : List ℕ → Option (Said × List ℕ)
+unfoldable pub cache_at : List ℕ → Option (Body × List ℕ)
 cache_at text = made_at (codes "cache # chunk # order # objects # colours #\n") cache_from text
 
-unfoldable pub destroyed_at : List ℕ → Option (Said × List ℕ)
+unfoldable pub destroyed_at : List ℕ → Option (Body × List ℕ)
 destroyed_at text = made_at (codes "destroyed #\n") destroyed_of text
 
-unfoldable pub object_at : List ℕ → Option (Said × List ℕ)
+unfoldable pub object_at : List ℕ → Option (Body × List ℕ)
 object_at text = made_at (codes "object #\n") object_of text
 
-unfoldable pub given_at : List ℕ → Option (Said × List ℕ)
+unfoldable pub given_at : List ℕ → Option (Body × List ℕ)
 given_at text = made_at (codes "given\n") given_of text
 
-unfoldable pub reaped_at : List ℕ → Option (Said × List ℕ)
+unfoldable pub reaped_at : List ℕ → Option (Body × List ℕ)
 reaped_at text = made_at (codes "reaped #\n") reaped_of text
 
 -- the refusal of this number
 abbrev pub refusal_of : ℕ → Option Refusal
 refusal_of number = find (λ refusal. number_of_refusal refusal == number) REFUSALS
 
-unfoldable pub refused_at : List ℕ → Option (Said × List ℕ)
+unfoldable pub refused_at : List ℕ → Option (Body × List ℕ)
 refused_at text = do
   found ← form_at (codes "refused # ") text
   refusal ← refusal_of (slice_index found.0 0)
@@ -94,23 +93,23 @@ refused_at text = do
   Some (Refused refusal, ended.1)
 
 -- the bytes that a word is in hex, in lower case: written again they are that word
-abbrev pub bytes_again : List ℕ → Result (List ℕ) FromHexError → Option (ArrayVec ℕ)
-bytes_again word (Ok bytes) = if bytes_eq (encode_lower bytes) word then Some (record { items = bytes }) else None
+abbrev pub bytes_again : List ℕ → Result (List ℕ) FromHexError → Option (List ℕ)
+bytes_again word (Ok bytes) = if bytes_eq (encode_lower bytes) word then Some bytes else None
 bytes_again word (Err e) = None
 
-unfoldable pub bytes_of : List ℕ → Option (ArrayVec ℕ)
+unfoldable pub bytes_of : List ℕ → Option (List ℕ)
 bytes_of word = if nat_le (length word) (2 * MOST_BYTES) then bytes_again word (decode_of word) else None
 
-unfoldable pub bytes_at : List ℕ → Option (Said × List ℕ)
+unfoldable pub bytes_at : List ℕ → Option (Body × List ℕ)
 bytes_at text = do
   found ← form_at (codes "bytes ") text
   let size = length (take_while (λ b. not (b == 10)) found.1)
   bytes ← bytes_of (take size found.1)
   ended ← form_at (codes "\n") (drop size found.1)
-  Some (Bytes bytes, ended.1)
+  Some (Bytes (record { items = bytes }), ended.1)
 
 -- what is said, and what follows it
-unfoldable pub said_at : List ℕ → Option (Said × List ℕ)
+unfoldable pub said_at : List ℕ → Option (Body × List ℕ)
 said_at text =
     written_at text or_else bytes_at text or_else frame_at text or_else freed_at text or_else object_at text or_else given_at text
     or_else refused_at text or_else cache_at text or_else destroyed_at text or_else reaped_at text
@@ -139,16 +138,16 @@ nobody_at text = made_at (codes "!> ") nobody_of text
 unfoldable pub addressee_at : List ℕ → Option (Addressee × List ℕ)
 addressee_at text = tenant_at text or_else admin_at text or_else nobody_at text
 
--- ---- an answer, the whole text
+-- ---- an answer to a tenant's command, the whole text
 
 -- what was found, if nothing follows it
 abbrev pub whole : {A : Type 0} → A × List ℕ → Option A
 whole (found, []) = Some found
 whole (found, _ ∷ _) = None
 
-unfoldable pub answer_of : List ℕ → Option Answer
+unfoldable pub answer_of : List ℕ → Option Reply
 answer_of text = do
   front ← addressee_at text
   said ← said_at front.1
   alone ← whole said
-  Some (record { addressee = front.0; said = alone })
+  Some (record { addressee = front.0; body = alone })

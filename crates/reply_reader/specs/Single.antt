@@ -1,14 +1,11 @@
 -- Reading a reply of one line that no tenant's command is answered with: what is said to the administrator, and faults.
-use Rattle.std.specs.Prelude.{ℕ, ◌^◌, ◌&&◌, List, [], ◌∷◌, codes, slice_index, nat_lt, if◌then◌else◌, Option, Some, None}
-use Rattle.std.specs.Option.{option_map}
-use Rattle.words_core.specs.Answers.{reply_of}
+use Rattle.std.specs.Prelude.{ℕ, ◌^◌, ◌&&◌, List, codes, slice_index, nat_lt, if◌then◌else◌, Option, Some, None}
 use Rattle.words_core.specs.Texts.{name_of_fault}
 use Rattle.words_core.specs.declared.event.LineFault.{LineFault}
 use Rattle.words_core.specs.declared.event.LineFault.TheVariants.{Long, Unknown, Words, Number, Hex}
-use Rattle.words_core.specs.declared.reply.Addressee.{Addressee}
 use Rattle.words_core.specs.declared.reply.Reply.{Reply}
 use Rattle.words_core.specs.declared.reply.Body.{Body}
-use Rattle.words_core.specs.declared.reply.Body.TheVariants.{Granted, TakenBack, WasReset, Moved, Owners, Report, Fault}
+use Rattle.words_core.specs.declared.reply.Body.TheVariants.{Granted, TakenBack, WasReset, Moved, Fault}
 use Rattle.reply_reader.specs.Forms.{◌>>=◌, form_at}
 use Rattle.reply_reader.specs.Reading.{made_at, ◌or_else◌, addressee_at, whole, answer_of}
 
@@ -68,4 +65,4 @@ other_of text = do
 
 -- a reply of one line
 unfoldable pub single_of : List ℕ → Option Reply
-single_of text = option_map reply_of (answer_of text) or_else other_of text
+single_of text = answer_of text or_else other_of text

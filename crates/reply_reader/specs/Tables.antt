@@ -7,7 +7,6 @@ use Rattle.model_core.specs.declared.report.CacheRow.{CacheRow}
 use Rattle.words_core.specs.declared.report.TheConstants.{ORDERS, CACHES}
 use Rattle.words_core.specs.declared.reply.TheConstants.{OWNERS}
 use Rattle.words_core.specs.declared.report.Report.{Report}
-use Rattle.words_core.specs.declared.reply.Addressee.{Addressee}
 use Rattle.words_core.specs.declared.reply.Reply.{Reply}
 use Rattle.words_core.specs.declared.reply.Body.{Body}
 use Rattle.words_core.specs.declared.reply.Body.TheVariants as Say

@@ -1,16 +1,13 @@
 //! Answers: the replies to a tenant's commands other than `report`.
 
-ghost use Rattle.std.specs.Prelude.{◌≡◌, Some, IfSome};
-ghost use Rattle.words_core.specs.Texts.{text_of};
-ghost use Rattle.words_core.specs.Answers.{reply_of};
-ghost use Rattle.words_core.specs.declared.answer.Answer.{Answer as AnswerValue};
-ghost use Rattle.reply_reader.specs.Ranges.{Fits};
+ghost use Rattle.std.specs.Prelude.{◌≡◌};
 ghost use Rattle.reply_reader.specs.Forms.{Gives};
 ghost use Rattle.reply_reader.specs.Reading.{addressee_at, tenant_at, admin_at, nobody_at, answer_of};
 
 use crate::form::form_at;
 use crate::said::said_at;
-use words_core::{Addressee, Answer};
+use model_core::limits::MOST_BYTES;
+use words_core::{Addressee, Reply};
 
 /// Whom a line is for, as it says at its head, and what follows that.
 #[tactic(auto, unfolding(crate::specs::Reading::addressee_at))]
@@ -50,24 +47,20 @@ fn nobody_at(text: &[u8]) -> Option<(Addressee, &[u8])>
     Some((Addressee::Nobody, rest))
 }
 
-/// The answer whose whole text the bytes are: one line with its line feed. `None` where there is no such answer.
-pub fn read_answer(text: &[u8]) -> Option<Answer>
-    // What is read has this text.
-    ensures found { IfSome result (λ answer. text_of (reply_of answer) ≡ text.now) }
-    // What has this text is read, and nothing else.
-    ensures only { (answer : AnswerValue) → Fits (reply_of answer) → text_of (reply_of answer) ≡ text.now → result ≡ Some answer }
-{
-    answer_of(text)
-}
-
+/// The reply to a tenant's command other than `report` whose whole text the bytes are: one line with its line feed. `None` where
+/// there is no such reply.
 #[tactic(auto, unfolding(crate::specs::Reading::answer_of))]
-pub fn answer_of(text: &[u8]) -> Option<Answer>
+pub fn answer_of(text: &[u8]) -> Option<Reply>
     ensures { result ≡ answer_of text.now }
 {
     let (addressee, rest) = addressee_at(text)?;
-    let (said, rest) = said_at(rest)?;
+    let mut room = [0; MOST_BYTES];
+    let (answer, rest) = said_at(rest, &mut room)?;
     match rest {
-        [] => Some(Answer { addressee, said }),
+        [] => Some(Reply {
+            addressee,
+            body: answer.into_body(),
+        }),
         _ => None,
     }
 }

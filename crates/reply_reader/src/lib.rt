@@ -10,6 +10,5 @@ mod said;
 mod single;
 mod table;
 
-pub use answer::read_answer;
 pub use single::read_single;
 pub use table::read_reply;

@@ -1,13 +1,13 @@
 //! What a tenant's command is answered.
 
-ghost use Rattle.std.specs.Prelude.{◌≡◌, ◌≤◌, ◌==◌, length, not, take_while};
+ghost use Rattle.std.specs.Prelude.{◌≡◌, ◌≤◌, ◌==◌, IfSome, length, not, take_while};
+ghost use Rattle.words_core.specs.Requests.{body_of_answer, HasFewBytes};
 ghost use Rattle.reply_reader.specs.Forms.{Gives};
 ghost use Rattle.reply_reader.specs.Reading.{frame_at, freed_at, written_at, cache_at, destroyed_at, object_at, given_at, reaped_at, refused_at, refusal_of, bytes_at, bytes_of, said_at};
 
 use crate::form::form_at;
-use arrayvec::ArrayVec;
 use model_core::limits::MOST_BYTES;
-use words_core::{Refusal, Said};
+use words_core::{Answer, Refusal};
 
 /// Every refusal, by rising number.
 pub const REFUSALS: [Refusal; 15] = [
@@ -28,15 +28,16 @@ pub const REFUSALS: [Refusal; 15] = [
     Refusal::SlotBusy,
 ];
 
-/// What is said at the front of the text, and what follows it.
+/// What is said at the front of the text, and what follows it; the bytes that it tells lie in `room` then.
 #[tactic(auto, unfolding(crate::specs::Reading::said_at))]
-pub fn said_at(text: &[u8]) -> Option<(Said, &[u8])>
-    ensures { Gives (λ found. (found.0, found.1.now)) result (said_at text.now) }
+pub fn said_at<'a>(text: &'a [u8], room: &'a mut [u8; MOST_BYTES]) -> Option<(Answer<'a>, &'a [u8])>
+    ensures value { Gives (λ found. (body_of_answer found.0, found.1.now)) result (said_at text.now) }
+    ensures few { IfSome result (λ found. HasFewBytes found.0) }
 {
     if let Some(found) = written_at(text) {
         return Some(found);
     }
-    if let Some(found) = bytes_at(text) {
+    if let Some(found) = bytes_at(text, room) {
         return Some(found);
     }
     if let Some(found) = frame_at(text) {
@@ -64,77 +65,85 @@ pub fn said_at(text: &[u8]) -> Option<(Said, &[u8])>
 }
 
 #[tactic(auto, unfolding(crate::specs::Reading::frame_at))]
-fn frame_at(text: &[u8]) -> Option<(Said, &[u8])>
-    ensures { Gives (λ found. (found.0, found.1.now)) result (frame_at text.now) }
+fn frame_at(text: &[u8]) -> Option<(Answer<'static>, &[u8])>
+    ensures value { Gives (λ found. (body_of_answer found.0, found.1.now)) result (frame_at text.now) }
+    ensures few { IfSome result (λ found. HasFewBytes found.0) }
 {
     let ([frame], rest) = form_at::<1>(b"frame #\n", text)?;
-    Some((Said::Frame(frame), rest))
+    Some((Answer::Frame(frame), rest))
 }
 
 #[tactic(auto, unfolding(crate::specs::Reading::freed_at))]
-fn freed_at(text: &[u8]) -> Option<(Said, &[u8])>
-    ensures { Gives (λ found. (found.0, found.1.now)) result (freed_at text.now) }
+fn freed_at(text: &[u8]) -> Option<(Answer<'static>, &[u8])>
+    ensures value { Gives (λ found. (body_of_answer found.0, found.1.now)) result (freed_at text.now) }
+    ensures few { IfSome result (λ found. HasFewBytes found.0) }
 {
     let ([order], rest) = form_at::<1>(b"freed #\n", text)?;
-    Some((Said::Freed(u8::try_from(order).ok()?), rest))
+    Some((Answer::Freed(u8::try_from(order).ok()?), rest))
 }
 
 #[tactic(auto, unfolding(crate::specs::Reading::written_at))]
-fn written_at(text: &[u8]) -> Option<(Said, &[u8])>
-    ensures { Gives (λ found. (found.0, found.1.now)) result (written_at text.now) }
+fn written_at(text: &[u8]) -> Option<(Answer<'static>, &[u8])>
+    ensures value { Gives (λ found. (body_of_answer found.0, found.1.now)) result (written_at text.now) }
+    ensures few { IfSome result (λ found. HasFewBytes found.0) }
 {
     let ([count], rest) = form_at::<1>(b"written #\n", text)?;
-    Some((Said::Written(count), rest))
+    Some((Answer::Written(count), rest))
 }
 
 #[tactic(auto, unfolding(crate::specs::Reading::cache_at))]
-fn cache_at(text: &[u8]) -> Option<(Said, &[u8])>
-    ensures { Gives (λ found. (found.0, found.1.now)) result (cache_at text.now) }
+fn cache_at(text: &[u8]) -> Option<(Answer<'static>, &[u8])>
+    ensures value { Gives (λ found. (body_of_answer found.0, found.1.now)) result (cache_at text.now) }
+    ensures few { IfSome result (λ found. HasFewBytes found.0) }
 {
     let ([cache, chunk, order, objects, colours], rest) = form_at::<5>(
         b"cache # chunk # order # objects # colours #\n",
         text,
     )?;
-    let said = Said::Cache {
+    let answer = Answer::Cache {
         cache: u8::try_from(cache).ok()?,
         chunk,
         order: u8::try_from(order).ok()?,
         objects,
         colours,
     };
-    Some((said, rest))
+    Some((answer, rest))
 }
 
 #[tactic(auto, unfolding(crate::specs::Reading::destroyed_at))]
-fn destroyed_at(text: &[u8]) -> Option<(Said, &[u8])>
-    ensures { Gives (λ found. (found.0, found.1.now)) result (destroyed_at text.now) }
+fn destroyed_at(text: &[u8]) -> Option<(Answer<'static>, &[u8])>
+    ensures value { Gives (λ found. (body_of_answer found.0, found.1.now)) result (destroyed_at text.now) }
+    ensures few { IfSome result (λ found. HasFewBytes found.0) }
 {
     let ([frames], rest) = form_at::<1>(b"destroyed #\n", text)?;
-    Some((Said::Destroyed(frames), rest))
+    Some((Answer::Destroyed(frames), rest))
 }
 
 #[tactic(auto, unfolding(crate::specs::Reading::object_at))]
-fn object_at(text: &[u8]) -> Option<(Said, &[u8])>
-    ensures { Gives (λ found. (found.0, found.1.now)) result (object_at text.now) }
+fn object_at(text: &[u8]) -> Option<(Answer<'static>, &[u8])>
+    ensures value { Gives (λ found. (body_of_answer found.0, found.1.now)) result (object_at text.now) }
+    ensures few { IfSome result (λ found. HasFewBytes found.0) }
 {
     let ([place], rest) = form_at::<1>(b"object #\n", text)?;
-    Some((Said::Object(place), rest))
+    Some((Answer::Object(place), rest))
 }
 
 #[tactic(auto, unfolding(crate::specs::Reading::given_at))]
-fn given_at(text: &[u8]) -> Option<(Said, &[u8])>
-    ensures { Gives (λ found. (found.0, found.1.now)) result (given_at text.now) }
+fn given_at(text: &[u8]) -> Option<(Answer<'static>, &[u8])>
+    ensures value { Gives (λ found. (body_of_answer found.0, found.1.now)) result (given_at text.now) }
+    ensures few { IfSome result (λ found. HasFewBytes found.0) }
 {
     let ([], rest) = form_at::<0>(b"given\n", text)?;
-    Some((Said::Given, rest))
+    Some((Answer::Given, rest))
 }
 
 #[tactic(auto, unfolding(crate::specs::Reading::reaped_at))]
-fn reaped_at(text: &[u8]) -> Option<(Said, &[u8])>
-    ensures { Gives (λ found. (found.0, found.1.now)) result (reaped_at text.now) }
+fn reaped_at(text: &[u8]) -> Option<(Answer<'static>, &[u8])>
+    ensures value { Gives (λ found. (body_of_answer found.0, found.1.now)) result (reaped_at text.now) }
+    ensures few { IfSome result (λ found. HasFewBytes found.0) }
 {
     let ([frames], rest) = form_at::<1>(b"reaped #\n", text)?;
-    Some((Said::Reaped(frames), rest))
+    Some((Answer::Reaped(frames), rest))
 }
 
 /// The refusal of this number.
@@ -148,30 +157,32 @@ fn refusal_of(number: u32) -> Option<Refusal>
 }
 
 #[tactic(auto, unfolding(crate::specs::Reading::refused_at))]
-fn refused_at(text: &[u8]) -> Option<(Said, &[u8])>
-    ensures { Gives (λ found. (found.0, found.1.now)) result (refused_at text.now) }
+fn refused_at(text: &[u8]) -> Option<(Answer<'static>, &[u8])>
+    ensures value { Gives (λ found. (body_of_answer found.0, found.1.now)) result (refused_at text.now) }
+    ensures few { IfSome result (λ found. HasFewBytes found.0) }
 {
     let ([number], rest) = form_at::<1>(b"refused # ", text)?;
     let refusal = refusal_of(number)?;
     let ([], rest) = form_at::<0>(refusal.name().as_bytes(), rest)?;
     let ([], rest) = form_at::<0>(b"\n", rest)?;
-    Some((Said::Refused(refusal), rest))
+    Some((Answer::Refused(refusal), rest))
 }
 
-/// The bytes that a word is in hex, in lower case, if they fit.
+/// The bytes that a word is in hex, in lower case, if they fit; they lie in `room` then.
 #[tactic(auto, unfolding(crate::specs::Reading::bytes_of))]
-fn bytes_of(word: &[u8]) -> Option<ArrayVec<u8, MOST_BYTES>>
-    ensures { result ≡ bytes_of word.now }
+fn bytes_of<'a>(word: &[u8], room: &'a mut [u8; MOST_BYTES]) -> Option<&'a [u8]>
+    ensures value { Gives (λ bytes. bytes.now) result (bytes_of word.now) }
+    ensures few { IfSome result (λ bytes. length bytes.now ≤ MOST_BYTES) }
 {
     if word.len() > 2 * MOST_BYTES {
         return None;
     }
-    let mut bytes = ArrayVec::from_array_in((), [0; MOST_BYTES]);
-    bytes.truncate(word.len() / 2);
-    hex::decode_to_slice(word, bytes.as_mut_slice()).ok()?;
+    let size = word.len() / 2;
+    hex::decode_to_slice(word, &mut room[..size]).ok()?;
+    let bytes = &room[..size];
     let mut again = [0; 2 * MOST_BYTES];
-    let again = &mut again[..2 * bytes.len()];
-    hex::encode_to_slice(bytes.as_slice(), again).ok()?;
+    let again = &mut again[..2 * size];
+    hex::encode_to_slice(bytes, again).ok()?;
     (*again == *word).then_some(bytes)
 }
 
@@ -184,12 +195,13 @@ fn line_len(text: &[u8]) -> usize
 }
 
 #[tactic(auto, unfolding(crate::specs::Reading::bytes_at))]
-fn bytes_at(text: &[u8]) -> Option<(Said, &[u8])>
-    ensures { Gives (λ found. (found.0, found.1.now)) result (bytes_at text.now) }
+fn bytes_at<'a>(text: &'a [u8], room: &'a mut [u8; MOST_BYTES]) -> Option<(Answer<'a>, &'a [u8])>
+    ensures value { Gives (λ found. (body_of_answer found.0, found.1.now)) result (bytes_at text.now) }
+    ensures few { IfSome result (λ found. HasFewBytes found.0) }
 {
     let ([], rest) = form_at::<0>(b"bytes ", text)?;
     let (word, rest) = rest.split_at(line_len(rest));
-    let bytes = bytes_of(word)?;
+    let bytes = bytes_of(word, room)?;
     let ([], rest) = form_at::<0>(b"\n", rest)?;
-    Some((Said::Bytes(bytes), rest))
+    Some((Answer::Bytes(bytes), rest))
 }

@@ -26,14 +26,14 @@ pub fn read_single(text: &[u8]) -> Option<Reply>
 pub fn single_of(text: &[u8]) -> Option<Reply>
     ensures { result ≡ single_of text.now }
 {
-    if let Some(answer) = answer_of(text) {
-        return Some(answer.into_reply());
+    if let Some(reply) = answer_of(text) {
+        return Some(reply);
     }
     other_of(text)
 }
 
 #[tactic(auto, unfolding(crate::specs::Single::other_of))]
-fn other_of(text: &[u8]) -> Option<Reply>
+pub fn other_of(text: &[u8]) -> Option<Reply>
     ensures { result ≡ other_of text.now }
 {
     let (addressee, rest) = addressee_at(text)?;

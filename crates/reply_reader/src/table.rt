@@ -6,11 +6,12 @@ ghost use Rattle.words_core.specs.declared.reply.Reply.{Reply as ReplyValue};
 ghost use Rattle.reply_reader.specs.Forms.{Gives};
 ghost use Rattle.reply_reader.specs.Ranges.{Fits};
 ghost use Rattle.reply_reader.specs.Reading.{◌or_else◌};
+ghost use Rattle.reply_reader.specs.Single.{other_of};
 ghost use Rattle.reply_reader.specs.Tables.{after_front, rows_from, order_at, cache_row_at, top_at, no_top_at, some_top_at, report_at, unowned_at, owned_at, owner_at, pool_at, table_of, reply_of_text};
 
-use crate::answer::addressee_at;
+use crate::answer::{addressee_at, answer_of};
 use crate::form::form_at;
-use crate::single::single_of;
+use crate::single::other_of;
 use arrayvec::ArrayVec;
 use model_core::owner::Owner;
 use model_core::report::{CacheRow, OrderRow};
@@ -29,11 +30,22 @@ pub fn read_reply(text: &[u8]) -> Option<Reply>
     reply_of_text(text)
 }
 
-#[tactic(auto, unfolding(crate::specs::Tables::reply_of_text))]
+#[tactic(auto, unfolding(crate::specs::Tables::reply_of_text, crate::specs::Single::single_of))]
 fn reply_of_text(text: &[u8]) -> Option<Reply>
     ensures { result ≡ reply_of_text text.now }
 {
-    if let Some(reply) = single_of(text) {
+    match answer_of(text) {
+        Some(reply) => Some(reply),
+        None => longer_of(text),
+    }
+}
+
+/// The same where it is no answer. It stands apart since a function clears room for each reply that it may make when it is entered.
+#[inline(never)]
+fn longer_of(text: &[u8]) -> Option<Reply>
+    ensures { result ≡ (other_of text.now or_else table_of text.now) }
+{
+    if let Some(reply) = other_of(text) {
         return Some(reply);
     }
     table_of(text)

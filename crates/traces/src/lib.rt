@@ -7,7 +7,7 @@ mod answered;
 #[cfg(test)]
 mod cuts;
 #[cfg(test)]
-mod ends;
+mod failing;
 #[cfg(test)]
 mod long;
 #[cfg(test)]

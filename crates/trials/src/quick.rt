@@ -1,8 +1,10 @@
-//! Lines that the short path has to answer: what it answers is proved, and that it leaves none of these to the whole path is not.
+//! Lines that have to be read the short way: what is read is proved, and that none of these is left to the whole way is not.
 
-use quick_core::{WINDOW, read_bytes_line, read_quick, read_write_line};
+use model_core::limits::MOST_BYTES;
+use quick_core::{WINDOW, read_request};
 use std::process::Abort;
 use std::test::Fail;
+use words_core::Request;
 
 /// The line and a line feed, and behind them another line.
 fn window_of(line: &[u8]) -> [u8; WINDOW] {
@@ -19,12 +21,15 @@ const TENANTS: [u32; 6] = [0, 1, 9, 10, 63, 999];
 const NUMBERS: [u32; 8] = [0, 1, 9, 10, 255, 4096, 12_345, 999_999_999];
 
 /// What comes before and behind a number.
-const COMMANDS: [(&str, &str); 5] = [
+const COMMANDS: [(&str, &str); 8] = [
     ("alloc", ""),
     ("free", ""),
     ("take", ""),
     ("give 03", ""),
     ("give", " 4096"),
+    ("read", " 0"),
+    ("read", " 64"),
+    ("read", " 1000"),
 ];
 
 #[test]
@@ -41,27 +46,22 @@ fn reads_lines_of_a_load(rt: HostRuntime) -> Result<(), Fail> {
 }
 
 fn expect_read(rt: &impl Abort, line: &str) {
-    let len = read_quick(&window_of(line.as_bytes())).map(|quick| quick.len);
+    let mut room = [0; MOST_BYTES];
+    let len = read_request(&window_of(line.as_bytes()), &mut room).map(|read| read.len);
     assert!(rt; len == Some(line.len() + 1), "{line}");
 }
 
 #[test]
-fn reads_reads(rt: HostRuntime) -> Result<(), Fail> {
-    for place in NUMBERS {
-        for asked in [0, 1, 64, 65, 1000] {
-            let line = format!(in rt.alloc(); "12 read {place} {asked}")?;
-            let len = read_bytes_line(&window_of(line.as_bytes())).map(|read| read.len);
-            assert!(rt; len == Some(line.len() + 1), "{line}");
-        }
-    }
-    Ok(())
-}
-
-#[test]
 fn reads_writes(rt: HostRuntime) {
-    let mut bytes = [0; 64];
+    let mut room = [0; MOST_BYTES];
     let rest = b"3 write 4096 00ff10aB\n0 alloc 0\n0 alloc 0\n";
-    let len = read_write_line(rest, &mut bytes).map(|line| line.len);
-    assert!(rt; len == Some(22));
-    assert!(rt; bytes[..4] == [0, 255, 16, 171]);
+    let line = read_request(rest, &mut room).expect(&rt, "a write is read");
+    assert!(rt; line.len == 22);
+    match line.request {
+        Request::Write {
+            place: 4096,
+            bytes: [0, 255, 16, 171],
+        } => (),
+        _ => panic!(rt; "another request is read"),
+    }
 }

@@ -4,3 +4,5 @@ mod ReportLemmas
 pub mod TextLemmas
 mod WordLemmas
 mod Witnesses
+mod DigitLemmas
+mod HexLemmas

@@ -7,12 +7,12 @@ use Rattle.words_core.specs.Cutting.{lines_of_trace}
 use Rattle.words_core.specs.Words.{words_of}
 use Rattle.words_core.specs.Grammar.{event_of, reading_of_words, reading_of}
 use Rattle.words_core.specs.Texts.{text_of}
-use Rattle.words_core.specs.Answers.{reply_of}
+use Rattle.words_core.specs.Requests.{reply_of_answer}
 use Rattle.words_core.specs.declared.event.Event.TheVariants.{Admin, Tenant}
 use Rattle.words_core.specs.declared.event.AdminCommand.TheVariants.{Grant, TakeBack, Move, Pool}
 use Rattle.words_core.specs.declared.event.Command.TheVariants.{Alloc, Read, Write, Cache, Destroy, Take, Give, Reap, Report}
 use Rattle.words_core.specs.declared.event.LineFault.TheVariants.{Long, Unknown, Words, Number, Hex}
-use Rattle.words_core.specs.declared.answer.Said.TheVariants as Say
+use Rattle.words_core.specs.declared.answer.Answer.TheVariants as Say
 use Rattle.words_core.specs.declared.reply.Addressee.TheVariants as To
 use Rattle.words_core.specs.declared.reply.Body.TheVariants as Told
 use Rattle.words_core.specs.declared.report.Report.{Report as Figures}
@@ -151,24 +151,24 @@ moved : text_of (record { addressee = To.Admin; body = Told.Moved 0 0 1 }) ≡ c
 unfolding digits
 moved = refl
 
-cache_made : text_of (reply_of (record { addressee = To.Tenant 0; said = Say.Cache 0 200 0 20 9 }))
+cache_made : text_of (reply_of_answer 0 (Say.Cache 0 200 0 20 9))
     ≡ codes "0> cache 0 chunk 200 order 0 objects 20 colours 9\n"
 unfolding digits
 cache_made = refl
 
-destroyed : text_of (reply_of (record { addressee = To.Tenant 0; said = Say.Destroyed 1 })) ≡ codes "0> destroyed 1\n"
+destroyed : text_of (reply_of_answer 0 (Say.Destroyed 1)) ≡ codes "0> destroyed 1\n"
 unfolding digits
 destroyed = refl
 
-object : text_of (reply_of (record { addressee = To.Tenant 0; said = Say.Object 4096 })) ≡ codes "0> object 4096\n"
+object : text_of (reply_of_answer 0 (Say.Object 4096)) ≡ codes "0> object 4096\n"
 unfolding digits
 object = refl
 
-given : text_of (reply_of (record { addressee = To.Tenant 0; said = Say.Given })) ≡ codes "0> given\n"
+given : text_of (reply_of_answer 0 Say.Given) ≡ codes "0> given\n"
 unfolding digits
 given = refl
 
-reaped : text_of (reply_of (record { addressee = To.Tenant 0; said = Say.Reaped 0 })) ≡ codes "0> reaped 0\n"
+reaped : text_of (reply_of_answer 0 (Say.Reaped 0)) ≡ codes "0> reaped 0\n"
 unfolding digits
 reaped = refl
 
@@ -206,7 +206,7 @@ report_of_one : text_of (record { addressee = To.Tenant 0; body = Told.Report on
 unfolding digits
 report_of_one = refl
 
-answered : text_of (reply_of (record { addressee = To.Tenant 3; said = Say.Refused NotABlock }))
+answered : text_of (reply_of_answer 3 (Say.Refused NotABlock))
     ≡ codes "3> refused 3 NotABlock\n"
 unfolding digits
 answered = refl

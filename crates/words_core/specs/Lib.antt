@@ -6,6 +6,7 @@ pub mod Grammar
 pub mod Cases
 pub mod ReportTexts
 pub mod Texts
-pub mod Answers
+pub mod Digits
+pub mod Requests
 pub mod Examples
 pub mod Laws

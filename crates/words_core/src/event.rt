@@ -1,4 +1,4 @@
-//! What a line asks for: the events, their commands, and the faults of a line that asks for nothing.
+//! What a line asks for: the events, their commands, a command that is borrowed, and the faults of a line that asks for nothing.
 
 ghost use Rattle.std.specs.Prelude.{◌≡◌, ◌≤◌, length};
 
@@ -75,6 +75,83 @@ pub enum Command {
     Reap,
     /// `T report`: the figures of the tenant's memory.
     Report,
+}
+
+/// A [`Command`], but for the report, that is borrowed: its bytes are where they lie.
+#[derive(Clone, Copy)]
+pub enum Request<'a> {
+    Alloc {
+        order: u32,
+    },
+    Free {
+        frame: u32,
+    },
+    Read {
+        place: u32,
+        len: u32,
+    },
+    Write {
+        place: u32,
+        bytes: &'a [u8],
+    },
+    Cache {
+        size: u32,
+        align: u32,
+        pattern: &'a [u8],
+    },
+    Destroy {
+        cache: u32,
+    },
+    Take {
+        cache: u32,
+    },
+    Give {
+        cache: u32,
+        place: u32,
+    },
+    Reap,
+}
+
+impl Command {
+    ghost use Rattle.std.specs.Prelude.{IfSome, MatchOption};
+    ghost use Rattle.words_core.specs.declared.event.Command.TheVariants.{Report};
+    ghost use Rattle.words_core.specs.Requests.{command_of, AsksPattern, IsAskable};
+
+    /// The same, borrowed; `None` for the report.
+    pub fn request(&self) -> Option<Request<'_>>
+        ensures same { MatchOption result (self.now ≡ Report) (λ request. command_of request ≡ self.now) }
+        ensures askable { IfSome result (λ request. AsksPattern self.now → IsAskable request) }
+    {
+        match self {
+            Command::Alloc { order } => Some(Request::Alloc { order: *order }),
+            Command::Free { frame } => Some(Request::Free { frame: *frame }),
+            Command::Read { place, len } => Some(Request::Read {
+                place: *place,
+                len: *len,
+            }),
+            Command::Write { place, bytes } => Some(Request::Write {
+                place: *place,
+                bytes: bytes.as_slice(),
+            }),
+            Command::Cache {
+                size,
+                align,
+                pattern,
+            } => Some(Request::Cache {
+                size: *size,
+                align: *align,
+                pattern: pattern.as_slice(),
+            }),
+            Command::Destroy { cache } => Some(Request::Destroy { cache: *cache }),
+            Command::Take { cache } => Some(Request::Take { cache: *cache }),
+            Command::Give { cache, place } => Some(Request::Give {
+                cache: *cache,
+                place: *place,
+            }),
+            Command::Reap => Some(Request::Reap),
+            Command::Report => None,
+        }
+    }
 }
 
 /// Why a line says nothing that can be done.

@@ -1,13 +1,15 @@
 //! The words of the memory manager: what a line of a trace says, and the text of a reply.
 //!
 //! [`read_line`] reads one line as an [`Event`], as nothing, or as a [`LineFault`]; [`write_line`]
-//! writes one line of a [`Reply`], and [`write_answer`] an [`Answer`], the small reply to a tenant's
-//! command. No call of this crate allocates.
+//! writes one line of a [`Reply`]. A [`Request`] is a tenant's command that is borrowed, and an
+//! [`Answer`] the small reply to it, of which [`write_answer`] writes the line. No call of this
+//! crate allocates.
 #![tactic(auto)]
 
 mod answer;
 mod commands;
 mod event;
+mod hex_digits;
 mod laws;
 mod line;
 mod numbers;
@@ -15,10 +17,11 @@ mod put;
 mod reply;
 mod report;
 mod text;
+mod window;
 mod words;
 
-pub use answer::{Answer, Said, write_answer};
-pub use event::{AdminCommand, Command, Event, LineFault};
+pub use answer::{Answer, MOST_ANSWER_BYTES, SHORT_ANSWER_BYTES, write_answer};
+pub use event::{AdminCommand, Command, Event, LineFault, Request};
 pub use laws::one_case;
 pub use line::{MOST_LINE_BYTES, read_line};
 pub use put::MOST_REPLY_BYTES;

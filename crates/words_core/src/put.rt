@@ -1,17 +1,15 @@
 //! The pieces of a line, each written behind what the line holds.
 
-ghost use Rattle.std.specs.Prelude.{◌≡◌, ◌+◌, ◌-◌, ◌*◌, ◌<◌, ◌≤◌, [], ◌∷◌, ◌++◌, codes, length, decimal};
+ghost use Rattle.std.specs.Prelude.{◌≡◌, ◌+◌, ◌<◌, ◌≤◌, [], ◌∷◌, ◌++◌, codes, length, decimal};
 ghost use Rattle.arrayvec.specs.ArrayVec.{array_vec_len};
-ghost use Rattle.hex.specs.Hex.{encode_lower};
-ghost use Rattle.words_core.specs.declared.reply.Body.TheVariants.{TakenBack, WasReset, Bytes, Cache, Refused, Fault};
+ghost use Rattle.words_core.specs.declared.reply.Body.TheVariants.{TakenBack, WasReset, Fault};
 ghost use Rattle.words_core.specs.Texts.{addressee_text, body_texts};
 
 use crate::event::LineFault;
 use crate::numbers::MOST_DIGITS;
-use crate::reply::{Addressee, Refusal};
+use crate::reply::Addressee;
 use arrayvec::ArrayVec;
 use itoa::Buffer;
-use model_core::limits::MOST_BYTES;
 
 /// Room for the longest line of a reply, its line feed included.
 pub const MOST_REPLY_BYTES: usize = 256;
@@ -52,20 +50,6 @@ pub fn put_labelled(label: &[u8], number: u32, out: &mut Line)
 {
     put(label, out);
     put_number(number, out);
-}
-
-/// Bytes in hex, two lower case digits each.
-fn put_hex(bytes: &[u8], out: &mut Line)
-    requires few { length bytes.now ≤ MOST_BYTES }
-    requires room { array_vec_len out.old + 2 * MOST_BYTES ≤ MOST_REPLY_BYTES }
-    ensures text { out.new.items ≡ out.old.items ++ encode_lower bytes.now }
-    ensures short { array_vec_len out.new ≡ array_vec_len out.old + 2 * length bytes.now }
-{
-    let mut text = [0; 2 * MOST_BYTES];
-    let text = &mut text[..2 * bytes.len()];
-    let written = hex::encode_to_slice(bytes, text);
-    prove!(written.is_ok());
-    put(text, out);
 }
 
 /// Writes whom a line is for over what `out` held.
@@ -114,42 +98,6 @@ pub fn put_was_reset(tenant: u8, superblocks: u16, out: &mut Line)
 {
     put_labelled(b"reset ", u32::from(tenant), out);
     put_labelled(b" superblocks ", u32::from(superblocks), out);
-}
-
-/// Bytes that were read, in hex, two digits each.
-// The room for the digits is zeroed at each entry, which the other kinds need not pay for.
-#[inline(never)]
-pub fn put_bytes(bytes: &ArrayVec<u8, MOST_BYTES>, out: &mut Line)
-    requires { array_vec_len out.old ≤ MOST_ADDRESSEE_BYTES }
-    ensures text { body_texts out.old.items (Bytes bytes.now) ≡ out.new.items ∷ [] }
-    ensures short { array_vec_len out.new < MOST_REPLY_BYTES }
-{
-    put(b"bytes ", out);
-    put_hex(bytes.as_slice(), out);
-}
-
-/// That a cache was made: its number, and how its slabs are cut. The chunk is in bytes; a slab has `2^order` frames.
-pub fn put_cache(cache: u8, chunk: u32, order: u8, objects: u32, colours: u32, out: &mut Line)
-    requires { array_vec_len out.old ≤ MOST_ADDRESSEE_BYTES }
-    ensures text { body_texts out.old.items (Cache cache chunk order objects colours) ≡ out.new.items ∷ [] }
-    ensures short { array_vec_len out.new < MOST_REPLY_BYTES }
-{
-    put_labelled(b"cache ", u32::from(cache), out);
-    put_labelled(b" chunk ", chunk, out);
-    put_labelled(b" order ", u32::from(order), out);
-    put_labelled(b" objects ", objects, out);
-    put_labelled(b" colours ", colours, out);
-}
-
-/// That a command was refused, by the number and the name of the refusal.
-pub fn put_refused(refusal: Refusal, out: &mut Line)
-    requires { array_vec_len out.old ≤ MOST_ADDRESSEE_BYTES }
-    ensures text { body_texts out.old.items (Refused refusal) ≡ out.new.items ∷ [] }
-    ensures short { array_vec_len out.new < MOST_REPLY_BYTES }
-{
-    put_labelled(b"refused ", u32::from(refusal.number()), out);
-    put(b" ", out);
-    put(refusal.name().as_bytes(), out);
 }
 
 /// That a line is faulty.

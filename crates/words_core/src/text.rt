@@ -1,12 +1,14 @@
 //! The text of a reply, a line at a time.
 
-ghost use Rattle.std.specs.Prelude.{◌≡◌, ◌+◌, ◌<◌, ◌≤◌, length, slice_get, Some};
+ghost use Rattle.std.specs.Prelude.{◌≡◌, ◌+◌, ◌<◌, ◌≤◌, [], ◌∷◌, length, slice_get, Some};
 ghost use Rattle.arrayvec.specs.ArrayVec.{array_vec_len};
 ghost use Rattle.words_core.specs.Texts.{owner_text, pool_texts, body_texts, lines_of};
+ghost use Rattle.words_core.specs.Requests.{body_of_answer, HasFewBytes};
 
+use crate::answer::{Answer, MOST_ANSWER_BYTES, put_answer};
 use crate::put::{
-    Line, MOST_ADDRESSEE_BYTES, MOST_REPLY_BYTES, put, put_bytes, put_cache, put_fault,
-    put_labelled, put_refused, put_slot, put_taken_back, put_was_reset, start_line,
+    Line, MOST_ADDRESSEE_BYTES, MOST_REPLY_BYTES, put, put_fault, put_labelled, put_slot,
+    put_taken_back, put_was_reset, start_line,
 };
 use crate::reply::{Body, OWNERS, Reply};
 use crate::report::put_report;
@@ -65,25 +67,47 @@ fn put_body(body: &Body, row: usize, out: &mut Line)
             superblock,
         } => put_slot(b"moved ", *tenant, *slot, *superblock, out),
         Body::Owners(owners) => put_owners(owners.as_slice(), row, out),
-        Body::Frame(frame) => put_labelled(b"frame ", *frame, out),
-        Body::Freed(order) => put_labelled(b"freed ", u32::from(*order), out),
-        Body::Bytes(bytes) => put_bytes(bytes, out),
-        Body::Written(count) => put_labelled(b"written ", *count, out),
+        Body::Frame(frame) => put_told(Answer::Frame(*frame), out),
+        Body::Freed(order) => put_told(Answer::Freed(*order), out),
+        Body::Bytes(bytes) => put_told(Answer::Bytes(bytes.as_slice()), out),
+        Body::Written(count) => put_told(Answer::Written(*count), out),
         Body::Cache {
             cache,
             chunk,
             order,
             objects,
             colours,
-        } => put_cache(*cache, *chunk, *order, *objects, *colours, out),
-        Body::Destroyed(frames) => put_labelled(b"destroyed ", *frames, out),
-        Body::Object(place) => put_labelled(b"object ", *place, out),
-        Body::Given => put(b"given", out),
-        Body::Reaped(frames) => put_labelled(b"reaped ", *frames, out),
+        } => put_told(
+            Answer::Cache {
+                cache: *cache,
+                chunk: *chunk,
+                order: *order,
+                objects: *objects,
+                colours: *colours,
+            },
+            out,
+        ),
+        Body::Destroyed(frames) => put_told(Answer::Destroyed(*frames), out),
+        Body::Object(place) => put_told(Answer::Object(*place), out),
+        Body::Given => put_told(Answer::Given, out),
+        Body::Reaped(frames) => put_told(Answer::Reaped(*frames), out),
         Body::Report(report) => put_report(report, row, out),
-        Body::Refused(refusal) => put_refused(*refusal, out),
+        Body::Refused(refusal) => put_told(Answer::Refused(*refusal), out),
         Body::Fault(fault) => put_fault(*fault, out),
     }
+}
+
+/// Writes what a tenant is told behind what `out` holds.
+#[inline(never)]
+fn put_told(answer: Answer<'_>, out: &mut Line)
+    requires few { HasFewBytes answer }
+    requires room { array_vec_len out.old ≤ MOST_ADDRESSEE_BYTES }
+    ensures text { body_texts out.old.items (body_of_answer answer.entry) ≡ out.new.items ∷ [] }
+    ensures short { array_vec_len out.new < MOST_REPLY_BYTES }
+{
+    let mut text = [0; MOST_ANSWER_BYTES];
+    let end = put_answer(answer, 0, &mut text);
+    put(&text[..end], out);
 }
 
 /// Writes a line of the table of owners behind what `out` holds.

@@ -4,7 +4,7 @@ use Rattle.std.proofs.lemmas.Bool.{eqb-true}
 use Rattle.std.proofs.lemmas.List.{append-nil, length-take-le}
 use Rattle.words_core.specs.Cutting.{lines_of_trace}
 use Rattle.world_core.specs.Output.{ended_lines}
-use Rattle.replay_core.proofs.MoveLemmas.{consumes_nothing, consumes_more, consumes_kept, consumes_end, room_at_end}
+use Rattle.ends.proofs.MoveLemmas.{consumes_nothing, consumes_more, consumes_kept, consumes_end, room_at_end}
 use Rattle.replay_core.proofs.PushLemmas.{some_left}
 use Rattle.replay_core.proofs.RunLemmas.{ended_at, err_of, ok_of, is_ok_of}
 use Rattle.own_trace.proofs.Lines.{stands_first, stands_given, stands_sent, ended_are_kept, all_are_kept, last_is_kept, stopped_at_last}

@@ -1,7 +1,7 @@
 use Rattle.std.proofs.Common.{[], ◌++◌, take, drop, refl, sym, ap, ◌∙◌, arith, append_assoc, length-drop, take-append-drop}
 use Rattle.std.proofs.lemmas.Bool.{eqb-true}
 use Rattle.std.proofs.lemmas.List.{take_rest, nil_from_length}
-use Rattle.replay_core.proofs.MoveLemmas.{appends_nothing, appends_more, appends_kept}
+use Rattle.ends.proofs.MoveLemmas.{appends_nothing, appends_more, appends_kept}
 use Rattle.own_trace.proofs.Lines.{taken_at_err}
 use Rattle.own_trace.proofs.keeping.push_all.Goals as goal
 

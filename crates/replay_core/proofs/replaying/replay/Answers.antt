@@ -2,7 +2,7 @@ use Rattle.std.proofs.Common.{◌≡◌, ◌<◌, ◌++◌, true, false, [], tak
 use Rattle.std.specs.Result.{is_err}
 use Rattle.std.proofs.lemmas.Bool.{eqb-true}
 use Rattle.std.proofs.lemmas.List.{length-take-le}
-use Rattle.replay_core.proofs.MoveLemmas.{consumes_nothing, consumes_more, consumes_kept, consumes_end, room_at_end}
+use Rattle.ends.proofs.MoveLemmas.{consumes_nothing, consumes_more, consumes_kept, consumes_end, room_at_end}
 use Rattle.replay_core.proofs.OwnLemmas.{own_lines_taken}
 use Rattle.replay_core.proofs.PromiseLemmas.{all_promised, part_promised}
 use Rattle.replay_core.proofs.PushLemmas.{some_left}

@@ -1,6 +1,6 @@
-use Rattle.std.proofs.Common.{◌≡◌, ◌∙◌, ◌++◌, ◌+◌, append-nil, ◌∷◌, [], ℕ, List, Option, Some, None, ap, sym, refl, drop, length, length-drop, arith}
+use Rattle.std.proofs.Common.{◌∙◌, ◌+◌, append-nil, Some, None, ap, sym, drop, length-drop, arith}
 use Rattle.std.proofs.lemmas.List.{nil_from_length}
-use Rattle.reply_reader.specs.Forms.{Gives, mark_at, form_at}
+use Rattle.reply_reader.specs.Forms.{form_at}
 use Rattle.reply_reader.proofs.FormLoop.{with_front, left_from, goes_on, ends_early, is_done, one_mark_less, as_many_marks}
 use Rattle.reply_reader.proofs.form.form_at.Goals as goal
 use Rattle.reply_reader.proofs.form.form_at.Goals.{in-Some, in_default}

@@ -1,5 +1,5 @@
 use Rattle.std.proofs.Common.{◌≡◌, ◌+◌, ◌-◌, suc, arith}
-use Rattle.reply_reader.specs.Tables.{rows_from, cache_row_at}
+use Rattle.reply_reader.specs.Tables.{cache_row_at}
 use Rattle.reply_reader.proofs.RowLoop.{rows_go_on, rows_end, rows_done}
 use Rattle.reply_reader.proofs.table.caches_at.Goals as goal
 

@@ -1,5 +1,5 @@
 use Rattle.std.proofs.Common.{◌≡◌, ◌+◌, ◌-◌, suc, arith}
-use Rattle.reply_reader.specs.Tables.{rows_from, order_at}
+use Rattle.reply_reader.specs.Tables.{order_at}
 use Rattle.reply_reader.proofs.RowLoop.{rows_go_on, rows_end, rows_done}
 use Rattle.reply_reader.proofs.table.orders_at.Goals as goal
 

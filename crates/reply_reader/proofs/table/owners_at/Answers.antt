@@ -1,5 +1,5 @@
 use Rattle.std.proofs.Common.{◌≡◌, ◌+◌, ◌-◌, suc, arith}
-use Rattle.reply_reader.specs.Tables.{rows_from, owner_at}
+use Rattle.reply_reader.specs.Tables.{owner_at}
 use Rattle.reply_reader.proofs.RowLoop.{rows_go_on, rows_end, rows_done}
 use Rattle.reply_reader.proofs.table.owners_at.Goals as goal
 

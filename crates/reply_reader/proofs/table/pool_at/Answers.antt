@@ -1,4 +1,4 @@
-use Rattle.std.proofs.Common.{◌≡◌, ap, length, arith}
+use Rattle.std.proofs.Common.{ap, arith}
 use Rattle.std.specs.Prelude.{count_by, is_none}
 use Rattle.reply_reader.proofs.TableSteps.{pool_is, pool_free, pool_count}
 use Rattle.reply_reader.proofs.table.pool_at.Goals as goal

@@ -1,9 +1,22 @@
+use Rattle.std.proofs.Common.{◌≡◌, ◌<◌, ◌≤◌, ◌∙◌, refl, ap, arith}
+use Rattle.words_core.specs.Requests.{command_of}
+use Rattle.parts_core.specs.Parts.{Parts}
 use Rattle.kernel_core.proofs.Worlds.{unknown_tenant, steps_asked}
 use Rattle.kernel_core.proofs.kernel.Kernel.ask.Goals as goal
 
-pub returns-in_default : goal.returns-in_default
-returns-in_default c = unknown_tenant _ c.args.tenant c.args.command.now c.in_default.ensures
+pub returns-then-tenant-from : goal.returns-then-tenant-from
+returns-then-tenant-from c =
+    let same : c.tenants.result ≡ c.args.self.now.tenants = c.tenants.ensures ∙ ap (λ (k : Parts). k.tenants) c.self.view_is in
+    let past : c.args.self.now.tenants ≤ c.args.tenant = omega (arith, same, c.from.ensures) in (
+      (refl, λ _. tt, unknown_tenant _ c.args.tenant (command_of c.args.request) past),
+      record { asked = tt; few = tt; bytes = tt },
+    )
 
 pub returns : goal.returns
 returns c =
-    steps_asked _ _ c.in-Some.t c.args.tenant c.args.command.now _ c.in-Some.ensures.0 c.in-Some.ensures.1 (λ _ _. c.parts_agree.ensures) c.in_ok-said.ensures
+    let done = c.run-answer.follows.holds-at-none in
+    let same : c.tenants.result ≡ c.args.self.now.tenants = c.tenants.ensures ∙ ap (λ (k : Parts). k.tenants) c.self.view_is in
+    let known : c.args.tenant < c.args.self.now.tenants = omega (arith, same, c.from.ensures) in (
+      (refl, λ _. tt, (refl, steps_asked _ _ c.args.tenant c.args.tenant (command_of c.args.request) _ refl known (λ _ _. done.agree c.parts_agree.ensures) done.steps)),
+      record { asked = tt; few = c.run-answer.ensures.few; bytes = c.run-answer.ensures.bytes },
+    )

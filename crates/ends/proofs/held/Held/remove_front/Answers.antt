@@ -1,0 +1,20 @@
+use Rattle.std.proofs.Common.{◌≡◌, ◌≤◌, ◌+◌, ◌-◌, take, drop, length, ap, ◌∙◌, arith, rules, length-drop}
+use lib.Seq.{paste}
+use Rattle.std.proofs.lemmas.List.{with_items_is, places}
+use Rattle.std.proofs.lemmas.List.Edits.{take-paste}
+use Rattle.std.proofs.lemmas.Slice.{between_is}
+use Rattle.ends.proofs.held.Held.remove_front.Goals as goal
+
+pub returns : goal.returns
+returns c =
+    let room = c.as_mut_slice.result.now in
+    let len = c.self.inside.len in
+    let left = len - c.args.count in
+    let same : left ≡ 0 + left = omega arith in
+    let within : left ≤ length (drop c.args.count room) = omega (arith, length-drop c.args.count room) in
+    ap (take left) (with_items_is c.self.inside.bytes c.copy_within.new.self (search (rules, places)) ∙ c.copy_within.ensures.after)
+    ∙ ap (λ n. take n (paste room 0 (drop c.args.count room) left)) same
+    ∙ take-paste room 0 (drop c.args.count room) left (omega arith) within
+    ∙ between_is room c.args.count len
+    ∙ ap (λ xs. drop c.args.count (take len xs)) c.as_mut_slice.ensures.value
+    ∙ ap (drop c.args.count) c.self.view_is

@@ -1,0 +1,112 @@
+ghost use Rattle.std.specs.Prelude.{◌≡◌, ◌^◌, true, false, [], None};
+ghost use Rattle.std.specs.Option.{ForSome};
+
+use crate::feed::{Feed, Stopped};
+use std::io::Read;
+
+/// The bytes that a feed over a reader gives at most: 1 GiB.
+const MOST_TRACE_BYTES: u64 = 1 << 30;
+
+/// A feed over one of std's readers, of at most 1 GiB.
+///
+/// An interrupted read has failed too. When the room is used up, it answers the end if the reader is at its end, and
+/// fails otherwise.
+#[derive(Drop)]
+pub struct ReaderFeed<R: Read> {
+    reader: R,
+    room: u64,
+    ended: bool,
+    failed: bool,
+    // A byte that was read when the room was used up: the reader had more.
+    beyond: Option<u8>,
+    ghost kept: { failed ≡ false → beyond ≡ None },
+    ghost whole: { ended ≡ true → ForSome (R.remaining reader) (λ rest. rest ≡ []) },
+}
+
+impl<R: Read> ReaderFeed<R> {
+    /// A feed of what this reader gives.
+    pub fn new(reader: R) -> Self
+        ensures remaining { ⟦<ReaderFeed<R> as Feed>⟧.remaining result ≡ R.remaining reader }
+        ensures room { ⟦<ReaderFeed<R> as Feed>⟧.room_left result ≡ 2 ^ 30 }
+        ensures not_ended { ⟦<ReaderFeed<R> as Feed>⟧.has_ended result ≡ false }
+        ensures fine { ⟦<ReaderFeed<R> as Feed>⟧.has_failed result ≡ false }
+    {
+        ReaderFeed::with_room(reader, MOST_TRACE_BYTES)
+    }
+
+    /// A feed of what this reader gives, of at most `room` bytes.
+    pub fn with_room(reader: R, room: u64) -> Self
+        ensures remaining { ⟦<ReaderFeed<R> as Feed>⟧.remaining result ≡ R.remaining reader }
+        ensures room { ⟦<ReaderFeed<R> as Feed>⟧.room_left result ≡ room }
+        ensures not_ended { ⟦<ReaderFeed<R> as Feed>⟧.has_ended result ≡ false }
+        ensures fine { ⟦<ReaderFeed<R> as Feed>⟧.has_failed result ≡ false }
+    {
+        ReaderFeed {
+            reader,
+            room,
+            ended: false,
+            failed: false,
+            beyond: None,
+        }
+    }
+}
+
+impl<R: Read> Feed for ReaderFeed<R> {
+    ghost use Rattle.ends.specs.Moves.{put_back};
+
+    ghost remaining = { λ s. put_back s.beyond (R.remaining s.reader) };
+
+    ghost room_left = { λ s. s.room };
+
+    ghost has_ended = { λ s. s.ended };
+
+    ghost has_failed = { λ s. s.failed };
+
+    fn pull(&mut self, into: &mut [u8]) -> Result<usize, Stopped> {
+        if self.ended {
+            return Ok(0);
+        }
+        if self.room == 0 {
+            let mut probe = [0];
+            return match self.reader.read(&mut probe) {
+                Ok(0) => {
+                    self.ended = true;
+                    Ok(0)
+                }
+                Ok(_) => {
+                    self.beyond = Some(probe[0]);
+                    self.failed = true;
+                    Err(Stopped)
+                }
+                Err(_) => {
+                    self.failed = true;
+                    Err(Stopped)
+                }
+            };
+        }
+        let most = (into.len() as u64).min(self.room) as usize;
+        match self.reader.read(&mut into[..most]) {
+            Ok(count) => {
+                self.room -= count as u64;
+                self.ended = count == 0;
+                Ok(count)
+            }
+            Err(_) => {
+                self.failed = true;
+                Err(Stopped)
+            }
+        }
+    }
+
+    fn room(&self) -> u64 {
+        self.room
+    }
+
+    fn ended(&self) -> bool {
+        self.ended
+    }
+
+    fn failed(&self) -> bool {
+        self.failed
+    }
+}

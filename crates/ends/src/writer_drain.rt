@@ -1,0 +1,247 @@
+ghost use Rattle.std.specs.Prelude.{◌≡◌, ℕ, ◌<◌, ◌≤◌, true, false, [], length, take, OnOk, IfOk, is_err, vec_len};
+ghost use Rattle.std.specs.Io.KnownBytes.{Appends, Keeps, WriteAppends, append_known};
+ghost use Rattle.ends.specs.Held.{held_bytes};
+
+use crate::drain::{Drain, SHORT_BYTES};
+use crate::feed::Stopped;
+use crate::held::Held;
+use std::io::Write;
+
+/// A drain over one of std's writers. It may have room to hold bytes: these are written where it sends, where it is
+/// flushed, and where there is no room for more.
+///
+/// A writer that takes no byte has failed, and so has an interrupted write. Where a write or a flush fails while it
+/// sends, the next push or `flush` fails. The drain then holds exactly those bytes that it took and the writer did not:
+/// none is lost or written twice, and none of them is tried again.
+#[derive(Drop)]
+pub struct WriterDrain<W> {
+    writer: W,
+    // What was taken and is not written yet; with no room each push is a write.
+    held: Option<Held>,
+    // Bytes were written since the last flush.
+    unsent: bool,
+    // A write or a flush has failed while it sent.
+    send_failed: bool,
+    failed: bool,
+}
+
+impl<W: Write> WriterDrain<W> {
+    /// A drain into this writer that holds nothing: each push is one write.
+    pub fn new(writer: W) -> Self
+        ensures contents { ⟦<WriterDrain<W> as Drain>⟧.contents result ≡ W.contents writer }
+        ensures empty { ⟦<WriterDrain<W> as Drain>⟧.held_back result ≡ [] }
+        ensures fine { ⟦<WriterDrain<W> as Drain>⟧.has_failed result ≡ false }
+        ensures sends { ⟦<WriterDrain<W> as Drain>⟧.has_failed_to_send result ≡ false }
+    {
+        WriterDrain {
+            writer,
+            held: None,
+            unsent: false,
+            send_failed: false,
+            failed: false,
+        }
+    }
+
+    /// A drain into this writer that holds as many bytes as the capacity of `room`, which is empty.
+    pub fn holding(writer: W, room: Vec<u8>) -> Self
+        requires { vec_len room ≡ 0 }
+        ensures contents { ⟦<WriterDrain<W> as Drain>⟧.contents result ≡ W.contents writer }
+        ensures empty { ⟦<WriterDrain<W> as Drain>⟧.held_back result ≡ [] }
+        ensures fine { ⟦<WriterDrain<W> as Drain>⟧.has_failed result ≡ false }
+        ensures sends { ⟦<WriterDrain<W> as Drain>⟧.has_failed_to_send result ≡ false }
+    {
+        WriterDrain {
+            writer,
+            held: Some(Held::new(room)),
+            unsent: false,
+            send_failed: false,
+            failed: false,
+        }
+    }
+
+    /// Writes what is held and flushes the writer. A write or a flush that fails stops the drain, and so does one that
+    /// failed before.
+    pub fn flush(&mut self) -> Result<(), Stopped>
+        requires { ⟦<WriterDrain<W> as Drain>⟧.has_failed self.old ≡ false }
+        ensures bytes { Keeps (⟦<WriterDrain<W> as Drain>⟧.contents self.old) (⟦<WriterDrain<W> as Drain>⟧.contents self.new) }
+        // The writer itself then has all that was taken.
+        ensures written { OnOk result (Keeps (⟦<WriterDrain<W> as Drain>⟧.contents self.old) (W.contents self.new.writer)) }
+        ensures empty { OnOk result (⟦<WriterDrain<W> as Drain>⟧.held_back self.new ≡ []) }
+        ensures failed { ⟦<WriterDrain<W> as Drain>⟧.has_failed self.new ≡ is_err result }
+        ensures stopped { ⟦<WriterDrain<W> as Drain>⟧.has_failed_to_send self.old ≡ true
+            → (is_err result ≡ true) × (⟦<WriterDrain<W> as Drain>⟧.held_back self.new ≡ ⟦<WriterDrain<W> as Drain>⟧.held_back self.old) }
+        ensures sends { ⟦<WriterDrain<W> as Drain>⟧.has_failed_to_send self.new ≡ ⟦<WriterDrain<W> as Drain>⟧.has_failed_to_send self.old }
+    {
+        if self.send_failed || self.write_held().is_err() || self.writer.flush().is_err() {
+            self.failed = true;
+            return Err(Stopped);
+        }
+        self.unsent = false;
+        Ok(())
+    }
+
+    /// How many of the bytes that it took the writer has not taken.
+    pub fn unwritten(&self) -> usize
+        ensures { result ≡ length (⟦<WriterDrain<W> as Drain>⟧.held_back self.now) }
+    {
+        match &self.held {
+            Some(held) => held.len(),
+            None => 0,
+        }
+    }
+
+    /// A send has failed.
+    pub fn send_failed(&self) -> bool
+        ensures { result ≡ ⟦<WriterDrain<W> as Drain>⟧.has_failed_to_send self.now }
+    {
+        self.send_failed
+    }
+
+    /// Takes bytes for which there was no room: what is held is written first.
+    #[cold]
+    #[inline(never)]
+    fn push_beyond(&mut self, bytes: &[u8]) -> Result<usize, Stopped>
+        requires some { 0 < length bytes.now }
+        requires fine { ⟦<WriterDrain<W> as Drain>⟧.has_failed self.old ≡ false }
+        ensures count { IfOk result (λ n. (0 < n) × (n ≤ length bytes.now)) }
+        ensures bytes { WriteAppends (⟦<WriterDrain<W> as Drain>⟧.contents self.old) (⟦<WriterDrain<W> as Drain>⟧.contents self.new) result bytes.now }
+        ensures failed { ⟦<WriterDrain<W> as Drain>⟧.has_failed self.new ≡ is_err result }
+        ensures stopped { ⟦<WriterDrain<W> as Drain>⟧.has_failed_to_send self.old ≡ true
+            → (is_err result ≡ true) × (⟦<WriterDrain<W> as Drain>⟧.held_back self.new ≡ ⟦<WriterDrain<W> as Drain>⟧.held_back self.old) }
+        ensures sends { ⟦<WriterDrain<W> as Drain>⟧.has_failed_to_send self.new ≡ ⟦<WriterDrain<W> as Drain>⟧.has_failed_to_send self.old }
+    {
+        if self.send_failed || self.write_held().is_err() {
+            self.failed = true;
+            return Err(Stopped);
+        }
+        if let Some(held) = &mut self.held
+            && held.append(bytes)
+        {
+            return Ok(bytes.len());
+        }
+        self.write_through(bytes)
+    }
+
+    /// Writes bytes while none are held.
+    fn write_through(&mut self, bytes: &[u8]) -> Result<usize, Stopped>
+        requires empty { held_bytes self.old.held ≡ [] }
+        requires fine { ⟦<WriterDrain<W> as Drain>⟧.has_failed self.old ≡ false }
+        ensures count { IfOk result (λ n. (0 < n) × (n ≤ length bytes.now)) }
+        ensures bytes { WriteAppends (⟦<WriterDrain<W> as Drain>⟧.contents self.old) (⟦<WriterDrain<W> as Drain>⟧.contents self.new) result bytes.now }
+        ensures failed { ⟦<WriterDrain<W> as Drain>⟧.has_failed self.new ≡ is_err result }
+        ensures sends { ⟦<WriterDrain<W> as Drain>⟧.has_failed_to_send self.new ≡ ⟦<WriterDrain<W> as Drain>⟧.has_failed_to_send self.old }
+    {
+        match self.writer.write(bytes) {
+            Ok(count) if count > 0 => {
+                self.unsent = true;
+                Ok(count)
+            }
+            _ => {
+                self.failed = true;
+                Err(Stopped)
+            }
+        }
+    }
+
+    /// Writes what is held, and flushes the writer if bytes were written since it last was.
+    fn send_held(&mut self) -> Result<(), Stopped>
+        ensures bytes { Keeps (⟦<WriterDrain<W> as Drain>⟧.contents self.old) (⟦<WriterDrain<W> as Drain>⟧.contents self.new) }
+        ensures empty { OnOk result (⟦<WriterDrain<W> as Drain>⟧.held_back self.new ≡ []) }
+        ensures failed { ⟦<WriterDrain<W> as Drain>⟧.has_failed self.new ≡ ⟦<WriterDrain<W> as Drain>⟧.has_failed self.old }
+    {
+        self.write_held()?;
+        if self.unsent {
+            self.unsent = false;
+            return self.writer.flush().map_err(|_| Stopped);
+        }
+        Ok(())
+    }
+
+    /// Writes what is held; where a write fails, what was not written stays held.
+    fn write_held(&mut self) -> Result<(), Stopped>
+        ensures bytes { Keeps (⟦<WriterDrain<W> as Drain>⟧.contents self.old) (⟦<WriterDrain<W> as Drain>⟧.contents self.new) }
+        ensures empty { OnOk result (held_bytes self.new.held ≡ []) }
+        ensures failed { ⟦<WriterDrain<W> as Drain>⟧.has_failed self.new ≡ ⟦<WriterDrain<W> as Drain>⟧.has_failed self.old }
+        ensures sends { ⟦<WriterDrain<W> as Drain>⟧.has_failed_to_send self.new ≡ ⟦<WriterDrain<W> as Drain>⟧.has_failed_to_send self.old }
+    {
+        let Some(held) = &mut self.held else {
+            return Ok(());
+        };
+        let written = write_out(held.as_slice(), &mut self.writer);
+        self.unsent = self.unsent || written > 0;
+        held.remove_front(written);
+        if held.is_empty() {
+            Ok(())
+        } else {
+            Err(Stopped)
+        }
+    }
+}
+
+impl<W: Write> Drain for WriterDrain<W> {
+    ghost contents = { λ s. append_known (W.contents s.writer) (held_bytes s.held) };
+
+    ghost held_back = { λ s. held_bytes s.held };
+
+    ghost has_failed = { λ s. s.failed };
+
+    ghost has_failed_to_send = { λ s. s.send_failed };
+
+    #[inline(always)]
+    fn push(&mut self, bytes: &[u8]) -> Result<usize, Stopped> {
+        if !self.send_failed
+            && let Some(held) = &mut self.held
+            && held.append(bytes)
+        {
+            return Ok(bytes.len());
+        }
+        self.push_beyond(bytes)
+    }
+
+    #[inline(always)]
+    fn take_short(&mut self, text: &[u8; SHORT_BYTES], len: usize) -> bool {
+        if self.send_failed {
+            return false;
+        }
+        match &mut self.held {
+            Some(held) => held.append_short(text, len),
+            None => false,
+        }
+    }
+
+    fn send(&mut self)
+        ensures bytes { Keeps (⟦<WriterDrain<W> as Drain>⟧.contents self.old) (⟦<WriterDrain<W> as Drain>⟧.contents self.new) }
+        ensures failed { ⟦<WriterDrain<W> as Drain>⟧.has_failed self.new ≡ ⟦<WriterDrain<W> as Drain>⟧.has_failed self.old }
+        ensures stopped { ⟦<WriterDrain<W> as Drain>⟧.has_failed self.old ≡ true
+            → ⟦<WriterDrain<W> as Drain>⟧.held_back self.new ≡ ⟦<WriterDrain<W> as Drain>⟧.held_back self.old }
+        ensures sends { ⟦<WriterDrain<W> as Drain>⟧.has_failed_to_send self.old ≡ true
+            → (⟦<WriterDrain<W> as Drain>⟧.has_failed_to_send self.new ≡ true)
+            × (⟦<WriterDrain<W> as Drain>⟧.held_back self.new ≡ ⟦<WriterDrain<W> as Drain>⟧.held_back self.old) }
+        // Then the writer has all that was taken.
+        ensures sent { ⟦<WriterDrain<W> as Drain>⟧.has_failed self.old ≡ false → ⟦<WriterDrain<W> as Drain>⟧.has_failed_to_send self.new ≡ false
+            → ⟦<WriterDrain<W> as Drain>⟧.held_back self.new ≡ [] }
+    {
+        if !self.failed && !self.send_failed {
+            self.send_failed = self.send_held().is_err();
+        }
+    }
+
+    fn failed(&self) -> bool {
+        self.failed
+    }
+}
+
+/// Writes the bytes until all are written or a write fails; answers how many were.
+fn write_out<W: Write>(bytes: &[u8], writer: &mut W) -> usize
+    ensures bound { result ≤ length bytes.now }
+    ensures bytes { Appends (W.contents writer.old) (W.contents writer.new) (take result bytes.now) }
+{
+    let mut written = 0;
+    while written < bytes.len() {
+        match writer.write(&bytes[written..]) {
+            Ok(count) if count > 0 => written += count,
+            _ => return written,
+        }
+    }
+    written
+}

@@ -1,0 +1,7 @@
+use Rattle.std.proofs.Common.{◌+◌, ◌*◌, take}
+use Rattle.quick_core.specs.Pairs.{Decodes}
+use Rattle.quick_core.proofs.decode.decode_fours.Given as goal
+
+-- the pairs so far are decoded
+abbrev pub invariant-loop-fours : goal.invariant-loop-fours
+invariant-loop-fours l = Decodes l.bytes l.from (l.from + 2 * (4 * l.fours)) (take (4 * l.fours) l.out)

@@ -1,0 +1,19 @@
+use Rattle.std.proofs.Common.{◌≡◌, ◌+◌, get_or, slice_range, refl, arith}
+use Rattle.words_core.specs.Commands.{take_row}
+use Rattle.words_core.specs.declared.event.Command.TheVariants as Whole
+use Rattle.quick_core.proofs.LineLemmas.{is_read_one, one_number, take_plain}
+use Rattle.quick_core.proofs.request.take_line.Goals as goal
+
+pub returns-clause-reads : goal.returns-clause-reads
+returns-clause-reads c =
+    let window = c.args.bytes.now in
+    let a = c.args.tenant.end in
+    let within = c.in_ok-cache.ensures.within in
+    let last = c.in_ok-cache.cache in
+    let blank : get_or window (a + 5) 0 ≡ 32 = omega arith in
+    is_read_one c.one_case.ensures.some c.one_case.ensures.only window a (a + 1) (a + 5) (a + 5 + 1) last.end c.args.tenant.value last.value
+    take_row (Whole.Take last.value)
+    refl (omega arith) refl c.in_ok-cache.ensures.some (omega arith) (omega arith)
+    c.requires.begins.number c.requires.begins.blank c.requires.begins.letters blank c.in_ok-cache.ensures.value c.in_ok-cache.ensures.ended
+    (6, omega arith, refl) take_plain
+    (one_number Whole.Take (slice_range window (a + 5 + 1) last.end) last.value c.in_ok-cache.ensures.value)

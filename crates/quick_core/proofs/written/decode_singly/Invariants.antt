@@ -1,7 +1,0 @@
-use Rattle.std.proofs.Common.{◌+◌, ◌*◌, take}
-use Rattle.quick_core.specs.Pairs.{Decodes}
-use Rattle.quick_core.proofs.written.decode_singly.Given as goal
-
--- the pairs so far are decoded
-abbrev pub invariant-loop-count : goal.invariant-loop-count
-invariant-loop-count l = Decodes l.bytes l.from (l.from + 2 * l.count) (take l.count l.out)

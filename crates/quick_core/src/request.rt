@@ -1,0 +1,240 @@
+//! The lines that make up a load, read off the front of some bytes.
+
+ghost use Rattle.std.specs.Prelude.{◌≡◌, ◌-◌, ◌+◌, ◌*◌, ◌<◌, ◌≤◌, ◌==◌, Some, Ok, IfSome, codes, length, take, slice_range, slice_index};
+ghost use Rattle.std.specs.List.{position};
+ghost use Rattle.std.specs.Int.{w32, to_le_bytes};
+ghost use Rattle.words_core.specs.Grammar.{reading_of};
+ghost use Rattle.words_core.specs.Numbers.{number_of};
+ghost use Rattle.words_core.specs.Requests.{command_of, IsAskable};
+ghost use Rattle.words_core.specs.declared.event.Event.TheVariants.{Tenant};
+ghost use Rattle.quick_core.specs.Lines.{BeginsLine, ReadsAs};
+
+use crate::decode::decode_at;
+use crate::number::{MOST_READ_DIGITS, Number, number_at};
+use model_core::limits::MOST_BYTES;
+use words_core::{Request, one_case};
+
+/// A line that was read: whose it is, what it asks for, and its length with its line feed.
+#[derive(Clone, Copy)]
+pub struct RequestLine<'a> {
+    pub tenant: u32,
+    pub request: Request<'a>,
+    pub len: usize,
+}
+
+/// So many bytes have to be there: a line has no more before the bytes that it writes, or before its line feed.
+pub const WINDOW: usize = 32;
+
+/// The number of a tenant has at most so many digits here.
+pub const MOST_TENANT_DIGITS: usize = 3;
+
+/// The four bytes `allo`, the first of them the lowest; so are the others.
+const ALLO: u32 = 0x6f6c_6c61;
+
+const FREE: u32 = 0x6565_7266;
+
+const TAKE: u32 = 0x656b_6174;
+
+const GIVE: u32 = 0x6576_6967;
+
+const READ: u32 = 0x6461_6572;
+
+const WRIT: u32 = 0x7469_7277;
+
+/// The line at the front of these bytes, where it is an `alloc`, `free`, `take`, `give`, `read` or `write` with its words parted
+/// by one blank, and ended by a line feed; what it writes lies in `room` then. `None` where it isn't, or where that is not sure.
+#[inline(always)]
+pub fn read_request<'a>(bytes: &[u8], room: &'a mut [u8; MOST_BYTES]) -> Option<RequestLine<'a>>
+    ensures reads { IfSome result (λ line. ReadsAs bytes.now line.tenant (command_of line.request) line.len) }
+    ensures askable { IfSome result (λ line. IsAskable line.request) }
+{
+    if bytes.len() < WINDOW {
+        return None;
+    }
+    let tenant = number_at(bytes, 0, MOST_TENANT_DIGITS)?;
+    if bytes[tenant.end] != b' ' {
+        return None;
+    }
+    match four_at(bytes, tenant.end + 1) {
+        ALLO => alloc_line(bytes, tenant),
+        FREE => free_line(bytes, tenant),
+        TAKE => take_line(bytes, tenant),
+        GIVE => give_line(bytes, tenant),
+        READ => read_line(bytes, tenant),
+        WRIT => write_line(bytes, tenant, room),
+        _ => None,
+    }
+}
+
+/// Four bytes as one number, the first of them the lowest.
+#[inline(always)]
+fn four_at(bytes: &[u8], at: usize) -> u32
+    requires { at + 4 ≤ length bytes.now }
+    ensures { to_le_bytes w32 result ≡ slice_range bytes.now at (at + 4) }
+{
+    u32::from_le_bytes([bytes[at], bytes[at + 1], bytes[at + 2], bytes[at + 3]])
+}
+
+/// A number that the line feed of the line ends.
+#[inline(always)]
+fn last_number(bytes: &[u8], from: usize) -> Option<Number>
+    requires { from + MOST_READ_DIGITS < length bytes.now }
+    ensures value { IfSome result (λ number. number_of (slice_range bytes.now from number.end) ≡ Some number.value) }
+    ensures some { IfSome result (λ number. from < number.end) }
+    ensures within { IfSome result (λ number. number.end ≤ from + MOST_READ_DIGITS) }
+    ensures ended { IfSome result (λ number. slice_index bytes.now number.end ≡ 10) }
+{
+    let number = number_at(bytes, from, MOST_READ_DIGITS)?;
+    (bytes[number.end] == b'\n').then_some(number)
+}
+
+#[inline(always)]
+fn alloc_line(bytes: &[u8], tenant: Number) -> Option<RequestLine<'static>>
+    requires size { WINDOW ≤ length bytes.now }
+    requires begins { BeginsLine bytes.now tenant (codes "allo") }
+    ensures reads { IfSome result (λ line. ReadsAs bytes.now line.tenant (command_of line.request) line.len) }
+    ensures askable { IfSome result (λ line. IsAskable line.request) }
+{
+    one_case();
+    let at = tenant.end + 5;
+    if bytes[at] != b'c' || bytes[at + 1] != b' ' {
+        return None;
+    }
+    let order = last_number(bytes, at + 2)?;
+    Some(RequestLine {
+        tenant: tenant.value,
+        request: Request::Alloc { order: order.value },
+        len: order.end + 1,
+    })
+}
+
+#[inline(always)]
+fn free_line(bytes: &[u8], tenant: Number) -> Option<RequestLine<'static>>
+    requires size { WINDOW ≤ length bytes.now }
+    requires begins { BeginsLine bytes.now tenant (codes "free") }
+    ensures reads { IfSome result (λ line. ReadsAs bytes.now line.tenant (command_of line.request) line.len) }
+    ensures askable { IfSome result (λ line. IsAskable line.request) }
+{
+    one_case();
+    let at = tenant.end + 5;
+    if bytes[at] != b' ' {
+        return None;
+    }
+    let frame = last_number(bytes, at + 1)?;
+    Some(RequestLine {
+        tenant: tenant.value,
+        request: Request::Free { frame: frame.value },
+        len: frame.end + 1,
+    })
+}
+
+#[inline(always)]
+fn take_line(bytes: &[u8], tenant: Number) -> Option<RequestLine<'static>>
+    requires size { WINDOW ≤ length bytes.now }
+    requires begins { BeginsLine bytes.now tenant (codes "take") }
+    ensures reads { IfSome result (λ line. ReadsAs bytes.now line.tenant (command_of line.request) line.len) }
+    ensures askable { IfSome result (λ line. IsAskable line.request) }
+{
+    one_case();
+    let at = tenant.end + 5;
+    if bytes[at] != b' ' {
+        return None;
+    }
+    let cache = last_number(bytes, at + 1)?;
+    Some(RequestLine {
+        tenant: tenant.value,
+        request: Request::Take { cache: cache.value },
+        len: cache.end + 1,
+    })
+}
+
+#[inline(always)]
+fn give_line(bytes: &[u8], tenant: Number) -> Option<RequestLine<'static>>
+    requires size { WINDOW ≤ length bytes.now }
+    requires begins { BeginsLine bytes.now tenant (codes "give") }
+    ensures reads { IfSome result (λ line. ReadsAs bytes.now line.tenant (command_of line.request) line.len) }
+    ensures askable { IfSome result (λ line. IsAskable line.request) }
+{
+    one_case();
+    let at = tenant.end + 5;
+    if bytes[at] != b' ' {
+        return None;
+    }
+    let cache = number_at(bytes, at + 1, MOST_READ_DIGITS)?;
+    if bytes[cache.end] != b' ' {
+        return None;
+    }
+    let place = last_number(bytes, cache.end + 1)?;
+    Some(RequestLine {
+        tenant: tenant.value,
+        request: Request::Give {
+            cache: cache.value,
+            place: place.value,
+        },
+        len: place.end + 1,
+    })
+}
+
+#[inline(always)]
+fn read_line(bytes: &[u8], tenant: Number) -> Option<RequestLine<'static>>
+    requires size { WINDOW ≤ length bytes.now }
+    requires begins { BeginsLine bytes.now tenant (codes "read") }
+    ensures reads { IfSome result (λ line. ReadsAs bytes.now line.tenant (command_of line.request) line.len) }
+    ensures askable { IfSome result (λ line. IsAskable line.request) }
+{
+    one_case();
+    let at = tenant.end + 5;
+    if bytes[at] != b' ' {
+        return None;
+    }
+    let place = number_at(bytes, at + 1, MOST_READ_DIGITS)?;
+    if bytes[place.end] != b' ' {
+        return None;
+    }
+    let len = last_number(bytes, place.end + 1)?;
+    Some(RequestLine {
+        tenant: tenant.value,
+        request: Request::Read {
+            place: place.value,
+            len: len.value,
+        },
+        len: len.end + 1,
+    })
+}
+
+/// A line that writes bytes, which lie in `room` then.
+#[inline(always)]
+fn write_line<'a>(
+    bytes: &[u8],
+    tenant: Number,
+    room: &'a mut [u8; MOST_BYTES],
+) -> Option<RequestLine<'a>>
+    requires size { WINDOW ≤ length bytes.now }
+    requires begins { BeginsLine bytes.now tenant (codes "writ") }
+    ensures reads { IfSome result (λ line. ReadsAs bytes.now line.tenant (command_of line.request) line.len) }
+    ensures askable { IfSome result (λ line. IsAskable line.request) }
+{
+    one_case();
+    let at = tenant.end + 5;
+    if bytes[at] != b'e' || bytes[at + 1] != b' ' {
+        return None;
+    }
+    let place = number_at(bytes, at + 2, MOST_READ_DIGITS)?;
+    if bytes[place.end] != b' ' {
+        return None;
+    }
+    let from = place.end + 1;
+    let count = decode_at(bytes, from, room);
+    let end = from + 2 * count;
+    if count == 0 || end >= bytes.len() || bytes[end] != b'\n' {
+        return None;
+    }
+    Some(RequestLine {
+        tenant: tenant.value,
+        request: Request::Write {
+            place: place.value,
+            bytes: &room[..count],
+        },
+        len: end + 1,
+    })
+}

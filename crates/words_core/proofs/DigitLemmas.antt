@@ -1,0 +1,67 @@
+-- The text of a number, two digits at a time.
+use Rattle.std.proofs.Common.{◌≡◌, ℕ, ◌+◌, ◌*◌, ◌/◌, ◌%◌, ◌^◌, ◌<◌, ◌≤◌, List, [], ◌∷◌, ◌++◌, get_or, map, refl, sym, ◌∙◌, ap, arith, append_assoc}
+use Rattle.std.specs.Fmt.{decimal}
+use Rattle.std.specs.List.{range_with_len}
+use Rattle.std.proofs.lemmas.Fmt.{decimal_digit, decimal_step}
+use Rattle.std.proofs.lemmas.List.FromFn.{get_or-map-range_with_len}
+use Rattle.words_core.specs.Digits.{two_digits, five_digits}
+use Rattle.words_core.specs.declared.window.TheConstants.{PAIRS}
+
+-- what the table has for a number
+abbrev pub pair : ℕ → List ℕ
+pair n = get_or PAIRS (2 * n) 0 ∷ get_or PAIRS (2 * n + 1) 0 ∷ []
+
+pairs_are : map pair (range_with_len 0 100) ≡ map two_digits (range_with_len 0 100)
+pairs_are = refl
+
+pub pair_at : (n : ℕ) → n < 100 → pair n ≡ two_digits n
+pair_at n below =
+    sym (get_or-map-range_with_len pair 0 100 n n [] below (omega arith))
+    ∙ ap (λ pairs. get_or pairs n []) pairs_are
+    ∙ get_or-map-range_with_len two_digits 0 100 n n [] below (omega arith)
+
+decimal_two : (n : ℕ) → 10 ≤ n → n < 100 → decimal n ≡ two_digits n
+decimal_two n low high = rw (decimal_step n low (omega arith), decimal_digit (n / 10) (omega arith))
+
+-- the last two digits, behind the others
+decimal_last_two : (n : ℕ) → 100 ≤ n → n < 2 ^ 32 → decimal n ≡ decimal (n / 100) ++ two_digits (n % 100)
+decimal_last_two n low high =
+    let a : n / 10 / 10 ≡ n / 100 = omega arith in
+    let b : n / 10 % 10 ≡ n % 100 / 10 = omega arith in
+    let c : n % 10 ≡ n % 100 % 10 = omega arith in
+    rw (decimal_step n (omega arith) (omega arith), decimal_step (n / 10) (omega arith) (omega arith), append_assoc, a, b, ← c)
+
+pub put_one : (front : List ℕ) (n : ℕ) → n < 10 → front ++ (48 + n) ∷ [] ≡ front ++ decimal n
+put_one front n high = ap (λ text. front ++ text) (sym (decimal_digit n high))
+
+pub put_two : (front : List ℕ) (n : ℕ) → 10 ≤ n → n < 100 → front ++ two_digits n ≡ front ++ decimal n
+put_two front n low high = ap (λ text. front ++ text) (sym (decimal_two n low high))
+
+pub put_three : (front : List ℕ) (n : ℕ) → 100 ≤ n → n < 1000
+    → (front ++ (48 + n / 100) ∷ []) ++ two_digits (n % 100) ≡ front ++ decimal n
+put_three front n low high = rw (decimal_last_two n low (omega arith), decimal_digit (n / 100) (omega arith), append_assoc)
+
+pub put_four : (front : List ℕ) (n : ℕ) → 1000 ≤ n → n < 10000
+    → (front ++ two_digits (n / 100)) ++ two_digits (n % 100) ≡ front ++ decimal n
+put_four front n low high = rw (decimal_last_two n (omega arith) (omega arith), decimal_two (n / 100) (omega arith) (omega arith), append_assoc)
+
+five_more : (n : ℕ) → 10000 ≤ n → n < 2 ^ 32
+    → decimal n ≡ decimal (n / 10000) ++ two_digits (n / 100 % 100) ++ two_digits (n % 100)
+five_more n low high =
+    let a : n / 100 / 100 ≡ n / 10000 = omega arith in
+    rw (decimal_last_two n (omega arith) high, decimal_last_two (n / 100) (omega arith) (omega arith), a)
+
+pub put_five : (front : List ℕ) (n : ℕ) → 10000 ≤ n → n < 100000 → front ++ five_digits n ≡ front ++ decimal n
+put_five front n low high =
+    rw (five_more n low (omega arith), decimal_digit (n / 10000) (omega arith))
+
+pub put_more : (front : List ℕ) (n : ℕ) → 100000 ≤ n → n < 2 ^ 32
+    → (front ++ decimal (n / 100000)) ++ five_digits (n % 100000) ≡ front ++ decimal n
+put_more front n low high =
+    let a : n / 10000 / 10 ≡ n / 100000 = omega arith in
+    let b : n / 10000 % 10 ≡ n % 100000 / 10000 = omega arith in
+    let c : n / 100 % 100 ≡ n % 100000 / 100 % 100 = omega arith in
+    let d : n % 100 ≡ n % 100000 % 100 = omega arith in
+    rw (five_more n (omega arith) high, decimal_step (n / 10000) (omega arith) (omega arith), a, b, c, d) (simp append_assoc)
+
+pub ruleset digit_rules = (put_one, put_two, put_three, put_four, put_five, put_more)

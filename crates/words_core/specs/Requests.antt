@@ -1,0 +1,119 @@
+-- The small forms of commands and answers, as the values that they are.
+use Rattle.std.specs.Prelude.{◌≡◌, ℕ, ◌≤◌, Bool, true, false, length}
+use Rattle.model_core.specs.Layouts.{is_pattern}
+use Rattle.model_core.specs.declared.limits.TheConstants.{MOST_BYTES}
+use Rattle.words_core.specs.declared.answer.TheConstants.{MOST_ANSWER_BYTES, SHORT_ANSWER_BYTES}
+use Rattle.words_core.specs.declared.answer.Answer.{Answer}
+use Rattle.words_core.specs.declared.answer.Answer.TheVariants as Told
+use Rattle.words_core.specs.declared.event.Command.{Command}
+use Rattle.words_core.specs.declared.event.Command.TheVariants.{Alloc, Free, Read, Write, Destroy, Take, Give, Reap}
+use Rattle.words_core.specs.declared.event.Command.TheVariants as Whole
+use Rattle.words_core.specs.declared.reply.Addressee.TheVariants.{Tenant}
+use Rattle.words_core.specs.declared.reply.Body.{Body}
+use Rattle.words_core.specs.declared.reply.Body.TheVariants.{Frame, Freed, Bytes, Written, Cache, Destroyed, Object, Given, Reaped, Refused}
+use Rattle.words_core.specs.declared.reply.Reply.{Reply}
+use Rattle.words_core.specs.declared.event.Request.{Request}
+use Rattle.words_core.specs.declared.event.Request.TheVariants as Asked
+
+abbrev pub command_of : Request → Command
+command_of (Asked.Alloc order) = Alloc order
+command_of (Asked.Free frame) = Free frame
+command_of (Asked.Read place len) = Read place len
+command_of (Asked.Write place bytes) = Write place (record { items = bytes.now })
+command_of (Asked.Cache size align pattern) = Whole.Cache size align (record { items = pattern.now })
+command_of (Asked.Destroy cache) = Destroy cache
+command_of (Asked.Take cache) = Take cache
+command_of (Asked.Give cache place) = Give cache place
+command_of Asked.Reap = Reap
+
+abbrev pub body_of_answer : Answer → Body
+body_of_answer (Told.Frame frame) = Frame frame
+body_of_answer (Told.Freed order) = Freed order
+body_of_answer (Told.Bytes bytes) = Bytes (record { items = bytes.now })
+body_of_answer (Told.Written count) = Written count
+body_of_answer (Told.Cache cache chunk order objects colours) = Cache cache chunk order objects colours
+body_of_answer (Told.Destroyed frames) = Destroyed frames
+body_of_answer (Told.Object place) = Object place
+body_of_answer Told.Given = Given
+body_of_answer (Told.Reaped frames) = Reaped frames
+body_of_answer (Told.Refused refusal) = Refused refusal
+
+-- the reply to a tenant that is answered so
+abbrev pub reply_of_answer : ℕ → Answer → Reply
+reply_of_answer tenant answer = record { addressee = Tenant tenant; body = body_of_answer answer }
+
+-- the bytes that an answer tells are no more than a read may ask for
+abbrev pub HasFewBytes : Answer → Type 0
+HasFewBytes (Told.Frame frame) = Unit {0}
+HasFewBytes (Told.Freed order) = Unit {0}
+HasFewBytes (Told.Bytes bytes) = length bytes.now ≤ MOST_BYTES
+HasFewBytes (Told.Written count) = Unit {0}
+HasFewBytes (Told.Cache cache chunk order objects colours) = Unit {0}
+HasFewBytes (Told.Destroyed frames) = Unit {0}
+HasFewBytes (Told.Object place) = Unit {0}
+HasFewBytes Told.Given = Unit {0}
+HasFewBytes (Told.Reaped frames) = Unit {0}
+HasFewBytes (Told.Refused refusal) = Unit {0}
+
+-- the pattern of a cache that the command asks for has 1 to 16 bytes
+abbrev pub AsksPattern : Command → Type 0
+AsksPattern (Whole.Cache size align pattern) = is_pattern pattern.items ≡ true
+AsksPattern (Alloc order) = Unit {0}
+AsksPattern (Free frame) = Unit {0}
+AsksPattern (Read place len) = Unit {0}
+AsksPattern (Write place bytes) = Unit {0}
+AsksPattern (Destroy cache) = Unit {0}
+AsksPattern (Take cache) = Unit {0}
+AsksPattern (Give cache place) = Unit {0}
+AsksPattern Reap = Unit {0}
+AsksPattern Whole.Report = Unit {0}
+
+-- the bytes to be written are no more than a line can have, and the pattern of a cache has 1 to 16
+abbrev pub IsAskable : Request → Type 0
+IsAskable (Asked.Write place bytes) = length bytes.now ≤ MOST_BYTES
+IsAskable (Asked.Cache size align pattern) = is_pattern pattern.now ≡ true
+IsAskable (Asked.Alloc order) = Unit {0}
+IsAskable (Asked.Free frame) = Unit {0}
+IsAskable (Asked.Read place len) = Unit {0}
+IsAskable (Asked.Destroy cache) = Unit {0}
+IsAskable (Asked.Take cache) = Unit {0}
+IsAskable (Asked.Give cache place) = Unit {0}
+IsAskable Asked.Reap = Unit {0}
+
+-- the request asks for bytes
+abbrev pub asks_bytes : Request → Bool
+asks_bytes (Asked.Read place len) = true
+asks_bytes (Asked.Alloc order) = false
+asks_bytes (Asked.Free frame) = false
+asks_bytes (Asked.Write place bytes) = false
+asks_bytes (Asked.Cache size align pattern) = false
+asks_bytes (Asked.Destroy cache) = false
+asks_bytes (Asked.Take cache) = false
+asks_bytes (Asked.Give cache place) = false
+asks_bytes Asked.Reap = false
+
+-- the answer tells bytes
+abbrev pub tells_bytes : Answer → Bool
+tells_bytes (Told.Bytes bytes) = true
+tells_bytes (Told.Frame frame) = false
+tells_bytes (Told.Freed order) = false
+tells_bytes (Told.Written count) = false
+tells_bytes (Told.Cache cache chunk order objects colours) = false
+tells_bytes (Told.Destroyed frames) = false
+tells_bytes (Told.Object place) = false
+tells_bytes Told.Given = false
+tells_bytes (Told.Reaped frames) = false
+tells_bytes (Told.Refused refusal) = false
+
+-- the room that the text of an answer is given
+abbrev pub room_of : Answer → ℕ
+room_of (Told.Bytes bytes) = MOST_ANSWER_BYTES
+room_of (Told.Cache cache chunk order objects colours) = MOST_ANSWER_BYTES
+room_of (Told.Frame frame) = SHORT_ANSWER_BYTES
+room_of (Told.Freed order) = SHORT_ANSWER_BYTES
+room_of (Told.Written count) = SHORT_ANSWER_BYTES
+room_of (Told.Destroyed frames) = SHORT_ANSWER_BYTES
+room_of (Told.Object place) = SHORT_ANSWER_BYTES
+room_of Told.Given = SHORT_ANSWER_BYTES
+room_of (Told.Reaped frames) = SHORT_ANSWER_BYTES
+room_of (Told.Refused refusal) = SHORT_ANSWER_BYTES

@@ -1,0 +1,161 @@
+//! Text and numbers, written one behind the other into the front of some bytes.
+
+ghost use Rattle.std.specs.Prelude.{◌≡◌, ◌+◌, ◌<◌, ◌≤◌, [], ◌∷◌, ◌++◌, take, decimal, length};
+ghost use Rattle.words_core.specs.Digits.{two_digits, five_digits};
+
+/// A number has at most so many digits.
+pub const MOST_DIGITS: usize = 10;
+
+/// Writes the text behind the first `at` bytes, and answers where it ends; so do the others.
+#[inline(always)]
+pub fn put_text(text: &[u8], at: usize, out: &mut [u8]) -> usize
+    requires { at + length text.now ≤ length out.old }
+    ensures text { take result out.new ≡ take at out.old ++ text.now }
+    ensures end { result ≡ at + length text.now }
+{
+    let end = at + text.len();
+    out[at..end].copy_from_slice(text);
+    end
+}
+
+/// Writes one digit.
+#[inline(always)]
+fn put_digit(digit: u32, at: usize, out: &mut [u8]) -> usize
+    requires digit { digit < 10 }
+    requires room { at < length out.old }
+    ensures text { take result out.new ≡ take at out.old ++ (48 + digit) ∷ [] }
+    ensures end { result ≡ at + 1 }
+{
+    out[at] = b'0' + digit as u8;
+    at + 1
+}
+
+/// Writes the two digits of a number below 100, the first of which may be 0.
+#[inline(always)]
+fn put_two(number: u32, at: usize, out: &mut [u8]) -> usize
+    requires two { number < 100 }
+    requires room { at + 2 ≤ length out.old }
+    ensures text { take result out.new ≡ take at out.old ++ two_digits number }
+    ensures end { result ≡ at + 2 }
+{
+    let from = 2 * number as usize;
+    out[at] = PAIRS[from];
+    out[at + 1] = PAIRS[from + 1];
+    at + 2
+}
+
+/// The two digits of each number below 100.
+static PAIRS: [u8; 200] = *b"\
+    00010203040506070809\
+    10111213141516171819\
+    20212223242526272829\
+    30313233343536373839\
+    40414243444546474849\
+    50515253545556575859\
+    60616263646566676869\
+    70717273747576777879\
+    80818283848586878889\
+    90919293949596979899";
+
+/// Writes a number of at most three digits.
+#[tactic(auto, using(crate::proofs::DigitLemmas::digit_rules))]
+#[inline(always)]
+pub fn put_up_to_three(number: u32, at: usize, out: &mut [u8]) -> usize
+    requires three { number < 1000 }
+    requires room { at + 3 ≤ length out.old }
+    ensures text { take result out.new ≡ take at out.old ++ decimal number }
+    ensures short { result ≤ at + 3 }
+{
+    if number < 10 {
+        return put_digit(number, at, out);
+    }
+    if number < 100 {
+        return put_two(number, at, out);
+    }
+    let at = put_digit(number / 100, at, out);
+    put_two(number % 100, at, out)
+}
+
+/// Writes a number of at most five digits.
+#[tactic(auto, using(crate::proofs::DigitLemmas::digit_rules))]
+#[inline(always)]
+fn put_up_to_five(number: u32, at: usize, out: &mut [u8]) -> usize
+    requires five { number < 100000 }
+    requires room { at + 5 ≤ length out.old }
+    ensures text { take result out.new ≡ take at out.old ++ decimal number }
+    ensures short { result ≤ at + 5 }
+{
+    if number < 1000 {
+        return put_up_to_three(number, at, out);
+    }
+    if number < 10000 {
+        let at = put_two(number / 100, at, out);
+        return put_two(number % 100, at, out);
+    }
+    put_five(number, at, out)
+}
+
+/// Writes the five digits of a number below 100,000, the first of which may be 0.
+#[inline(always)]
+fn put_five(number: u32, at: usize, out: &mut [u8]) -> usize
+    requires five { number < 100000 }
+    requires room { at + 5 ≤ length out.old }
+    ensures text { take result out.new ≡ take at out.old ++ five_digits number }
+    ensures end { result ≡ at + 5 }
+{
+    let at = put_digit(number / 10000, at, out);
+    let rest = number % 10000;
+    let at = put_two(rest / 100, at, out);
+    put_two(rest % 100, at, out)
+}
+
+/// Writes a number that seldom has more than five digits.
+#[inline(always)]
+pub fn put_number(number: u32, at: usize, out: &mut [u8]) -> usize
+    requires room { at + MOST_DIGITS ≤ length out.old }
+    ensures text { take result out.new ≡ take at out.old ++ decimal number }
+    ensures short { result ≤ at + MOST_DIGITS }
+{
+    if number < 100_000 {
+        return put_up_to_five(number, at, out);
+    }
+    put_long(number, at, out)
+}
+
+/// Writes a number that often has more than five digits.
+#[inline(always)]
+pub fn put_place(number: u32, at: usize, out: &mut [u8]) -> usize
+    requires room { at + MOST_DIGITS ≤ length out.old }
+    ensures text { take result out.new ≡ take at out.old ++ decimal number }
+    ensures short { result ≤ at + MOST_DIGITS }
+{
+    if number < 100_000 {
+        return put_up_to_five(number, at, out);
+    }
+    put_longer(number, at, out)
+}
+
+/// [`put_longer`] out of line.
+#[cold]
+#[inline(never)]
+fn put_long(number: u32, at: usize, out: &mut [u8]) -> usize
+    requires long { 100000 ≤ number }
+    requires room { at + MOST_DIGITS ≤ length out.old }
+    ensures text { take result out.new ≡ take at out.old ++ decimal number }
+    ensures short { result ≤ at + MOST_DIGITS }
+{
+    put_longer(number, at, out)
+}
+
+/// Writes a number of more than five digits.
+#[tactic(auto, using(crate::proofs::DigitLemmas::digit_rules))]
+#[inline(always)]
+fn put_longer(number: u32, at: usize, out: &mut [u8]) -> usize
+    requires long { 100000 ≤ number }
+    requires room { at + MOST_DIGITS ≤ length out.old }
+    ensures text { take result out.new ≡ take at out.old ++ decimal number }
+    ensures short { result ≤ at + MOST_DIGITS }
+{
+    let at = put_up_to_five(number / 100_000, at, out);
+    put_five(number % 100_000, at, out)
+}
