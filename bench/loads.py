@@ -123,10 +123,11 @@ def faulty(draw, tenants):
 
 def administered(draw, tenants):
     """Every eighth line puts another superblock under a tenant's slot, as it lies."""
+    holders = [tenant for tenant in tenants if tenant.slots]
     for at, line in enumerate(pages(draw, tenants)):
         yield line
         if at % 7 == 6:
-            tenant = draw.choice(tenants)
+            tenant = draw.choice(holders)
             yield tenant, f'admin move {tenant.number} {draw.randrange(tenant.slots)}', None
 
 
