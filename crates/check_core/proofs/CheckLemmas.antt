@@ -6,6 +6,7 @@ use Rattle.std.proofs.lemmas.List.{append-nil}
 use Rattle.words_core.specs.declared.event.Event.{Event}
 use Rattle.words_core.specs.declared.event.LineFault.{LineFault}
 use Rattle.words_core.specs.declared.reply.Reply.{Reply}
+use Rattle.reply_reader.specs.Reading.{IsRead}
 use Rattle.promise_core.specs.declared.promise.Promise.{Promise}
 use Rattle.promise_core.specs.Promises.{allowed}
 use Rattle.promise_core.specs.State.{Known}
@@ -16,6 +17,16 @@ use Rattle.check_core.specs.Reading.{readings_of}
 use Rattle.check_core.specs.Finding.{after_line, after_lines, are_ended, broken_by, finding, first_line, first_lines, has_end, lines_to, more_lines, or_broken, reply_in, text_read, verdict_of, verdict_at}
 
 -- lines that are read as a reply
+
+-- what was read is in its place
+pub read_here : (result : Bool) (old new : Reply) (found : Option Reply) → IsRead result old new found → result ≡ true → found ≡ Some new
+read_here true old new found is done = is
+read_here false old new found is done = absurd cc
+
+-- or nothing was, and there stands what stood before
+pub not_read : (result : Bool) (old new : Reply) (found : Option Reply) → IsRead result old new found → result ≡ false → (found ≡ None) × (new ≡ old)
+not_read true old new found is done = absurd cc
+not_read false old new found is done = is
 
 -- the lines were gathered, and read
 pub reply_here : (k : ℕ) (bytes came : List ℕ) (found : Option Reply) → are_ended k bytes ≡ true → came ≡ first_lines k bytes → found ≡ text_read came

@@ -42,7 +42,13 @@ pub fn check<T: Feed, R: Feed>(
     let mut reply = 0u128;
     'lines: while let Some(reading) = next_reading(trace, &mut shown.line)? {
         line += 1;
-        match judge_line(machine, &reading, replies, &mut shown.reply)? {
+        match judge_line(
+            machine,
+            &reading,
+            replies,
+            &mut shown.reply,
+            &mut shown.read,
+        )? {
             Ok(lines) => reply += lines,
             Err(promise) => return Ok(broken(line, reply, promise)),
         }

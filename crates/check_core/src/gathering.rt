@@ -3,6 +3,7 @@
 ghost use Rattle.std.specs.Prelude.{◌≡◌, ℕ, ◌+◌, ◌≤◌, List, [], ◌++◌, Some, Ok, IfOk, length, true, false};
 ghost use Rattle.std.specs.Str.{bytes_eq};
 ghost use Rattle.words_core.specs.Texts.{text_of};
+ghost use Rattle.reply_reader.specs.Reading.{IsRead};
 ghost use Rattle.check_core.specs.Ending.{IsEndedBy};
 ghost use Rattle.check_core.specs.Finding.{after_lines, are_ended, fault_reply, first_lines, tells_fault, text_read};
 ghost use Rattle.check_core.specs.Gathered.{Gathers};
@@ -59,11 +60,14 @@ fn write_fault(fault: LineFault, out: &mut ArrayVec<u8, MOST_REPLY_BYTES>)
     write_line(&reply, 0, out);
 }
 
-/// The reply that was gathered, if it is one.
-pub fn read(text: &Gathered<MOST_TEXT_BYTES>) -> Option<Reply>
-    ensures { (came : List ℕ) → Gathers MOST_TEXT_BYTES came text.now → result ≡ text_read came }
+/// Puts what was gathered into `reply`, if it is a reply, and answers whether it is. Else `reply` is as it was.
+pub fn read(text: &Gathered<MOST_TEXT_BYTES>, reply: &mut Reply) -> bool
+    ensures { (came : List ℕ) → Gathers MOST_TEXT_BYTES came text.now → IsRead result reply.old reply.new (text_read came) }
 {
-    read_reply(text.whole()?)
+    match text.whole() {
+        Some(told) => read_reply(told, reply),
+        None => false,
+    }
 }
 
 /// Puts so many lines behind what was gathered, and answers whether there were as many, each with its LF.

@@ -5,6 +5,7 @@ use crate::gathering::read;
 use crate::lines::reading;
 use crate::taken::{TakenFrame, taken_frame};
 use judge::Machine;
+use words_core::{Addressee, Body, Reply};
 
 /// A line of a trace has at most 255 bytes, and then may have a carriage return and a line feed.
 pub const MOST_PART_BYTES: usize = 257;
@@ -17,6 +18,8 @@ pub const MOST_TEXT_BYTES: usize = 65_792;
 pub struct Shown {
     pub line: Gathered<MOST_PART_BYTES>,
     pub reply: Gathered<MOST_TEXT_BYTES>,
+    /// The last reply that was read. It is kept from line to line, since a place for one is large, and costs much to clear.
+    pub(crate) read: Reply,
     /// What is in the way of the page block that the reply tells, where that was looked for.
     pub taken: Option<TakenFrame>,
 }
@@ -27,14 +30,26 @@ impl Shown {
         Shown {
             line: Gathered::new(),
             reply: Gathered::new(),
+            read: no_reply(),
             taken: None,
         }
     }
 
     /// Looks for what is in the way, on the machine that the line was judged on.
     pub fn look_for_taken(&mut self, machine: &Machine) {
-        if let (Ok(Some(event)), Some(reply)) = (reading(&self.line), read(&self.reply)) {
-            self.taken = taken_frame(machine, &event, &reply.body);
+        let Ok(Some(event)) = reading(&self.line) else {
+            return;
+        };
+        if read(&self.reply, &mut self.read) {
+            self.taken = taken_frame(machine, &event, &self.read.body);
         }
+    }
+}
+
+/// What stands in the place for a reply before the first is read: any does.
+fn no_reply() -> Reply {
+    Reply {
+        addressee: Addressee::Nobody,
+        body: Body::Given,
     }
 }

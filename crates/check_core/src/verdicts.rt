@@ -1,8 +1,9 @@
 //! Verdicts on the reply to one line.
 
-ghost use Rattle.std.specs.Prelude.{◌≡◌, ℕ, ◌+◌, ◌<◌, ◌≤◌, ◌^◌, List, [], Some, Ok, IfOk, OnSome, false, true, suc};
+ghost use Rattle.std.specs.Prelude.{◌≡◌, ℕ, ◌+◌, ◌<◌, ◌≤◌, ◌^◌, List, [], Some, Ok, IfOk, false, true, suc};
 ghost use Rattle.promise_core.specs.State.{Known};
 ghost use Rattle.promise_core.specs.Promises.{allowed};
+ghost use Rattle.reply_reader.specs.Reading.{IsRead};
 ghost use Rattle.judge.specs.Adding.{IsAllowedAddition};
 ghost use Rattle.judge.specs.Machine.{ShowsKnown};
 ghost use Rattle.check_core.specs.Checking.{IsFaultVerdict, IsLineVerdict, IsReplyVerdict};
@@ -29,6 +30,7 @@ pub(crate) fn judge_line<R: Feed>(
     reading: &Result<Option<Event>, LineFault>,
     replies: &mut LineReader<R>,
     text: &mut Gathered<MOST_TEXT_BYTES>,
+    reply: &mut Reply,
 ) -> Result<LineVerdict, Unchecked>
     requires fine { replies.old.failed ≡ false }
     ensures judged { (w : Known) (bytes : List ℕ) → ShowsKnown machine.old w → replies.old.left ≡ Some bytes
@@ -42,7 +44,7 @@ pub(crate) fn judge_line<R: Feed>(
         Err(fault) => judge_fault(*fault, replies, text),
         Ok(read) => match read {
             None => Ok(Ok(0)),
-            Some(event) => judge_event(machine, event, replies, text),
+            Some(event) => judge_event(machine, event, replies, text, reply),
         },
     }
 }
@@ -74,6 +76,7 @@ fn judge_event<R: Feed>(
     event: &Event,
     replies: &mut LineReader<R>,
     text: &mut Gathered<MOST_TEXT_BYTES>,
+    reply: &mut Reply,
 ) -> Result<LineVerdict, Unchecked>
     requires fine { replies.old.failed ≡ false }
     requires empty { Gathers MOST_TEXT_BYTES [] text.old }
@@ -85,9 +88,9 @@ fn judge_event<R: Feed>(
 {
     let more = more_lines(machine, event);
     if more == 0 {
-        judge_single(machine, event, replies, text)
+        judge_single(machine, event, replies, text, reply)
     } else {
-        judge_table(machine, event, more, replies, text)
+        judge_table(machine, event, more, replies, text, reply)
     }
 }
 
@@ -97,6 +100,7 @@ fn judge_single<R: Feed>(
     event: &Event,
     replies: &mut LineReader<R>,
     text: &mut Gathered<MOST_TEXT_BYTES>,
+    reply: &mut Reply,
 ) -> Result<LineVerdict, Unchecked>
     requires fine { replies.old.failed ≡ false }
     requires empty { Gathers MOST_TEXT_BYTES [] text.old }
@@ -110,14 +114,14 @@ fn judge_single<R: Feed>(
     if !gather(replies, 1, text)? {
         return Ok(Err(Promise::Form));
     }
-    match &read(text) {
-        None => Ok(Err(Promise::Form)),
-        Some(reply) => judge_reply(machine, event, reply, 1),
+    if read(text, reply) {
+        judge_reply(machine, event, reply, 1)
+    } else {
+        Ok(Err(Promise::Form))
     }
 }
 
-/// Reads the reply to an event that has so many lines behind the first, and judges it. It stands apart since a function clears room
-/// for each reply that it may read when it is entered.
+/// Reads the reply to an event that has so many lines behind the first, and judges it.
 #[inline(never)]
 fn judge_table<R: Feed>(
     machine: &mut Machine,
@@ -125,6 +129,7 @@ fn judge_table<R: Feed>(
     more: u128,
     replies: &mut LineReader<R>,
     text: &mut Gathered<MOST_TEXT_BYTES>,
+    reply: &mut Reply,
 ) -> Result<LineVerdict, Unchecked>
     requires fine { replies.old.failed ≡ false }
     requires empty { Gathers MOST_TEXT_BYTES [] text.old }
@@ -139,31 +144,37 @@ fn judge_table<R: Feed>(
     if !gather(replies, 1, text)? {
         return Ok(Err(Promise::Form));
     }
-    let first = read(text);
-    match &read_more(more, replies, text)? {
-        Some(reply) => judge_reply(machine, event, reply, more + 1),
-        None => Ok(Err(broken_by(machine, event, &first)?)),
+    let is_first = read(text, reply);
+    if read_more(more, replies, text, reply)? {
+        judge_reply(machine, event, reply, more + 1)
+    } else if is_first {
+        Ok(Err(broken_by(machine, event, reply)?))
+    } else {
+        Ok(Err(Promise::Form))
     }
 }
 
-/// The reply that is read from a line that was gathered and so many behind it, if they are one.
+/// Puts into `reply` what is read from a line that was gathered and so many behind it, if they are a reply, and answers whether they
+/// are. Else `reply` is as it was.
 fn read_more<R: Feed>(
     more: u128,
     replies: &mut LineReader<R>,
     text: &mut Gathered<MOST_TEXT_BYTES>,
-) -> Result<Option<Reply>, Unchecked>
+    reply: &mut Reply,
+) -> Result<bool, Unchecked>
     requires fine { replies.old.failed ≡ false }
     ensures found { (bytes : List ℕ) → are_ended 1 bytes ≡ true → Gathers MOST_TEXT_BYTES (first_lines 1 bytes) text.old
-        → replies.old.left ≡ Some (after_lines 1 bytes) → IfOk result (λ found. found ≡ reply_in (suc more) bytes) }
+        → replies.old.left ≡ Some (after_lines 1 bytes)
+        → IfOk result (λ is_read. IsRead is_read reply.old reply.new (reply_in (suc more) bytes)) }
     ensures left { (bytes : List ℕ) → replies.old.left ≡ Some bytes
-        → IfOk result (λ found. OnSome found (replies.new.left ≡ Some (after_lines more bytes))) }
-    ensures room { IfOk result (λ found. OnSome found (replies.new.room + more ≤ replies.old.room)) }
+        → result ≡ Ok true → replies.new.left ≡ Some (after_lines more bytes) }
+    ensures room { result ≡ Ok true → replies.new.room + more ≤ replies.old.room }
     ensures end { IsEndedBy result false replies.new.failed ⊥ }
 {
     if gather(replies, more, text)? {
-        Ok(read(text))
+        Ok(read(text, reply))
     } else {
-        Ok(None)
+        Ok(false)
     }
 }
 
@@ -186,21 +197,15 @@ fn judge_reply(
 }
 
 /// The promise that is broken where the lines are no reply, and the first of them alone is this one.
-fn broken_by(
-    machine: &mut Machine,
-    event: &Event,
-    first: &Option<Reply>,
-) -> Result<Promise, Unchecked>
-    ensures broken { (w : Known) → ShowsKnown machine.old w → IfOk result (λ promise. promise ≡ broken_by event.now first.now w) }
+fn broken_by(machine: &mut Machine, event: &Event, first: &Reply) -> Result<Promise, Unchecked>
+    ensures broken { (w : Known) → ShowsKnown machine.old w
+        → IfOk result (λ promise. promise ≡ broken_by event.now (Some first.now) w) }
     ensures end { IsEndedBy result false false ⊥ }
 {
-    let Some(reply) = first else {
-        return Ok(Promise::Form);
-    };
-    if !is_refusal(&reply.body) {
+    if !is_refusal(&first.body) {
         return Ok(Promise::Form);
     }
-    match machine.judge(event, reply)? {
+    match machine.judge(event, first)? {
         Ok(()) => Ok(Promise::Form),
         Err(promise) => Ok(promise),
     }

@@ -2,6 +2,7 @@ pub mod FormLoop
 pub mod FormLemmas
 pub mod KindLemmas
 pub mod SaidLemmas
+pub mod HexLemmas
 pub mod AnswerLemmas
 pub mod SingleLemmas
 pub mod RowLoop

@@ -256,7 +256,7 @@ refused_again refusal rest =
 
 -- ---- bytes
 
-chosen : {A : Type 0} (test : Bool) (x : Option A) (y : A) → cond test x None ≡ Some y → x ≡ Some y
+pub chosen : {A : Type 0} (test : Bool) (x : Option A) (y : A) → cond test x None ≡ Some y → x ≡ Some y
 chosen true x y e = e
 chosen false x y e = absurd cc
 
@@ -266,7 +266,7 @@ written_again_is word (Ok bs) bytes e =
     ap encode_lower (sym is) ∙ (bytes_eq-Decides (encode_lower bs) word).0 same
 written_again_is word (Err fault) bytes e = absurd cc
 
-bytes_takes_word : (word bytes : List ℕ) → bytes_of word ≡ Some bytes → encode_lower bytes ≡ word
+pub bytes_takes_word : (word bytes : List ℕ) → bytes_of word ≡ Some bytes → encode_lower bytes ≡ word
 unfolding bytes_of
 bytes_takes_word word bytes e =
     written_again_is word (decode_of word) bytes (chosen (nat_le (length word) 128) (bytes_again word (decode_of word)) bytes e)
@@ -308,7 +308,7 @@ are_bytes (b ∷ bs) small (suc i) = are_bytes bs small.1 i
 no_line_feed : (b : ℕ) → is_hex_digit b ≡ true → not (b == 10) ≡ true
 no_line_feed b digit = grind (arith, nat_tests)
 
-few_digits : (n : ℕ) → n ≤ 128 → nat_le n 128 ≡ true
+pub few_digits : (n : ℕ) → n ≤ 128 → nat_le n 128 ≡ true
 few_digits n few = grind (arith, nat_tests)
 
 label_again : (rest : List ℕ) → form_at (codes "bytes ") (codes "bytes " ++ rest) ≡ Some ([], rest)

@@ -1,5 +1,5 @@
 -- Reading a reply from left to right: the first form that stands at the front says what it is.
-use Rattle.std.specs.Prelude.{ℕ, ◌*◌, ◌^◌, ◌==◌, ◌&&◌, List, [], ◌∷◌, codes, length, take, drop, take_while, not, find, slice_index, nat_lt, nat_le, if◌then◌else◌, Option, Some, None, Result, Ok, Err}
+use Rattle.std.specs.Prelude.{◌≡◌, ℕ, ◌*◌, ◌^◌, ◌==◌, ◌&&◌, List, [], ◌∷◌, codes, length, take, drop, take_while, not, find, slice_index, nat_lt, nat_le, Bool, true, false, if◌then◌else◌, Option, Some, None, Result, Ok, Err}
 use Rattle.std.specs.Str.{bytes_eq}
 use Rattle.hex.specs.Hex.{decode_of, encode_lower}
 use Rattle.hex.specs.declared.error.FromHexError.{FromHexError}
@@ -151,3 +151,9 @@ answer_of text = do
   said ← said_at front.1
   alone ← whole said
   Some (record { addressee = front.0; body = alone })
+
+-- Whether a reply was read, from what the place for it held before to what it holds after: what was to be found, or nothing, and
+-- then it holds the same.
+abbrev pub IsRead : Bool → Reply → Reply → Option Reply → Type 0
+IsRead true old new found = found ≡ Some new
+IsRead false old new found = (found ≡ None) × (new ≡ old)

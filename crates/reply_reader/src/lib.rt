@@ -6,6 +6,7 @@
 
 mod answer;
 mod form;
+mod hexed;
 mod said;
 mod single;
 mod table;

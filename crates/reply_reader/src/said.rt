@@ -3,9 +3,10 @@
 ghost use Rattle.std.specs.Prelude.{◌≡◌, ◌≤◌, ◌==◌, IfSome, length, not, take_while};
 ghost use Rattle.words_core.specs.Requests.{body_of_answer, HasFewBytes};
 ghost use Rattle.reply_reader.specs.Forms.{Gives};
-ghost use Rattle.reply_reader.specs.Reading.{frame_at, freed_at, written_at, cache_at, destroyed_at, object_at, given_at, reaped_at, refused_at, refusal_of, bytes_at, bytes_of, said_at};
+ghost use Rattle.reply_reader.specs.Reading.{frame_at, freed_at, written_at, cache_at, destroyed_at, object_at, given_at, reaped_at, refused_at, refusal_of, bytes_at, said_at};
 
 use crate::form::form_at;
+use crate::hexed::bytes_of;
 use model_core::limits::MOST_BYTES;
 use words_core::{Answer, Refusal};
 
@@ -166,24 +167,6 @@ fn refused_at(text: &[u8]) -> Option<(Answer<'static>, &[u8])>
     let ([], rest) = form_at::<0>(refusal.name().as_bytes(), rest)?;
     let ([], rest) = form_at::<0>(b"\n", rest)?;
     Some((Answer::Refused(refusal), rest))
-}
-
-/// The bytes that a word is in hex, in lower case, if they fit; they lie in `room` then.
-#[tactic(auto, unfolding(crate::specs::Reading::bytes_of))]
-fn bytes_of<'a>(word: &[u8], room: &'a mut [u8; MOST_BYTES]) -> Option<&'a [u8]>
-    ensures value { Gives (λ bytes. bytes.now) result (bytes_of word.now) }
-    ensures few { IfSome result (λ bytes. length bytes.now ≤ MOST_BYTES) }
-{
-    if word.len() > 2 * MOST_BYTES {
-        return None;
-    }
-    let size = word.len() / 2;
-    hex::decode_to_slice(word, &mut room[..size]).ok()?;
-    let bytes = &room[..size];
-    let mut again = [0; 2 * MOST_BYTES];
-    let again = &mut again[..2 * size];
-    hex::encode_to_slice(bytes, again).ok()?;
-    (*again == *word).then_some(bytes)
 }
 
 /// How many bytes the line has that stands at the front, without its line feed.

@@ -1,15 +1,15 @@
 //! Reports and the table of owners: a line at the head, and then rows, each begun as that line.
 
-ghost use Rattle.std.specs.Prelude.{◌≡◌, Some, IfSome, count_by, is_none};
+ghost use Rattle.std.specs.Prelude.{◌≡◌, count_by, is_none, true};
 ghost use Rattle.words_core.specs.Texts.{text_of};
 ghost use Rattle.words_core.specs.declared.reply.Reply.{Reply as ReplyValue};
 ghost use Rattle.reply_reader.specs.Forms.{Gives};
 ghost use Rattle.reply_reader.specs.Ranges.{Fits};
-ghost use Rattle.reply_reader.specs.Reading.{◌or_else◌};
+ghost use Rattle.reply_reader.specs.Reading.{◌or_else◌, IsRead};
 ghost use Rattle.reply_reader.specs.Single.{other_of};
 ghost use Rattle.reply_reader.specs.Tables.{after_front, rows_from, order_at, cache_row_at, top_at, no_top_at, some_top_at, report_at, unowned_at, owned_at, owner_at, pool_at, table_of, reply_of_text};
 
-use crate::answer::{addressee_at, answer_of};
+use crate::answer::{addressee_at, read_answer};
 use crate::form::form_at;
 use crate::single::other_of;
 use arrayvec::ArrayVec;
@@ -17,31 +17,43 @@ use model_core::owner::Owner;
 use model_core::report::{CacheRow, OrderRow};
 use words_core::{Body, CACHES, ORDERS, OWNERS, Reply, Report};
 
-/// The reply whose whole text the bytes are, of one line or of several, the line feeds included. `None` where there is no such
-/// reply.
-pub fn read_reply(text: &[u8]) -> Option<Reply>
+/// Puts the reply into `reply` whose whole text the bytes are, of one line or of several, the line feeds included; answers whether
+/// there is such a reply. Where there is none, `reply` is as it was.
+pub fn read_reply(text: &[u8], reply: &mut Reply) -> bool
     // What is read has this text.
-    ensures found { IfSome result (λ reply. text_of reply ≡ text.now) }
+    ensures found { result ≡ true → text_of reply.new ≡ text.now }
     // What has this text is read, and nothing else.
-    ensures only { (reply : ReplyValue) → Fits reply → text_of reply ≡ text.now → result ≡ Some reply }
+    ensures only { (due : ReplyValue) → Fits due → text_of due ≡ text.now → (result ≡ true) × (reply.new ≡ due) }
     // The same as a function.
-    ensures exact { result ≡ reply_of_text text.now }
+    ensures exact { IsRead result reply.old reply.new (reply_of_text text.now) }
 {
-    reply_of_text(text)
+    reply_of_text(text, reply)
 }
 
+/// An answer is put in place. What is longer or rarer is made and moved, in a function of its own, since one clears room for each
+/// reply that it may make when it is entered.
 #[tactic(auto, unfolding(crate::specs::Tables::reply_of_text, crate::specs::Single::single_of))]
-fn reply_of_text(text: &[u8]) -> Option<Reply>
-    ensures { result ≡ reply_of_text text.now }
+fn reply_of_text(text: &[u8], reply: &mut Reply) -> bool
+    ensures { IsRead result reply.old reply.new (reply_of_text text.now) }
 {
-    match answer_of(text) {
-        Some(reply) => Some(reply),
-        None => longer_of(text),
+    read_answer(text, reply) || read_longer(text, reply)
+}
+
+#[cold]
+#[inline(never)]
+fn read_longer(text: &[u8], reply: &mut Reply) -> bool
+    ensures { IsRead result reply.old reply.new (other_of text.now or_else table_of text.now) }
+{
+    match longer_of(text) {
+        Some(found) => {
+            *reply = found;
+            true
+        }
+        None => false,
     }
 }
 
-/// The same where it is no answer. It stands apart since a function clears room for each reply that it may make when it is entered.
-#[inline(never)]
+/// The reply whose whole text the bytes are, if it is no answer.
 fn longer_of(text: &[u8]) -> Option<Reply>
     ensures { result ≡ (other_of text.now or_else table_of text.now) }
 {
