@@ -1,6 +1,7 @@
 pub mod Keeping
 pub mod Following
 pub mod Reading
+pub mod Asking
 pub mod Verdicts
 pub mod Owning
 pub mod Bridging

@@ -1,12 +1,15 @@
 -- What is true of what is kept, and what a call may take for granted.
-use Rattle.std.specs.Prelude.{◌≡◌, ℕ, ◌<◌, ◌≤◌, ◌==◌, List, [], Option, Ok}
+use Rattle.std.specs.Prelude.{◌≡◌, ℕ, ◌<◌, ◌≤◌, ◌==◌, List, [], length, Option, None, Ok}
 use Rattle.std.specs.List.{list_any}
 use Rattle.model_core.proofs.Lists.{IsIn}
 use Rattle.model_core.specs.declared.limits.TheConstants.{MOST_CACHES, MOST_ORDER}
 use Rattle.model_core.specs.declared.owner.Owner.{Owner}
 use Rattle.words_core.specs.declared.event.Event.{Event}
+use Rattle.words_core.specs.declared.event.Command.{Command}
+use Rattle.words_core.specs.declared.event.Command.TheVariants as Asked
 use Rattle.words_core.specs.declared.reply.Body.{Body}
 use Rattle.promise_core.proofs.Laid.{IsLaid, AllGridded}
+use Rattle.promise_core.specs.Bytes.{Holder, holder_of}
 use Rattle.promise_core.specs.Holdings.{ToldCache, Holdings, has_slot}
 use Rattle.promise_core.specs.State.{Known}
 use Rattle.judge_replies.specs.Verdicts.{verdict_on}
@@ -32,3 +35,9 @@ known_by owners order = record { limit = MOST_CACHES; order = order; owners = ow
 abbrev pub IsKeptReply : Event → Body → Seen → Type 0
 IsKeptReply event body x = (owners : List (Option Owner))
     × (verdict_on event body (known_by owners x.left.order) (state_with x (left_at x.left)) ≡ Ok tt)
+
+-- what has the bytes that the command reads or writes
+abbrev pub holder_asked : Command → Holdings → Option Holder
+holder_asked (Asked.Read place len) h = holder_of h place len
+holder_asked (Asked.Write place bytes) h = holder_of h place (length bytes.items)
+holder_asked command h = None

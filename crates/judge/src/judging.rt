@@ -1,15 +1,17 @@
 //! Verdicts on replies to a tenant, and what is kept after them.
 
-ghost use Rattle.std.specs.Prelude.{◌≡◌, ◌≤◌, ℕ, true, List, Option, Ok, IfOk, OnOk, OnErr};
+ghost use Rattle.std.specs.Prelude.{◌≡◌, ◌≤◌, ℕ, true, List, Option, Ok, IfOk, OnOk, OnErr, option_map};
 ghost use Rattle.model_core.specs.declared.owner.Owner.{Owner as Owning};
 ghost use Rattle.words_core.specs.declared.event.Event.TheVariants as On;
 ghost use Rattle.promise_core.specs.State.{State, Known};
+ghost use Rattle.judge_core.specs.Holders.{shown_holder};
 ghost use Rattle.judge_replies.specs.Verdicts.{verdict_on};
 ghost use Rattle.judge.specs.Adding.{is_addition, IsKeptAddition};
-ghost use Rattle.judge.specs.Inside.{IsKeptReply};
+ghost use Rattle.judge.specs.Inside.{IsKeptReply, holder_asked};
 ghost use Rattle.judge.specs.Showing.{ShowsState, FitsKnown, Follows, IsJudged};
 
 use crate::tenant::Tenant;
+use judge_core::RangeHolder;
 use judge_replies::{
     Verdict, judge_alloc, judge_cache, judge_free, judge_give, judge_take, judge_write,
 };
@@ -27,17 +29,19 @@ impl Tenant {
         ensures memory { OnErr result ((t : ℕ) (owners : List (Option Owning))
             → IsKeptAddition (On.Tenant t command.now) body.now owners self.old) }
     {
-        match self.verdict(command, body) {
+        let holder = self.holder_asked(command);
+        match self.verdict(command, holder, body) {
             Ok(()) => {
-                self.follow(command, body)?;
+                self.follow(command, holder, body)?;
                 Ok(Ok(()))
             }
             Err(promise) => Ok(Err(promise)),
         }
     }
 
-    /// The verdict on such a reply.
-    fn verdict(&self, command: &Command, body: &Body) -> Verdict
+    /// The verdict on such a reply, where this is the holder of the bytes that the command reads or writes.
+    fn verdict(&self, command: &Command, holder: Option<RangeHolder>, body: &Body) -> Verdict
+        requires { option_map shown_holder holder ≡ holder_asked command.now self.now.has }
         ensures { (t : ℕ) (owners : List (Option Owning)) (w : Known) (s : State)
             → FitsKnown self.now owners w → ShowsState self.now s → result ≡ verdict_on (On.Tenant t command.now) body.now w s }
     {
@@ -46,8 +50,8 @@ impl Tenant {
         match command {
             Command::Alloc { order: k } => judge_alloc(&self.held, order, *k, body),
             Command::Free { frame } => judge_free(&self.held, *frame, body),
-            Command::Read { place, len } => self.judge_read(*place, *len, body),
-            Command::Write { place, bytes } => judge_write(&self.held, *place, bytes, body),
+            Command::Read { place, len } => self.judge_read(*place, *len, holder, body),
+            Command::Write { bytes, .. } => judge_write(holder.is_some(), bytes, body),
             Command::Cache {
                 size,
                 align,
@@ -63,9 +67,16 @@ impl Tenant {
         }
     }
 
-    /// What is known after a reply that keeps each promise. Fails where memory runs out, and then nothing is changed.
-    fn follow(&mut self, command: &Command, body: &Body) -> Result<(), AllocError>
-        requires { (t : ℕ) → IsKeptReply (On.Tenant t command.now) body.now self.old }
+    /// What is known after a reply that keeps each promise, where this is the holder of the bytes that the command reads or
+    /// writes. Fails where memory runs out, and then nothing is changed.
+    fn follow(
+        &mut self,
+        command: &Command,
+        holder: Option<RangeHolder>,
+        body: &Body,
+    ) -> Result<(), AllocError>
+        requires holder { option_map shown_holder holder ≡ holder_asked command.now self.old.has }
+        requires kept { (t : ℕ) → IsKeptReply (On.Tenant t command.now) body.now self.old }
         ensures followed { OnOk result ((t : ℕ) → Follows (On.Tenant t command.now) body.now self.old self.new) }
         ensures failed { OnErr result (self.new ≡ self.old) }
         ensures memory { OnErr result (is_addition body.now ≡ true) }
@@ -76,12 +87,12 @@ impl Tenant {
                 self.after_free(*frame, body);
                 Ok(())
             }
-            Command::Read { place, len } => {
-                self.after_read(*place, *len, body);
+            Command::Read { place, .. } => {
+                self.after_read(*place, holder, body);
                 Ok(())
             }
             Command::Write { place, bytes } => {
-                self.after_write(*place, bytes, body);
+                self.after_write(*place, bytes, holder, body);
                 Ok(())
             }
             Command::Cache {

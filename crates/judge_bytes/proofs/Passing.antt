@@ -5,7 +5,7 @@ use Rattle.std.proofs.Math.ListN.{set}
 use Rattle.std.proofs.lemmas.List.{get_or-set_other, get_or-set_same, get_or_past, set_past}
 use Rattle.std.proofs.lemmas.Bool.{cases_eq, cases_lt}
 use Rattle.std.proofs.lemmas.Bool.Decides.{nat_tests}
-use Rattle.promise_core.specs.Bytes.{Cell}
+use Rattle.promise_core.specs.Bytes.{Holder, Cell, with_bytes}
 use Rattle.judge_bytes.specs.declared.kept.KeptByte.{KeptByte}
 use Rattle.judge_bytes.specs.declared.kept.KeptByte.TheVariants as Kept
 use Rattle.judge_bytes.specs.declared.mark.Mark.{Mark}
@@ -141,3 +141,44 @@ changed_within step first low high begin end old new is_low is_high by k lt = el
     at : {b : Bool} → (leb begin (first + k) && ltb (first + k) end) ≡ b
         → (if b then step (first + k) (cell_in old k) else cell_in old k) ≡ within begin end step (first + k) (cell_in old k)
     at e = ap (λ (t : Bool). if t then step (first + k) (cell_in old k) else cell_in old k) (sym e)
+
+-- bytes that are put leave the places beside them as they are
+put_beside : (holder : Holder) (begin place : ℕ) (bytes : List ℕ) (cell : Option Cell)
+    → (place < begin) ⊎ (begin + length bytes ≤ place)
+    → with_bytes holder begin bytes (λ _. cell) place ≡ cell
+put_beside holder begin place bytes cell out =
+    let no : (leb begin place && ltb place (begin + length bytes)) ≡ false = grind (arith, nat_tests, out) in
+    ap (λ (t : Bool). if t then Some (record { holder = holder; byte = get_or bytes (place - begin) 0; sure = true }) else cell) no
+
+put_on : (holder : Holder) (begin place : ℕ) (bytes : List ℕ) (cell : Option Cell)
+    → begin ≤ place → place < begin + length bytes
+    → with_bytes holder begin bytes (λ _. cell) place
+    ≡ Some (record { holder = holder; byte = get_or bytes (place - begin) 0; sure = true })
+put_on holder begin place bytes cell low high =
+    let yes : (leb begin place && ltb place (begin + length bytes)) ≡ true = grind (arith, nat_tests) in
+    ap (λ (t : Bool). if t then Some (record { holder = holder; byte = get_or bytes (place - begin) 0; sure = true }) else cell) yes
+
+module _ (holder : Holder) (begin first low high from to : ℕ) (bytes : List ℕ) (old : List KeptByte)
+    (is_from : from ≡ min (max (begin - first) low) high) (is_to : to ≡ max (min (begin + length bytes - first) high) from) where
+  abbrev put_step : CellStep
+  put_step place cell = with_bytes holder begin bytes (λ _. cell) place
+
+  -- none of those before the bytes
+  pub put_before : low ≤ high → IsChanged put_step first low from old old
+  put_before order = changed_left put_step first low from old
+      (λ k over under. put_beside holder begin (first + k) bytes (cell_in old k) (inl (omega arith)))
+
+  -- one byte more
+  pub put_more : (k : ℕ) (new : List KeptByte) (kept : KeptByte) → low ≤ high → from ≤ k → k < to → k < length new
+      → IsChanged put_step first low k old new
+      → shown_kept kept ≡ Some (record { holder = holder; byte = get_or bytes (first + k - begin) 0; sure = true })
+      → IsChanged put_step first low (k + 1) old (set new k kept)
+  put_more k new kept order over under lt was is = changed_more put_step first low k old new kept (omega arith) lt was
+      (is ∙ sym (put_on holder begin (first + k) bytes (cell_in new k) (omega arith) (omega arith)))
+
+  -- none of those behind them
+  pub put_behind : (k : ℕ) (new : List KeptByte) → low ≤ high → from ≤ k → to ≤ k → k ≤ to
+      → IsChanged put_step first low k old new → IsChanged put_step first low high old new
+  put_behind k new order over under most was = changed_join put_step first low k high old new new (omega arith)
+      (omega arith) was
+      (changed_left put_step first k high new (λ j ge lt. put_beside holder begin (first + j) bytes (cell_in new j) (inr (omega arith))))

@@ -1,10 +1,10 @@
 //! What replies make of what was left at a place.
 
-ghost use Rattle.std.specs.Prelude.{◌≡◌, ℕ, ◌<◌, ◌≤◌, Bool, true, false, not, Option, None};
+ghost use Rattle.std.specs.Prelude.{◌≡◌, ℕ, ◌+◌, ◌-◌, ◌^◌, ◌<◌, ◌≤◌, Bool, true, false, not, length, Option, None};
 ghost use Rattle.promise_core.specs.Bytes.{Cell, with_bytes};
 ghost use Rattle.judge_core.specs.Holders.{shown_holder};
 ghost use Rattle.judge_bytes.specs.Inside.{CellStep, shown_kept, doubted_of, removed_of};
-ghost use Rattle.judge_bytes.specs.Marks.{IsMarkedAs};
+ghost use Rattle.judge_bytes.specs.Marks.{IsMarkedAs, IsChanged};
 
 use crate::kept::KeptByte;
 use crate::mark::Mark;
@@ -15,9 +15,12 @@ use judge_core::{LeftByte, RangeHolder};
 pub(crate) trait Change {
     ghost step: { Self → CellStep };
 
-    /// What is stored then.
-    fn change(&self, place: u64, kept: KeptByte) -> KeptByte
-        ensures { shown_kept result ≡ step self.now place (shown_kept kept) };
+    /// Changes what is stored of the places from `low` on, before `high`, where the first is `first`.
+    fn change_places(&self, cells: &mut [KeptByte], first: u64, low: usize, high: usize)
+        requires order { low ≤ high }
+        requires most { high ≤ length cells.old }
+        requires low { first + length cells.old ≤ 2 ^ 32 }
+        ensures { IsChanged (step self.now) first low high cells.old cells.new };
 
     /// Whether something may come to be where nothing was.
     fn adds(&self) -> bool
@@ -37,10 +40,11 @@ pub(crate) trait Change {
 #[derive(Drop)]
 pub(crate) struct Doubt<T>(pub T);
 
-impl<T: HolderTest> Change for Doubt<T> {
-    ghost step = { λ d. doubted_of (T.test d.0) };
-
-    fn change(&self, _place: u64, kept: KeptByte) -> KeptByte {
+impl<T: HolderTest> Doubt<T> {
+    /// What is stored of a place then.
+    fn doubted(&self, kept: KeptByte) -> KeptByte
+        ensures { (place : ℕ) → shown_kept result ≡ doubted_of (T.test self.now.0) place (shown_kept kept) }
+    {
         match kept.left() {
             Some(left) => {
                 if self.0.passes(left.holder) {
@@ -54,6 +58,16 @@ impl<T: HolderTest> Change for Doubt<T> {
                 }
             }
             None => kept,
+        }
+    }
+}
+
+impl<T: HolderTest> Change for Doubt<T> {
+    ghost step = { λ d. doubted_of (T.test d.0) };
+
+    fn change_places(&self, cells: &mut [KeptByte], _first: u64, low: usize, high: usize) {
+        for k in low..high {
+            cells[k] = self.doubted(cells[k]);
         }
     }
 
@@ -81,10 +95,11 @@ impl<T: HolderTest> Change for Doubt<T> {
 #[derive(Drop)]
 pub(crate) struct Remove<T>(pub T);
 
-impl<T: HolderTest> Change for Remove<T> {
-    ghost step = { λ d. removed_of (T.test d.0) };
-
-    fn change(&self, _place: u64, kept: KeptByte) -> KeptByte {
+impl<T: HolderTest> Remove<T> {
+    /// What is stored of a place then.
+    fn without(&self, kept: KeptByte) -> KeptByte
+        ensures { (place : ℕ) → shown_kept result ≡ removed_of (T.test self.now.0) place (shown_kept kept) }
+    {
         match kept.left() {
             Some(left) => {
                 if self.0.passes(left.holder) {
@@ -94,6 +109,16 @@ impl<T: HolderTest> Change for Remove<T> {
                 }
             }
             None => kept,
+        }
+    }
+}
+
+impl<T: HolderTest> Change for Remove<T> {
+    ghost step = { λ d. removed_of (T.test d.0) };
+
+    fn change_places(&self, cells: &mut [KeptByte], _first: u64, low: usize, high: usize) {
+        for k in low..high {
+            cells[k] = self.without(cells[k]);
         }
     }
 
@@ -125,18 +150,24 @@ pub(crate) struct Put<'a> {
 impl<'a> Change for Put<'a> {
     ghost step = { λ d place cell. with_bytes (shown_holder d.holder) d.begin d.bytes.now (λ _. cell) place };
 
-    fn change(&self, place: u64, kept: KeptByte) -> KeptByte {
-        let begin = u64::from(self.begin);
-        if place < begin {
-            return kept;
-        }
-        match self.bytes.get((place - begin) as usize) {
-            Some(byte) => KeptByte::of(LeftByte {
-                holder: self.holder,
-                byte: *byte,
+    // It stands apart so that what is known of its ends is not worked out anew for each chunk.
+    #[inline(never)]
+    fn change_places(&self, cells: &mut [KeptByte], first: u64, low: usize, high: usize) {
+        let Put {
+            holder,
+            begin: place,
+            bytes,
+        } = *self;
+        let begin = u64::from(place);
+        let end = begin + bytes.len() as u64;
+        let from = begin.saturating_sub(first).max(low as u64).min(high as u64);
+        let to = end.saturating_sub(first).min(high as u64).max(from);
+        for k in from..to {
+            cells[k as usize] = KeptByte::of(LeftByte {
+                holder,
+                byte: bytes[(first + k - begin) as usize],
                 sure: true,
-            }),
-            None => kept,
+            });
         }
     }
 

@@ -15,18 +15,6 @@ pub(crate) const CHUNK: usize = 64;
 /// How many places a frame has.
 pub(crate) const FRAME: usize = FRAME_BYTES as usize;
 
-/// Changes the places from `low` on, before `high`, where the first is `first`.
-fn change_places<C: Change>(cells: &mut [KeptByte], first: u64, low: usize, high: usize, change: &C)
-    requires order { low ≤ high }
-    requires most { high ≤ length cells.old }
-    requires low { first + length cells.old ≤ 2 ^ 32 }
-    ensures { IsChanged (C.step change.now) first low high cells.old cells.new }
-{
-    for k in low..high {
-        cells[k] = change.change(first + k as u64, cells[k]);
-    }
-}
-
 /// Changes those places of a chunk, where its mark does not say that the change leaves them as they are.
 fn change_chunk<C: Change>(
     cells: &mut [KeptByte],
@@ -50,7 +38,7 @@ fn change_chunk<C: Change>(
     if change.leaves(mark) {
         return;
     }
-    change_places(cells, first, low, high, change);
+    change.change_places(cells, first, low, high);
     set_mark(chunks, chunk, change.mark_after(mark, high - low == CHUNK));
 }
 

@@ -91,6 +91,9 @@ impl SlotBytes {
         ensures cells { (k : ℕ) → k < length self.old.cells → slice_index_or self.new.cells k None
             ≡ within begin end (C.step change.now) (first + k) (slice_index_or self.old.cells k None) }
     {
+        if end <= first || first + self.places as u64 <= begin {
+            return;
+        }
         make_room(&mut self.cells, self.places, first, end, change);
         change_range(
             &mut self.cells,

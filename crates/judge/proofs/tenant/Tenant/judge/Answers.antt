@@ -9,8 +9,8 @@ use Rattle.judge.proofs.Keeping.{shown}
 use Rattle.judge.proofs.Sizes.{at_err}
 use Rattle.judge.proofs.tenant.Tenant.judge.Goals as goal
 
-pub follow-requires : goal.follow-requires
-follow-requires c t =
+pub follow-requires-clause-kept : goal.follow-requires-clause-kept
+follow-requires-clause-kept c t =
     let x = c.args.self.now in (
       [],
       sym (c.verdict.ensures t [] (known_by [] x.left.order) (state_with x (left_at x.left))

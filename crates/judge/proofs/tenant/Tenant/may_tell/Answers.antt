@@ -1,15 +1,14 @@
-use Rattle.std.proofs.Common.{◌≡◌, Some, length, ap, sym, subst, ◌∙◌}
-use Rattle.std.specs.Prelude.{option_map}
-use Rattle.promise_core.specs.Bytes.{holder_of}
+use Rattle.std.proofs.Common.{◌≡◌, length, sym, subst, ◌∙◌}
 use Rattle.judge_core.specs.Holders.{shown_holder}
 use Rattle.judge.specs.Showing.{Seen, ShowsState}
+use Rattle.judge.proofs.Asking.{found}
 use Rattle.judge.proofs.Reading.{told_right}
 use Rattle.judge.proofs.tenant.Tenant.may_tell.Goals as goal
 
 pub returns-in-Some : goal.returns-in-Some
 returns-in-Some c s shown =
     let x : Seen = record { has = c.self.inside.held; left = c.self.inside.left; hides = c.self.inside.hides; told = c.self.inside.told } in
-    let is : holder_of x.has c.args.place c.args.len ≡ Some (shown_holder c.in-Some.holder) = sym c.holder_of.ensures ∙ ap (option_map shown_holder) c.in-Some.is in
+    let is = found x c.args.self.now c.args.place c.args.len c.args.holder c.in-Some.holder c.self.view_is c.in-Some.is c.requires in
     let len : length c.args.bytes.now.items ≡ c.args.len = sym c.len.ensures.value ∙ c.if-len.false in
     told_right x s c.args.place c.args.len c.args.bytes.now.items (shown_holder c.in-Some.holder) c.may_read.result c.self.invariant
     (subst (λ y. ShowsState y s) (sym c.self.view_is) shown) is len c.may_read.ensures

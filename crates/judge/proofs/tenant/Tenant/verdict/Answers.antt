@@ -1,9 +1,13 @@
-use Rattle.std.proofs.Common.{refl, ap, sym, subst, ◌∙◌}
+use Rattle.std.proofs.Common.{◌≡◌, length, not, refl, ap, sym, subst, ◌∙◌}
+use Rattle.std.specs.Prelude.{option_map}
 use Rattle.std.specs.Option.{option_copied}
 use Rattle.words_core.specs.declared.event.Event.TheVariants as On
 use Rattle.words_core.specs.declared.event.Command.TheVariants as Asked
+use Rattle.judge_core.specs.Holders.{shown_holder}
 use Rattle.judge_replies.specs.Verdicts.{verdict_on}
 use Rattle.judge.specs.Showing.{Seen, ShowsState, FitsKnown}
+use Rattle.judge.specs.Inside.{holder_asked}
+use Rattle.judge.proofs.Asking.{in_reach}
 use Rattle.judge.proofs.Verdicts.{at_has, at_order, at_limit, at_all}
 use Rattle.judge.proofs.tenant.Tenant.verdict.Goals as goal
 
@@ -23,13 +27,14 @@ returns-in-Free c t owners w s fits shown =
     c.judge_free.ensures t w s ∙ (at_has (On.Tenant t (Asked.Free c.in-Free.frame)) c.args.body.now x owners w s f sh
     ∙ ap (λ m. verdict_on (On.Tenant t m) c.args.body.now w s) (sym c.in-Free.is))
 
+pub judge_read-requires : goal.judge_read-requires
+judge_read-requires c = subst (λ m. option_map shown_holder c.args.holder ≡ holder_asked m c.args.self.now.has) c.in-Read.is c.requires
+
 pub returns-in-Write : goal.returns-in-Write
 returns-in-Write c t owners w s fits shown =
-    let x : Seen = record { has = c.self.inside.held; left = c.self.inside.left; hides = c.self.inside.hides; told = c.self.inside.told } in
-    let f = subst (λ y. FitsKnown y owners w) (sym c.self.view_is) fits in
-    let sh = subst (λ y. ShowsState y s) (sym c.self.view_is) shown in
-    c.judge_write.ensures t w s ∙ (at_has (On.Tenant t (Asked.Write c.in-Write.place c.in-Write.bytes)) c.args.body.now x owners w s f sh
-    ∙ ap (λ m. verdict_on (On.Tenant t m) c.args.body.now w s) (sym c.in-Write.is))
+    let asked = subst (λ m. option_map shown_holder c.args.holder ≡ holder_asked m c.args.self.now.has) c.in-Write.is c.requires in
+    let reach = in_reach c.args.self.now s c.in-Write.place (length c.in-Write.bytes.items) c.args.holder shown asked ∙ ap not (sym c.is_some.ensures) in
+    c.judge_write.ensures t c.in-Write.place w s reach ∙ ap (λ m. verdict_on (On.Tenant t m) c.args.body.now w s) (sym c.in-Write.is)
 
 pub returns-in-Cache : goal.returns-in-Cache
 returns-in-Cache c t owners w s fits shown =
