@@ -50,20 +50,8 @@ fn nobody_at(text: &[u8]) -> Option<(Addressee, &[u8])>
     Some((Addressee::Nobody, rest))
 }
 
-/// The reply to a tenant's command other than `report` whose whole text the bytes are: one line with its line feed. `None` where
-/// there is no such reply.
-pub fn answer_of(text: &[u8]) -> Option<Reply>
-    ensures { result ≡ answer_of text.now }
-{
-    let mut room = [0; MOST_BYTES];
-    let (addressee, answer) = whole_answer(text, &mut room)?;
-    Some(Reply {
-        addressee,
-        body: answer.into_body(),
-    })
-}
-
-/// The same, put into `reply`; answers whether there is such a reply. Where there is none, `reply` is as it was.
+/// Puts the reply to a tenant's command other than `report` into `reply` whose whole text the bytes are, one line with its line
+/// feed; answers whether there is such a reply. Where there is none, `reply` is as it was.
 pub fn read_answer(text: &[u8], reply: &mut Reply) -> bool
     ensures { IsRead result reply.old reply.new (answer_of text.now) }
 {

@@ -11,5 +11,4 @@ mod said;
 mod single;
 mod table;
 
-pub use single::read_single;
 pub use table::read_reply;

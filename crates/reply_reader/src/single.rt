@@ -1,37 +1,14 @@
-//! Replies of one line: answers, what is said to the administrator, and faults.
+//! Replies of one line that are no answers: what is said to the administrator, and faults.
 
-ghost use Rattle.std.specs.Prelude.{◌≡◌, Some, IfSome};
-ghost use Rattle.words_core.specs.Texts.{text_of};
-ghost use Rattle.words_core.specs.declared.reply.Reply.{Reply as ReplyValue};
+ghost use Rattle.std.specs.Prelude.{◌≡◌};
 ghost use Rattle.reply_reader.specs.Forms.{Gives};
-ghost use Rattle.reply_reader.specs.Ranges.{Fits, IsSingle};
-ghost use Rattle.reply_reader.specs.Single.{granted_at, taken_at, reset_at, moved_at, fault_at, some_fault_at, body_at, other_of, single_of};
+ghost use Rattle.reply_reader.specs.Single.{granted_at, taken_at, reset_at, moved_at, fault_at, some_fault_at, body_at, other_of};
 
-use crate::answer::{addressee_at, answer_of};
+use crate::answer::addressee_at;
 use crate::form::form_at;
 use words_core::{Body, LineFault, Reply};
 
-/// The reply of one line whose whole text the bytes are, its line feed included: any but a report and the table of owners. `None`
-/// where there is no such reply.
-pub fn read_single(text: &[u8]) -> Option<Reply>
-    // What is read has this text.
-    ensures found { IfSome result (λ reply. text_of reply ≡ text.now) }
-    // What has this text is read, and nothing else.
-    ensures only { (reply : ReplyValue) → Fits reply → IsSingle reply.body → text_of reply ≡ text.now → result ≡ Some reply }
-{
-    single_of(text)
-}
-
-#[tactic(auto, unfolding(crate::specs::Single::single_of))]
-pub fn single_of(text: &[u8]) -> Option<Reply>
-    ensures { result ≡ single_of text.now }
-{
-    if let Some(reply) = answer_of(text) {
-        return Some(reply);
-    }
-    other_of(text)
-}
-
+/// The reply to the administrator, or to a faulty line, whose whole text the bytes are. `None` where there is no such reply.
 #[tactic(auto, unfolding(crate::specs::Single::other_of))]
 pub fn other_of(text: &[u8]) -> Option<Reply>
     ensures { result ≡ other_of text.now }
