@@ -4,3 +4,4 @@ pub mod CheckLemmas
 pub mod KeptLemmas
 pub mod Witnesses
 pub mod Examples
+pub mod ShortLemmas

@@ -9,6 +9,7 @@ mod gathering;
 pub mod laws;
 mod lines;
 mod reader;
+mod short;
 mod shown;
 mod taken;
 mod verdicts;

@@ -9,6 +9,7 @@ ghost use Rattle.check_core.specs.Reading.{IsNextReading, without_line_feed};
 use crate::finding::Unchecked;
 use crate::gathered::Gathered;
 use crate::reader::LineReader;
+use crate::short::read_short;
 use crate::shown::MOST_PART_BYTES;
 use replay_core::Feed;
 use words_core::{Event, LineFault, read_line};
@@ -39,7 +40,10 @@ pub(crate) fn reading(line: &Gathered<MOST_PART_BYTES>) -> Result<Option<Event>,
 {
     match line.whole() {
         None => Err(LineFault::Long),
-        Some(part) => read_line(without_line_feed(part)),
+        Some(part) => match read_short(part) {
+            Some(event) => Ok(Some(event)),
+            None => read_line(without_line_feed(part)),
+        },
     }
 }
 
