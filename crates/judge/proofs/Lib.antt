@@ -1,6 +1,7 @@
 pub mod Keeping
 pub mod Following
 pub mod Reading
+pub mod Ground
 pub mod Asking
 pub mod Verdicts
 pub mod Owning
@@ -8,3 +9,4 @@ pub mod Bridging
 pub mod OwnersAfter
 pub mod Sizes
 pub mod Opening
+pub mod Owed

@@ -1,7 +1,9 @@
+pub mod SlotCells
 pub mod Places
 pub mod Stepping
+pub mod FirstSlots
 pub mod Changes
 pub mod SlotsHeld
 pub mod ReadBytes
 pub mod Passing
-pub mod Padding
+pub mod Rooms

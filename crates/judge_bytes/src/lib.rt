@@ -2,13 +2,12 @@
 #![tactic(auto)]
 
 mod change;
-mod kept;
 mod left;
-mod mark;
 mod ranges;
 mod reading;
 mod slot;
 mod slots;
-mod tests_of_holders;
+mod spare;
 
 pub use left::LeftBytes;
+pub use spare::SpareRooms;

@@ -1,0 +1,4 @@
+pub mod Masks
+pub mod Granules
+pub mod Steps
+pub mod Marks
