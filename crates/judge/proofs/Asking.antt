@@ -1,15 +1,15 @@
 -- What has the bytes that a command reads or writes.
-use Rattle.std.proofs.Common.{◌≡◌, ℕ, ◌≤◌, not, List, length, Option, Some, None, is_some, refl, ap, sym, subst, ◌∙◌}
+use Rattle.std.proofs.Common.{◌≡◌, ℕ, ◌≤◌, not, length, Option, Some, None, is_some, refl, ap, sym, subst, ◌∙◌}
 use Rattle.std.specs.Prelude.{◌==◌, is_none, option_map}
 use Rattle.std.specs.List.{list_any}
-use Rattle.std.proofs.lemmas.Bool.{eqb-true, and_parts}
+use Rattle.std.proofs.lemmas.Bool.{eqb-true}
 use Rattle.arrayvec.specs.ArrayVec.{ArrayVec}
 use Rattle.model_core.specs.declared.limits.TheConstants.{MOST_ORDER}
 use Rattle.words_core.specs.declared.event.Event.TheVariants as On
 use Rattle.words_core.specs.declared.event.Command.{Command}
 use Rattle.words_core.specs.declared.event.Command.TheVariants as Asked
 use Rattle.words_core.specs.declared.reply.Body.TheVariants as Say
-use Rattle.promise_core.specs.Bytes.{Holder, with_bytes, holder_of}
+use Rattle.promise_core.specs.Bytes.{Holder, Cells, holder_of}
 use Rattle.promise_core.specs.Holdings.{Holdings}
 use Rattle.promise_core.specs.State.{State}
 use Rattle.promise_core.proofs.Laid.{IsLaid, AllGridded}
@@ -19,7 +19,6 @@ use Rattle.judge_bytes.specs.Left.{Left, left_slots, left_at, Becomes}
 use Rattle.judge.specs.Showing.{Seen, state_with, ShowsState}
 use Rattle.judge.specs.Inside.{LieInSlots, IsKeptReply, known_by, holder_asked}
 use Rattle.judge.proofs.Keeping.{next}
-use Rattle.judge.proofs.Ground.{put, kept_ground}
 
 -- a command that reads and writes nothing asks for no bytes
 pub none_asked : (m : Command) (h : Holdings) → ((place len : ℕ) → m ≡ Asked.Read place len → ⊥)
@@ -51,16 +50,14 @@ found_none x y place len o same none is =
     ap (λ (z : Seen). holder_of z.has place len) same ∙ (sym is ∙ ap (option_map shown_holder) none)
 
 -- what was left stays that of the held slots
-pub left_sound : (h : Holdings) (old new : Left) (holder : Holder) (place len : ℕ) (bytes : List ℕ) → LieInSlots h old
-    → holder_of h place len ≡ Some holder → length bytes ≡ len → Becomes old (left_slots old) (with_bytes holder place bytes) new → LieInSlots h new
-left_sound h old new holder place len bytes sound found all becomes = record {
+pub left_sound : (h : Holdings) (old new : Left) (change : Cells → Cells) → LieInSlots h old
+    → Becomes old (left_slots old) change new → LieInSlots h new
+left_sound h old new change sound becomes = record {
   sized = subst (λ k. k ≤ MOST_ORDER) (sym becomes.order) sound.sized;
   slots = λ u. ap (list_any (λ v. v == u)) becomes.slots ∙ sound.slots u;
   laid = subst (λ k. IsLaid k h) (sym becomes.order) sound.laid;
   gridded = subst (λ k. AllGridded k h) (sym becomes.order) sound.gridded;
   numbered = sound.numbered;
-  ground = kept_ground h new (with_bytes holder place bytes (left_at old)) (becomes.cells (left_at old) (λ q held. refl))
-      (put old.order h sound.laid sound.gridded (left_at old) sound.ground place len holder bytes found all);
 }
 
 -- as many bytes are written as were asked for
@@ -70,11 +67,3 @@ all_written t place n bytes x (os, ok) =
     let after = next (On.Tenant t (Asked.Write place bytes)) (Say.Written n) (known_by os x.left.order)
     (state_with x (left_at x.left)) ok in
     eqb-true (length bytes.items) n after.bytes
-
--- as many are told as were asked for
-pub all_read : (t place len : ℕ) (bytes : ArrayVec ℕ) (x : Seen)
-    → IsKeptReply (On.Tenant t (Asked.Read place len)) (Say.Bytes bytes) x → length bytes.items ≡ len
-all_read t place len bytes x (os, ok) =
-    let after = next (On.Tenant t (Asked.Read place len)) (Say.Bytes bytes) (known_by os x.left.order)
-    (state_with x (left_at x.left)) ok in
-    eqb-true (length bytes.items) len (and_parts _ _ after.bytes).0

@@ -26,8 +26,7 @@ use Rattle.judge_replies.specs.Verdicts.{kept_by, verdict_on}
 use Rattle.judge_replies.proofs.Allowed.{all_kept}
 use Rattle.judge_bytes.specs.Left.{left_slots, left_at, Becomes}
 use Rattle.judge.specs.Showing.{Seen, state_with, ShowsState, Follows}
-use Rattle.judge.specs.Inside.{AreNumbered, IsGround, LieInSlots, known_by, IsKeptReply}
-use Rattle.judge.proofs.Ground.{ground_step, kept_ground}
+use Rattle.judge.specs.Inside.{AreNumbered, LieInSlots, known_by, IsKeptReply}
 
 -- the state after a reply that keeps each promise, and some of these
 pub record IsNext (event : Event) (body : Body) (w : Known) (s : State) : Type 0 where
@@ -126,8 +125,6 @@ sound_after event body old new sound (os, ok) follows slots =
       gridded = subst (λ k. AllGridded k new.has) (sym follows.order)
           (subst (AllGridded old.left.order) has (grid_step w event body s f.0 f.1 n.refusals n.objects n.layout sound.laid.numbers sound.gridded));
       numbered = subst AreNumbered has (number_step w event body s f.0 f.1 refl n.layout sound.numbered);
-      ground = kept_ground new.has new.left f.0.cells f.2.cells
-          (subst (λ h. IsGround h f.0.cells) has (ground_step w event body s f.0 f.1 n.refusals n.objects n.bytes sound.laid sound.gridded sound.ground));
     }
 
 -- where both slots stay

@@ -1,7 +1,6 @@
 pub mod Keeping
 pub mod Following
 pub mod Reading
-pub mod Ground
 pub mod Asking
 pub mod Verdicts
 pub mod Owning
@@ -9,4 +8,3 @@ pub mod Bridging
 pub mod OwnersAfter
 pub mod Sizes
 pub mod Opening
-pub mod Owed

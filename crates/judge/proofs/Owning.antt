@@ -20,7 +20,6 @@ use Rattle.judge.specs.Showing.{Seen, state_with, ShowsState, Follows}
 use Rattle.judge.specs.Inside.{LieInSlots, known_by, IsKeptReply}
 use Rattle.judge.proofs.Keeping.{next, unanswered}
 use Rattle.judge.proofs.Following.{changed, follows}
-use Rattle.judge.proofs.Ground.{nothing_ground}
 
 -- Nothing
 
@@ -44,7 +43,6 @@ nothing_sound order h l small has left = subst (λ y. LieInSlots y l) (sym has) 
   laid = nothing_laid order;
   gridded = nothing_gridded order;
   numbered = λ c i. elim i [ ];
-  ground = nothing_ground;
 }))
 
 -- A grant

@@ -40,31 +40,30 @@ in_slot order p h b aligned held low high =
     let frame : HasFrame b (p / 4096) = (omega (arith, low), omega (arith, high)) in
     subst (λ u. has_slot h u ≡ true) (sym (frame_slot order (p / 4096) b aligned frame)) held
 
--- the holder is a live object that has the range
-pub record HasRange (place len : ℕ) (cs : List ToldCache) (holder : Holder) : Type 0 where
+-- a live object has the range
+pub record HasRange (place len : ℕ) (cs : List ToldCache) : Type 0 where
   pub cache : ToldCache
   pub first : ℕ
   pub listed : IsIn cache cs
   pub live : IsIn first cache.live
   pub begins : first ≤ place
   pub ends : place + len ≤ first + cache.size
-  pub is : Holder.Object cache.number first ≡ holder
 
-pub object_has : (place len : ℕ) (cs : List ToldCache) (holder : Holder) → object_with place len cs ≡ Some holder → HasRange place len cs holder
+object_has : (place len : ℕ) (cs : List ToldCache) (holder : Holder) → object_with place len cs ≡ Some holder → HasRange place len cs
 object_has place len [] holder e = absurd (cc)
 object_has place len (c ∷ cs) holder e = go (find (λ p. is_within place len p c.size) c.live) refl e (object_has place len cs holder)
   where
     go : (o : Option ℕ) → find (λ p. is_within place len p c.size) c.live ≡ o
         → option_map_or (λ p. Some (Holder.Object c.number p)) o (object_with place len cs) ≡ Some holder
-        → (object_with place len cs ≡ Some holder → HasRange place len cs holder) → HasRange place len (c ∷ cs) holder
+        → (object_with place len cs ≡ Some holder → HasRange place len cs) → HasRange place len (c ∷ cs)
     go None is e rest = let r = rest e in
-        record { cache = r.cache; first = r.first; listed = inr r.listed; live = r.live; begins = r.begins; ends = r.ends; is = r.is }
+        record { cache = r.cache; first = r.first; listed = inr r.listed; live = r.live; begins = r.begins; ends = r.ends }
     go (Some p) is e rest =
         let f = find_in (λ q. is_within place len q c.size) p c.live is in
         let at = and_parts _ _ f.1 in
-        record { cache = c; first = p; listed = inl refl; live = f.0; begins = leb-true p place at.0; ends = leb-true (place + len) (p + c.size) at.1; is = cc }
+        record { cache = c; first = p; listed = inl refl; live = f.0; begins = leb-true p place at.0; ends = leb-true (place + len) (p + c.size) at.1 }
 
-pub last_ends : (j n k : ℕ) → j < n → j * k ≤ (n - 1) * k
+last_ends : (j n k : ℕ) → j < n → j * k ≤ (n - 1) * k
 last_ends j n k lt = mul-le j k (n - 1) k (omega (arith, lt)) (omega arith)
 
 pub places_held : (h : Holdings) (left : Left) → LieInSlots h left → (place len : ℕ) (holder : Holder) → holder_of h place len ≡ Some holder

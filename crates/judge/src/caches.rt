@@ -48,7 +48,7 @@ impl Tenant {
                     colours: *colours,
                 };
                 self.held
-                    .make_cache(HeldCache::new(*cache, layout, pattern))?;
+                    .make_cache(HeldCache::new(self.alloc, *cache, layout, pattern))?;
                 self.told = None;
                 Ok(())
             }

@@ -87,8 +87,8 @@ impl Tenant {
                 self.after_free(*frame, body);
                 Ok(())
             }
-            Command::Read { place, len } => {
-                self.after_read(*place, *len, holder, body);
+            Command::Read { place, .. } => {
+                self.after_read(*place, holder, body);
                 Ok(())
             }
             Command::Write { place, bytes } => {

@@ -8,7 +8,6 @@ ghost use Rattle.promise_core.specs.State.{opening};
 ghost use Rattle.judge.specs.Machine.{ShowsKnown};
 
 use crate::tenant::Tenant;
-use judge_bytes::SpareRooms;
 use judge_core::FrameBlock;
 use model_core::owner::Owner;
 use std::alloc::{AllocError, Global};
@@ -22,21 +21,17 @@ pub struct Machine {
     pub(crate) owners: Vec<Option<Owner>>,
     /// By number.
     pub(crate) tenants: Vec<Tenant>,
-    /// Memory for what is left in the slots that no tenant holds.
-    pub(crate) spare: SpareRooms,
 }
 
 impl Model for Machine {
     ghost use Rattle.judge.specs.Machine.{SeenMachine};
-    ghost use Rattle.std.specs.Prelude.{◌≡◌};
     ghost use Rattle.judge.specs.Sizes.{FitsLimits};
 
     ghost Value = { SeenMachine };
 
     ghost view = { λ m. record { order = m.order; owners = m.owners.items; tenants = m.tenants.items } };
 
-    ghost invariant = { λ m. FitsLimits (record { order = m.order; owners = m.owners.items; tenants = m.tenants.items })
-        × (m.spare ≡ m.order) };
+    ghost invariant = { λ m. FitsLimits (record { order = m.order; owners = m.owners.items; tenants = m.tenants.items }) };
 }
 
 impl Machine {
@@ -61,7 +56,6 @@ impl Machine {
             order,
             owners,
             tenants: all,
-            spare: SpareRooms::new(alloc, order, superblocks)?,
         })
     }
 

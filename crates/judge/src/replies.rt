@@ -104,7 +104,7 @@ impl Machine {
         ensures sizes { KeepsSizes self.old self.new }
     {
         let tenant = &mut self.tenants[t as usize];
-        match tenant.judge_admin(&self.owners, command, &reply.body, &mut self.spare)? {
+        match tenant.judge_admin(&self.owners, command, &reply.body)? {
             Ok(()) => {
                 follow_owners(&mut self.owners, command, &reply.body);
                 Ok(Ok(()))

@@ -11,7 +11,6 @@ ghost use Rattle.judge.specs.Inside.{IsKeptReply};
 ghost use Rattle.judge.specs.Showing.{ShowsState, FitsKnown, Follows, IsJudged};
 
 use crate::tenant::Tenant;
-use judge_bytes::SpareRooms;
 use judge_replies::{Verdict, judge_grant, judge_move, judge_pool, judge_reset, judge_take_back};
 use model_core::owner::Owner;
 use std::alloc::AllocError;
@@ -25,18 +24,15 @@ impl Tenant {
         owners: &[Option<Owner>],
         command: &AdminCommand,
         body: &Body,
-        spare: &mut SpareRooms,
     ) -> Result<Verdict, AllocError>
-        requires { spare.old ≡ self.old.left.order }
         ensures judged { IfOk result (λ verdict.
             IsJudged (On.Admin command.now) body.now owners.now self.old self.new verdict) }
         ensures failed { OnErr result (self.new ≡ self.old) }
         ensures memory { OnErr result (IsKeptAddition (On.Admin command.now) body.now owners.now self.old) }
-        ensures spare { spare.new ≡ spare.old }
     {
         match self.admin_verdict(owners, command, body) {
             Ok(()) => {
-                self.follow_admin(command, body, spare)?;
+                self.follow_admin(command, body)?;
                 Ok(Ok(()))
             }
             Err(promise) => Ok(Err(promise)),
@@ -69,27 +65,20 @@ impl Tenant {
     }
 
     /// What is known after a reply that keeps each promise. Fails where memory runs out, and then nothing is changed.
-    fn follow_admin(
-        &mut self,
-        command: &AdminCommand,
-        body: &Body,
-        spare: &mut SpareRooms,
-    ) -> Result<(), AllocError>
-        requires kept { IsKeptReply (On.Admin command.now) body.now self.old }
-        requires spare { spare.old ≡ self.old.left.order }
+    fn follow_admin(&mut self, command: &AdminCommand, body: &Body) -> Result<(), AllocError>
+        requires { IsKeptReply (On.Admin command.now) body.now self.old }
         ensures followed { OnOk result (Follows (On.Admin command.now) body.now self.old self.new) }
         ensures failed { OnErr result (self.new ≡ self.old) }
         ensures memory { OnErr result (is_addition body.now ≡ true) }
-        ensures spare { spare.new ≡ spare.old }
     {
         match command {
-            AdminCommand::Grant { tenant } => self.after_grant(*tenant, body, spare),
+            AdminCommand::Grant { tenant } => self.after_grant(*tenant, body),
             AdminCommand::TakeBack { tenant, slot } => {
-                self.after_take_back(*tenant, *slot, body, spare);
+                self.after_take_back(*tenant, *slot, body);
                 Ok(())
             }
             AdminCommand::Reset { tenant } => {
-                self.after_reset(*tenant, body, spare);
+                self.after_reset(*tenant, body);
                 Ok(())
             }
             AdminCommand::Move { .. } => Ok(()),
@@ -99,18 +88,16 @@ impl Tenant {
 
     /// What is known after the reply to a grant to tenant `t`, which keeps each promise. Fails where memory runs out, and then
     /// nothing is changed.
-    fn after_grant(&mut self, t: u32, body: &Body, spare: &mut SpareRooms) -> Result<(), AllocError>
-        requires kept { IsKeptReply (On.Admin (Do.Grant t)) body.now self.old }
-        requires spare { spare.old ≡ self.old.left.order }
+    fn after_grant(&mut self, t: u32, body: &Body) -> Result<(), AllocError>
+        requires { IsKeptReply (On.Admin (Do.Grant t)) body.now self.old }
         ensures followed { OnOk result (Follows (On.Admin (Do.Grant t)) body.now self.old self.new) }
         ensures failed { OnErr result (self.new ≡ self.old) }
         ensures memory { OnErr result (is_addition body.now ≡ true) }
-        ensures spare { spare.new ≡ spare.old }
     {
         match body {
             Body::Granted { slot, .. } => {
                 self.held.grant(*slot)?;
-                if let Err(error) = self.left.grant(*slot, spare) {
+                if let Err(error) = self.left.grant(*slot) {
                     self.held.take_back(u32::from(*slot));
                     return Err(error);
                 }
@@ -122,29 +109,25 @@ impl Tenant {
     }
 
     /// What is known after the reply to taking a slot back from tenant `t`, which keeps each promise.
-    fn after_take_back(&mut self, t: u32, slot: u32, body: &Body, spare: &mut SpareRooms)
-        requires kept { IsKeptReply (On.Admin (Do.TakeBack t slot)) body.now self.old }
-        requires spare { spare.old ≡ self.old.left.order }
-        ensures spare { spare.new ≡ spare.old }
-        ensures followed { Follows (On.Admin (Do.TakeBack t slot)) body.now self.old self.new }
+    fn after_take_back(&mut self, t: u32, slot: u32, body: &Body)
+        requires { IsKeptReply (On.Admin (Do.TakeBack t slot)) body.now self.old }
+        ensures { Follows (On.Admin (Do.TakeBack t slot)) body.now self.old self.new }
     {
         if let Body::TakenBack(_) = body {
             self.held.take_back(slot);
-            self.left.take_back(slot, spare);
+            self.left.take_back(slot);
             self.told = None;
         }
     }
 
     /// What is known after the reply to a reset of tenant `t`, which keeps each promise.
-    fn after_reset(&mut self, t: u32, body: &Body, spare: &mut SpareRooms)
-        requires kept { IsKeptReply (On.Admin (Do.Reset t)) body.now self.old }
-        requires spare { spare.old ≡ self.old.left.order }
-        ensures spare { spare.new ≡ spare.old }
-        ensures followed { Follows (On.Admin (Do.Reset t)) body.now self.old self.new }
+    fn after_reset(&mut self, t: u32, body: &Body)
+        requires { IsKeptReply (On.Admin (Do.Reset t)) body.now self.old }
+        ensures { Follows (On.Admin (Do.Reset t)) body.now self.old self.new }
     {
         if let Body::WasReset { .. } = body {
             self.held.reset();
-            self.left.reset(spare);
+            self.left.reset();
             self.hides = [false; CACHES];
             self.told = None;
         }

@@ -15,6 +15,7 @@ use words_core::{CACHES, Report};
 /// empty slabs may stand, and the last report while it has to stand.
 #[derive(Debug, Drop)]
 pub struct Tenant {
+    pub(crate) alloc: Global,
     pub(crate) held: Held,
     pub(crate) left: LeftBytes,
     /// By number, whether a slab of the cache without live objects may stand.
@@ -41,8 +42,9 @@ impl Tenant {
         ensures { IfOk result (IsOpeningTenant order) }
     {
         Ok(Tenant {
+            alloc,
             held: Held::new(alloc, order, slots)?,
-            left: LeftBytes::new(alloc, order, slots)?,
+            left: LeftBytes::new(alloc, order),
             hides: [false; CACHES],
             told: None,
         })
@@ -67,6 +69,6 @@ impl Tenant {
     pub fn caches(&self) -> usize
         ensures { result ≡ length self.now.has.caches }
     {
-        self.held.cache_count()
+        self.held.caches().len()
     }
 }

@@ -10,8 +10,7 @@ use Rattle.promise_core.specs.Bytes.{Holder, Cell, Cells, is_object, is_same, do
 use Rattle.promise_core.specs.Holdings.{ToldCache, slab_around}
 use Rattle.promise_core.specs.State.{with_object}
 use Rattle.judge_bytes.specs.Left.{Left, left_slots, Becomes}
-use Rattle.judge_granules.specs.Steps.{doubted_of, removed_of}
-use Rattle.judge_bytes.specs.Inside.{StaysNear, IsNear, IsHolderNear, AreSlots, AreStepped, within}
+use Rattle.judge_bytes.specs.Inside.{StaysNear, IsNear, IsHolderNear, AreSlots, AreStepped, within, doubted_of, removed_of}
 use Rattle.judge_bytes.proofs.Stepping.{becomes}
 use Rattle.judge_bytes.proofs.Places.{in_frames, in_all}
 
@@ -113,6 +112,29 @@ given old new reach number first begin end are is_begin is_end e after =
     far : (place : ℕ) → place < 2 ^ 32 → place < first + slice_index reach number → place < end
     far place low near = omega arith
 
+-- bytes that are put
+put_there : (holder : Holder) (begin : ℕ) (bytes : List ℕ) (from end : ℕ) → from ≡ begin → end ≡ begin + length bytes → (place : ℕ) (cells : Cells)
+    → within from end (λ place cell. with_bytes holder begin bytes (λ _. cell) place) place (cells place) ≡ with_bytes holder begin bytes cells place
+put_there holder begin bytes from end is_from is_end place cells =
+    ap (λ (t : Bool). if t then with_bytes holder begin bytes (λ _. cells place) place else cells place)
+    (ap (λ (n : ℕ). leb n place && ltb place end) is_from ∙ ap (λ (n : ℕ). leb begin place && ltb place n) is_end)
+    ∙ go (leb begin place && ltb place (begin + length bytes))
+  where
+    go : (b : Bool) → (if b then (if b then Some (record { holder = holder; byte = get_or bytes (place - begin) 0; sure = true }) else cells place) else cells place)
+        ≡ (if b then Some (record { holder = holder; byte = get_or bytes (place - begin) 0; sure = true }) else cells place)
+    go true = refl
+    go false = refl
+
+-- what is left then
+pub put : (old new : Left) (holder : Holder) (begin : ℕ) (bytes told : List ℕ) (from end : ℕ) → bytes ≡ told → from ≡ begin → end ≡ begin + length bytes
+    → new.order ≡ old.order
+    → AreStepped old.order (within from end (λ place cell. with_bytes holder begin bytes (λ _. cell) place)) old.slots new.slots
+    → Becomes old (left_slots old) (with_bytes holder begin told) new
+put old new holder begin bytes told from end is_told is_from is_end e after =
+    becomes old new (within from end (λ place cell. with_bytes holder begin bytes (λ _. cell) place)) (with_bytes holder begin told) e after
+    (λ place cells low at. put_there holder begin bytes from end is_from is_end place cells
+    ∙ ap (λ (bs : List ℕ). with_bytes holder begin bs cells place) is_told)
+
 near_more : (reach more : List ℕ) (place : ℕ) (cell : Option Cell) → ((n : ℕ) → slice_index reach n ≤ slice_index more n)
     → IsNear reach place cell → IsNear more place cell
 near_more reach more place None grows near = tt
@@ -131,17 +153,19 @@ near_holder more begin end place (Holder.Object n p) before far le lt =
     (omega (arith, b), omega (arith, f))
 
 -- they are near where the reach is such
-pub near_put : (reach more : List ℕ) (holder : Holder) (begin : ℕ) (bytes : List ℕ) → ((n : ℕ) → slice_index reach n ≤ slice_index more n)
+pub near_put : (reach more : List ℕ) (holder : Holder) (begin : ℕ) (bytes : List ℕ) (from end : ℕ) → ((n : ℕ) → slice_index reach n ≤ slice_index more n)
     → ((n p : ℕ) → holder ≡ Holder.Object n p → p ≤ begin)
     → ((n p : ℕ) → holder ≡ Holder.Object n p → begin + length bytes ≤ p + slice_index more n) → (place : ℕ) (cell : Option Cell)
-    → IsNear reach place cell → IsNear more place (with_bytes holder begin bytes (λ _. cell) place)
-near_put reach more holder begin bytes grows before far place cell near = go (leb begin place) (ltb place (begin + length bytes)) refl refl
+    → IsNear reach place cell → IsNear more place (within from end (λ place cell. with_bytes holder begin bytes (λ _. cell) place) place cell)
+near_put reach more holder begin bytes from end grows before far place cell near =
+    go (leb from place && ltb place end) (leb begin place) (ltb place (begin + length bytes)) refl refl
   where
-    go : (a b : Bool) → leb begin place ≡ a → ltb place (begin + length bytes) ≡ b
-        → IsNear more place (if a && b then Some (record { holder = holder; byte = get_or bytes (place - begin) 0; sure = true }) else cell)
-    go true true le lt = near_holder more begin (begin + length bytes) place holder before far (leb-true begin place le) (ltb-true place (begin + length bytes) lt)
-    go true false le lt = near_more reach more place cell grows near
-    go false b le lt = near_more reach more place cell grows near
+    go : (t a b : Bool) → leb begin place ≡ a → ltb place (begin + length bytes) ≡ b
+        → IsNear more place (if t then (if a && b then Some (record { holder = holder; byte = get_or bytes (place - begin) 0; sure = true }) else cell) else cell)
+    go true true true le lt = near_holder more begin (begin + length bytes) place holder before far (leb-true begin place le) (ltb-true place (begin + length bytes) lt)
+    go true true false le lt = near_more reach more place cell grows near
+    go true false b le lt = near_more reach more place cell grows near
+    go false a b le lt = near_more reach more place cell grows near
 
 -- what can't lie beside an object in its slab
 abbrev pub not_beside : ℕ → ℕ → ℕ → Holder → Bool

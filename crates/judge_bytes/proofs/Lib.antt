@@ -1,9 +1,7 @@
-pub mod SlotCells
 pub mod Places
 pub mod Stepping
-pub mod FirstSlots
 pub mod Changes
 pub mod SlotsHeld
 pub mod ReadBytes
 pub mod Passing
-pub mod Rooms
+pub mod Padding

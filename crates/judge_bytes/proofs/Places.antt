@@ -23,11 +23,11 @@ stays_inside : (u m f r place j : ℕ) → u * (m * 4096) ≤ place → place - 
     → (u * m ≤ f) × (f < (u + 1) * m)
 stays_inside u m f r place j low inside is few = (omega arith, omega arith)
 
--- and those are of the slot
-pub slot_from : (order u k : ℕ) → k < slot_places order → slot_of order (u * slot_places order + k) ≡ u
-slot_from order u k lt =
-    let place : ℕ = u * slot_places order in
-    let at = stays_inside u (2 ^ order) ((place + k) / 4096) ((place + k) % 4096) place k (omega arith) (omega arith) (div-add-mod (place + k) 4096) (omega arith) in
+-- what comes behind it within as many places is one of the slot
+pub inside_behind : (order place u j : ℕ) → slot_of order place ≡ u → place - u * slot_places order + j < slot_places order
+    → slot_of order (place + j) ≡ u
+inside_behind order place u j e lt =
+    let at = stays_inside u (2 ^ order) ((place + j) / 4096) ((place + j) % 4096) place j (inside_slot order place u e).0 lt (div-add-mod (place + j) 4096) (omega arith) in
     div-eq_of_lt-le (2 ^ order) at.0 at.1
 
 leb_scaled : (a p : ℕ) → leb (4096 * a) p ≡ leb a (p / 4096)

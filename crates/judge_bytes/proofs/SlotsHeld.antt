@@ -1,16 +1,15 @@
 -- Slots that come and go.
-use Rattle.std.proofs.Common.{◌≡◌, ℕ, ◌+◌, ◌-◌, ◌*◌, ◌^◌, ◌≤◌, Bool, true, false, not, eqb, List, [], ◌∷◌, get_or, Option, Some, None, replicate, refl, sym, ap, ◌∙◌, subst, arith}
+use Rattle.std.proofs.Common.{◌≡◌, ℕ, ◌+◌, ◌-◌, ◌*◌, ◌^◌, ◌≤◌, Bool, true, false, not, eqb, List, [], ◌∷◌, get_or, Option, Some, None, replicate, inl, inr, refl, sym, ap, ◌∙◌, subst, arith}
 use Rattle.std.specs.Prelude.{if◌then◌else◌, ◌||◌, ◌==◌, filter}
 use Rattle.std.specs.List.{list_any, AllByRecursion}
 use Rattle.std.specs.Option.{option_and_then}
-use Rattle.std.proofs.lemmas.Bool.{eqb-true, eq-eqb, false≢true}
+use Rattle.std.proofs.lemmas.Bool.{eqb-true, eq-eqb, false≢true, cases_lt}
 use Rattle.std.proofs.lemmas.Bool.Decides.{nat_tests}
-use Rattle.std.proofs.lemmas.List.{length-replicate}
+use Rattle.std.proofs.lemmas.List.{get_or-replicate, get_or_past, length-replicate}
 use Rattle.model_core.specs.Machine.{slot_of}
 use Rattle.promise_core.specs.Bytes.{Cell, Cells, without}
 use Rattle.judge_bytes.specs.Left.{LeftSlot, Left, slot_places, left_in, slots_in, left_slots, AreLeft, Becomes}
 use Rattle.judge_bytes.specs.Inside.{IsNear, IsSlotWhole, AreSlots}
-use Rattle.judge_granules.proofs.Cells.{same_at}
 use Rattle.judge_bytes.proofs.Stepping.{none_left}
 
 -- the slots without one
@@ -101,11 +100,13 @@ taken_back old u = record {
       ∙ are place (was_there u (slot_of old.order place) old.slots has);
 }
 
--- no slots
-pub slots_empty : (order : ℕ) (ss : List LeftSlot) (reach : List ℕ) → ss ≡ [] → AreSlots order ss reach
-slots_empty order ss reach none = subst (λ (xs : List LeftSlot). AreSlots order xs reach) (sym none) (record { whole = tt; near = λ place. tt })
-
 -- a slot at which nothing was left
+same_at : {X : Type 0} (n k : ℕ) (x : X) → get_or (replicate n x) k x ≡ x
+same_at n k x = elim (cases_lt k n) [
+  | inl h ↦ get_or-replicate n k x x h
+  | inr h ↦ (let len = length-replicate n x in get_or_past (replicate n x) k x (omega (arith, len, h)))
+]
+
 fresh_at : (n k : ℕ) → get_or {A = Option Cell} (replicate n None) k None ≡ None
 fresh_at n k = same_at n k None
 

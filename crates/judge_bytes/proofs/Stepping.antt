@@ -1,18 +1,16 @@
 -- A step at each place of some slots.
-use Rattle.std.proofs.Common.{◌≡◌, ℕ, zero, suc, ◌+◌, ◌-◌, ◌*◌, ◌/◌, ◌^◌, ◌<◌, ◌≤◌, Bool, true, false, leb, ltb, List, [], ◌∷◌, length, get_or, drop, Option, Some, None, inl, inr, refl, sym, ap, ◌∙◌, subst, arith}
+use Rattle.std.proofs.Common.{◌≡◌, ℕ, zero, suc, ◌+◌, ◌-◌, ◌*◌, ◌^◌, ◌<◌, ◌≤◌, Bool, true, false, leb, ltb, List, [], ◌∷◌, length, get_or, drop, Option, None, refl, sym, ap, ◌∙◌, subst, arith}
 use Rattle.std.specs.Prelude.{if◌then◌else◌, ◌&&◌, ◌||◌, ◌==◌}
-use Rattle.std.proofs.Math.ListN.{set}
 use Rattle.std.specs.List.{list_any, AllByRecursion}
-use Rattle.std.proofs.lemmas.Bool.{eqb-true, eq-eqb, false≢true, cases_eq, cases_lt}
+use Rattle.std.proofs.lemmas.Bool.{eqb-true, eq-eqb, false≢true}
 use Rattle.model_core.specs.Machine.{slot_of}
-use Rattle.promise_core.specs.Bytes.{Holder, Cell, Cells, with_bytes}
+use Rattle.promise_core.specs.Bytes.{Cell, Cells}
 use Rattle.judge_bytes.specs.Left.{LeftSlot, Left, slot_places, left_in, slots_in, left_slots, Becomes}
-use Rattle.judge_granules.specs.Steps.{CellStep}
-use Rattle.judge_bytes.specs.Inside.{IsNear, StaysNear, IsSlotWhole, AreSlots, IsStepped, AreStepped, IsAloneFrom, within}
-use Rattle.std.proofs.lemmas.List.{at_drop_more, get_or-set_same, get_or-set_other, get_or_default, get_or_past}
-use Rattle.judge_bytes.proofs.Places.{inside_slot, slot_from}
+use Rattle.judge_bytes.specs.Inside.{CellStep, IsNear, StaysNear, IsSlotWhole, AreSlots, IsStepped, AreStepped, within}
+use Rattle.std.proofs.lemmas.List.{at_drop_more}
+use Rattle.judge_bytes.proofs.Places.{inside_slot, inside_behind}
 
-pub stepped_at : (order : ℕ) (step : CellStep) (s t : LeftSlot) (x y : Option Cell) (place : ℕ) (b more : Bool) → (s.slot == slot_of order place) ≡ b
+stepped_at : (order : ℕ) (step : CellStep) (s t : LeftSlot) (x y : Option Cell) (place : ℕ) (b more : Bool) → (s.slot == slot_of order place) ≡ b
     → IsSlotWhole order s → IsStepped order step s t → (b || more) ≡ true → (more ≡ true → (place < 2 ^ 32) × (y ≡ step place x))
     → (place < 2 ^ 32) × ((if b then get_or t.cells (place - s.slot * slot_places order) None else y)
     ≡ step place (if b then get_or s.cells (place - s.slot * slot_places order) None else x))
@@ -105,10 +103,16 @@ becomes old new step change e after same = record {
       at.1 ∙ (ap (step place) (are place had) ∙ same place cells at.0 (are place had)));
 }
 
--- the slots from one on that has the place
+-- the slots from one on that has the place, or has it not
 pub found_slot : (order place i : ℕ) (ss : List LeftSlot) (s : LeftSlot) → i < length ss → s ≡ get_or ss i s → (s.slot == slot_of order place) ≡ true
     → left_in order (drop i ss) place ≡ get_or s.cells (place - s.slot * slot_places order) None
 found_slot order place i ss s lt is here = at_drop_more (λ (xs : List LeftSlot). left_in order xs place) ss i s lt
+    ∙ (ap (λ (x : LeftSlot). left_in order (x ∷ drop (i + 1) ss) place) (sym is)
+    ∙ ap (λ (t : Bool). if t then get_or s.cells (place - s.slot * slot_places order) None else left_in order (drop (i + 1) ss) place) here)
+
+pub passed_slot : (order place i : ℕ) (ss : List LeftSlot) (s : LeftSlot) → i < length ss → s ≡ get_or ss i s → (s.slot == slot_of order place) ≡ false
+    → left_in order (drop i ss) place ≡ left_in order (drop (i + 1) ss) place
+passed_slot order place i ss s lt is here = at_drop_more (λ (xs : List LeftSlot). left_in order xs place) ss i s lt
     ∙ (ap (λ (x : LeftSlot). left_in order (x ∷ drop (i + 1) ss) place) (sym is)
     ∙ ap (λ (t : Bool). if t then get_or s.cells (place - s.slot * slot_places order) None else left_in order (drop (i + 1) ss) place) here)
 
@@ -136,117 +140,32 @@ slots_after order reach more step ss ts after are keeps = record {
   near = near_after order reach more step ss ts after are.near keeps;
 }
 
--- the first so many are changed, one by one
-pub record AreEach (R : LeftSlot → LeftSlot → Type 0) (count : ℕ) (old new : List LeftSlot) : Type 0 where
-  pub done : (k : ℕ) (d : LeftSlot) → k < count → R (get_or old k d) (get_or new k d)
-  pub rest : (k : ℕ) (d : LeftSlot) → count ≤ k → get_or new k d ≡ get_or old k d
-
-pub each_more : (R : LeftSlot → LeftSlot → Type 0) (i : ℕ) (old new : List LeftSlot) (s t : LeftSlot) → i < length old → length new ≡ length old
-    → R (get_or new i s) t → AreEach R i old new → AreEach R (i + 1) old (set new i t)
-each_more R i old new s t lt len here was = record {
-  done = λ k d below. elim (cases_eq k i) [
-    | inl e ↦ subst (λ (n : ℕ). R (get_or old n d) (get_or (set new i t) n d)) (sym e)
-        (subst (R (get_or old i d)) (sym (get_or-set_same new i t d (omega (arith, len, lt))))
-        (subst (λ (x : LeftSlot). R x t) (get_or_default new i s d (omega (arith, len, lt)) ∙ was.rest i d (omega arith)) here))
-    | inr ne ↦ subst (R (get_or old k d)) (sym (get_or-set_other new i k t d ne)) (was.done k d (omega arith))
-  ];
-  rest = λ k d ge. get_or-set_other new i k t d (omega arith) ∙ was.rest k d (omega arith);
-}
-
-pub whole_at : (order i : ℕ) (ss : List LeftSlot) (d : LeftSlot) → AllByRecursion (IsSlotWhole order) ss → i < length ss → IsSlotWhole order (get_or ss i d)
+whole_at : (order i : ℕ) (ss : List LeftSlot) (d : LeftSlot) → AllByRecursion (IsSlotWhole order) ss → i < length ss → IsSlotWhole order (get_or ss i d)
 whole_at order i [] d w lt = absurd (omega arith)
 whole_at order zero (s ∷ ss) d w lt = w.0
 whole_at order (suc i) (s ∷ ss) d w lt = whole_at order i ss d w.1 (omega arith)
 
--- how many places a slot has that was not changed yet
-pub places_at : (order i : ℕ) (R : LeftSlot → LeftSlot → Type 0) (old new : List LeftSlot) (s : LeftSlot) → AllByRecursion (IsSlotWhole order) old → i < length old
-    → AreEach R i old new → length (get_or new i s).cells ≡ slot_places order
-places_at order i R old new s w lt was = ap (λ (x : LeftSlot). length x.cells) (was.rest i s (omega arith)) ∙ (whole_at order i old s w lt).all
+-- the places of a slot end by 2 ^ 32
+pub slot_ends : (order i : ℕ) (ss ts : List LeftSlot) (d : LeftSlot) (slot places : ℕ) → AllByRecursion (IsSlotWhole order) ss → i < length ss
+    → get_or ts i d ≡ get_or ss i d → slot ≡ (get_or ts i d).slot → places ≡ slot_places order
+    → slot * places + length (get_or ts i d).cells ≤ 2 ^ 32
+slot_ends order i ss ts d slot places w lt same is_slot is_places =
+    let at : IsSlotWhole order (get_or ts i d) = subst (IsSlotWhole order) (sym same) (whole_at order i ss d w lt) in
+    let all : length (get_or ts i d).cells ≡ slot_places order = at.all in
+    let low : ((get_or ts i d).slot + 1) * slot_places order ≤ 2 ^ 32 = at.low in
+    let product : slot * places ≡ (get_or ts i d).slot * slot_places order = ap (λ (n : ℕ). n * places) is_slot ∙ ap (λ (n : ℕ). (get_or ts i d).slot * n) is_places in
+    omega (arith, product, all, low)
 
--- the slot after bytes are put, where only their holder's were left
-pub record IsPut (order : ℕ) (holder : Holder) (place : ℕ) (bytes : List ℕ) (old new : LeftSlot) : Type 0 where
-  pub slot : new.slot ≡ old.slot
-  pub len : length new.cells ≡ length old.cells
-  pub cells : IsAloneFrom (old.slot * slot_places order) holder place (length bytes) old.cells → (k : ℕ) → k < length old.cells
-      → get_or new.cells k None ≡ with_bytes holder place bytes (λ _. get_or old.cells k None) (old.slot * slot_places order + k)
-
-module _ (order : ℕ) (holder : Holder) (begin : ℕ) (bytes : List ℕ) where
-  -- only the holder's bytes were left in the slot of this number
-  abbrev pub IsAloneIn : List LeftSlot → ℕ → Type 0
-  IsAloneIn ss u = (q : ℕ) (cell : Cell) → slot_of order q ≡ u → begin / 8 ≤ q / 8 → q / 8 * 8 < begin + length bytes → left_in order ss q ≡ Some cell → cell.holder ≡ holder
-
-  alone_here : (s : LeftSlot) (ss : List LeftSlot) → length s.cells ≡ slot_places order → IsAloneIn (s ∷ ss) s.slot
-      → IsAloneFrom (s.slot * slot_places order) holder begin (length bytes) s.cells
-  alone_here s ss all alone k cell ge below is = elim (cases_lt k (length s.cells)) [
-    | inr past ↦ absurd (let none = get_or_past s.cells k None past in cc)
-    | inl lt ↦
-        let there : slot_of order (s.slot * slot_places order + k) ≡ s.slot = slot_from order s.slot k (omega (arith, all, lt)) in
-        let here : (s.slot == slot_of order (s.slot * slot_places order + k)) ≡ true = eq-eqb s.slot (slot_of order (s.slot * slot_places order + k)) (sym there) in
-        let back : s.slot * slot_places order + k - s.slot * slot_places order ≡ k = omega arith in
-        alone (s.slot * slot_places order + k) cell there ge below
-        (ap (λ (t : Bool). if t then get_or s.cells (s.slot * slot_places order + k - s.slot * slot_places order) None else left_in order ss (s.slot * slot_places order + k)) here
-        ∙ (ap (λ (n : ℕ). get_or s.cells n None) back ∙ is))
-  ]
-
-  alone_behind : (s : LeftSlot) (ss : List LeftSlot) (u : ℕ) → (s.slot == u) ≡ false → IsAloneIn (s ∷ ss) u → IsAloneIn ss u
-  alone_behind s ss u other alone q cell e ge below is = alone q cell e ge below
-      (ap (λ (t : Bool). if t then get_or s.cells (q - s.slot * slot_places order) None else left_in order ss q) (ap (λ (n : ℕ). s.slot == n) e ∙ other) ∙ is)
-
-  put_at : (ss ts : List LeftSlot) (place : ℕ) → length ts ≡ length ss
-      → ((k : ℕ) (d : LeftSlot) → k < length ss → IsPut order holder begin bytes (get_or ss k d) (get_or ts k d))
-      → AllByRecursion (IsSlotWhole order) ss → IsAloneIn ss (slot_of order place) → list_any (λ u. u == slot_of order place) (slots_in ss) ≡ true
-      → (place < 2 ^ 32) × (left_in order ts place ≡ with_bytes holder begin bytes (λ _. left_in order ss place) place)
-  put_at [] ts place len each w alone has = absurd (false≢true has)
-  put_at (s ∷ ss) [] place len each w alone has = absurd (omega arith)
-  put_at (s ∷ ss) (t ∷ ts) place len each w alone has =
-      let here : IsPut order holder begin bytes s t = each 0 s (omega arith) in
-      subst (λ (u : ℕ). (place < 2 ^ 32) × ((if u == slot_of order place then get_or t.cells (place - u * slot_places order) None else left_in order ts place)
-      ≡ with_bytes holder begin bytes (λ _. left_in order (s ∷ ss) place) place)) (sym here.slot)
-      (go (s.slot == slot_of order place) refl here
-      (λ other more. put_at ss ts place (omega arith) (λ k d lt. each (suc k) d (omega arith)) w.1 (alone_behind s ss (slot_of order place) other alone) more) has)
-    where
-      go : (b : Bool) → (s.slot == slot_of order place) ≡ b → IsPut order holder begin bytes s t
-          → ((s.slot == slot_of order place) ≡ false → list_any (λ u. u == slot_of order place) (slots_in ss) ≡ true
-          → (place < 2 ^ 32) × (left_in order ts place ≡ with_bytes holder begin bytes (λ _. left_in order ss place) place))
-          → (b || list_any (λ u. u == slot_of order place) (slots_in ss)) ≡ true
-          → (place < 2 ^ 32) × ((if b then get_or t.cells (place - s.slot * slot_places order) None else left_in order ts place)
-          ≡ with_bytes holder begin bytes (λ _. if b then get_or s.cells (place - s.slot * slot_places order) None else left_in order ss place) place)
-      go true is here rest has =
-          let at : s.slot ≡ slot_of order place = eqb-true s.slot (slot_of order place) is in
-          let inside = inside_slot order place s.slot (sym at) in
-          let low : s.slot * slot_places order ≤ place = inside.0 in
-          let short : place - s.slot * slot_places order < slot_places order = inside.1 in
-          let k : ℕ = place - s.slot * slot_places order in
-          let ends : (s.slot + 1) * slot_places order ≤ 2 ^ 32 = w.0.low in
-          let within_cells : k < length s.cells = subst (λ (n : ℕ). k < n) (sym w.0.all) short in
-          let back : s.slot * slot_places order + k ≡ place = omega arith in (
-            omega arith,
-            here.cells (alone_here s ss w.0.all (subst (IsAloneIn (s ∷ ss)) (sym at) alone)) k within_cells
-                ∙ ap (λ (p : ℕ). with_bytes holder begin bytes (λ _. get_or s.cells k None) p) back,
-          )
-      go false is here rest has = rest is has
-
-  -- what the slots are then
-  pub put_each : (ss ts : List LeftSlot) → length ts ≡ length ss
-      → ((k : ℕ) (d : LeftSlot) → k < length ss → IsPut order holder begin bytes (get_or ss k d) (get_or ts k d))
-      → AllByRecursion (IsSlotWhole order) ss
-      → ((q : ℕ) (cell : Cell) → begin / 8 ≤ q / 8 → q / 8 * 8 < begin + length bytes → left_in order ss q ≡ Some cell → cell.holder ≡ holder)
-      → AreStepped order (λ place cell. with_bytes holder begin bytes (λ _. cell) place) ss ts
-  put_each ss ts len each w alone =
-      let kept = stepped_slots ss ts len each w in
-      record { slots = kept.0; whole = kept.1; cells = λ place has. put_at ss ts place len each w (λ q cell e. alone q cell) has }
-    where
-      stepped_slots : (ss ts : List LeftSlot) → length ts ≡ length ss
-          → ((k : ℕ) (d : LeftSlot) → k < length ss → IsPut order holder begin bytes (get_or ss k d) (get_or ts k d)) → AllByRecursion (IsSlotWhole order) ss
-          → (slots_in ts ≡ slots_in ss) × AllByRecursion (IsSlotWhole order) ts
-      stepped_slots [] [] len each w = (refl, tt)
-      stepped_slots [] (t ∷ ts) len each w = absurd (omega arith)
-      stepped_slots (s ∷ ss) [] len each w = absurd (omega arith)
-      stepped_slots (s ∷ ss) (t ∷ ts) len each w =
-          let here : IsPut order holder begin bytes s t = each 0 s (omega arith) in
-          let rest = stepped_slots ss ts (omega arith) (λ k d lt. each (suc k) d (omega arith)) w.1 in
-          let all : length s.cells ≡ slot_places order = w.0.all in
-          let low : (s.slot + 1) * slot_places order ≤ 2 ^ 32 = w.0.low in (
-            ap (λ (u : ℕ). u ∷ slots_in ts) here.slot ∙ ap (λ (us : List ℕ). s.slot ∷ us) rest.0,
-            (record { all = here.len ∙ all; low = subst (λ (u : ℕ). (u + 1) * slot_places order ≤ 2 ^ 32) (sym here.slot) low }, rest.1),
-          )
+-- the cells of a slot from a place on, which is found behind others
+pub kept_behind : (order place i index : ℕ) (ss : List LeftSlot) (s : LeftSlot) → AllByRecursion (IsSlotWhole order) ss → i < length ss
+    → s ≡ get_or ss i s → s.slot ≡ slot_of order place → index ≡ place - s.slot * slot_places order
+    → ((p : ℕ) → slot_of order p ≡ slot_of order place → left_in order (drop i ss) p ≡ left_in order ss p)
+    → (j : ℕ) → index + j < length s.cells → get_or s.cells (index + j) None ≡ left_in order ss (place + j)
+kept_behind order place i index ss s w lt is at is_index same j inside =
+    let whole : IsSlotWhole order s = subst (IsSlotWhole order) (sym is) (whole_at order i ss s w lt) in
+    let all : length s.cells ≡ slot_places order = whole.all in
+    let low : s.slot * slot_places order ≤ place = (inside_slot order place s.slot (sym at)).0 in
+    let behind : slot_of order (place + j) ≡ s.slot = inside_behind order place s.slot j (sym at) (omega arith) in
+    let here : (s.slot == slot_of order (place + j)) ≡ true = eq-eqb s.slot (slot_of order (place + j)) (sym behind) in
+    let e : index + j ≡ place + j - s.slot * slot_places order = omega arith in
+    ap (λ (n : ℕ). get_or s.cells n None) e ∙ (sym (found_slot order (place + j) i ss s lt is here) ∙ same (place + j) (behind ∙ at))

@@ -1,15 +1,45 @@
 -- What is stored, what is true of it, and what changes of it are.
-use Rattle.std.specs.Prelude.{◌≡◌, ℕ, suc, ◌+◌, ◌-◌, ◌*◌, ◌/◌, ◌^◌, ◌<◌, ◌≤◌, true, List, [], ◌∷◌, length, Option, Some, None, slice_index, slice_index_or, nat_le, nat_lt, if◌then◌else◌, ◌&&◌, ◌==◌}
+use Rattle.std.specs.Prelude.{◌≡◌, ℕ, ◌+◌, ◌-◌, ◌++◌, ◌*◌, ◌^◌, ◌<◌, ◌≤◌, Bool, true, not, List, length, replicate, Option, Some, None, option_map, slice_index, slice_index_or, nat_le, nat_lt, if◌then◌else◌, ◌&&◌, ◌==◌}
 use Rattle.std.specs.List.{list_any, AllByRecursion}
+use Rattle.std.specs.Option.{option_and_then}
 use Rattle.model_core.specs.Machine.{slot_of}
 use Rattle.promise_core.specs.Bytes.{Holder, Cell}
 use Rattle.promise_core.specs.Holdings.{ToldCache, Holdings, cache_told}
-use Rattle.judge_granules.specs.Steps.{CellStep}
 use Rattle.judge_bytes.specs.Left.{LeftSlot, Left, left_in, slots_in, slot_places}
+use Rattle.judge_bytes.specs.declared.kept.KeptByte.{KeptByte}
+use Rattle.judge_bytes.specs.declared.kept.KeptByte.TheVariants as Kept
 
--- a step from `begin` on, before `end`; the others are as they were
+abbrev pub shown_kept : KeptByte → Option Cell
+shown_kept Kept.Fresh = None
+shown_kept (Kept.Page byte sure) = Some (record { holder = Holder.Page; byte = byte; sure = sure })
+shown_kept (Kept.Object cache byte sure first) = Some (record { holder = Holder.Object cache first; byte = byte; sure = sure })
+
+-- these, and nothing at the places behind them, so many in all
+abbrev pub padded : ℕ → List KeptByte → List KeptByte
+padded places kept = kept ++ replicate (places - length kept) Kept.Fresh
+
+-- these are stored from a place on
+abbrev pub AreKeptFrom : ℕ → List LeftSlot → ℕ → List KeptByte → Type 0
+AreKeptFrom order slots place kept = (j : ℕ) → j < length kept → shown_kept (slice_index_or kept j Kept.Fresh) ≡ left_in order slots (place + j)
+
+abbrev pub AreFrom : Left → ℕ → List KeptByte → Type 0
+AreFrom left = AreKeptFrom left.order left.slots
+
+-- what becomes of what was left, by place
+abbrev pub CellStep : Type 0
+CellStep = ℕ → Option Cell → Option Cell
+
+-- so it becomes from `begin` on, before `end`
 abbrev pub within : ℕ → ℕ → CellStep → CellStep
 within begin end step place cell = if nat_le begin place && nat_lt place end then step place cell else cell
+
+-- what is of a holder that passes is in doubt
+abbrev pub doubted_of : (Holder → Bool) → CellStep
+doubted_of test place = option_map (λ (cell : Cell). record cell { sure = cell.sure && not (test cell.holder) })
+
+-- it is gone
+abbrev pub removed_of : (Holder → Bool) → CellStep
+removed_of test place = option_and_then (λ (cell : Cell). if test cell.holder then None else Some cell)
 
 -- the cache of an object that has a byte
 abbrev pub cache_of : Holdings → Holder → Option ToldCache
@@ -35,29 +65,10 @@ pub record IsSlotWhole (order : ℕ) (s : LeftSlot) : Type 0 where
   pub all : length s.cells ≡ slot_places order
   pub low : (s.slot + 1) * slot_places order ≤ 2 ^ 32
 
--- it has as many places as slots of 2 ^ order frames
-abbrev pub HasPlaces : ℕ → LeftSlot → Type 0
-HasPlaces order s = length s.cells ≡ slot_places order
-
 -- slots of 2 ^ order frames
 pub record AreSlots (order : ℕ) (slots : List LeftSlot) (reach : List ℕ) : Type 0 where
   pub whole : AllByRecursion (IsSlotWhole order) slots
   pub near : (place : ℕ) → IsNear reach place (left_in order slots place)
-
--- where the first of these numbers is that is `number`; how many they are where none is
-abbrev pub first_index : ℕ → List ℕ → ℕ
-first_index number [] = 0
-first_index number (n ∷ ns) = if n == number then 0 else suc (first_index number ns)
-
--- so it is by number
-abbrev pub AreFirsts : List LeftSlot → List ℕ → Type 0
-AreFirsts slots firsts = (number : ℕ) → number < 256 → slice_index firsts number ≡ first_index number (slots_in slots)
-
--- the slot is one of these, and that from which is read
-pub record IsFound (left : Left) (s : LeftSlot) : Type 0 where
-  pub whole : IsSlotWhole left.order s
-  pub cells : (p : ℕ) → slot_of left.order p ≡ s.slot
-      → left_in left.order left.slots p ≡ slice_index_or s.cells (p - s.slot * slot_places left.order) None
 
 -- the slot after a step at each of its places
 pub record IsStepped (order : ℕ) (step : CellStep) (old new : LeftSlot) : Type 0 where
@@ -72,8 +83,3 @@ pub record AreStepped (order : ℕ) (step : CellStep) (old new : List LeftSlot) 
   pub whole : AllByRecursion (IsSlotWhole order) new
   pub cells : (place : ℕ) → list_any (λ u. u == slot_of order place) (slots_in old) ≡ true
       → (place < 2 ^ 32) × (left_in order new place ≡ step place (left_in order old place))
-
--- only the holder's bytes were left in the eights of places that have one of these, where the first place is `first`
-abbrev pub IsAloneFrom : ℕ → Holder → ℕ → ℕ → List (Option Cell) → Type 0
-IsAloneFrom first holder place len cells = (k : ℕ) (cell : Cell) → place / 8 ≤ (first + k) / 8 → (first + k) / 8 * 8 < place + len
-    → slice_index_or cells k None ≡ Some cell → cell.holder ≡ holder

@@ -1,9 +1,9 @@
 -- What was left in the slots that a tenant holds.
-use Rattle.std.specs.Prelude.{◌≡◌, ℕ, ◌+◌, ◌-◌, ◌*◌, ◌/◌, ◌%◌, ◌^◌, ◌<◌, ◌≤◌, Bool, true, List, [], ◌∷◌, map, Option, Some, None, slice_index_or, if◌then◌else◌, ◌==◌}
+use Rattle.std.specs.Prelude.{◌≡◌, ℕ, ◌-◌, ◌*◌, ◌^◌, Bool, true, List, [], ◌∷◌, map, Option, None, slice_index_or, if◌then◌else◌, ◌==◌}
 use Rattle.std.specs.List.{list_any}
-use Rattle.model_core.specs.declared.limits.TheConstants.{FRAME_BYTES, MOST_SIZE}
+use Rattle.model_core.specs.declared.limits.TheConstants.{FRAME_BYTES}
 use Rattle.model_core.specs.Machine.{slot_of}
-use Rattle.promise_core.specs.Bytes.{Holder, Cell, Cells}
+use Rattle.promise_core.specs.Bytes.{Cell, Cells}
 
 -- a slot, and what was left at each of its places
 pub record LeftSlot : Type 0 where
@@ -48,11 +48,3 @@ pub record Becomes (old : Left) (held : List ℕ) (change : Cells → Cells) (ne
   pub order : new.order ≡ old.order
   pub slots : left_slots new ≡ held
   pub cells : (cells : Cells) → AreLeft old cells → AreLeft new (change cells)
-
--- bytes of the holder can be stored from a place on: no other's were left in the eights of places that have one of them, and an
--- object begins at a multiple of 8, not behind them, and ends within the greatest size behind its first place
-pub record IsAlone (left : Left) (holder : Holder) (place len : ℕ) : Type 0 where
-  pub alone : (q : ℕ) (cell : Cell) → place / 8 ≤ q / 8 → q / 8 * 8 < place + len → left_at left q ≡ Some cell
-      → cell.holder ≡ holder
-  pub object : (number first : ℕ) → holder ≡ Holder.Object number first
-      → (first % 8 ≡ 0) × (first ≤ place) × (place + len ≤ first + MOST_SIZE)

@@ -1,3 +1,3 @@
 pub mod Left
 pub mod Inside
-pub mod Stored
+pub mod Marks

@@ -1,26 +1,30 @@
 //! What replies make of what was left at a place.
 
-ghost use Rattle.std.specs.Prelude.{◌≡◌, ℕ, ◌*◌, ◌<◌, ◌≤◌, true, false, length, Option, None, refl};
-ghost use Rattle.promise_core.specs.Bytes.{Cell};
-ghost use Rattle.judge_granules.specs.Granules.{cell_in, AreEven, AreSame};
-ghost use Rattle.judge_granules.specs.Steps.{CellStep, doubted_of, removed_of};
-ghost use Rattle.judge_granules.specs.Marks.{IsMarkedAs, IsChanged};
+ghost use Rattle.std.specs.Prelude.{◌≡◌, ℕ, ◌+◌, ◌-◌, ◌^◌, ◌<◌, ◌≤◌, Bool, true, false, not, length, Option, None};
+ghost use Rattle.promise_core.specs.Bytes.{Cell, with_bytes};
+ghost use Rattle.judge_core.specs.Holders.{shown_holder};
+ghost use Rattle.judge_bytes.specs.Inside.{CellStep, shown_kept, doubted_of, removed_of};
+ghost use Rattle.judge_bytes.specs.Marks.{IsMarkedAs, IsChanged};
 
-use judge_granules::{GRANULE, Granules, HolderTest, Mark, fails_all, passes_all};
+use crate::kept::KeptByte;
+use crate::mark::Mark;
+use crate::tests_of_holders::{HolderTest, fails_all, passes_all};
+use judge_core::{LeftByte, RangeHolder};
 
 /// What becomes of what was left at a place.
 pub(crate) trait Change {
     ghost step: { Self → CellStep };
 
-    /// Changes the places from `low` on before `high`, which have this mark.
-    fn change_places(&self, granules: &mut Granules, low: usize, high: usize, mark: Mark)
-        requires even { AreEven granules.old }
+    /// Changes what is stored of the places from `low` on, before `high`, where the first is `first`.
+    fn change_places(&self, cells: &mut [KeptByte], first: u64, low: usize, high: usize)
         requires order { low ≤ high }
-        requires most { high ≤ 8 * length granules.old.left.items }
-        requires marked { (k : ℕ) → low ≤ k → k < high → IsMarkedAs mark (cell_in granules.old k) }
-        ensures same { AreSame granules.old granules.new }
-        ensures changed { IsChanged (step self.now) (8 * granules.old.number) low high (cell_in granules.old)
-            (cell_in granules.new) };
+        requires most { high ≤ length cells.old }
+        requires low { first + length cells.old ≤ 2 ^ 32 }
+        ensures { IsChanged (step self.now) first low high cells.old cells.new };
+
+    /// Whether something may come to be where nothing was.
+    fn adds(&self) -> bool
+        ensures { result ≡ false → (place : ℕ) → step self.now place None ≡ None };
 
     /// Whether it surely leaves all as it is where there is this mark.
     fn leaves(&self, mark: Mark) -> bool
@@ -30,25 +34,45 @@ pub(crate) trait Change {
     fn mark_after(&self, mark: Mark, all: bool) -> Mark
         ensures changed { (place : ℕ) (cell : Option Cell) → IsMarkedAs mark cell → IsMarkedAs result (step self.now place cell) }
         ensures kept { all ≡ false → (cell : Option Cell) → IsMarkedAs mark cell → IsMarkedAs result cell };
-
-    ghost adds_nothing: { (change : Self) (place : ℕ) → step change place None ≡ None };
 }
 
 /// What is of a holder that passes is in doubt.
 #[derive(Drop)]
 pub(crate) struct Doubt<T>(pub T);
 
+impl<T: HolderTest> Doubt<T> {
+    /// What is stored of a place then.
+    fn doubted(&self, kept: KeptByte) -> KeptByte
+        ensures { (place : ℕ) → shown_kept result ≡ doubted_of (T.test self.now.0) place (shown_kept kept) }
+    {
+        match kept.left() {
+            Some(left) => {
+                if self.0.passes(left.holder) {
+                    KeptByte::of(LeftByte {
+                        holder: left.holder,
+                        byte: left.byte,
+                        sure: false,
+                    })
+                } else {
+                    kept
+                }
+            }
+            None => kept,
+        }
+    }
+}
+
 impl<T: HolderTest> Change for Doubt<T> {
     ghost step = { λ d. doubted_of (T.test d.0) };
 
-    ghost adds_nothing = { λ d place. refl };
-
-    fn change_places(&self, granules: &mut Granules, low: usize, high: usize, mark: Mark) {
-        if low % GRANULE == 0 && high % GRANULE == 0 && passes_all(&self.0, mark.owners) {
-            granules.doubt_all(low / GRANULE, high / GRANULE);
-        } else {
-            granules.doubt(low, high, &self.0);
+    fn change_places(&self, cells: &mut [KeptByte], _first: u64, low: usize, high: usize) {
+        for k in low..high {
+            cells[k] = self.doubted(cells[k]);
         }
+    }
+
+    fn adds(&self) -> bool {
+        false
     }
 
     fn leaves(&self, mark: Mark) -> bool {
@@ -71,17 +95,35 @@ impl<T: HolderTest> Change for Doubt<T> {
 #[derive(Drop)]
 pub(crate) struct Remove<T>(pub T);
 
+impl<T: HolderTest> Remove<T> {
+    /// What is stored of a place then.
+    fn without(&self, kept: KeptByte) -> KeptByte
+        ensures { (place : ℕ) → shown_kept result ≡ removed_of (T.test self.now.0) place (shown_kept kept) }
+    {
+        match kept.left() {
+            Some(left) => {
+                if self.0.passes(left.holder) {
+                    KeptByte::Fresh
+                } else {
+                    kept
+                }
+            }
+            None => kept,
+        }
+    }
+}
+
 impl<T: HolderTest> Change for Remove<T> {
     ghost step = { λ d. removed_of (T.test d.0) };
 
-    ghost adds_nothing = { λ d place. refl };
-
-    fn change_places(&self, granules: &mut Granules, low: usize, high: usize, mark: Mark) {
-        if low % GRANULE == 0 && high % GRANULE == 0 && passes_all(&self.0, mark.owners) {
-            granules.remove_all(low / GRANULE, high / GRANULE);
-        } else {
-            granules.remove(low, high, &self.0);
+    fn change_places(&self, cells: &mut [KeptByte], _first: u64, low: usize, high: usize) {
+        for k in low..high {
+            cells[k] = self.without(cells[k]);
         }
+    }
+
+    fn adds(&self) -> bool {
+        false
     }
 
     fn leaves(&self, mark: Mark) -> bool {
@@ -94,5 +136,50 @@ impl<T: HolderTest> Change for Remove<T> {
         } else {
             mark
         }
+    }
+}
+
+/// These bytes of the holder are there from a place on.
+#[derive(Drop)]
+pub(crate) struct Put<'a> {
+    pub holder: RangeHolder,
+    pub begin: u32,
+    pub bytes: &'a [u8],
+}
+
+impl<'a> Change for Put<'a> {
+    ghost step = { λ d place cell. with_bytes (shown_holder d.holder) d.begin d.bytes.now (λ _. cell) place };
+
+    // It stands apart so that what is known of its ends is not worked out anew for each chunk.
+    #[inline(never)]
+    fn change_places(&self, cells: &mut [KeptByte], first: u64, low: usize, high: usize) {
+        let Put {
+            holder,
+            begin: place,
+            bytes,
+        } = *self;
+        let begin = u64::from(place);
+        let end = begin + bytes.len() as u64;
+        let from = begin.saturating_sub(first).max(low as u64).min(high as u64);
+        let to = end.saturating_sub(first).min(high as u64).max(from);
+        for k in from..to {
+            cells[k as usize] = KeptByte::of(LeftByte {
+                holder,
+                byte: bytes[(first + k - begin) as usize],
+                sure: true,
+            });
+        }
+    }
+
+    fn adds(&self) -> bool {
+        true
+    }
+
+    fn leaves(&self, _mark: Mark) -> bool {
+        false
+    }
+
+    fn mark_after(&self, mark: Mark, _all: bool) -> Mark {
+        mark.with(self.holder)
     }
 }

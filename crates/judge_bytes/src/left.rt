@@ -1,22 +1,24 @@
 //! What was left in the slots of a tenant, and what becomes of it by replies.
 
-ghost use Rattle.std.specs.Prelude.{◌≡◌, ℕ, ◌+◌, ◌*◌, ◌^◌, ◌<◌, ◌≤◌, ◌==◌, ◌&&◌, not, filter, length, [], ◌∷◌, Some, true, IfOk, IfSome, OnOk, OnErr, option_map, slice_index};
+ghost use Rattle.std.specs.Prelude.{◌≡◌, ℕ, ◌+◌, ◌*◌, ◌^◌, ◌<◌, ◌≤◌, ◌==◌, ◌&&◌, not, filter, length, [], ◌∷◌, Some, true, OnOk, OnErr, option_map, slice_index};
 ghost use Rattle.model_core.specs.declared.limits.TheConstants.{FRAME_BYTES, MOST_ORDER};
 ghost use Rattle.model_core.specs.Machine.{in_block, slot_of};
 ghost use Rattle.promise_core.specs.Holdings.{ToldCache, slab_around};
 ghost use Rattle.promise_core.specs.Bytes.{Holder, is_object, is_same, with_bytes, doubted, without};
 ghost use Rattle.promise_core.specs.State.{with_object, is_in_no_slab};
 ghost use Rattle.judge_core.specs.Holders.{shown_holder, shown_cell};
-ghost use Rattle.judge_bytes.specs.Left.{left_slots, left_at, has_place, IsAlone, Becomes};
-ghost use Rattle.judge_bytes.specs.Inside.{StaysNear, AreStepped, IsFound, within};
+ghost use Rattle.judge_bytes.specs.Left.{left_slots, left_at, has_place, Becomes};
+ghost use Rattle.judge_bytes.specs.Inside.{StaysNear, AreFrom, AreStepped, within};
 
-use crate::change::{Change, Doubt, Remove};
-use crate::slot::{Put, SlotBytes};
-use crate::slots::{Firsts, change_slots, firsts_of, left_in, put_slots, slot_with};
-use crate::spare::SpareRooms;
+use crate::change::{Change, Doubt, Put, Remove};
+use crate::kept::KeptByte;
+use crate::slot::SlotBytes;
+use crate::slots::{change_slots, drop_slot, kept_from, left_in, places_of};
+use crate::tests_of_holders::{
+    IsElse, IsInNoSlab, IsNoPage, IsNotBeside, IsObject, IsOfCache, IsPage,
+};
 use arrayvec::ArrayVec;
 use judge_core::{FrameBlock, Held, LeftByte, RangeHolder};
-use judge_granules::{IsElse, IsInNoSlab, IsNoPage, IsNotBeside, IsObject, IsOfCache, IsPage};
 use model_core::limits::MOST_BYTES;
 use std::alloc::{AllocError, Global};
 use std::marker::Model;
@@ -26,8 +28,6 @@ use std::marker::Model;
 pub struct LeftBytes {
     order: u8,
     slots: Vec<SlotBytes>,
-    /// By number of a slot, below 256: where it is among them.
-    firsts: Firsts,
     /// By number of a cache: each byte left of an object lies less than this behind the object's first.
     reach: [u64; 256],
 }
@@ -36,27 +36,26 @@ impl Model for LeftBytes {
     ghost use Rattle.std.specs.Prelude.{◌≤◌};
     ghost use Rattle.model_core.specs.declared.limits.TheConstants.{MOST_ORDER};
     ghost use Rattle.judge_bytes.specs.Left.{Left};
-    ghost use Rattle.judge_bytes.specs.Inside.{AreSlots, AreFirsts};
+    ghost use Rattle.judge_bytes.specs.Inside.{AreSlots};
 
     ghost Value = { Left };
 
     ghost view = { λ b. record { order = b.order; slots = b.slots.items } };
 
-    ghost invariant = { λ b. (b.order ≤ MOST_ORDER) × AreSlots b.order b.slots.items b.reach × AreFirsts b.slots.items b.firsts };
+    ghost invariant = { λ b. (b.order ≤ MOST_ORDER) × AreSlots b.order b.slots.items b.reach };
 }
 
 impl LeftBytes {
-    /// Nothing, of no slot, with room for the numbers of so many; slots have `2^order` frames. Fails where memory runs out.
-    pub fn new(alloc: Global, order: u8, slots: u16) -> Result<LeftBytes, AllocError>
+    /// Nothing, of no slot; slots have `2^order` frames.
+    pub fn new(alloc: Global, order: u8) -> LeftBytes
         requires { order ≤ MOST_ORDER }
-        ensures { IfOk result (λ left. left ≡ record { order = order; slots = [] }) }
+        ensures { result ≡ record { order = order; slots = [] } }
     {
-        Ok(LeftBytes {
+        LeftBytes {
             order,
-            slots: Vec::with_capacity(alloc, usize::from(slots))?,
-            firsts: [0; 256],
+            slots: Vec::new(alloc),
             reach: [0; 256],
-        })
+        }
     }
 
     /// Slots have `2^order` frames.
@@ -67,57 +66,48 @@ impl LeftBytes {
         self.order
     }
 
-    /// The slot is granted: all of it is fresh. Takes a spare room, and makes one where there is none. Fails where memory runs out,
-    /// and then nothing is changed.
-    pub fn grant(&mut self, slot: u16, spare: &mut SpareRooms) -> Result<(), AllocError>
-        requires low { (slot + 1) * 2 ^ self.old.order * FRAME_BYTES ≤ 2 ^ 32 }
-        requires order { spare.old ≡ self.old.order }
+    /// The slot is granted: all of it is fresh. Fails where memory runs out, and then nothing is changed.
+    pub fn grant(&mut self, slot: u16) -> Result<(), AllocError>
+        requires { (slot + 1) * 2 ^ self.old.order * FRAME_BYTES ≤ 2 ^ 32 }
         ensures granted { OnOk result (Becomes self.old (slot ∷ left_slots self.old)
             (without (λ place holder. slot_of self.old.order place == slot)) self.new) }
         ensures kept { OnErr result (self.new ≡ self.old) }
-        ensures spare { spare.new ≡ spare.old }
     {
-        let mut bytes = spare.take(*self.slots.allocator())?;
-        bytes.renew(slot);
+        let places = places_of(self.order) as usize;
+        let bytes = SlotBytes::fresh(*self.slots.allocator(), slot, places)?;
         self.slots.insert(0, bytes)?;
-        self.firsts = firsts_of(&self.slots);
         Ok(())
     }
 
     /// The slot is taken back.
-    pub fn take_back(&mut self, slot: u32, spare: &mut SpareRooms)
-        requires { spare.old ≡ self.old.order }
-        ensures slots { Becomes self.old (filter (λ v. not (v == slot)) (left_slots self.old)) (λ cells. cells) self.new }
-        ensures spare { spare.new ≡ spare.old }
+    pub fn take_back(&mut self, slot: u32)
+        ensures { Becomes self.old (filter (λ v. not (v == slot)) (left_slots self.old)) (λ cells. cells) self.new }
     {
-        spare.take_slot(&mut self.slots, slot);
-        self.firsts = firsts_of(&self.slots);
+        drop_slot(&mut self.slots, slot);
     }
 
     /// All slots are taken back.
-    pub fn reset(&mut self, spare: &mut SpareRooms)
-        requires { spare.old ≡ self.old.order }
-        ensures left { self.new ≡ record self.old { slots = [] } }
-        ensures spare { spare.new ≡ spare.old }
+    pub fn reset(&mut self)
+        ensures { self.new ≡ record self.old { slots = [] } }
     {
-        spare.take_all(&mut self.slots);
-        self.firsts = [0; 256];
+        self.slots.clear();
     }
 
     /// These bytes of the holder are told or written, from a place on.
     pub fn put(&mut self, holder: RangeHolder, place: u32, bytes: &ArrayVec<u8, MOST_BYTES>)
-        requires { IsAlone self.old (shown_holder holder) place (length bytes.now.items) }
+        requires { (number first : ℕ) → shown_holder holder ≡ Holder.Object number first → first ≤ place }
         ensures { Becomes self.old (left_slots self.old) (with_bytes (shown_holder holder) place bytes.now.items) self.new }
     {
         let bytes = bytes.as_slice();
-        let end = u64::from(place) + bytes.len() as u64;
+        let begin = u64::from(place);
+        let end = begin + bytes.len() as u64;
         extend_reach(&mut self.reach, holder, end);
         let put = Put {
             holder,
-            place,
+            begin: place,
             bytes,
         };
-        put_slots(&mut self.slots, &self.firsts, self.order, &put);
+        change_slots(&mut self.slots, self.order, begin, end, &put);
     }
 
     /// The page block is handed out: what was left of objects in it is gone.
@@ -186,14 +176,14 @@ impl LeftBytes {
     pub fn at(&self, place: u32) -> Option<LeftByte>
         ensures { option_map shown_cell result ≡ left_at self.now place }
     {
-        left_in(&self.slots, &self.firsts, self.order, place)
+        left_in(&self.slots, self.order, place)
     }
 
-    /// The slot that has the place, if the tenant holds it.
-    pub(crate) fn slot_with(&self, place: u32) -> Option<&SlotBytes>
-        ensures { IfSome result (λ s. IsFound self.now s.now) }
+    /// What is stored from a place on, to the end of its slot; nothing of a slot that the tenant does not hold.
+    pub(crate) fn kept_from(&self, place: u32) -> &[KeptByte]
+        ensures { AreFrom self.now place result.now }
     {
-        slot_with(&self.slots, &self.firsts, self.order, place)
+        kept_from(&self.slots, self.order, place)
     }
 
     /// The places of its slots are below `2^32`.
@@ -209,14 +199,7 @@ impl LeftBytes {
         ensures order { self.new.order ≡ self.old.order }
         ensures slots { AreStepped self.old.order (within begin end (C.step change.now)) self.old.slots self.new.slots }
     {
-        change_slots(
-            &mut self.slots,
-            &self.firsts,
-            self.order,
-            begin,
-            end,
-            change,
-        );
+        change_slots(&mut self.slots, self.order, begin, end, change);
     }
 }
 

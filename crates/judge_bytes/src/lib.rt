@@ -2,12 +2,13 @@
 #![tactic(auto)]
 
 mod change;
+mod kept;
 mod left;
+mod mark;
 mod ranges;
 mod reading;
 mod slot;
 mod slots;
-mod spare;
+mod tests_of_holders;
 
 pub use left::LeftBytes;
-pub use spare::SpareRooms;

@@ -1,104 +1,146 @@
 //! Changes of what is stored of a range of places, which pass over what their marks say they leave as it is.
 
-ghost use Rattle.std.specs.Prelude.{◌≡◌, ℕ, ◌+◌, ◌-◌, ◌*◌, ◌/◌, ◌^◌, ◌<◌, ◌≤◌, Option, Some, length};
-ghost use Rattle.promise_core.specs.Bytes.{Cell};
-ghost use Rattle.judge_core.specs.Holders.{shown_holder};
-ghost use Rattle.judge_granules.specs.Granules.{cell_in, AreEven, AreSame};
+ghost use Rattle.std.specs.Prelude.{◌≡◌, ℕ, ◌+◌, ◌*◌, ◌^◌, ◌<◌, ◌≤◌, length};
 ghost use Rattle.judge_bytes.specs.Inside.{within};
-ghost use Rattle.judge_granules.specs.Marks.{AreMarked, IsMarkedIn, IsChanged};
+ghost use Rattle.judge_bytes.specs.Marks.{cell_in, AreMarked, IsChanged};
 
 use crate::change::Change;
-use judge_core::RangeHolder;
-use judge_granules::{Granules, Mark, mark_at, set_mark};
+use crate::kept::KeptByte;
+use crate::mark::{Mark, mark_at, set_mark};
 use model_core::limits::FRAME_BYTES;
+
+/// How many places a chunk has: a part of a frame that has a mark of its own.
+pub(crate) const CHUNK: usize = 64;
 
 /// How many places a frame has.
 pub(crate) const FRAME: usize = FRAME_BYTES as usize;
 
-/// Changes those places of a frame, where its mark does not say that the change leaves them as they are.
-fn change_frame<C: Change>(
-    granules: &mut Granules,
-    frames: &mut [Mark],
-    frame: usize,
+/// Changes those places of a chunk, where its mark does not say that the change leaves them as they are.
+fn change_chunk<C: Change>(
+    cells: &mut [KeptByte],
+    chunks: &mut [Mark],
+    chunk: usize,
+    first: u64,
     low: usize,
     high: usize,
     change: &C,
 )
-    requires even { AreEven granules.old }
     requires order { low ≤ high }
-    requires most { high ≤ 8 * length granules.old.left.items }
+    requires most { high ≤ length cells.old }
+    requires low { first + length cells.old ≤ 2 ^ 32 }
+    requires begins { chunk * CHUNK ≤ low }
+    requires ends { high ≤ chunk * CHUNK + CHUNK }
+    requires marked { AreMarked CHUNK chunks.old cells.old }
+    ensures changed { IsChanged (C.step change.now) first low high cells.old cells.new }
+    ensures marked { AreMarked CHUNK chunks.new cells.new }
+{
+    let mark = mark_at(chunks, chunk);
+    if change.leaves(mark) {
+        return;
+    }
+    change.change_places(cells, first, low, high);
+    set_mark(chunks, chunk, change.mark_after(mark, high - low == CHUNK));
+}
+
+/// Changes the places of several chunks.
+fn change_chunks<C: Change>(
+    cells: &mut [KeptByte],
+    chunks: &mut [Mark],
+    first: u64,
+    low: usize,
+    high: usize,
+    change: &C,
+)
+    requires order { low ≤ high }
+    requires most { high ≤ length cells.old }
+    requires low { first + length cells.old ≤ 2 ^ 32 }
+    requires marked { AreMarked CHUNK chunks.old cells.old }
+    ensures changed { IsChanged (C.step change.now) first low high cells.old cells.new }
+    ensures marked { AreMarked CHUNK chunks.new cells.new }
+{
+    for chunk in low / CHUNK..(high + CHUNK - 1) / CHUNK {
+        let begin = (chunk * CHUNK).max(low);
+        let end = (chunk * CHUNK + CHUNK).min(high);
+        change_chunk(cells, chunks, chunk, first, begin, end, change);
+    }
+}
+
+/// Changes those places of a frame, where its mark does not say that the change leaves them as they are.
+fn change_frame<C: Change>(
+    cells: &mut [KeptByte],
+    chunks: &mut [Mark],
+    frames: &mut [Mark],
+    frame: usize,
+    first: u64,
+    low: usize,
+    high: usize,
+    change: &C,
+)
+    requires order { low ≤ high }
+    requires most { high ≤ length cells.old }
+    requires low { first + length cells.old ≤ 2 ^ 32 }
     requires begins { frame * FRAME ≤ low }
     requires ends { high ≤ frame * FRAME + FRAME }
-    requires marked { AreMarked FRAME frames.old (cell_in granules.old) }
-    ensures same { AreSame granules.old granules.new }
-    ensures changed { IsChanged (C.step change.now) (8 * granules.old.number) low high (cell_in granules.old)
-        (cell_in granules.new) }
-    ensures marked { AreMarked FRAME frames.new (cell_in granules.new) }
+    requires chunks { AreMarked CHUNK chunks.old cells.old }
+    requires frames { AreMarked FRAME frames.old cells.old }
+    ensures changed { IsChanged (C.step change.now) first low high cells.old cells.new }
+    ensures chunks { AreMarked CHUNK chunks.new cells.new }
+    ensures frames { AreMarked FRAME frames.new cells.new }
 {
     let mark = mark_at(frames, frame);
     if change.leaves(mark) {
         return;
     }
-    change.change_places(granules, low, high, mark);
+    change_chunks(cells, chunks, first, low, high, change);
     set_mark(frames, frame, change.mark_after(mark, high - low == FRAME));
 }
 
 /// Changes the places of several frames.
 fn change_frames<C: Change>(
-    granules: &mut Granules,
+    cells: &mut [KeptByte],
+    chunks: &mut [Mark],
     frames: &mut [Mark],
+    first: u64,
     low: usize,
     high: usize,
     change: &C,
 )
-    requires even { AreEven granules.old }
     requires order { low ≤ high }
-    requires most { high ≤ 8 * length granules.old.left.items }
-    requires marked { AreMarked FRAME frames.old (cell_in granules.old) }
-    ensures same { AreSame granules.old granules.new }
-    ensures changed { IsChanged (C.step change.now) (8 * granules.old.number) low high (cell_in granules.old)
-        (cell_in granules.new) }
-    ensures marked { AreMarked FRAME frames.new (cell_in granules.new) }
+    requires most { high ≤ length cells.old }
+    requires low { first + length cells.old ≤ 2 ^ 32 }
+    requires chunks { AreMarked CHUNK chunks.old cells.old }
+    requires frames { AreMarked FRAME frames.old cells.old }
+    ensures changed { IsChanged (C.step change.now) first low high cells.old cells.new }
+    ensures chunks { AreMarked CHUNK chunks.new cells.new }
+    ensures frames { AreMarked FRAME frames.new cells.new }
 {
-    for frame in low / FRAME..high.div_ceil(FRAME) {
+    for frame in low / FRAME..(high + FRAME - 1) / FRAME {
         let begin = (frame * FRAME).max(low);
         let end = (frame * FRAME + FRAME).min(high);
-        change_frame(granules, frames, frame, begin, end, change);
+        change_frame(cells, chunks, frames, frame, first, begin, end, change);
     }
 }
 
-/// Changes the places from `begin` on, before `end`.
+/// Changes the places from `begin` on, before `end`, where the first is `first`.
 pub(crate) fn change_range<C: Change>(
-    granules: &mut Granules,
+    cells: &mut [KeptByte],
+    chunks: &mut [Mark],
     frames: &mut [Mark],
+    first: u64,
     begin: u64,
     end: u64,
     change: &C,
 )
-    requires even { AreEven granules.old }
-    requires marked { AreMarked FRAME frames.old (cell_in granules.old) }
-    ensures same { AreSame granules.old granules.new }
-    ensures cells { (k : ℕ) → cell_in granules.new k
-        ≡ within begin end (C.step change.now) (8 * granules.old.number + k) (cell_in granules.old k) }
-    ensures marked { AreMarked FRAME frames.new (cell_in granules.new) }
+    requires low { first + length cells.old ≤ 2 ^ 32 }
+    requires chunks { AreMarked CHUNK chunks.old cells.old }
+    requires frames { AreMarked FRAME frames.old cells.old }
+    ensures cells { (k : ℕ) → k < length cells.old
+        → cell_in cells.new k ≡ within begin end (C.step change.now) (first + k) (cell_in cells.old k) }
+    ensures chunks { AreMarked CHUNK chunks.new cells.new }
+    ensures frames { AreMarked FRAME frames.new cells.new }
 {
-    let first = 8 * u64::from(granules.number);
-    let most = granules.places() as u64;
+    let most = cells.len() as u64;
     let low = begin.saturating_sub(first).min(most) as usize;
     let high = end.saturating_sub(first).min(most).max(low as u64) as usize;
-    change_frames(granules, frames, low, high, change);
-}
-
-/// Marks the frames of the places from `low` on before `high`: bytes of the holder are surely there.
-pub(crate) fn mark_put(frames: &mut [Mark], low: usize, high: usize, holder: RangeHolder)
-    requires order { low ≤ high }
-    requires most { high ≤ 2 ^ 32 }
-    ensures more { (frame : ℕ) (cell : Option Cell) → IsMarkedIn frames.old frame cell → IsMarkedIn frames.new frame cell }
-    ensures put { (frame : ℕ) (cell : Cell) → low / FRAME ≤ frame → frame < (high + FRAME - 1) / FRAME
-        → cell.holder ≡ shown_holder holder → IsMarkedIn frames.new frame (Some cell) }
-{
-    for frame in low / FRAME..high.div_ceil(FRAME) {
-        let mark = mark_at(frames, frame).with(holder);
-        set_mark(frames, frame, mark);
-    }
+    change_frames(cells, chunks, frames, first, low, high, change);
 }

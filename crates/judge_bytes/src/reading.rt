@@ -1,17 +1,17 @@
 //! What may be read.
 
-ghost use Rattle.std.specs.Prelude.{◌≡◌, ℕ, ◌+◌, ◌^◌, ◌<◌, ◌≤◌, Bool, true, Some, IfSome, length, option_map, slice_index};
+ghost use Rattle.std.specs.Prelude.{◌≡◌, ℕ, ◌+◌, ◌^◌, ◌<◌, ◌≤◌, true, length, option_map};
 ghost use Rattle.std.specs.Option.{option_copied};
 ghost use Rattle.promise_core.specs.Holdings.{Holdings};
 ghost use Rattle.promise_core.specs.Bytes.{Cells, may_all_be, may_be, told_fresh_byte};
 ghost use Rattle.judge_core.specs.Holders.{shown_holder, shown_cell};
 ghost use Rattle.judge_bytes.specs.Left.{left_at, has_place, AreLeft};
-ghost use Rattle.judge_bytes.specs.Inside.{IsFound, cache_of};
+ghost use Rattle.judge_bytes.specs.Inside.{AreFrom, cache_of};
 
+use crate::kept::KeptByte;
 use crate::left::LeftBytes;
-use crate::slot::SlotBytes;
 use arrayvec::ArrayVec;
-use judge_core::{Held, LeftByte, LiveCache, RangeHolder};
+use judge_core::{Held, HeldCache, LeftByte, RangeHolder};
 use model_core::limits::MOST_BYTES;
 
 impl LeftBytes {
@@ -41,59 +41,34 @@ impl LeftBytes {
         requires { place + length bytes.now ≤ 2 ^ 32 }
         ensures { result ≡ may_all_be held.now (left_at self.now) (shown_holder holder) place bytes.now }
     {
-        // mostly all of them are in one slot, and as they were left
-        let slot = self.slot_with(place);
-        if self.has_left(slot, holder, place, bytes) {
-            return true;
-        }
         let cache = cache_of(held, holder);
+        // mostly all of them: a page block or an object lies in one slot
+        let kept = self.kept_from(place);
         for (i, byte) in bytes.iter().enumerate() {
-            let left = self.left_near(slot, place + i as u32);
-            if !may_be_read(holder, cache.as_ref(), place + i as u32, left, *byte) {
+            let left = self.left_behind(kept, place, i as u32);
+            if !may_be_read(holder, cache, place + i as u32, left, *byte) {
                 return false;
             }
         }
         true
     }
 
-    /// Whether all of these bytes of the holder were left, from a place on. They are looked for in the slot alone.
-    fn has_left(
-        &self,
-        slot: Option<&SlotBytes>,
-        holder: RangeHolder,
-        place: u32,
-        bytes: &[u8],
-    ) -> bool
-        requires slot { IfSome slot (λ s. IsFound self.now s.now) }
-        requires low { place + length bytes.now ≤ 2 ^ 32 }
-        ensures { result ≡ true → (j : ℕ) → j < length bytes.now → (sure : Bool) × (left_at self.now (place + j)
-            ≡ Some (record { holder = shown_holder holder; byte = slice_index bytes.now j; sure = sure })) }
+    /// What was left so far behind a place, from which on these are stored.
+    fn left_behind(&self, kept: &[KeptByte], place: u32, i: u32) -> Option<LeftByte>
+        requires kept { AreFrom self.now place kept.now }
+        requires low { place + i < 2 ^ 32 }
+        ensures { option_map shown_cell result ≡ left_at self.now (place + i) }
     {
-        if let Some(slot) = slot
-            && let Some(index) = slot.index_of(place)
-        {
-            return slot.has_left(index, holder, bytes);
+        match kept.get(i as usize) {
+            Some(kept) => kept.left(),
+            None => self.at(place + i),
         }
-        false
-    }
-
-    /// What was left at a place. It is looked for in the slot first.
-    fn left_near(&self, slot: Option<&SlotBytes>, place: u32) -> Option<LeftByte>
-        requires { IfSome slot (λ s. IsFound self.now s.now) }
-        ensures { option_map shown_cell result ≡ left_at self.now place }
-    {
-        if let Some(slot) = slot
-            && let Some(index) = slot.index_of(place)
-        {
-            return slot.at(index);
-        }
-        self.at(place)
     }
 }
 
 /// The cache whose object the holder is, if it is one.
-fn cache_of(held: &Held, holder: RangeHolder) -> Option<LiveCache<'_>>
-    ensures { result ≡ cache_of held.now (shown_holder holder) }
+fn cache_of(held: &Held, holder: RangeHolder) -> Option<&HeldCache>
+    ensures { option_copied result ≡ cache_of held.now (shown_holder holder) }
 {
     match holder {
         RangeHolder::Page => None,
@@ -104,7 +79,7 @@ fn cache_of(held: &Held, holder: RangeHolder) -> Option<LiveCache<'_>>
 /// Whether the byte may be read of the holder, whose cache this is, at a place where this was left.
 fn may_be_read(
     holder: RangeHolder,
-    cache: Option<&LiveCache<'_>>,
+    cache: Option<&HeldCache>,
     place: u32,
     left: Option<LeftByte>,
     byte: u8,
@@ -128,7 +103,7 @@ fn is_left(holder: RangeHolder, left: LeftByte, byte: u8) -> bool
 }
 
 /// The byte that something fresh has at a place of the holder, whose cache this is.
-fn fresh_byte(holder: RangeHolder, cache: Option<&LiveCache<'_>>, place: u32) -> u8
+fn fresh_byte(holder: RangeHolder, cache: Option<&HeldCache>, place: u32) -> u8
     ensures { (h : Holdings) → option_copied cache.entry ≡ cache_of h (shown_holder holder)
         → result ≡ told_fresh_byte h (shown_holder holder) place }
 {

@@ -1,6 +1,6 @@
 pub mod Lists
 pub mod Putting
 pub mod ByNumber
+pub mod Points
+pub mod Slabs
 pub mod Pages
-pub mod Changes
-pub mod Told

@@ -1,7 +1,8 @@
 -- The tests of the definitions in the order in which they are computed.
-use Rattle.std.proofs.Common.{◌≡◌, ℕ, ◌+◌, ◌*◌, ◌^◌, ◌∙◌, ◌<◌, get_or, drop, sym, Bool, true, false, not, ◌||◌, ◌==◌, if◌then◌else◌, List, [], ◌∷◌, ◌++◌, map, find, filter, length, Some, option_map, refl, ap, cond, arith, length-append}
+use Rattle.std.proofs.Common.{◌≡◌, ℕ, ◌+◌, ◌*◌, ◌^◌, ◌-◌, ◌<◌, get_or, drop, sym, Bool, true, false, not, ◌||◌, ◌==◌, if◌then◌else◌, List, [], ◌∷◌, ◌++◌, map, find, filter, length, Some, option_map, refl, ap, ◌∙◌, cond, arith, length-append}
 use Rattle.std.specs.List.{list_any, flat_map, sum_by}
-use Rattle.std.specs.Prelude.{MatchOption}
+use Rattle.std.specs.Prelude.{MatchOption, nat_le}
+use Rattle.model_core.specs.declared.limits.TheConstants.{FRAME_BYTES}
 use Rattle.std.proofs.lemmas.Bool.{eqb-true}
 use Rattle.std.specs.List.{range_with_len}
 use Rattle.std.specs.Option.{option_map_or}
@@ -82,3 +83,12 @@ match_found u (v ∷ vs) = go (v == u) refl (match_found u vs)
         → MatchOption (if t then Some v else find (λ x. x == u) vs) ((t || list_any (λ x. x == u) vs) ≡ false) (λ x. (x ≡ u) × ((t || list_any (λ x. x == u) vs) ≡ true))
     go true e rest = (eqb-true v u e, refl)
     go false e rest = rest
+
+-- the objects of a slab lie inside it
+pub inside_slab : (origin count chunk size first order : ℕ)
+    → nat_le (origin + ((count - 1) * chunk + size)) (FRAME_BYTES * first + FRAME_BYTES * 2 ^ order)
+    ≡ nat_le (origin + (count - 1) * chunk + size) (FRAME_BYTES * (first + 2 ^ order))
+inside_slab origin count chunk size first order =
+    let objects : origin + ((count - 1) * chunk + size) ≡ origin + (count - 1) * chunk + size = omega arith in
+    let frames : FRAME_BYTES * first + FRAME_BYTES * 2 ^ order ≡ FRAME_BYTES * (first + 2 ^ order) = omega arith in
+    (λ i. nat_le (objects i) (frames i))

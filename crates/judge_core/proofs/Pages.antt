@@ -16,7 +16,7 @@ use Rattle.model_core.specs.Blocks.{Block}
 use Rattle.model_core.specs.Operations.{overlaps}
 use Rattle.model_core.specs.Reach.{within_block}
 use Rattle.judge_core.specs.Inside.{ArePages}
-use Rattle.judge_caches.proofs.Points.{any_part, filter_others, none_found, one_found}
+use Rattle.judge_core.proofs.Points.{any_part, filter_others, none_found, one_found}
 
 -- the one that begins at a frame is the first that does not begin before it
 pub page_found : (pages : List Block) (frame i : ℕ) (d : Block) → i < length pages

@@ -1,11 +1,29 @@
 -- What is true of the fields of what is stored.
-use Rattle.std.specs.Prelude.{ℕ, ◌≤◌, List, map}
+use Rattle.std.specs.Prelude.{◌≡◌, ℕ, ◌+◌, ◌-◌, ◌*◌, ◌%◌, ◌^◌, ◌≤◌, true, List, map}
 use Rattle.std.specs.List.{All}
 use Rattle.std.specs.List.Sorted.{IsNonDecreasingBy}
-use Rattle.model_core.specs.declared.limits.TheConstants.{MOST_ORDER}
+use Rattle.model_core.specs.declared.limits.TheConstants.{FRAME_BYTES, MOST_SIZE, MOST_ORDER}
 use Rattle.model_core.specs.Blocks.{Block}
+use Rattle.model_core.specs.Layouts.{is_alignment}
 use Rattle.model_core.specs.WellFormed.{RisesFrom}
-use Rattle.promise_core.specs.Holdings.{ToldCache}
+use Rattle.promise_core.specs.Holdings.{ToldCache, slab_around}
+
+-- the numbers of a cache: size, alignment, chunk, order of a slab, objects of a slab
+pub record IsToldLayout (size align chunk order count : ℕ) : Type 0 where
+  pub some : 1 ≤ size
+  pub most : size ≤ MOST_SIZE
+  pub alignment : is_alignment align ≡ true
+  pub chunked : size ≤ chunk
+  pub aligned : chunk % align ≡ 0
+  pub small : order ≤ MOST_ORDER
+  pub counted : 1 ≤ count
+  pub fits : count * chunk ≤ FRAME_BYTES * 2 ^ order
+
+-- object `i` of a slab is at the place, and all of its objects lie in the frames of the slab that has the place
+abbrev pub IsObjectAt : ToldCache → ℕ → ℕ → Type 0
+IsObjectAt c place i = let slab = slab_around c place in let origin = place - i * c.chunk in
+    (i * c.chunk ≤ place) × (FRAME_BYTES * slab.first ≤ origin)
+    × (origin + (c.count - 1) * c.chunk + c.size ≤ FRAME_BYTES * (slab.first + 2 ^ slab.order))
 
 -- the live page blocks rise, and none has more than 2 ^ longest frames
 pub record ArePages (longest : ℕ) (pages : List Block) : Type 0 where

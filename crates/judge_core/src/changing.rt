@@ -1,16 +1,13 @@
 //! What becomes of a tenant's holdings by answers that take something away.
 
-ghost use Rattle.std.specs.Prelude.{◌≡◌, ◌==◌, not, filter, [], Some};
+ghost use Rattle.std.specs.Prelude.{◌≡◌, ◌==◌, not, filter, []};
 ghost use Rattle.std.specs.List.Sorted.{IsNonDecreasingBy};
-ghost use Rattle.promise_core.specs.Holdings.{ToldCache, cache_told, with_live_places};
-ghost use Rattle.judge_caches.specs.Frames.{AreSpans, IsDropped, rank};
+ghost use Rattle.promise_core.specs.Holdings.{with_live_places};
 
+use crate::block::FrameBlock;
+use crate::cache::HeldCache;
 use crate::held::{Held, index_of_cache};
 use crate::rising::{pages_before, remove_range};
-use judge_caches::frames::{is_frame_at, ranks_before};
-use judge_caches::live_frame::{LiveFrame, rank_of};
-use judge_caches::{FrameBlock, HeldCache};
-use model_core::limits::FRAME_BYTES;
 
 impl Held {
     /// The page block that begins at the frame is freed.
@@ -20,9 +17,8 @@ impl Held {
         drop_page(&mut self.pages, frame);
     }
 
-    /// The cache of this number, which has no live objects, is destroyed.
+    /// The cache of this number is destroyed.
     pub fn destroy(&mut self, number: u32)
-        requires { (c : ToldCache) → cache_told self.old number ≡ Some c → c.live ≡ [] }
         ensures { self.new ≡ record self.old { caches = filter (λ c. not (c.number == number)) self.old.caches } }
     {
         drop_cache(&mut self.caches, number);
@@ -33,7 +29,7 @@ impl Held {
         ensures { self.new ≡ with_live_places number (filter (λ p. not (p == place))) self.old }
     {
         if let Some(i) = index_of_cache(&self.caches, number) {
-            drop_live(&mut self.frames, self.caches[i].number(), place);
+            self.caches[i].give(place);
         }
     }
 
@@ -51,7 +47,6 @@ impl Held {
         self.slots.clear();
         self.pages.clear();
         self.caches.clear();
-        self.frames.clear();
     }
 }
 
@@ -63,21 +58,6 @@ fn drop_page(pages: &mut Vec<FrameBlock>, frame: u32)
     let begin = pages_before(pages, u64::from(frame));
     let end = pages_before(pages, u64::from(frame) + 1);
     remove_range(pages, begin, end);
-}
-
-/// No live object of the cache of this number begins at the place any more.
-fn drop_live(frames: &mut Vec<LiveFrame>, cache: u8, place: u32)
-    requires { AreSpans rank frames.old.items }
-    ensures { IsDropped cache place frames.old.items frames.new.items }
-{
-    let frame = place / FRAME_BYTES;
-    let at = ranks_before(frames, rank_of(cache, u64::from(frame)));
-    if is_frame_at(frames, at, cache, frame) {
-        frames[at].remove(place);
-        if frames[at].count() == 0 {
-            frames.remove(at);
-        }
-    }
 }
 
 /// The caches without the one of this number.

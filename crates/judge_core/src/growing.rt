@@ -1,19 +1,17 @@
 //! What becomes of a tenant's holdings by answers that add something.
 
-ghost use Rattle.std.specs.Prelude.{◌≡◌, ◌%◌, ◌<◌, ◌≤◌, ◌==◌, not, nat_lt, length, [], Some, None, false, IfOk, OnErr};
-ghost use Rattle.std.specs.List.{list_any, prefix_len};
+ghost use Rattle.std.specs.Prelude.{◌≡◌, ◌<◌, ◌≤◌, not, nat_lt, length, [], None, IfOk, OnErr};
+ghost use Rattle.std.specs.List.{prefix_len};
 ghost use Rattle.std.specs.List.Sorted.{IsNonDecreasingBy, IsPartitionPoint};
 ghost use Rattle.model_core.specs.declared.limits.TheConstants.{MOST_ORDER, MOST_SUPERBLOCKS};
 ghost use Rattle.model_core.specs.Machine.{put_rising};
-ghost use Rattle.promise_core.specs.Holdings.{ToldCache, cache_told, with_live_places};
-ghost use Rattle.judge_caches.specs.Frames.{AreSpans, IsPut, live_of, rank};
+ghost use Rattle.promise_core.specs.Holdings.{cache_told, with_live_places};
 
+use crate::block::FrameBlock;
+use crate::cache::HeldCache;
 use crate::held::{Held, index_of_cache};
 use crate::rising::pages_before;
-use judge_caches::frames::{is_frame_at, ranks_before};
-use judge_caches::live_frame::{LiveFrame, rank_of};
-use judge_caches::{FrameBlock, HeldCache};
-use model_core::limits::{FRAME_BYTES, MOST_CACHES};
+use model_core::limits::MOST_CACHES;
 use std::alloc::{AllocError, Global};
 
 impl Held {
@@ -29,7 +27,6 @@ impl Held {
             pages: Vec::with_capacity(alloc, frames)?,
             longest: 0,
             caches: Vec::with_capacity(alloc, MOST_CACHES.into())?,
-            frames: Vec::with_capacity(alloc, frames)?,
         })
     }
 
@@ -54,7 +51,7 @@ impl Held {
         Ok(())
     }
 
-    /// The cache, which has no live objects, is made. Fails where memory runs out, and then nothing is changed.
+    /// The cache is made. Fails where memory runs out, and then nothing is changed.
     pub fn make_cache(&mut self, cache: HeldCache) -> Result<(), AllocError>
         requires { cache_told self.old cache.number ≡ None }
         ensures made { IfOk result (λ _.
@@ -66,38 +63,17 @@ impl Held {
         Ok(())
     }
 
-    /// The object of the cache of this number that begins at the place, a multiple of 8 at which none does yet, is handed out.
-    /// Fails where memory runs out, and then nothing is changed.
+    /// The object of the cache of this number that begins at the place is handed out. Fails where memory runs out, and then
+    /// nothing is changed.
     pub fn take(&mut self, number: u32, place: u32) -> Result<(), AllocError>
-        requires eighth { place % 8 ≡ 0 }
-        requires new { (c : ToldCache) → cache_told self.old number ≡ Some c → list_any (λ p. p == place) c.live ≡ false }
         ensures taken { IfOk result (λ _. self.new ≡ with_live_places number (put_rising (λ p. p) place) self.old) }
         ensures kept { OnErr result (self.new ≡ self.old) }
     {
         match index_of_cache(&self.caches, number) {
-            Some(i) => put_live(&mut self.frames, self.caches[i].number(), place),
+            Some(i) => self.caches[i].take(place),
             None => Ok(()),
         }
     }
-}
-
-/// A live object of the cache of this number begins at the place, a multiple of 8 at which none does yet. Fails where memory runs
-/// out, and then nothing is changed.
-fn put_live(frames: &mut Vec<LiveFrame>, cache: u8, place: u32) -> Result<(), AllocError>
-    requires spans { AreSpans rank frames.old.items }
-    requires eighth { place % 8 ≡ 0 }
-    requires new { list_any (λ p. p == place) (live_of frames.old.items cache) ≡ false }
-    ensures put { IfOk result (λ _. IsPut cache place frames.old.items frames.new.items) }
-    ensures kept { OnErr result (frames.new.items ≡ frames.old.items) }
-{
-    let frame = place / FRAME_BYTES;
-    let at = ranks_before(frames, rank_of(cache, u64::from(frame)));
-    if is_frame_at(frames, at, cache, frame) {
-        frames[at].insert(place);
-    } else {
-        frames.insert(at, LiveFrame::new(cache, place))?;
-    }
-    Ok(())
 }
 
 /// Where the slot goes among these.

@@ -4,26 +4,23 @@ ghost use Rattle.std.specs.Prelude.{◌≡◌, ℕ, ◌+◌, ◌-◌, ◌*◌, �
 ghost use Rattle.std.specs.List.{list_any, list_all};
 ghost use Rattle.std.specs.Option.{option_copied};
 ghost use Rattle.model_core.specs.declared.limits.TheConstants.{MOST_ORDER, MOST_CACHES};
-ghost use Rattle.model_core.specs.Machine.{order_in, in_block};
+ghost use Rattle.model_core.specs.Machine.{order_in};
 ghost use Rattle.std.specs.List.{range_with_len};
 ghost use Rattle.model_core.specs.Blocks.{Block, block};
 ghost use Rattle.model_core.specs.Operations.{overlaps};
 ghost use Rattle.model_core.specs.Reach.{within_block};
 ghost use Rattle.promise_core.specs.Bytes.{holder_of, object_with};
-ghost use Rattle.judge_caches.specs.Frames.{AreSpans, rank, live_of, with_live};
 ghost use Rattle.judge_core.specs.Holders.{shown_holder};
 ghost use Rattle.promise_core.specs.Holdings.{blocks_of_slot, vacant_blocks, has_room, can_be_taken, slab_around, has_slot, cache_told, is_vacant, can_stand, is_slot_busy};
 
+use crate::block::FrameBlock;
+use crate::cache::HeldCache;
 use crate::holder::RangeHolder;
 use crate::rising::pages_before;
-use judge_caches::live_cache::live_cache;
-use judge_caches::live_frame::LiveFrame;
-use judge_caches::{FrameBlock, HeldCache, LiveCache};
 use model_core::limits::{FRAME_BYTES, MOST_CACHES};
 use std::marker::Model;
 
-/// The held slots, rising, the live page blocks, by rising first frame, the caches, by rising number, and the frames in which
-/// live objects of caches begin, by rising number and frame.
+/// The held slots, rising, the live page blocks, by rising first frame, and the caches, by rising number.
 #[derive(Debug, Drop)]
 pub struct Held {
     pub(crate) slots: Vec<u16>,
@@ -31,25 +28,17 @@ pub struct Held {
     /// No live page block has more than `2^longest` frames.
     pub(crate) longest: u8,
     pub(crate) caches: Vec<HeldCache>,
-    pub(crate) frames: Vec<LiveFrame>,
 }
 
 impl Model for Held {
-    ghost use Rattle.std.specs.Prelude.{map};
     ghost use Rattle.promise_core.specs.Holdings.{Holdings};
-    ghost use Rattle.judge_caches.specs.Frames.{AreSpans, AreOfCaches, rank, with_live};
     ghost use Rattle.judge_core.specs.Inside.{AreListed, ArePages};
 
     ghost Value = { Holdings };
 
-    ghost view = { λ h. record {
-      slots = h.slots.items;
-      pages = h.pages.items;
-      caches = map (with_live h.frames.items) h.caches.items;
-    } };
+    ghost view = { λ h. record { slots = h.slots.items; pages = h.pages.items; caches = h.caches.items } };
 
-    ghost invariant = { λ h. AreListed h.caches.items × ArePages h.longest h.pages.items
-        × AreSpans rank h.frames.items × AreOfCaches h.caches.items h.frames.items };
+    ghost invariant = { λ h. AreListed h.caches.items × ArePages h.longest h.pages.items };
 }
 
 impl Held {
@@ -80,7 +69,9 @@ impl Held {
     pub fn hides_some(&self, hides: &[bool]) -> bool
         ensures { result ≡ list_any (λ c. slice_index_or hides.now c.number false) self.now.caches }
     {
-        some_is_marked(&self.caches, hides)
+        self.caches
+            .iter()
+            .any(|cache| is_marked(hides, cache.number()))
     }
 
     /// The order of the live page block that begins at the frame, if one does.
@@ -106,13 +97,12 @@ impl Held {
     }
 
     /// The cache of this number.
-    pub fn cache(&self, number: u32) -> Option<LiveCache<'_>>
-        ensures { result ≡ cache_told self.now number }
+    pub fn cache(&self, number: u32) -> Option<&HeldCache>
+        ensures { option_copied result ≡ cache_told self.now number }
     {
-        match find_cache(&self.caches, number) {
-            Some(cache) => Some(live_cache(&self.frames, cache)),
-            None => None,
-        }
+        self.caches
+            .iter()
+            .find(|cache| u32::from(cache.number()) == number)
     }
 
     /// Whether the tenant has as many caches as it may have.
@@ -166,15 +156,7 @@ impl Held {
     fn is_in_slabs(&self, block: &FrameBlock) -> bool
         ensures { result ≡ list_any (λ c. list_any (λ p. overlaps block.now (slab_around c p)) c.live) self.now.caches }
     {
-        is_over_some_slab(block, &self.caches, &self.frames)
-    }
-
-    /// Whether the place is in a slab of a live object of the cache of this number.
-    pub fn is_in_slab(&self, number: u8, place: u32) -> bool
-        ensures { result ≡ list_any (λ c. c.number == number && list_any (λ q. in_block place (slab_around c q)) c.live)
-            self.now.caches }
-    {
-        some_slab_has(&self.caches, &self.frames, number, place)
+        self.caches.iter().any(|cache| cache.has_slab_over(block))
     }
 
     /// Whether a page block or a slab can stand there, where slots have `2^order` frames.
@@ -248,7 +230,7 @@ impl Held {
 
     /// Whether an object of the cache can be handed out at the place.
     #[tactic(auto, unfolding(promise_core::specs::Holdings::can_be_taken))]
-    pub fn can_be_taken(&self, order: u8, cache: &LiveCache<'_>, place: u32) -> bool
+    pub fn can_be_taken(&self, order: u8, cache: &HeldCache, place: u32) -> bool
         requires { order ≤ MOST_ORDER }
         ensures { result ≡ can_be_taken order self.now cache.now place }
     {
@@ -282,7 +264,15 @@ impl Held {
     fn object_with(&self, place: u32, len: u32) -> Option<RangeHolder>
         ensures { option_map shown_holder result ≡ object_with place len self.now.caches }
     {
-        some_object_with(&self.caches, &self.frames, place, len)
+        for c in &self.caches {
+            if let Some(first) = c.object_with(place, len) {
+                return Some(RangeHolder::Object {
+                    cache: c.number(),
+                    first,
+                });
+            }
+        }
+        None
     }
 }
 
@@ -300,64 +290,6 @@ fn some_has_range(pages: &[FrameBlock], place: u32, len: u32) -> bool
     pages.iter().any(|page| page.has_range(place, len))
 }
 
-/// Whether the slab of a live object of one of these caches shares a frame with the block.
-fn is_over_some_slab(block: &FrameBlock, caches: &[HeldCache], frames: &[LiveFrame]) -> bool
-    requires { AreSpans rank frames.now }
-    ensures { result ≡ list_any (λ c. list_any (λ p. overlaps block.now (slab_around c p)) (live_of frames.now c.number)) caches.now }
-{
-    caches
-        .iter()
-        .any(|cache| live_cache(frames, cache).has_slab_over(block))
-}
-
-/// Whether the place is in the slab of a live object of one of these caches that has the number.
-fn some_slab_has(caches: &[HeldCache], frames: &[LiveFrame], number: u8, place: u32) -> bool
-    requires { AreSpans rank frames.now }
-    ensures { result ≡ list_any (λ c. c.number == number
-        && list_any (λ q. in_block place (slab_around c q)) (live_of frames.now c.number)) caches.now }
-{
-    caches
-        .iter()
-        .any(|cache| slab_has(cache, frames, number, place))
-}
-
-/// Whether the cache has the number, and the place is in the slab of a live object of it.
-fn slab_has(cache: &HeldCache, frames: &[LiveFrame], number: u8, place: u32) -> bool
-    requires { AreSpans rank frames.now }
-    ensures { result ≡ (cache.now.number == number
-        && list_any (λ q. in_block place (slab_around cache.now q)) (live_of frames.now cache.now.number)) }
-{
-    cache.number() == number && live_cache(frames, cache).has_slab_at(place)
-}
-
-/// The live object of one of these caches that has the `len` bytes from a place on.
-fn some_object_with(
-    caches: &[HeldCache],
-    frames: &[LiveFrame],
-    place: u32,
-    len: u32,
-) -> Option<RangeHolder>
-    requires { AreSpans rank frames.now }
-    ensures { option_map shown_holder result ≡ object_with place len (map (with_live frames.now) caches.now) }
-{
-    for cache in caches {
-        if let Some(first) = live_cache(frames, cache).object_with(place, len) {
-            return Some(RangeHolder::Object {
-                cache: cache.number(),
-                first,
-            });
-        }
-    }
-    None
-}
-
-/// Whether the mark of the number of one of these caches is true.
-fn some_is_marked(caches: &[HeldCache], marks: &[bool]) -> bool
-    ensures { result ≡ list_any (λ c. slice_index_or marks.now c.number false) caches.now }
-{
-    caches.iter().any(|cache| is_marked(marks, cache.number()))
-}
-
 /// The mark of this number, false where there is none.
 fn is_marked(marks: &[bool], number: u8) -> bool
     ensures { result ≡ slice_index_or marks.now number false }
@@ -366,15 +298,6 @@ fn is_marked(marks: &[bool], number: u8) -> bool
         Some(mark) => *mark,
         None => false,
     }
-}
-
-/// The cache of this number.
-fn find_cache(caches: &[HeldCache], number: u32) -> Option<&HeldCache>
-    ensures { option_copied result ≡ find (λ c. c.number == number) caches.now }
-{
-    caches
-        .iter()
-        .find(|cache| u32::from(cache.number()) == number)
 }
 
 /// Which of these is the cache of this number.

@@ -2,15 +2,20 @@
 //! its definition in [`promise_core`].
 #![tactic(auto)]
 
+mod block;
 mod bytes;
+mod cache;
 mod changing;
 mod growing;
 mod held;
 mod holder;
+mod layout;
 mod rising;
 mod walking;
 
+pub use block::FrameBlock;
 pub use bytes::LeftByte;
+pub use cache::HeldCache;
 pub use held::Held;
 pub use holder::RangeHolder;
-pub use judge_caches::{FrameBlock, HeldCache, LiveCache, ToldLayout};
+pub use layout::ToldLayout;

@@ -1,9 +1,18 @@
 //! Searches in what rises.
 
 ghost use Rattle.std.specs.Prelude.{◌≡◌, ◌++◌, ◌<◌, ◌≤◌, length, take, drop};
-ghost use Rattle.std.specs.List.Sorted.{IsNonDecreasingBy, IsPartitionPoint};
+ghost use Rattle.std.specs.List.Sorted.{IsNonDecreasing, IsNonDecreasingBy, IsPartitionPoint};
 
-use judge_caches::FrameBlock;
+use crate::block::FrameBlock;
+
+/// How many of the places come before this one.
+pub(crate) fn places_before(places: &[u32], place: u64) -> usize
+    requires { IsNonDecreasing places.now }
+    ensures inside { result ≤ length places.now }
+    ensures point { IsPartitionPoint (λ p. p < place) (λ p. place ≤ p) places.now result }
+{
+    places.partition_point(|p| u64::from(*p) < place)
+}
 
 /// How many of the page blocks begin before the frame.
 pub(crate) fn pages_before(pages: &[FrameBlock], frame: u64) -> usize

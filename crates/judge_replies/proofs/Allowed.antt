@@ -15,7 +15,7 @@ use Rattle.promise_core.specs.declared.promise.Promise.{Promise}
 use Rattle.promise_core.specs.Holdings.{cache_told}
 use Rattle.promise_core.specs.State.{State, Known}
 use Rattle.promise_core.specs.Promises.{first_due, due, new_layout}
-use Rattle.judge_caches.specs.Inside.{IsToldLayout}
+use Rattle.judge_core.specs.Inside.{IsToldLayout}
 use Rattle.judge_replies.specs.Verdicts.{broken, kept_by, verdict_on}
 
 -- each promise is kept

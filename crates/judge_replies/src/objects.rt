@@ -42,7 +42,7 @@ fn can_take(held: &Held, order: u8, number: u32, place: u32) -> bool
     ensures { result ≡ option_map_or (λ c. can_be_taken order held.now c place) (cache_told held.now number) false }
 {
     match held.cache(number) {
-        Some(cache) => held.can_be_taken(order, &cache, place),
+        Some(cache) => held.can_be_taken(order, cache, place),
         None => false,
     }
 }

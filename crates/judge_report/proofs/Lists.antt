@@ -1,59 +1,20 @@
 -- Lists, one item at a time.
-use Rattle.std.proofs.Common.{◌≡◌, ℕ, zero, suc, ◌+◌, ◌-◌, ◌<◌, ◌≤◌, Bool, true, false, ◌&&◌, cond, List, [], ◌∷◌, length, drop, get_or, ◌==◌, Option, Some, None, refl, ap, sym, ◌∙◌, arith}
-use Rattle.std.specs.Prelude.{◌||◌, filter, slice_get}
-use Rattle.std.specs.List.{list_all, list_any, zip, range_with_len}
-use Rattle.std.specs.Option.{option_eq, option_map_or}
+use Rattle.std.proofs.Common.{◌≡◌, ℕ, suc, ◌+◌, ◌-◌, ◌<◌, Bool, true, false, ◌&&◌, List, [], ◌∷◌, ◌==◌, Option, Some, None, refl, ap, sym, arith}
+use Rattle.std.specs.Prelude.{if◌then◌else◌, find, filter, unwrap_or, slice_index}
+use Rattle.std.specs.List.{list_all, range_with_len}
+use Rattle.std.specs.Option.{option_eq}
 use Rattle.std.proofs.lemmas.Bool.{eqb-true}
-use Rattle.std.proofs.lemmas.List.{at_drop_all}
 use Rattle.model_core.specs.Reports.{split_share}
 
--- whether all pairs from i on pass
-pub next_row : {A B : Type 0} (p : A × B → Bool) (xs : List A) (ys : List B) (i : ℕ) (d : B) → i < length ys
-    → list_all p (zip (drop i xs) (drop i ys)) ≡ (option_map_or (λ a. p (a, get_or ys i d)) (slice_get xs i) true && list_all p (zip (drop (i + 1) xs) (drop (i + 1) ys)))
-next_row p [] [] i d lt = absurd (omega arith)
-next_row p [] (y ∷ ys) zero d lt = refl
-next_row {A} {B} p [] (y ∷ ys) (suc i) d lt =
-    let next : suc i + 1 ≡ suc (i + 1) = omega arith in
-    let none : List A = [] in
-    let all : List B = y ∷ ys in
-    ap (λ k. list_all p (zip (drop k none) (drop k all))) (sym next)
-next_row p (x ∷ xs) [] i d lt = absurd (omega arith)
-next_row p (x ∷ xs) (y ∷ ys) zero d lt = refl
-next_row p (x ∷ xs) (y ∷ ys) (suc i) d lt =
-    let next : suc i + 1 ≡ suc (i + 1) = omega arith in
-    next_row p xs ys i d (omega arith)
-    ∙ ap (λ k. option_map_or (λ a. p (a, get_or ys i d)) (slice_get xs i) true && list_all p (zip (drop k (x ∷ xs)) (drop k (y ∷ ys)))) (sym next)
-
-pub no_row : {A B : Type 0} (p : A × B → Bool) (xs : List A) (ys : List B) (i : ℕ) → length ys ≤ i
-    → list_all p (zip (drop i xs) (drop i ys)) ≡ true
-no_row {A} {B} p xs ys i le = at_drop_all (λ (zs : List B). list_all p (zip (drop i xs) zs)) ys i le ∙ go (drop i xs)
+-- the first that passes, found and filtered
+pub first_found : (p : ℕ → Bool) (xs : List ℕ) → unwrap_or (find p xs) 0 ≡ slice_index (filter p xs) 0
+first_found p [] = refl
+first_found p (x ∷ xs) = go (p x) (first_found p xs)
   where
-    go : (zs : List A) → list_all p (zip zs []) ≡ true
-    go [] = refl
-    go (z ∷ zs) = refl
-
--- whether some from i on passes
-pub next_any : {A : Type 0} (p : A → Bool) (xs : List A) (i : ℕ)
-    → list_any p (drop i xs) ≡ (option_map_or p (slice_get xs i) false || list_any p (drop (i + 1) xs))
-next_any p [] zero = refl
-next_any {A} p [] (suc i) =
-    let next : suc i + 1 ≡ suc (i + 1) = omega arith in
-    let none : List A = [] in
-    ap (λ k. list_any p (drop k none)) (sym next)
-next_any p (x ∷ xs) zero = refl
-next_any p (x ∷ xs) (suc i) =
-    let next : suc i + 1 ≡ suc (i + 1) = omega arith in
-    next_any p xs i ∙ ap (λ k. option_map_or p (slice_get xs i) false || list_any p (drop k (x ∷ xs))) (sym next)
-
--- of those that pass a test one passes another
-pub any_filtered : {A : Type 0} (p q : A → Bool) (xs : List A) → list_any p (filter q xs) ≡ list_any (λ x. q x && p x) xs
-any_filtered p q [] = refl
-any_filtered {A} p q (x ∷ xs) = go (q x) (any_filtered p q xs)
-  where
-    go : (b : Bool) → list_any p (filter q xs) ≡ list_any (λ x. q x && p x) xs
-        → list_any p (cond b (x ∷ filter q xs) (filter q xs)) ≡ ((b && p x) || list_any (λ x. q x && p x) xs)
-    go true e = ap (λ b. p x || b) e
-    go false e = e
+    go : (t : Bool) → unwrap_or (find p xs) 0 ≡ slice_index (filter p xs) 0
+        → unwrap_or (if t then Some x else find p xs) 0 ≡ slice_index (if t then x ∷ filter p xs else filter p xs) 0
+    go true rest = refl
+    go false rest = rest
 
 -- all numbers from k to below n, the first of them and the others
 pub all_from : (p : ℕ → Bool) (k n : ℕ) → k < n

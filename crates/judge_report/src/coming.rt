@@ -1,7 +1,7 @@
 //! Verdicts on replies that tell how many frames came back. Slots have `2^order` frames; by number of a cache `hides` is whether
 //! a slab without live objects may stand; `told` is the last report, while it has to stand.
 
-ghost use Rattle.std.specs.Prelude.{◌≡◌, ℕ, ◌+◌, ◌*◌, ◌%◌, ◌^◌, ◌≤◌, ◌<◌, ◌==◌, ◌&&◌, not, filter, slice_get, slice_index_or, false, true};
+ghost use Rattle.std.specs.Prelude.{◌≡◌, ℕ, ◌+◌, ◌*◌, ◌%◌, ◌^◌, ◌≤◌, ◌<◌, ◌==◌, ◌&&◌, not, filter, slice_index_or, false, true};
 ghost use Rattle.std.specs.List.{list_any};
 ghost use Rattle.std.specs.Option.{option_copied, option_map_or};
 ghost use Rattle.model_core.specs.declared.limits.TheConstants.{MOST_ORDER};
@@ -13,8 +13,8 @@ ghost use Rattle.judge_replies.specs.Verdicts.{verdict_on};
 
 use crate::answer::on_answer;
 use crate::rows::is_marked;
-use crate::taken::{empty_frames, is_asked};
-use judge_core::{Held, LiveCache};
+use crate::taken::empty_frames;
+use judge_core::{Held, HeldCache};
 use judge_replies::{Verdict, on_refusal};
 use promise_core::promise::Promise;
 use words_core::{Body, Refusal, Report};
@@ -65,19 +65,22 @@ fn destroyed_can_come(held: &Held, order: u8, hides: &[bool], number: u32, frame
 {
     frames == 0
         || (u128::from(frames) <= held.count_vacant(order, 0)
-            && destroyed_may_have(held, hides, number, frames))
+            && destroyed_may_have(held.caches(), hides, number, frames))
 }
 
 /// Whether a slab of the cache of this number may stand, and so many frames are those of some such.
-fn destroyed_may_have(held: &Held, hides: &[bool], number: u32, frames: u32) -> bool
+fn destroyed_may_have(caches: &[HeldCache], hides: &[bool], number: u32, frames: u32) -> bool
     ensures { result ≡ list_any (λ c. slice_index_or hides.now c.number false && frames % 2 ^ c.order == 0)
-        (filter (λ c. c.number == number) held.now.caches) }
+        (filter (λ c. c.number == number) caches.now) }
 {
-    some_may_have(held, hides, Some(number), frames)
+    caches
+        .iter()
+        .filter(|cache| u32::from(cache.number()) == number)
+        .any(|cache| may_have(cache, hides, frames))
 }
 
 /// Whether a slab of the cache without live objects may stand, and so many frames are those of some such.
-fn may_have(cache: &LiveCache<'_>, hides: &[bool], frames: u32) -> bool
+fn may_have(cache: &HeldCache, hides: &[bool], frames: u32) -> bool
     ensures { result ≡ (slice_index_or hides.now cache.now.number false && frames % 2 ^ cache.now.order == 0) }
 {
     is_marked(hides, cache.number()) && frames % (1u32 << cache.order()) == 0
@@ -125,31 +128,12 @@ fn reaped_can_come(held: &Held, order: u8, hides: &[bool], frames: u32) -> bool
 {
     frames == 0
         || (u128::from(frames) <= held.count_vacant(order, 0)
-            && some_may_have(held, hides, None, frames))
+            && some_may_have(held.caches(), hides, frames))
 }
 
-/// Whether a slab without live objects may stand of the cache of the number `only`, or of any, and so many frames are those of
-/// some such.
-#[tactic(auto, using(crate::proofs::Lists::next_any))]
-fn some_may_have(held: &Held, hides: &[bool], only: Option<u32>, frames: u32) -> bool
-    ensures { result ≡ list_any (λ c. option_map_or (λ number. c.number == number) only true
-        && (slice_index_or hides.now c.number false && frames % 2 ^ c.order == 0)) held.now.caches }
+/// Whether a slab without live objects may stand of a cache, and so many frames are those of some such.
+fn some_may_have(caches: &[HeldCache], hides: &[bool], frames: u32) -> bool
+    ensures { result ≡ list_any (λ c. slice_index_or hides.now c.number false && frames % 2 ^ c.order == 0) caches.now }
 {
-    for index in 0..held.cache_count() {
-        if may_have_at(held, index, hides, only, frames) {
-            return true;
-        }
-    }
-    false
-}
-
-/// Whether that is so of the cache at the index, if there is one.
-fn may_have_at(held: &Held, index: usize, hides: &[bool], only: Option<u32>, frames: u32) -> bool
-    ensures { result ≡ option_map_or (λ c. option_map_or (λ number. c.number == number) only true
-        && (slice_index_or hides.now c.number false && frames % 2 ^ c.order == 0)) (slice_get held.now.caches index) false }
-{
-    match held.cache_at(index) {
-        Some(cache) => is_asked(&cache, only) && may_have(&cache, hides, frames),
-        None => false,
-    }
+    caches.iter().any(|cache| may_have(cache, hides, frames))
 }

@@ -97,7 +97,7 @@ fn are_all(tests: &[bool]) -> bool
 fn has_rows(held: &Held, order: u8, free: &[u32], rows: &[CacheRow]) -> bool
     ensures { result ≡ (length free.now == order + 1 && length rows.now == length held.now.caches) }
 {
-    free.len() == usize::from(order) + 1 && rows.len() == held.cache_count()
+    free.len() == usize::from(order) + 1 && rows.len() == held.caches().len()
 }
 
 /// Whether the sums of frames are those of the held slots, and of the blocks of each order.

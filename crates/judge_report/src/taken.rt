@@ -1,13 +1,13 @@
 //! How many blocks are taken, and how many frames the empty slabs have, as the rows of a report tell it.
 
-ghost use Rattle.std.specs.Prelude.{◌≡◌, ℕ, ◌+◌, ◌*◌, ◌^◌, ◌≤◌, ◌<◌, ◌==◌, if◌then◌else◌, length, filter, slice_get, Option, true};
+ghost use Rattle.std.specs.Prelude.{◌≡◌, ℕ, ◌+◌, ◌*◌, ◌^◌, ◌≤◌, ◌<◌, ◌==◌, if◌then◌else◌, length, filter, Option, true};
 ghost use Rattle.std.specs.List.{sum_by, zip};
 ghost use Rattle.std.specs.Option.{option_map_or};
 ghost use Rattle.model_core.specs.declared.limits.TheConstants.{MOST_ORDER};
 ghost use Rattle.promise_core.specs.Promises.{told_count, empty_frames};
 
 use crate::counts::frames_in;
-use judge_core::{FrameBlock, Held, LiveCache};
+use judge_core::{FrameBlock, Held, HeldCache};
 use model_core::report::CacheRow;
 use words_core::{CACHES, Report};
 
@@ -17,7 +17,7 @@ pub(crate) fn are_taken(held: &Held, rows: &[CacheRow], k: u8, count: u32) -> bo
     ensures { result ≡ (count == told_count held.now rows.now k) }
 {
     let pages = count_pages(held.pages(), k);
-    match u64::from(count).checked_sub(count_slabs(held, rows, k)) {
+    match u64::from(count).checked_sub(count_slabs(held.caches(), rows, k)) {
         Some(rest) => rest == pages as u64,
         None => false,
     }
@@ -31,32 +31,20 @@ fn count_pages(pages: &[FrameBlock], k: u8) -> usize
 }
 
 /// How many slabs of `2^k` frames the rows tell.
-fn count_slabs(held: &Held, rows: &[CacheRow], k: u8) -> u64
+#[tactic(auto, using(crate::proofs::Sums::one_more_pair))]
+fn count_slabs(caches: &[HeldCache], rows: &[CacheRow], k: u8) -> u64
     requires { length rows.now ≤ CACHES }
-    ensures { result
-        ≡ sum_by (λ p. if p.0.order == k then p.1.full + p.1.partial + p.1.empty else 0) (zip held.now.caches rows.now) }
+    ensures { result ≡ sum_by (λ p. if p.0.order == k then p.1.full + p.1.partial + p.1.empty else 0) (zip caches.now rows.now) }
 {
     let mut count = 0u64;
-    for (index, row) in rows.iter().enumerate() {
-        count += slabs_at(held, index, row, k);
+    for (cache, row) in caches.iter().zip(rows) {
+        count += slabs_in(cache, row, k);
     }
     count
 }
 
-/// How many slabs of `2^k` frames the cache at the index has, if there is one.
-fn slabs_at(held: &Held, index: usize, row: &CacheRow, k: u8) -> u64
-    ensures value { result ≡ option_map_or (λ c. if c.order == k then row.now.full + row.now.partial + row.now.empty else 0)
-        (slice_get held.now.caches index) 0 }
-    ensures most { result ≤ 2 ^ 34 }
-{
-    match held.cache_at(index) {
-        Some(cache) => slabs_in(&cache, row, k),
-        None => 0,
-    }
-}
-
 /// How many slabs of `2^k` frames the cache has.
-fn slabs_in(cache: &LiveCache<'_>, row: &CacheRow, k: u8) -> u64
+fn slabs_in(cache: &HeldCache, row: &CacheRow, k: u8) -> u64
     ensures value { result ≡ (if cache.now.order == k then row.now.full + row.now.partial + row.now.empty else 0) }
     ensures most { result ≤ 2 ^ 34 }
 {
@@ -71,36 +59,24 @@ fn slabs_in(cache: &LiveCache<'_>, row: &CacheRow, k: u8) -> u64
 pub(crate) fn empty_frames(held: &Held, report: &Report, only: Option<u32>) -> u64
     ensures { result ≡ empty_frames (λ n. option_map_or (λ number. n == number) only true) held.now report.now }
 {
-    sum_empty(held, report.caches.as_slice(), only)
+    sum_empty(held.caches(), report.caches.as_slice(), only)
 }
 
-fn sum_empty(held: &Held, rows: &[CacheRow], only: Option<u32>) -> u64
+#[tactic(auto, using(crate::proofs::Sums::one_more_pair))]
+fn sum_empty(caches: &[HeldCache], rows: &[CacheRow], only: Option<u32>) -> u64
     requires { length rows.now ≤ CACHES }
     ensures { result ≡ sum_by (λ p. if option_map_or (λ number. p.0.number == number) only true then p.1.empty * 2 ^ p.0.order else 0)
-        (zip held.now.caches rows.now) }
+        (zip caches.now rows.now) }
 {
     let mut frames = 0u64;
-    for (index, row) in rows.iter().enumerate() {
-        frames += empty_at(held, index, row, only);
+    for (cache, row) in caches.iter().zip(rows) {
+        frames += empty_in(cache, row, only);
     }
     frames
 }
 
-/// How many frames the empty slabs of the cache at the index have, if there is one and it is asked for.
-fn empty_at(held: &Held, index: usize, row: &CacheRow, only: Option<u32>) -> u64
-    ensures value { result ≡ option_map_or
-        (λ c. if option_map_or (λ number. c.number == number) only true then row.now.empty * 2 ^ c.order else 0)
-        (slice_get held.now.caches index) 0 }
-    ensures most { result ≤ 2 ^ 40 }
-{
-    match held.cache_at(index) {
-        Some(cache) => empty_in(&cache, row, only),
-        None => 0,
-    }
-}
-
 /// How many frames the empty slabs of the cache have, if it is asked for.
-fn empty_in(cache: &LiveCache<'_>, row: &CacheRow, only: Option<u32>) -> u64
+fn empty_in(cache: &HeldCache, row: &CacheRow, only: Option<u32>) -> u64
     ensures value { result
         ≡ (if option_map_or (λ number. cache.now.number == number) only true then row.now.empty * 2 ^ cache.now.order else 0) }
     ensures most { result ≤ 2 ^ 40 }
@@ -113,7 +89,7 @@ fn empty_in(cache: &LiveCache<'_>, row: &CacheRow, only: Option<u32>) -> u64
 }
 
 /// Whether the cache is the one of the number `only`, or any.
-pub(crate) fn is_asked(cache: &LiveCache<'_>, only: Option<u32>) -> bool
+fn is_asked(cache: &HeldCache, only: Option<u32>) -> bool
     ensures { result ≡ option_map_or (λ number. cache.now.number == number) only true }
 {
     match only {

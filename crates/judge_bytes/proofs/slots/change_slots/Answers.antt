@@ -1,17 +1,13 @@
-use Rattle.judge_bytes.specs.Inside.{within}
-use Rattle.judge_bytes.proofs.FirstSlots.{change_one, change_none, within_elsewhere}
+use Rattle.std.proofs.Common.{arith}
+use Rattle.judge_bytes.proofs.Stepping.{stepped, slot_ends}
 use Rattle.judge_bytes.proofs.slots.change_slots.Goals as goal
 
-pub returns-then-index-slots : goal.returns-then-index-slots
-returns-then-index-slots g c =
-    let step = g.C.Change.step c.args.change.now in
-    change_one c.args.order c.in-Some.number c.index_with-index.result (within c.args.begin c.args.end step) c.args.slots.now c.index-slots-index.result c.change.new.self
-    c.requires.whole c.index_with-index.ensures c.if-index-slots.true c.change.ensures.slot c.change.ensures.len c.change.ensures.cells
-    (λ place cell out. within_elsewhere c.args.begin c.args.end step place cell (λ ge lt. out (c.in-Some.ensures place ge lt)))
+pub change-requires : goal.change-requires
+change-requires g c = slot_ends c.args.order c.loop-slot.slot-index c.args.slots.now c.loop-slot.slots c.slot-item.result c.from.result
+    c.places_of-places.result c.requires.whole (omega arith)
+    (c.loop-slot.invariant.rest c.loop-slot.slot-index c.slot-item.result (omega arith)) (cc (c.from.ensures, c.slot.ensures, c.slot-item.is))
+    c.places_of-places.ensures.value
 
-pub returns-else-index-slots : goal.returns-else-index-slots
-returns-else-index-slots g c =
-    let step = g.C.Change.step c.args.change.now in
-    change_none c.args.order c.in-Some.number c.index_with-index.result (within c.args.begin c.args.end step) c.args.slots.now c.requires.whole
-    c.index_with-index.ensures c.if-index-slots.false
-    (λ place cell out. within_elsewhere c.args.begin c.args.end step place cell (λ ge lt. out (c.in-Some.ensures place ge lt)))
+pub returns : goal.returns
+returns g c = stepped c.args.order _ c.args.slots.now c.loop-slot.slots (omega arith)
+    (λ k d lt. c.loop-slot.invariant.done k d (omega arith)) c.requires.whole

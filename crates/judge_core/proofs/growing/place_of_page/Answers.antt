@@ -1,7 +1,7 @@
 use Rattle.std.proofs.Common.{not, ltb, ap, sym, arith}
 use Rattle.std.proofs.lemmas.Bool.{lt-ltb, le-ltb}
 use Rattle.model_core.specs.Blocks.{Block}
-use Rattle.judge_caches.proofs.Points.{prefix_point}
+use Rattle.judge_core.proofs.Points.{prefix_point}
 use Rattle.judge_core.proofs.growing.place_of_page.Goals as goal
 
 pub returns-clause-value : goal.returns-clause-value

@@ -1,24 +1,12 @@
-use Rattle.std.proofs.Common.{ℕ, ◌*◌, ◌^◌, ◌<◌, ◌==◌, true, length, arith}
+use Rattle.std.proofs.Common.{◌*◌, ◌^◌, ◌==◌, true, ◌∙◌}
 use Rattle.std.specs.Prelude.{if◌then◌else◌}
 use Rattle.std.specs.Option.{option_map_or}
-use Rattle.promise_core.specs.Holdings.{ToldCache}
-use Rattle.model_core.specs.declared.report.CacheRow.{CacheRow}
-use Rattle.judge_report.proofs.Sums.{next_pair, no_pair}
+use Rattle.std.proofs.lemmas.Slice.Zip.{zip_end}
+use Rattle.judge_report.proofs.Sums.{all_pairs}
 use Rattle.judge_report.proofs.taken.sum_empty.Goals as goal
 
-abbrev none : CacheRow
-none = record { cache = 0; full = 0; partial = 0; empty = 0; live = 0 }
-
-pub loop-index-preserved : goal.loop-index-preserved
-loop-index-preserved c =
-    let frames : ToldCache × CacheRow → ℕ = λ p. if option_map_or (λ number. p.0.number == number) c.args.only true then p.1.empty * 2 ^ p.0.order else 0 in
-    let lt : c.loop-index.index < length c.args.rows.now = omega arith in
-    record {
-      summed = omega (arith, next_pair frames c.args.held.now.caches c.args.rows.now c.loop-index.index none lt, c.empty_at-frames.ensures.value, c.loop-index.invariant.summed);
-      most = omega (arith, c.empty_at-frames.ensures.most, c.loop-index.invariant.most);
-    }
-
 pub returns : goal.returns
-returns c =
-    let frames : ToldCache × CacheRow → ℕ = λ p. if option_map_or (λ number. p.0.number == number) c.args.only true then p.1.empty * 2 ^ p.0.order else 0 in
-    omega (arith, no_pair frames c.args.held.now.caches c.args.rows.now c.loop-index.index (omega arith), c.loop-index.invariant.summed)
+returns c = let caches = c.args.caches.now in let rows = c.args.rows.now in
+    let all = zip_end caches rows c.loop-cache.yielded c.into_iter-cache-iterator.result
+    c.loop-cache.cache-iterator c.next.new.self c.next.result (cc) (cc) c.loop-cache.yielded_by c.in-None.is c.next.ensures.steps in
+    c.loop-cache.invariant.summed ∙ all_pairs (λ p. if option_map_or (λ number. p.0.number == number) c.args.only true then p.1.empty * 2 ^ p.0.order else 0) caches rows _ all

@@ -21,8 +21,7 @@ invariant_of-self-in-Ok c =
     (sym (ap (λ (m : SeenMachine). length m.tenants) c.self.view_is)) c.requires.tenant c.index_mut-tenant.ensures.value in
     let judged : IsJudged event c.args.reply.now.body c.deref.result.now y z (Ok tt) =
     subst (IsJudged event c.args.reply.now.body c.deref.result.now y z) c.in-Ok.is c.in_ok-judge_admin.ensures.judged in
-    let fits = still_fits x (with_items c.self.inside.owners c.follow_owners.new.owners).items c.args.t y z c.self.invariant.0 (search (rules, places)) here (judged.kept refl).order in
-    (fits, c.judge_admin.ensures.spare ∙ c.self.invariant.1)
+    still_fits x (with_items c.self.inside.owners c.follow_owners.new.owners).items c.args.t y z c.self.invariant (search (rules, places)) here (judged.kept refl).order
 
 pub returns-in-Ok-clause-judged : goal.returns-in-Ok-clause-judged
 returns-in-Ok-clause-judged c w shown =
@@ -35,7 +34,7 @@ returns-in-Ok-clause-judged c w shown =
     let judged : IsJudged event c.args.reply.now.body x.owners y z (Ok tt) =
     subst (IsJudged event c.args.reply.now.body x.owners y z) c.in-Ok.is
     (subst (λ os. IsJudged event c.args.reply.now.body os y z c.in_ok-judge_admin.field-0) c.deref.ensures.value c.in_ok-judge_admin.ensures.judged) in
-    tenant_judged event c.args.reply.now x c.args.t y z w c.requires.named c.requires.addressee here (c.self.invariant.0.ordered c.args.t y here)
+    tenant_judged event c.args.reply.now x c.args.t y z w c.requires.named c.requires.addressee here (c.self.invariant.ordered c.args.t y here)
     (subst (λ m. ShowsKnown m w) (sym c.self.view_is) shown) (Ok tt)
     (record { order = x.order; owners = (with_items c.self.inside.owners c.follow_owners.new.owners).items; tenants = slice_set x.tenants c.args.t z }) judged
     (λ ok i. record {
@@ -55,7 +54,7 @@ returns-in-Err-clause-judged c w shown =
     let judged : IsJudged event c.args.reply.now.body x.owners y z (Err c.in-Err.promise) =
     subst (IsJudged event c.args.reply.now.body x.owners y z) c.in-Err.is
     (subst (λ os. IsJudged event c.args.reply.now.body os y z c.in_ok-judge_admin.field-0) c.deref.ensures.value c.in_ok-judge_admin.ensures.judged) in
-    tenant_judged event c.args.reply.now x c.args.t y z w c.requires.named c.requires.addressee here (c.self.invariant.0.ordered c.args.t y here)
+    tenant_judged event c.args.reply.now x c.args.t y z w c.requires.named c.requires.addressee here (c.self.invariant.ordered c.args.t y here)
     (subst (λ m. ShowsKnown m w) (sym c.self.view_is) shown) (Err c.in-Err.promise) x judged (λ ok. absurd (cc))
 
 pub returns-in_err-judge_admin-clause-memory : goal.returns-in_err-judge_admin-clause-memory
@@ -68,4 +67,4 @@ returns-in_err-judge_admin-clause-memory c =
     let kept : IsKeptAddition event c.args.reply.now.body x.owners y =
     subst (λ os. IsKeptAddition event c.args.reply.now.body os y) c.deref.ensures.value c.in_err-judge_admin.ensures.memory in
     at_err _ _ (subst (λ m. IsAllowedAddition event c.args.reply.now m) c.self.view_is
-    (addition_allowed event c.args.reply.now x c.args.t y c.requires.named c.requires.addressee here (c.self.invariant.0.ordered c.args.t y here) kept))
+    (addition_allowed event c.args.reply.now x c.args.t y c.requires.named c.requires.addressee here (c.self.invariant.ordered c.args.t y here) kept))

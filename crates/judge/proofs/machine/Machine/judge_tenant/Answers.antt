@@ -14,11 +14,10 @@ invariant_of-self c =
     let y : Seen = c.index_mut.result.now in
     let here : slice_get x.tenants c.args.t ≡ Some y = slice_get_read x.tenants (length c.args.self.now.tenants) c.args.t y
     (sym (ap (λ (m : SeenMachine). length m.tenants) c.self.view_is)) c.requires.tenant c.index_mut.ensures.value in
-    let fits = still_fits x x.owners c.args.t y c.judge.new.self c.self.invariant.0 refl here
+    still_fits x x.owners c.args.t y c.judge.new.self c.self.invariant refl here
     (order_kept c.judge.result (On.Tenant c.args.t c.args.command.now) c.args.reply.now.body x.owners y c.judge.new.self
     (ok_map c.judge.result _ (λ v. IsJudged (On.Tenant c.args.t c.args.command.now) c.args.reply.now.body x.owners y c.judge.new.self v)
-    (λ v j. j c.args.t x.owners) c.judge.ensures.judged) c.judge.ensures.failed) in
-    (fits, c.self.invariant.1)
+    (λ v j. j c.args.t x.owners) c.judge.ensures.judged) c.judge.ensures.failed)
 
 pub returns-clause-judged : goal.returns-clause-judged
 returns-clause-judged c =
@@ -27,7 +26,7 @@ returns-clause-judged c =
     let here : slice_get x.tenants c.args.t ≡ Some y = slice_get_read x.tenants (length c.args.self.now.tenants) c.args.t y
     (sym (ap (λ (m : SeenMachine). length m.tenants) c.self.view_is)) c.requires.tenant c.index_mut.ensures.value in
     ok_map c.judge.result _ _ (λ v j w shown. command_judged c.args.t c.args.command.now c.args.reply.now x y c.judge.new.self v w c.requires.addressee here
-    (c.self.invariant.0.ordered c.args.t y here) (subst (λ m. ShowsKnown m w) (sym c.self.view_is) shown) (j c.args.t x.owners)) c.judge.ensures.judged
+    (c.self.invariant.ordered c.args.t y here) (subst (λ m. ShowsKnown m w) (sym c.self.view_is) shown) (j c.args.t x.owners)) c.judge.ensures.judged
 
 pub returns-clause-broken : goal.returns-clause-broken
 returns-clause-broken c promise is =
@@ -45,4 +44,4 @@ returns-clause-memory c =
     (sym (ap (λ (m : SeenMachine). length m.tenants) c.self.view_is)) c.requires.tenant c.index_mut.ensures.value in
     err_map c.judge.result _ _ (λ is. subst (λ m. IsAllowedAddition (On.Tenant c.args.t c.args.command.now) c.args.reply.now m) c.self.view_is
     (addition_allowed (On.Tenant c.args.t c.args.command.now) c.args.reply.now x c.args.t y refl c.requires.addressee here
-    (c.self.invariant.0.ordered c.args.t y here) (is c.args.t x.owners))) c.judge.ensures.memory
+    (c.self.invariant.ordered c.args.t y here) (is c.args.t x.owners))) c.judge.ensures.memory

@@ -7,15 +7,7 @@ use Rattle.judge_report.proofs.OnFigures.{no_destroy}
 use Rattle.judge.proofs.Keeping.{asked, turned, unanswered, sound_after, same_slots}
 use Rattle.judge.proofs.Following.{destroyed}
 use Rattle.std.proofs.Common.{None}
-use Rattle.judge.proofs.Owed.{destroyed_unused}
 use Rattle.judge.proofs.tenant.Tenant.after_destroy.Goals as goal
-
-pub destroy-requires : goal.destroy-requires
-destroy-requires c =
-    let x : Seen = record { has = c.self.inside.held; left = c.self.inside.left; hides = c.self.inside.hides; told = c.self.inside.told } in
-    let frames = c.in-Destroyed.field-0 in
-    let kept = asked (On.Tenant 0 (Asked.Destroy c.args.number)) c.args.body.now (Say.Destroyed frames) x c.args.self.now c.self.view_is c.in-Destroyed.is (c.requires 0) in
-    destroyed_unused 0 c.args.number frames x kept
 
 pub invariant_of-self : goal.invariant_of-self
 invariant_of-self c =

@@ -9,13 +9,13 @@ use Rattle.judge.proofs.Keeping.{turned, unanswered}
 use Rattle.judge.proofs.Owning.{emptied, none_marked}
 use Rattle.judge.proofs.tenant.Tenant.after_reset.Goals as goal
 
-pub returns-in-WasReset-clause-followed : goal.returns-in-WasReset-clause-followed
-returns-in-WasReset-clause-followed c =
+pub returns-in-WasReset : goal.returns-in-WasReset
+returns-in-WasReset c =
     let x : Seen = record { has = c.self.inside.held; left = c.self.inside.left; hides = c.self.inside.hides; told = c.self.inside.told } in
     let new : Seen = record { has = c.reset.new.self; left = c.reset-in-WasReset.new.self; hides = replicate 32 false; told = None } in
     turned (On.Admin (Do.Reset c.args.t)) c.args.body.now (Say.WasReset c.in-WasReset.tenant c.in-WasReset.superblocks) x c.args.self.now new c.self.view_is c.in-WasReset.is
-    (emptied c.args.t c.in-WasReset.tenant c.in-WasReset.superblocks x new c.reset.ensures c.reset-in-WasReset.ensures.left (λ n. none_marked n 32) refl)
+    (emptied c.args.t c.in-WasReset.tenant c.in-WasReset.superblocks x new c.reset.ensures c.reset-in-WasReset.ensures (λ n. none_marked n 32) refl)
 
-pub returns-in_default-clause-followed : goal.returns-in_default-clause-followed
-returns-in_default-clause-followed c = unanswered (On.Admin (Do.Reset c.args.t)) c.args.body.now c.args.self.now c.requires.kept
+pub returns-in_default : goal.returns-in_default
+returns-in_default c = unanswered (On.Admin (Do.Reset c.args.t)) c.args.body.now c.args.self.now c.requires
     (λ refused w s. no_reset c.args.t w s c.args.body.now c.in_default.not-WasReset refused)

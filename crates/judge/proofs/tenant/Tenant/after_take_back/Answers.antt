@@ -13,16 +13,16 @@ pub invariant_of-self : goal.invariant_of-self
 invariant_of-self c =
     let x : Seen = record { has = c.self.inside.held; left = c.self.inside.left; hides = c.self.inside.hides; told = c.self.inside.told } in
     let new : Seen = changed x c.take_back.new.self c.take_back-in-TakenBack.new.self in
-    let kept = asked (On.Admin (Do.TakeBack c.args.t c.args.slot)) c.args.body.now (Say.TakenBack c.in-TakenBack.field-0) x c.args.self.now c.self.view_is c.in-TakenBack.is c.requires.kept in
-    sound_after (On.Admin (Do.TakeBack c.args.t c.args.slot)) (Say.TakenBack c.in-TakenBack.field-0) x new c.self.invariant kept (taken_back c.args.t c.args.slot c.in-TakenBack.field-0 x c.take_back.new.self c.take_back-in-TakenBack.new.self c.take_back.ensures c.take_back-in-TakenBack.ensures.slots)
-    (slots_taken x new c.args.slot _ c.self.invariant c.take_back-in-TakenBack.ensures.slots (ap (λ h. h.slots) c.take_back.ensures))
+    let kept = asked (On.Admin (Do.TakeBack c.args.t c.args.slot)) c.args.body.now (Say.TakenBack c.in-TakenBack.field-0) x c.args.self.now c.self.view_is c.in-TakenBack.is c.requires in
+    sound_after (On.Admin (Do.TakeBack c.args.t c.args.slot)) (Say.TakenBack c.in-TakenBack.field-0) x new c.self.invariant kept (taken_back c.args.t c.args.slot c.in-TakenBack.field-0 x c.take_back.new.self c.take_back-in-TakenBack.new.self c.take_back.ensures c.take_back-in-TakenBack.ensures)
+    (slots_taken x new c.args.slot _ c.self.invariant c.take_back-in-TakenBack.ensures (ap (λ h. h.slots) c.take_back.ensures))
 
-pub returns-in-TakenBack-clause-followed : goal.returns-in-TakenBack-clause-followed
-returns-in-TakenBack-clause-followed c =
+pub returns-in-TakenBack : goal.returns-in-TakenBack
+returns-in-TakenBack c =
     let x : Seen = record { has = c.self.inside.held; left = c.self.inside.left; hides = c.self.inside.hides; told = c.self.inside.told } in
     let new : Seen = changed x c.take_back.new.self c.take_back-in-TakenBack.new.self in
-    turned (On.Admin (Do.TakeBack c.args.t c.args.slot)) c.args.body.now (Say.TakenBack c.in-TakenBack.field-0) x c.args.self.now new c.self.view_is c.in-TakenBack.is (taken_back c.args.t c.args.slot c.in-TakenBack.field-0 x c.take_back.new.self c.take_back-in-TakenBack.new.self c.take_back.ensures c.take_back-in-TakenBack.ensures.slots)
+    turned (On.Admin (Do.TakeBack c.args.t c.args.slot)) c.args.body.now (Say.TakenBack c.in-TakenBack.field-0) x c.args.self.now new c.self.view_is c.in-TakenBack.is (taken_back c.args.t c.args.slot c.in-TakenBack.field-0 x c.take_back.new.self c.take_back-in-TakenBack.new.self c.take_back.ensures c.take_back-in-TakenBack.ensures)
 
-pub returns-in_default-clause-followed : goal.returns-in_default-clause-followed
-returns-in_default-clause-followed c = unanswered (On.Admin (Do.TakeBack c.args.t c.args.slot)) c.args.body.now c.args.self.now c.requires.kept
+pub returns-in_default : goal.returns-in_default
+returns-in_default c = unanswered (On.Admin (Do.TakeBack c.args.t c.args.slot)) c.args.body.now c.args.self.now c.requires
     (λ refused w s. no_take_back c.args.t c.args.slot w s c.args.body.now c.in_default.not-TakenBack refused)

@@ -1,4 +1,4 @@
-use Rattle.std.proofs.Common.{◌≡◌, None, length, refl, sym, subst}
+use Rattle.std.proofs.Common.{◌≡◌, None, Some, length, refl, ap, sym, subst, ◌∙◌}
 use Rattle.std.specs.Prelude.{option_map}
 use Rattle.words_core.specs.declared.event.Event.TheVariants as On
 use Rattle.words_core.specs.declared.event.Command.TheVariants as Asked
@@ -7,7 +7,7 @@ use Rattle.judge_core.specs.Holders.{shown_holder}
 use Rattle.promise_core.specs.Bytes.{holder_of}
 use Rattle.judge.specs.Inside.{IsKeptReply}
 use Rattle.judge.specs.Showing.{Seen, Follows}
-use Rattle.judge.proofs.Ground.{alone}
+use Rattle.judge_bytes.proofs.ReadBytes.{begins}
 use Rattle.judge.proofs.Asking.{found, found_none, left_sound, all_written}
 use Rattle.judge.proofs.Keeping.{turned, unanswered, none_of}
 use Rattle.judge.proofs.Following.{written, none_written}
@@ -15,16 +15,13 @@ use Rattle.judge_replies.proofs.OnBytes.{no_write}
 use Rattle.judge.proofs.tenant.Tenant.after_write.Goals as goal
 
 pub put-requires : goal.put-requires
-put-requires c =
+put-requires c number first is =
     let x : Seen = record { has = c.self.inside.held; left = c.self.inside.left; hides = c.self.inside.hides; told = c.self.inside.told } in
-    alone x.has x.left c.args.place (length c.args.bytes.now.items) (shown_holder c.in-Some.holder) c.self.invariant
-    (found x c.args.self.now c.args.place _ c.args.holder c.in-Some.holder c.self.view_is c.in-Some.is c.requires.holder)
+    begins x.has c.args.place (length c.args.bytes.now.items) number first
+    (found x c.args.self.now c.args.place _ c.args.holder c.in-Some.holder c.self.view_is c.in-Some.is c.requires.holder ∙ ap Some is)
 
 pub invariant_of-self : goal.invariant_of-self
-invariant_of-self c =
-    let x : Seen = record { has = c.self.inside.held; left = c.self.inside.left; hides = c.self.inside.hides; told = c.self.inside.told } in
-    left_sound x.has x.left c.put.new.self (shown_holder c.in-Some.holder) c.args.place (length c.args.bytes.now.items) c.args.bytes.now.items c.self.invariant
-    (found x c.args.self.now c.args.place _ c.args.holder c.in-Some.holder c.self.view_is c.in-Some.is c.requires.holder) refl c.put.ensures
+invariant_of-self c = left_sound c.self.inside.held c.self.inside.left c.put.new.self _ c.self.invariant c.put.ensures
 
 pub returns-in-Some : goal.returns-in-Some
 returns-in-Some c t =

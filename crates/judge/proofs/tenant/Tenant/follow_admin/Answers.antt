@@ -8,17 +8,8 @@ use Rattle.judge.proofs.tenant.Tenant.follow_admin.Goals as goal
 pub returns-in-Move-clause-followed : goal.returns-in-Move-clause-followed
 returns-in-Move-clause-followed c = subst (λ m. Follows (On.Admin m) c.args.body.now c.args.self.now c.args.self.now) (sym c.in-Move.is)
     (moved c.in-Move.tenant c.in-Move.slot c.args.body.now c.args.self.now
-    (subst (λ m. IsKeptReply (On.Admin m) c.args.body.now c.args.self.now) c.in-Move.is c.requires.kept))
+    (subst (λ m. IsKeptReply (On.Admin m) c.args.body.now c.args.self.now) c.in-Move.is c.requires))
 
 pub returns-in-Pool-clause-followed : goal.returns-in-Pool-clause-followed
 returns-in-Pool-clause-followed c = subst (λ m. Follows (On.Admin m) c.args.body.now c.args.self.now c.args.self.now) (sym c.in-Pool.is)
-    (pooled c.args.body.now c.args.self.now (subst (λ m. IsKeptReply (On.Admin m) c.args.body.now c.args.self.now) c.in-Pool.is c.requires.kept))
-
-pub after_grant-requires-clause-kept : goal.after_grant-requires-clause-kept
-after_grant-requires-clause-kept c = subst (λ m. IsKeptReply (On.Admin m) c.args.body.now c.args.self.now) c.in-Grant.is c.requires.kept
-
-pub after_take_back-requires-clause-kept : goal.after_take_back-requires-clause-kept
-after_take_back-requires-clause-kept c = subst (λ m. IsKeptReply (On.Admin m) c.args.body.now c.args.self.now) c.in-TakeBack.is c.requires.kept
-
-pub after_reset-requires-clause-kept : goal.after_reset-requires-clause-kept
-after_reset-requires-clause-kept c = subst (λ m. IsKeptReply (On.Admin m) c.args.body.now c.args.self.now) c.in-Reset.is c.requires.kept
+    (pooled c.args.body.now c.args.self.now (subst (λ m. IsKeptReply (On.Admin m) c.args.body.now c.args.self.now) c.in-Pool.is c.requires))

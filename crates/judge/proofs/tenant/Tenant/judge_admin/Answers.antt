@@ -8,8 +8,8 @@ use Rattle.judge.proofs.Keeping.{shown}
 use Rattle.judge.proofs.Sizes.{at_err}
 use Rattle.judge.proofs.tenant.Tenant.judge_admin.Goals as goal
 
-pub follow_admin-requires-clause-kept : goal.follow_admin-requires-clause-kept
-follow_admin-requires-clause-kept c =
+pub follow_admin-requires : goal.follow_admin-requires
+follow_admin-requires c =
     let x = c.args.self.now in (
       c.args.owners.now,
       sym (c.admin_verdict.ensures (known_by c.args.owners.now x.left.order) (state_with x (left_at x.left))

@@ -2,7 +2,6 @@ use Rattle.std.proofs.Common.{List, length, sym, ap, subst, arith}
 use Rattle.std.proofs.lemmas.List.{with_items_is}
 use Rattle.judge_bytes.specs.Left.{LeftSlot}
 use Rattle.judge_bytes.specs.Inside.{AreSlots, AreStepped, within}
-use Rattle.judge_bytes.proofs.FirstSlots.{firsts_after}
 use Rattle.judge_bytes.proofs.Stepping.{slots_after, near_within}
 use Rattle.judge_bytes.proofs.left.LeftBytes.change.Goals as goal
 
@@ -18,5 +17,4 @@ invariant_of-self g c =
       subst (λ (xs : List LeftSlot). AreSlots order xs reach) (sym items)
           (slots_after order reach reach (within c.args.begin c.args.end step) ss c.change_slots.new.slots after c.self.invariant.1
           (near_within c.args.begin c.args.end step c.requires reach)),
-      firsts_after ss c.change_slots.new.slots _ c.self.inside.firsts after.slots items c.self.invariant.2,
     )

@@ -1,8 +1,7 @@
 use Rattle.std.proofs.Common.{◌≡◌, ℕ, ◌+◌, ◌-◌, ◌^◌, min, max, ap, ◌∙◌, subst, arith}
 use Rattle.std.specs.Prelude.{slice_index}
 use Rattle.judge_bytes.specs.Left.{Left}
-use Rattle.judge_granules.specs.Steps.{removed_of}
-use Rattle.judge_bytes.specs.Inside.{IsNear, AreSlots, AreStepped, within}
+use Rattle.judge_bytes.specs.Inside.{IsNear, AreSlots, AreStepped, within, removed_of}
 use Rattle.judge_bytes.proofs.Stepping.{becomes, stepped_twice}
 use Rattle.judge_bytes.proofs.Changes.{near_removed, not_beside, elsewhere, taken_twice}
 use Rattle.judge_bytes.proofs.left.LeftBytes.take.Goals as goal

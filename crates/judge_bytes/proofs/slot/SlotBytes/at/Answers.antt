@@ -1,6 +1,11 @@
-use Rattle.std.proofs.Common.{sym, ◌∙◌}
-use Rattle.judge_bytes.proofs.SlotCells.{shown_at}
+use Rattle.std.proofs.Common.{List, get_or, sym, ap, ◌∙◌}
+use Rattle.judge_bytes.specs.declared.kept.KeptByte.{KeptByte}
+use Rattle.judge_bytes.specs.declared.kept.KeptByte.TheVariants as Kept
+use Rattle.judge_bytes.specs.Inside.{shown_kept}
+use Rattle.judge_bytes.proofs.Padding.{shown_at}
 use Rattle.judge_bytes.proofs.slot.SlotBytes.at.Goals as goal
 
 pub returns : goal.returns
-returns c = rw (← c.self.view_is) (c.at.ensures ∙ sym (shown_at c.self.inside.places c.args.index c.self.inside.granules c.self.invariant.1.few))
+returns c = rw (← c.self.view_is) (c.left.ensures ∙ (ap shown_kept (c.kept_at.ensures
+    ∙ ap (λ (xs : List KeptByte). get_or xs c.args.index Kept.Fresh) c.deref.ensures.value)
+    ∙ sym (shown_at c.self.inside.places c.args.index c.self.inside.cells.items)))

@@ -30,6 +30,4 @@ invariant_of-self-2 c =
       subst (λ (n : ℕ). ArePages n c.insert.new.self.items) (sym longest)
           (subst (ArePages (max c.self.inside.longest c.args.block.order)) (sym c.in_ok-insert.ensures.items)
           (pages_put c.self.inside.longest i c.first.result c.args.block pages c.self.invariant.1 small inside c.first.ensures point)),
-      c.self.invariant.2,
-      c.self.invariant.3,
     )

@@ -9,8 +9,6 @@ invariant_of-self c = (
   c.self.invariant.0,
   subst (ArePages c.self.inside.longest) (sym c.drop_page.ensures)
       (pages_less c.self.inside.longest (λ (b : Block). not (eqb b.first c.args.frame)) c.self.inside.pages.items c.self.invariant.1),
-  c.self.invariant.2,
-  c.self.invariant.3,
 )
 
 pub returns : goal.returns

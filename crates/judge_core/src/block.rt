@@ -1,0 +1,130 @@
+//! A block of frames.
+
+ghost use Rattle.std.specs.Prelude.{◌≡◌, ◌+◌, ◌*◌, ◌^◌, ◌≤◌, ◌<◌};
+ghost use Rattle.model_core.specs.declared.limits.TheConstants.{FRAME_BYTES, MOST_ORDER};
+ghost use Rattle.model_core.specs.Blocks.{block, around, slot_block};
+ghost use Rattle.model_core.specs.Operations.{overlaps};
+ghost use Rattle.model_core.specs.Reach.{within_block};
+
+use model_core::limits::FRAME_BYTES;
+use std::marker::Model;
+
+/// `2^order` frames of a tenant from the first on; the order is at most 8.
+#[derive(Clone, Copy, Debug)]
+pub struct FrameBlock {
+    first: u32,
+    order: u8,
+}
+
+impl Model for FrameBlock {
+    ghost use Rattle.std.specs.Prelude.{◌≤◌};
+    ghost use Rattle.model_core.specs.Blocks.{Block, block};
+    ghost use Rattle.model_core.specs.declared.limits.TheConstants.{MOST_ORDER};
+
+    ghost Value = { Block };
+
+    ghost view = { λ b. block b.first b.order };
+
+    ghost invariant = { λ b. b.order ≤ MOST_ORDER };
+
+    ghost inverse = { λ b. record { first = b.first; order = b.order } };
+}
+
+impl FrameBlock {
+    /// The `2^order` frames from `first` on.
+    pub fn new(first: u32, order: u8) -> FrameBlock
+        requires { order ≤ MOST_ORDER }
+        ensures { result ≡ block first order }
+    {
+        FrameBlock { first, order }
+    }
+
+    /// The aligned block of this order that has the frame.
+    pub fn around(frame: u32, order: u8) -> FrameBlock
+        requires { order ≤ MOST_ORDER }
+        ensures { result ≡ around frame order }
+    {
+        let frames = 1u32 << order;
+        FrameBlock {
+            first: frame / frames * frames,
+            order,
+        }
+    }
+
+    /// The aligned block of this order with this number, where the one of number 0 begins at frame 0.
+    pub fn numbered(number: u32, order: u8) -> FrameBlock
+        requires number { number < 2 ^ 24 }
+        requires order { order ≤ MOST_ORDER }
+        ensures { result ≡ block (number * 2 ^ order) order }
+    {
+        FrameBlock {
+            first: number * (1u32 << order),
+            order,
+        }
+    }
+
+    /// The whole of a slot of `2^order` frames.
+    pub fn of_slot(order: u8, slot: u16) -> FrameBlock
+        requires { order ≤ MOST_ORDER }
+        ensures { result ≡ slot_block order slot }
+    {
+        FrameBlock {
+            first: u32::from(slot) * (1u32 << order),
+            order,
+        }
+    }
+
+    /// The first frame.
+    pub fn first(&self) -> u32
+        ensures { result ≡ self.now.first }
+    {
+        self.first
+    }
+
+    /// The block has `2^order` frames.
+    pub fn order(&self) -> u8
+        ensures value { result ≡ self.now.order }
+        ensures most { result ≤ MOST_ORDER }
+    {
+        self.order
+    }
+
+    /// The frame behind the last.
+    pub(crate) fn end(&self) -> u64
+        ensures value { result ≡ self.now.first + 2 ^ self.now.order }
+        ensures small { result < 2 ^ 33 }
+    {
+        u64::from(self.first) + (1u64 << self.order)
+    }
+
+    /// The first byte.
+    pub fn first_byte(&self) -> u64
+        ensures value { result ≡ FRAME_BYTES * self.now.first }
+        ensures small { result < 2 ^ 44 }
+    {
+        u64::from(FRAME_BYTES) * u64::from(self.first)
+    }
+
+    /// The byte behind the last.
+    pub fn end_byte(&self) -> u64
+        ensures value { result ≡ FRAME_BYTES * (self.now.first + 2 ^ self.now.order) }
+        ensures small { result < 2 ^ 45 }
+    {
+        u64::from(FRAME_BYTES) * self.end()
+    }
+
+    /// Whether the blocks share a frame.
+    pub fn overlaps(&self, other: &FrameBlock) -> bool
+        ensures { result ≡ overlaps self.now other.now }
+    {
+        u64::from(self.first()) < other.end() && u64::from(other.first()) < self.end()
+    }
+
+    /// Whether the `len` bytes from a place on lie inside.
+    pub fn has_range(&self, place: u32, len: u32) -> bool
+        ensures { result ≡ within_block place len self.now }
+    {
+        let place = u64::from(place);
+        self.first_byte() <= place && place + u64::from(len) <= self.end_byte()
+    }
+}

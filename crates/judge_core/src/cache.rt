@@ -1,0 +1,371 @@
+//! A cache of a tenant, as it was asked for and as its reply told it.
+
+ghost use Rattle.std.specs.Prelude.{◌≡◌, ℕ, ◌+◌, ◌-◌, ◌*◌, ◌/◌, ◌%◌, ◌^◌, ◌<◌, ◌≤◌, nat_le, nat_lt, ◌==◌, ◌&&◌, not};
+ghost use Rattle.std.specs.Prelude.{find, filter, length, [], IfOk, OnErr};
+ghost use Rattle.std.specs.List.{list_any, list_all, prefix_len};
+ghost use Rattle.std.specs.List.Sorted.{IsNonDecreasing, IsPartitionPoint};
+ghost use Rattle.model_core.specs.declared.limits.TheConstants.{FRAME_BYTES, MOST_ORDER, MOST_SIZE};
+ghost use Rattle.model_core.specs.Choice.{is_any_below};
+ghost use Rattle.model_core.specs.Operations.{overlaps};
+ghost use Rattle.model_core.specs.Layouts.{pattern_byte};
+ghost use Rattle.model_core.specs.Reach.{is_within};
+ghost use Rattle.model_core.specs.Machine.{put_rising};
+ghost use Rattle.promise_core.specs.Holdings.{slab_around, live_beside, is_slab_full, are_apart, is_grid};
+ghost use Rattle.judge_core.specs.Inside.{IsToldLayout, IsObjectAt};
+
+use crate::block::FrameBlock;
+use crate::layout::ToldLayout;
+use crate::rising::{places_before, remove_range};
+use arrayvec::ArrayVec;
+use model_core::limits::{FRAME_BYTES, MOST_PATTERN};
+use std::alloc::{AllocError, Global};
+use std::marker::Model;
+
+/// A cache with its live objects. Sizes are in bytes.
+#[derive(Debug, Drop)]
+pub struct HeldCache {
+    number: u8,
+    size: u32,
+    align: u32,
+    pattern: ArrayVec<u8, MOST_PATTERN>,
+    chunk: u32,
+    order: u8,
+    count: u32,
+    /// Rising.
+    live: Vec<u32>,
+}
+
+impl Model for HeldCache {
+    ghost use Rattle.promise_core.specs.Holdings.{ToldCache};
+    ghost use Rattle.std.specs.List.Sorted.{IsNonDecreasing};
+    ghost use Rattle.judge_core.specs.Inside.{IsToldLayout};
+
+    ghost Value = { ToldCache };
+
+    ghost view = { λ c. record { number = c.number; size = c.size; align = c.align; pattern = c.pattern.items; chunk = c.chunk; order = c.order; count = c.count; live = c.live.items } };
+
+    ghost invariant = { λ c. IsToldLayout c.size c.align c.chunk c.order c.count × IsNonDecreasing c.live.items };
+}
+
+impl HeldCache {
+    /// A cache without live objects, whose objects are constructed as the pattern.
+    pub fn new(
+        alloc: Global,
+        number: u8,
+        layout: ToldLayout,
+        pattern: &ArrayVec<u8, MOST_PATTERN>,
+    ) -> HeldCache
+        requires { IsToldLayout layout.size layout.align layout.chunk layout.order layout.count }
+        ensures { result ≡ record {
+          number = number;
+          size = layout.size;
+          align = layout.align;
+          pattern = pattern.now.items;
+          chunk = layout.chunk;
+          order = layout.order;
+          count = layout.count;
+          live = [];
+        } }
+    {
+        HeldCache {
+            number,
+            size: layout.size,
+            align: layout.align,
+            pattern: copy_of(pattern),
+            chunk: layout.chunk,
+            order: layout.order,
+            count: layout.count,
+            live: Vec::new(alloc),
+        }
+    }
+
+    /// The object that begins at the place is handed out. Fails where memory runs out, and then nothing is changed.
+    pub(crate) fn take(&mut self, place: u32) -> Result<(), AllocError>
+        ensures taken { IfOk result (λ _. self.new ≡ record self.old { live = put_rising (λ p. p) place self.old.live }) }
+        ensures kept { OnErr result (self.new ≡ self.old) }
+    {
+        let at = index_of_place(&self.live, place);
+        self.live.insert(at, place)?;
+        Ok(())
+    }
+
+    /// The object that begins at the place is given back.
+    pub(crate) fn give(&mut self, place: u32)
+        ensures { self.new ≡ record self.old { live = filter (λ p. not (p == place)) self.old.live } }
+    {
+        drop_place(&mut self.live, place);
+    }
+
+    /// The number of the cache.
+    pub fn number(&self) -> u8
+        ensures { result ≡ self.now.number }
+    {
+        self.number
+    }
+
+    /// The bytes of an object, 1 to `MOST_SIZE`.
+    pub fn size(&self) -> u32
+        ensures value { result ≡ self.now.size }
+        ensures some { 1 ≤ result }
+        ensures most { result ≤ MOST_SIZE }
+    {
+        self.size
+    }
+
+    /// The first places of the live objects, rising.
+    pub fn live(&self) -> &[u32]
+        ensures { result.now ≡ self.now.live }
+    {
+        self.live.as_slice()
+    }
+
+    /// A slab has `2^order` frames.
+    pub fn order(&self) -> u8
+        ensures value { result ≡ self.now.order }
+        ensures most { result ≤ MOST_ORDER }
+    {
+        self.order
+    }
+
+    /// Whether the cache has a live object.
+    pub fn is_in_use(&self) -> bool
+        ensures { result ≡ nat_lt 0 (length self.now.live) }
+    {
+        !self.live.is_empty()
+    }
+
+    /// Whether a live object begins at the place.
+    pub fn has_live(&self, place: u32) -> bool
+        ensures { result ≡ list_any (λ p. p == place) self.now.live }
+    {
+        let at = places_before(&self.live, u64::from(place));
+        match self.live.get(at) {
+            Some(first) => *first == place,
+            None => false,
+        }
+    }
+
+    /// The slab that an object at this place is in.
+    pub fn slab_around(&self, place: u32) -> FrameBlock
+        ensures { result ≡ slab_around self.now place }
+    {
+        FrameBlock::around(place / FRAME_BYTES, self.order)
+    }
+
+    /// Whether the slab of a live object shares a frame with the block.
+    pub fn has_slab_over(&self, block: &FrameBlock) -> bool
+        ensures { result ≡ list_any (λ p. overlaps block.now (slab_around self.now p)) self.now.live }
+    {
+        let slab = FrameBlock::around(block.first(), self.order);
+        let at = places_before(&self.live, slab.first_byte());
+        match self.live.get(at) {
+            Some(place) => block.overlaps(&self.slab_around(*place)),
+            None => false,
+        }
+    }
+
+    /// The live objects of the slab that has the place.
+    fn beside(&self, place: u32) -> &[u32]
+        ensures { result.now ≡ live_beside self.now place }
+    {
+        let slab = self.slab_around(place);
+        let begin = places_before(&self.live, slab.first_byte());
+        let end = places_before(&self.live, slab.end_byte());
+        &self.live[begin..end]
+    }
+
+    /// How many live objects are in the slab that has the place.
+    pub fn count_beside(&self, place: u32) -> usize
+        ensures { result ≡ length (live_beside self.now place) }
+    {
+        self.beside(place).len()
+    }
+
+    /// Whether all objects of that slab are live.
+    pub fn is_slab_full(&self, place: u32) -> bool
+        ensures { result ≡ is_slab_full self.now place }
+    {
+        self.count_beside(place) == self.count as usize
+    }
+
+    /// Whether all objects of all slabs that have a live one are live.
+    pub fn is_full(&self) -> bool
+        ensures { result ≡ list_all (is_slab_full self.now) self.now.live }
+    {
+        self.live.iter().all(|place| self.is_slab_full(*place))
+    }
+
+    /// The first place of the live object that has the `len` bytes from `place` on.
+    pub fn object_with(&self, place: u32, len: u32) -> Option<u32>
+        ensures { result ≡ find (λ first. is_within place len first self.now.size) self.now.live }
+    {
+        // no object before this one reaches the end of the range, and no later one begins before it
+        let end = u64::from(place) + u64::from(len);
+        let at = places_before(&self.live, end.saturating_sub(u64::from(self.size)));
+        match self.live.get(at) {
+            Some(first) => (*first <= place).then_some(*first),
+            None => None,
+        }
+    }
+
+    /// Whether an object at the place shares no byte with these.
+    fn is_apart(&self, place: u32, beside: &[u32]) -> bool
+        ensures { result ≡ list_all (are_apart self.now place) beside.now }
+    {
+        beside.iter().all(|p| self.are_apart(place, *p))
+    }
+
+    fn are_apart(&self, p: u32, q: u32) -> bool
+        ensures { result ≡ are_apart self.now p q }
+    {
+        let size = u64::from(self.size);
+        u64::from(p) + size <= u64::from(q) || u64::from(q) + size <= u64::from(p)
+    }
+
+    /// Whether an object may begin at the place by its alignment.
+    pub fn is_aligned(&self, place: u32) -> bool
+        ensures { result ≡ (place % self.now.align == 0) }
+    {
+        place % self.align == 0
+    }
+
+    /// How many objects a slab has.
+    pub fn count(&self) -> u32
+        ensures { result ≡ self.now.count }
+    {
+        self.count
+    }
+
+    /// Whether these live objects of the slab that has the place are such as a slab has whose object `i` is at the place.
+    fn is_on_grid(&self, place: u32, i: u32, beside: &[u32]) -> bool
+        requires { i < self.now.count }
+        ensures { result ≡ (nat_le (i * self.now.chunk) place
+            && is_grid self.now (slab_around self.now place) (place - i * self.now.chunk) beside.now) }
+    {
+        let before = i * self.chunk;
+        before <= place && self.is_grid(place, place - before, beside)
+    }
+
+    /// Whether they are such as a slab has whose first object is at `origin`.
+    #[tactic(auto, using(crate::proofs::Lists::inside_slab))]
+    fn is_grid(&self, place: u32, origin: u32, beside: &[u32]) -> bool
+        ensures { result ≡ is_grid self.now (slab_around self.now place) origin beside.now }
+    {
+        let slab = self.slab_around(place);
+        slab.has_range(origin, self.objects_bytes()) && self.are_steps(origin, beside)
+    }
+
+    /// How many bytes there are from the first object of a slab to the end of the last.
+    fn objects_bytes(&self) -> u32
+        ensures value { result ≡ (self.now.count - 1) * self.now.chunk + self.now.size }
+        ensures small { result < 2 ^ 21 }
+    {
+        (self.count - 1) * self.chunk + self.size
+    }
+
+    /// Whether each of these is an object of a slab whose first object is at `origin`.
+    fn are_steps(&self, origin: u32, beside: &[u32]) -> bool
+        ensures { result ≡ list_all (λ p. nat_le origin p && ((p - origin) % self.now.chunk == 0
+            && nat_lt ((p - origin) / self.now.chunk) self.now.count)) beside.now }
+    {
+        beside.iter().all(|p| self.is_step(origin, *p))
+    }
+
+    /// Whether an object begins at the place in a slab whose first object is at `origin`.
+    fn is_step(&self, origin: u32, place: u32) -> bool
+        ensures { result ≡ (nat_le origin place
+            && ((place - origin) % self.now.chunk == 0 && nat_lt ((place - origin) / self.now.chunk) self.now.count)) }
+    {
+        origin <= place
+            && (place - origin) % self.chunk == 0
+            && (place - origin) / self.chunk < self.count
+    }
+
+    /// An object at the place, of a slab that lies inside the one that has the place, has none but these numbers: from the first
+    /// on, before the second.
+    fn numbers_at(&self, place: u32) -> (u32, u32)
+        ensures most { result.1 ≤ self.now.count }
+        ensures others { (i : ℕ) → i < self.now.count → IsObjectAt self.now place i → (result.0 ≤ i) × (i < result.1) }
+    {
+        let slab = self.slab_around(place);
+        let chunk = u64::from(self.chunk);
+        let count = u64::from(self.count);
+        let objects = u64::from(place) + u64::from(self.objects_bytes());
+        let low = (objects.saturating_sub(slab.end_byte()) + chunk - 1) / chunk;
+        let high = u64::from(place).saturating_sub(slab.first_byte()) / chunk + 1;
+        (low.min(count) as u32, high.min(count) as u32)
+    }
+
+    /// Whether these live objects of the slab that has the place are such as a slab has with some object at the place.
+    fn is_on_some_grid(&self, place: u32, beside: &[u32]) -> bool
+        ensures { result ≡ is_any_below (λ i. nat_le (i * self.now.chunk) place
+            && is_grid self.now (slab_around self.now place) (place - i * self.now.chunk) beside.now) self.now.count }
+    {
+        let (low, high) = self.numbers_at(place);
+        for i in low..high {
+            if self.is_on_grid(place, i, beside) {
+                return true;
+            }
+        }
+        false
+    }
+
+    /// Whether the slab that has the place has room for an object there, beside its live ones.
+    pub fn has_gap(&self, place: u32) -> bool
+        ensures { let beside = live_beside self.now place in result ≡ (nat_lt (length beside) self.now.count
+            && (list_all (are_apart self.now place) beside && is_any_below (λ i. nat_le (i * self.now.chunk) place
+            && is_grid self.now (slab_around self.now place) (place - i * self.now.chunk) beside) self.now.count)) }
+    {
+        let beside = self.beside(place);
+        beside.len() < self.count as usize
+            && self.is_apart(place, beside)
+            && self.is_on_some_grid(place, beside)
+    }
+
+    /// The byte of a fresh object this far from its first.
+    pub fn fresh_byte(&self, offset: u32) -> u8
+        ensures { result ≡ pattern_byte self.now.pattern offset }
+    {
+        byte_of_pattern(self.pattern.as_slice(), offset)
+    }
+}
+
+/// The byte of the pattern, over and over, this far from its first; 0 where it has none.
+fn byte_of_pattern(pattern: &[u8], offset: u32) -> u8
+    ensures { result ≡ pattern_byte pattern.now offset }
+{
+    if pattern.is_empty() {
+        return 0;
+    }
+    pattern[offset as usize % pattern.len()]
+}
+
+/// The same bytes.
+fn copy_of(pattern: &ArrayVec<u8, MOST_PATTERN>) -> ArrayVec<u8, MOST_PATTERN>
+    ensures { result.items ≡ pattern.now.items }
+{
+    let mut copy = ArrayVec::new();
+    let taken = copy.try_extend_from_slice(pattern.as_slice());
+    prove!(taken.is_ok());
+    copy
+}
+
+/// Where a live object that begins at the place goes among these.
+fn index_of_place(live: &[u32], place: u32) -> usize
+    requires { IsNonDecreasing live.now }
+    ensures value { result ≡ prefix_len (λ p. not (nat_lt place p)) live.now }
+    ensures inside { result ≤ length live.now }
+    ensures point { IsPartitionPoint (λ p. p ≤ place) (λ p. place < p) live.now result }
+{
+    places_before(live, u64::from(place) + 1)
+}
+
+/// The live objects without the one that begins at the place.
+fn drop_place(live: &mut Vec<u32>, place: u32)
+    requires { IsNonDecreasing live.old.items }
+    ensures { live.new.items ≡ filter (λ p. not (p == place)) live.old.items }
+{
+    let begin = places_before(live, u64::from(place));
+    let end = places_before(live, u64::from(place) + 1);
+    remove_range(live, begin, end);
+}

@@ -1,4 +1,0 @@
-pub mod Masks
-pub mod Granules
-pub mod Steps
-pub mod Marks
