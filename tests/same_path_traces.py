@@ -1,4 +1,4 @@
-"""Pairs of traces for .ci/same-path: a mixed one of several tenants, and for each tenant its own list alone.
+"""Pairs of traces for tests/same-path: a mixed one of several tenants, and for each tenant its own list alone.
 
 A tenant's own list is its commands with the grants, take-backs and resets that the administrator did for it. A refused grant or
 take-back, a move and all that is another's stand in the mixed trace alone. The traces are made by talking to the library, so that

@@ -1,7 +1,7 @@
 # Writes a random trace: what tenant 0 does and gets is drawn from `seed` alone, and all that comes between from `seed` and
 # `world`. So two worlds of one seed and order have the same own list of tenant 0, whatever their other numbers are.
 #
-#   awk -v seed=1 -v world=1 -v lines=1000000 -v order=3 -v superblocks=256 -v tenants=64 -v broken=10 -f soak/traces.awk
+#   awk -v seed=1 -v world=1 -v lines=1000000 -v order=3 -v superblocks=256 -v tenants=64 -v broken=10 -f tests/soak/traces.awk
 #
 # `lines` counts the lines of both worlds that are tenant 0's; `others` lines come between on average; `broken` in a hundred of
 # those are no command, or one with numbers that nobody has.

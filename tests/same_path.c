@@ -13,7 +13,7 @@
  * So nothing of another process is read, which takes a fourth of the time of ptrace and no permission. The program runs with
  * address randomisation off; it is to be linked statically, so that each instruction stands at the same address in every run.
  *
- * The file "operands", if there is one in the working folder, has the memory operand of each instruction (as .ci/same-path reads
+ * The file "operands", if there is one in the working folder, has the memory operand of each instruction (as tests/same-path reads
  * them from a disassembly). An access to a block that boot took is told by the block's size and the offset in it. Where the size
  * is a multiple of the number of superblocks (of a block that grew in boot, of the power of two from there on) it is told by the
  * offset in that part. Blocks and parts are numbered in each command as it meets them: so what is equal is equal but for the
