@@ -12,7 +12,7 @@ use Rattle.words_core.specs.declared.reply.Body.TheVariants as Say
 use Rattle.promise_core.specs.Bytes.{Holder, Cells, holder_of}
 use Rattle.promise_core.specs.Holdings.{Holdings}
 use Rattle.promise_core.specs.State.{State}
-use Rattle.promise_core.proofs.Laid.{IsLaid, AllGridded}
+use Rattle.promise_core.specs.Lying.{IsLaid, AllGridded}
 use Rattle.judge_core.specs.declared.holder.RangeHolder.{RangeHolder}
 use Rattle.judge_core.specs.Holders.{shown_holder}
 use Rattle.judge_bytes.specs.Left.{Left, left_slots, left_at, Becomes}

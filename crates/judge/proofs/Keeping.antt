@@ -4,7 +4,8 @@ use Rattle.std.specs.Prelude.{Result, OnOk, ◌==◌, if◌then◌else◌}
 use Rattle.std.specs.List.{list_any}
 use Rattle.std.specs.Option.{option_eq}
 use Rattle.std.proofs.lemmas.Bool.{and_parts, ltb-true, eqb-true, false≢true}
-use Rattle.model_core.proofs.Lists.{IsIn, filter_in, map_in}
+use Rattle.model_core.specs.Elements.{IsIn}
+use Rattle.model_core.proofs.Lists.{filter_in, map_in}
 use Rattle.model_core.specs.declared.limits.TheConstants.{MOST_CACHES, MOST_ORDER}
 use Rattle.model_core.specs.Blocks.{Block, block}
 use Rattle.model_core.specs.Machine.{order_in}
@@ -21,7 +22,8 @@ use Rattle.promise_core.specs.Holdings.{ToldCache, Holdings, has_slot, with_live
 use Rattle.promise_core.specs.Promises.{refusals, blocks, objects, new_layout, gives, owners, bytes}
 use Rattle.promise_core.specs.State.{State, Known, opening_state, state_after}
 use Rattle.promise_core.proofs.Confined.{in_put, some_state}
-use Rattle.promise_core.proofs.Laid.{IsLaid, AllGridded, can_stand_is, step, grid_step}
+use Rattle.promise_core.specs.Lying.{IsLaid, AllGridded}
+use Rattle.promise_core.proofs.Laid.{can_stand_is, step, grid_step}
 use Rattle.judge_replies.specs.Verdicts.{kept_by, verdict_on}
 use Rattle.judge_replies.proofs.Allowed.{all_kept}
 use Rattle.judge_bytes.specs.Left.{left_slots, left_at, Becomes}

@@ -1,14 +1,14 @@
 -- What is true of what is kept, and what a call may take for granted.
 use Rattle.std.specs.Prelude.{◌≡◌, ℕ, ◌<◌, ◌≤◌, ◌==◌, List, [], length, Option, None, Ok}
 use Rattle.std.specs.List.{list_any}
-use Rattle.model_core.proofs.Lists.{IsIn}
+use Rattle.model_core.specs.Elements.{IsIn}
 use Rattle.model_core.specs.declared.limits.TheConstants.{MOST_CACHES, MOST_ORDER}
 use Rattle.model_core.specs.declared.owner.Owner.{Owner}
 use Rattle.words_core.specs.declared.event.Event.{Event}
 use Rattle.words_core.specs.declared.event.Command.{Command}
 use Rattle.words_core.specs.declared.event.Command.TheVariants as Asked
 use Rattle.words_core.specs.declared.reply.Body.{Body}
-use Rattle.promise_core.proofs.Laid.{IsLaid, AllGridded}
+use Rattle.promise_core.specs.Lying.{IsLaid, AllGridded}
 use Rattle.promise_core.specs.Bytes.{Holder, holder_of}
 use Rattle.promise_core.specs.Holdings.{ToldCache, Holdings, has_slot}
 use Rattle.promise_core.specs.State.{Known}

@@ -9,7 +9,8 @@ use Rattle.model_core.specs.Blocks.{Block, HasFrame}
 use Rattle.model_core.specs.Machine.{in_block}
 use Rattle.model_core.specs.Operations.{overlaps}
 use Rattle.model_core.specs.WellFormed.{IsApart, AreApart}
-use Rattle.model_core.proofs.Lists.{IsIn, each_append, each_left, each_right, each_weaker, each_filter, each_in, each_map, each_unmap, any_none, some_any, filter_in}
+use Rattle.model_core.specs.Elements.{IsIn}
+use Rattle.model_core.proofs.Lists.{each_append, each_left, each_right, each_weaker, each_filter, each_in, each_map, each_unmap, any_none, some_any, filter_in}
 
 pub in_block-true : (place : ℕ) (b : Block) → in_block place b ≡ true → HasFrame b (place / FRAME_BYTES)
 in_block-true place b e =

@@ -9,7 +9,8 @@ use Rattle.model_core.specs.Reach.{in_reach}
 use Rattle.model_core.specs.Operations.{Step, written, write_step}
 use Rattle.model_core.specs.CacheOperations.{give_object, give_of, give_step}
 use Rattle.model_core.specs.WellFormed.{IsWellFormed}
-use Rattle.model_core.proofs.Lists.{IsIn, find_in}
+use Rattle.model_core.specs.Elements.{IsIn}
+use Rattle.model_core.proofs.Lists.{find_in}
 use Rattle.model_core.proofs.CacheSteps.{live_kept}
 use Rattle.model_core.proofs.Objects.{live_is, reached, reached_mapped}
 

@@ -18,7 +18,8 @@ use Rattle.model_core.specs.Runs.{Alloc, Free, Write, Create, Take, Give, Destro
 use Rattle.model_core.specs.WellFormed.{AreApart, in_slab, IsWellFormed}
 use Rattle.model_core.specs.Laws.{block_of_growth}
 use Rattle.model_core.specs.ByteLaws.{AllocKeeps, FreeKeeps, TakeKeeps, GiveKeeps, BytesStay, RunsKeepBytes}
-use Rattle.model_core.proofs.Lists.{IsIn, each_weaker, each_filtered, find_in, Found, found, PutIn, put_in, any_map, any_none, any_split}
+use Rattle.model_core.specs.Elements.{IsIn}
+use Rattle.model_core.proofs.Lists.{each_weaker, each_filtered, find_in, Found, found, PutIn, put_in, any_map, any_none, any_split}
 use Rattle.model_core.proofs.ByNeed.{by_need_keeps, by_need_found, by_need_none}
 use Rattle.model_core.proofs.Apart.{one_side}
 use Rattle.model_core.proofs.Laid.{Laid, laid, all_laid, laid_block, in_laid, in_laid_object, in_slab_laid, IsLaidOut, laid_out}

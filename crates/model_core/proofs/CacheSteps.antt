@@ -12,7 +12,8 @@ use Rattle.model_core.specs.Slabs.{is_partial, is_empty, cache_of, with_cache, w
 use Rattle.model_core.specs.CacheOperations.{take_new, take_from, take_of, take_step}
 use Rattle.model_core.specs.WellFormed.{RisesFrom, IsApart, IsCut, IsCache, IsWellFormed}
 use Rattle.model_core.proofs.Layouts.{layouts_fit}
-use Rattle.model_core.proofs.Lists.{IsIn, each_left, each_right, each_put, each_less, each_middle, each_weaker, each_in, each_unmap, each_from, find_in, Found, found, found_replaced, PutIn, put_in, put_rises, map_append, in_left, in_right, in_map}
+use Rattle.model_core.specs.Elements.{IsIn}
+use Rattle.model_core.proofs.Lists.{each_left, each_right, each_put, each_less, each_middle, each_weaker, each_in, each_unmap, each_from, find_in, Found, found, found_replaced, PutIn, put_in, put_rises, map_append, in_left, in_right, in_map}
 use Rattle.model_core.proofs.ByNeed.{by_need_keeps}
 use Rattle.model_core.proofs.Apart.{apart_first}
 use Rattle.model_core.proofs.Chosen.{chosen_apart, chosen_placed}

@@ -10,7 +10,8 @@ use Rattle.model_core.specs.WellFormed.{IsApart, AreApart}
 use Rattle.model_core.specs.Laws.{ChoiceIsUntaken, ChoicesMeet}
 use Rattle.model_core.proofs.Choosing.{choice_is_found, one_choice}
 use Rattle.model_core.proofs.FreeBlocks.{reserved_is_untaken}
-use Rattle.model_core.proofs.Lists.{IsIn, each_in, each_from}
+use Rattle.model_core.specs.Elements.{IsIn}
+use Rattle.model_core.proofs.Lists.{each_in, each_from}
 use Rattle.model_core.proofs.Apart.{apart_first, has_first}
 
 -- held slots lie below the bound

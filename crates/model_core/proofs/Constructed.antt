@@ -12,7 +12,8 @@ use Rattle.model_core.specs.Reach.{in_reach}
 use Rattle.model_core.specs.Operations.{written, next_slot, after_grant, is_busy, after_take_back}
 use Rattle.model_core.specs.WellFormed.{IsApart, AreApart, IsCache, IsWellFormed}
 use Rattle.model_core.proofs.Layouts.{layouts_fit}
-use Rattle.model_core.proofs.Lists.{IsIn, each_right, each_put, each_less, each_middle, each_weaker, each_in, each_from, each_unmap, each_filter, any_in, any_map, none_any, any_none, filter_in, Found, found, least_is_missing}
+use Rattle.model_core.specs.Elements.{IsIn}
+use Rattle.model_core.proofs.Lists.{each_right, each_put, each_less, each_middle, each_weaker, each_in, each_from, each_unmap, each_filter, any_in, any_map, none_any, any_none, filter_in, Found, found, least_is_missing}
 use Rattle.model_core.proofs.Apart.{apart_turned, in_block-true, apart_place, one_holder, one_side}
 use Rattle.model_core.proofs.Laid.{Laid, laid, all_laid, laid_layout, laid_block, in_laid, Placed, IsCutLaid, IsLaidOut, taken_laid, laid_out}
 use Rattle.model_core.proofs.MemoryKept.{with_flags, frame_slot, place_held}

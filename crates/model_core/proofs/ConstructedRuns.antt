@@ -21,7 +21,8 @@ use Rattle.model_core.specs.CacheOperations.{created, next_number, create_step, 
 use Rattle.model_core.specs.Runs.{Operation, Alloc, Free, Write, Create, Take, Give, Destroy, Reap, Grant, TakeBack, Reset, ArePossible, after, run}
 use Rattle.model_core.specs.WellFormed.{IsWellFormed}
 use Rattle.model_core.specs.Laws.{Object, IsObject, place_of, block_of_growth, makes_slab_at, hands_out, hand_outs, ConstructedFirst, ConstructedWhenTaken}
-use Rattle.model_core.proofs.Lists.{IsIn, find_in, each_in}
+use Rattle.model_core.specs.Elements.{IsIn}
+use Rattle.model_core.proofs.Lists.{find_in, each_in}
 use Rattle.model_core.proofs.ByNeed.{by_need_keeps}
 use Rattle.model_core.proofs.Laid.{laid, all_laid}
 use Rattle.model_core.proofs.PageSteps.{either, done, created_laid, by_need_kept}

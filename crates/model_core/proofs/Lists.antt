@@ -4,6 +4,7 @@ use Rattle.std.specs.Prelude.{if◌then◌else◌, filter, find, flat_map}
 use Rattle.std.specs.List.{list_any, AllByRecursion as Each}
 use Rattle.std.proofs.lemmas.List.{map-id}
 use Rattle.std.proofs.lemmas.Bool.{eqb-true, eqb-false, ne_eqb, eq-eqb, ltb-true, ltb-false, false≢true, or_left, or_right, or_parts}
+use Rattle.model_core.specs.Elements.{IsIn}
 use Rattle.model_core.specs.Machine.{put_rising, least_missing}
 use Rattle.model_core.specs.WellFormed.{RisesFrom}
 
@@ -89,10 +90,6 @@ each_filtered p (x ∷ xs) = go (p x) refl (each_filtered p xs)
     go false e rest = rest
 
 -- An element
-
-abbrev pub IsIn : {X : Type 0} → X → List X → Type 0
-IsIn x [] = ⊥
-IsIn x (y ∷ ys) = (y ≡ x) ⊎ IsIn x ys
 
 pub each_in : {X : Type 0} (P : X → Type 0) (x : X) (xs : List X) → Each P xs → IsIn x xs → P x
 each_in P x [] a i = elim i [ ]

@@ -12,7 +12,8 @@ use Rattle.model_core.specs.Machine.{slot_of, in_block}
 use Rattle.model_core.specs.Slabs.{zeroed}
 use Rattle.model_core.specs.WellFormed.{IsApart, AreApart}
 use Rattle.model_core.proofs.BlocksByNumber.{number_of_frame, same_slot}
-use Rattle.model_core.proofs.Lists.{IsIn, each_put, each_less, each_middle, each_weaker, each_both, each_filtered, each_filter, each_in, each_map, each_unmap, any_append, any_none, none_any, some_any, any_map, any_split, map_append}
+use Rattle.model_core.specs.Elements.{IsIn}
+use Rattle.model_core.proofs.Lists.{each_put, each_less, each_middle, each_weaker, each_both, each_filtered, each_filter, each_in, each_map, each_unmap, any_append, any_none, none_any, some_any, any_map, any_split, map_append}
 use Rattle.model_core.proofs.Apart.{apart_turned, in_block-true, apart_any, Across, apart_put, apart_filter, one_side}
 use Rattle.model_core.proofs.Laid.{Laid, laid_layout, laid_block, in_laid, in_laid_object, Placed, mapped_by, IsCutLaid, IsLaidOut}
 

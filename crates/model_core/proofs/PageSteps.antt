@@ -17,7 +17,8 @@ use Rattle.model_core.specs.Slabs.{zeroed, is_empty, without_empty, reaped, by_n
 use Rattle.model_core.specs.Operations.{Step, refuse, with_block, without_block, alloc_at, alloc_step, free_at, free_step, next_slot, after_grant, overlaps, is_busy, after_take_back, take_back_step}
 use Rattle.model_core.specs.CacheOperations.{created, next_number, create_step, cache_answer, cache_step, destroy_of, destroy_step, reap_step}
 use Rattle.model_core.specs.WellFormed.{RisesFrom, IsApart, IsCut, IsCache, IsWellFormed}
-use Rattle.model_core.proofs.Lists.{IsIn, each_left, each_right, each_put, each_weaker, each_filter, each_map, each_unmap, any_none, none_any, find_in, Found, found, PutIn, put_in, put_rises, filter_rises, least_is_missing}
+use Rattle.model_core.specs.Elements.{IsIn}
+use Rattle.model_core.proofs.Lists.{each_left, each_right, each_put, each_weaker, each_filter, each_map, each_unmap, any_none, none_any, find_in, Found, found, PutIn, put_in, put_rises, filter_rises, least_is_missing}
 use Rattle.model_core.proofs.ByNeed.{by_need_keeps}
 use Rattle.model_core.proofs.Apart.{apart_first}
 use Rattle.model_core.proofs.Chosen.{chosen_apart, chosen_placed}

@@ -16,7 +16,8 @@ use Rattle.model_core.specs.Operations.{refuse, alloc_at, alloc_step}
 use Rattle.model_core.specs.CacheOperations.{frames_of, take_from, take_new, take_of, take_step}
 use Rattle.model_core.specs.WellFormed.{RisesFrom}
 use Rattle.model_core.specs.Room.{RoomIsPromised, AllocIsPromised, TakeIsPromised}
-use Rattle.model_core.proofs.Lists.{IsIn, each_in, in_filter, none_any, some_any, any_in, rises_more, in_left, in_right, in_map}
+use Rattle.model_core.specs.Elements.{IsIn}
+use Rattle.model_core.proofs.Lists.{each_in, in_filter, none_any, some_any, any_in, rises_more, in_left, in_right, in_map}
 use Rattle.model_core.proofs.BlocksByNumber.{number_is, number_first, number_of_frame, aligned_first}
 use Rattle.model_core.proofs.Chosen.{held_below}
 use Rattle.model_core.proofs.ByNeed.{by_need_found, by_need_reaps}

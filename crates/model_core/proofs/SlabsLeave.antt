@@ -16,7 +16,8 @@ use Rattle.model_core.specs.CacheOperations.{created, next_number, create_step, 
 use Rattle.model_core.specs.Runs.{Alloc, Free, Write, Create, Take, Give, Destroy, Reap, Grant, TakeBack, Reset, after}
 use Rattle.model_core.specs.WellFormed.{in_slab, IsWellFormed}
 use Rattle.model_core.specs.ByteLaws.{SlabsLeaveZeroes}
-use Rattle.model_core.proofs.Lists.{IsIn, find_in, Found, found, any_append, any_map, any_split}
+use Rattle.model_core.specs.Elements.{IsIn}
+use Rattle.model_core.proofs.Lists.{find_in, Found, found, any_append, any_map, any_split}
 use Rattle.model_core.proofs.ByNeed.{by_need_keeps}
 use Rattle.model_core.proofs.Laid.{Laid, laid, all_laid, laid_block, in_laid, in_slab_laid}
 use Rattle.model_core.proofs.MemoryKept.{any_put, with_flags}

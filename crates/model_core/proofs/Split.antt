@@ -9,7 +9,8 @@ use Rattle.std.proofs.lemmas.List.Elements.{filter-append}
 use Rattle.model_core.specs.Blocks.{Block}
 use Rattle.model_core.specs.Machine.{Slab, Cache, in_block, slab_block}
 use Rattle.model_core.specs.Slabs.{is_empty, without_empty, empty_blocks}
-use Rattle.model_core.proofs.Lists.{IsIn, Found, map_append}
+use Rattle.model_core.specs.Elements.{IsIn}
+use Rattle.model_core.proofs.Lists.{Found, map_append}
 use Rattle.model_core.proofs.Laid.{Laid, laid, laid_in, all_laid, laid_block, map_laid}
 
 pub in_middle : {X : Type 0} (xs ys : List X) (x : X) → IsIn x (xs ++ x ∷ ys)

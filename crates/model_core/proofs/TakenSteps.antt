@@ -11,7 +11,8 @@ use Rattle.model_core.specs.Slabs.{by_need}
 use Rattle.model_core.specs.Operations.{refuse, with_block, without_block, alloc_at, alloc_step, free_at, free_step}
 use Rattle.model_core.specs.WellFormed.{IsApart, AreApart, IsPlaced, IsWellFormed}
 use Rattle.model_core.specs.Laws.{TakenSound, AllocTakes, FreeReleases}
-use Rattle.model_core.proofs.Lists.{IsIn, each_in, each_left, each_weaker, PutIn, put_in}
+use Rattle.model_core.specs.Elements.{IsIn}
+use Rattle.model_core.proofs.Lists.{each_in, each_left, each_weaker, PutIn, put_in}
 use Rattle.model_core.proofs.Rising.{order_in-middle, none_found}
 use Rattle.model_core.proofs.Apart.{apart_first, one_holder}
 use Rattle.model_core.proofs.Chosen.{chosen_apart}

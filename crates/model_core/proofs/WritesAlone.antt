@@ -16,7 +16,8 @@ use Rattle.model_core.specs.CacheOperations.{take_new, take_from, take_of, take_
 use Rattle.model_core.specs.Runs.{Operation, Alloc, Free, Write, Create, Take, Give, Destroy, Reap, Grant, TakeBack, Reset, after}
 use Rattle.model_core.specs.WellFormed.{IsApart, IsWellFormed}
 use Rattle.model_core.specs.ByteLaws.{writes, WritesAlone}
-use Rattle.model_core.proofs.Lists.{IsIn, in_filter, each_in, find_in, Found, found, any_map, any_split, none_any, in_left, in_right, in_map}
+use Rattle.model_core.specs.Elements.{IsIn}
+use Rattle.model_core.proofs.Lists.{in_filter, each_in, find_in, Found, found, any_map, any_split, none_any, in_left, in_right, in_map}
 use Rattle.model_core.proofs.ByNeed.{by_need_keeps}
 use Rattle.model_core.proofs.Apart.{in_block-true, apart_place}
 use Rattle.model_core.proofs.Chosen.{chosen_apart}

@@ -1,3 +1,4 @@
+pub mod Elements
 pub mod Blocks
 pub mod Numbered
 pub mod Choice

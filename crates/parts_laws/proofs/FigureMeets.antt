@@ -12,7 +12,8 @@ use Rattle.model_core.specs.WellFormed.{RisesFrom}
 use Rattle.model_core.specs.Reports.{frames_taken, free_count, taken_count}
 use Rattle.model_core.proofs.Chosen.{held_below}
 use Rattle.model_core.proofs.Counting.{bit, blocks_either}
-use Rattle.model_core.proofs.Lists.{IsIn, any_in, any_none, each_from}
+use Rattle.model_core.specs.Elements.{IsIn}
+use Rattle.model_core.proofs.Lists.{any_in, any_none, each_from}
 use Rattle.space_core.specs.Content as spaces
 use Rattle.buddy_core.specs.Content as buddies
 use Rattle.slab_tables.specs.Content.{Content}

@@ -6,7 +6,7 @@ use Rattle.std.proofs.lemmas.Bool.{cases_lt, cases_eq}
 use Rattle.std.proofs.lemmas.List.{get_or_past, get_or-set_same, get_or-set_other, set_past}
 use Rattle.std.proofs.lemmas.List.Sums.{sum_by-cons, sum_by-set}
 use Rattle.model_core.specs.WellFormed.{RisesFrom}
-use Rattle.model_core.proofs.Lists.{IsIn}
+use Rattle.model_core.specs.Elements.{IsIn}
 use Rattle.model_core.proofs.Objects.{in_append}
 use Rattle.parts_laws.proofs.Lookups.{key_above}
 use Rattle.parts_laws.proofs.Members.{mapped_in}

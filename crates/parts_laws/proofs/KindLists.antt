@@ -1,7 +1,8 @@
 -- Each list has exactly the first frames of the cache's slabs of its kind.
 use Rattle.std.proofs.Common.{List, [], ◌∷◌, map, subst, inl, inr}
 use Rattle.std.specs.Prelude.{filter}
-use Rattle.model_core.proofs.Lists.{IsIn, filter_in, in_filter, filter_rises, in_map}
+use Rattle.model_core.specs.Elements.{IsIn}
+use Rattle.model_core.proofs.Lists.{filter_in, in_filter, filter_rises, in_map}
 use Rattle.klist_core.specs.Lists as lists
 use Rattle.klist_core.proofs.Listing.{IsAmong, list_rises, in_list, listed, key_among, among_keys}
 use Rattle.slab_tables.specs.Content.{head_of}

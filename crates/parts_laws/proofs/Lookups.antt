@@ -4,7 +4,8 @@ use Rattle.std.specs.Prelude.{find, filter, Option, option_map}
 use Rattle.std.proofs.lemmas.Bool.{false≢true, eqb-true, eq-eqb, ne_eqb, cases_eq}
 use Rattle.model_core.specs.Machine.{put_rising}
 use Rattle.model_core.specs.WellFormed.{RisesFrom}
-use Rattle.model_core.proofs.Lists.{IsIn, find_in}
+use Rattle.model_core.specs.Elements.{IsIn}
+use Rattle.model_core.proofs.Lists.{find_in}
 
 pub some_none : {A : Type 0} {x : A} → Some x ≡ None → ⊥
 some_none {A} {x} e = cc

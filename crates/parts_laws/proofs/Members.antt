@@ -3,7 +3,8 @@ use Rattle.std.proofs.Common.{◌≡◌, ◌≢◌, ℕ, ◌+◌, ◌≤◌, Boo
 use Rattle.std.specs.Prelude.{find, flat_map}
 use Rattle.std.proofs.lemmas.Bool.{false≢true}
 use Rattle.model_core.specs.WellFormed.{RisesFrom}
-use Rattle.model_core.proofs.Lists.{IsIn, in_left, in_right}
+use Rattle.model_core.specs.Elements.{IsIn}
+use Rattle.model_core.proofs.Lists.{in_left, in_right}
 use Rattle.model_core.proofs.Objects.{in_append}
 use Rattle.parts_laws.proofs.Lookups.{some_none, key_above}
 

@@ -9,7 +9,8 @@ use Rattle.model_core.specs.Layouts.{Layout, IsFit, object_place}
 use Rattle.model_core.specs.Machine.{Slab, Cache, Machine, layout}
 use Rattle.model_core.specs.Slabs.{LiveObject, live_from, live_in, live_objects, cache_of, slab_of, with_cache, with_slab, with_live}
 use Rattle.model_core.specs.CacheOperations.{give_of, give_object, give_step}
-use Rattle.model_core.proofs.Lists.{IsIn, find_in}
+use Rattle.model_core.specs.Elements.{IsIn}
+use Rattle.model_core.proofs.Lists.{find_in}
 use Rattle.model_core.proofs.Objects.{live_is}
 use Rattle.space_core.specs.Content as spaces
 use Rattle.buddy_core.specs.Content as buddies

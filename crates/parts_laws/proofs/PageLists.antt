@@ -4,7 +4,8 @@ use Rattle.std.specs.Prelude.{Option, option_map, filter, ◌==◌}
 use Rattle.model_core.specs.Blocks.{Block, block}
 use Rattle.model_core.specs.Machine.{order_in}
 use Rattle.model_core.specs.WellFormed.{RisesFrom}
-use Rattle.model_core.proofs.Lists.{IsIn, find_in}
+use Rattle.model_core.specs.Elements.{IsIn}
+use Rattle.model_core.proofs.Lists.{find_in}
 use Rattle.parts_laws.proofs.Lookups.{some_none, some_same, at, found_key, found_kept, in_found}
 use Rattle.parts_laws.proofs.Reserved.{order_found}
 

@@ -7,7 +7,8 @@ use Rattle.model_core.specs.Layouts.{object_place}
 use Rattle.model_core.specs.Machine.{Slab, Cache, Machine, layout}
 use Rattle.model_core.specs.Slabs.{cache_of, live_in, live_objects}
 use Rattle.model_core.specs.Reach.{within_block, within_object, within_objects, in_reach}
-use Rattle.model_core.proofs.Lists.{IsIn, find_in, some_any, any_in}
+use Rattle.model_core.specs.Elements.{IsIn}
+use Rattle.model_core.proofs.Lists.{find_in, some_any, any_in}
 use Rattle.space_core.specs.Content as spaces
 use Rattle.buddy_core.specs.Content as buddies
 use Rattle.slab_tables.specs.Content.{Content, kept_at, layout_numbers}

@@ -3,7 +3,7 @@ use Rattle.std.proofs.Common.{◌≡◌, ℕ, Bool, not, cond, List, [], ◌∷�
 use Rattle.std.specs.Prelude.{filter, flat_map}
 use Rattle.model_core.specs.Machine.{Slab, Cache, Machine, slab_block}
 use Rattle.model_core.specs.Slabs.{cache_of, is_empty, zeroed, without_empty, empty_blocks, reaped}
-use Rattle.model_core.proofs.Lists.{IsIn}
+use Rattle.model_core.specs.Elements.{IsIn}
 use Rattle.parts_laws.specs.Shows.{ShowsMachine}
 use Rattle.parts_laws.specs.Changes.{kept_slabs, gone_blocks, returned}
 use Rattle.parts_laws.specs.Laws.{ReapedShows}

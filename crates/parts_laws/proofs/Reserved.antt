@@ -4,7 +4,8 @@ use Rattle.std.specs.Prelude.{Option, option_map}
 use Rattle.std.proofs.lemmas.Bool.{false≢true, ne_eqb}
 use Rattle.model_core.specs.Blocks.{Block, block, with_taken}
 use Rattle.model_core.specs.Machine.{put_rising, order_in}
-use Rattle.model_core.proofs.Lists.{IsIn, each_from, put_rises}
+use Rattle.model_core.specs.Elements.{IsIn}
+use Rattle.model_core.proofs.Lists.{each_from, put_rises}
 use Rattle.space_core.specs.Content as spaces
 use Rattle.buddy_core.specs.Content as buddies
 use Rattle.slab_tables.specs.Content.{Content}

@@ -6,7 +6,8 @@ use Rattle.model_core.specs.Blocks.{Block, block, HasFrame}
 use Rattle.model_core.specs.Choice.{choose}
 use Rattle.model_core.specs.Machine.{Slab, Cache, Machine, holds, beyond, order_in, choice, layout, slab_block, slab_blocks, taken_blocks}
 use Rattle.model_core.specs.Slabs.{is_empty, without_empty, reaped}
-use Rattle.model_core.proofs.Lists.{IsIn, find_in, filter_in, in_filter, in_map}
+use Rattle.model_core.specs.Elements.{IsIn}
+use Rattle.model_core.proofs.Lists.{find_in, filter_in, in_filter, in_map}
 use Rattle.model_core.proofs.Chosen.{held_below}
 use Rattle.model_core.proofs.Vacant.{IsVacant, some_choice, choice_vacant}
 use Rattle.space_core.specs.Content as spaces

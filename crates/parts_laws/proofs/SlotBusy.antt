@@ -8,7 +8,8 @@ use Rattle.model_core.specs.Blocks.{Block, block, slot_block, HasFrame, HasTaken
 use Rattle.model_core.specs.Layouts.{Layout}
 use Rattle.model_core.specs.Machine.{Machine, slab_block, slab_blocks, taken_blocks, order_in}
 use Rattle.model_core.specs.Operations.{overlaps, is_busy}
-use Rattle.model_core.proofs.Lists.{IsIn, some_any}
+use Rattle.model_core.specs.Elements.{IsIn}
+use Rattle.model_core.proofs.Lists.{some_any}
 use Rattle.model_core.proofs.Objects.{in_append}
 use Rattle.model_core.proofs.Apart.{overlap_from}
 use Rattle.space_core.specs.Content as spaces

@@ -5,7 +5,8 @@ use Rattle.std.proofs.lemmas.Bool.{false≢true, eq-eqb, ne_eqb, cases_eq}
 use Rattle.model_core.specs.Blocks.{Block, block}
 use Rattle.model_core.specs.Machine.{Slab, Cache, Machine, order_in, layout, slab_block, slab_blocks, taken_blocks}
 use Rattle.model_core.specs.Slabs.{cache_of, slab_of}
-use Rattle.model_core.proofs.Lists.{IsIn, find_in, in_map}
+use Rattle.model_core.specs.Elements.{IsIn}
+use Rattle.model_core.proofs.Lists.{find_in, in_map}
 use Rattle.space_core.specs.Content as spaces
 use Rattle.buddy_core.specs.Content as buddies
 use Rattle.slab_tables.specs.declared.cache.Cache as own

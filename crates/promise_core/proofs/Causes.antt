@@ -7,7 +7,8 @@ use Rattle.std.proofs.Math.Nat.{div-div-eq-div-mul, div-eq_of_lt-le, mul-div_can
 use Rattle.std.proofs.lemmas.Nat.{pow_pos, pow-add, div-add-mod'}
 use Rattle.std.proofs.lemmas.Bool.{false≢true, and_parts, and_from, or_cases, or_left, or_right, leb-true, ltb-true, le-leb, le-ltb, lt-ltb, eqb-true, eq-eqb, cases_eq, false_from_ne_true, not-false}
 use Rattle.model_core.specs.Blocks.{Block, block}
-use Rattle.model_core.proofs.Lists.{IsIn, find_in, filter_in, in_filter, some_any, any_in, in_left, in_right, in_map, map_in}
+use Rattle.model_core.specs.Elements.{IsIn}
+use Rattle.model_core.proofs.Lists.{find_in, filter_in, in_filter, some_any, any_in, in_left, in_right, in_map, map_in}
 use Rattle.model_core.proofs.BlocksByNumber.{aligned_first}
 use Rattle.model_core.proofs.Objects.{in_append}
 use Rattle.words_core.specs.declared.event.Command.{Command}
@@ -22,7 +23,8 @@ use Rattle.promise_core.specs.Holdings.{ToldCache, Holdings, has_slot, cache_tol
 use Rattle.promise_core.specs.State.{State, Known, state_after}
 use Rattle.promise_core.specs.Promises.{first_due, is_one, due, is_used_up, verdict, kept, judged, allowed}
 use Rattle.promise_core.specs.Laws.{may_tell, RefusedForCause, TakeRefusedForCause}
-use Rattle.promise_core.proofs.Grids.{all_in, IsGridded, live_in, free_place}
+use Rattle.promise_core.specs.Lying.{IsGridded, live_of_slab}
+use Rattle.promise_core.proofs.Grids.{all_in, free_place}
 use Rattle.promise_core.proofs.Laid.{can_stand_is, empty_slab, reached_gridded}
 
 -- Lists
@@ -196,7 +198,7 @@ nothing_left order h c place used can =
           let q : (x : ℕ) × IsIn x (live_beside c place) = some_listed (live_beside c place) some in
           let at : IsIn q.0 c.live × (eqb (slab_around c q.0).first (slab_around c place).first ≡ true) = filter_in (λ p. eqb (slab_around c p).first (slab_around c place).first) q.0 c.live q.1 in
           let full : length (live_beside c q.0) ≡ c.count = eqb-true (length (live_beside c q.0)) c.count (all_in (is_slab_full c) q.0 c.live u.0 at.0) in
-          let same : length (live_beside c q.0) ≡ length (live_beside c place) = ap (λ f. length (live_in c f)) (eqb-true (slab_around c q.0).first (slab_around c place).first at.1) in
+          let same : length (live_beside c q.0) ≡ length (live_beside c place) = ap (λ f. length (live_of_slab c f)) (eqb-true (slab_around c q.0).first (slab_around c place).first at.1) in
           not_less (length (live_beside c q.0)) (length (live_beside c place)) c.count full same few
       | inr stands ↦
           let of_slot : c.order ≤ order = leb-true c.order order (and_parts _ _ (and_parts _ _ stands).0).0 in
@@ -211,16 +213,16 @@ something_left order h c i g unused = go (has_room order h c.order) refl (list_a
     beside : (p : ℕ) → IsIn p c.live → is_slab_full c p ≡ false → (place : ℕ) × (can_be_taken order h c place ≡ true)
     beside p j e =
         let f : ℕ = (slab_around c p).first in
-        let few : length (live_in c f) ≤ c.count = (g.grids f).few in
-        let other : length (live_in c f) ≡ c.count → ⊥ = λ same. false≢true (sym e ∙ eq-eqb (length (live_in c f)) c.count same) in
-        let here : IsIn p (live_in c f) = in_filter (λ q. eqb (slab_around c q).first f) p c.live j (eq-eqb f f refl) in
-        free_place order h c g f (aligned_first (p / 4096 / 2 ^ c.order) c.order) (omega (arith, few, other)) (or_left _ _ (listed_some p (live_in c f) here))
+        let few : length (live_of_slab c f) ≤ c.count = (g.grids f).few in
+        let other : length (live_of_slab c f) ≡ c.count → ⊥ = λ same. false≢true (sym e ∙ eq-eqb (length (live_of_slab c f)) c.count same) in
+        let here : IsIn p (live_of_slab c f) = in_filter (λ q. eqb (slab_around c q).first f) p c.live j (eq-eqb f f refl) in
+        free_place order h c g f (aligned_first (p / 4096 / 2 ^ c.order) c.order) (omega (arith, few, other)) (or_left _ _ (listed_some p (live_of_slab c f) here))
 
     vacant : has_room order h c.order ≡ true → (place : ℕ) × (can_be_taken order h c place ≡ true)
     vacant room =
         let f : (f : ℕ) × (can_stand order h (block f c.order) ≡ true) = vacant_stands order c.order g.fitted.of_slot h room in
         let stands = can_stand_is order h (block f.0 c.order) f.1 in
-        let none : length (live_in c f.0) ≡ 0 = empty_slab order h c i f.0 stands.vacant in
+        let none : length (live_of_slab c f.0) ≡ 0 = empty_slab order h c i f.0 stands.vacant in
         free_place order h c g f.0 stands.aligned.1 (omega (arith, none, g.fitted.some)) (or_right _ _ f.1)
 
     go : (r : Bool) → has_room order h c.order ≡ r → (a : Bool) → list_all (is_slab_full c) c.live ≡ a → (a && not r) ≡ false → (place : ℕ) × (can_be_taken order h c place ≡ true)

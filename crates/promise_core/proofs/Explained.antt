@@ -5,7 +5,8 @@ use Rattle.std.specs.List.{list_any}
 use Rattle.std.specs.Option.{option_map_or}
 use Rattle.std.proofs.lemmas.Bool.{eq-eqb, eqb-true, or_left, or_right, or_cases, and_parts}
 use Rattle.model_core.specs.Layouts.{pattern_byte}
-use Rattle.model_core.proofs.Lists.{IsIn, find_in}
+use Rattle.model_core.specs.Elements.{IsIn}
+use Rattle.model_core.proofs.Lists.{find_in}
 use Rattle.promise_core.specs.Holdings.{ToldCache, Holdings, cache_told}
 use Rattle.promise_core.specs.Bytes.{Holder, Cell, Cells, is_same, told_fresh_byte, may_be, may_all_be}
 use Rattle.promise_core.specs.State.{State}

@@ -11,8 +11,10 @@ use Rattle.model_core.specs.Choice.{is_any_below}
 use Rattle.model_core.specs.Layouts.{is_alignment}
 use Rattle.model_core.specs.Machine.{put_rising}
 use Rattle.model_core.proofs.Layouts.{for_alignment}
-use Rattle.model_core.proofs.Lists.{IsIn, filter_in, in_filter, some_any, any_in}
+use Rattle.model_core.specs.Elements.{IsIn}
+use Rattle.model_core.proofs.Lists.{filter_in, in_filter, some_any, any_in}
 use Rattle.model_core.proofs.BlocksByNumber.{number_is, first_is, number_of_frame, any_below_tells, any_below_is}
+use Rattle.promise_core.specs.Lying.{IsFitted, live_of_slab, OnGrid, HasGrid, IsGridded}
 use Rattle.promise_core.specs.Holdings.{ToldCache, Holdings, slab_around, can_stand, are_apart, is_grid, can_be_taken}
 use Rattle.promise_core.proofs.Confined.{in_put}
 
@@ -98,36 +100,6 @@ frame_aligned = for_alignment (λ a. (f : ℕ) → 4096 * f % a ≡ 0) (λ f. om
 from_rest : (p origin n r : ℕ) → origin ≤ p → r ≡ 0 → n + r ≡ p - origin → p ≡ origin + n
 from_rest p origin n r low none split = omega (arith, low, none, split)
 
--- What a cache told, and where its live objects lie
-
-pub record IsFitted (order : ℕ) (c : ToldCache) : Type 0 where
-  pub of_slot : c.order ≤ order
-  pub sized : 1 ≤ c.size
-  pub chunked : c.size ≤ c.chunk
-  pub some : 1 ≤ c.count
-  pub room : c.count * c.chunk ≤ 4096 * 2 ^ c.order
-  pub steps : c.chunk % c.align ≡ 0
-  pub aligned : is_alignment c.align ≡ true
-
--- the live objects in the slab that begins at frame f
-abbrev pub live_in : ToldCache → ℕ → List ℕ
-live_in c f = filter (λ p. (slab_around c p).first == f) c.live
-
-abbrev OnGrid : ToldCache → ℕ → ℕ → Type 0
-OnGrid c origin p = (j : ℕ) × (j < c.count) × (p ≡ origin + j * c.chunk)
-
-pub record HasGrid (c : ToldCache) (f : ℕ) : Type 0 where
-  pub origin : ℕ
-  pub aligned : origin % c.align ≡ 0
-  pub low : 4096 * f ≤ origin
-  pub high : origin + (c.count - 1) * c.chunk + c.size ≤ 4096 * (f + 2 ^ c.order)
-  pub on : (p : ℕ) → IsIn p c.live → (slab_around c p).first ≡ f → OnGrid c origin p
-  pub few : length (live_in c f) ≤ c.count
-
-pub record IsGridded (order : ℕ) (c : ToldCache) : Type 0 where
-  pub fitted : IsFitted order c
-  pub grids : (f : ℕ) → HasGrid c f
-
 -- a new cache: its slabs can begin with an object
 pub new_gridded : (order : ℕ) (c : ToldCache) → c.live ≡ [] → IsFitted order c → IsGridded order c
 new_gridded order c empty fit = record { fitted = fit; grids = grids }
@@ -141,7 +113,7 @@ new_gridded order c empty fit = record { fitted = fit; grids = grids }
           low = omega arith;
           high = omega (arith, row, fit.chunked, fit.room);
           on = λ p i e. elim (subst (IsIn p) empty i) [ ];
-          few = let none : length (live_in c f) ≡ 0 = ap (λ ps. length (filter (λ p. (slab_around c p).first == f) ps)) empty in omega (arith, none);
+          few = let none : length (live_of_slab c f) ≡ 0 = ap (λ ps. length (filter (λ p. (slab_around c p).first == f) ps)) empty in omega (arith, none);
         }
 
 fitted_with : (order : ℕ) (c : ToldCache) (live : List ℕ) → IsFitted order c → IsFitted order (record c { live = live })
@@ -172,22 +144,22 @@ module _ (order : ℕ) (h : Holdings) (c : ToldCache) (place : ℕ) (g : IsGridd
 
   record IsTakable : Type 0 where
     aligned : place % c.align ≡ 0
-    few : length (live_in c slab.first) < c.count
+    few : length (live_of_slab c slab.first) < c.count
     index : ℕ
     below : index < c.count
     least : index * c.chunk ≤ place
-    grid : is_grid c slab (place - index * c.chunk) (live_in c slab.first) ≡ true
+    grid : is_grid c slab (place - index * c.chunk) (live_of_slab c slab.first) ≡ true
 
   takable : IsTakable
   unfolding can_be_taken
   takable =
       let p = and_parts _ _ can in
       let q = and_parts _ _ p.1 in
-      let i = any_below_tells (λ i. nat_le (i * c.chunk) place && is_grid c slab (place - i * c.chunk) (live_in c slab.first)) c.count (and_parts _ _ q.1).1 in
+      let i = any_below_tells (λ i. nat_le (i * c.chunk) place && is_grid c slab (place - i * c.chunk) (live_of_slab c slab.first)) c.count (and_parts _ _ q.1).1 in
       let r = and_parts _ _ i.2 in
       record {
         aligned = eqb-true (place % c.align) 0 (and_parts _ _ p.0).0;
-        few = ltb-true (length (live_in c slab.first)) c.count q.0;
+        few = ltb-true (length (live_of_slab c slab.first)) c.count q.0;
         index = i.0;
         below = i.1;
         least = leb-true (i.0 * c.chunk) place r.0;
@@ -202,7 +174,7 @@ module _ (order : ℕ) (h : Holdings) (c : ToldCache) (place : ℕ) (g : IsGridd
 
   old_on : (p : ℕ) → IsIn p c.live → (slab_around c p).first ≡ slab.first → OnGrid c origin p
   old_on p i e =
-      let on : (nat_le origin p && ((p - origin) % c.chunk == 0 && nat_lt ((p - origin) / c.chunk) c.count)) ≡ true = all_in (λ p. nat_le origin p && ((p - origin) % c.chunk == 0 && nat_lt ((p - origin) / c.chunk) c.count)) p (live_in c slab.first)
+      let on : (nat_le origin p && ((p - origin) % c.chunk == 0 && nat_lt ((p - origin) / c.chunk) c.count)) ≡ true = all_in (λ p. nat_le origin p && ((p - origin) % c.chunk == 0 && nat_lt ((p - origin) / c.chunk) c.count)) p (live_of_slab c slab.first)
       (and_parts _ _ takable.grid).1 (in_filter (λ p. (slab_around c p).first == slab.first) p c.live i (eq-eqb (slab_around c p).first slab.first e)) in
       let low : origin ≤ p = leb-true origin p (and_parts (nat_le origin p) _ on).0 in
       let rest : (((p - origin) % c.chunk == 0) ≡ true) × (nat_lt ((p - origin) / c.chunk) c.count ≡ true) = and_parts _ _ (and_parts (nat_le origin p) _ on).1 in
@@ -225,8 +197,8 @@ module _ (order : ℕ) (h : Holdings) (c : ToldCache) (place : ℕ) (g : IsGridd
         few =
             let put : length (filter (λ p. (slab_around c p).first == slab.first) (put_rising (λ p. p) place c.live))
             ≡ length (filter (λ p. (slab_around c p).first == slab.first) (place ∷ c.live)) = put_passes (λ p. (slab_around c p).first == slab.first) place c.live in
-            let one : length (filter (λ p. (slab_around c p).first == slab.first) (place ∷ c.live)) ≡ suc (length (live_in c slab.first)) =
-            ap (λ b. length (if b then place ∷ live_in c slab.first else live_in c slab.first)) (eq-eqb slab.first slab.first refl) in
+            let one : length (filter (λ p. (slab_around c p).first == slab.first) (place ∷ c.live)) ≡ suc (length (live_of_slab c slab.first)) =
+            ap (λ b. length (if b then place ∷ live_of_slab c slab.first else live_of_slab c slab.first)) (eq-eqb slab.first slab.first refl) in
             omega (arith, put, one, takable.few);
       }
 
@@ -245,8 +217,8 @@ module _ (order : ℕ) (h : Holdings) (c : ToldCache) (place : ℕ) (g : IsGridd
         few =
             let put : length (filter (λ p. (slab_around c p).first == f) (put_rising (λ p. p) place c.live))
             ≡ length (filter (λ p. (slab_around c p).first == f) (place ∷ c.live)) = put_passes (λ p. (slab_around c p).first == f) place c.live in
-            let none : length (filter (λ p. (slab_around c p).first == f) (place ∷ c.live)) ≡ length (live_in c f) =
-            ap (λ b. length (if b then place ∷ live_in c f else live_in c f)) (ne_eqb slab.first f other) in
+            let none : length (filter (λ p. (slab_around c p).first == f) (place ∷ c.live)) ≡ length (live_of_slab c f) =
+            ap (λ b. length (if b then place ∷ live_of_slab c f else live_of_slab c f)) (ne_eqb slab.first f other) in
             omega (arith, put, none, old.few);
       }
 
@@ -265,20 +237,20 @@ around_is b x aligned has = ap (λ f. block f b.order)
 
 -- the test of `can_be_taken`, of this slab
 abbrev is_takable : ℕ → Holdings → ToldCache → ℕ → Block → Bool
-is_takable order h c place b = (place % c.align == 0 && (nat_lt 0 (length (live_in c b.first)) || can_stand order h b))
-    && (nat_lt (length (live_in c b.first)) c.count && (list_all (are_apart c place) (live_in c b.first)
-    && is_any_below (λ i. nat_le (i * c.chunk) place && is_grid c b (place - i * c.chunk) (live_in c b.first)) c.count))
+is_takable order h c place b = (place % c.align == 0 && (nat_lt 0 (length (live_of_slab c b.first)) || can_stand order h b))
+    && (nat_lt (length (live_of_slab c b.first)) c.count && (list_all (are_apart c place) (live_of_slab c b.first)
+    && is_any_below (λ i. nat_le (i * c.chunk) place && is_grid c b (place - i * c.chunk) (live_of_slab c b.first)) c.count))
 
 module _ (order : ℕ) (h : Holdings) (c : ToldCache) (g : IsGridded order c) (f : ℕ) (begins : f % 2 ^ c.order ≡ 0)
-    (free : length (live_in c f) < c.count) (stands : (nat_lt 0 (length (live_in c f)) || can_stand order h (block f c.order)) ≡ true) where
+    (free : length (live_of_slab c f) < c.count) (stands : (nat_lt 0 (length (live_of_slab c f)) || can_stand order h (block f c.order)) ≡ true) where
   abbrev grid : HasGrid c f
   grid = g.grids f
 
   further : (i j : ℕ) → i < j → grid.origin + i * c.chunk + c.size ≤ grid.origin + j * c.chunk
   further i j lt = let row : i * c.chunk + c.chunk ≤ j * c.chunk = row_fits i c.chunk j c.chunk lt (omega arith) in omega (arith, row, g.fitted.chunked)
 
-  spot : (j : ℕ) × (j < c.count) × (list_any (λ p. p == grid.origin + j * c.chunk) (live_in c f) ≡ false)
-  spot = free_one (λ j. grid.origin + j * c.chunk) (λ i j lt e. let more = further i j lt in omega (arith, e, more, g.fitted.sized)) c.count (live_in c f) free
+  spot : (j : ℕ) × (j < c.count) × (list_any (λ p. p == grid.origin + j * c.chunk) (live_of_slab c f) ≡ false)
+  spot = free_one (λ j. grid.origin + j * c.chunk) (λ i j lt e. let more = further i j lt in omega (arith, e, more, g.fitted.sized)) c.count (live_of_slab c f) free
 
   abbrev place : ℕ
   place = grid.origin + spot.0 * c.chunk
@@ -293,22 +265,22 @@ module _ (order : ℕ) (h : Holdings) (c : ToldCache) (g : IsGridded order c) (f
   here : slab_around c place ≡ block f c.order
   here = around_is (block f c.order) (place / 4096) begins inside
 
-  on_grid : (p : ℕ) → IsIn p (live_in c f) → OnGrid c grid.origin p
+  on_grid : (p : ℕ) → IsIn p (live_of_slab c f) → OnGrid c grid.origin p
   on_grid p i = let at = filter_in (λ p. (slab_around c p).first == f) p c.live i in grid.on p at.0 (eqb-true (slab_around c p).first f at.1)
 
-  apart : (p : ℕ) → IsIn p (live_in c f) → are_apart c place p ≡ true
+  apart : (p : ℕ) → IsIn p (live_of_slab c f) → are_apart c place p ≡ true
   apart p i =
       let j = on_grid p i in
       elim (cases_lt j.0 spot.0) [
         | inl lt ↦ let more = further j.0 spot.0 lt in or_right (nat_le (place + c.size) p) (nat_le (p + c.size) place) (le-leb (p + c.size) place (omega (arith, more, j.2)))
         | inr le ↦ elim (cases_eq j.0 spot.0) [
-          | inl same ↦ absurd (false≢true (sym spot.2 ∙ any_in (λ p. p == place) p (live_in c f) i (eq-eqb p place (j.2 ∙ ap (λ n. grid.origin + n * c.chunk) same))))
+          | inl same ↦ absurd (false≢true (sym spot.2 ∙ any_in (λ p. p == place) p (live_of_slab c f) i (eq-eqb p place (j.2 ∙ ap (λ n. grid.origin + n * c.chunk) same))))
           | inr other ↦ let more = further spot.0 j.0 (omega (arith, le, other)) in
               or_left (nat_le (place + c.size) p) (nat_le (p + c.size) place) (le-leb (place + c.size) p (omega (arith, more, j.2)))
         ]
       ]
 
-  steps_on : (p : ℕ) → IsIn p (live_in c f) → (nat_le grid.origin p && ((p - grid.origin) % c.chunk == 0 && nat_lt ((p - grid.origin) / c.chunk) c.count)) ≡ true
+  steps_on : (p : ℕ) → IsIn p (live_of_slab c f) → (nat_le grid.origin p && ((p - grid.origin) % c.chunk == 0 && nat_lt ((p - grid.origin) / c.chunk) c.count)) ≡ true
   steps_on p i =
       let j = on_grid p i in
       let rest : p - grid.origin ≡ j.0 * c.chunk = omega (arith, j.2) in
@@ -317,10 +289,10 @@ module _ (order : ℕ) (h : Holdings) (c : ToldCache) (g : IsGridded order c) (f
       (eq-eqb ((p - grid.origin) % c.chunk) 0 (ap (λ n. n % c.chunk) rest ∙ mul-mod_left j.0 c.chunk))
       (lt-ltb ((p - grid.origin) / c.chunk) c.count (subst (λ n. n < c.count) (sym (ap (λ n. n / c.chunk) rest ∙ mul-div_cancel j.0 some)) j.1)))
 
-  on_one : is_grid c (block f c.order) grid.origin (live_in c f) ≡ true
+  on_one : is_grid c (block f c.order) grid.origin (live_of_slab c f) ≡ true
   on_one = and_from _ _
       (and_from _ _ (le-leb (4096 * f) grid.origin grid.low) (le-leb (grid.origin + (c.count - 1) * c.chunk + c.size) (4096 * (f + 2 ^ c.order)) grid.high))
-      (all_from (λ p. nat_le grid.origin p && ((p - grid.origin) % c.chunk == 0 && nat_lt ((p - grid.origin) / c.chunk) c.count)) (live_in c f) steps_on)
+      (all_from (λ p. nat_le grid.origin p && ((p - grid.origin) % c.chunk == 0 && nat_lt ((p - grid.origin) / c.chunk) c.count)) (live_of_slab c f) steps_on)
 
   pub free_place : (p : ℕ) × (can_be_taken order h c p ≡ true)
   unfolding can_be_taken
@@ -328,8 +300,8 @@ module _ (order : ℕ) (h : Holdings) (c : ToldCache) (g : IsGridded order c) (f
     place,
     ap (is_takable order h c place) here
         ∙ and_from _ _ (and_from _ _ (eq-eqb (place % c.align) 0 (stepped c.align c.chunk grid.origin spot.0 g.fitted.steps ∙ grid.aligned)) stands)
-        (and_from _ _ (lt-ltb (length (live_in c f)) c.count free) (and_from _ _ (all_from (are_apart c place) (live_in c f) apart)
-        (any_below_is (λ i. nat_le (i * c.chunk) place && is_grid c (block f c.order) (place - i * c.chunk) (live_in c f)) c.count spot.0 spot.1
+        (and_from _ _ (lt-ltb (length (live_of_slab c f)) c.count free) (and_from _ _ (all_from (are_apart c place) (live_of_slab c f) apart)
+        (any_below_is (λ i. nat_le (i * c.chunk) place && is_grid c (block f c.order) (place - i * c.chunk) (live_of_slab c f)) c.count spot.0 spot.1
         (and_from _ _ (le-leb (spot.0 * c.chunk) place (omega arith))
-        (ap (λ n. is_grid c (block f c.order) n (live_in c f)) (omega arith) ∙ on_one))))),
+        (ap (λ n. is_grid c (block f c.order) n (live_of_slab c f)) (omega arith) ∙ on_one))))),
   )

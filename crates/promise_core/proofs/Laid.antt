@@ -10,7 +10,8 @@ use Rattle.model_core.specs.Blocks.{Block, block, HasFrame, IsAligned, slot_bloc
 use Rattle.model_core.specs.Layouts.{is_size, is_alignment}
 use Rattle.model_core.specs.Machine.{put_rising}
 use Rattle.model_core.specs.Operations.{overlaps}
-use Rattle.model_core.proofs.Lists.{IsIn, find_in, filter_in, in_filter, some_any, any_in, in_left, in_right, map_in, in_map}
+use Rattle.model_core.specs.Elements.{IsIn}
+use Rattle.model_core.proofs.Lists.{find_in, filter_in, in_filter, some_any, any_in, in_left, in_right, map_in, in_map}
 use Rattle.model_core.proofs.ObjectsApart.{contains_in}
 use Rattle.model_core.proofs.Apart.{overlap_from, has_first}
 use Rattle.words_core.specs.declared.event.Event.{Event}
@@ -24,12 +25,13 @@ use Rattle.words_core.specs.declared.reply.Reply.{Reply}
 use Rattle.world_core.specs.World.{Exchange}
 use Rattle.promise_core.specs.declared.promise.Promise.{Promise}
 use Rattle.promise_core.specs.Holdings.{ToldCache, Holdings, has_slot, cache_told, with_live_places, slab_around, told_blocks, is_vacant, can_stand, is_slot_busy, live_beside, can_be_taken}
+use Rattle.promise_core.specs.Lying.{Used, HaveOwnNumbers, IsLaid, IsFitted, IsGridded, AllGridded, live_of_slab}
 use Rattle.promise_core.specs.State.{State, Known, opening_state, opening, state_after}
 use Rattle.promise_core.specs.Promises.{first_due, due, refusals, blocks, objects, new_layout, named, allowed, all_allowed}
 use Rattle.promise_core.specs.Laws.{Uses, LiveApart}
 use Rattle.promise_core.proofs.Allowed.{ok_same, allowed_is}
 use Rattle.promise_core.proofs.Confined.{in_put, replicated, some_state, states_at}
-use Rattle.promise_core.proofs.Grids.{IsFitted, IsGridded, live_in, new_gridded, given_gridded, taken_gridded}
+use Rattle.promise_core.proofs.Grids.{new_gridded, given_gridded, taken_gridded}
 
 -- Lists
 
@@ -61,18 +63,6 @@ is_none_of None e = refl
 is_none_of (Some x) e = absurd (false≢true e)
 
 -- What has frames, and that it lies apart
-
-abbrev pub Used : Holdings → Option ℕ → Block → Type 0
-Used h None b = IsIn b h.pages
-Used h (Some n) b = (c : ToldCache) × (p : ℕ) × IsIn c h.caches × IsIn p c.live × (c.number ≡ n) × (b ≡ slab_around c p)
-
-abbrev pub HaveOwnNumbers : Holdings → Type 0
-HaveOwnNumbers h = (c d : ToldCache) → IsIn c h.caches → IsIn d h.caches → c.number ≡ d.number → c ≡ d
-
-pub record IsLaid (order : ℕ) (h : Holdings) : Type 0 where
-  pub placed : (by : Option ℕ) (b : Block) → Used h by b → IsAligned order b × (has_slot h (b.first / 2 ^ order) ≡ true)
-  pub apart : (by other : Option ℕ) (a b : Block) (x : ℕ) → Used h by a → Used h other b → HasFrame a x → HasFrame b x → (by ≡ other) × (a ≡ b)
-  pub numbers : HaveOwnNumbers h
 
 -- nothing more has frames, and what has them is in slots that are still held
 fewer : (order : ℕ) (h h' : Holdings) → IsLaid order h → ((by : Option ℕ) (b : Block) → Used h' by b → Used h by b)
@@ -128,10 +118,10 @@ can_stand_is order h b e = let p = and_parts _ _ e in let q = and_parts _ _ p.0 
     record { aligned = (leb-true b.order order q.0, eqb-true _ 0 q.1); held = r.0; vacant = r.1 }
 
 -- a vacant block has no live object of a cache of its order
-pub empty_slab : (order : ℕ) (h : Holdings) (c : ToldCache) → IsIn c h.caches → (f : ℕ) → is_vacant h (block f c.order) ≡ true → length (live_in c f) ≡ 0
-empty_slab order h c i f vacant = go (live_in c f) refl
+pub empty_slab : (order : ℕ) (h : Holdings) (c : ToldCache) → IsIn c h.caches → (f : ℕ) → is_vacant h (block f c.order) ≡ true → length (live_of_slab c f) ≡ 0
+empty_slab order h c i f vacant = go (live_of_slab c f) refl
   where
-    go : (ps : List ℕ) → live_in c f ≡ ps → length ps ≡ 0
+    go : (ps : List ℕ) → live_of_slab c f ≡ ps → length ps ≡ 0
     go [] is = refl
     go (p ∷ ps) is =
         let at : IsIn p c.live × (((slab_around c p).first == f) ≡ true) = filter_in (λ q. (slab_around c q).first == f) p c.live (subst (IsIn p) (sym is) (inl refl)) in
@@ -359,9 +349,6 @@ step w (On.Admin Do.Pool) (Say.Owners owners) s s' e f b o c l = subst (λ y. Is
 step w event body s s' e f b o c l = absurd (cc)
 
 -- The grids of each cache
-
-abbrev pub AllGridded : ℕ → Holdings → Type 0
-AllGridded order h = (c : ToldCache) → IsIn c h.caches → IsGridded order c
 
 pub nothing_gridded : (order : ℕ) → AllGridded order opening_state.has
 unfolding opening_state

@@ -1,5 +1,6 @@
 pub mod Names
 pub mod Holdings
+pub mod Lying
 pub mod Bytes
 pub mod State
 pub mod Promises

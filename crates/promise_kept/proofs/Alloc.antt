@@ -12,7 +12,8 @@ use Rattle.model_core.specs.Slabs.{by_need, choice_by_need}
 use Rattle.model_core.specs.Operations.{refuse, with_block, alloc_at, alloc_step}
 use Rattle.model_core.specs.WellFormed.{IsApart, IsWellFormed}
 use Rattle.model_core.specs.Laws.{Object, IsObject, place_of}
-use Rattle.model_core.proofs.Lists.{IsIn, each_in, PutIn, put_in, in_right, in_map}
+use Rattle.model_core.specs.Elements.{IsIn}
+use Rattle.model_core.proofs.Lists.{each_in, PutIn, put_in, in_right, in_map}
 use Rattle.model_core.proofs.Apart.{apart_place, apart_turned}
 use Rattle.model_core.proofs.MemoryKept.{any_put}
 use Rattle.model_core.proofs.Chosen.{chosen_apart}

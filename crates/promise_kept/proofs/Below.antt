@@ -11,7 +11,8 @@ use Rattle.model_core.specs.CacheOperations.{frames_of}
 use Rattle.model_core.specs.Numbered.{is_clear}
 use Rattle.model_core.specs.WellFormed.{IsApart, AreApart}
 use Rattle.model_core.proofs.Counting.{bit}
-use Rattle.model_core.proofs.Lists.{IsIn, each_in, in_filter, some_any}
+use Rattle.model_core.specs.Elements.{IsIn}
+use Rattle.model_core.proofs.Lists.{each_in, in_filter, some_any}
 
 -- Halves
 

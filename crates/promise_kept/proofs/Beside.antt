@@ -8,7 +8,8 @@ use Rattle.model_core.specs.Layouts.{object_place}
 use Rattle.model_core.specs.Machine.{Slab, Cache, Machine, layout, slab_block}
 use Rattle.model_core.specs.Slabs.{live_from, live_objects}
 use Rattle.model_core.specs.WellFormed.{RisesFrom, IsCache, IsWellFormed}
-use Rattle.model_core.proofs.Lists.{IsIn, each_in, filter_in, in_filter, filter_rises}
+use Rattle.model_core.specs.Elements.{IsIn}
+use Rattle.model_core.proofs.Lists.{each_in, filter_in, in_filter, filter_rises}
 use Rattle.model_core.proofs.Apart.{in_block-true}
 use Rattle.model_core.proofs.Laid.{Laid, laid, all_laid, laid_block, IsCutLaid, IsLaidOut, laid_out}
 use Rattle.model_core.proofs.CacheSteps.{in_all_laid}

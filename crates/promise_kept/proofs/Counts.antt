@@ -14,7 +14,8 @@ use Rattle.model_core.specs.Slabs.{without_empty, empty_blocks, reaped}
 use Rattle.model_core.specs.Operations.{overlaps}
 use Rattle.model_core.specs.CacheOperations.{frames_of}
 use Rattle.model_core.specs.WellFormed.{IsApart, AreApart, IsWellFormed}
-use Rattle.model_core.proofs.Lists.{IsIn, each_in, in_filter, some_any, any_in, any_map, any_none, each_from, filter_in, in_map, map_in}
+use Rattle.model_core.specs.Elements.{IsIn}
+use Rattle.model_core.proofs.Lists.{each_in, in_filter, some_any, any_in, any_map, any_none, each_from, filter_in, in_map, map_in}
 use Rattle.model_core.proofs.Apart.{in_block-from, apart_filter, one_side}
 use Rattle.model_core.proofs.Laid.{Laid, all_laid, laid_block, in_laid, Placed, IsLaidOut, laid_out, blocks_laid}
 use Rattle.model_core.proofs.MemoryKept.{frame_slot}

@@ -14,7 +14,8 @@ use Rattle.model_core.specs.Operations.{Step, refuse}
 use Rattle.model_core.specs.CacheOperations.{frames_of, destroy_of, destroy_step}
 use Rattle.model_core.specs.WellFormed.{in_slab, IsWellFormed}
 use Rattle.model_core.specs.Laws.{Object, IsObject, place_of}
-use Rattle.model_core.proofs.Lists.{IsIn, Found, found, find_in, filter_in, in_filter, any_in, any_map, any_split, some_any, each_map, each_true, in_map}
+use Rattle.model_core.specs.Elements.{IsIn}
+use Rattle.model_core.proofs.Lists.{Found, found, find_in, filter_in, in_filter, any_in, any_map, any_split, some_any, each_map, each_true, in_map}
 use Rattle.model_core.proofs.ObjectsApart.{contains_in}
 use Rattle.model_core.proofs.Laid.{Laid, laid, all_laid, laid_block, in_laid, in_slab_laid, laid_out}
 use Rattle.model_core.proofs.Split.{filter_laid, laid_of, slab_blocks_laid}

@@ -15,7 +15,8 @@ use Rattle.model_core.specs.Operations.{overlaps}
 use Rattle.model_core.specs.CacheOperations.{frames_of}
 use Rattle.model_core.specs.Reports.{frames_held, frames_taken, frames_free, free_count}
 use Rattle.model_core.specs.WellFormed.{RisesFrom, IsApart, AreApart, IsPlaced, IsWellFormed}
-use Rattle.model_core.proofs.Lists.{IsIn, each_in, each_from, each_map, some_any, any_in, any_none, in_filter, in_map, map_in}
+use Rattle.model_core.specs.Elements.{IsIn}
+use Rattle.model_core.proofs.Lists.{each_in, each_from, each_map, some_any, any_in, any_none, in_filter, in_map, map_in}
 use Rattle.model_core.proofs.BlocksByNumber.{number_first, number_of_frame, aligned_first, taken_tells, taken_is, available_tells}
 use Rattle.model_core.proofs.Halves.{clear_at}
 use Rattle.model_core.proofs.Counting.{count_same}

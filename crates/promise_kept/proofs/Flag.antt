@@ -10,7 +10,8 @@ use Rattle.model_core.specs.Slabs.{with_cache, with_slab, with_live}
 use Rattle.model_core.specs.WellFormed.{IsCache, IsWellFormed}
 use Rattle.model_core.specs.Laws.{Object, IsObject, place_of}
 use Rattle.model_core.proofs.Layouts.{layouts_fit}
-use Rattle.model_core.proofs.Lists.{IsIn, each_in}
+use Rattle.model_core.specs.Elements.{IsIn}
+use Rattle.model_core.proofs.Lists.{each_in}
 use Rattle.model_core.proofs.ObjectsApart.{contains_in, one_key, objects_apart}
 use Rattle.promise_core.specs.Holdings.{ToldCache}
 use Rattle.promise_kept.specs.Meets.{told_cache}

@@ -12,7 +12,8 @@ use Rattle.model_core.specs.Machine.{Slab, Cache, layout, slab_block}
 use Rattle.model_core.specs.Slabs.{is_empty, empty_blocks}
 use Rattle.model_core.specs.Reports.{row_of_cache}
 use Rattle.model_core.specs.CacheOperations.{frames_of}
-use Rattle.model_core.proofs.Lists.{IsIn, each_append, each_weaker, each_map, each_true, filter_in}
+use Rattle.model_core.specs.Elements.{IsIn}
+use Rattle.model_core.proofs.Lists.{each_append, each_weaker, each_map, each_true, filter_in}
 use Rattle.promise_core.specs.Holdings.{ToldCache}
 use Rattle.promise_kept.specs.Meets.{told_cache}
 

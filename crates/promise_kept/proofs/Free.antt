@@ -10,7 +10,8 @@ use Rattle.model_core.specs.Machine.{Machine, in_block, order_in}
 use Rattle.model_core.specs.Operations.{without_block, free_at, free_step}
 use Rattle.model_core.specs.WellFormed.{RisesFrom, IsWellFormed}
 use Rattle.model_core.specs.Laws.{place_of}
-use Rattle.model_core.proofs.Lists.{IsIn, in_filter, some_any, any_in}
+use Rattle.model_core.specs.Elements.{IsIn}
+use Rattle.model_core.proofs.Lists.{in_filter, some_any, any_in}
 use Rattle.model_core.proofs.ObjectsApart.{one_key}
 use Rattle.words_core.specs.declared.event.Event.TheVariants as On
 use Rattle.words_core.specs.declared.event.Command.TheVariants as Asked

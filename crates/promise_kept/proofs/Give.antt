@@ -10,7 +10,8 @@ use Rattle.model_core.specs.Slabs.{LiveObject, live_objects, cache_of, with_cach
 use Rattle.model_core.specs.CacheOperations.{give_object, give_of, give_step}
 use Rattle.model_core.specs.WellFormed.{RisesFrom, IsCache, IsWellFormed}
 use Rattle.model_core.specs.Laws.{Object, place_of}
-use Rattle.model_core.proofs.Lists.{IsIn, each_in, find_in, in_filter, filter_in, filter_rises, any_map, any_in}
+use Rattle.model_core.specs.Elements.{IsIn}
+use Rattle.model_core.proofs.Lists.{each_in, find_in, in_filter, filter_in, filter_rises, any_map, any_in}
 use Rattle.model_core.proofs.ObjectsApart.{contains_in, one_key}
 use Rattle.model_core.proofs.CacheSteps.{live_kept}
 use Rattle.model_core.proofs.SlabsLeave.{flagged_same}

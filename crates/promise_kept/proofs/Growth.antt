@@ -9,7 +9,8 @@ use Rattle.model_core.specs.Slabs.{live_in, new_slab, grown_cache, grown}
 use Rattle.model_core.specs.WellFormed.{IsApart, IsCache, IsWellFormed, in_slab}
 use Rattle.model_core.specs.Laws.{Object, IsObject, place_of}
 use Rattle.model_core.proofs.Layouts.{layouts_fit}
-use Rattle.model_core.proofs.Lists.{IsIn, each_in, each_right, each_unmap}
+use Rattle.model_core.specs.Elements.{IsIn}
+use Rattle.model_core.proofs.Lists.{each_in, each_right, each_unmap}
 use Rattle.model_core.proofs.Apart.{apart_place, apart_turned}
 use Rattle.model_core.proofs.Laid.{Laid, laid, all_laid, laid_block, in_laid, taken_laid, in_slab_laid}
 use Rattle.model_core.proofs.MemoryKept.{any_put}

@@ -13,7 +13,8 @@ use Rattle.model_core.specs.Operations.{overlaps}
 use Rattle.model_core.specs.Slabs.{live_objects}
 use Rattle.model_core.specs.WellFormed.{IsApart, IsCut, IsCache, IsWellFormed}
 use Rattle.model_core.proofs.Layouts.{for_alignment, layouts_fit}
-use Rattle.model_core.proofs.Lists.{IsIn, each_in, each_from, any_none, in_map, map_in}
+use Rattle.model_core.specs.Elements.{IsIn}
+use Rattle.model_core.proofs.Lists.{each_in, each_from, any_none, in_map, map_in}
 use Rattle.model_core.proofs.Apart.{apart_turned, one_holder}
 use Rattle.model_core.proofs.BlocksByNumber.{any_below_is}
 use Rattle.model_core.proofs.Laid.{laid, all_laid, laid_block, Placed, IsLaidOut, laid_out}

@@ -5,7 +5,8 @@ use Rattle.std.specs.List.{list_any}
 use Rattle.std.proofs.lemmas.Bool.{and_parts, and_from, eqb-true, eq-eqb}
 use Rattle.model_core.specs.Machine.{Cache, Machine}
 use Rattle.model_core.specs.Slabs.{live_objects}
-use Rattle.model_core.proofs.Lists.{IsIn, some_any, any_in, in_map, map_in}
+use Rattle.model_core.specs.Elements.{IsIn}
+use Rattle.model_core.proofs.Lists.{some_any, any_in, in_map, map_in}
 use Rattle.promise_core.specs.Holdings.{ToldCache, Holdings}
 use Rattle.promise_core.specs.Bytes.{Holder}
 use Rattle.promise_core.specs.State.{State}

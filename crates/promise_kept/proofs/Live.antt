@@ -9,7 +9,8 @@ use Rattle.model_core.specs.Machine.{Slab, Cache, Machine, layout, slab_block, s
 use Rattle.model_core.specs.Slabs.{LiveObject, live_from, live_in, live_objects}
 use Rattle.model_core.specs.WellFormed.{RisesFrom, IsApart, AreApart, IsCut, IsCache, IsWellFormed}
 use Rattle.model_core.proofs.Layouts.{layouts_fit}
-use Rattle.model_core.proofs.Lists.{IsIn, each_in, each_true, each_both, each_weaker, each_unmap, some_any, any_in, map_append, rises_more, rises_above, in_left, in_right, map_in}
+use Rattle.model_core.specs.Elements.{IsIn}
+use Rattle.model_core.proofs.Lists.{each_in, each_true, each_both, each_weaker, each_unmap, some_any, any_in, map_append, rises_more, rises_above, in_left, in_right, map_in}
 use Rattle.model_core.proofs.Rising.{has, same_rising}
 use Rattle.model_core.proofs.Apart.{apart_parts, has_first}
 use Rattle.model_core.proofs.Objects.{IsLive, live_is}

@@ -13,7 +13,8 @@ use Rattle.model_core.specs.Reach.{is_within, within_block}
 use Rattle.model_core.specs.Reports.{order_row, order_rows}
 use Rattle.model_core.specs.WellFormed.{IsWellFormed, in_slab}
 use Rattle.model_core.specs.Laws.{Object, IsObject, place_of}
-use Rattle.model_core.proofs.Lists.{IsIn, each_in, find_in, some_any, any_in, map_in}
+use Rattle.model_core.specs.Elements.{IsIn}
+use Rattle.model_core.proofs.Lists.{each_in, find_in, some_any, any_in, map_in}
 use Rattle.model_core.proofs.Apart.{in_block-from}
 use Rattle.model_core.proofs.Laid.{laid, all_laid, in_laid, IsCutLaid, laid_out, in_slab_laid}
 use Rattle.model_core.proofs.CacheSteps.{in_all_laid}

@@ -12,7 +12,7 @@ use Rattle.model_core.specs.Reach.{in_reach}
 use Rattle.model_core.specs.Operations.{Step, refuse, read_step}
 use Rattle.model_core.specs.WellFormed.{IsWellFormed, RisesFrom}
 use Rattle.model_core.specs.Laws.{place_of}
-use Rattle.model_core.proofs.Lists.{IsIn}
+use Rattle.model_core.specs.Elements.{IsIn}
 use Rattle.model_core.proofs.Apart.{in_block-from}
 use Rattle.model_core.proofs.Laid.{laid_out, in_slab_laid}
 use Rattle.model_core.proofs.Objects.{IsPageByte, page_apart, reached, reached_mapped}

@@ -10,7 +10,8 @@ use Rattle.model_core.specs.Slabs.{LiveObject, live_objects, live_in, is_empty, 
 use Rattle.model_core.specs.CacheOperations.{frames_of, reap_step}
 use Rattle.model_core.specs.WellFormed.{IsCache, IsWellFormed}
 use Rattle.model_core.specs.Laws.{Object, place_of}
-use Rattle.model_core.proofs.Lists.{IsIn, each_in, filter_in, any_in, in_map, map_in}
+use Rattle.model_core.specs.Elements.{IsIn}
+use Rattle.model_core.proofs.Lists.{each_in, filter_in, any_in, in_map, map_in}
 use Rattle.model_core.proofs.ObjectsApart.{contains_in, one_key}
 use Rattle.model_core.proofs.Layouts.{layouts_fit}
 use Rattle.words_core.specs.declared.event.Command.TheVariants as Asked

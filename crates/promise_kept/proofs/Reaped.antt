@@ -8,7 +8,8 @@ use Rattle.model_core.specs.Machine.{Slab, Cache, Machine, layout, in_block}
 use Rattle.model_core.specs.Slabs.{is_empty, without_empty, empty_blocks, reaped, by_need}
 use Rattle.model_core.specs.WellFormed.{IsWellFormed, in_slab}
 use Rattle.model_core.specs.Laws.{Object, IsObject, place_of}
-use Rattle.model_core.proofs.Lists.{IsIn, each_in, filter_in, some_any, any_split, any_map, map_in}
+use Rattle.model_core.specs.Elements.{IsIn}
+use Rattle.model_core.proofs.Lists.{each_in, filter_in, some_any, any_split, any_map, map_in}
 use Rattle.model_core.proofs.Laid.{Laid, laid, all_laid, laid_block, in_laid, IsCutLaid, IsLaidOut, laid_out, in_slab_laid}
 use Rattle.model_core.proofs.CacheSteps.{in_all_laid}
 use Rattle.model_core.proofs.Objects.{byte_is_of, IsPageByte, page_apart}

@@ -16,7 +16,8 @@ use Rattle.model_core.specs.Reports.{frames_held, frames_taken, frames_free, fre
 use Rattle.model_core.specs.Reports as reports
 use Rattle.model_core.specs.WellFormed.{IsPlaced, IsWellFormed}
 use Rattle.model_core.proofs.Counting.{bit}
-use Rattle.model_core.proofs.Lists.{IsIn, each_in, map_append}
+use Rattle.model_core.specs.Elements.{IsIn}
+use Rattle.model_core.proofs.Lists.{each_in, map_append}
 use Rattle.words_core.specs.declared.event.Event.TheVariants as On
 use Rattle.words_core.specs.declared.event.Command.TheVariants as Asked
 use Rattle.words_core.specs.declared.report.Report.{Report}

@@ -15,7 +15,8 @@ use Rattle.model_core.specs.Reports.{row_of_cache, rows_of_caches}
 use Rattle.model_core.specs.Reports as reports
 use Rattle.model_core.specs.WellFormed.{RisesFrom, IsWellFormed}
 use Rattle.model_core.proofs.Counting.{bit}
-use Rattle.model_core.proofs.Lists.{IsIn, map_append}
+use Rattle.model_core.specs.Elements.{IsIn}
+use Rattle.model_core.proofs.Lists.{map_append}
 use Rattle.promise_core.specs.Holdings.{ToldCache, live_beside}
 use Rattle.promise_core.specs.Holdings as told
 use Rattle.promise_core.specs.Promises.{count_slabs, is_row, told_count}

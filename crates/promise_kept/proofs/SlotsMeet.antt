@@ -11,7 +11,8 @@ use Rattle.model_core.specs.Operations.{next_slot, after_grant, after_take_back,
 use Rattle.model_core.specs.Operations as operations
 use Rattle.model_core.specs.WellFormed.{IsWellFormed, in_slab}
 use Rattle.model_core.specs.Laws.{Object, IsObject, place_of}
-use Rattle.model_core.proofs.Lists.{IsIn, each_in, each_from, some_any, any_in, any_none, none_any, PutIn, put_in, in_left, in_map, map_in}
+use Rattle.model_core.specs.Elements.{IsIn}
+use Rattle.model_core.proofs.Lists.{each_in, each_from, some_any, any_in, any_none, none_any, PutIn, put_in, in_left, in_map, map_in}
 use Rattle.model_core.proofs.MemoryKept.{any_put, place_held}
 use Rattle.model_core.proofs.Laid.{laid, all_laid, laid_block, IsLaidOut, laid_out, Placed}
 use Rattle.model_core.proofs.CacheSteps.{in_all_laid}

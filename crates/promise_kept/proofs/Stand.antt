@@ -13,7 +13,8 @@ use Rattle.model_core.specs.Machine as model
 use Rattle.model_core.specs.Slabs.{LiveObject, live_from, live_in, live_objects, is_empty, without_empty, reaped, by_need, choice_by_need}
 use Rattle.model_core.specs.Operations.{overlaps}
 use Rattle.model_core.specs.WellFormed.{IsApart, IsWellFormed}
-use Rattle.model_core.proofs.Lists.{IsIn, each_in, each_from, filter_in, any_none, none_any, any_in, in_left, in_right, in_map, map_in}
+use Rattle.model_core.specs.Elements.{IsIn}
+use Rattle.model_core.proofs.Lists.{each_in, each_from, filter_in, any_none, none_any, any_in, in_left, in_right, in_map, map_in}
 use Rattle.model_core.proofs.BlocksByNumber.{aligned_first}
 use Rattle.model_core.proofs.Apart.{in_block-true, overlap_from}
 use Rattle.model_core.proofs.Laid.{Laid, laid, all_laid, laid_block, IsCutLaid, IsLaidOut, laid_out}

@@ -9,7 +9,8 @@ use Rattle.model_core.specs.Machine.{Slab, Cache, Machine, in_block, layout, sla
 use Rattle.model_core.specs.Slabs.{cache_of, with_cache, with_slab, with_live}
 use Rattle.model_core.specs.WellFormed.{IsWellFormed, in_slab}
 use Rattle.model_core.specs.Laws.{Object, IsObject, place_of}
-use Rattle.model_core.proofs.Lists.{IsIn, each_in, find_in, none_any as none_of, any_in}
+use Rattle.model_core.specs.Elements.{IsIn}
+use Rattle.model_core.proofs.Lists.{each_in, find_in, none_any as none_of, any_in}
 use Rattle.model_core.proofs.Apart.{in_block-true, one_holder}
 use Rattle.model_core.proofs.Laid.{laid, all_laid, laid_layout, laid_block, in_laid, laid_out, in_slab_laid}
 use Rattle.model_core.proofs.CacheSteps.{in_all_laid}

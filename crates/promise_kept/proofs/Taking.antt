@@ -11,7 +11,8 @@ use Rattle.model_core.specs.Slabs.{live_objects, is_full, is_partial, is_empty, 
 use Rattle.model_core.specs.CacheOperations.{hand_out, take_new, take_from, take_of, take_step}
 use Rattle.model_core.specs.WellFormed.{IsCache, IsWellFormed}
 use Rattle.model_core.proofs.Layouts.{layouts_fit}
-use Rattle.model_core.proofs.Lists.{IsIn, each_in, find_in, none_any as none_of}
+use Rattle.model_core.specs.Elements.{IsIn}
+use Rattle.model_core.proofs.Lists.{each_in, find_in, none_any as none_of}
 use Rattle.model_core.proofs.ByNeed.{by_need_none}
 use Rattle.model_core.proofs.PageSteps.{by_need_kept}
 use Rattle.model_core.proofs.CacheSteps.{used_in, stands_by_need, IsGrown, grown_is, grown_kept}

@@ -7,7 +7,8 @@ use Rattle.klist_core.specs.Lists.{list_of, keys_of}
 use Rattle.klist_core.proofs.Listing.{in_list}
 use Rattle.model_core.specs.Machine.{Slab, Cache, Machine}
 use Rattle.model_core.specs.Slabs.{is_full, is_partial, cache_of, slab_of, live_objects}
-use Rattle.model_core.proofs.Lists.{IsIn, filter_in}
+use Rattle.model_core.specs.Elements.{IsIn}
+use Rattle.model_core.proofs.Lists.{filter_in}
 use Rattle.space_core.specs.Content as spaces
 use Rattle.buddy_core.specs.Content as buddies
 use Rattle.slab_tables.specs.declared.cache.Cache as own

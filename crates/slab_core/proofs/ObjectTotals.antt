@@ -6,7 +6,7 @@ use Rattle.std.proofs.lemmas.List.{length-append}
 use Rattle.klist_core.specs.Lists.{put_by_key, with_node, list_from}
 use Rattle.model_core.specs.Machine.{Slab, Cache}
 use Rattle.model_core.specs.Slabs.{is_full, is_partial, is_empty, live_from, live_in}
-use Rattle.model_core.proofs.Lists.{IsIn}
+use Rattle.model_core.specs.Elements.{IsIn}
 use Rattle.slab_tables.specs.declared.cache.Kept.{Kept}
 use Rattle.slab_tables.specs.Content.{kept_at, live_total}
 use Rattle.parts_laws.specs.Records.{count_true}

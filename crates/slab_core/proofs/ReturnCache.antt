@@ -12,7 +12,8 @@ use Rattle.model_core.specs.CacheOperations.{frames_of, destroy_of, destroy_step
 use Rattle.model_core.specs.WellFormed.{RisesFrom}
 use Rattle.model_core.specs.declared.limits.TheConstants.{MOST_CACHES}
 use Rattle.model_core.specs.declared.refusals.DestroyRefusal.TheVariants.{NoCache, CacheInUse}
-use Rattle.model_core.proofs.Lists.{IsIn, each_from, each_in, none_any, any_none, find_in, filter_rises}
+use Rattle.model_core.specs.Elements.{IsIn}
+use Rattle.model_core.proofs.Lists.{each_from, each_in, none_any, any_none, find_in, filter_rises}
 use Rattle.klist_core.specs.Places.{place_at, IsEmpty}
 use Rattle.space_core.specs.Content as spaces
 use Rattle.buddy_core.specs.Content as buddies

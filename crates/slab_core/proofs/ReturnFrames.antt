@@ -8,7 +8,7 @@ use Rattle.model_core.specs.Machine.{Slab, Cache, Machine, layout, slab_block}
 use Rattle.model_core.specs.Slabs.{cache_of, is_empty, empty_blocks}
 use Rattle.model_core.specs.CacheOperations.{frames_of}
 use Rattle.model_core.specs.WellFormed.{RisesFrom}
-use Rattle.model_core.proofs.Lists.{IsIn}
+use Rattle.model_core.specs.Elements.{IsIn}
 use Rattle.model_core.specs.Blocks.{Block}
 use Rattle.parts_laws.proofs.Lookups.{at, at_here, at_past, in_found}
 use Rattle.model_core.specs.declared.limits.TheConstants.{MOST_CACHES}

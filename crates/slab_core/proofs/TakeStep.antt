@@ -7,7 +7,8 @@ use Rattle.model_core.specs.Operations.{refuse}
 use Rattle.model_core.specs.CacheOperations.{hand_out, take_new, take_from, take_of, take_step}
 use Rattle.model_core.specs.declared.refusals.TakeRefusal.TheVariants.{NoCache, NoFrames}
 use Rattle.model_core.proofs.ByNeed.{by_need_none}
-use Rattle.model_core.proofs.Lists.{IsIn, put_in, in_right}
+use Rattle.model_core.specs.Elements.{IsIn}
+use Rattle.model_core.proofs.Lists.{put_in, in_right}
 use Rattle.space_core.specs.Content as spaces
 use Rattle.buddy_core.specs.Content as buddies
 use Rattle.slab_tables.specs.declared.cache.Cache as own

@@ -1,0 +1,54 @@
+-- What lies where among what a tenant has: live blocks and slabs share no frame, live objects lie on a grid of their slab. Every
+-- run of allowed replies keeps this.
+use Rattle.std.specs.Prelude.{◌≡◌, ℕ, ◌+◌, ◌-◌, ◌*◌, ◌/◌, ◌%◌, ◌^◌, ◌<◌, ◌≤◌, true, List, length, filter, Option, Some, None, ◌==◌}
+use Rattle.model_core.specs.Blocks.{Block, HasFrame, IsAligned}
+use Rattle.model_core.specs.Elements.{IsIn}
+use Rattle.model_core.specs.Layouts.{is_alignment}
+use Rattle.promise_core.specs.Holdings.{ToldCache, Holdings, has_slot, slab_around}
+
+-- the block is a live page block, or the slab of a live object of cache n
+abbrev pub Used : Holdings → Option ℕ → Block → Type 0
+Used h None b = IsIn b h.pages
+Used h (Some n) b = (c : ToldCache) × (p : ℕ) × IsIn c h.caches × IsIn p c.live × (c.number ≡ n) × (b ≡ slab_around c p)
+
+abbrev pub HaveOwnNumbers : Holdings → Type 0
+HaveOwnNumbers h = (c d : ToldCache) → IsIn c h.caches → IsIn d h.caches → c.number ≡ d.number → c ≡ d
+
+-- used blocks are aligned, lie in held slots, and share no frame unless they are one block of one user
+pub record IsLaid (order : ℕ) (h : Holdings) : Type 0 where
+  pub placed : (by : Option ℕ) (b : Block) → Used h by b → IsAligned order b × (has_slot h (b.first / 2 ^ order) ≡ true)
+  pub apart : (by other : Option ℕ) (a b : Block) (x : ℕ) → Used h by a → Used h other b → HasFrame a x → HasFrame b x → (by ≡ other) × (a ≡ b)
+  pub numbers : HaveOwnNumbers h
+
+-- a slab of the cache fits into a slot, and its objects fit into the slab
+pub record IsFitted (order : ℕ) (c : ToldCache) : Type 0 where
+  pub of_slot : c.order ≤ order
+  pub sized : 1 ≤ c.size
+  pub chunked : c.size ≤ c.chunk
+  pub some : 1 ≤ c.count
+  pub room : c.count * c.chunk ≤ 4096 * 2 ^ c.order
+  pub steps : c.chunk % c.align ≡ 0
+  pub aligned : is_alignment c.align ≡ true
+
+-- the live objects in the slab that begins at frame f
+abbrev pub live_of_slab : ToldCache → ℕ → List ℕ
+live_of_slab c f = filter (λ p. (slab_around c p).first == f) c.live
+
+abbrev pub OnGrid : ToldCache → ℕ → ℕ → Type 0
+OnGrid c origin p = (j : ℕ) × (j < c.count) × (p ≡ origin + j * c.chunk)
+
+-- the live objects of the slab at frame f lie one chunk apart, counted from an aligned origin, inside the slab
+pub record HasGrid (c : ToldCache) (f : ℕ) : Type 0 where
+  pub origin : ℕ
+  pub aligned : origin % c.align ≡ 0
+  pub low : 4096 * f ≤ origin
+  pub high : origin + (c.count - 1) * c.chunk + c.size ≤ 4096 * (f + 2 ^ c.order)
+  pub on : (p : ℕ) → IsIn p c.live → (slab_around c p).first ≡ f → OnGrid c origin p
+  pub few : length (live_of_slab c f) ≤ c.count
+
+pub record IsGridded (order : ℕ) (c : ToldCache) : Type 0 where
+  pub fitted : IsFitted order c
+  pub grids : (f : ℕ) → HasGrid c f
+
+abbrev pub AllGridded : ℕ → Holdings → Type 0
+AllGridded order h = (c : ToldCache) → IsIn c h.caches → IsGridded order c
