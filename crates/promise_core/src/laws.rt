@@ -8,8 +8,8 @@ pub fn live_apart()
     ensures { LiveApart }
 {}
 
-/// Each byte that a tenant is told is zero, or a byte of a pattern that it gave, or one that it wrote itself at that place
-/// since the slot was granted: by no reply that is allowed is it told another tenant's byte, nor its own of before.
+/// Each byte in an allowed reply to a read is zero, or a byte of some pattern that the tenant ever gave, or one that it wrote at
+/// that place since the slot was granted. The promise `Bytes` forbids more: see its definition.
 pub fn confined()
     ensures { Confined }
 {}

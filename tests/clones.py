@@ -1,0 +1,73 @@
+"""Fresh clones of the repository as it lies here, for tests that paste the pages or run scripts over other builds."""
+import os
+import shutil
+import subprocess
+
+TOP = os.path.dirname(os.path.dirname(os.path.abspath(__file__)))
+PROGRAMS = ["partmem", "framemap", "partcheck"]
+BUILT = [*(f"crates/{name}/out/{name}" for name in PROGRAMS), "crates/partmem_c/out/libpartmem_c.a"]
+# Stands in for `rt` over programs and a library that are there: what would be proved once more is taken as it is.
+RT = r"""#!/bin/sh
+real=REAL
+case $1 in
+    run) shift; [ "${1-}" != --jobs ] || shift 2; [ "${1-}" != -- ] || shift; exec "out/$(basename "$PWD")" "$@" ;;
+    lib) ;;
+    *) exec "$real" "$@" ;;
+esac
+"""
+# Stands in for ./prove in the same way; a build without proofs is then the proved one.
+PROVE = r"""#!/bin/sh
+cd "$(dirname "$0")"
+unproved=
+[ "${1-}" != --unproved ] || { unproved=yes; shift; mkdir -p out; }
+for name in "${@:-partmem}"; do
+    if [ "$name" = library ]; then
+        [ -z "$unproved" ] || cp crates/partmem_c/out/libpartmem_c.a out/libpartmem-unproved.a
+    elif [ -n "$unproved" ]; then
+        cp "crates/$name/out/$name" "out/$name-unproved"
+    else
+        "crates/$name/out/$name" --version
+    fi
+done
+"""
+
+
+def changed_files(folder):
+    """The files of a folder that git does not know, and those that are not as they were added."""
+    asked = ["git", "-C", folder, "ls-files", "-mo", "--exclude-standard"]
+    return subprocess.run(asked, stdout=subprocess.PIPE, text=True, check=True).stdout.splitlines()
+
+
+def put(path, folder):
+    """Copies a file of the repository into the folder; if it is gone, it goes there too."""
+    to = os.path.join(folder, path)
+    os.makedirs(os.path.dirname(to), exist_ok=True)
+    if os.path.exists(os.path.join(TOP, path)):
+        shutil.copy2(os.path.join(TOP, path), to)
+    elif os.path.exists(to):
+        os.remove(to)
+
+
+def fresh_clone(work):
+    """A clone with the changes that are not committed, and nothing built."""
+    folder = os.path.join(work, "partmem")
+    subprocess.run(["git", "clone", "-q", TOP, folder], check=True)
+    for path in changed_files(TOP):
+        put(path, folder)
+    subprocess.run(["git", "-C", folder, "add", "-A"], check=True)
+    return folder
+
+
+def write_script(path, text):
+    with open(path, "w", encoding="utf-8") as script:
+        script.write(text)
+    os.chmod(path, 0o755)
+
+
+def with_stand_ins(work, folder):
+    """Has `./prove` and `rt` take what is built in the folder as it is. Returns the environment for that."""
+    write_script(os.path.join(folder, "prove"), PROVE)
+    subprocess.run(["git", "-C", folder, "add", "prove"], check=True)
+    os.mkdir(os.path.join(work, "bin"))
+    write_script(os.path.join(work, "bin/rt"), RT.replace("REAL", shutil.which("rt") or "rt"))
+    return {**os.environ, "PATH": os.path.join(work, "bin") + ":" + os.environ["PATH"]}
