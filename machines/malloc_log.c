@@ -1,21 +1,29 @@
-/* Logs what a program asks of malloc and free, for from-malloc. It is loaded before the C library, which has to be glibc:
+/* Logs the calls of malloc and free that a program makes, for from-malloc. It is loaded before the C library, which has to be
+   glibc:
 
        cc -O2 -shared -fPIC -o malloc_log.so machines/malloc_log.c
-       MALLOC_LOG=sort.log LD_PRELOAD=./malloc_log.so sort FILE
+       MALLOC_LOG=sort.log LD_PRELOAD=$PWD/malloc_log.so sort FILE
 
-   Each process, and each program that it becomes by exec, has a log of its own: sort.log.PID, then sort.log.PID-2 and so on. Its
-   lines are "SECONDS malloc POINTER BYTES" and "SECONDS free POINTER"; a realloc is a free and a malloc. They are written through
-   a shared mapping of the file, so that none is lost however the process ends; behind the last one the file has zeroes. */
+   Each process, and each program that it becomes by exec, has its own log: sort.log.PID, then sort.log.PID-2 and so on. The name
+   is malloc.log if MALLOC_LOG is not set. A relative name is made absolute in the first process, for its children too. If the name
+   is empty, nothing is logged.
+
+   The lines are "SECONDS malloc POINTER BYTES" and "SECONDS free POINTER"; a realloc is a free and a malloc. They are written
+   through a shared mapping of the file, so none is lost however the process ends. The file ends in zeroes.
+
+   If a log cannot be written, the library says so on standard error, and the program runs on without a log. */
 #define _GNU_SOURCE
 #include <errno.h>
 #include <fcntl.h>
 #include <inttypes.h>
 #include <malloc.h>
 #include <pthread.h>
+#include <signal.h>
 #include <stdio.h>
 #include <stdlib.h>
 #include <string.h>
 #include <sys/mman.h>
+#include <sys/uio.h>
 #include <time.h>
 #include <unistd.h>
 
@@ -25,22 +33,17 @@ void *__libc_realloc(void *old, size_t bytes);
 void *__libc_memalign(size_t alignment, size_t bytes);
 void __libc_free(void *old);
 
+#define VARIABLE "MALLOC_LOG"
 enum { WINDOW_BYTES = 1 << 16, PAGE_BYTES = 1 << 12, PATH_BYTES = 4096 };
 
 /* A handler of fork that another library has registered may ask for memory while this is held, so it may be taken again. */
 static pthread_mutex_t lock = PTHREAD_RECURSIVE_MUTEX_INITIALIZER_NP;
-static char name[PATH_BYTES]; /* from the root on, since programs change folders; empty until main is near: nothing is logged */
+static char entry[sizeof VARIABLE "=" + PATH_BYTES] = VARIABLE "="; /* what the environment of children has */
+static char *const name = entry + sizeof VARIABLE;                  /* absolute; nothing is logged while it is empty */
 static char path[PATH_BYTES + 32];
-static char *window;          /* the part of the log that is written now, or none yet */
-static off_t window_start;    /* where it begins in the file */
+static char *window;       /* the part of the log that is written now, or NULL before the first line */
+static off_t window_start; /* its offset in the file */
 static size_t window_used;
-
-static _Noreturn void fail(void)
-{
-    static const char text[] = "malloc_log: the log could not be written\n";
-    (void)!write(STDERR_FILENO, text, sizeof text - 1);
-    _exit(127);
-}
 
 static int open_log(void)
 {
@@ -55,21 +58,78 @@ static int open_log(void)
     }
 }
 
-/* Room for one more line at least. The file is open only here: programs close files that they did not open. */
-static void next_window(void)
+/* Maps the next part of the file; returns 0, or the number of the error. */
+static int map_window(int file)
 {
-    int file = open_log();
+    int error = posix_fallocate(file, window_start, WINDOW_BYTES);
+    if (error)
+        return error;
+    void *mapped = mmap(NULL, WINDOW_BYTES, PROT_READ | PROT_WRITE, MAP_SHARED, file, window_start);
+    if (mapped == MAP_FAILED)
+        return errno;
+    window = mapped;
+    return 0;
+}
+
+/* Makes space for at least one more line, or returns the number of the error. The file is open only here: programs close files
+   that they did not open. */
+static int next_window(void)
+{
+    int file = open_log(), error = file < 0 ? errno : 0;
     if (window) {
         munmap(window, WINDOW_BYTES);
+        window = NULL;
         window_start += window_used / PAGE_BYTES * PAGE_BYTES;
         window_used %= PAGE_BYTES;
     }
-    if (file < 0 || posix_fallocate(file, window_start, WINDOW_BYTES) != 0)
-        fail();
-    window = mmap(NULL, WINDOW_BYTES, PROT_READ | PROT_WRITE, MAP_SHARED, file, window_start);
-    if (window == MAP_FAILED)
-        fail();
-    close(file);
+    if (!error)
+        error = map_window(file);
+    if (file >= 0)
+        close(file);
+    return error;
+}
+
+/* Blocks the signals that a file that may not grow and a standard error that nobody reads would send to the program. */
+static void hold_signals(sigset_t *held, sigset_t *before)
+{
+    sigemptyset(held);
+    sigaddset(held, SIGXFSZ);
+    sigaddset(held, SIGPIPE);
+    pthread_sigmask(SIG_BLOCK, held, before);
+}
+
+/* Drops those that came, and ends the block. */
+static void drop_signals(const sigset_t *held, const sigset_t *before)
+{
+    static const struct timespec at_once;
+    while (sigtimedwait(held, NULL, &at_once) > 0)
+        ;
+    pthread_sigmask(SIG_SETMASK, before, NULL);
+}
+
+/* Reports why there is no log, and logs nothing more, neither here nor in programs that this process starts. */
+static void give_up(const char *what, int error)
+{
+    const char *texts[] = {"malloc_log: cannot write ", what, ": ", strerrordesc_np(error), "; the program runs on without a log\n"};
+    struct iovec parts[5];
+    for (int i = 0; i < 5; i++)
+        parts[i] = (struct iovec){(char *)texts[i], strlen(texts[i])};
+    sigset_t held, before;
+    hold_signals(&held, &before);
+    (void)!writev(STDERR_FILENO, parts, 5);
+    drop_signals(&held, &before);
+    name[0] = 0;
+}
+
+/* Goes to the next window, or gives up. */
+static void begin_window(void)
+{
+    sigset_t held, before;
+    hold_signals(&held, &before);
+    int error = next_window();
+    drop_signals(&held, &before);
+    if (error)
+        give_up(path, error);
 }
 
 static void add_line(const char *what, const void *at, const size_t *bytes)
@@ -85,10 +145,12 @@ static void add_line(const char *what, const void *at, const size_t *bytes)
     if (bytes)
         length += snprintf(line + length, sizeof line - (size_t)length, " %zu", *bytes);
     line[length++] = '\n';
-    if (!window || window_used + (size_t)length > WINDOW_BYTES)
-        next_window();
-    memcpy(window + window_used, line, (size_t)length);
-    window_used += (size_t)length;
+    if (name[0] && (!window || window_used + (size_t)length > WINDOW_BYTES))
+        begin_window();
+    if (name[0]) {
+        memcpy(window + window_used, line, (size_t)length);
+        window_used += (size_t)length;
+    }
     pthread_mutex_unlock(&lock);
     errno = error;
 }
@@ -120,22 +182,56 @@ static void after_fork_in_child(void)
     lock = (pthread_mutex_t)PTHREAD_RECURSIVE_MUTEX_INITIALIZER_NP;
 }
 
-__attribute__((constructor)) static void begin(void)
+/* Makes the path from the name that was given, and tests its folder; returns 0, or the number of the error. */
+static int make_path(const char *given)
 {
-    pthread_atfork(before_fork, after_fork_in_parent, after_fork_in_child);
-    const char *given = getenv("MALLOC_LOG");
-    given = given && given[0] ? given : "malloc.log";
     size_t folder = 0;
     if (given[0] != '/') {
-        if (!getcwd(path, sizeof name))
-            fail();
+        if (!getcwd(path, PATH_BYTES))
+            return errno;
         folder = strlen(path);
         path[folder++] = '/';
     }
-    if (folder + strlen(given) >= sizeof name)
-        fail();
+    if (folder + strlen(given) >= PATH_BYTES)
+        return ENAMETOOLONG;
     strcpy(path + folder, given);
-    strcpy(name, path);
+    char *end = strrchr(path, '/') + 1, first = *end;
+    *end = 0;
+    int error = access(path, W_OK | X_OK) ? errno : 0;
+    *end = first;
+    return error;
+}
+
+/* Puts the entry into the environment. A shell may have a putenv of its own, which does not do that. */
+static void put_entry(void)
+{
+    size_t count = 0;
+    for (; environ && environ[count]; count++) {
+        if (strncmp(environ[count], entry, sizeof VARIABLE) == 0) {
+            environ[count] = entry;
+            return;
+        }
+    }
+    char **more = __libc_calloc(count + 2, sizeof *more);
+    if (!more)
+        return;
+    if (count)
+        memcpy(more, environ, count * sizeof *more);
+    more[count] = entry;
+    environ = more;
+}
+
+/* The name is written last, since nothing is logged before main is near. */
+__attribute__((constructor)) static void begin(void)
+{
+    pthread_atfork(before_fork, after_fork_in_parent, after_fork_in_child);
+    const char *found = getenv(VARIABLE), *given = found ? found : "malloc.log";
+    int error = given[0] ? make_path(given) : 0;
+    put_entry();
+    if (error)
+        give_up(given, error);
+    else if (given[0])
+        strcpy(name, path);
 }
 
 void *malloc(size_t bytes) { return log_malloc(__libc_malloc(bytes), bytes); }

@@ -1,23 +1,27 @@
-"""What from-kmem and from-malloc share: tenants that ask a running partmem for page blocks and objects, and write down each line
-that they ask. They know nothing of how memory is laid out: where a thing lies, and that there is no room, is what was answered.
+"""What from-kmem and from-malloc share: tenants that ask a running partmem for page blocks and objects, and write each line that
+they ask. They know nothing of how memory is laid out: partmem's reply says where a thing lies, or that no memory is left.
 """
 import argparse
 import collections
 import gzip
 import heapq
 import os
+import stat
 import subprocess
 import sys
+import zlib
 
 FRAME = 4096
 GREATEST_OBJECT = 4096
 CACHES = 32
+ORDERS, MOST_SUPERBLOCKS, MOST_TENANTS = range(3, 9), 256, 64
 AGAIN = 'given again without a free between: given back first'
 PROGRAM = os.path.join(os.path.dirname(os.path.abspath(__file__)), '../crates/partmem/out/partmem')
 
 
-def fail(text):
-    sys.exit(f'{os.path.basename(sys.argv[0])}: {text}')
+def fail(text, status=1):
+    print(f'{os.path.basename(sys.argv[0])}: {text}', file=sys.stderr)
+    sys.exit(status)
 
 
 def arguments(description):
@@ -27,18 +31,55 @@ def arguments(description):
     given.add_argument('--together', action='store_true', help='let all logs begin at the same time')
     given.add_argument('--partmem', default=PROGRAM, metavar='PROGRAM', help='what answers (the built partmem)')
     given.add_argument('logs', nargs='+', metavar='LOG', help='1 to 64 files, each a tenant, gzipped if the name ends in .gz')
-    return given.parse_args()
+    given = given.parse_args()
+    if given.order not in ORDERS:
+        fail(f'--order {given.order}: the order of a superblock is {ORDERS[0]} to {ORDERS[-1]}', 2)
+    if not 1 <= given.superblocks <= MOST_SUPERBLOCKS:
+        fail(f'--superblocks {given.superblocks}: a machine has 1 to {MOST_SUPERBLOCKS} superblocks', 2)
+    if len(given.logs) > MOST_TENANTS:
+        fail(f'{len(given.logs)} logs: each is a tenant, and a machine has at most {MOST_TENANTS}. Convert fewer of them', 2)
+    return given
+
+
+def plural(noun, count):
+    return noun if count == 1 else noun + 's'
+
+
+def reason(problem):
+    return getattr(problem, 'strerror', None) or str(problem)
 
 
 def lines_of(path):
-    """The lines of a log with their numbers. Bytes that are no UTF-8 are replaced: only names that nobody looks at have any."""
-    if not os.path.isfile(path):
-        fail(f'{path} could not be read: it is no file, which can be read twice')
+    """Yields the lines of a log with their numbers. Bytes that are not UTF-8 are replaced: only names that are not used have any."""
     try:
+        if not stat.S_ISREG(os.stat(path).st_mode):
+            fail(f'cannot read {path}: it is read twice, so it has to be a regular file')
         with (gzip.open if path.endswith('.gz') else open)(path, 'rt', encoding='utf-8', errors='replace') as file:
             yield from enumerate(file, 1)
-    except (OSError, EOFError) as problem:
-        fail(f'{path} could not be read: {problem}')
+    except (OSError, EOFError, zlib.error) as problem:
+        fail(f'cannot read {path}: {reason(problem)}')
+
+
+def write(line):
+    """Writes a line of the trace."""
+    try:
+        print(line)
+    except OSError as problem:
+        cannot_write(problem)
+
+
+def flush():
+    """Writes what is buffered of the trace."""
+    try:
+        sys.stdout.flush()
+    except OSError as problem:
+        cannot_write(problem)
+
+
+def cannot_write(problem):
+    """Ends, without another attempt to write what is buffered."""
+    os.dup2(os.open(os.devnull, os.O_WRONLY), sys.stdout.fileno())
+    fail(f'cannot write the trace: {reason(problem)}')
 
 
 def merged(counts, most):
@@ -57,13 +98,13 @@ class Machine:
 
     def __init__(self, given):
         sizes = f'--order {given.order} --superblocks {given.superblocks} --tenants {len(given.logs)}'
-        self.order, self.tenants = given.order, []
+        self.order, self.superblocks, self.tenants = given.order, given.superblocks, []
         try:
             command, pipe = [given.partmem, *sizes.split()], subprocess.PIPE
             self.program = subprocess.Popen(command, stdin=pipe, stdout=pipe, text=True)
         except OSError as problem:
-            fail(f'partmem could not be run: {problem}')
-        print(f'# partmem {sizes}')
+            fail(f'cannot run {given.partmem}: {reason(problem)}')
+        write(f'# partmem {sizes}')
 
     def ask(self, line):
         """The words of the reply behind its actor. None, if the line was refused for want of frames or of superblocks, or since
@@ -76,7 +117,7 @@ class Machine:
             words = []
         if not words:
             fail(f'partmem has ended with status {self.program.wait()}, and did not answer "{line}"')
-        print(line)
+        write(line)
         if words[0] != 'refused':
             return words
         return None if words[1] in ('1', '13', '15') else fail(f'partmem answered "{line}" by "{" ".join(words)}"')
@@ -93,7 +134,8 @@ class Machine:
 
     def end(self):
         for tenant in self.tenants:
-            print(f'{tenant.number} report')
+            write(f'{tenant.number} report')
+        flush()
         self.program.stdin.close()
         if self.program.wait():
             fail(f'partmem ended with status {self.program.returncode}')
@@ -187,18 +229,29 @@ class Tenant:
         del self.used[max(spare)]
         return True
 
-
     def tell(self):
-        """What was done and left out; then what docs/capacity.md makes of the most blocks and objects that there were at a time:
-        a cache never has more slabs than these objects fill."""
+        """Prints what was done and left out, and then what follows by docs/capacity.md from the most blocks and objects that there
+        were at a time: a cache never has more slabs than these objects fill."""
         for what, count in sorted((+self.told).items()):
             print(f'{count:10} {what}', file=sys.stderr)
         blocks = [(order, -(-self.most[asked] // things)) for asked, (order, things) in self.blocks.items() if self.most[asked]]
         frames = sum(count * 2**order for order, count in blocks)
-        print(f'{frames:10} frames that the most blocks and objects at a time fill', file=sys.stderr)
+        print(f'{frames:10} {plural("frame", frames)} for the most blocks and objects at a time', file=sys.stderr)
         for order in sorted({order for order, _ in blocks}):
             needed = (frames - 2**order) // 2**(self.machine.order - order) + 1
-            print(f'{needed:10} superblocks, with which no block of order {order} is refused', file=sys.stderr)
+            enough = f'{needed:10} {plural("superblock", needed)}, with which no block of order {order} is refused'
+            print(enough if needed <= MOST_SUPERBLOCKS else self.too_few(order), file=sys.stderr)
+
+        if any('refused' in what for what in self.told):
+            more = 'more --superblocks, ' if self.machine.superblocks < MOST_SUPERBLOCKS else ''
+            print(f'{"":10} these numbers leave out what was refused: try {more}{self.larger()}fewer logs or a shorter log', file=sys.stderr)
+
+    def too_few(self, order):
+        """What to say if no machine has as many superblocks as are needed."""
+        return f'{"":10} no machine has so many superblocks that no block of order {order} is refused: try {self.larger()}a shorter log'
+
+    def larger(self):
+        return 'a larger --order, ' if self.machine.order < ORDERS[-1] else ''
 
 
 def convert(given, read, size_of, kind):
