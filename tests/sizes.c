@@ -1,5 +1,6 @@
-/* Boots machines of each order with each number of superblocks and with each number of tenants, and asks for those beside them,
- * which are refused; looks at what each machine says of itself, and at every byte that a call may write and those around it.
+/* Boots machines of each order with each number of superblocks, with each number of tenants, and with every tenth number of
+ * superblocks together with every third number of tenants; asks for sizes beside these, which are refused. Checks what each
+ * machine says of itself, and every byte that a call may write and those around it. The place of a machine is zeroes after its end.
  * Refuses each allocation of a boot in turn, too: to be linked with library_memory.c. */
 #include <stdio.h>
 #include <stdlib.h>
@@ -119,7 +120,9 @@ static void boot_and_end(uint32_t order, uint32_t superblocks, uint32_t tenants)
     look_at(machine, order, superblocks, tenants);
     look_at_text(machine, superblocks, tenants);
     check(partmem_end(machine) == PARTMEM_DONE, "end", order, superblocks, tenants);
-    check(!place.inside.bytes[0] && is_kept_behind(&place, 16), "what end leaves", order, superblocks, tenants);
+    partmem_machine zeroes = {0};
+    bool is_vacant = is_kept_behind(&place, 16) && !memcmp(machine, &zeroes, sizeof zeroes);
+    check(is_vacant, "what end leaves", order, superblocks, tenants);
 }
 
 /* no allocation is asked for where a number is out of its range */
@@ -179,6 +182,9 @@ int main(void)
         }
         for (uint32_t tenants = 1; tenants <= 64; tenants++, booted++) {
             boot_and_end(order, 1 + (tenants * 5 + order) % 256, tenants);
+        }
+        for (uint32_t superblocks = 10; superblocks <= 250; superblocks += 10) {
+            for (uint32_t tenants = 3; tenants <= 63; tenants += 3, booted++) boot_and_end(order, superblocks, tenants);
         }
     }
     int refused = try_edges();
