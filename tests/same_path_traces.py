@@ -1,8 +1,8 @@
 """Pairs of traces for tests/same-path: a mixed one of several tenants, and for each tenant its own list alone.
 
-A tenant's own list is its commands with the grants, take-backs and resets that the administrator did for it. A refused grant or
-take-back, a move and all that is another's stand in the mixed trace alone. The traces are made by talking to the library, so that
-frames and places are those that were answered, and are the same for the same seed.
+A tenant's own list is its commands with the grants, take-backs and resets that the administrator did for it. Only the mixed trace
+has refused grants and take-backs, moves, and the commands of the other tenants. The traces are made by talking to the library, so
+they use the frames and places that it answers, and the same seed makes the same traces.
 """
 import random
 
@@ -107,16 +107,26 @@ class Pair:
         self.mixed, self.alone = [], [[] for _ in range(tenants)]
         # Of each command that is followed in the mixed trace, whose it is, its text and what it was answered first.
         self.followed = []
-        for k in range(2 * tenants):
-            self.grant(k % tenants)
+        self.run(commands)
+
+    def run(self, commands):
+        """Makes the traces, until so many own commands are followed."""
+        self.grant_all(2)
         while len(self.followed) < commands:
             if self.draw.random() < .12:
                 self.others()
             else:
-                self.command(self.draw.choice(self.tenants))
+                tenant = self.draw.choice(self.tenants)
+                self.command(tenant, tenant.words(self.draw))
 
-    def command(self, tenant):
-        words = tenant.words(self.draw)
+    def grant_all(self, count):
+        """Grants each tenant so many superblocks."""
+        for _ in range(count):
+            for tenant in self.tenants:
+                self.grant(tenant.number)
+
+    def command(self, tenant, words):
+        """A tenant's command that is followed."""
         line = " ".join(map(str, [tenant.number, *words]))
         reply = self.ask(line)[0]
         tenant.learn(words, reply)
@@ -137,6 +147,11 @@ class Pair:
         if is_done(reply):
             self.alone[tenant.number].append("." + line)
         return reply.split()
+
+    def at_full_speed(self, tenant, words):
+        """A tenant's command that is not followed."""
+        reply = self.own(tenant, " ".join(map(str, [tenant.number, *words])), lambda reply: True)
+        tenant.learn(words, " ".join(reply))
 
     def grant(self, t):
         said = self.own(self.tenants[t], f"admin grant {t}", lambda reply: "granted" in reply)
@@ -161,5 +176,64 @@ class Pair:
             self.grant(tenant.number)
         else:
             line = {"pool": "admin pool", "move": f"admin move {tenant.number} {slot}"}.get(kind) or self.draw.choice(BROKEN)
-            self.ask(line)
-            self.mixed.append("." + line)
+            self.foreign(line)
+
+    def foreign(self, line):
+        """A line that is in no tenant's own list."""
+        self.ask(line)
+        self.mixed.append("." + line)
+
+
+class LongPair(Pair):
+    """As Pair, but each tenant has two caches of 200 slabs, so that the library keeps their lists in groups of slabs.
+
+    A slab has two objects, so it is full, partial or empty, and most commands move one into the middle of another list. A tenant
+    gives back one object of most slabs of a cache, slot by slot, then the other one, and then takes all of them again. Most of its
+    commands are not followed, to save time.
+    """
+
+    # The first and the last cache of a tenant are used. The blocks are as large as a slot: the slabs lie on both sides of them.
+    CACHES, SLABS, STAY_FULL, BLOCKS = (0, 31), 200, 30, 25
+
+    def run(self, commands):
+        self.grant_all(self.machine[1] // len(self.tenants))
+        for tenant in self.tenants:
+            self.fill(tenant)
+        turns = [[self.turns(tenant, cache) for cache in self.CACHES] for tenant in self.tenants]
+        while len(self.followed) < commands:
+            tenant = self.draw.choice(self.tenants)
+            if self.draw.random() < .02:
+                self.foreign(f"admin move {tenant.number} {self.draw.choice(list(tenant.slots))}")
+                continue
+            words = next(self.draw.choice(turns[tenant.number]))
+            if self.draw.random() < .1:
+                self.command(tenant, words)
+            else:
+                self.at_full_speed(tenant, words)
+
+    def fill(self, tenant):
+        """Makes all caches of a tenant, and fills the slabs of those that are used."""
+        for _ in range(max(self.CACHES) + 1):
+            self.at_full_speed(tenant, ["cache", 2000, 8, "a0"])
+        takes = [cache for cache in self.CACHES for _ in range(2 * self.SLABS)]
+        self.draw.shuffle(takes)
+        for k, cache in enumerate(takes):
+            if k == len(takes) // 3:
+                for _ in range(self.BLOCKS):
+                    self.at_full_speed(tenant, ["alloc", self.machine[0]])
+            self.at_full_speed(tenant, ["take", cache])
+
+    def turns(self, tenant, cache):
+        """Yields the commands on a cache of a tenant, for ever."""
+        while True:
+            slabs = {}
+            for of, place in tenant.objects:
+                if of == cache:
+                    slabs.setdefault(place // FRAME_BYTES, []).append(place)
+            order = {frame >> self.machine[0]: self.draw.random() for frame in slabs}
+            frames = sorted(slabs, key=lambda frame: (order[frame >> self.machine[0]], self.draw.random()))
+            for number in range(2):
+                for frame in frames[self.STAY_FULL:]:
+                    yield ["give", cache, slabs[frame][number]]
+            for _ in range(2 * (self.SLABS - self.STAY_FULL)):
+                yield ["take", cache]
