@@ -7,6 +7,10 @@ use Rattle.frame_picture.specs.declared.history.History.{History}
 abbrev pub drawn_order : History → ℕ
 drawn_order h = h.order
 
+-- how many superblocks the machine has
+abbrev pub superblocks_of : History → ℕ
+superblocks_of h = h.superblocks
+
 abbrev pub tenants_of : History → ℕ
 tenants_of h = h.tenants
 
@@ -33,6 +37,7 @@ refusals_of h = h.refused.items
 -- the machine and the room are as they were, and nothing was refused
 pub record SameShape (old new : History) : Type 0 where
   pub order : drawn_order new ≡ drawn_order old
+  pub superblocks : superblocks_of new ≡ superblocks_of old
   pub tenants : tenants_of new ≡ tenants_of old
   pub room : room_of new ≡ room_of old
   pub refused : refusals_of new ≡ refusals_of old

@@ -76,11 +76,12 @@ pub struct History {
 impl History {
     ghost use Rattle.frame_picture.specs.declared.history.Column.{Column};
     ghost use Rattle.frame_picture.specs.Columns.{IsColumnAfter};
-    ghost use Rattle.frame_picture.specs.Histories.{drawn_order, tenants_of, columns_of, room_of, width_of, line_count, refusals_of, SameShape, IsEven};
+    ghost use Rattle.frame_picture.specs.Histories.{drawn_order, superblocks_of, tenants_of, columns_of, room_of, width_of, line_count, refusals_of, SameShape, IsEven};
 
     /// No line has been run yet; there is room for so many columns.
     pub fn new(alloc: Global, kernel: &Kernel, room: u32) -> Result<History, AllocError>
         ensures order { IfOk result (λ history. drawn_order history ≡ kernel.now.order) }
+        ensures superblocks { IfOk result (λ history. superblocks_of history ≡ kernel.now.superblocks) }
         ensures tenants { IfOk result (λ history. tenants_of history ≡ kernel.now.tenants) }
         ensures room { IfOk result (λ history. room_of history ≡ room) }
         ensures lines { IfOk result (λ history. line_count history ≡ 0) }
@@ -112,8 +113,10 @@ impl History {
         self.order
     }
 
-    /// How many superblocks the machine has.
-    pub fn superblocks(&self) -> u32 {
+    /// Returns how many superblocks the machine has.
+    pub fn superblocks(&self) -> u32
+        ensures value { result ≡ superblocks_of self.now }
+    {
         self.superblocks
     }
 

@@ -8,6 +8,7 @@ invariant-loop-i l = record {
   width : l.self.width ≡ l.initial.self.width;
   kept : l.self.kept ≡ l.initial.self.kept;
   order : l.self.order ≡ l.initial.self.order;
+  superblocks : l.self.superblocks ≡ l.initial.self.superblocks;
   tenants : l.self.tenants ≡ l.initial.self.tenants;
   refused : l.self.refused.items ≡ l.initial.self.refused.items;
   room : vec_len l.self.columns ≡ vec_len l.initial.self.columns;
