@@ -1,13 +1,13 @@
 -- The least bit of a record that is 0, and the least object that is not live.
-use Rattle.std.proofs.Common.{◌≡◌, ◌≢◌, ℕ, ◌+◌, ◌*◌, ◌/◌, ◌%◌, ◌^◌, ◌<◌, ◌≤◌, Bool, true, false, not, zero, suc, List, ◌∷◌, length, get_or, set, sym, ap, ◌∙◌, inl, inr, min, w8, w32, arith}
-use Rattle.std.specs.List.{position_or_len}
-use Rattle.std.specs.Int.{bit_at, trailing_ones}
-use Rattle.std.proofs.lemmas.Bool.{cases_lt, eq-eqb, ne_eqb}
-use Rattle.std.proofs.lemmas.Nat.Bits.{bit_at_above, bit_at_ones, bit_at-trailing_ones}
-use Rattle.std.specs.Int.Bits.{bit_xor}
-use Rattle.std.proofs.lemmas.Nat.{one_shl}
+use Rattle.std.proofs.Common.{◌≡◌, ◌≢◌, ℕ, ◌+◌, ◌-◌, ◌*◌, ◌/◌, ◌%◌, ◌^◌, ◌<◌, ◌≤◌, Bool, true, false, not, zero, suc, List, ◌∷◌, length, get_or, take, drop, eqb, refl, sym, ap, subst, ◌∙◌, inl, inr, min, w32, arith}
+use Rattle.std.specs.List.{position_or_len, slice_range}
+use Rattle.std.specs.Int.{bit_at, trailing_ones, w64, to_le_bytes}
+use Rattle.std.proofs.Math.Nat.{div-div-eq-div-mul}
+use Rattle.std.proofs.lemmas.Bool.{cases_lt, eq-eqb, ne_eqb, eqb-true}
+use Rattle.std.proofs.lemmas.List.{get_or-take, get_or-drop}
+use Rattle.std.proofs.lemmas.Nat.{pow-add}
+use Rattle.std.proofs.lemmas.Nat.Bits.{bit_at_above, bit_at_cat_low, bit_at_ones, bit_at-trailing_ones, same_from_bits_below}
 use Rattle.parts_laws.specs.Records.{is_set, flags_from, flags}
-use Rattle.slab_core.specs.Objects.{IsRaised}
 
 -- every bit of a full byte is 1
 pub full_byte : (byte j : ℕ) → byte ≡ 255 → j < 8 → is_set byte j ≡ true
@@ -19,15 +19,15 @@ pub record IsClear (bits_of : ℕ) (word k : ℕ) : Type 0 where
   pub ones : (j : ℕ) → j < k → is_set word j ≡ true
   pub clear : k < bits_of → is_set word k ≡ false
 
-pub clear_byte : (byte : ℕ) → byte < 256 → byte ≢ 255 → (trailing_ones w8 byte < 8) × IsClear 8 byte (trailing_ones w8 byte)
-clear_byte byte less other =
-    let x = bit_at-trailing_ones w8 byte (omega arith) in
-    let low : trailing_ones w8 byte < 8 = omega arith in (
+pub clear_word : (word : ℕ) → word < 2 ^ 64 → word ≢ 2 ^ 64 - 1 → (trailing_ones w64 word < 64) × IsClear 64 word (trailing_ones w64 word)
+clear_word word less other =
+    let x = bit_at-trailing_ones w64 word (omega arith) in
+    let low : trailing_ones w64 word < 64 = x.0 in (
       low,
       record {
         below = omega arith;
-        ones = λ j low. eq-eqb (bit_at byte j) 1 (x.2 j low);
-        clear = λ low. ne_eqb (bit_at byte (trailing_ones w8 byte)) 1 (λ e. omega (arith, x.1));
+        ones = λ j low. eq-eqb (bit_at word j) 1 (x.2 j low);
+        clear = λ low. ne_eqb (bit_at word (trailing_ones w64 word)) 1 (λ e. omega (arith, x.1));
       },
     )
 
@@ -44,34 +44,85 @@ clear_half word less =
       clear = λ low. ne_eqb (bit_at word (trailing_ones w32 word)) 1 (λ e. omega (arith, x.1));
     }
 
--- all bits below the least 0 of the first byte that is not full are 1
-pub ones_below : (bytes : List ℕ) (i k j : ℕ) → ((n : ℕ) → n < i → get_or bytes n 0 ≡ 255) → IsClear 8 (get_or bytes i 0) k → j < 8 * i + k → is_set (get_or bytes (j / 8) 0) (j % 8) ≡ true
-ones_below bytes i k j full is less = elim (cases_lt (j / 8) i) [
-  | inl low ↦ full_byte (get_or bytes (j / 8) 0) (j % 8) (full (j / 8) low) (omega arith)
-  | inr high ↦
-      let below = is.below in
-      let here : j / 8 ≡ i = omega arith in
-      ap (λ n. is_set (get_or bytes n 0) (j % 8)) here ∙ is.ones (j % 8) (omega arith)
+-- byte k of a word
+byte_of : (word k : ℕ) → k < 8 → get_or (to_le_bytes w64 word) k 0 ≡ word / 2 ^ (8 * k) % 256
+byte_of word zero less = omega arith
+byte_of word (suc zero) less = omega arith
+byte_of word (suc (suc zero)) less = omega arith
+byte_of word (suc (suc (suc zero))) less = omega arith
+byte_of word (suc (suc (suc (suc zero)))) less = omega arith
+byte_of word (suc (suc (suc (suc (suc zero))))) less = omega arith
+byte_of word (suc (suc (suc (suc (suc (suc zero)))))) less = omega arith
+byte_of word (suc (suc (suc (suc (suc (suc (suc zero))))))) less = omega arith
+byte_of word (suc (suc (suc (suc (suc (suc (suc (suc k)))))))) less = absurd (omega arith)
+
+-- its low eight bits
+low_bit : (n r : ℕ) → r < 8 → bit_at (n % 256) r ≡ bit_at n r
+low_bit n r less =
+    let split : n ≡ n / 256 * 2 ^ 8 + n % 256 = omega arith in
+    sym (ap (λ m. bit_at m r) split ∙ bit_at_cat_low (n / 256) 8 (n % 256) r less)
+
+-- bit j of a word that was read of bytes is bit j % 8 of byte j / 8
+bit_of_word : (bytes : List ℕ) (at word j : ℕ) → to_le_bytes w64 word ≡ slice_range bytes at (at + 8) → j < 64
+    → bit_at (get_or bytes (at + j / 8) 0) (j % 8) ≡ bit_at word j
+bit_of_word bytes at word j read less =
+    ap (λ x. bit_at x (j % 8)) (sym here ∙ (ap (λ (xs : List ℕ). get_or xs k 0) (sym read) ∙ byte_of word k (omega arith)))
+    ∙ (low_bit (word / 2 ^ (8 * k)) (j % 8) (omega arith) ∙ whole)
+  where
+    k : ℕ
+    k = j / 8
+
+    here : get_or (slice_range bytes at (at + 8)) k 0 ≡ get_or bytes (at + k) 0
+    here =
+        let eight : at + 8 - at ≡ 8 = omega arith in
+        ap (λ n. get_or (take n (drop at bytes)) k 0) eight ∙ (get_or-take 8 (drop at bytes) k 0 (omega arith) ∙ get_or-drop at bytes k 0)
+
+    whole : bit_at (word / 2 ^ (8 * k)) (j % 8) ≡ bit_at word j
+    whole =
+        let split : 8 * k + j % 8 ≡ j = omega arith in
+        ap (λ n. n % 2) (div-div-eq-div-mul word (2 ^ (8 * k)) (2 ^ (j % 8)) ∙ (ap (λ p. word / p) (sym (pow-add 2 (8 * k) (j % 8))) ∙ ap (λ n. word / 2 ^ n) split))
+
+-- .. of word i of a record
+bit_there : (bytes : List ℕ) (i word k j : ℕ) → to_le_bytes w64 word ≡ slice_range bytes (8 * i) (8 * i + 8) → k < 64 → j ≡ 64 * i + k
+    → is_set (get_or bytes (j / 8) 0) (j % 8) ≡ is_set word k
+bit_there bytes i word k j read less is =
+    let byte : j / 8 ≡ 8 * i + k / 8 = omega arith in
+    let bit : j % 8 ≡ k % 8 = omega arith in
+    ap (λ n. is_set (get_or bytes n 0) (j % 8)) byte
+    ∙ (ap (is_set (get_or bytes (8 * i + k / 8) 0)) bit ∙ ap (λ b. eqb b 1) (bit_of_word bytes (8 * i) word k read less))
+
+-- all bits of a record below a place are 1
+abbrev pub AreOnes : List ℕ → ℕ → Type 0
+AreOnes bytes end = (j : ℕ) → j < end → is_set (get_or bytes (j / 8) 0) (j % 8) ≡ true
+
+-- .. and those of word i below its bit k
+pub ones_more : (bytes : List ℕ) (i word k : ℕ) → AreOnes bytes (64 * i) → to_le_bytes w64 word ≡ slice_range bytes (8 * i) (8 * i + 8) → k ≤ 64 → ((j : ℕ) → j < k → is_set word j ≡ true)
+    → AreOnes bytes (64 * i + k)
+ones_more bytes i word k ones read few bits j less = elim (cases_lt j (64 * i)) [
+  | inl low ↦ ones j low
+  | inr high ↦ bit_there bytes i word (j - 64 * i) j read (omega arith) (omega arith) ∙ bits (j - 64 * i) (omega arith)
 ]
 
-pub clear_at : (bytes : List ℕ) (i k : ℕ) → k < 8 → IsClear 8 (get_or bytes i 0) k → is_set (get_or bytes ((8 * i + k) / 8) 0) ((8 * i + k) % 8) ≡ false
-clear_at bytes i k less is =
-    let byte : (8 * i + k) / 8 ≡ i = omega arith in
-    let bit : (8 * i + k) % 8 ≡ k = omega arith in
-    ap (λ n. is_set (get_or bytes n 0) ((8 * i + k) % 8)) byte ∙ (ap (is_set (get_or bytes i 0)) bit ∙ is.clear less)
+-- .. and those of a full word
+pub ones_full : (bytes : List ℕ) (i word : ℕ) → AreOnes bytes (64 * i) → to_le_bytes w64 word ≡ slice_range bytes (8 * i) (8 * i + 8) → word ≡ 2 ^ 64 - 1
+    → AreOnes bytes (64 * (i + 1))
+ones_full bytes i word ones read full =
+    let more : 64 * i + 64 ≡ 64 * (i + 1) = omega arith in
+    subst (AreOnes bytes) more (ones_more bytes i word 64 ones read (omega arith) (λ j less. ap (λ x. is_set x j) full ∙ eq-eqb (bit_at (2 ^ 64 - 1) j) 1 (bit_at_ones 64 j less)))
 
--- the least 0 of the first byte that is not full, turned
-pub raised : (bytes : List ℕ) (i bit : ℕ) → i < length bytes → ((n : ℕ) → n < i → get_or bytes n 0 ≡ 255) → bit < 8 → IsClear 8 (get_or bytes i 0) bit
-    → IsRaised bytes (set bytes i (bit_xor (get_or bytes i 0) (1 * 2 ^ bit % 256))) (8 * i + bit)
-raised bytes i bit within full less is =
-    let byte : (8 * i + bit) / 8 ≡ i = omega arith in
-    let rest : (8 * i + bit) % 8 ≡ bit = omega arith in
-    record {
-      below = omega arith;
-      ones = λ j low. ones_below bytes i bit j full is low;
-      clear = clear_at bytes i bit less is;
-      turned = rw (byte, rest) (ap (λ m. set bytes i (bit_xor (get_or bytes i 0) m)) (one_shl bit 8 less));
-    }
+-- the least bit of word i that is 0
+pub clear_there : (bytes : List ℕ) (i word k : ℕ) → to_le_bytes w64 word ≡ slice_range bytes (8 * i) (8 * i + 8) → k < 64 → IsClear 64 word k
+    → is_set (get_or bytes ((64 * i + k) / 8) 0) ((64 * i + k) % 8) ≡ false
+clear_there bytes i word k read less is = bit_there bytes i word k (64 * i + k) read less refl ∙ is.clear less
+
+-- a byte is full if all bits of its record are 1
+pub full_by_ones : (bytes : List ℕ) (at : ℕ) → AreOnes bytes (8 * length bytes) → at < length bytes → get_or bytes at 0 < 256 → get_or bytes at 0 ≡ 255
+full_by_ones bytes at ones within small =
+    same_from_bits_below 8 (get_or bytes at 0) 255 small (omega arith) (λ j less.
+    let byte : (8 * at + j) / 8 ≡ at = omega arith in
+    let bit : (8 * at + j) % 8 ≡ j = omega arith in
+    sym (ap (λ n. bit_at (get_or bytes n 0) ((8 * at + j) % 8)) byte ∙ ap (bit_at (get_or bytes at 0)) bit)
+    ∙ (eqb-true (bit_at (get_or bytes ((8 * at + j) / 8) 0) ((8 * at + j) % 8)) 1 (ones (8 * at + j) (omega arith)) ∙ sym (bit_at_ones 8 j less)))
 
 -- the least number that fails the test, or n
 pub first_clear : (k n i : ℕ) (p : ℕ → Bool) → i ≤ n → ((j : ℕ) → k ≤ j → j < k + i → p j ≡ true) → (i < n → p (k + i) ≡ false) → position_or_len not (flags_from k n p) ≡ i

@@ -1,9 +1,11 @@
 //! Taking an object.
 
-ghost use Rattle.std.specs.Prelude.{◌≡◌, ◌≢◌, ℕ, ◌*◌, ◌^◌, ◌<◌, ◌≤◌, not, List, Some, Ok, length, slice_index, IsSome, IfSome, OnErr, MatchOption};
-ghost use Rattle.std.specs.List.{position_or_len};
+ghost use Rattle.std.specs.Prelude.{◌≡◌, ℕ, ◌+◌, ◌*◌, ◌/◌, ◌%◌, ◌^◌, ◌<◌, ◌≤◌, not, true, false, List, Some, Ok, length, slice_index, IsSome, IfSome, OnErr, MatchOption};
+ghost use Rattle.std.specs.List.{position_or_len, slice_range};
+ghost use Rattle.std.specs.Int.{w64, to_le_bytes};
 ghost use Rattle.model_core.specs.declared.limits.TheConstants.{FRAME_BYTES};
 ghost use Rattle.slab_tables.specs.Content.{IsSlabs, kept_at, cache_at, layout_numbers};
+ghost use Rattle.parts_laws.specs.Records.{is_set};
 ghost use Rattle.parts_laws.specs.Shows.{live_of, IsSlab, Agree, ShowsMachine};
 ghost use Rattle.parts_laws.specs.Keeps.{Spares};
 ghost use Rattle.parts_laws.specs.Slots.{HoldTogether};
@@ -25,33 +27,52 @@ use model_core::refusals::TakeRefusal;
 use slab_tables::{Cache, Kind};
 use space_core::Space;
 
-/// The least index of a byte of which not every bit is 1.
+/// Reads eight bytes as one number, the first of them the lowest.
 #[inline(always)]
-fn least_not_full(bytes: &[u8]) -> usize
-    requires { HasClear bytes.now }
-    ensures below { result < length bytes.now }
-    ensures full { (i : ℕ) → i < result → slice_index bytes.now i ≡ 255 }
-    ensures clear { slice_index bytes.now result ≢ 255 }
+fn eight_at(bytes: &[u8], at: usize) -> u64
+    requires { at + 8 ≤ length bytes.now }
+    ensures { to_le_bytes w64 result ≡ slice_range bytes.now at (at + 8) }
 {
-    for (i, byte) in bytes.iter().enumerate() {
-        if *byte != u8::MAX {
-            return i;
+    u64::from_le_bytes([
+        bytes[at],
+        bytes[at + 1],
+        bytes[at + 2],
+        bytes[at + 3],
+        bytes[at + 4],
+        bytes[at + 5],
+        bytes[at + 6],
+        bytes[at + 7],
+    ])
+}
+
+/// Returns the index of the first clear bit of a control record, counted through all its bytes.
+#[inline(always)]
+fn first_clear(bytes: &[u8]) -> u32
+    requires whole { length bytes.now ≡ 32 }
+    requires clear { HasClear bytes.now }
+    ensures below { result < 8 * length bytes.now }
+    ensures ones { (j : ℕ) → j < result → is_set (slice_index bytes.now (j / 8)) (j % 8) ≡ true }
+    ensures clear { is_set (slice_index bytes.now (result / 8)) (result % 8) ≡ false }
+{
+    for i in 0..4 {
+        let word = eight_at(bytes, 8 * i);
+        if word != u64::MAX {
+            return 64 * i as u32 + word.trailing_ones();
         }
     }
     unreachable!()
 }
 
-/// Sets the least bit of these bytes that is 0, and answers which, counted through all of them.
+/// Sets the first clear bit of a control record and returns its index, counted through all its bytes.
 #[inline(always)]
 fn raise(bytes: &mut [u8]) -> u32
-    requires short { length bytes.old ≤ 32 }
+    requires whole { length bytes.old ≡ 32 }
     requires clear { HasClear bytes.old }
     ensures { IsRaised bytes.old bytes.new result }
 {
-    let i = least_not_full(bytes);
-    let bit = bytes[i].trailing_ones();
-    bytes[i] ^= 1 << bit;
-    8 * i as u32 + bit
+    let bit = first_clear(bytes);
+    bytes[bit as usize / 8] ^= 1 << (bit % 8);
+    bit
 }
 
 /// Sets the least bit of the control record at a place of tenant `t`, in this superblock, that is 0, and answers which.
