@@ -105,9 +105,9 @@ impl Kernel {
         Ok(Kernel { parts })
     }
 
-    /// Runs one event, and answers it. A refused event changes nothing.
+    /// Runs one event and returns the reply. A refused event changes nothing.
     ///
-    /// The pattern of a cache has to have a byte; a line that reads as an event has none without.
+    /// The pattern of a `cache` command must have at least one byte, as every pattern has that `read_line` returns.
     pub fn step(&mut self, event: &Event) -> Reply
         requires pattern { HasPattern event.now }
         ensures sizes { SameSizes self.old self.new }
@@ -124,6 +124,19 @@ impl Kernel {
         // A superblock is marked where it lost its owner, and unmarked where it got one; without owner it keeps its bytes.
         ensures marks { MarksFollow self.old.space self.new.space }
         ensures spare { SpareStays self.old.space self.new.space }
+
+        // In the memory, the last 32 bytes of each slab of small objects are the bitmap of its live objects.
+        ensures records { RecordsStand self.new }
+    {
+        let reply = self.run_event(event);
+        self.records_stand();
+        reply
+    }
+
+    /// Runs one event and returns the reply.
+    fn run_event(&mut self, event: &Event) -> Reply
+        requires { HasPattern event.now }
+        ensures { Steps self.old event.now self.new result }
     {
         match event {
             Event::Admin(command) => self.administer(command),
@@ -300,8 +313,8 @@ impl Kernel {
         self.parts.laws();
     }
 
-    /// A law: in the memory, the last 32 bytes of each frame that is a slab of small objects are the bitmap of its live objects,
-    /// and nothing else. It costs nothing.
+    /// A law of every kernel, so also after [`Kernel::ask`]: in the memory, the last 32 bytes of each slab of small objects are the
+    /// bitmap of its live objects. The call does nothing.
     pub fn records_stand(&self)
         ensures { RecordsStand self.now }
     {

@@ -42,7 +42,7 @@ impl Parts {
         self.laws();
         let superblock = self.space.machine_of(t, frame >> self.order())?;
         let node = self.node_in(superblock, t, frame);
-        if self.slabs.is_slab(node) {
+        if self.slabs.is_slab_in(node) {
             return None;
         }
         self.buddy.release_in(superblock, t, frame)
@@ -116,7 +116,7 @@ impl Parts {
             return false;
         };
         let node = self.node_in(superblock, t, first);
-        if self.slabs.is_slab(node) {
+        if self.slabs.is_slab_in(node) {
             return self.slabs.object_in(
                 &self.space,
                 &self.buddy,

@@ -29,6 +29,7 @@ mod rows;
 mod taking;
 
 use klist_core::Lists;
+pub use model_core::refusals::{DestroyRefusal, GiveRefusal, TakeRefusal};
 pub use model_core::report::CacheRow;
 use slab_tables::Tables;
 use std::alloc::{AllocError, Global};

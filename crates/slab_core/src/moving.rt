@@ -1,31 +1,48 @@
-//! Slabs that leave the superblocks on which they stand: with all caches of a tenant, or for another superblock.
+//! Slabs that leave their superblock: with all caches of a tenant, or for another superblock.
 
-ghost use Rattle.std.specs.Prelude.{◌≡◌, ◌≢◌, ℕ, ◌+◌, ◌*◌, ◌^◌, ◌<◌, ◌≤◌, None, length};
+ghost use Rattle.std.specs.Prelude.{◌≡◌, ℕ, ◌+◌, ◌*◌, ◌^◌, ◌<◌, ◌≤◌, Some, None, length};
 ghost use Rattle.klist_core.specs.Places.{place_at};
+ghost use Rattle.space_core.specs.Content as spaces;
+ghost use Rattle.space_core.specs.Changes.{with_move};
+ghost use Rattle.buddy_core.specs.Content as buddies;
 ghost use Rattle.slab_tables.specs.Content.{IsTenant};
 ghost use Rattle.slab_tables.specs.Changes.{IsReset, IsMoved};
+ghost use Rattle.parts_laws.specs.Shows.{Agree};
+ghost use Rattle.parts_laws.specs.Slots.{HoldTogether};
 
 use crate::Slabs;
 
 impl Slabs {
-    /// Lets go of all caches and slabs of tenant `t`. No memory is touched, and no block is released.
+    /// Removes all caches of tenant `t`, with their slabs. All other tenants keep theirs.
+    ///
+    /// It changes no byte of memory and releases no block: the caller resets the buddy system of the tenant, too.
     pub fn reset(&mut self, t: u8)
         requires tenant { IsTenant self.old t }
-        ensures { IsReset self.old self.new t }
+        ensures reset { IsReset self.old self.new t }
+        ensures agree { (r : spaces.Content) (b : buddies.Content) → Agree r b self.old → Agree r b self.new }
     {
         self.tables.reset(t);
     }
 
-    /// Moves all slabs of superblock `from`, which are those of one slot of tenant `t`, to superblock `to`, on which none stands:
-    /// frame by frame, with all that is kept of them. The tenant's frames and caches stay the same. No memory is touched.
+    /// Moves all slabs of superblock `from` to superblock `to`, which has no slab: frame by frame, with all that is kept of
+    /// them. The caches of all tenants stay, and so do the first frames of the slabs in the numbering of tenant `t`.
+    ///
+    /// It changes no byte of memory. [`space_core::Space::move_slot`] and [`buddy_core::Buddy::move_slot`] come first, with the
+    /// same tenant and superblocks: the three agree again afterwards.
     pub fn move_slot(&mut self, t: u8, from: u16, to: u16)
         requires tenant { IsTenant self.old t }
         requires from { (from + 1) * 2 ^ self.old.top ≤ length self.old.lists.places }
         requires to { (to + 1) * 2 ^ self.old.top ≤ length self.old.lists.places }
-        requires apart { from ≢ to }
         requires free { (i : ℕ) → i < 2 ^ self.old.top → place_at self.old.lists.places (to * 2 ^ self.old.top + i) ≡ None }
-        ensures { IsMoved self.old self.new from to }
+        ensures moved { IsMoved self.old self.new from to }
+        ensures agree { (r : spaces.Content) (b : buddies.Content) (u : ℕ) → HoldTogether r b self.old
+            → spaces.superblock_at r.slots t u ≡ Some from → to < length r.owners → spaces.owner_at r.owners to ≡ None
+            → Agree (with_move r t u from to) (buddies.with_holding t (buddies.with_slot u to (buddies.holding_of t b)) b) self.new }
     {
+        // Then it has no slab.
+        if from == to {
+            return;
+        }
         self.tables.move_slot(from, to);
     }
 }

@@ -70,9 +70,23 @@ impl Slabs {
         (node >> self.tables.order()) as u16
     }
 
-    /// Whether a slab begins at a machine frame.
+    /// Returns whether a slab begins at frame `frame` of tenant `t`. False if the tenant does not hold the slot of the frame.
+    ///
+    /// `space` is the memory on which these slabs lie: it has as many frames as there are nodes here.
+    pub fn is_slab(&self, space: &Space, t: u8, frame: u32) -> bool
+        requires tenant { t < length space.now.slots }
+        requires nodes { length self.now.lists.places ≡ length space.now.owners * 2 ^ self.now.top }
+        ensures { result ≡ has_slab self.now (node_of self.now.top space.now.slots t frame) }
+    {
+        match self.node(space, t, frame) {
+            None => false,
+            Some(node) => self.is_slab_in(node),
+        }
+    }
+
+    /// Returns whether a slab begins at machine frame `node`: [`Slabs::is_slab`] for a caller that has looked up the superblock.
     #[inline(always)]
-    pub fn is_slab(&self, node: u32) -> bool
+    pub fn is_slab_in(&self, node: u32) -> bool
         requires { node < length self.now.lists.places }
         ensures { result ≡ has_slab self.now (Some node) }
     {

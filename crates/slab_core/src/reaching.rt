@@ -22,8 +22,24 @@ use slab_tables::ListId;
 use space_core::Space;
 
 impl Slabs {
-    /// Whether the `len` bytes of tenant `t` from a place on, at least one, lie inside one live object. The caller knows the taken
-    /// block that has the place: it begins at frame `first`, which is the machine frame `node`, and is of this order.
+    /// Returns whether the `len` bytes of tenant `t` from byte `place` on lie inside one live object. False if `len` is 0.
+    pub fn object_at(&self, space: &Space, buddy: &Buddy, t: u8, place: u32, len: u32) -> bool
+        requires tenant { t < length space.now.slots }
+        requires agree { Agree space.now buddy.now self.now }
+        ensures { (result ≡ true) ↔ ((o : Found) × HasRange space.now self.now t place len o) }
+    {
+        self.laws_with(space, buddy, t);
+        let Some((first, order)) = buddy.block_of(t, place / FRAME_BYTES) else {
+            return false;
+        };
+        let Some(node) = self.node(space, t, first) else {
+            return false;
+        };
+        self.object_in(space, buddy, t, first, node, order, place, len)
+    }
+
+    /// Returns whether a range lies inside one live object: [`Slabs::object_at`] for a caller that has looked up the taken block
+    /// around `place`. The block has `2^order` frames and begins at frame `first`, which is machine frame `node`.
     pub fn object_in(
         &self,
         space: &Space,

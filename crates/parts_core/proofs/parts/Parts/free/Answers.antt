@@ -5,7 +5,7 @@ use Rattle.parts_core.specs.Parts.{Parts}
 use Rattle.parts_core.proofs.Changing.{steady, opened, known}
 use Rattle.parts_core.proofs.PageBlocks.{free_unheld, free_slab, free_agrees, free_done}
 use Rattle.parts_core.proofs.parts.Parts.free.Goals as goal
-use Rattle.parts_core.proofs.parts.Parts.free.Goals.{After-is_slab}
+use Rattle.parts_core.proofs.parts.Parts.free.Goals.{After-is_slab_in}
 
 pub returns-in_err-superblock-clause-does : goal.returns-in_err-superblock-clause-does
 returns-in_err-superblock-clause-does c =
@@ -18,21 +18,21 @@ returns-in_err-superblock-clause-does c =
     (free_unheld k.space k.buddy k.slabs c.args.t c.args.frame (steady _ _ _ c.args.t together (known _ _ _ _ c.args.t c.self.view_is c.requires)) none)
 
 -- whether a slab begins at the frame
-told : (c : After-is_slab) → has_slab c.self.inside.slabs (node_of c.self.inside.slabs.top c.self.inside.space.slots c.args.t c.args.frame) ≡ c.is_slab.result
+told : (c : After-is_slab_in) → has_slab c.self.inside.slabs (node_of c.self.inside.slabs.top c.self.inside.space.slots c.args.t c.args.frame) ≡ c.is_slab_in.result
 told c =
     ap (has_slab c.self.inside.slabs) (ap (λ (k : Parts). node_of k.slabs.top k.space.slots c.args.t c.args.frame) c.self.view_is ∙ c.node_in-node.ensures.value)
-    ∙ sym c.is_slab.ensures
+    ∙ sym c.is_slab_in.ensures
 
-pub returns-then-is_slab-clause-does : goal.returns-then-is_slab-clause-does
-returns-then-is_slab-clause-does c = rw (← c.self.view_is)
-    (free_slab _ c.args.t c.args.frame (told (goal.at.returns-then-is_slab-clause-does c).After-is_slab ∙ c.if-is_slab.true))
+pub returns-then-is_slab_in-clause-does : goal.returns-then-is_slab_in-clause-does
+returns-then-is_slab_in-clause-does c = rw (← c.self.view_is)
+    (free_slab _ c.args.t c.args.frame (told (goal.at.returns-then-is_slab_in-clause-does c).After-is_slab_in ∙ c.if-is_slab_in.true))
 
 pub invariant_of-self : goal.invariant_of-self
 invariant_of-self c =
     free_agrees c.self.inside.space c.self.inside.buddy c.release_in.new.self c.self.inside.slabs c.args.t c.args.frame c.release_in.result c.self.invariant
-    (told (goal.at.invariant_of-self c).After-is_slab ∙ c.if-is_slab.false) c.release_in.ensures.refused c.release_in.ensures.done
+    (told (goal.at.invariant_of-self c).After-is_slab_in ∙ c.if-is_slab_in.false) c.release_in.ensures.refused c.release_in.ensures.done
 
 pub returns-clause-does : goal.returns-clause-does
 returns-clause-does c =
     rw (← c.self.view_is) (free_done c.self.inside.space c.self.inside.buddy c.release_in.new.self c.self.inside.slabs c.args.t c.args.frame c.release_in.result c.self.invariant
-    (told (goal.at.returns-clause-does c).After-is_slab ∙ c.if-is_slab.false) c.release_in.ensures.answer c.release_in.ensures.refused c.release_in.ensures.done)
+    (told (goal.at.returns-clause-does c).After-is_slab_in ∙ c.if-is_slab_in.false) c.release_in.ensures.answer c.release_in.ensures.refused c.release_in.ensures.done)

@@ -13,7 +13,7 @@ use Rattle.parts_core.specs.Parts.{Parts, superblock_at}
 use Rattle.parts_core.proofs.Changing.{steady, opened, known}
 use Rattle.parts_core.proofs.PageBlocks.{block_slot}
 use Rattle.parts_core.proofs.parts.Parts.is_in_reach.Goals as goal
-use Rattle.parts_core.proofs.parts.Parts.is_in_reach.Goals.{After-node_in-node, After-is_slab}
+use Rattle.parts_core.proofs.parts.Parts.is_in_reach.Goals.{After-node_in-node, After-is_slab_in}
 
 -- neither of the two
 neither : {P Q : Type 0} → P ⊎ Q → (P → ⊥) → (Q → ⊥) → ⊥
@@ -59,10 +59,10 @@ small : (c : After-node_in-node) → IsSmall c.in-Some.first c.in-Some.order
 small c = small_is c.self.inside.space c.self.inside.buddy c.self.inside.slabs c.args.t c.in-Some.first c.in-Some.order (opened _ _ _ _ c.self.view_is c.laws.ensures.together) (lent c) c.in-Some.ensures.0
 
 -- whether a slab begins at the block
-told : (c : After-is_slab) → has_slab c.self.inside.slabs (node_of c.self.inside.slabs.top c.self.inside.space.slots c.args.t c.in-Some.first) ≡ c.is_slab.result
+told : (c : After-is_slab_in) → has_slab c.self.inside.slabs (node_of c.self.inside.slabs.top c.self.inside.space.slots c.args.t c.in-Some.first) ≡ c.is_slab_in.result
 told c =
     ap (has_slab c.self.inside.slabs) (ap (λ (k : Parts). node_of k.slabs.top k.space.slots c.args.t c.in-Some.first) c.self.view_is ∙ c.node_in-node.ensures.value)
-    ∙ sym c.is_slab.ensures
+    ∙ sym c.is_slab_in.ensures
 
 -- it lies in the slot of the range
 pub node_in-node-requires : goal.node_in-node-requires
@@ -86,8 +86,8 @@ returns-in_default c =
           (λ o. no_block k.space k.buddy k.slabs x.t x.place x.len lends c.in_default.ensures o.0 o.1))),
     )
 
-pub returns-then-is_slab : goal.returns-then-is_slab
-returns-then-is_slab c =
+pub returns-then-is_slab_in : goal.returns-then-is_slab_in
+returns-then-is_slab_in c =
     let x = c.args in
     let k = c.self.inside in
     let lends : IsSteady k.space k.buddy k.slabs x.t = steady _ _ _ x.t (opened _ _ _ _ c.self.view_is c.laws.ensures.together) (known _ _ _ _ x.t c.self.view_is c.requires.tenant) in
@@ -96,7 +96,7 @@ returns-then-is_slab c =
     c.in-Some.ensures.0 c.in-Some.ensures.1 in
     rw (← c.self.view_is) (
       (λ e. record { some = some; inside = inr (c.object_in.ensures.0 e) }),
-      (λ reach. c.object_in.ensures.1 (only_second reach.inside (λ page. false≢true (sym (tells.0 page).0 ∙ (told (goal.at.returns-then-is_slab c).After-is_slab ∙ c.if-is_slab.true))))),
+      (λ reach. c.object_in.ensures.1 (only_second reach.inside (λ page. false≢true (sym (tells.0 page).0 ∙ (told (goal.at.returns-then-is_slab_in c).After-is_slab_in ∙ c.if-is_slab_in.true))))),
     )
 
 pub overflow_shl-result : goal.overflow_shl-result
@@ -119,7 +119,7 @@ returns c =
     let g = goal.at.returns c in
     let lends = lent g.After-node_in-node in
     let is = small g.After-node_in-node in
-    let page = told g.After-is_slab ∙ c.if-is_slab.false in
+    let page = told g.After-is_slab_in ∙ c.if-is_slab_in.false in
     let some : 0 < x.len = omega arith in
     let tells = block_tells k.space k.buddy k.slabs x.t x.place x.len c.in-Some.first c.in-Some.order lends some
     c.in-Some.ensures.0 c.in-Some.ensures.1 in

@@ -1,4 +1,3 @@
-use Rattle.std.proofs.Common.{Some, ap, ◌∙◌}
 use Rattle.parts_core.proofs.Changing.{opened, known}
 use Rattle.parts_core.proofs.Granting.{free_is_spare}
 use Rattle.parts_core.proofs.Moving.{IsMovable, changes, moves}
@@ -8,12 +7,6 @@ pub move_slot-requires-2-clause-unused : goal.move_slot-requires-2-clause-unused
 move_slot-requires-2-clause-unused c =
     (free_is_spare c.self.inside.space c.self.inside.buddy c.self.inside.slabs c.in_ok-from.to
     (opened _ _ _ _ c.self.view_is c.laws.ensures.together) c.in_ok-from.ensures.to).unused
-
-pub move_slot-requires-3-clause-apart : goal.move_slot-requires-3-clause-apart
-move_slot-requires-3-clause-apart c = λ same.
-    (free_is_spare c.self.inside.space c.self.inside.buddy c.self.inside.slabs c.in_ok-from.to
-    (opened _ _ _ _ c.self.view_is c.laws.ensures.together) c.in_ok-from.ensures.to).unused
-    c.args.t c.args.slot (c.self.invariant.slots c.args.t c.args.slot ∙ c.in_ok-from.ensures.from ∙ ap (λ m. Some m) same)
 
 pub move_slot-requires-3-clause-free : goal.move_slot-requires-3-clause-free
 move_slot-requires-3-clause-free c =
@@ -28,7 +21,7 @@ movable c = record {
   below = c.in_ok-from.ensures.below.0;
   free = c.in_ok-from.ensures.to;
   to_below = c.in_ok-from.ensures.below.1;
-  slabs = c.move_slot-3.ensures;
+  slabs = c.move_slot-3.ensures.moved;
 }
 
 pub invariant_of-self-2 : goal.invariant_of-self-2

@@ -7,7 +7,7 @@ emptying c = record {
   together = opened _ _ _ _ c.self.view_is c.laws.ensures.together;
   tenant = known _ _ _ _ c.args.t c.self.view_is c.requires;
   gives = c.give_up.ensures;
-  caches = c.reset-2.ensures;
+  caches = c.reset-2.ensures.reset;
 }
 
 pub invariant_of-self : goal.invariant_of-self
