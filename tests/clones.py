@@ -22,7 +22,7 @@ unproved=
 [ "${1-}" != --unproved ] || { unproved=yes; shift; mkdir -p out; }
 for name in "${@:-partmem}"; do
     if [ "$name" = library ]; then
-        [ -z "$unproved" ] || cp crates/partmem_c/out/libpartmem_c.a out/libpartmem-unproved.a
+        [ -z "$unproved" ] || python3 tests/toolchain.py whole crates/partmem_c/out/libpartmem_c.a out/libpartmem-unproved.a
     elif [ -n "$unproved" ]; then
         cp "crates/$name/out/$name" "out/$name-unproved"
     else

@@ -1,3 +1,4 @@
 pub mod Arguments
-pub mod Exit
 pub mod Machine
+pub mod Outcome
+pub mod Settings

@@ -1,5 +1,5 @@
 -- What the machine that a command line asks for is read from.
-use Rattle.std.specs.Prelude.{◌≡◌, ℕ, ◌^◌, ◌<◌, Option, Some, None, codes}
+use Rattle.std.specs.Prelude.{◌≡◌, ℕ, ◌^◌, ◌<◌, ◌≤◌, Option, Some, None, codes}
 use Rattle.std.specs.Str.Parse.{IsNumeral, digits_value, without_leading_plus}
 use Rattle.clap.specs.Words.{Text}
 use Rattle.kernel_core.specs.declared.kernel.Config.{Config}
@@ -30,3 +30,7 @@ pub record AsksSizes (read : Text → Option Text) (config : Config) : Type 0 wh
 pub record AsksMachine (read : Text → Option Text) (machine : Machine) : Type 0 where
   pub sizes : AsksSizes read machine.config
   pub only : MayWrite (read (codes "only")) machine.only
+
+-- `--only` is a number that is not below the tenants
+abbrev pub AsksNoTenant : (Text → Option Text) → Type 0
+AsksNoTenant read = (tenant tenants : ℕ) × Writes (read (codes "only")) tenant × Writes (read (codes "tenants")) tenants × (tenants ≤ tenant)

@@ -1,12 +1,13 @@
 //! The arguments that programs have in common.
 
-ghost use Rattle.std.specs.Prelude.{◌≡◌, ◌≤◌, ◌<◌, false, None, IfOk, map, option_map};
+ghost use Rattle.std.specs.Prelude.{◌≡◌, ◌≢◌, ◌≤◌, ◌<◌, ℕ, true, false, IfOk, IfErr, map, option_map};
 ghost use Rattle.std.specs.String.{string_bytes};
-ghost use Rattle.clap.specs.Words.{HasMatchesOf, app_of, first_value, found_of, one_text, rule_of};
+ghost use Rattle.clap.specs.Words.{HasMatchesOf, app_of, first_value, found_of, one_text, rule_of, takes};
 ghost use Rattle.command_line.specs.Arguments.{machine_command, number_rule, positional_rule, sizes_command};
-ghost use Rattle.command_line.specs.Machine.{Writes};
+ghost use Rattle.command_line.specs.Machine.{MayWrite, Writes};
+ghost use Rattle.command_line.specs.Outcome.{IsRefusal};
 
-use crate::refused::{Refused, not_parsed};
+use crate::outcome::{Outcome, not_parsed};
 use clap::{Arg, ArgAction, ArgMatches, Command, value_parser};
 use model_core::limits::{LEAST_ORDER, MOST_ORDER, MOST_SUPERBLOCKS, MOST_TENANTS};
 use std::alloc::{AllocError, Global};
@@ -23,9 +24,9 @@ pub struct Program<'a> {
     pub about: &'a str,
     /// What help has below the arguments.
     pub after_help: &'a str,
-    /// What is told where its input could not be read.
+    /// What it prints if its input could not be read.
     pub unread: &'a str,
-    /// What is told where its output could not be written.
+    /// What it prints if its output could not be written.
     pub unwritten: &'a str,
 }
 
@@ -94,16 +95,19 @@ pub fn positional<'a>(alloc: Global, name: &'a str, help: &'a str) -> Arg<'a>
     Arg::new(alloc, name).help(help).action(ArgAction::Set)
 }
 
-/// What the command finds in these words, without the program's name.
+/// Returns what the command finds in these words, without the program's name.
 ///
-/// Refused with `Help`, `Version`, `BadLine` or `NoMemory`.
+/// Refused with `Help`, `Version`, `BadLine` or `NoMemory`: with `NoMemory` alone if clap's model takes the words.
 pub fn parse<'a>(
     alloc: Global,
     command: Command<'a>,
-    words: &'a [String],
-) -> Result<ArgMatches<'a>, Refused>
-    // Which word stands under which name is as clap's model says.
-    ensures found { IfOk result (HasMatchesOf (app_of command.entry) (map (λ word. string_bytes word) words.entry.now)) }
+    words: &'a [&'a str],
+) -> Result<ArgMatches<'a>, Outcome>
+    // Which word is under which name is as clap's model says.
+    ensures found { IfOk result (HasMatchesOf (app_of command.entry) (map (λ word. word.now) words.entry.now)) }
+    ensures refused { IfErr result (λ outcome. IsRefusal outcome × (outcome ≢ Outcome.BadOnly)) }
+    ensures takes { IfErr result (λ outcome. takes (app_of command.entry) (map (λ word. word.now) words.entry.now) ≡ true
+        → outcome ≡ Outcome.NoMemory) }
 {
     match command.try_get_matches_from(words) {
         Ok(matches) => Ok(matches),
@@ -111,23 +115,31 @@ pub fn parse<'a>(
     }
 }
 
-/// The number of a required argument; 0, which no range has, where it is missing.
-pub(crate) fn number_of(matches: &ArgMatches<'_>, name: &str) -> u32
-    ensures missing { one_text (found_of matches.now) name.now ≡ None → result ≡ 0 }
-    ensures value { 0 < result → Writes (one_text (found_of matches.now) name.now) result }
+/// Returns the number that is written under this name.
+pub(crate) fn number_written(matches: &ArgMatches<'_>, name: &str) -> Option<u32>
+    ensures { MayWrite (one_text (found_of matches.now) name.now) result }
 {
-    matches.get_one::<u32>(name).unwrap_or(0)
+    matches.get_one::<u32>(name)
 }
 
-/// The path under this name, as it was written.
+/// Returns the number that is written under this name, or 0, which no range has.
+pub(crate) fn number_of(matches: &ArgMatches<'_>, name: &str) -> u32
+    ensures value { 0 < result → Writes (one_text (found_of matches.now) name.now) result }
+    ensures written { (n : ℕ) → Writes (one_text (found_of matches.now) name.now) n → result ≡ n }
+{
+    number_written(matches, name).unwrap_or(0)
+}
+
+/// Returns the path under this name, as it was written.
 ///
 /// Refused with `NoMemory`.
 pub fn path_of(
     alloc: Global,
     matches: &ArgMatches<'_>,
     name: &str,
-) -> Result<Option<String>, Refused>
-    ensures { IfOk result (λ path. option_map (λ bytes. string_bytes bytes) path ≡ first_value (found_of matches.now) name.now) }
+) -> Result<Option<String>, Outcome>
+    ensures path { IfOk result (λ path. option_map (λ bytes. string_bytes bytes) path ≡ first_value (found_of matches.now) name.now) }
+    ensures refused { IfErr result (λ outcome. outcome ≡ Outcome.NoMemory) }
 {
     match matches.get_str(name) {
         None => Ok(None),

@@ -1,21 +1,24 @@
-//! What programs that run a trace have in common: the machine that a command line asks for, the words that are refused, the
-//! trace that is opened, and the exits with what is told of them.
+//! What programs that run a trace have in common: the machine that a command line asks for, the files that it names, and how
+//! the program ends. The command line of `partmem` itself is here too ([`read_words`]), so that tests can call it.
 //!
-//! Such a program has the arguments of `command`, or of `sizes_command` where it looks at no one tenant, and adds those of its
-//! own by `Command::arg`; from what is found in the words it takes `Machine::found`, or `sizes_found`, and, of the rest, what is
-//! its own.
+//! Such a program has the arguments of `command`, or of `sizes_command` if it has no `--only`, and adds its own by
+//! `Command::arg`. From what is found in the words it takes `Machine::found` or `sizes_found`, and then its own.
 #![tactic(auto)]
 
 mod arguments;
-mod exit;
+mod files;
 mod machine;
+mod outcome;
 mod process;
-mod refused;
+mod settings;
 mod sizes;
+mod words;
 
 pub use arguments::{Program, command, number, parse, path_of, positional, sizes_command};
-pub use exit::{Exit, Line, Outcome};
+pub use files::{FileError, WatchedReader, open, tell_file};
 pub use machine::Machine;
-pub use process::{hand_out, open, tell, words_given};
-pub use refused::Refused;
+pub use outcome::{Line, Outcome, outcome_of};
+pub use process::{hand_out, tell, texts_of, words_given};
+pub use settings::{OWN_PROGRAM, PROGRAM, Settings};
 pub use sizes::sizes_found;
+pub use words::read_words;

@@ -1,43 +1,52 @@
 //! The machine that a command line asks for.
 
-ghost use Rattle.std.specs.Prelude.{◌≡◌, ◌≢◌, ◌<◌, true, None, IfOk, codes};
+ghost use Rattle.std.specs.Prelude.{◌≡◌, ◌<◌, ◌≤◌, ℕ, true, IfErr, IfOk, codes};
 ghost use Rattle.std.specs.Option.{ForSome};
 ghost use Rattle.clap.specs.Words.{found_of, one_text};
 ghost use Rattle.kernel_core.specs.Booting.{is_bootable};
 
-use crate::refused::Refused;
+use crate::arguments::number_written;
+use crate::outcome::Outcome;
 use crate::sizes::sizes_found;
 use clap::ArgMatches;
 use kernel_core::Config;
 use std::alloc::Global;
 
-/// A machine, and the tenant who is looked at.
+/// A machine, and the tenant that is written or drawn.
 #[derive(Debug, Drop)]
 pub struct Machine {
     /// The sizes, each in its range.
     pub config: Config,
-    /// The one tenant whose part is written, a number below the tenants; all of them without it.
+    /// The one tenant whose part is written, a number below the tenants. All of them if there is none.
     pub only: Option<u8>,
     ghost bootable: { is_bootable config ≡ true },
     ghost below: { ForSome only (λ tenant. tenant < config.tenants) },
 }
 
 impl Machine {
-    ghost use Rattle.command_line.specs.Machine.{AsksMachine};
+    ghost use Rattle.command_line.specs.Machine.{AsksMachine, AsksNoTenant};
+    ghost use Rattle.command_line.specs.Outcome.{IsRefusal};
+    ghost use Rattle.command_line.specs.declared.machine.Machine.{Machine};
 
-    /// The machine of a command line that is in order.
+    /// Returns the machine that the command line asks for.
     ///
-    /// Refused with `BadLine`, `BadOnly` (the command line is otherwise in order) or `NoMemory`.
-    pub fn found(alloc: Global, matches: &ArgMatches<'_>) -> Result<Machine, Refused>
+    /// Refused with `BadLine` if a size is missing or out of its range, with `BadOnly` if the sizes are in order and `--only` is
+    /// not below the tenants, or with `NoMemory`.
+    pub fn found(alloc: Global, matches: &ArgMatches<'_>) -> Result<Machine, Outcome>
         ensures asked { IfOk result (AsksMachine (one_text (found_of matches.now))) }
-        ensures given { result ≡ Err Refused.BadOnly → one_text (found_of matches.now) (codes "only") ≢ None }
+        ensures refused { IfErr result IsRefusal }
+        ensures only { result ≡ Err Outcome.BadOnly → AsksNoTenant (one_text (found_of matches.now)) }
+        ensures given { IfErr result (λ outcome. (machine : Machine) → AsksMachine (one_text (found_of matches.now)) machine
+            → outcome ≡ Outcome.NoMemory) }
     {
         let config = sizes_found(alloc, matches)?;
-        let only = match matches.get_one::<u32>("only") {
-            None => None,
-            Some(tenant) if tenant < config.tenants => Some(tenant as u8),
-            Some(_) => return Err(Refused::BadOnly),
+        let Some(tenant) = number_written(matches, "only") else {
+            return Ok(Machine { config, only: None });
         };
+        if tenant >= config.tenants {
+            return Err(Outcome::BadOnly);
+        }
+        let only = Some(tenant as u8);
         Ok(Machine { config, only })
     }
 }

@@ -1,23 +1,24 @@
-//! The process around a run: its words, its trace, and what it tells at its end.
+//! The process around a run: its words, and what it says at its end.
 
-ghost use Rattle.std.specs.Prelude.{◌≡◌};
+ghost use Rattle.std.specs.Prelude.{◌≡◌, IfErr, IfOk, map};
 ghost use Rattle.std.specs.Process.{exit_status};
-ghost use Rattle.command_line.specs.Exit.{IsHandedOut, status_of};
+ghost use Rattle.std.specs.String.{string_bytes};
+ghost use Rattle.command_line.specs.Outcome.{IsBadLine, IsHandedOut, status_of};
 
 use crate::arguments::Program;
-use crate::exit::{Exit, Outcome};
-use crate::refused::{Refused, not_words};
-use either::{Either, Left, Right};
+use crate::outcome::{Outcome, not_words};
+use std::alloc::{AllocError, Global};
 use std::env;
-use std::fs::File;
 use std::io::{self, Write};
 use std::process::ExitCode;
-use std::rt::{Env, Files};
+use std::rt::Env;
 
-/// The words of the process's command line, without the program's name.
+/// Returns the words of the process's command line, without the program's name.
 ///
-/// Refused with `BadLine` (a word is no UTF-8) or `NoMemory`.
-pub fn words_given(rt: &(impl Env + AllocGlobal)) -> Result<Vec<String>, Refused> {
+/// Refused with `BadLine` if a word is no UTF-8, or with `NoMemory`.
+pub fn words_given(rt: &(impl Env + AllocGlobal)) -> Result<Vec<String>, Outcome>
+    ensures { IfErr result IsBadLine }
+{
     let alloc = rt.alloc();
     match env::args(rt) {
         Ok(words) => Ok(words.skip(1).collect(alloc)?),
@@ -25,28 +26,28 @@ pub fn words_given(rt: &(impl Env + AllocGlobal)) -> Result<Vec<String>, Refused
     }
 }
 
-/// The trace: the file of this path, or standard input without one.
-pub fn open<R: Files + Input>(
-    rt: &R,
-    path: Option<&str>,
-) -> io::Result<Either<R::Reader, R::File>> {
-    match path {
-        None => Ok(Left(rt.reader())),
-        Some(path) => Ok(Right(File::open(rt, path)?)),
+/// Returns the texts of these words, empty ones too.
+pub fn texts_of<'a>(alloc: Global, words: &'a [String]) -> Result<Vec<&'a str>, AllocError>
+    ensures { IfOk result (λ texts. map (λ text. text.now) texts.items ≡ map (λ word. string_bytes word) words.entry.now) }
+{
+    let mut texts = Vec::with_capacity(alloc, words.len())?;
+    for word in words {
+        texts.push(word.as_str())?;
     }
+    Ok(texts)
 }
 
-/// Writes the text of help or of the version, where that was asked for, and flushes; answers how the process ends.
-pub fn hand_out<W: Write>(out: &mut W, refused: Refused) -> Exit
+/// Writes the text of help or of the version, if that was asked for, and flushes. Returns how the program ends.
+pub fn hand_out<W: Write>(out: &mut W, refused: Outcome) -> Outcome
     ensures { IsHandedOut refused result }
 {
     let written = match &refused {
-        Refused::Help(text) | Refused::Version(text) => write_out(out, text.as_str()),
+        Outcome::Help(text) | Outcome::Version(text) => write_out(out, text.as_str()),
         _ => Ok(()),
     };
     match written {
-        Ok(()) => Exit::Refused(refused),
-        Err(_) => Exit::Ran(Outcome::Unwritable),
+        Ok(()) => refused,
+        Err(_) => Outcome::Unwritable,
     }
 }
 
@@ -56,16 +57,16 @@ fn write_out<W: Write>(out: &mut W, text: &str) -> io::Result<()> {
     out.flush()
 }
 
-/// Tells on standard error what went wrong, if anything did, and answers the exit status.
-pub fn tell(rt: &impl Eprint, program: Program<'_>, exit: &Exit) -> ExitCode
-    ensures { exit_status result ≡ status_of exit.now }
+/// Prints on standard error what went wrong, if anything did, and returns the exit status.
+pub fn tell(rt: &impl Eprint, program: Program<'_>, outcome: &Outcome) -> ExitCode
+    ensures { exit_status result ≡ status_of outcome.now }
 {
-    let _unheard = match exit {
-        Exit::Refused(Refused::BadLine(text)) => eprint!(rt; "{text}"),
-        other => match other.line(program) {
+    let _unheard = match outcome {
+        Outcome::BadLine(text) => eprint!(rt; "{text}"),
+        other => match other.text(program) {
             Some(line) => eprintln!(rt; "{line}"),
             None => Ok(()),
         },
     };
-    ExitCode::from(exit.status())
+    ExitCode::from(outcome.status())
 }

@@ -1,23 +1,27 @@
 //! The sizes that a command line asks for.
 
-ghost use Rattle.std.specs.Prelude.{◌≡◌, ◌≢◌, true, IfErr, IfOk};
+ghost use Rattle.std.specs.Prelude.{◌≡◌, true, IfErr, IfOk};
 ghost use Rattle.clap.specs.Words.{found_of, one_text};
 ghost use Rattle.kernel_core.specs.Booting.{is_bootable};
 ghost use Rattle.command_line.specs.Machine.{AsksSizes};
+ghost use Rattle.command_line.specs.Outcome.{IsBadLine};
+ghost use Rattle.kernel_core.specs.declared.kernel.Config.{Config};
 
 use crate::arguments::number_of;
-use crate::refused::{Refused, bad_line};
+use crate::outcome::{Outcome, bad_line};
 use clap::ArgMatches;
 use kernel_core::Config;
 use std::alloc::Global;
 
-/// The sizes of a command line that is in order, each in its range.
+/// Returns the sizes that the command line asks for.
 ///
-/// Refused with `BadLine` or `NoMemory`.
-pub fn sizes_found(alloc: Global, matches: &ArgMatches<'_>) -> Result<Config, Refused>
+/// Refused with `BadLine` if one is missing or out of its range, or with `NoMemory`.
+pub fn sizes_found(alloc: Global, matches: &ArgMatches<'_>) -> Result<Config, Outcome>
     ensures asked { IfOk result (AsksSizes (one_text (found_of matches.now))) }
     ensures bootable { IfOk result (λ config. is_bootable config ≡ true) }
-    ensures refused { IfErr result (λ refused. refused ≢ Refused.BadOnly) }
+    ensures refused { IfErr result IsBadLine }
+    ensures given { IfErr result (λ outcome. (sizes : Config) → AsksSizes (one_text (found_of matches.now)) sizes
+        → is_bootable sizes ≡ true → outcome ≡ Outcome.NoMemory) }
 {
     let config = Config {
         order: number_of(matches, "order"),

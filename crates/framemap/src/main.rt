@@ -2,16 +2,19 @@
 //!
 //! `framemap --order S --superblocks N --tenants T [--only T] [--columns C] [FILE]`
 //!
-//! The exits are those of `command_line::Exit`.
+//! The exits are those of `command_line::Outcome`. If a FILE could not be opened or read, its name and the system's reason
+//! are printed too.
 #![tactic(auto)]
 
 ghost use Rattle.std.specs.Prelude.{◌≡◌, OnErr};
-ghost use Rattle.command_line.specs.declared.exit.Outcome.{Outcome};
+ghost use Rattle.command_line.specs.declared.outcome.Outcome.{Outcome};
 
 mod run;
 mod settings;
 
-use command_line::{Exit, Outcome, Refused, hand_out, open, tell, words_given};
+use command_line::{
+    FileError, Outcome, WatchedReader, hand_out, open, tell, tell_file, texts_of, words_given,
+};
 use replay_core::ReaderFeed;
 use run::{Drawn, run};
 use settings::{PROGRAM, Settings, read_words};
@@ -30,45 +33,37 @@ fn main(rt: HostRuntime) -> ExitCode {
             tell_run(&rt, &settings, ran)
         }
         Err(refused) => {
-            let exit = hand_out(&mut io::writer(&rt), refused);
-            tell(&rt, PROGRAM, &exit)
+            let outcome = hand_out(&mut io::writer(&rt), refused);
+            tell(&rt, PROGRAM, &outcome)
         }
     }
 }
 
-/// How a run ended, and why the trace could not be opened.
+/// How a run ended, and why the trace could not be opened or read.
 #[derive(Drop)]
 struct Ran {
     drawn: Drawn,
-    unopened: Option<io::Error>,
+    error: Option<FileError>,
 }
 
-impl Ran {
-    fn opened(drawn: Drawn) -> Ran {
-        Ran {
-            drawn,
-            unopened: None,
-        }
-    }
-}
-
-/// Tells how a run ended, and behind that what is to be known of it.
+/// Prints how a run ended, and then if the trace had no event, and which file could not be opened or read.
 fn tell_run(rt: &impl Eprint, settings: &Settings, ran: Ran) -> ExitCode {
     let is_of_nothing = ran.drawn.is_of_nothing();
-    let code = tell(rt, PROGRAM, &Exit::Ran(ran.drawn.outcome));
+    let code = tell(rt, PROGRAM, &ran.drawn.outcome);
     if is_of_nothing {
         let _unheard = eprintln!(rt; "framemap: no line of the trace was an event");
     }
-    if let (Some(path), Some(error)) = (&settings.file, &ran.unopened) {
-        let _unheard = eprintln!(rt; "framemap: {path}: {error}");
+    if let (Some(path), Some(error)) = (&settings.file, &ran.error) {
+        tell_file(rt, PROGRAM, path.as_str(), error);
     }
     code
 }
 
 /// What the command line asks for.
-fn read_command_line(rt: &(impl Env + AllocGlobal)) -> Result<Settings, Refused> {
+fn read_command_line(rt: &(impl Env + AllocGlobal)) -> Result<Settings, Outcome> {
     let words = words_given(rt)?;
-    read_words(rt.alloc(), words.as_slice())
+    let texts = texts_of(rt.alloc(), words.as_slice())?;
+    read_words(rt.alloc(), texts.as_slice())
 }
 
 /// Runs the trace of a reader into standard output; one that could not be opened, for whatever cause, is unreadable. It may
@@ -85,14 +80,28 @@ fn run_opened<R: Read + Drop>(
         Err(error) => {
             return Ran {
                 drawn: Drawn::at_once(Outcome::Unreadable),
-                unopened: Some(error),
+                error: Some(FileError::Open(error)),
             };
         }
     };
+    let mut watched = WatchedReader::new(reader);
+    let drawn = run_read(rt, settings, &mut watched);
+    Ran {
+        drawn,
+        error: watched.error(),
+    }
+}
+
+/// Runs the trace of a reader into standard output.
+fn run_read<R: Read + Drop>(
+    rt: &(impl Print + AllocGlobal),
+    settings: &Settings,
+    reader: R,
+) -> Drawn {
     let alloc = rt.alloc();
     let Ok(mut writer) = BufWriter::with_capacity(alloc, BUFFER_BYTES, io::writer(rt)) else {
-        return Ran::opened(Drawn::at_once(Outcome::NoMemory));
+        return Drawn::at_once(Outcome::NoMemory);
     };
     let mut feed = ReaderFeed::with_room(reader, u64::MAX);
-    Ran::opened(run(alloc, settings, &mut feed, &mut writer))
+    run(alloc, settings, &mut feed, &mut writer)
 }

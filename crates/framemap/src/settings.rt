@@ -1,7 +1,7 @@
 //! The command line.
 
 use clap::Command;
-use command_line::{Machine, Program, Refused, number, parse, path_of, positional};
+use command_line::{Machine, Outcome, Program, number, parse, path_of, positional};
 use frame_picture::history::MOST_COLUMNS;
 use std::alloc::{AllocError, Global};
 
@@ -45,7 +45,7 @@ pub struct Settings {
 }
 
 /// Reads the words of a command line, without the program's name.
-pub fn read_words<'a>(alloc: Global, words: &'a [String]) -> Result<Settings, Refused> {
+pub fn read_words<'a>(alloc: Global, words: &'a [&'a str]) -> Result<Settings, Outcome> {
     let matches = parse(alloc, command(alloc)?, words)?;
     let columns = matches.get_one::<u32>("columns").unwrap_or(DEFAULT_COLUMNS);
     Ok(Settings {

@@ -6,7 +6,7 @@ ghost use Rattle.partcheck.specs.Checked.{status_of_check};
 
 use crate::settings::{PROGRAM, REPLIES_PROGRAM};
 use check_core::{Finding, Unchecked};
-use command_line::{Exit, Outcome, tell};
+use command_line::{Outcome, tell};
 use std::process::ExitCode;
 
 /// How a check ended.
@@ -23,18 +23,16 @@ pub enum Checked {
 /// The exit status where a reply breaks a promise.
 const BROKEN: u8 = 4;
 
-/// Tells on standard error why there is no finding, if there is none, and answers the exit status.
+/// Prints on standard error why there is no finding, if there is none, and returns the exit status.
 pub fn tell_checked(rt: &impl Eprint, checked: Checked) -> ExitCode
     ensures { exit_status result ≡ status_of_check checked }
 {
     match checked {
-        Checked::Found(Finding::Kept(_)) => tell(rt, PROGRAM, &Exit::Ran(Outcome::Done)),
+        Checked::Found(Finding::Kept(_)) => tell(rt, PROGRAM, &Outcome::Done),
         Checked::Found(Finding::Broken(_)) => ExitCode::from(BROKEN),
-        Checked::Failed(Unchecked::Trace) => tell(rt, PROGRAM, &Exit::Ran(Outcome::Unreadable)),
-        Checked::Failed(Unchecked::Replies) => {
-            tell(rt, REPLIES_PROGRAM, &Exit::Ran(Outcome::Unreadable))
-        }
-        Checked::Failed(Unchecked::Memory) => tell(rt, PROGRAM, &Exit::Ran(Outcome::NoMemory)),
-        Checked::Unwritten => tell(rt, PROGRAM, &Exit::Ran(Outcome::Unwritable)),
+        Checked::Failed(Unchecked::Trace) => tell(rt, PROGRAM, &Outcome::Unreadable),
+        Checked::Failed(Unchecked::Replies) => tell(rt, REPLIES_PROGRAM, &Outcome::Unreadable),
+        Checked::Failed(Unchecked::Memory) => tell(rt, PROGRAM, &Outcome::NoMemory),
+        Checked::Unwritten => tell(rt, PROGRAM, &Outcome::Unwritable),
     }
 }

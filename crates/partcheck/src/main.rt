@@ -10,8 +10,13 @@
 //! | 1 | the replies cannot be | nothing | `replies could not be read` |
 //! | 1 | the finding, help or the version cannot be written | | `finding could not be written` |
 //!
-//! The other exits are those of `command_line::Exit`.
+//! If a file could not be opened or read, its name and the system's reason are printed too. The other exits are those of
+//! `command_line::Outcome`.
 #![tactic(auto)]
+
+ghost use Rattle.std.specs.Prelude.{◌≡◌};
+ghost use Rattle.std.specs.Process.{exit_status};
+ghost use Rattle.partcheck.specs.Checked.{status_of_check};
 
 mod checked;
 mod run;
@@ -21,7 +26,9 @@ mod words;
 
 use check_core::{Finding, LineReader, Shown, Unchecked};
 use checked::{Checked, tell_checked};
-use command_line::{Refused, hand_out, tell, words_given};
+use command_line::{
+    FileError, Outcome, WatchedReader, hand_out, tell, tell_file, texts_of, words_given,
+};
 use replay_core::ReaderFeed;
 use run::run;
 use settings::{PROGRAM, Settings};
@@ -41,34 +48,77 @@ const STANDARD_INPUT: &str = "-";
 fn main(rt: HostRuntime) -> ExitCode {
     match read_command_line(&rt) {
         Ok(settings) => {
-            let checked = check_files(&rt, &settings);
-            tell_checked(&rt, checked)
+            let ended = check_files(&rt, &settings);
+            tell_ended(&rt, &settings, &ended)
         }
         Err(refused) => {
-            let exit = hand_out(&mut io::writer(&rt), refused);
-            tell(&rt, PROGRAM, &exit)
+            let outcome = hand_out(&mut io::writer(&rt), refused);
+            tell(&rt, PROGRAM, &outcome)
         }
     }
 }
 
 /// What the command line asks for.
-fn read_command_line(rt: &(impl Env + AllocGlobal)) -> Result<Settings, Refused> {
+fn read_command_line(rt: &(impl Env + AllocGlobal)) -> Result<Settings, Outcome> {
     let words = words_given(rt)?;
-    read_words(rt.alloc(), words.as_slice())
+    let texts = texts_of(rt.alloc(), words.as_slice())?;
+    read_words(rt.alloc(), texts.as_slice())
+}
+
+/// How a check ended, and why a file could not be opened or read.
+#[derive(Clone, Copy)]
+struct Ended {
+    checked: Checked,
+    error: Option<FileError>,
+}
+
+impl Ended {
+    /// Without a finding.
+    fn failed(unchecked: Unchecked, error: Option<FileError>) -> Ended {
+        Ended {
+            checked: Checked::Failed(unchecked),
+            error,
+        }
+    }
+}
+
+/// Prints why there is no finding, if there is none, and which file could not be opened or read. Returns the exit status.
+fn tell_ended(rt: &impl Eprint, settings: &Settings, ended: &Ended) -> ExitCode
+    ensures { exit_status result ≡ status_of_check ended.now.checked }
+{
+    let code = tell_checked(rt, ended.checked);
+    if let Some(error) = &ended.error {
+        tell_file(rt, PROGRAM, name_of(settings, ended.checked), error);
+    }
+    code
+}
+
+/// Returns the name of the file without which a check ended so.
+fn name_of(settings: &Settings, checked: Checked) -> &str {
+    match checked {
+        Checked::Failed(Unchecked::Replies) => settings.replies.as_str(),
+        _ if settings.trace.as_str() == STANDARD_INPUT => "standard input",
+        _ => settings.trace.as_str(),
+    }
 }
 
 /// Checks the files, and writes what is found to standard output.
-fn check_files(rt: &(impl Files + Input + Print + AllocGlobal), settings: &Settings) -> Checked {
+fn check_files(rt: &(impl Files + Input + Print + AllocGlobal), settings: &Settings) -> Ended {
     let Ok(mut out) = BufWriter::with_capacity(rt.alloc(), LINE_BYTES, io::writer(rt)) else {
-        return Checked::Failed(Unchecked::Memory);
+        return Ended::failed(Unchecked::Memory, None);
     };
     let mut shown = Shown::new();
-    match find(rt, settings, &mut shown) {
-        Err(unchecked) => Checked::Failed(unchecked),
-        Ok(finding) => match tell_finding(&mut out, &finding, &shown, settings.config.tenants) {
-            Ok(()) => Checked::Found(finding),
-            Err(_) => Checked::Unwritten,
-        },
+    let finding = match find(rt, settings, &mut shown) {
+        Ok(finding) => finding,
+        Err(ended) => return ended,
+    };
+    let checked = match tell_finding(&mut out, &finding, &shown, settings.config.tenants) {
+        Ok(()) => Checked::Found(finding),
+        Err(_) => Checked::Unwritten,
+    };
+    Ended {
+        checked,
+        error: None,
     }
 }
 
@@ -88,13 +138,13 @@ fn find(
     rt: &(impl Files + Input + AllocGlobal),
     settings: &Settings,
     shown: &mut Shown,
-) -> Result<Finding, Unchecked> {
+) -> Result<Finding, Ended> {
     if settings.trace.as_str() == STANDARD_INPUT {
         return find_beside(rt, settings, rt.reader(), shown);
     }
     match File::open(rt, settings.trace.as_str()) {
         Ok(trace) => find_beside(rt, settings, trace, shown),
-        Err(_) => Err(Unchecked::Trace),
+        Err(error) => Err(Ended::failed(Unchecked::Trace, Some(FileError::Open(error)))),
     }
 }
 
@@ -104,15 +154,26 @@ fn find_beside<R: Read + Drop>(
     settings: &Settings,
     trace: R,
     shown: &mut Shown,
-) -> Result<Finding, Unchecked> {
-    let Ok(replies) = File::open(rt, settings.replies.as_str()) else {
-        return Err(Unchecked::Replies);
+) -> Result<Finding, Ended> {
+    let replies = match File::open(rt, settings.replies.as_str()) {
+        Ok(replies) => replies,
+        Err(error) => {
+            return Err(Ended::failed(Unchecked::Replies, Some(FileError::Open(error))));
+        }
     };
-    run(
+    let mut trace = WatchedReader::new(trace);
+    let mut replies = WatchedReader::new(replies);
+    let found = run(
         rt.alloc(),
         settings.config,
-        &mut LineReader::new(ReaderFeed::with_room(trace, u64::MAX)),
-        &mut LineReader::new(ReaderFeed::with_room(replies, u64::MAX)),
+        &mut LineReader::new(ReaderFeed::with_room(&mut trace, u64::MAX)),
+        &mut LineReader::new(ReaderFeed::with_room(&mut replies, u64::MAX)),
         shown,
-    )
+    );
+    match found {
+        Ok(finding) => Ok(finding),
+        Err(Unchecked::Trace) => Err(Ended::failed(Unchecked::Trace, trace.error())),
+        Err(Unchecked::Replies) => Err(Ended::failed(Unchecked::Replies, replies.error())),
+        Err(Unchecked::Memory) => Err(Ended::failed(Unchecked::Memory, None)),
+    }
 }

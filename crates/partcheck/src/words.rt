@@ -7,13 +7,13 @@ ghost use Rattle.partcheck.specs.Settings.{IsCheckAskedBy, check_command_line};
 
 use crate::settings::{PROGRAM, Settings};
 use clap::{ArgMatches, Command};
-use command_line::{Refused, parse, path_of, positional, sizes_command, sizes_found};
+use command_line::{Outcome, parse, path_of, positional, sizes_command, sizes_found};
 use std::alloc::{AllocError, Global};
 
 /// Reads the words of a command line, without the program's name.
-pub fn read_words<'a>(alloc: Global, words: &'a [String]) -> Result<Settings, Refused>
-    // Which word stands under which name is as clap's model says.
-    ensures asked { IfOk result (IsCheckAskedBy (map (λ word. string_bytes word) words.entry.now)) }
+pub fn read_words<'a>(alloc: Global, words: &'a [&'a str]) -> Result<Settings, Outcome>
+    // Which word is under which name is as clap's model says.
+    ensures asked { IfOk result (IsCheckAskedBy (map (λ word. word.now) words.entry.now)) }
 {
     let matches = parse(alloc, command(alloc)?, words)?;
     Ok(Settings {
@@ -23,17 +23,17 @@ pub fn read_words<'a>(alloc: Global, words: &'a [String]) -> Result<Settings, Re
     })
 }
 
-/// The path under this name, as it was written.
+/// Returns the path under this name, as it was written.
 ///
-/// Refused with `BadLine` where there is none, or with `NoMemory`.
-fn required_path(alloc: Global, matches: &ArgMatches<'_>, name: &str) -> Result<String, Refused>
+/// Refused with `BadLine` if there is none, or with `NoMemory`.
+fn required_path(alloc: Global, matches: &ArgMatches<'_>, name: &str) -> Result<String, Outcome>
     ensures { IfOk result (λ path. first_value (found_of matches.now) name.now ≡ Some (string_bytes path)) }
 {
     match path_of(alloc, matches, name)? {
         Some(path) => Ok(path),
         None => {
             let text = "error: TRACE and REPLIES are required\n";
-            Err(Refused::BadLine(String::from_str(alloc, text)?))
+            Err(Outcome::BadLine(String::from_str(alloc, text)?))
         }
     }
 }

@@ -17,12 +17,18 @@ use Rattle.own_trace.specs.declared.keeping.KeepError.TheVariants as Kept
 use Rattle.own_trace.specs.Kept.{own_text}
 use Rattle.own_trace.specs.Keeping.{KeepsOwn, IsKeptToEnd, NamesEnd, BeginsOwn}
 use Rattle.own_trace.proofs.Kept.{own_both}
-use Rattle.command_line.specs.declared.exit.Outcome.TheVariants.{Unwritable, NoMemory}
+use Rattle.command_line.specs.declared.outcome.Outcome.{Outcome}
+use Rattle.command_line.specs.declared.outcome.Outcome.TheVariants.{Unwritable, NoMemory}
 use Rattle.command_line.specs.declared.machine.Machine.{Machine}
-use Rattle.partmem.specs.Outcome.{no_tally, outcome_of, outcome_of_kept}
+use Rattle.command_line.specs.Outcome.{after_flush}
+use Rattle.partmem.specs.Outcome.{no_tally, outcome_of_kept}
 use Rattle.partmem.specs.Own.{own_of, WritesOwn, IsOwnOfTrace}
 use Rattle.partmem.specs.Run.{EndsAs, HasReached, IsBeginning, IsGiven}
-use Rattle.partmem.proofs.Writing.{IsNew, ends, given_so_far, of_trace, reached}
+use Rattle.partmem.proofs.Writing.{IsNew, ends, given_so_far, of_trace, reached, run_outcome}
+
+-- the outcome of a run that kept a tenant's own list
+abbrev pub kept_outcome : Result (Unit {0}) KeepError → (unsent flushed : Bool) → Outcome
+kept_outcome kept unsent flushed = after_flush (outcome_of_kept kept) unsent flushed
 
 -- The same end of a replay: a keeping ends as it.
 as_replayed : Result (Unit {0}) KeepError → Result Tally ReplayError
@@ -30,7 +36,7 @@ as_replayed (Ok done) = Ok no_tally
 as_replayed (Err Kept.Feed) = Err (Failed.Feed no_tally)
 as_replayed (Err Kept.Drain) = Err (Failed.Drain no_tally)
 
-same_outcome : (kept : Result (Unit {0}) KeepError) (unsent flushed : Bool) → outcome_of (as_replayed kept) unsent flushed ≡ outcome_of_kept kept unsent flushed
+same_outcome : (kept : Result (Unit {0}) KeepError) (unsent flushed : Bool) → run_outcome (as_replayed kept) unsent flushed ≡ kept_outcome kept unsent flushed
 unfolding as_replayed
 same_outcome (Ok done) unsent true = refl
 same_outcome (Ok done) unsent false = refl
@@ -53,7 +59,7 @@ same_named (Err Kept.Drain) unread undrained is = is
 -- how much of what was taken went on
 pub own_reached : (kept : Result (Unit {0}) KeepError) (unsent flushed failed : Bool) (before writer : Option (List ℕ)) (held taken : List ℕ)
     → failed ≡ not flushed → (flushed ≡ true → held ≡ []) → Appends before (append_known writer held) taken
-    → HasReached (outcome_of_kept kept unsent flushed) failed before writer held taken (take (length taken - length held) taken)
+    → HasReached (kept_outcome kept unsent flushed) failed before writer held taken (take (length taken - length held) taken)
 own_reached kept unsent flushed failed before writer held taken same none appended =
     subst (λ outcome. HasReached outcome failed before writer held taken (take (length taken - length held) taken)) (same_outcome kept unsent flushed)
     (reached (as_replayed kept) unsent flushed failed before writer held taken same none appended)
@@ -61,13 +67,13 @@ own_reached kept unsent flushed failed before writer held taken same none append
 -- which end had failed
 pub own_ends : (kept : Result (Unit {0}) KeepError) (ended unread undrained unsent flushed : Bool) → IsKeptToEnd kept ended → NamesEnd kept unread undrained
     → (unsent ≡ true → flushed ≡ false) → (undrained ≡ true → flushed ≡ false)
-    → EndsAs (outcome_of_kept kept unsent flushed) ended unread (not flushed) unsent
+    → EndsAs (kept_outcome kept unsent flushed) ended unread (not flushed) unsent
 own_ends kept ended unread undrained unsent flushed done named stopped fine =
     subst (λ outcome. EndsAs outcome ended unread (not flushed) unsent) (same_outcome kept unsent flushed)
     (ends (as_replayed kept) ended unread undrained unsent flushed (same_done kept ended done) (same_named kept unread undrained named) stopped fine)
 
 own_given : (kept : Result (Unit {0}) KeepError) (unsent flushed ended : Bool) (given more : List ℕ) → IsKeptToEnd kept ended → (ended ≡ true → more ≡ [])
-    → IsGiven (outcome_of_kept kept unsent flushed) (given ++ more) given
+    → IsGiven (kept_outcome kept unsent flushed) (given ++ more) given
 own_given kept unsent flushed ended given more done over =
     subst (λ outcome. IsGiven outcome (given ++ more) given) (same_outcome kept unsent flushed)
     (given_so_far (as_replayed kept) unsent flushed ended given more (same_done kept ended done) over)
@@ -131,7 +137,7 @@ own_unwritten stays m t k k' ended given taken kept new ran done =
 
 -- the outcome of the run
 pub own_written : EndedLinesStay → (m : Machine) (t : ℕ) (k k' : Parts) (ended : Bool) (given taken : List ℕ) (kept : Result (Unit {0}) KeepError) (unsent flushed : Bool)
-    → IsNew m k → KeepsOwn ended t k k' given taken kept → IsKeptToEnd kept ended → WritesOwn m.config t (outcome_of_kept kept unsent flushed) given taken
+    → IsNew m k → KeepsOwn ended t k k' given taken kept → IsKeptToEnd kept ended → WritesOwn m.config t (kept_outcome kept unsent flushed) given taken
 own_written stays m t k k' ended given taken (Ok x) unsent true new ran done = ran.1 _ new.shows ∙ at_order m t k (lines_of_trace given) new
 own_written stays m t k k' ended given taken (Ok x) unsent false new ran done = own_unwritten stays m t k k' ended given taken (Ok x) new ran done
 own_written stays m t k k' ended given taken (Err Kept.Feed) true flushed new ran done = own_unwritten stays m t k k' ended given taken (Err Kept.Feed) new ran done
@@ -141,9 +147,9 @@ own_written stays m t k k' ended given taken (Err Kept.Drain) unsent flushed new
 -- what the run was of the trace
 pub own_traced : EndedLinesStay → (m : Machine) (t : ℕ) (k k' : Parts) (ended : Bool) (given taken : List ℕ) (kept : Result (Unit {0}) KeepError) (unsent flushed : Bool)
     (known left : Option (List ℕ)) → IsNew m k → KeepsOwn ended t k k' given taken kept → IsKeptToEnd kept ended → Consumes known left given → (ended ≡ true → IsAtEnd left)
-    → IfSome known (λ trace. IsOwnOfTrace m.config t (outcome_of_kept kept unsent flushed) trace given taken)
+    → IfSome known (λ trace. IsOwnOfTrace m.config t (kept_outcome kept unsent flushed) trace given taken)
 own_traced stays m t k k' ended given taken kept unsent flushed known left new ran done consumed over =
-    of_trace (λ trace. IsOwnOfTrace m.config t (outcome_of_kept kept unsent flushed) trace given taken) known left ended given consumed over
+    of_trace (λ trace. IsOwnOfTrace m.config t (kept_outcome kept unsent flushed) trace given taken) known left ended given consumed over
     (λ more none. record {
       part = own_given kept unsent flushed ended given more done none;
       begins = own_begins stays m t k k' ended given more taken kept new ran done none;

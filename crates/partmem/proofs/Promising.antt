@@ -9,8 +9,8 @@ use Rattle.promise_kept.proofs.Written.{ram_is_small, shown_is_allowed}
 use Rattle.kernel_core.specs.declared.kernel.Config.{Config}
 use Rattle.kernel_core.specs.Booting.{is_between, is_bootable}
 use Rattle.kernel_core.proofs.Opening.{bootable}
-use Rattle.command_line.specs.declared.exit.Outcome.{Outcome}
-use Rattle.command_line.specs.declared.exit.Outcome.TheVariants.{Done, Unreadable, Unwritable, NoMemory}
+use Rattle.command_line.specs.declared.outcome.Outcome.{Outcome}
+use Rattle.command_line.specs.declared.outcome.Outcome.TheVariants.{Done, Help, Version, Unreadable, Unwritable, BadLine, BadOnly, NoMemory}
 use Rattle.command_line.specs.declared.machine.Machine.{Machine}
 use Rattle.partmem.specs.Run.{shown_replies, Answers}
 use Rattle.partmem.specs.Promised.{AreAllowed, WritesAllowed}
@@ -36,3 +36,7 @@ promises_kept m Unreadable given written is answers =
 promises_kept m Unwritable given written is (rest, whole) =
     (rest, subst (AreAllowed m (lines_of_trace given)) whole (replies_allowed m (lines_of_trace given) is))
 promises_kept m NoMemory given written is answers = answers
+promises_kept m (Help text) given written is answers = absurd answers
+promises_kept m (Version text) given written is answers = absurd answers
+promises_kept m (BadLine text) given written is answers = absurd answers
+promises_kept m BadOnly given written is answers = absurd answers

@@ -17,11 +17,16 @@ use Rattle.replay_core.specs.declared.replaying.ReplayError.{ReplayError}
 use Rattle.replay_core.specs.declared.replaying.ReplayError.TheVariants as Failed
 use Rattle.replay_core.specs.Runs.{Counts, HasCome, IsCutShort, Replays, IsDone, NamesFailed, HasOwnLines}
 use Rattle.replay_core.proofs.RunLemmas.{shown_more}
-use Rattle.command_line.specs.declared.exit.Outcome.{Outcome}
-use Rattle.command_line.specs.declared.exit.Outcome.TheVariants.{Unwritable, NoMemory}
+use Rattle.command_line.specs.declared.outcome.Outcome.{Outcome}
+use Rattle.command_line.specs.declared.outcome.Outcome.TheVariants.{Unwritable, NoMemory}
 use Rattle.command_line.specs.declared.machine.Machine.{Machine}
-use Rattle.partmem.specs.Outcome.{outcome_of, tally_of, without_unwritten}
+use Rattle.command_line.specs.Outcome.{after_flush, outcome_of}
+use Rattle.partmem.specs.Outcome.{tally_of, without_unwritten}
 use Rattle.partmem.specs.Run.{shown_replies, IsPrivate, IsBeginning, Answers, EndsAs, HasReached, IsGiven, IsOfTrace, Tallies}
+
+-- the outcome of a run whose replay returned this
+abbrev pub run_outcome : Result Tally ReplayError → (unsent flushed : Bool) → Outcome
+run_outcome replayed unsent flushed = after_flush (outcome_of replayed) unsent flushed
 
 -- the kernel shows the machine's opening world
 pub record IsNew (m : Machine) (k : Parts) : Type 0 where
@@ -116,7 +121,7 @@ unwritten stays m k k' ended given taken replayed new ran done =
 -- the outcome of the run
 pub answers : ShownStays → (m : Machine) (k k' : Parts) (ended : Bool) (given taken : List ℕ) (replayed : Result Tally ReplayError) (unsent flushed : Bool) → IsNew m k
     → Replays ended m.only k k' given taken replayed → IsDone replayed ended → OnOk replayed (HasOwnLines m.only k given taken)
-    → Answers m (outcome_of replayed unsent flushed) given taken
+    → Answers m (run_outcome replayed unsent flushed) given taken
 answers stays m k k' ended given taken (Ok tally) unsent true new ran done own = (
   ran.shown _ new.shows ∙ at_order m k (lines_of_trace given) new,
   private_at m.config m.only k given taken new.order new.shows own,
@@ -136,7 +141,7 @@ counted tally lines taken unwritten counts =
 -- what the run counted, whatever its outcome
 pub tallied : (only : Option ℕ) (k k' : Parts) (ended : Bool) (given taken : List ℕ) (replayed : Result Tally ReplayError) (unsent flushed : Bool) (unwritten : ℕ)
     → Replays ended only k k' given taken replayed → IsDone replayed ended
-    → Tallies (outcome_of replayed unsent flushed) (without_unwritten (tally_of replayed) unwritten) ended given (take (length taken - unwritten) taken)
+    → Tallies (run_outcome replayed unsent flushed) (without_unwritten (tally_of replayed) unwritten) ended given (take (length taken - unwritten) taken)
 tallied only k k' ended given taken (Ok tally) unsent true unwritten ran done = counted _ _ taken unwritten ran.counted
 tallied only k k' ended given taken (Ok tally) unsent false unwritten ran done = (lines_of_trace given, inr (done, refl), counted _ _ taken unwritten ran.counted)
 tallied only k k' ended given taken (Err (Failed.Feed tally)) true flushed unwritten ran done =
@@ -161,7 +166,7 @@ all_reached before writer held taken none appended =
 -- how much of what was taken went on, where a flush that was good left nothing behind
 pub reached : (replayed : Result Tally ReplayError) (unsent flushed failed : Bool) (before writer : Option (List ℕ)) (held taken : List ℕ)
     → failed ≡ not flushed → (flushed ≡ true → held ≡ []) → Appends before (append_known writer held) taken
-    → HasReached (outcome_of replayed unsent flushed) failed before writer held taken (take (length taken - length held) taken)
+    → HasReached (run_outcome replayed unsent flushed) failed before writer held taken (take (length taken - length held) taken)
 reached (Ok tally) unsent true failed before writer held taken same none appended = all_reached before writer held taken (none refl) appended
 reached (Ok tally) unsent false failed before writer held taken same none appended = (appended, refl)
 reached (Err (Failed.Feed tally)) true flushed failed before writer held taken same none appended = (appended, refl)
@@ -174,7 +179,7 @@ reached (Err (Failed.Drain tally)) unsent flushed failed before writer held take
 -- which end had failed
 pub ends : (replayed : Result Tally ReplayError) (ended unread undrained unsent flushed : Bool) → IsDone replayed ended → NamesFailed replayed unread undrained
     → (unsent ≡ true → flushed ≡ false) → (undrained ≡ true → flushed ≡ false)
-    → EndsAs (outcome_of replayed unsent flushed) ended unread (not flushed) unsent
+    → EndsAs (run_outcome replayed unsent flushed) ended unread (not flushed) unsent
 ends (Ok tally) ended unread undrained unsent true done named stopped fine = (done, named.0, refl)
 ends (Ok tally) ended unread undrained unsent false done named stopped fine = (refl, λ failed. absurd cc)
 ends (Err (Failed.Feed tally)) ended unread undrained true flushed done named stopped fine = (ap not (stopped refl), λ _. refl)
@@ -188,7 +193,7 @@ nothing_of m (Some trace) = record { part = (trace, refl); begins = (shown_repli
 
 -- a trace is done only at its end
 pub given_so_far : (replayed : Result Tally ReplayError) (unsent flushed ended : Bool) (given more : List ℕ) → IsDone replayed ended → (ended ≡ true → more ≡ [])
-    → IsGiven (outcome_of replayed unsent flushed) (given ++ more) given
+    → IsGiven (run_outcome replayed unsent flushed) (given ++ more) given
 given_so_far (Ok tally) unsent true ended given more done over = ap (λ bytes. given ++ bytes) (over done) ∙ append-nil given
 given_so_far (Ok tally) unsent false ended given more done over = (more, refl)
 given_so_far (Err (Failed.Feed tally)) true flushed ended given more done over = (more, refl)

@@ -1,7 +1,7 @@
 -- How a run ends, and what it counted.
-use Rattle.std.specs.Prelude.{ℕ, ◌-◌, Bool, true, false, Result, Ok, Err}
-use Rattle.command_line.specs.declared.exit.Outcome.{Outcome}
-use Rattle.command_line.specs.declared.exit.Outcome.TheVariants.{Done, Unreadable, Unwritable}
+use Rattle.std.specs.Prelude.{ℕ, ◌-◌, Result, Ok, Err}
+use Rattle.command_line.specs.declared.outcome.Outcome.{Outcome}
+use Rattle.command_line.specs.declared.outcome.Outcome.TheVariants.{Done, Unreadable, Unwritable}
 use Rattle.partmem.specs.declared.outcome.Ended.{Ended}
 use Rattle.own_trace.specs.declared.keeping.KeepError.{KeepError}
 use Rattle.own_trace.specs.declared.keeping.KeepError.TheVariants as Kept
@@ -9,21 +9,11 @@ use Rattle.replay_core.specs.declared.replaying.Tally.{Tally}
 use Rattle.replay_core.specs.declared.replaying.ReplayError.{ReplayError}
 use Rattle.replay_core.specs.declared.replaying.ReplayError.TheVariants as Failed
 
--- the first failure decides: a send that failed came before a feed that failed, and a flush comes after it
-abbrev pub outcome_of : Result Tally ReplayError → (unsent flushed : Bool) → Outcome
-outcome_of (Ok tally) unsent true = Done
-outcome_of (Ok tally) unsent false = Unwritable
-outcome_of (Err (Failed.Feed tally)) true flushed = Unwritable
-outcome_of (Err (Failed.Feed tally)) false flushed = Unreadable
-outcome_of (Err (Failed.Drain tally)) unsent flushed = Unwritable
-
--- the same where a tenant's own list is kept
-abbrev pub outcome_of_kept : Result (Unit {0}) KeepError → (unsent flushed : Bool) → Outcome
-outcome_of_kept (Ok done) unsent true = Done
-outcome_of_kept (Ok done) unsent false = Unwritable
-outcome_of_kept (Err Kept.Feed) true flushed = Unwritable
-outcome_of_kept (Err Kept.Feed) false flushed = Unreadable
-outcome_of_kept (Err Kept.Drain) unsent flushed = Unwritable
+-- the outcome of a run that kept a tenant's own list
+abbrev pub outcome_of_kept : Result (Unit {0}) KeepError → Outcome
+outcome_of_kept (Ok done) = Done
+outcome_of_kept (Err Kept.Feed) = Unreadable
+outcome_of_kept (Err Kept.Drain) = Unwritable
 
 -- what had been done when the replay answered so
 abbrev pub tally_of : Result Tally ReplayError → Tally

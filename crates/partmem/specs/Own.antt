@@ -6,8 +6,8 @@ use Rattle.world_core.specs.Limits.{cache_limit}
 use Rattle.world_core.specs.World.{opening_world}
 use Rattle.world_core.specs.Output.{ended_lines}
 use Rattle.own_trace.specs.Kept.{own_text, own_trace}
-use Rattle.command_line.specs.declared.exit.Outcome.{Outcome}
-use Rattle.command_line.specs.declared.exit.Outcome.TheVariants.{Done, Unreadable, Unwritable, NoMemory}
+use Rattle.command_line.specs.declared.outcome.Outcome.{Outcome}
+use Rattle.command_line.specs.declared.outcome.Outcome.TheVariants.{Done, Unreadable, Unwritable, NoMemory}
 use Rattle.partmem.specs.Run.{IsBeginning, IsGiven}
 
 -- those of these lines that are the own list of tenant t, on a new machine
@@ -20,6 +20,7 @@ WritesOwn config t Done given written = written ≡ own_trace cache_limit config
 WritesOwn config t Unreadable given written = written ≡ own_of config t (ended_lines given)
 WritesOwn config t Unwritable given written = IsBeginning written (own_of config t (lines_of_trace given))
 WritesOwn config t NoMemory given written = (given ≡ []) × (written ≡ [])
+WritesOwn config t _ given written = ⊥
 
 -- However the run ended, what was written is a beginning of the own list of the whole trace.
 pub record IsOwnOfTrace (config : Config) (t : ℕ) (outcome : Outcome) (trace given written : List ℕ) : Type 0 where

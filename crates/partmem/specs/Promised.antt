@@ -5,8 +5,8 @@ use Rattle.words_core.specs.Cutting.{lines_of_trace}
 use Rattle.world_core.specs.Limits.{cache_limit}
 use Rattle.world_core.specs.Output.{ended_lines}
 use Rattle.promise_kept.specs.Written.{IsAllowedText}
-use Rattle.command_line.specs.declared.exit.Outcome.{Outcome}
-use Rattle.command_line.specs.declared.exit.Outcome.TheVariants.{Done, Unreadable, Unwritable, NoMemory}
+use Rattle.command_line.specs.declared.outcome.Outcome.{Outcome}
+use Rattle.command_line.specs.declared.outcome.Outcome.TheVariants.{Done, Unreadable, Unwritable, NoMemory}
 use Rattle.command_line.specs.declared.machine.Machine.{Machine}
 
 -- on a new machine the text is that of allowed replies to these lines: of all replies, or of those to one tenant
@@ -20,3 +20,4 @@ WritesAllowed m Done given written = AreAllowed m (lines_of_trace given) written
 WritesAllowed m Unreadable given written = AreAllowed m (ended_lines given) written
 WritesAllowed m Unwritable given written = (rest : List ℕ) × AreAllowed m (lines_of_trace given) (written ++ rest)
 WritesAllowed m NoMemory given written = (given ≡ []) × (written ≡ [])
+WritesAllowed m _ given written = ⊥

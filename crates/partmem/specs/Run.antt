@@ -9,8 +9,8 @@ use Rattle.world_core.specs.Output.{shown_lines, ended_lines, lines_for, with_li
 use Rattle.world_core.specs.Laws.{private_lines}
 use Rattle.replay_core.specs.declared.replaying.Tally.{Tally}
 use Rattle.replay_core.specs.Runs.{Counts, HasCome}
-use Rattle.command_line.specs.declared.exit.Outcome.{Outcome}
-use Rattle.command_line.specs.declared.exit.Outcome.TheVariants.{Done, Unreadable, Unwritable, NoMemory}
+use Rattle.command_line.specs.declared.outcome.Outcome.{Outcome}
+use Rattle.command_line.specs.declared.outcome.Outcome.TheVariants.{Done, Unreadable, Unwritable, NoMemory}
 use Rattle.command_line.specs.declared.machine.Machine.{Machine}
 use Rattle.partmem.specs.Outcome.{no_tally}
 
@@ -30,12 +30,13 @@ IsPrivate (Some t) config trace written = t < config.tenants → written ≡ wit
 abbrev pub IsBeginning : List ℕ → List ℕ → Type 0
 IsBeginning part whole = (rest : List ℕ) × (whole ≡ part ++ rest)
 
--- what was written of the bytes that were given, when the run ended so
+-- what was written of the bytes that were given, when the run ended so; a run has no other outcomes than these
 abbrev pub Answers : Machine → Outcome → List ℕ → List ℕ → Type 0
 Answers m Done given written = (written ≡ shown_replies m (lines_of_trace given)) × IsPrivate m.only m.config given written
 Answers m Unreadable given written = written ≡ shown_replies m (ended_lines given)
 Answers m Unwritable given written = IsBeginning written (shown_replies m (lines_of_trace given))
 Answers m NoMemory given written = (given ≡ []) × (written ≡ [])
+Answers m _ given written = ⊥
 
 -- What was held back is the end of it: the writer took the rest, and nothing else.
 abbrev pub IsHeldBack : (before writer : Option (List ℕ)) → (held written sent : List ℕ) → Type 0
@@ -49,6 +50,7 @@ HasReached Unreadable false before writer held written sent = (sent ≡ written)
 HasReached Unreadable true before writer held written sent = IsHeldBack before writer held written sent
 HasReached Unwritable failed before writer held written sent = IsHeldBack before writer held written sent
 HasReached NoMemory failed before writer held written sent = sent ≡ []
+HasReached _ failed before writer held written sent = ⊥
 
 -- what is counted when the run ended so: the lines that were run, and what the writer took
 abbrev pub Tallies : Outcome → Tally → Bool → List ℕ → List ℕ → Type 0
@@ -56,6 +58,7 @@ Tallies Done tally ended given sent = Counts tally (lines_of_trace given) sent
 Tallies Unreadable tally ended given sent = Counts tally (ended_lines given) sent
 Tallies Unwritable tally ended given sent = (lines : List (List ℕ)) × HasCome ended given lines × Counts tally lines sent
 Tallies NoMemory tally ended given sent = tally ≡ no_tally
+Tallies _ tally ended given sent = ⊥
 
 -- Which end had failed when the run ended so; a trace is done only at its end. Where both had, a send failed before the feed did,
 -- or the feed before the last flush.
@@ -64,6 +67,7 @@ EndsAs Done ended unread unwritten unsent = (ended ≡ true) × (unread ≡ fals
 EndsAs Unreadable ended unread unwritten unsent = (unread ≡ true) × (unsent ≡ false)
 EndsAs Unwritable ended unread unwritten unsent = (unwritten ≡ true) × (unread ≡ true → unsent ≡ true)
 EndsAs NoMemory ended unread unwritten unsent = (unread ≡ false) × (unwritten ≡ false)
+EndsAs _ ended unread unwritten unsent = ⊥
 
 -- how much of the trace was given when the run ended so: a beginning, and all of it where it is done
 abbrev pub IsGiven : Outcome → List ℕ → List ℕ → Type 0

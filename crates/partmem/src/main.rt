@@ -2,28 +2,31 @@
 //!
 //! `partmem --order S --superblocks N --tenants T [--only T | --own T] [--tally] [FILE]`
 //!
-//! The exits are those of `command_line::Exit`.
+//! The exits are those of [`Outcome`].
 //!
 //! With `--tally` a line, before what is told of the exit, tells what was done, however the run ended:
-//! `partmem: 6 lines, 6 events, 0 faults, 214 bytes written`; and behind that, why a file could not be opened, how often each
-//! refusal was told, and the first faulty lines with what is wrong with them.
+//! `partmem: 6 lines, 6 events, 0 faults, 214 bytes written`; and behind that, why a file could not be opened or read, how often
+//! each refusal was told, and the first faulty lines with what is wrong with them.
 #![tactic(auto)]
 
 ghost use Rattle.std.specs.Prelude.{◌≡◌, OnErr};
-ghost use Rattle.command_line.specs.declared.exit.Outcome.{Outcome};
+ghost use Rattle.command_line.specs.declared.outcome.Outcome.{Outcome};
 ghost use Rattle.partmem.specs.Outcome.{ended_at_once};
 
 mod outcome;
 mod own;
 mod run;
 
-use command_line::{Exit, Machine, Outcome, Refused, hand_out, tell, words_given};
+pub use command_line::{Outcome, Settings, outcome_of, read_words};
+use command_line::{
+    FileError, Machine, OWN_PROGRAM, PROGRAM, WatchedReader, hand_out, tell, tell_file, texts_of,
+    words_given,
+};
 use outcome::Ended;
 use own::run_own;
 use replay_core::{ReaderFeed, Tally, WriterDrain};
 use run::run;
 use run_notes::{FaultNotes, MOST_NUMBER, NotedReader, NotedWriter, RefusalNotes};
-use run_settings::{OWN_PROGRAM, PROGRAM, Settings, read_words};
 use std::fs::File;
 use std::io::{self, Read, Write};
 use std::process::ExitCode;
@@ -39,8 +42,8 @@ fn main(rt: HostRuntime) -> ExitCode {
             tell_run(&rt, &settings, ran)
         }
         Err(refused) => {
-            let exit = hand_out(&mut io::writer(&rt), refused);
-            tell(&rt, PROGRAM, &exit)
+            let outcome = hand_out(&mut io::writer(&rt), refused);
+            tell(&rt, PROGRAM, &outcome)
         }
     }
 }
@@ -49,8 +52,8 @@ fn main(rt: HostRuntime) -> ExitCode {
 #[derive(Drop)]
 struct Ran {
     ended: Ended,
-    /// Why the trace could not be opened.
-    unopened: Option<io::Error>,
+    /// Why the trace could not be opened or read.
+    error: Option<FileError>,
     /// What was noted, if it was asked for.
     notes: Option<Notes>,
 }
@@ -63,9 +66,10 @@ struct Notes {
 }
 
 /// What the command line asks for.
-fn read_command_line(rt: &(impl Env + AllocGlobal)) -> Result<Settings, Refused> {
+fn read_command_line(rt: &(impl Env + AllocGlobal)) -> Result<Settings, Outcome> {
     let words = words_given(rt)?;
-    read_words(rt.alloc(), words.as_slice())
+    let texts = texts_of(rt.alloc(), words.as_slice())?;
+    read_words(rt.alloc(), texts.as_slice())
 }
 
 /// Runs the trace, from FILE or from standard input, into standard output: a copy of the loop for each.
@@ -89,36 +93,38 @@ fn run_opened<R: Read + Drop>(
         Err(error) => {
             return Ran {
                 ended: Ended::at_once(Outcome::Unreadable),
-                unopened: Some(error),
+                error: Some(FileError::Open(error)),
                 notes: None,
             };
         }
     };
     if settings.tally {
-        return run_noted(rt, &settings.machine, reader);
+        return run_noted(rt, &settings.machine(), reader);
     }
     if let Some(tenant) = settings.own {
-        return keep_own(rt, &settings.machine, tenant, reader);
+        return keep_own(rt, &settings.machine(), tenant, reader);
     }
     Ran {
-        ended: run_between(rt, &settings.machine, reader, io::writer(rt)),
-        unopened: None,
+        ended: run_between(rt, &settings.machine(), reader, io::writer(rt)),
+        error: None,
         notes: None,
     }
 }
 
 /// Runs the trace of a reader into standard output, and notes what goes through.
 fn run_noted<R: Read + Drop>(rt: &(impl Print + AllocGlobal), machine: &Machine, reader: R) -> Ran {
-    let mut trace = NotedReader::new(reader);
+    let mut watched = WatchedReader::new(reader);
+    let mut trace = NotedReader::new(&mut watched);
     let mut replies = NotedWriter::new(io::writer(rt));
     let ended = run_between(rt, machine, &mut trace, &mut replies);
+    let notes = Notes {
+        faults: trace.into_notes(),
+        refusals: replies.into_notes(),
+    };
     Ran {
         ended,
-        unopened: None,
-        notes: Some(Notes {
-            faults: trace.into_notes(),
-            refusals: replies.into_notes(),
-        }),
+        error: watched.error(),
+        notes: Some(notes),
     }
 }
 
@@ -145,7 +151,7 @@ fn keep_own<R: Read + Drop>(
             outcome,
             tally: Tally::default(),
         },
-        unopened: None,
+        error: None,
         notes: None,
     }
 }
@@ -179,21 +185,14 @@ fn tell_run(rt: &impl Eprint, settings: &Settings, ran: Ran) -> ExitCode {
     } else {
         PROGRAM
     };
-    let code = tell(rt, program, &Exit::Ran(ran.ended.outcome));
-    if settings.tally {
-        tell_unopened(rt, settings, ran.unopened.as_ref());
+    let code = tell(rt, program, &ran.ended.outcome);
+    if let (true, Some(path), Some(error)) = (settings.tally, &settings.file, &ran.error) {
+        tell_file(rt, program, path.as_str(), error);
     }
     if let Some(notes) = &ran.notes {
         tell_notes(rt, notes);
     }
     code
-}
-
-/// Tells why the trace could not be opened.
-fn tell_unopened(rt: &impl Eprint, settings: &Settings, unopened: Option<&io::Error>) {
-    if let (Some(path), Some(error)) = (&settings.file, unopened) {
-        let _unheard = eprintln!(rt; "partmem: {path}: {error}");
-    }
 }
 
 /// Tells how often each refusal was told, and the first faulty lines.

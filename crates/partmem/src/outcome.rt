@@ -1,7 +1,7 @@
 //! How a run ends, and what it counted.
 
 ghost use Rattle.std.specs.Prelude.{◌≡◌};
-ghost use Rattle.partmem.specs.Outcome.{outcome_of, outcome_of_kept, tally_of, without_unwritten, ended_at_once};
+ghost use Rattle.partmem.specs.Outcome.{ended_at_once, outcome_of_kept, tally_of, without_unwritten};
 
 use command_line::Outcome;
 use own_trace::KeepError;
@@ -28,25 +28,14 @@ impl Ended {
     }
 }
 
-/// How a run ends whose replay answered so: a send had failed by then, and the replies were flushed.
-pub fn outcome_of(replayed: &Result<Tally, ReplayError>, unsent: bool, flushed: bool) -> Outcome
-    ensures { result ≡ outcome_of replayed.now unsent flushed }
-{
-    match replayed {
-        Ok(_) if flushed => Outcome::Done,
-        Err(ReplayError::Feed(_)) if !unsent => Outcome::Unreadable,
-        _ => Outcome::Unwritable,
-    }
-}
-
-/// The same of a run that keeps a tenant's own list.
-pub fn outcome_of_kept(kept: &Result<(), KeepError>, unsent: bool, flushed: bool) -> Outcome
-    ensures { result ≡ outcome_of_kept kept.now unsent flushed }
+/// Returns the outcome of a run that kept a tenant's own list so.
+pub fn outcome_of_kept(kept: &Result<(), KeepError>) -> Outcome
+    ensures { result ≡ outcome_of_kept kept.now }
 {
     match kept {
-        Ok(()) if flushed => Outcome::Done,
-        Err(KeepError::Feed) if !unsent => Outcome::Unreadable,
-        _ => Outcome::Unwritable,
+        Ok(()) => Outcome::Done,
+        Err(KeepError::Feed) => Outcome::Unreadable,
+        Err(KeepError::Drain) => Outcome::Unwritable,
     }
 }
 

@@ -48,5 +48,5 @@ pub fn run_own<F: Feed, W: Write>(
     // The system takes all memory back at once when the process ends, sooner than piece by piece.
     mem::forget(kernel);
     let flushed = flush(drain);
-    outcome_of_kept(&kept, drain.send_failed(), flushed)
+    outcome_of_kept(&kept).after_flush(drain.send_failed(), flushed)
 }

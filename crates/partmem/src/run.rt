@@ -5,8 +5,8 @@ ghost use Rattle.std.specs.Io.KnownBytes.{Appends, Consumes, Keeps};
 ghost use Rattle.partmem.specs.Promised.{WritesAllowed};
 ghost use Rattle.partmem.specs.Run.{Answers, EndsAs, HasReached, IsOfTrace, Tallies};
 
-use crate::outcome::{Ended, outcome_of, tally_of};
-use command_line::{Machine, Outcome};
+use crate::outcome::{Ended, tally_of};
+use command_line::{Machine, Outcome, outcome_of};
 use kernel_core::{BootError, Kernel, laws};
 use replay_core::{Drain, Feed, WriterDrain, replay};
 use std::alloc::Global;
@@ -55,7 +55,7 @@ pub fn run<F: Feed, W: Write>(
     mem::forget(kernel);
     let flushed = flush(drain);
     Ended {
-        outcome: outcome_of(&replayed, drain.send_failed(), flushed),
+        outcome: outcome_of(&replayed).after_flush(drain.send_failed(), flushed),
         tally: tally_of(&replayed, drain.unwritten()),
     }
 }

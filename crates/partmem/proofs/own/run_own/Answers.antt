@@ -11,7 +11,7 @@ returns-clause-kept g c =
     let stays = c.shown_stays.ensures.lines in
     let new = booted c.args.machine.now c.in-Ok.kernel c.in-Ok.ensures.parts c.in-Ok.ensures.shows in
     let appended = flushed _ _ _ ran.1 ran.3 c.flush-flushed.ensures.bytes in
-    rw (c.outcome_of_kept.ensures, c.send_failed.ensures) (
+    rw (c.after_flush.ensures, c.outcome_of_kept.ensures, c.send_failed.ensures) (
       ran.0,
       ran.1,
       _,
@@ -26,7 +26,7 @@ returns-clause-kept g c =
 pub returns-clause-ended : goal.returns-clause-ended
 returns-clause-ended g c =
     let said = c.keep-kept.ensures in
-    rw (c.outcome_of_kept.ensures, c.send_failed.ensures, c.flush-flushed.ensures.failed) (
+    rw (c.after_flush.ensures, c.outcome_of_kept.ensures, c.send_failed.ensures, c.flush-flushed.ensures.failed) (
     own_ends _ _ _ _ _ _ said.ended said.failed (search rules) c.flush-flushed.ensures.fine
     )
 

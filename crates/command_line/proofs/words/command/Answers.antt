@@ -3,8 +3,8 @@ use Rattle.std.proofs.lemmas.Result.{IfOk-weaker}
 use Rattle.clap.specs.Words.{Rule, rule_of, with_rule}
 use Rattle.clap.specs.declared.builder.action.ArgAction.TheVariants.{SetTrue}
 use Rattle.clap.specs.declared.builder.arg.Arg.{Arg}
-use Rattle.run_settings.specs.Settings.{own_rule, tally_rule}
-use Rattle.run_settings.proofs.settings.command.Goals as goal
+use Rattle.command_line.specs.Settings.{own_rule, tally_rule}
+use Rattle.command_line.proofs.words.command.Goals as goal
 
 abbrev is_global : Arg → Bool
 is_global a = a.global

@@ -1,14 +1,19 @@
--- What a command line asks for: which word stands under which name, in clap's words.
+-- What a command line of `partmem` asks for: which word is under which name, in clap's words.
 use Rattle.std.specs.Prelude.{◌≡◌, ℕ, ◌-◌, ◌^◌, ◌<◌, Bool, true, false, List, Option, Some, None, option_map, codes}
 use Rattle.std.specs.Option.{ForSome}
 use Rattle.std.specs.String.{string_bytes}
-use Rattle.clap.specs.Words.{App, Rule, Text, first_of, matches_of, new_rule, one_of, with_rule}
+use Rattle.clap.specs.Words.{App, Rule, Text, first_of, matches_of, new_rule, one_of, takes, with_rule}
 use Rattle.clap.specs.declared.builder.action.ArgAction.TheVariants.{SetTrue}
 use Rattle.command_line.specs.Arguments.{machine_command, number_rule, positional_rule}
 use Rattle.command_line.specs.Machine.{AsksMachine, MayWrite}
-use Rattle.run_settings.specs.declared.settings.Settings.{Settings}
+use Rattle.command_line.specs.declared.machine.Machine.{Machine}
+use Rattle.command_line.specs.declared.settings.Settings.{Settings}
 
--- a flag is set where its text is `true`
+-- the machine, and the tenant whose lines are written
+abbrev pub machine_of : Settings → Machine
+machine_of settings = record { config = settings.config; only = settings.only; bootable = settings.bootable; below = settings.below }
+
+-- a flag is set if its text is `true`
 pub record IsFlag (text : Option Text) (flag : Bool) : Type 0 where
   pub given : text ≡ Some (codes "true") → flag ≡ true
   pub denied : text ≡ Some (codes "false") → flag ≡ false
@@ -19,12 +24,12 @@ abbrev pub IsAlone : Option ℕ → Option ℕ → Bool → Type 0
 IsAlone None only tally = Unit {0}
 IsAlone (Some t) only tally = (only ≡ None) × (tally ≡ false)
 
--- the settings are what stands under the arguments' names: `read` of those that are read as a type, `whole` of FILE
+-- the settings are what is under the arguments' names: `read` of those that are read as a type, `whole` of FILE
 pub record Asks (read whole : Text → Option Text) (settings : Settings) : Type 0 where
-  pub machine : AsksMachine read settings.machine
+  pub machine : AsksMachine read (machine_of settings)
   pub own : MayWrite (read (codes "own")) settings.own
-  pub own_below : ForSome settings.own (λ tenant. tenant < settings.machine.config.tenants)
-  pub own_alone : IsAlone settings.own settings.machine.only settings.tally
+  pub own_below : ForSome settings.own (λ tenant. tenant < settings.config.tenants)
+  pub own_alone : IsAlone settings.own settings.only settings.tally
   pub tally : IsFlag (read (codes "tally")) settings.tally
   pub file : option_map (λ path. string_bytes path) settings.file ≡ whole (codes "FILE")
 
@@ -40,3 +45,12 @@ command_line = with_rule (with_rule (with_rule (machine_command (codes "partmem"
 -- the settings are what clap finds in these words
 abbrev pub IsAskedBy : List Text → Settings → Type 0
 IsAskedBy words settings = Asks (λ name. one_of name (matches_of command_line words)) (λ name. first_of name (matches_of command_line words)) settings
+
+-- clap's model takes these words
+unfoldable pub IsTaken : List Text → Type 0
+IsTaken words = takes command_line words ≡ true
+
+-- these words ask for the settings, and nothing is wrong with them
+pub record CanBeHad (words : List Text) (settings : Settings) : Type 0 where
+  pub asked : IsAskedBy words settings
+  pub own_alone : (flag : Bool) → IsFlag (one_of (codes "tally") (matches_of command_line words)) flag → IsAlone settings.own settings.only flag

@@ -1,0 +1,99 @@
+//! The words of a command line of `partmem`.
+
+ghost use Rattle.std.specs.Prelude.{◌≡◌, ◌<◌, ℕ, true, Option, IfErr, IfOk, map, codes};
+ghost use Rattle.std.specs.Option.{ForSome};
+ghost use Rattle.clap.specs.Words.{app_of, found_of, matches_of, one_of, one_text};
+ghost use Rattle.kernel_core.specs.Booting.{is_bootable};
+ghost use Rattle.command_line.specs.Machine.{AsksNoTenant, MayWrite};
+ghost use Rattle.command_line.specs.Outcome.{IsBadLine, IsRefusal};
+ghost use Rattle.command_line.specs.Settings.{CanBeHad, IsAlone, IsAskedBy, IsTaken, command_line};
+ghost use Rattle.command_line.specs.declared.settings.Settings.{Settings};
+
+use crate::arguments::{self, number, number_written, parse, path_of, positional};
+use crate::machine::Machine;
+use crate::outcome::{Outcome, bad_line};
+use crate::settings::{PROGRAM, Settings};
+use clap::{Arg, ArgAction, ArgMatches, Command};
+use std::alloc::{AllocError, Global};
+
+/// What `--help` prints beside `--only`.
+const ONLY: &str = "Writes the lines of this tenant alone, a number below the tenants";
+
+/// Reads the words of a command line, without the program's name.
+///
+/// Refused with `Help` or `Version` if that is asked for, with `BadLine` if the words are faulty or `--own` cannot be had, with
+/// `BadOnly` if they are in order and `--only` is not below the tenants, or with `NoMemory`.
+pub fn read_words<'a>(alloc: Global, words: &'a [&'a str]) -> Result<Settings, Outcome>
+    ensures config { IfOk result (λ settings. is_bootable settings.config ≡ true) }
+    ensures only { IfOk result (λ settings. ForSome settings.only (λ tenant. tenant < settings.config.tenants)) }
+    ensures own { IfOk result (λ settings. ForSome settings.own (λ tenant. tenant < settings.config.tenants)) }
+    // Which word is under which name is as clap's model says.
+    ensures asked { IfOk result (IsAskedBy (map (λ word. word.now) words.entry.now)) }
+    ensures refused { IfErr result IsRefusal }
+    ensures bad_only { result ≡ Err Outcome.BadOnly
+        → AsksNoTenant (λ name. one_of name (matches_of command_line (map (λ word. word.now) words.entry.now))) }
+    // Settings that can be had are refused for want of memory alone.
+    ensures given { IfErr result (λ outcome. IsTaken (map (λ word. word.now) words.entry.now)
+        → (settings : Settings) → CanBeHad (map (λ word. word.now) words.entry.now) settings → outcome ≡ Outcome.NoMemory) }
+{
+    let matches = parse(alloc, command(alloc)?, words)?;
+    let machine = Machine::found(alloc, &matches)?;
+    let tally = matches.get_flag("tally");
+    let own = own_found(alloc, &matches, &machine, tally)?;
+    Ok(Settings {
+        config: machine.config,
+        only: machine.only,
+        own,
+        tally,
+        file: path_of(alloc, &matches, "FILE")?,
+    })
+}
+
+/// Returns the tenant whose own list is asked for.
+///
+/// Refused with `BadLine` if replies to one tenant or a tally are asked for too, or if it is no tenant of the machine; or with
+/// `NoMemory`.
+fn own_found(
+    alloc: Global,
+    matches: &ArgMatches<'_>,
+    machine: &Machine,
+    tally: bool,
+) -> Result<Option<u8>, Outcome>
+    ensures asked { IfOk result (MayWrite (one_text (found_of matches.now) (codes "own"))) }
+    ensures below { IfOk result (λ own. ForSome own (λ tenant. tenant < machine.now.config.tenants)) }
+    ensures alone { IfOk result (λ own. IsAlone own machine.now.only tally) }
+    ensures refused { IfErr result IsBadLine }
+    ensures given { IfErr result (λ outcome. (own : Option ℕ) → MayWrite (one_text (found_of matches.now) (codes "own")) own
+        → ForSome own (λ tenant. tenant < machine.now.config.tenants) → IsAlone own machine.now.only tally
+        → outcome ≡ Outcome.NoMemory) }
+{
+    let Some(tenant) = number_written(matches, "own") else {
+        return Ok(None);
+    };
+    if machine.only.is_some() || tally {
+        let text = "error: --own goes with neither --only nor --tally\n";
+        return Err(bad_line(alloc, text));
+    }
+    if tenant >= machine.config.tenants {
+        return Err(bad_line(alloc, "partmem: --own names no tenant\n"));
+    }
+    Ok(Some(tenant as u8))
+}
+
+/// The arguments of `partmem`, with their ranges.
+fn command<'a>(alloc: Global) -> Result<Command<'a>, AllocError>
+    ensures { IfOk result (λ command. app_of command ≡ command_line) }
+{
+    let own = number(alloc, "own", "T", 0, u32::MAX)
+        .help("Writes this tenant's own list of the trace, in place of replies")
+        .required(false);
+    let tally = Arg::new(alloc, "tally")
+        .long("tally")
+        .help("Tells on standard error what was done, refused and faulty")
+        .action(ArgAction::SetTrue);
+    let file = positional(alloc, "FILE", "The trace [default: standard input]");
+    arguments::command(alloc, PROGRAM, ONLY)?
+        .arg(own)?
+        .arg(tally)?
+        .arg(file)
+}
