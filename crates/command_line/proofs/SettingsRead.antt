@@ -7,7 +7,7 @@ use Rattle.clap.proofs.OnLiterals.{clap_on_literals}
 use Rattle.clap.proofs.WalkLemmas.{first_value-rows}
 use Rattle.command_line.proofs.Reading.{asks_machine, one_text-of_rows, same_number, same_written}
 use Rattle.command_line.specs.Machine.{AsksMachine, AsksNoTenant, MayWrite, Writes}
-use Rattle.command_line.specs.Settings.{Asks, IsAlone, IsFlag, IsTaken, command_line, machine_of}
+use Rattle.command_line.specs.Settings.{Asks, IsAlone, IsFlag, IsInOrder, command_line, machine_of}
 use Rattle.command_line.specs.declared.machine.Machine.{Machine}
 use Rattle.command_line.specs.declared.settings.Settings.{Settings}
 
@@ -17,8 +17,8 @@ unfolding clap_on_literals
 line_is_simple = refl
 
 -- such a command line is this command
-pub taken_by : (a : App) (words : List Text) → a ≡ command_line → IsTaken words → takes a words ≡ true
-unfolding IsTaken
+pub taken_by : (a : App) (words : List Text) → a ≡ command_line → IsInOrder words → takes a words ≡ true
+unfolding IsInOrder
 taken_by a words same taken = subst (λ b. takes b words ≡ true) (sym same) taken
 
 pub asks_rows : (f : Found) (rows : List Row) (s : Settings) → rows_of f ≡ rows → Asks (one_text f) (first_value f) s

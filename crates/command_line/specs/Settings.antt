@@ -47,8 +47,8 @@ abbrev pub IsAskedBy : List Text → Settings → Type 0
 IsAskedBy words settings = Asks (λ name. one_of name (matches_of command_line words)) (λ name. first_of name (matches_of command_line words)) settings
 
 -- clap's model takes these words
-unfoldable pub IsTaken : List Text → Type 0
-IsTaken words = takes command_line words ≡ true
+unfoldable pub IsInOrder : List Text → Type 0
+IsInOrder words = takes command_line words ≡ true
 
 -- these words ask for the settings, and nothing is wrong with them
 pub record CanBeHad (words : List Text) (settings : Settings) : Type 0 where

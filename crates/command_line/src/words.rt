@@ -6,7 +6,7 @@ ghost use Rattle.clap.specs.Words.{app_of, found_of, matches_of, one_of, one_tex
 ghost use Rattle.kernel_core.specs.Booting.{is_bootable};
 ghost use Rattle.command_line.specs.Machine.{AsksNoTenant, MayWrite};
 ghost use Rattle.command_line.specs.Outcome.{IsBadLine, IsRefusal};
-ghost use Rattle.command_line.specs.Settings.{CanBeHad, IsAlone, IsAskedBy, IsTaken, command_line};
+ghost use Rattle.command_line.specs.Settings.{CanBeHad, IsAlone, IsAskedBy, IsInOrder, command_line};
 ghost use Rattle.command_line.specs.declared.settings.Settings.{Settings};
 
 use crate::arguments::{self, number, number_written, parse, path_of, positional};
@@ -33,7 +33,7 @@ pub fn read_words<'a>(alloc: Global, words: &'a [&'a str]) -> Result<Settings, O
     ensures bad_only { result ≡ Err Outcome.BadOnly
         → AsksNoTenant (λ name. one_of name (matches_of command_line (map (λ word. word.now) words.entry.now))) }
     // Settings that can be had are refused for want of memory alone.
-    ensures given { IfErr result (λ outcome. IsTaken (map (λ word. word.now) words.entry.now)
+    ensures given { IfErr result (λ outcome. IsInOrder (map (λ word. word.now) words.entry.now)
         → (settings : Settings) → CanBeHad (map (λ word. word.now) words.entry.now) settings → outcome ≡ Outcome.NoMemory) }
 {
     let matches = parse(alloc, command(alloc)?, words)?;

@@ -1,0 +1,136 @@
+//! The parts of a kernel, alone and as the kernel shows them: fixed values.
+
+use buddy_core::Buddy;
+use kernel_core::{Config, Kernel};
+use klist_core::Lists;
+use replay_core::{ReaderFeed, WriterDrain, replay};
+use slab_core::Slabs;
+use space_core::Space;
+use std::alloc::Global;
+use std::process::Abort;
+use std::test::Fail;
+
+/// A machine of two superblocks of eight frames and two tenants, after a trace.
+fn kernel_after(alloc: Global, trace: &[u8]) -> Result<Kernel, Fail> {
+    let config = Config {
+        order: 3,
+        superblocks: 2,
+        tenants: 2,
+    };
+    let mut kernel = Kernel::boot(alloc, config)?;
+    let mut replies = Vec::new(alloc);
+    replay(
+        &mut kernel,
+        &mut ReaderFeed::new(trace),
+        &mut WriterDrain::new(&mut replies),
+        None,
+    )?;
+    Ok(kernel)
+}
+
+/// All blocks are freed and joined again.
+const JOINED: &[u8] = b"admin grant 0\n0 alloc 0\n0 alloc 1\n0 alloc 2\n0 alloc 0\n\
+    0 free 0\n0 free 1\n0 free 2\n0 free 4\n";
+
+/// Frame 0 is free, but too small for the last block, which begins at frame 4.
+const PASSED_OVER: &[u8] = b"admin grant 0\n0 alloc 0\n0 alloc 1\n0 alloc 2\n0 alloc 0\n\
+    0 free 0\n0 free 4\n0 alloc 1\n";
+
+/// Frames 2 and 3 are joined, and their buddy is split.
+const BESIDE_SPLIT: &[u8] = b"admin grant 0\n0 alloc 0\n0 alloc 0\n0 alloc 0\n\
+    0 free 0\n0 free 2\n";
+
+/// How many blocks of each order of 0 to 3 tenant 0 has free.
+fn free_counts(rt: &impl Abort, buddy: &Buddy) -> [u32; 4] {
+    assert!(rt; 0 < buddy.tenants());
+    assert!(rt; buddy.order() == 3);
+    [
+        buddy.free_count(0, 0),
+        buddy.free_count(0, 1),
+        buddy.free_count(0, 2),
+        buddy.free_count(0, 3),
+    ]
+}
+
+#[test]
+fn free_count_follows_splits(rt: HostRuntime) -> Result<(), Fail> {
+    for (trace, counts) in [
+        (JOINED, [0, 0, 0, 1]),
+        (PASSED_OVER, [1, 1, 0, 0]),
+        (BESIDE_SPLIT, [1, 1, 1, 0]),
+    ] {
+        let kernel = kernel_after(rt.alloc(), trace)?;
+        let free = free_counts(&rt, kernel.buddy());
+        assert!(rt; free == counts, "after {trace:?}");
+    }
+    Ok(())
+}
+
+/// The words of a tree: bit `j` of a word is 1 if a free block of order `j` lies in that part of the superblock.
+const WORDS: [u16; 15] = [3, 1, 2, 1, 0, 0, 2, 1, 0, 0, 0, 0, 0, 0, 0];
+
+#[test]
+fn table_and_live_orders_follow_splits(rt: HostRuntime) -> Result<(), Fail> {
+    let kernel = kernel_after(rt.alloc(), PASSED_OVER)?;
+    let buddy = kernel.buddy();
+    assert!(rt; 0 < buddy.superblocks());
+    assert!(rt; buddy.table(0) == WORDS.as_slice());
+    assert!(rt; 0 < buddy.tenants());
+    assert!(rt; buddy.live_order(0, 4) == Some(1));
+    assert!(rt; buddy.live_order(0, 5).is_none());
+    Ok(())
+}
+
+/// Whether a block of the order would be found for tenant 0, if its empty slabs were given back.
+fn would_fit(kernel: &Kernel, order: u8) -> bool {
+    kernel.parts_agree();
+    let (space, slabs) = (kernel.space(), kernel.slabs());
+    0 < space.tenants()
+        && order <= slabs.order()
+        && slabs.would_fit(space, kernel.buddy(), 0, order)
+}
+
+/// One object keeps a slab, and so its superblock is no free block.
+const LIVE_OBJECT: &[u8] = b"admin grant 0\n0 cache 64 8 00\n0 take 0\n";
+
+const EMPTY_SLAB: &[u8] = b"admin grant 0\n0 cache 64 8 00\n0 take 0\n0 give 0 0\n";
+
+#[test]
+fn empty_slabs_would_fit(rt: HostRuntime) -> Result<(), Fail> {
+    for (trace, fits) in [(LIVE_OBJECT, false), (EMPTY_SLAB, true)] {
+        let kernel = kernel_after(rt.alloc(), trace)?;
+        assert!(rt; would_fit(&kernel, 2), "after {trace:?}");
+        assert!(rt; would_fit(&kernel, 3) == fits, "after {trace:?}");
+    }
+    Ok(())
+}
+
+#[test]
+fn slots_have_owners_and_windows(rt: HostRuntime) -> Result<(), Fail> {
+    let mut space = Space::new(rt.alloc(), 3, 2, 2)?;
+    assert!(rt; space.unowned() == 2);
+    let granted = space.grant(0)?;
+    assert!(rt; granted == (0, 0));
+    assert!(rt; space.unowned() == 1);
+    assert!(rt; space.owner(0) == Some((0, 0)));
+    assert!(rt; space.owner(1).is_none());
+    let written: &mut [u8] = space.window_mut(0_u8, 32765_u32, 3_u32);
+    written.copy_from_slice(&[1, 2, 3]);
+    space.zero(0, 32766, 1);
+    let window: Option<&[u8]> = space.window(0_u8, 32764_u32, 4_u32);
+    assert!(rt; window == Some([0, 1, 0, 3].as_slice()));
+    assert!(rt; space.window(0, 32767, 2).is_none());
+    Ok(())
+}
+
+#[test]
+fn parts_begin_empty(rt: HostRuntime) -> Result<(), Fail> {
+    let lists = Lists::new(rt.alloc(), 4, 2)?;
+    assert!(rt; lists.nodes() == 4);
+    assert!(rt; lists.first(1).is_none());
+    let buddy = Buddy::new(rt.alloc(), 3, 2, 2)?;
+    assert!(rt; buddy.table(1) == [0; 15].as_slice());
+    let slabs = Slabs::new(rt.alloc(), 3, 2, 2)?;
+    assert!(rt; slabs.lists().nodes() == 16);
+    Ok(())
+}
