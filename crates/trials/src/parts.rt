@@ -134,3 +134,44 @@ fn parts_begin_empty(rt: HostRuntime) -> Result<(), Fail> {
     assert!(rt; slabs.lists().nodes() == 16);
     Ok(())
 }
+
+/// A page block at frame 0, a slab at frame 1, and its first object of 100 bytes.
+const OBJECT: &[u8] = b"admin grant 0\n0 alloc 0\n0 cache 100 8 5a\n0 take 0\n";
+
+/// Whether a slab of tenant 0 begins at a frame. The kernel's parts agree.
+fn is_slab(kernel: &Kernel, frame: u32) -> bool {
+    kernel.parts_agree();
+    0 < kernel.space().tenants() && kernel.slabs().is_slab(kernel.space(), 0, frame)
+}
+
+/// Whether a range of tenant 0 lies inside one live object.
+fn object_at(kernel: &Kernel, place: u32, len: u32) -> bool {
+    kernel.parts_agree();
+    let space = kernel.space();
+    0 < space.tenants()
+        && kernel
+            .slabs()
+            .object_at(space, kernel.buddy(), 0, place, len)
+}
+
+#[test]
+fn slabs_and_objects_are_found(rt: HostRuntime) -> Result<(), Fail> {
+    let kernel = kernel_after(rt.alloc(), OBJECT)?;
+    for (frame, found) in [(0, false), (1, true), (2, false), (8, false)] {
+        assert!(rt; is_slab(&kernel, frame) == found, "frame {frame}");
+    }
+    for (place, len, found) in [
+        (0, 1, false),
+        (4096, 100, true),
+        (4096, 101, false),
+        (4195, 1, true),
+        (4096, 0, false),
+        (4200, 1, false),
+    ] {
+        assert!(rt;
+            object_at(&kernel, place, len) == found,
+            "{len} bytes at {place}"
+        );
+    }
+    Ok(())
+}

@@ -11,9 +11,8 @@ use buddy_core::{Buddy, SlotBusy};
 use kernel_core::{BootError, Config, Kernel};
 use klist_core::Lists;
 use layout_core::{Layout, LayoutRefusal, Pattern};
-use model_core::refusals::{DestroyRefusal, GiveRefusal, TakeRefusal};
 use replay_core::{Drain, Feed, ReaderFeed, ReplayError, Stopped, Tally, WriterDrain, replay};
-use slab_core::{CacheRow, Slabs};
+use slab_core::{CacheRow, DestroyRefusal, GiveRefusal, Slabs, TakeRefusal};
 use space_core::{MoveRefusal, NoSlot, PoolEmpty, Space};
 use std::alloc::{AllocError, Global};
 use std::io::{Read, Write};
@@ -75,6 +74,8 @@ fn layout() {
 }
 
 fn slabs() {
+    let _: fn(&Slabs, &Space, u8, u32) -> bool = Slabs::is_slab;
+    let _: fn(&Slabs, &Space, &Buddy, u8, u32, u32) -> bool = Slabs::object_at;
     let _: fn(Global, u8, u16, u8) -> Result<Slabs, AllocError> = Slabs::new;
     let _: fn(&mut Slabs, u8, Layout, Pattern) -> Option<u8> = Slabs::create;
     let _: fn(&mut Slabs, &mut Space, &mut Buddy, u8, u32) -> Result<u32, TakeRefusal> =
