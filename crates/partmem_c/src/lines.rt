@@ -160,36 +160,10 @@ fn put_ended(line: &[u8], out: &mut [u8])
     put(b"\n", out, line.len());
 }
 
-/// Runs a request, and writes what it is answered over the first bytes of `room`; returns how many they are. [`run_line`] alone
+/// Runs a request, and writes what it is answered over the first bytes of `room`; answers how many they are. [`run_line`] alone
 /// calls it: of a function that has one caller the compiler makes a part of it, however long it is.
-///
-/// Each command of a load has a call of its own: so it is tested once, and what can be answered to it is known where it is written.
 #[inline(always)]
 fn answer_request(tenant: u32, request: Request<'_>, kernel: &mut Kernel, room: &mut [u8]) -> usize
-    requires askable { IsAskable request }
-    requires room { IsWide room.old }
-    ensures { PutsAnswer kernel.old (Ok (Some (Tenant tenant (command_of request.entry)))) kernel.new room.old room.new result }
-{
-    match request {
-        Request::Alloc { order } => answer_known(tenant, Request::Alloc { order }, kernel, room),
-        Request::Free { frame } => answer_known(tenant, Request::Free { frame }, kernel, room),
-        Request::Read { place, len } => {
-            answer_known(tenant, Request::Read { place, len }, kernel, room)
-        }
-        Request::Write { place, bytes } => {
-            answer_known(tenant, Request::Write { place, bytes }, kernel, room)
-        }
-        Request::Take { cache } => answer_known(tenant, Request::Take { cache }, kernel, room),
-        Request::Give { cache, place } => {
-            answer_known(tenant, Request::Give { cache, place }, kernel, room)
-        }
-        rare => answer_apart(tenant, rare, kernel, room),
-    }
-}
-
-/// [`answer_request`] of a request whose command the caller knows.
-#[inline(always)]
-fn answer_known(tenant: u32, request: Request<'_>, kernel: &mut Kernel, room: &mut [u8]) -> usize
     requires askable { IsAskable request }
     requires room { IsWide room.old }
     ensures { PutsAnswer kernel.old (Ok (Some (Tenant tenant (command_of request.entry)))) kernel.new room.old room.new result }
@@ -200,14 +174,17 @@ fn answer_known(tenant: u32, request: Request<'_>, kernel: &mut Kernel, room: &m
     }
 }
 
-/// [`answer_request`] of a request of any command.
+/// [`answer_request`] for all others.
 #[inline(never)]
 fn answer_apart(tenant: u32, request: Request<'_>, kernel: &mut Kernel, room: &mut [u8]) -> usize
     requires askable { IsAskable request }
     requires room { IsWide room.old }
     ensures { PutsAnswer kernel.old (Ok (Some (Tenant tenant (command_of request.entry)))) kernel.new room.old room.new result }
 {
-    answer_known(tenant, request, kernel, room)
+    match kernel.ask(tenant, request) {
+        Some((t, answer)) => put_answer(t, answer, room),
+        None => put_no_tenant(room),
+    }
 }
 
 /// Writes what a tenant is answered over the first bytes of `room`, and answers how many they are; so do the others.

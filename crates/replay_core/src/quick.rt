@@ -49,47 +49,8 @@ impl Run {
 
     /// Runs a request that was read off a line, counts the line, and pushes what it shows. The loop alone calls it: of a function
     /// that has one caller the compiler makes a part of it, however long it is.
-    ///
-    /// Each command of a load has a call of its own: so it is tested once, and what can be answered to it is known where it is written.
     #[inline(always)]
     fn answer_request<D: Drain>(
-        &mut self,
-        tenant: u32,
-        request: Request<'_>,
-        kernel: &mut Kernel,
-        drain: &mut D,
-    ) -> Result<(), Stopped>
-        requires askable { IsAskable request }
-        requires ready { IsReady (D.has_failed drain.old) self.old 1 }
-        ensures { HasAnswered (Ok (Some (Tenant tenant (command_of request.entry)))) kernel.old kernel.new
-            (D.contents drain.old) (D.contents drain.new) (D.has_failed drain.new) self.old self.new result }
-    {
-        match request {
-            Request::Alloc { order } => {
-                self.answer_known(tenant, Request::Alloc { order }, kernel, drain)
-            }
-            Request::Free { frame } => {
-                self.answer_known(tenant, Request::Free { frame }, kernel, drain)
-            }
-            Request::Read { place, len } => {
-                self.answer_known(tenant, Request::Read { place, len }, kernel, drain)
-            }
-            Request::Write { place, bytes } => {
-                self.answer_known(tenant, Request::Write { place, bytes }, kernel, drain)
-            }
-            Request::Take { cache } => {
-                self.answer_known(tenant, Request::Take { cache }, kernel, drain)
-            }
-            Request::Give { cache, place } => {
-                self.answer_known(tenant, Request::Give { cache, place }, kernel, drain)
-            }
-            rare => self.answer_apart(tenant, rare, kernel, drain),
-        }
-    }
-
-    /// [`Run::answer_request`] of a request whose command the caller knows.
-    #[inline(always)]
-    fn answer_known<D: Drain>(
         &mut self,
         tenant: u32,
         request: Request<'_>,
@@ -109,7 +70,7 @@ impl Run {
         }
     }
 
-    /// [`Run::answer_request`] of a request of any command.
+    /// [`Run::answer_request`] for all others.
     #[inline(never)]
     pub fn answer_apart<D: Drain>(
         &mut self,
@@ -123,7 +84,12 @@ impl Run {
         ensures { HasAnswered (Ok (Some (Tenant tenant (command_of request.entry)))) kernel.old kernel.new
             (D.contents drain.old) (D.contents drain.new) (D.has_failed drain.new) self.old self.new result }
     {
-        self.answer_known(tenant, request, kernel, drain)
+        self.lines += 1;
+        self.events += 1;
+        match kernel.ask(tenant, request) {
+            Some((t, told)) => self.replies.show_answer(t, told, drain),
+            None => self.replies.show_no_tenant(drain),
+        }
     }
 }
 
