@@ -9,7 +9,7 @@ prove: ## proves and builds all programs and the library for C
 	./prove partmem framemap partcheck library
 test: ## proves everything from nothing, and runs all tests
 	tests/run
-test-quick: ## what can be checked in five minutes, without proofs
+test-quick: ## what can be checked without proofs
 	tests/quick
 install: ## proves, builds and installs under PREFIX (out/installed)
 	./install $(PREFIX)
