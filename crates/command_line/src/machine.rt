@@ -3,13 +3,13 @@
 ghost use Rattle.std.specs.Prelude.{◌≡◌, ◌<◌, ◌≤◌, ℕ, true, IfErr, IfOk, codes};
 ghost use Rattle.std.specs.Option.{ForSome};
 ghost use Rattle.clap.specs.Words.{found_of, one_text};
-ghost use Rattle.kernel_core.specs.Booting.{is_bootable};
+ghost use Rattle.model_core.specs.Booting.{is_bootable};
 
 use crate::arguments::number_written;
 use crate::outcome::Outcome;
 use crate::sizes::sizes_found;
 use clap::ArgMatches;
-use kernel_core::Config;
+use model_core::config::Config;
 use std::alloc::Global;
 
 /// A machine, and the tenant that is written or drawn.

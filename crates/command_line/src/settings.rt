@@ -2,11 +2,11 @@
 
 ghost use Rattle.std.specs.Prelude.{◌≡◌, ◌<◌, true};
 ghost use Rattle.std.specs.Option.{ForSome};
-ghost use Rattle.kernel_core.specs.Booting.{is_bootable};
+ghost use Rattle.model_core.specs.Booting.{is_bootable};
 
 use crate::arguments::Program;
 use crate::machine::Machine;
-use kernel_core::Config;
+use model_core::config::Config;
 
 /// What `partmem` says about itself.
 pub const PROGRAM: Program<'static> = Program {

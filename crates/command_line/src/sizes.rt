@@ -2,15 +2,15 @@
 
 ghost use Rattle.std.specs.Prelude.{◌≡◌, true, IfErr, IfOk};
 ghost use Rattle.clap.specs.Words.{found_of, one_text};
-ghost use Rattle.kernel_core.specs.Booting.{is_bootable};
+ghost use Rattle.model_core.specs.Booting.{is_bootable};
 ghost use Rattle.command_line.specs.Machine.{AsksSizes};
 ghost use Rattle.command_line.specs.Outcome.{IsBadLine};
-ghost use Rattle.kernel_core.specs.declared.kernel.Config.{Config};
+ghost use Rattle.model_core.specs.declared.config.Config.{Config};
 
 use crate::arguments::number_of;
 use crate::outcome::{Outcome, bad_line};
 use clap::ArgMatches;
-use kernel_core::Config;
+use model_core::config::Config;
 use std::alloc::Global;
 
 /// Returns the sizes that the command line asks for.

@@ -3,7 +3,7 @@
 ghost use Rattle.std.specs.Prelude.{◌≡◌, ◌<◌, ℕ, true, Option, IfErr, IfOk, map, codes};
 ghost use Rattle.std.specs.Option.{ForSome};
 ghost use Rattle.clap.specs.Words.{app_of, found_of, matches_of, one_of, one_text};
-ghost use Rattle.kernel_core.specs.Booting.{is_bootable};
+ghost use Rattle.model_core.specs.Booting.{is_bootable};
 ghost use Rattle.command_line.specs.Machine.{AsksNoTenant, MayWrite};
 ghost use Rattle.command_line.specs.Outcome.{IsBadLine, IsRefusal};
 ghost use Rattle.command_line.specs.Settings.{CanBeHad, IsAlone, IsAskedBy, IsInOrder, command_line};

@@ -6,9 +6,11 @@ mod drain;
 mod feed;
 mod held;
 mod reader_feed;
+mod tally;
 mod writer_drain;
 
 pub use drain::{Drain, SHORT_BYTES};
 pub use feed::{Feed, Stopped};
 pub use reader_feed::ReaderFeed;
+pub use tally::{ReplayError, Tally};
 pub use writer_drain::WriterDrain;

@@ -11,9 +11,9 @@ use Rattle.world_core.specs.World.{opening_world}
 use Rattle.world_core.proofs.MachineLists.{slice_get-replicate}
 use Rattle.parts_core.specs.Parts.{PartsAgree, opening_parts}
 use Rattle.parts_core.specs.Shows.{ShowsMachine}
-use Rattle.kernel_core.specs.declared.kernel.Config.{Config}
+use Rattle.model_core.specs.declared.config.Config.{Config}
 use Rattle.kernel_core.specs.Shows.{Shows}
-use Rattle.kernel_core.specs.Booting.{is_between, is_bootable}
+use Rattle.model_core.specs.Booting.{is_between, is_bootable}
 
 -- the sizes are within the limits
 pub bootable : (c : Config) → is_bootable c ≡ true → (c.order ≤ MOST_ORDER) × (c.superblocks ≤ MOST_SUPERBLOCKS) × (c.tenants ≤ MOST_TENANTS)

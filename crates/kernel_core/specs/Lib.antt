@@ -1,4 +1,3 @@
 pub mod Shows
 pub mod Steps
-pub mod Booting
 pub mod Asking

@@ -8,7 +8,7 @@ ghost use Rattle.world_core.specs.Limits.{cache_limit};
 ghost use Rattle.world_core.specs.World.{World, opening_world, world_step};
 
 use buddy_core::Buddy;
-use model_core::limits::{LEAST_ORDER, MOST_ORDER, MOST_SUPERBLOCKS, MOST_TENANTS};
+use model_core::config::Config;
 use parts_core::{FrameKind, Parts};
 use slab_core::Slabs;
 use space_core::Space;
@@ -16,17 +16,6 @@ use std::alloc::Global;
 use std::marker::Model;
 use thiserror::Error;
 use words_core::{Addressee, AdminCommand, Answer, Body, Event, Refusal, Reply, Request};
-
-/// The sizes of a machine.
-#[derive(Clone, Copy, Debug, PartialEq, Eq)]
-pub struct Config {
-    /// A superblock has `2^order` frames: 3 to 8.
-    pub order: u32,
-    /// How many superblocks the machine has: 1 to 256.
-    pub superblocks: u32,
-    /// How many tenants share it: 1 to 64.
-    pub tenants: u32,
-}
 
 /// Why a kernel did not boot.
 #[derive(Debug, Drop, Error)]
@@ -53,22 +42,9 @@ impl Model for Kernel {
     ghost view = { λ k. k.parts };
 }
 
-impl Config {
-    ghost use Rattle.kernel_core.specs.Booting.{is_bootable};
-
-    /// Whether every number is in its range.
-    pub fn is_bootable(&self) -> bool
-        ensures { result ≡ is_bootable self.now }
-    {
-        (u32::from(LEAST_ORDER)..=u32::from(MOST_ORDER)).contains(&self.order)
-            && (1..=u32::from(MOST_SUPERBLOCKS)).contains(&self.superblocks)
-            && (1..=u32::from(MOST_TENANTS)).contains(&self.tenants)
-    }
-}
-
 impl Kernel {
     ghost use Rattle.std.specs.Prelude.{MatchOption, Option, Some};
-    ghost use Rattle.kernel_core.specs.Booting.{is_bootable};
+    ghost use Rattle.model_core.specs.Booting.{is_bootable};
     ghost use Rattle.world_core.specs.OwnList.{is_refused};
     ghost use Rattle.parts_core.specs.Parts.{PartsAgree, SameSizes, MarksFollow, opening_parts, superblock_at, superblock_bytes, Keeps};
     ghost use Rattle.space_core.specs.Laws.{SpareStays};

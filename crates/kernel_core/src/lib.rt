@@ -30,5 +30,6 @@ pub mod laws;
 mod refusals;
 mod reporting;
 
-pub use kernel::{BootError, Config, Kernel};
+pub use kernel::{BootError, Kernel};
+pub use model_core::config::Config;
 pub use parts_core::FrameKind;

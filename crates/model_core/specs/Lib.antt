@@ -16,3 +16,4 @@ pub mod ByteLaws
 pub mod Owners
 pub mod Reports
 pub mod Room
+pub mod Booting

@@ -3,6 +3,7 @@
 #![tactic(auto)]
 
 pub mod block_laws;
+pub mod config;
 pub mod laws;
 pub mod limits;
 pub mod owner;

@@ -1,6 +1,6 @@
 -- What a finding tells of a new machine.
 use Rattle.std.proofs.Common.{◌≡◌, ℕ, List, sym}
-use Rattle.kernel_core.specs.declared.kernel.Config.{Config}
+use Rattle.model_core.specs.declared.config.Config.{Config}
 use Rattle.model_core.specs.declared.limits.TheConstants.{MOST_CACHES}
 use Rattle.check_core.specs.declared.finding.Finding.{Finding}
 use Rattle.check_core.specs.declared.finding.Finding.TheVariants.{Kept, Broken}

@@ -1,6 +1,6 @@
 -- What is told of how a check ends, and what it tells of two texts.
 use Rattle.std.specs.Prelude.{ℕ, List, None}
-use Rattle.kernel_core.specs.declared.kernel.Config.{Config}
+use Rattle.model_core.specs.declared.config.Config.{Config}
 use Rattle.model_core.specs.declared.limits.TheConstants.{MOST_CACHES}
 use Rattle.words_core.specs.Cutting.{lines_of_trace}
 use Rattle.promise_core.specs.State.{Known, opening}

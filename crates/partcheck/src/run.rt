@@ -1,7 +1,7 @@
 //! A check on a new machine.
 
 ghost use Rattle.std.specs.Prelude.{◌≡◌, ℕ, List, true, false, Some, IfOk, ◌⊎◌};
-ghost use Rattle.kernel_core.specs.Booting.{is_bootable};
+ghost use Rattle.model_core.specs.Booting.{is_bootable};
 ghost use Rattle.check_core.specs.Ending.{ComesToAdd, IsEndedBy};
 ghost use Rattle.check_core.specs.Finding.{finding_of};
 ghost use Rattle.check_core.specs.Reading.{readings_of};

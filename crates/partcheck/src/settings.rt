@@ -1,7 +1,7 @@
 //! What a command line asks for, and what the program tells of itself.
 
 ghost use Rattle.std.specs.Prelude.{◌≡◌, true};
-ghost use Rattle.kernel_core.specs.Booting.{is_bootable};
+ghost use Rattle.model_core.specs.Booting.{is_bootable};
 
 use command_line::Program;
 use kernel_core::Config;

@@ -6,8 +6,8 @@ use Rattle.words_core.specs.Cutting.{lines_of_trace}
 use Rattle.world_core.specs.Limits.{cache_limit}
 use Rattle.world_core.specs.Output.{ended_lines}
 use Rattle.promise_kept.proofs.Written.{ram_is_small, shown_is_allowed}
-use Rattle.kernel_core.specs.declared.kernel.Config.{Config}
-use Rattle.kernel_core.specs.Booting.{is_between, is_bootable}
+use Rattle.model_core.specs.declared.config.Config.{Config}
+use Rattle.model_core.specs.Booting.{is_between, is_bootable}
 use Rattle.kernel_core.proofs.Opening.{bootable}
 use Rattle.command_line.specs.declared.outcome.Outcome.{Outcome}
 use Rattle.command_line.specs.declared.outcome.Outcome.TheVariants.{Done, Help, Version, Unreadable, Unwritable, BadLine, BadOnly, NoMemory}

@@ -4,7 +4,7 @@ use Rattle.std.specs.Io.KnownBytes.{Appends, Consumes, Keeps, IsAtEnd, append_kn
 use Rattle.std.proofs.Math.Seq.{take-length}
 use Rattle.std.proofs.lemmas.List.{append-nil, length-take-le}
 use Rattle.words_core.specs.Cutting.{lines_of_trace}
-use Rattle.kernel_core.specs.declared.kernel.Config.{Config}
+use Rattle.model_core.specs.declared.config.Config.{Config}
 use Rattle.world_core.specs.Limits.{cache_limit}
 use Rattle.world_core.specs.Output.{shown_lines, ended_lines, lines_for, with_line_feeds}
 use Rattle.world_core.specs.Laws.{private_lines, ShownStays}
@@ -12,9 +12,9 @@ use Rattle.parts_core.specs.Parts.{Parts, opening_parts}
 use Rattle.kernel_core.specs.Shows.{Shows}
 use Rattle.world_core.specs.World.{World, opening_world}
 use Rattle.world_core.proofs.Showing.{shown_first}
-use Rattle.replay_core.specs.declared.replaying.Tally.{Tally}
-use Rattle.replay_core.specs.declared.replaying.ReplayError.{ReplayError}
-use Rattle.replay_core.specs.declared.replaying.ReplayError.TheVariants as Failed
+use Rattle.ends.specs.declared.tally.Tally.{Tally}
+use Rattle.ends.specs.declared.tally.ReplayError.{ReplayError}
+use Rattle.ends.specs.declared.tally.ReplayError.TheVariants as Failed
 use Rattle.replay_core.specs.Runs.{Counts, HasCome, IsCutShort, Replays, IsDone, NamesFailed, HasOwnLines}
 use Rattle.replay_core.proofs.RunLemmas.{shown_more}
 use Rattle.command_line.specs.declared.outcome.Outcome.{Outcome}

@@ -1,7 +1,7 @@
 -- What a run of the program writes with `--own`.
 use Rattle.std.specs.Prelude.{◌≡◌, ℕ, List, []}
 use Rattle.words_core.specs.Cutting.{lines_of_trace}
-use Rattle.kernel_core.specs.declared.kernel.Config.{Config}
+use Rattle.model_core.specs.declared.config.Config.{Config}
 use Rattle.world_core.specs.Limits.{cache_limit}
 use Rattle.world_core.specs.World.{opening_world}
 use Rattle.world_core.specs.Output.{ended_lines}

@@ -2,12 +2,12 @@
 use Rattle.std.specs.Prelude.{◌≡◌, ℕ, ◌-◌, ◌<◌, Bool, true, false, List, [], ◌++◌, length, take, Option, Some, None}
 use Rattle.std.specs.Io.KnownBytes.{Appends, append_known}
 use Rattle.words_core.specs.Cutting.{lines_of_trace}
-use Rattle.kernel_core.specs.declared.kernel.Config.{Config}
+use Rattle.model_core.specs.declared.config.Config.{Config}
 use Rattle.world_core.specs.Limits.{cache_limit}
 use Rattle.world_core.specs.World.{opening_world}
 use Rattle.world_core.specs.Output.{shown_lines, ended_lines, lines_for, with_line_feeds}
 use Rattle.world_core.specs.Laws.{private_lines}
-use Rattle.replay_core.specs.declared.replaying.Tally.{Tally}
+use Rattle.ends.specs.declared.tally.Tally.{Tally}
 use Rattle.replay_core.specs.Runs.{Counts, HasCome}
 use Rattle.command_line.specs.declared.outcome.Outcome.{Outcome}
 use Rattle.command_line.specs.declared.outcome.Outcome.TheVariants.{Done, Unreadable, Unwritable, NoMemory}

@@ -1,7 +1,7 @@
 //! A machine booted, and ended.
 
 ghost use Rattle.std.specs.Prelude.{◌≡◌, ◌≢◌, ◌↔◌, false, IsSome, IfSome, Some, None};
-ghost use Rattle.kernel_core.specs.Booting.{is_bootable};
+ghost use Rattle.model_core.specs.Booting.{is_bootable};
 ghost use Rattle.parts_core.specs.Parts.{opening_parts};
 ghost use Rattle.kernel_core.specs.Shows.{Shows};
 ghost use Rattle.world_core.specs.World.{opening_world};

@@ -7,7 +7,7 @@ use Rattle.world_core.specs.Output.{output_of, lines_for, with_line_feeds}
 use Rattle.world_core.specs.Laws.{OwnLines, OwnShown}
 use Rattle.world_core.proofs.Worlds.{opening_tenants}
 use Rattle.parts_core.specs.Parts.{Parts}
-use Rattle.replay_core.specs.declared.replaying.Tally.{Tally}
+use Rattle.ends.specs.declared.tally.Tally.{Tally}
 use Rattle.replay_core.specs.Runs.{HasRun, HasOwnLines}
 
 pub own_lines_taken : OwnLines → OwnShown → (only : Option ℕ) (before now : Parts) (given taken : List ℕ) (tally : Tally) → before.tenants < 4294967296

@@ -16,9 +16,9 @@ use Rattle.parts_core.specs.Parts.{Parts, SameSizes}
 use Rattle.kernel_core.specs.Shows.{Shows}
 use Rattle.ends.specs.declared.feed.Stopped.{Stopped}
 use Rattle.replay_core.specs.declared.pending.Pending.{Pending}
-use Rattle.replay_core.specs.declared.replaying.Tally.{Tally}
+use Rattle.ends.specs.declared.tally.Tally.{Tally}
 use Rattle.replay_core.specs.declared.run.Run.{Run}
-use Rattle.replay_core.specs.declared.replaying.ReplayError.TheVariants as Of
+use Rattle.ends.specs.declared.tally.ReplayError.TheVariants as Of
 use Rattle.replay_core.specs.Pending.{HoldsLine}
 use Rattle.replay_core.specs.Runs.{fault_in, faults_of, Counts, StandsAfter, HasRun, IsCutShort, Replays}
 use Rattle.replay_core.specs.Standing.{IsOneLine, HasAnswered, Stands, HasStopped, tally_of_run}

@@ -12,7 +12,7 @@ use Rattle.world_core.specs.World.{World, world_after}
 use Rattle.world_core.specs.Output.{event_in, shown_reading, ended_lines, line_feed, with_line_feeds}
 use Rattle.ends.specs.declared.feed.Stopped.{Stopped}
 use Rattle.replay_core.specs.declared.pending.Pending.{Pending}
-use Rattle.replay_core.specs.declared.replaying.Tally.{Tally}
+use Rattle.ends.specs.declared.tally.Tally.{Tally}
 use Rattle.replay_core.specs.declared.run.Run.{Run}
 use Rattle.replay_core.specs.Pending.{HoldsLine}
 use Rattle.replay_core.specs.Pushes.{IsWholeAtOk}

@@ -8,6 +8,6 @@ mod replaying;
 mod replies;
 mod run;
 
-pub use ends::{Drain, Feed, ReaderFeed, Stopped, WriterDrain};
+pub use ends::{Drain, Feed, ReaderFeed, ReplayError, Stopped, Tally, WriterDrain};
 pub use pending::{Pending, line_end};
-pub use replaying::{ReplayError, Tally, replay};
+pub use replaying::replay;

@@ -7,36 +7,11 @@ ghost use Rattle.replay_core.specs.Promised.{TakesAllowed};
 
 use crate::pending::Pending;
 use crate::run::Run;
-use ends::{Drain, Feed};
+use ends::{Drain, Feed, ReplayError, Tally};
 use kernel_core::{Kernel, laws};
-use thiserror::Error;
 
 /// How many bytes are asked for in one pull.
 const PIECE_BYTES: usize = 65_536;
-
-/// What a replay has done so far.
-#[derive(Clone, Copy, Debug, Default, PartialEq, Eq)]
-pub struct Tally {
-    /// Lines run, blank ones and comments too.
-    pub lines: u64,
-    /// Among them those that were events.
-    pub events: u64,
-    /// Among them those that were faulty.
-    pub faults: u64,
-    /// Bytes pushed.
-    pub written: u128,
-}
-
-/// Which end failed, and what had been done.
-#[derive(Clone, Copy, Debug, PartialEq, Eq, Drop, Error)]
-pub enum ReplayError {
-    /// The feed: all lines that ended in LF have been run and answered in full, and the unfinished one has not been run.
-    #[error("the trace could not be read")]
-    Feed(Tally),
-    /// The drain: a beginning of the replies was pushed, and the kernel stands after the line whose reply was cut.
-    #[error("the replies could not be written")]
-    Drain(Tally),
-}
 
 /// Runs the trace that the feed gives on the kernel, and pushes the replies into the drain: with `only` those to that
 /// tenant alone, else all.

@@ -8,9 +8,8 @@ ghost use Rattle.replay_core.specs.Bounds.{IsBounded};
 
 use crate::pending::{Pending, line_end};
 use crate::quick::read_alone;
-use crate::replaying::Tally;
 use crate::replies::Replies;
-use ends::{Drain, Stopped};
+use ends::{Drain, Stopped, Tally};
 use kernel_core::Kernel;
 use model_core::limits::MOST_BYTES;
 use words_core::{Event, LineFault};

@@ -1,0 +1,29 @@
+//! The sizes of a machine.
+
+ghost use Rattle.std.specs.Prelude.{◌≡◌};
+
+use crate::limits::{LEAST_ORDER, MOST_ORDER, MOST_SUPERBLOCKS, MOST_TENANTS};
+
+/// The sizes of a machine.
+#[derive(Clone, Copy, Debug, PartialEq, Eq)]
+pub struct Config {
+    /// A superblock has `2^order` frames: 3 to 8.
+    pub order: u32,
+    /// How many superblocks the machine has: 1 to 256.
+    pub superblocks: u32,
+    /// How many tenants share it: 1 to 64.
+    pub tenants: u32,
+}
+
+impl Config {
+    ghost use Rattle.model_core.specs.Booting.{is_bootable};
+
+    /// Whether every number is in its range.
+    pub fn is_bootable(&self) -> bool
+        ensures { result ≡ is_bootable self.now }
+    {
+        (u32::from(LEAST_ORDER)..=u32::from(MOST_ORDER)).contains(&self.order)
+            && (1..=u32::from(MOST_SUPERBLOCKS)).contains(&self.superblocks)
+            && (1..=u32::from(MOST_TENANTS)).contains(&self.tenants)
+    }
+}
