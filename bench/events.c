@@ -1,0 +1,152 @@
+/* Runs one kind of event again and again by the static library, for bench/run --events and --first-write.
+ *
+ *     events COMMAND ROUNDS [ORDER]
+ *
+ * COMMAND is alloc, free, take, give, read, write, cache, destroy, reap, report, grant, take_back or move. Only its events go
+ * through `measured`, so that callgrind counts these alone; what undoes them does not. The machine has 32 superblocks of order 6
+ * and 8 tenants. Tenant 0 has half of the superblocks, some page blocks in each and two caches with live objects.
+ *
+ *     events new 0 ORDER         the first write into each superblock, whose memory was never touched
+ *     events again ROUNDS ORDER  the first write after a grant, into memory that was touched before
+ *
+ * These print the page faults and the nanoseconds of such a write. The machine has 32 superblocks of that order.
+ */
+#define _DEFAULT_SOURCE
+#include <stdio.h>
+#include <stdlib.h>
+#include <string.h>
+#include <sys/resource.h>
+#include <time.h>
+
+#include "partmem.h"
+
+enum { SUPERBLOCKS = 32, TENANTS = 8, SLOTS = SUPERBLOCKS / 2, SMALL = 96, LARGE = 2048, FRAME_BYTES = 4096 };
+
+static partmem_machine machine;
+static uint8_t buffer[PARTMEM_MOST_BYTES];
+static const uint8_t bytes[PARTMEM_MOST_BYTES];
+
+static void fail(const char *what) {
+    fprintf(stderr, "events: %s\n", what);
+    exit(1);
+}
+
+/* Runs an event of tenant 0, and returns its first number, or the slot that a grant gave. */
+static uint32_t event(uint32_t kind, uint32_t first, uint32_t second) {
+    partmem_asked asked = {kind, 0, first, second};
+    partmem_told told;
+    size_t len = kind == PARTMEM_WRITE ? PARTMEM_MOST_BYTES : 1;
+    if (partmem_event(&machine, &asked, bytes, len, &told, buffer, sizeof buffer) != PARTMEM_DONE || told.kind == PARTMEM_REFUSED) {
+        fail("an event was refused");
+    }
+    return told.kind == PARTMEM_GRANTED ? told.second : told.first;
+}
+
+/* The same, counted. */
+__attribute__((noinline)) uint32_t measured(uint32_t kind, uint32_t first, uint32_t second) {
+    return event(kind, first, second);
+}
+
+static void boot(int order) {
+    if (partmem_boot(&machine, (uint32_t)order, SUPERBLOCKS, TENANTS) != PARTMEM_DONE) {
+        fail("the machine did not boot");
+    }
+}
+
+/* Boots the machine and gives tenant 0 what it has, and returns the first frame of a page block that was written. */
+static uint32_t set_up(void) {
+    uint32_t frame = 0;
+    boot(6);
+    for (int i = 0; i < SLOTS; i++) {
+        event(PARTMEM_GRANT, 0, 0);
+        frame = event(PARTMEM_ALLOC, 3, 0);
+        event(PARTMEM_WRITE, FRAME_BYTES * frame, 0);
+    }
+    event(PARTMEM_CACHE, SMALL, 8);
+    event(PARTMEM_CACHE, LARGE, 8);
+    for (uint32_t i = 0; i < 200; i++) {
+        event(PARTMEM_TAKE, i % 2, 0);
+    }
+    return frame;
+}
+
+/* Runs a command once, counted, and what makes it possible or undoes it. */
+static void run_round(const char *command, uint32_t frame) {
+    if (!strcmp(command, "alloc")) {
+        event(PARTMEM_FREE, measured(PARTMEM_ALLOC, 0, 0), 0);
+    } else if (!strcmp(command, "free")) {
+        measured(PARTMEM_FREE, event(PARTMEM_ALLOC, 0, 0), 0);
+    } else if (!strcmp(command, "take")) {
+        event(PARTMEM_GIVE, 0, measured(PARTMEM_TAKE, 0, 0));
+    } else if (!strcmp(command, "give")) {
+        measured(PARTMEM_GIVE, 0, event(PARTMEM_TAKE, 0, 0));
+    } else if (!strcmp(command, "read")) {
+        measured(PARTMEM_READ, FRAME_BYTES * frame, PARTMEM_MOST_BYTES);
+    } else if (!strcmp(command, "write")) {
+        measured(PARTMEM_WRITE, FRAME_BYTES * frame, 0);
+    } else if (!strcmp(command, "cache")) {
+        event(PARTMEM_DESTROY, measured(PARTMEM_CACHE, SMALL, 8), 0);
+    } else if (!strcmp(command, "destroy")) {
+        measured(PARTMEM_DESTROY, event(PARTMEM_CACHE, SMALL, 8), 0);
+    } else if (!strcmp(command, "reap")) {
+        measured(PARTMEM_REAP, 0, 0);
+    } else if (!strcmp(command, "report")) {
+        measured(PARTMEM_REPORT, 0, 0);
+    } else if (!strcmp(command, "grant")) {
+        event(PARTMEM_TAKE_BACK, measured(PARTMEM_GRANT, 0, 0), 0);
+    } else if (!strcmp(command, "take_back")) {
+        measured(PARTMEM_TAKE_BACK, event(PARTMEM_GRANT, 0, 0), 0);
+    } else if (!strcmp(command, "move")) {
+        measured(PARTMEM_MOVE, 0, 0);
+    } else {
+        fail("there is no such command");
+    }
+}
+
+static double nanoseconds(void) {
+    struct timespec now;
+    clock_gettime(CLOCK_PROCESS_CPUTIME_ID, &now);
+    return 1e9 * (double)now.tv_sec + (double)now.tv_nsec;
+}
+
+static long page_faults(void) {
+    struct rusage used;
+    getrusage(RUSAGE_SELF, &used);
+    return used.ru_minflt;
+}
+
+/* Prints the page faults and the time of a first write, into new memory or into memory that was touched before. */
+static void first_writes(int is_new, int rounds, int order) {
+    double time = 0;
+    long faults = 0;
+    int count = is_new ? SUPERBLOCKS : rounds;
+    boot(order);
+    for (int i = 0; i < count; i++) {
+        uint32_t slot = event(PARTMEM_GRANT, 0, 0), frame = event(PARTMEM_ALLOC, (uint32_t)order, 0);
+        long faults_before = page_faults();
+        double before = nanoseconds();
+        event(PARTMEM_WRITE, FRAME_BYTES * frame, 0);
+        time += nanoseconds() - before;
+        faults += page_faults() - faults_before;
+        if (!is_new) {
+            event(PARTMEM_FREE, frame, 0);
+            event(PARTMEM_TAKE_BACK, slot, 0);
+        }
+    }
+    printf("%.1f %.0f\n", (double)faults / count, time / count);
+}
+
+int main(int argc, char **argv) {
+    if (argc < 3) {
+        fail("usage: events COMMAND ROUNDS [ORDER]");
+    }
+    if (argc == 4) {
+        first_writes(!strcmp(argv[1], "new"), atoi(argv[2]), atoi(argv[3]));
+        return 0;
+    }
+    uint32_t frame = set_up();
+    for (int i = 0; i < atoi(argv[2]); i++) {
+        run_round(argv[1], frame);
+    }
+    return 0;
+}
