@@ -7,6 +7,10 @@ pub mod Resetting
 pub mod Moving
 pub mod Opening
 pub mod OneWorld
+pub mod Stores
+pub mod Actions
+pub mod MadeKernels
+pub mod WitnessesActions
 pub mod Witnesses
 pub mod ReportOrders
 pub mod ReportFigures

@@ -2,5 +2,7 @@ mod RawBoxValues
 mod SlotSteps
 pub mod TextLemmas
 pub mod CallLemmas
+pub mod ActionLemmas
 pub mod EventLemmas
 mod Witnesses
+mod WitnessesActions

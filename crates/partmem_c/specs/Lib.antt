@@ -3,3 +3,4 @@ pub mod Lines
 pub mod Events
 pub mod Owners
 pub mod Laws
+pub mod Actions

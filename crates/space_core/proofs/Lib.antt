@@ -4,11 +4,12 @@ mod BankLemmas
 mod Stored
 pub mod Empty
 mod Mapped
-mod Changed
+pub mod Changed
 pub mod Vacancy
 mod Places
 pub mod Reading
 mod Own
 mod Others
 mod Spare
+pub mod Laws
 pub mod Ranges

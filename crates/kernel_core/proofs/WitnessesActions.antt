@@ -1,0 +1,242 @@
+-- For each law of stores and of actions an instance of its premises. In one world tenant 0 is alone: it takes a frame, 100 bytes are
+-- stored there, more than one write has, and it reads the last of them. In the other one tenant 1 is first, and has a frame and stores
+-- of its own.
+use Rattle.std.proofs.Common.{◌≡◌, ℕ, List, [], ◌∷◌, Some, None, refl, ◌∙◌, arith}
+use Rattle.std.specs.Prelude.{replicate}
+use Rattle.model_core.specs.Machine.{empty_machine}
+use Rattle.words_core.specs.declared.event.Event.TheVariants as On
+use Rattle.words_core.specs.declared.event.AdminCommand.TheVariants as Do
+use Rattle.words_core.specs.declared.event.Command.TheVariants as Asked
+use Rattle.words_core.specs.declared.reply.Addressee.TheVariants as To
+use Rattle.words_core.specs.declared.reply.Body.TheVariants.{Frame, Bytes, Written}
+use Rattle.world_core.specs.Limits.{cache_limit}
+use Rattle.world_core.specs.PrivateStep.{Ask, Grant}
+use Rattle.space_core.specs.Content as spaces
+use Rattle.space_core.specs.Changes.{with_grant}
+use Rattle.parts_laws.specs.Pages.{stored}
+use Rattle.parts_core.specs.Parts.{Parts, parts_of}
+use Rattle.kernel_core.specs.Steps.{Steps}
+use Rattle.kernel_core.specs.Stores.{IsKernel, Stores, Loads, StoresAreWrites, LoadsAreOwn}
+use Rattle.kernel_core.specs.Actions.{Action, Runs, StoresAt, LoadsAt, Acts, AllAct, Sight, Told, Loaded, sights_of, Own, Enters, Stored, LoadedAt, own_seen, OwnSights, SameSights}
+use Rattle.kernel_core.proofs.Actions.{booted_has, all_follow}
+use Rattle.kernel_core.proofs.Granting.{granted_reply}
+use Rattle.kernel_core.proofs.MadeKernels.{to_tenant, grant_acts, alloc_acts, read_acts, in_frame, holders, holders_laws, chosen, opened_space, no_slabs, opened, is_opened}
+use Rattle.kernel_core.proofs.Stores.{stores_are_writes}
+
+abbrev pub bytes : List ℕ
+bytes = replicate 100 7
+
+-- Alone
+
+abbrev pub space_1 : spaces.Content
+space_1 = with_grant opened_space 0 0 0
+
+abbrev pub alone_1 : Parts
+alone_1 = parts_of space_1 (holders (Some 0) None None None) no_slabs
+
+abbrev pub alone_2 : Parts
+alone_2 = parts_of space_1 (holders (Some 0) (Some 0) None None) no_slabs
+
+abbrev pub alone_3 : Parts
+alone_3 = record alone_2 { space = stored 0 5 bytes space_1 }
+
+pub alone_granted : Acts opened (Runs (On.Admin (Do.Grant 0)) (granted_reply 0 0 0)) alone_1
+alone_granted =
+    grant_acts opened_space (holders None None None None) no_slabs 0 0 0
+    (record {
+      together = is_opened.kernel.together;
+      tenant = omega arith;
+      free = refl;
+      least = record { vacant = refl; below = λ v less. absurd (omega arith) };
+      slot_below = omega arith;
+      below = omega arith;
+    })
+    (holders_laws (Some 0) None None None (λ k is. absurd (cc)) (λ k is. absurd (cc)) (λ m is is'. cc))
+
+pub alone_taken : Acts alone_1 (Runs (On.Tenant 0 (Asked.Alloc 0)) (to_tenant 0 (Frame 0))) alone_2
+alone_taken =
+    alloc_acts space_1 (holders (Some 0) None None None) no_slabs 0 0 0 3 alone_granted.1.together (omega arith) (omega arith) (chosen 0)
+    (holders_laws (Some 0) (Some 0) None None (λ k is. (cc, refl)) (λ k is. absurd (cc)) (λ m is is'. cc))
+
+pub alone_stored : Stores alone_2 0 5 bytes alone_3
+alone_stored = record { tenant = omega arith; reach = in_frame space_1 alone_2.buddy no_slabs 0 5 100 refl refl (omega arith) (omega arith); is = refl }
+
+pub alone_kernel : IsKernel alone_3
+alone_kernel = (stores_are_writes alone_2 alone_3 0 5 bytes alone_taken.1 alone_stored).0
+
+pub alone_loaded : Loads alone_3 0 104 7
+alone_loaded = record {
+  tenant = omega arith;
+  reach = in_frame alone_3.space alone_3.buddy no_slabs 0 104 1 refl refl (omega arith) (omega arith);
+  is = alone_granted.1.together.space.own_bytes.window 0 5 100 bytes refl refl 104;
+}
+
+abbrev alone : List Action
+alone = Runs (On.Admin (Do.Grant 0)) (granted_reply 0 0 0) ∷ Runs (On.Tenant 0 (Asked.Alloc 0)) (to_tenant 0 (Frame 0)) ∷ StoresAt 0 5 bytes
+    ∷ LoadsAt 0 104 7 ∷ Runs (On.Tenant 0 (Asked.Read 104 1)) (to_tenant 0 (Bytes (record { items = 7 ∷ [] }))) ∷ []
+
+alone_acts : AllAct opened alone alone_3
+alone_acts =
+    (alone_1, alone_granted, (alone_2, alone_taken, (alone_3, alone_stored, (alone_3, (alone_loaded, refl), (alone_3, read_acts alone_3 0 104 7 alone_kernel alone_loaded, refl)))))
+
+-- Beside tenant 1
+
+abbrev space_of_1 : spaces.Content
+space_of_1 = with_grant opened_space 1 0 0
+
+abbrev beside_1 : Parts
+beside_1 = parts_of space_of_1 (holders None None (Some 0) None) no_slabs
+
+abbrev beside_2 : Parts
+beside_2 = parts_of space_of_1 (holders None None (Some 0) (Some 0)) no_slabs
+
+abbrev beside_3 : Parts
+beside_3 = record beside_2 { space = stored 1 5 (replicate 100 9) space_of_1 }
+
+abbrev space_of_both : spaces.Content
+space_of_both = with_grant beside_3.space 0 0 1
+
+abbrev beside_4 : Parts
+beside_4 = parts_of space_of_both (holders (Some 1) None (Some 0) (Some 0)) no_slabs
+
+abbrev beside_5 : Parts
+beside_5 = parts_of space_of_both (holders (Some 1) (Some 0) (Some 0) (Some 0)) no_slabs
+
+abbrev beside_6 : Parts
+beside_6 = record beside_5 { space = stored 0 5 bytes space_of_both }
+
+-- tenant 1 stores at the place where tenant 0 is to load
+abbrev beside_7 : Parts
+beside_7 = record beside_6 { space = stored 1 104 (9 ∷ []) beside_6.space }
+
+granted_1 : Acts opened (Runs (On.Admin (Do.Grant 1)) (granted_reply 1 0 0)) beside_1
+granted_1 =
+    grant_acts opened_space (holders None None None None) no_slabs 1 0 0
+    (record {
+      together = is_opened.kernel.together;
+      tenant = omega arith;
+      free = refl;
+      least = record { vacant = refl; below = λ v less. absurd (omega arith) };
+      slot_below = omega arith;
+      below = omega arith;
+    })
+    (holders_laws None None (Some 0) None (λ k is. absurd (cc)) (λ k is. absurd (cc)) (λ m is is'. cc))
+
+taken_1 : Acts beside_1 (Runs (On.Tenant 1 (Asked.Alloc 0)) (to_tenant 1 (Frame 0))) beside_2
+taken_1 =
+    alloc_acts space_of_1 (holders None None (Some 0) None) no_slabs 1 0 0 3 granted_1.1.together (omega arith) (omega arith) (chosen 0)
+    (holders_laws None None (Some 0) (Some 0) (λ k is. absurd (cc)) (λ k is. (cc, refl)) (λ m is is'. cc))
+
+stored_1 : Stores beside_2 1 5 (replicate 100 9) beside_3
+stored_1 = record { tenant = omega arith; reach = in_frame space_of_1 beside_2.buddy no_slabs 1 5 100 refl refl (omega arith) (omega arith); is = refl }
+
+kernel_3 : IsKernel beside_3
+kernel_3 = (stores_are_writes beside_2 beside_3 1 5 (replicate 100 9) taken_1.1 stored_1).0
+
+granted_0 : Acts beside_3 (Runs (On.Admin (Do.Grant 0)) (granted_reply 0 0 1)) beside_4
+granted_0 =
+    grant_acts beside_3.space (holders None None (Some 0) (Some 0)) no_slabs 0 0 1
+    (record {
+      together = kernel_3.together;
+      tenant = omega arith;
+      free = refl;
+      least = record { vacant = refl; below = λ v less. absurd (omega arith) };
+      slot_below = omega arith;
+      below = omega arith;
+    })
+    (holders_laws (Some 1) None (Some 0) (Some 0) (λ k is. absurd (cc)) (λ k is. (cc, refl)) (λ m is is'. cc))
+
+taken_0 : Acts beside_4 (Runs (On.Tenant 0 (Asked.Alloc 0)) (to_tenant 0 (Frame 0))) beside_5
+taken_0 =
+    alloc_acts space_of_both (holders (Some 1) None (Some 0) (Some 0)) no_slabs 0 0 0 3 granted_0.1.together (omega arith) (omega arith) (chosen 1)
+    (holders_laws (Some 1) (Some 0) (Some 0) (Some 0) (λ k is. (cc, refl)) (λ k is. (cc, refl)) (λ m is is'. cc))
+
+stored_0 : Stores beside_5 0 5 bytes beside_6
+stored_0 = record { tenant = omega arith; reach = in_frame space_of_both beside_5.buddy no_slabs 0 5 100 refl refl (omega arith) (omega arith); is = refl }
+
+kernel_6 : IsKernel beside_6
+kernel_6 = (stores_are_writes beside_5 beside_6 0 5 bytes taken_0.1 stored_0).0
+
+stored_again : Stores beside_6 1 104 (9 ∷ []) beside_7
+stored_again = record {
+  tenant = omega arith;
+  reach = in_frame beside_6.space beside_6.buddy no_slabs 1 104 1 refl refl (omega arith) (omega arith);
+  is = refl;
+}
+
+kernel_7 : IsKernel beside_7
+kernel_7 = (stores_are_writes beside_6 beside_7 1 104 (9 ∷ []) kernel_6 stored_again).0
+
+loaded_0 : Loads beside_7 0 104 7
+loaded_0 = record {
+  tenant = omega arith;
+  reach = in_frame beside_7.space beside_7.buddy no_slabs 0 104 1 refl refl (omega arith) (omega arith);
+  is = (kernel_6.together.space.others.window 1 104 1 (9 ∷ []) 0 (λ same. absurd (omega arith))).bytes 104
+      ∙ taken_0.1.together.space.own_bytes.window 0 5 100 bytes refl refl 104;
+}
+
+abbrev beside : List Action
+beside = Runs (On.Admin (Do.Grant 1)) (granted_reply 1 0 0) ∷ Runs (On.Tenant 1 (Asked.Alloc 0)) (to_tenant 1 (Frame 0)) ∷ StoresAt 1 5 (replicate 100 9)
+    ∷ Runs (On.Admin (Do.Grant 0)) (granted_reply 0 0 1) ∷ Runs (On.Tenant 0 (Asked.Alloc 0)) (to_tenant 0 (Frame 0)) ∷ StoresAt 0 5 bytes
+    ∷ StoresAt 1 104 (9 ∷ []) ∷ LoadsAt 0 104 7
+    ∷ Runs (On.Tenant 0 (Asked.Read 104 1)) (to_tenant 0 (Bytes (record { items = 7 ∷ [] }))) ∷ []
+
+beside_acts : AllAct opened beside beside_7
+beside_acts = (
+  beside_1,
+  granted_1,
+  (
+    beside_2,
+    taken_1,
+    (
+      beside_3,
+      stored_1,
+      (
+        beside_4,
+        granted_0,
+        (
+          beside_5,
+          taken_0,
+          (
+            beside_6,
+            stored_0,
+            (
+              beside_7,
+              stored_again,
+              (beside_7, (loaded_0, refl), (beside_7, read_acts beside_7 0 104 7 kernel_7 loaded_0, refl)),
+            ),
+          ),
+        ),
+      ),
+    ),
+  ),
+)
+
+-- The laws
+
+StoresAreWrites-met : StoresAreWrites →
+    Steps alone_2 (On.Tenant 0 (Asked.Write 5 (record { items = bytes }))) alone_3 (record { addressee = To.Tenant 0; body = Written 100 })
+StoresAreWrites-met law = (law alone_2 alone_3 0 5 bytes alone_taken.1 alone_stored).1
+
+LoadsAreOwn-met : LoadsAreOwn →
+    (own_seen cache_limit 3 (Enters Grant ∷ Enters (Ask (Asked.Alloc 0)) ∷ Stored 5 bytes ∷ []) empty_machine).machine.bytes 104 ≡ Some 7
+LoadsAreOwn-met law =
+    let first : List Action =
+    Runs (On.Admin (Do.Grant 0)) (granted_reply 0 0 0) ∷ Runs (On.Tenant 0 (Asked.Alloc 0)) (to_tenant 0 (Frame 0)) ∷ StoresAt 0 5 bytes ∷ [] in
+    let has =
+    (all_follow opened alone_3 first 0 empty_machine (booted_has opened 2 2 0 is_opened (omega arith))
+    (alone_1, alone_granted, (alone_2, alone_taken, (alone_3, alone_stored, refl)))).has in
+    law alone_3 has.world _ 0 104 7 has.kernel has.shows has.machine alone_loaded
+
+-- what tenant 0 sees, and its own list, in both
+abbrev seen : List Sight
+seen = Told (Frame 0) ∷ Loaded (Some 7) ∷ Told (Bytes (record { items = 7 ∷ [] })) ∷ []
+
+abbrev own_list : List Own
+own_list = Enters Grant ∷ Enters (Ask (Asked.Alloc 0)) ∷ Stored 5 bytes ∷ LoadedAt 104 ∷ Enters (Ask (Asked.Read 104 1)) ∷ []
+
+OwnSights-met : OwnSights → seen ≡ (own_seen cache_limit 3 own_list empty_machine).sights
+OwnSights-met law = (law opened beside_7 2 2 0 beside is_opened (omega arith) beside_acts).0
+
+SameSights-met : SameSights → sights_of 0 alone ≡ sights_of 0 beside
+SameSights-met law = law opened alone_3 opened beside_7 2 2 2 2 0 alone beside is_opened is_opened refl (omega arith) (omega arith) alone_acts beside_acts refl

@@ -1,0 +1,108 @@
+-- What is done with a kernel from outside, one thing after another, and what a tenant sees of it.
+use Rattle.std.specs.Prelude.{◌≡◌, ℕ, ◌<◌, ◌==◌, List, [], ◌∷◌, ◌++◌, Option, Some, map, if◌then◌else◌}
+use Rattle.model_core.specs.Machine.{Machine, empty_machine}
+use Rattle.model_core.specs.Operations.{write_step}
+use Rattle.words_core.specs.declared.event.Event.{Event}
+use Rattle.words_core.specs.declared.reply.Body.{Body}
+use Rattle.words_core.specs.declared.reply.Reply.{Reply}
+use Rattle.world_core.specs.Limits.{cache_limit}
+use Rattle.world_core.specs.PrivateStep.{Entry, private_step}
+use Rattle.world_core.specs.World.{opening_world}
+use Rattle.world_core.specs.OwnList.{own_entries, if_for}
+use Rattle.parts_core.specs.Parts.{Parts}
+use Rattle.parts_core.specs.Shows.{ShowsMachine}
+use Rattle.kernel_core.specs.Shows.{Shows}
+use Rattle.kernel_core.specs.Steps.{Steps}
+use Rattle.kernel_core.specs.Stores.{IsKernel, Stores, Loads}
+
+pub data Action : Type 0 where
+  -- an event is run, and answered
+  Runs : Event → Reply → Action
+  -- a tenant's bytes from a place on become these
+  StoresAt : ℕ → ℕ → List ℕ → Action
+  -- a tenant loads the byte at a place
+  LoadsAt : ℕ → ℕ → ℕ → Action
+
+-- an action leads from one kernel to another
+abbrev pub Acts : Parts → Action → Parts → Type 0
+Acts k (Runs event reply) k' = Steps k event k' reply × IsKernel k'
+Acts k (StoresAt t place bytes) k' = Stores k t place bytes k'
+Acts k (LoadsAt t place byte) k' = Loads k t place byte × (k' ≡ k)
+
+-- a list of actions does
+abbrev pub AllAct : Parts → List Action → Parts → Type 0
+AllAct k [] k' = k' ≡ k
+AllAct k (action ∷ actions) k' = (next : Parts) × Acts k action next × AllAct next actions k'
+
+-- what a tenant sees: what it is told, and the bytes that it loads
+pub data Sight : Type 0 where
+  Told : Body → Sight
+  Loaded : Option ℕ → Sight
+
+abbrev pub sights_in : ℕ → Action → List Sight
+sights_in t (Runs event reply) = map Told (if_for t reply.addressee reply.body)
+sights_in t (StoresAt named place bytes) = []
+sights_in t (LoadsAt named place byte) = if named == t then Loaded (Some byte) ∷ [] else []
+
+-- all that tenant t sees
+abbrev pub sights_of : ℕ → List Action → List Sight
+sights_of t [] = []
+sights_of t (action ∷ actions) = sights_in t action ++ sights_of t actions
+
+-- all that reaches the machine of a tenant: an entry, bytes stored, a byte loaded
+pub data Own : Type 0 where
+  Enters : Entry → Own
+  Stored : ℕ → List ℕ → Own
+  LoadedAt : ℕ → Own
+
+abbrev pub own_in : ℕ → Action → List Own
+own_in t (Runs event reply) = map Enters (own_entries t event reply.body)
+own_in t (StoresAt named place bytes) = if named == t then Stored place bytes ∷ [] else []
+own_in t (LoadsAt named place byte) = if named == t then LoadedAt place ∷ [] else []
+
+-- the tenant's own list. No byte that is loaded stands in it.
+abbrev pub own_actions : ℕ → List Action → List Own
+own_actions t [] = []
+own_actions t (action ∷ actions) = own_in t action ++ own_actions t actions
+
+-- what is seen, and the machine after
+pub record OwnSeen : Type 0 where
+  pub sights : List Sight
+  pub machine : Machine
+
+abbrev pub own_step : ℕ → ℕ → Own → Machine → OwnSeen
+own_step limit order (Enters entry) m = record {
+  sights = map Told (private_step limit order entry m).replies;
+  machine = (private_step limit order entry m).machine;
+}
+own_step limit order (Stored place bytes) m = record { sights = []; machine = (write_step place bytes m).machine }
+own_step limit order (LoadedAt place) m = record { sights = Loaded (m.bytes place) ∷ []; machine = m }
+
+-- the private machine over an own list
+abbrev pub own_seen : ℕ → ℕ → List Own → Machine → OwnSeen
+own_seen limit order [] m = record { sights = []; machine = m }
+own_seen limit order (own ∷ owns) m = record {
+  sights = (own_step limit order own m).sights ++ (own_seen limit order owns (own_step limit order own m).machine).sights;
+  machine = (own_seen limit order owns (own_step limit order own m).machine).machine;
+}
+
+-- the kernel that boot made, of so many superblocks and tenants
+pub record IsBooted (k : Parts) (superblocks tenants : ℕ) : Type 0 where
+  pub kernel : IsKernel k
+  pub shows : Shows k (opening_world superblocks tenants)
+
+-- Whatever the others do: from boot on, what a tenant sees is what its private machine gives to its own list, and that machine
+-- is the one that the kernel shows.
+abbrev pub OwnSights : Type 0
+OwnSights = (k k' : Parts) (superblocks tenants t : ℕ) (actions : List Action) →
+    IsBooted k superblocks tenants → t < tenants → AllAct k actions k' →
+    (sights_of t actions ≡ (own_seen cache_limit k.order (own_actions t actions) empty_machine).sights)
+    × ShowsMachine k' t (own_seen cache_limit k.order (own_actions t actions) empty_machine).machine
+
+-- So a tenant sees the same on two machines of one order, with any numbers of superblocks and tenants, where its own lists are
+-- equal.
+abbrev pub SameSights : Type 0
+SameSights = (k k' l l' : Parts) (superblocks tenants superblocks' tenants' t : ℕ) (actions actions' : List Action) →
+    IsBooted k superblocks tenants → IsBooted l superblocks' tenants' → l.order ≡ k.order → t < tenants → t < tenants' →
+    AllAct k actions k' → AllAct l actions' l' → own_actions t actions ≡ own_actions t actions' →
+    sights_of t actions ≡ sights_of t actions'

@@ -1,0 +1,64 @@
+-- What is done with a machine of the library, by calls and between them, as actions of the kernel that it holds.
+use Rattle.std.specs.Prelude.{◌≡◌, ℕ, ◌<◌, List, [], ◌∷◌, ◌++◌, length, drop, Option, Some, None, Result, Ok, Err}
+use Rattle.model_core.specs.Machine.{empty_machine}
+use Rattle.words_core.specs.declared.event.Event as events
+use Rattle.words_core.specs.declared.event.LineFault.{LineFault}
+use Rattle.words_core.specs.declared.reply.Addressee.TheVariants.{Nobody}
+use Rattle.words_core.specs.declared.reply.Body.TheVariants.{Fault}
+use Rattle.words_core.specs.declared.reply.Reply.{Reply}
+use Rattle.words_core.specs.Grammar.{reading_of}
+use Rattle.words_core.specs.Texts.{text_of}
+use Rattle.world_core.specs.Limits.{cache_limit}
+use Rattle.parts_core.specs.Parts.{Parts}
+use Rattle.kernel_core.specs.Stores.{IsKernel}
+use Rattle.kernel_core.specs.Actions.{Action, Runs, Acts, AllAct, sights_of, own_actions, own_seen, IsBooted}
+use Rattle.partmem_c.specs.declared.events.Asked.{Asked}
+use Rattle.partmem_c.specs.declared.telling.Told.{Told}
+use Rattle.partmem_c.specs.Lines.{AnswersLine}
+use Rattle.partmem_c.specs.Events.{asked_event, told_of, answered_bytes, AnswersEvent}
+
+pub data Done : Type 0 where
+  -- a line was run by `partmem_line`: it, and what was written
+  Line : List ℕ → List ℕ → Done
+  -- an event was run by `partmem_event`: its numbers and bytes, the numbers told, and the room before and after
+  Event : Asked → List ℕ → Told → List ℕ → List ℕ → Done
+  -- a call of the kernel itself, a store or a load
+  Direct : Action → Done
+
+-- it led from one kernel to another, as the contract of the call says
+abbrev pub Did : Parts → Done → Parts → Type 0
+Did k (Line line text) k' = AnswersLine k (reading_of line) k' text × IsKernel k'
+Did k (Event a bytes told room room') k' =
+    (event : events.Event) × (asked_event a bytes ≡ Some event) × AnswersEvent k event k' told room room' × IsKernel k'
+Did k (Direct action) k' = Acts k action k'
+
+abbrev pub AllDid : Parts → List Done → Parts → Type 0
+AllDid k [] k' = k' ≡ k
+AllDid k (done ∷ all) k' = (next : Parts) × Did k done next × AllDid next all k'
+
+-- A line with this reading is the action of its event, and what was written is the reply's text. A line without event is none,
+-- and of it no tenant is told.
+abbrev pub IsOfReading : Result (Option events.Event) LineFault → List ℕ → List Action → Type 0
+IsOfReading (Ok (Some event)) text actions = (reply : Reply) × (actions ≡ Runs event reply ∷ []) × (text ≡ text_of reply)
+IsOfReading (Ok None) text actions = (actions ≡ []) × (text ≡ [])
+IsOfReading (Err fault) text actions = (actions ≡ []) × (text ≡ text_of (record { addressee = Nobody; body = Fault fault }))
+
+-- the actions that one thing done is
+abbrev pub IsOf : Done → List Action → Type 0
+IsOf (Line line text) actions = IsOfReading (reading_of line) text actions
+IsOf (Event a bytes told room room') actions = (event : events.Event) × (reply : Reply) × (asked_event a bytes ≡ Some event)
+    × (actions ≡ Runs event reply ∷ []) × (told ≡ told_of reply.body)
+    × (room' ≡ answered_bytes reply.body ++ drop (length (answered_bytes reply.body)) room)
+IsOf (Direct action) actions = actions ≡ action ∷ []
+
+abbrev pub AreOf : List Done → List Action → Type 0
+AreOf [] actions = actions ≡ []
+AreOf (done ∷ all) actions = (first rest : List Action) × IsOf done first × AreOf all rest × (actions ≡ first ++ rest)
+
+-- Whatever the others do: all that is done with a machine from boot on, by lines, by events, in place and in any order, are actions
+-- of which a tenant sees what its private machine gives to its own list.
+abbrev pub OwnSightsOfCalls : Type 0
+OwnSightsOfCalls = (k k' : Parts) (superblocks tenants t : ℕ) (all : List Done) →
+    IsBooted k superblocks tenants → t < tenants → AllDid k all k' →
+    (actions : List Action) × AreOf all actions × AllAct k actions k'
+    × (sights_of t actions ≡ (own_seen cache_limit k.order (own_actions t actions) empty_machine).sights)
