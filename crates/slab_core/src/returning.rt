@@ -143,8 +143,7 @@ impl Slabs {
         requires cache { c < MOST_CACHES }
         ensures { (result ≡ false) ↔ IsUnused self.now t c }
     {
-        self.tables.first(t, c, Kind::Full).is_some()
-            || self.tables.first(t, c, Kind::Partial).is_some()
+        0 < self.tables.count(t, c, Kind::Full) || 0 < self.tables.count(t, c, Kind::Partial)
     }
 
     /// How many frames the slabs of tenant `t` have of which no object is live.

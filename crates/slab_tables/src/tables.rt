@@ -118,7 +118,8 @@ impl Tables {
         self.lists.lists().place_of(node)
     }
 
-    /// First frame and node of the slab of least frame among those of one kind of cache `c` of tenant `t`.
+    /// First frame and node of the slab of least frame among those of one kind of cache `c` of tenant `t`. A full one is looked
+    /// for among all nodes.
     pub fn first(&self, t: u8, c: u32, kind: Kind) -> Option<(u32, u32)>
         requires tenant { IsTenant self.now t }
         requires cache { c < MOST_CACHES }
@@ -126,7 +127,11 @@ impl Tables {
             (IsEmpty self.now.lists.places (head_of t c (kind_number kind)))
             (λ p. IsFirst self.now.lists.places (head_of t c (kind_number kind)) p.0 p.1) }
     {
-        self.lists.first(ListId::of(t, c, kind).number)
+        let list = ListId::of(t, c, kind).number;
+        match kind {
+            Kind::Full => self.lists.lists().first(list),
+            Kind::Partial | Kind::Empty => self.lists.lists().first_by_key(list),
+        }
     }
 
     /// How many slabs of one kind cache `c` of tenant `t` has.

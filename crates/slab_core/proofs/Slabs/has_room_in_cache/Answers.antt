@@ -2,7 +2,8 @@ use Rattle.std.proofs.Common.{◌≡◌, ℕ, ◌*◌, ◌/◌, ◌%◌, ◌^◌
 use Rattle.std.proofs.Math.Nat.{div-le_self}
 use Rattle.std.proofs.lemmas.Bool.{false≢true}
 use Rattle.model_core.specs.Blocks.{around}
-use Rattle.slab_tables.specs.Content.{Content}
+use Rattle.klist_core.specs.Places.{IsPlacedByKey}
+use Rattle.slab_tables.specs.Content.{Content, head_of}
 use Rattle.slab_core.specs.Room.{IsWhole, IsUnusedBlock, has_number}
 use Rattle.slab_core.proofs.RoomFrames.{listed_taken}
 use Rattle.slab_core.proofs.RoomWhole.{whole_around}
@@ -61,6 +62,12 @@ returns-then-is_unused_block-clause-room c =
 
 pub add-requires : goal.add-requires
 add-requires c = number_small (goal.at.add-requires c).In-Some
+
+pub after-next-requires-clause-placed : goal.after-next-requires-clause-placed
+after-next-requires-clause-placed c =
+    let at = (goal.at.after-next-requires-clause-placed c).In-Some in
+    subst (λ places. IsPlacedByKey places c.in-Some.node) (sym (ap (λ l. l.places) c.lists.ensures ∙ ap (λ (s : Content). s.lists.places) c.self.view_is))
+    (record { list = head_of c.args.t c.args.c 2; key = c.in-Some.slab; here = (here at).placed; by_key = omega arith })
 
 pub loop-next-smaller : goal.loop-next-smaller
 loop-next-smaller c =
