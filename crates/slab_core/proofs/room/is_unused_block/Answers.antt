@@ -3,7 +3,7 @@ use Rattle.model_core.specs.Numbered.{number_at}
 use Rattle.model_core.proofs.BlocksByNumber.{number_of_frame, same_slot}
 use Rattle.buddy_core.proofs.ContentShown.{size_is}
 use Rattle.slab_core.proofs.RoomFrames.{small_size}
-use Rattle.slab_core.proofs.Slabs.is_unused_block.Goals as goal
+use Rattle.slab_core.proofs.room.is_unused_block.Goals as goal
 
 pub past_unused-requires-clause-begins : goal.past_unused-requires-clause-begins
 past_unused-requires-clause-begins c =
