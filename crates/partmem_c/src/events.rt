@@ -460,7 +460,7 @@ fn reap_event(alloc: Global, machine: &mut Machine, asked: &Asked, told: &mut To
     ask(alloc, machine, asked.tenant, Request::Reap, told)
 }
 
-/// [`partmem_event`] of any event, by way of a reply, which has room for the owners of all superblocks: all of that is cleared.
+/// [`partmem_event`] of any event.
 #[cold]
 #[inline(never)]
 fn rare_event(
@@ -485,11 +485,35 @@ fn rare_event(
         return NOT_AN_EVENT;
     };
     let mut kernel = machine.take_out(alloc);
-    let reply = kernel.step(&event);
+    *told = step(&mut kernel, &event, room);
     machine.put_in(kernel);
-    put(bytes_of_body(&reply.body), room, 0);
-    *told = told_of(&reply.body);
     DONE
+}
+
+/// Runs an event, puts the bytes that it tells over the first of `room`, and answers it in numbers.
+fn step(kernel: &mut Kernel, event: &Event, room: &mut [u8]) -> Told
+    requires pattern { HasPattern event.now }
+    requires room { MOST_BYTES ≤ length room.old }
+    ensures { AnswersEvent kernel.old event.now kernel.new result room.old room.new }
+{
+    if let Event::Admin(command) = event {
+        if let Some(answer) = kernel.administer(command) {
+            return told_of_answer(answer);
+        }
+    }
+    step_whole(kernel, event, room)
+}
+
+/// [`step`] by way of a reply; out of line, since a reply has room for the owners of all superblocks.
+#[inline(never)]
+fn step_whole(kernel: &mut Kernel, event: &Event, room: &mut [u8]) -> Told
+    requires pattern { HasPattern event.now }
+    requires room { MOST_BYTES ≤ length room.old }
+    ensures { AnswersEvent kernel.old event.now kernel.new result room.old room.new }
+{
+    let reply = kernel.step(event);
+    put(bytes_of_body(&reply.body), room, 0);
+    told_of(&reply.body)
 }
 
 /// Runs a request that asks for no bytes, and answers it in numbers.

@@ -2,24 +2,24 @@
 
 ghost use Rattle.std.specs.Prelude.{◌≡◌, ◌+◌, ◌<◌, ◌≤◌, length, take};
 ghost use Rattle.words_core.specs.declared.event.Event.TheVariants as Event;
+ghost use Rattle.words_core.specs.declared.event.AdminCommand.TheVariants as AdminCommand;
 ghost use Rattle.words_core.specs.declared.event.Command.TheVariants as Command;
 ghost use Rattle.words_core.specs.declared.reply.Reply.{Reply};
 ghost use Rattle.words_core.specs.declared.reply.Addressee.TheVariants as Addressee;
 ghost use Rattle.words_core.specs.declared.reply.Body.TheVariants as Body;
 ghost use Rattle.words_core.specs.declared.reply.Refusal.TheVariants.{NoTenant};
-ghost use Rattle.words_core.specs.Requests.{reply_of_answer, HasFewBytes};
+ghost use Rattle.words_core.specs.Requests.{reply_of_answer, reply_to, HasFewBytes};
 ghost use Rattle.words_core.specs.Texts.{text_of};
 ghost use Rattle.kernel_core.specs.Steps.{Steps};
 ghost use Rattle.world_core.specs.Output.{is_shown, shown_text};
 ghost use Rattle.replay_core.specs.Pushes.{HasRoomToWrite, HasPushed, most_reply_bytes};
 ghost use Rattle.replay_core.specs.Shown.{HasShown};
 
-use arrayvec::ArrayVec;
 use ends::{Drain, SHORT_BYTES, Stopped};
 use kernel_core::Kernel;
 use words_core::{
-    Addressee, AdminCommand, Answer, Body, LineFault, MOST_ANSWER_BYTES, MOST_REPLY_BYTES, Refusal,
-    Reply, rows, write_answer, write_line,
+    Addressee, AdminCommand, Answer, LineFault, MOST_ANSWER_BYTES, MOST_REPLY_BYTES, Refusal,
+    Reply, rows, write_answer, write_answer_to, write_row,
 };
 
 /// The replies of a replay: those to one tenant alone are shown, or all, and the bytes that the drain took are counted.
@@ -27,8 +27,6 @@ use words_core::{
 pub struct Replies {
     pub only: Option<u8>,
     pub written: u128,
-    // Each line of a reply is written here.
-    line: ArrayVec<u8, MOST_REPLY_BYTES>,
 }
 
 impl Replies {
@@ -37,11 +35,7 @@ impl Replies {
         ensures only { result.only ≡ only }
         ensures none { result.written ≡ 0 }
     {
-        Replies {
-            only,
-            written: 0,
-            line: ArrayVec::new(),
-        }
+        Replies { only, written: 0 }
     }
 
     /// Replies to this addressee are shown.
@@ -71,14 +65,12 @@ impl Replies {
         if !self.is_shown(Addressee::Tenant(tenant)) {
             return Ok(());
         }
-        match answer {
-            Answer::Bytes(_) | Answer::Cache { .. } => self.show_long(tenant, answer, drain),
-            _ => {
-                let mut text = [0; SHORT_BYTES];
-                let len = write_answer(tenant, answer, &mut text);
-                push_short(&text, len, drain, &mut self.written)
-            }
+        if answer.is_long() {
+            return self.show_long(tenant, answer, drain);
         }
+        let mut text = [0; SHORT_BYTES];
+        let len = write_answer(tenant, answer, &mut text);
+        push_short(&text, len, drain, &mut self.written)
     }
 
     /// [`Replies::show_answer`] of a longer text; out of line, so that only it pays for its room.
@@ -101,6 +93,28 @@ impl Replies {
         push_all(&text[..len], drain, &mut self.written)
     }
 
+    /// Pushes an answer to anyone, by way of the room that the longest takes.
+    #[cold]
+    #[inline(never)]
+    fn show_to<D: Drain>(
+        &mut self,
+        addressee: Addressee,
+        answer: Answer<'_>,
+        drain: &mut D,
+    ) -> Result<(), Stopped>
+        requires few { HasFewBytes answer }
+        requires room { HasRoomToWrite (D.has_failed drain.old) self.old.written most_reply_bytes }
+        ensures { HasShown (D.contents drain.old) (D.contents drain.new) (D.has_failed drain.new)
+            (shown_text self.old.only (reply_to addressee answer.entry)) self.old self.new result }
+    {
+        if !self.is_shown(addressee) {
+            return Ok(());
+        }
+        let mut text = [0; MOST_ANSWER_BYTES];
+        let len = write_answer_to(addressee, answer, &mut text);
+        push_all(&text[..len], drain, &mut self.written)
+    }
+
     /// Pushes a reply, line by line.
     #[cold]
     #[inline(never)]
@@ -112,9 +126,10 @@ impl Replies {
         if !self.is_shown(reply.addressee) {
             return Ok(());
         }
+        let mut text = [0; MOST_REPLY_BYTES];
         for row in 0..rows(reply) {
-            write_line(reply, row, &mut self.line);
-            push_all(self.line.as_slice(), drain, &mut self.written)?;
+            let len = write_row(reply, row, &mut text);
+            push_all(&text[..len], drain, &mut self.written)?;
         }
         Ok(())
     }
@@ -137,7 +152,7 @@ impl Replies {
         self.show(&reply, drain)
     }
 
-    /// Runs a command of the administrator, and pushes what it shows; by itself, as a report is.
+    /// Runs a command of the administrator, and pushes what it shows.
     #[cold]
     #[inline(never)]
     pub fn administer<D: Drain>(
@@ -151,7 +166,22 @@ impl Replies {
             × HasShown (D.contents drain.old) (D.contents drain.new) (D.has_failed drain.new)
             (shown_text self.old.only reply) self.old self.new result }
     {
-        let reply = kernel.administer(command);
+        match kernel.administer(command) {
+            Some(answer) => self.show_to(Addressee::Admin, answer, drain),
+            None => self.show_pool(kernel, drain),
+        }
+    }
+
+    /// Pushes who owns each superblock; by itself, as a report is.
+    #[cold]
+    #[inline(never)]
+    fn show_pool<D: Drain>(&mut self, kernel: &Kernel, drain: &mut D) -> Result<(), Stopped>
+        requires { HasRoomToWrite (D.has_failed drain.old) self.old.written most_reply_bytes }
+        ensures { (reply : Reply) × Steps kernel.now (Event.Admin AdminCommand.Pool) kernel.now reply
+            × HasShown (D.contents drain.old) (D.contents drain.new) (D.has_failed drain.new)
+            (shown_text self.old.only reply) self.old self.new result }
+    {
+        let reply = kernel.pool();
         self.show(&reply, drain)
     }
 
@@ -164,11 +194,7 @@ impl Replies {
             (shown_text self.old.only (record { addressee = Addressee.Nobody; body = Body.Fault fault }))
             self.old self.new result }
     {
-        let reply = Reply {
-            addressee: Addressee::Nobody,
-            body: Body::Fault(fault),
-        };
-        self.show(&reply, drain)
+        self.show_to(Addressee::Nobody, Answer::Fault(fault), drain)
     }
 
     /// Pushes the answer to a command of a number that is no tenant, which is to nobody.
@@ -180,11 +206,7 @@ impl Replies {
             (shown_text self.old.only (record { addressee = Addressee.Nobody; body = Body.Refused NoTenant }))
             self.old self.new result }
     {
-        let reply = Reply {
-            addressee: Addressee::Nobody,
-            body: Body::Refused(Refusal::NoTenant),
-        };
-        self.show(&reply, drain)
+        self.show_to(Addressee::Nobody, Answer::Refused(Refusal::NoTenant), drain)
     }
 }
 

@@ -122,6 +122,17 @@ pub fn put_number(number: u32, at: usize, out: &mut [u8]) -> usize
     put_long(number, at, out)
 }
 
+/// Writes a label, and then such a number.
+#[inline(always)]
+pub fn put_figure(label: &[u8], number: u32, at: usize, out: &mut [u8]) -> usize
+    requires { at + length label.now + MOST_DIGITS ≤ length out.old }
+    ensures text { take result out.new ≡ take at out.old ++ label.now ++ decimal number }
+    ensures short { result ≤ at + length label.now + MOST_DIGITS }
+{
+    let at = put_text(label, at, out);
+    put_number(number, at, out)
+}
+
 /// Writes a number that often has more than five digits.
 #[inline(always)]
 pub fn put_place(number: u32, at: usize, out: &mut [u8]) -> usize
