@@ -56,7 +56,7 @@ impl Kernel {
     ghost use Rattle.words_core.specs.Requests.{command_of, reply_to, HasFewBytes, IsAskable, asks_bytes, tells_bytes};
     ghost use Rattle.words_core.specs.declared.event.AdminCommand.TheVariants as AdminCommand;
     ghost use Rattle.words_core.specs.declared.reply.Addressee.TheVariants.{Admin};
-    ghost use Rattle.kernel_core.specs.Asking.{RestsAsked};
+    ghost use Rattle.kernel_core.specs.Asking.{RestsAsked, RestsAskedKnown};
     ghost use Rattle.std.specs.Borrow.{sem};
     ghost use Rattle.space_core.specs.Content.{mark_at, owner_at};
     ghost use Rattle.model_core.specs.Owners.{owned_by};
@@ -194,9 +194,20 @@ impl Kernel {
             return None;
         }
         let t = tenant as u8;
+        Some((t, self.ask_known(t, request)))
+    }
+
+    /// [`Kernel::ask`] of a tenant that there is.
+    #[inline(always)]
+    pub fn ask_known(&mut self, t: u8, request: Request<'_>) -> Answer<'_>
+        requires tenant { t < self.old.tenants }
+        requires askable { IsAskable request }
+        ensures* asked { sem 𝓛 (RestsAskedKnown self.entry t request.entry result) }
+        ensures few { HasFewBytes result }
+        ensures bytes { asks_bytes request.entry ≡ false → tells_bytes result ≡ false }
+    {
         self.parts_agree();
-        let answer = self.run(t, request);
-        Some((t, answer))
+        self.run(t, request)
     }
 
     /// Tells the figures of a tenant, be there such a tenant or not: [`Kernel::step`] of the event that asks for a report.
@@ -219,7 +230,7 @@ impl Kernel {
 
     /// The tenant of this number, if there is one.
     #[inline(always)]
-    pub(crate) fn tenant(&self, tenant: u32) -> Option<u8>
+    pub fn tenant(&self, tenant: u32) -> Option<u8>
         ensures { MatchOption result (self.now.tenants ≤ tenant) (λ t. (t ≡ tenant) × (t < self.now.tenants)) }
     {
         if tenant >= u32::from(self.parts.tenants()) {

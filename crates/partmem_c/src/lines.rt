@@ -160,10 +160,58 @@ fn put_ended(line: &[u8], out: &mut [u8])
     put(b"\n", out, line.len());
 }
 
-/// Runs a request, and writes what it is answered over the first bytes of `room`; answers how many they are. [`run_line`] alone
-/// calls it: of a function that has one caller the compiler makes a part of it, however long it is.
+/// The commands that make up a load, by number.
+const ALLOC: usize = 0;
+
+const FREE: usize = 1;
+
+const TAKE: usize = 2;
+
+const GIVE: usize = 3;
+
+const READ: usize = 4;
+
+const WRITE: usize = 5;
+
+/// Runs a request, and writes what it is answered over the first bytes of `room`; answers how many they are.
 #[inline(always)]
 fn answer_request(tenant: u32, request: Request<'_>, kernel: &mut Kernel, room: &mut [u8]) -> usize
+    requires askable { IsAskable request }
+    requires room { IsWide room.old }
+    ensures { PutsAnswer kernel.old (Ok (Some (Tenant tenant (command_of request.entry)))) kernel.new room.old room.new result }
+{
+    match request {
+        Request::Alloc { order } => {
+            answer_as::<ALLOC>(tenant, Request::Alloc { order }, kernel, room)
+        }
+        Request::Free { frame } => {
+            answer_as::<FREE>(tenant, Request::Free { frame }, kernel, room)
+        }
+        Request::Take { cache } => {
+            answer_as::<TAKE>(tenant, Request::Take { cache }, kernel, room)
+        }
+        Request::Give { cache, place } => {
+            answer_as::<GIVE>(tenant, Request::Give { cache, place }, kernel, room)
+        }
+        Request::Read { place, len } => {
+            answer_as::<READ>(tenant, Request::Read { place, len }, kernel, room)
+        }
+        Request::Write { place, bytes } => {
+            answer_as::<WRITE>(tenant, Request::Write { place, bytes }, kernel, room)
+        }
+        rare => answer_apart(tenant, rare, kernel, room),
+    }
+}
+
+/// [`answer_request`] of one command, which `COMMAND` numbers. Each has a function of its own with one caller: of such a function the
+/// compiler makes a part of its caller, however long it is, and what the command may be answered is then known where that is written.
+#[inline]
+fn answer_as<const COMMAND: usize>(
+    tenant: u32,
+    request: Request<'_>,
+    kernel: &mut Kernel,
+    room: &mut [u8],
+) -> usize
     requires askable { IsAskable request }
     requires room { IsWide room.old }
     ensures { PutsAnswer kernel.old (Ok (Some (Tenant tenant (command_of request.entry)))) kernel.new room.old room.new result }

@@ -1,6 +1,6 @@
 //! The replies of a replay, into a drain.
 
-ghost use Rattle.std.specs.Prelude.{◌≡◌, ◌+◌, ◌<◌, ◌≤◌, length, take};
+ghost use Rattle.std.specs.Prelude.{◌≡◌, ◌+◌, ◌≤◌, true, Ok, length};
 ghost use Rattle.words_core.specs.declared.event.Event.TheVariants as Event;
 ghost use Rattle.words_core.specs.declared.event.AdminCommand.TheVariants as AdminCommand;
 ghost use Rattle.words_core.specs.declared.event.Command.TheVariants as Command;
@@ -15,8 +15,9 @@ ghost use Rattle.world_core.specs.Output.{is_shown, shown_text};
 ghost use Rattle.replay_core.specs.Pushes.{HasRoomToWrite, HasPushed, most_reply_bytes};
 ghost use Rattle.replay_core.specs.Shown.{HasShown};
 
-use ends::{Drain, SHORT_BYTES, Stopped};
+use ends::{Drain, Stopped, TEXT_BYTES, Text};
 use kernel_core::Kernel;
+use std::marker::Model;
 use words_core::{
     Addressee, AdminCommand, Answer, LineFault, MOST_ANSWER_BYTES, MOST_REPLY_BYTES, Refusal,
     Reply, rows, write_answer, write_answer_to, write_row,
@@ -39,7 +40,8 @@ impl Replies {
     }
 
     /// Replies to this addressee are shown.
-    fn is_shown(&self, addressee: Addressee) -> bool
+    #[inline(always)]
+    pub fn is_shown(&self, addressee: Addressee) -> bool
         ensures { result ≡ is_shown self.now.only addressee }
     {
         match (self.only, addressee) {
@@ -49,8 +51,21 @@ impl Replies {
         }
     }
 
-    /// Pushes what a tenant is answered, a short text at once where the drain has room at hand.
+    /// Writes what a tenant is answered where it stays, which is shown, and counts its bytes.
     #[inline(always)]
+    pub fn show_in_place<D: Drain>(&mut self, tenant: u8, answer: Answer<'_>, drain: &mut D)
+        requires few { HasFewBytes answer }
+        requires shown { is_shown self.old.only (Addressee.Tenant tenant) ≡ true }
+        requires space { D.is_roomy drain.old ≡ true }
+        requires room { HasRoomToWrite (D.has_failed drain.old) self.old.written most_reply_bytes }
+        ensures { HasShown (D.contents drain.old) (D.contents drain.new) (D.has_failed drain.new)
+            (shown_text self.old.only (reply_of_answer tenant answer.entry)) self.old self.new (Ok tt) }
+    {
+        let len = drain.take_text(AnswerText { tenant, answer });
+        self.written += len as u128;
+    }
+
+    /// Pushes what a tenant is answered.
     pub fn show_answer<D: Drain>(
         &mut self,
         tenant: u8,
@@ -62,35 +77,7 @@ impl Replies {
         ensures { HasShown (D.contents drain.old) (D.contents drain.new) (D.has_failed drain.new)
             (shown_text self.old.only (reply_of_answer tenant answer.entry)) self.old self.new result }
     {
-        if !self.is_shown(Addressee::Tenant(tenant)) {
-            return Ok(());
-        }
-        if answer.is_long() {
-            return self.show_long(tenant, answer, drain);
-        }
-        let mut text = [0; SHORT_BYTES];
-        let len = write_answer(tenant, answer, &mut text);
-        push_short(&text, len, drain, &mut self.written)
-    }
-
-    /// [`Replies::show_answer`] of a longer text; out of line, so that only it pays for its room.
-    #[inline(never)]
-    fn show_long<D: Drain>(
-        &mut self,
-        tenant: u8,
-        answer: Answer<'_>,
-        drain: &mut D,
-    ) -> Result<(), Stopped>
-        requires few { HasFewBytes answer }
-        requires room { HasRoomToWrite (D.has_failed drain.old) self.old.written most_reply_bytes }
-        ensures pushed { HasPushed (D.contents drain.old) (D.contents drain.new) (D.has_failed drain.new)
-            (text_of (reply_of_answer tenant answer.entry)) self.old.written self.new.written result }
-        ensures few { self.new.written ≤ self.old.written + most_reply_bytes }
-        ensures same { self.new.only ≡ self.old.only }
-    {
-        let mut text = [0; MOST_ANSWER_BYTES];
-        let len = write_answer(tenant, answer, &mut text);
-        push_all(&text[..len], drain, &mut self.written)
+        self.show_to(Addressee::Tenant(tenant), answer, drain)
     }
 
     /// Pushes an answer to anyone, by way of the room that the longest takes.
@@ -210,35 +197,32 @@ impl Replies {
     }
 }
 
-/// Pushes the first `len` bytes of a short text, at once where the drain has room at hand.
-#[inline(always)]
-fn push_short<D: Drain>(
-    text: &[u8; SHORT_BYTES],
-    len: usize,
-    drain: &mut D,
-    written: &mut u128,
-) -> Result<(), Stopped>
-    requires within { len ≤ SHORT_BYTES }
-    requires room { HasRoomToWrite (D.has_failed drain.old) written.old len }
-    ensures { HasPushed (D.contents drain.old) (D.contents drain.new) (D.has_failed drain.new)
-        (take len text.now) written.old written.new result }
-{
-    if drain.take_short(text, len) {
-        *written += len as u128;
-        return Ok(());
-    }
-    push_rest(&text[..len], drain, written)
+/// The line of an answer to a tenant.
+#[derive(Drop)]
+struct AnswerText<'a> {
+    tenant: u8,
+    answer: Answer<'a>,
 }
 
-/// [`push_all`] out of line, which keeps its loop out of the path of a text that is taken at once.
-#[cold]
-#[inline(never)]
-fn push_rest<D: Drain>(bytes: &[u8], drain: &mut D, written: &mut u128) -> Result<(), Stopped>
-    requires { HasRoomToWrite (D.has_failed drain.old) written.old (length bytes.now) }
-    ensures { HasPushed (D.contents drain.old) (D.contents drain.new) (D.has_failed drain.new)
-        bytes.now written.old written.new result }
-{
-    push_all(bytes, drain, written)
+impl<'a> Model for AnswerText<'a> {
+    ghost use Rattle.std.specs.Prelude.{ℕ, List};
+    ghost use Rattle.words_core.specs.Requests.{reply_of_answer, HasFewBytes};
+    ghost use Rattle.words_core.specs.Texts.{text_of};
+
+    ghost Value = { List ℕ };
+
+    ghost view = { λ a. text_of (reply_of_answer a.tenant a.answer) };
+
+    ghost invariant = { λ a. HasFewBytes a.answer };
+}
+
+impl Text for AnswerText<'_> {
+    ghost bytes = { λ text. text };
+
+    #[inline(always)]
+    fn write(self, room: &mut [u8]) -> usize {
+        write_answer(self.tenant, self.answer, room)
+    }
 }
 
 /// Pushes all of the bytes, the rest again after a push that took less, and counts those that were taken.

@@ -10,7 +10,7 @@ use crate::event::LineFault;
 use crate::hex_digits::put_hex;
 use crate::numbers::MOST_DIGITS;
 use crate::reply::{Addressee, Body, Refusal};
-use crate::window::{put_figure, put_number, put_place, put_text, put_up_to_three};
+use crate::window::{put_figure, put_front, put_number, put_place, put_text, put_up_to_three};
 use arrayvec::ArrayVec;
 use model_core::limits::MOST_BYTES;
 
@@ -219,11 +219,34 @@ pub fn write_answer(tenant: u8, answer: Answer<'_>, out: &mut [u8]) -> usize
     ensures some { 0 < result }
     ensures within { result ≤ room_of answer.entry }
 {
-    write_answer_to(Addressee::Tenant(tenant), answer, out)
+    let end = match answer {
+        Answer::Frame(frame) => {
+            let at = put_front(tenant, b"0> frame        ", 9, out);
+            put_number(frame, at, out)
+        }
+        Answer::Freed(order) => {
+            let at = put_front(tenant, b"0> freed        ", 9, out);
+            put_up_to_three(u32::from(order), at, out)
+        }
+        Answer::Bytes(bytes) => {
+            let at = put_front(tenant, b"0> bytes        ", 9, out);
+            put_digits(bytes, at, out)
+        }
+        Answer::Written(count) => {
+            let at = put_front(tenant, b"0> written      ", 11, out);
+            put_number(count, at, out)
+        }
+        Answer::Object(place) => {
+            let at = put_front(tenant, b"0> object       ", 10, out);
+            put_place(place, at, out)
+        }
+        Answer::Given => put_front(tenant, b"0> given        ", 8, out),
+        rare => put_line(Addressee::Tenant(tenant), rare, out),
+    };
+    put_text(b"\n", end, out)
 }
 
 /// [`write_answer`] to anyone.
-#[inline(always)]
 pub fn write_answer_to(addressee: Addressee, answer: Answer<'_>, out: &mut [u8]) -> usize
     requires few { HasFewBytes answer }
     requires room { room_of answer ≤ length out.old }
@@ -231,9 +254,21 @@ pub fn write_answer_to(addressee: Addressee, answer: Answer<'_>, out: &mut [u8])
     ensures some { 0 < result }
     ensures within { result ≤ room_of answer.entry }
 {
-    let at = put_addressee(addressee, out);
-    let at = put_answer(answer, at, out);
+    let at = put_line(addressee, answer, out);
     put_text(b"\n", at, out)
+}
+
+/// Writes the line of an answer without its line feed, and answers where it ends.
+#[cold]
+#[inline(never)]
+fn put_line(addressee: Addressee, answer: Answer<'_>, out: &mut [u8]) -> usize
+    requires few { HasFewBytes answer }
+    requires room { room_of answer ≤ length out.old }
+    ensures text { body_texts (addressee_text addressee) (body_of_answer answer.entry) ≡ take result out.new ∷ [] }
+    ensures short { result < room_of answer.entry }
+{
+    let at = put_addressee(addressee, out);
+    put_answer(answer, at, out)
 }
 
 /// Writes whom a line is for, and answers where it ends.
@@ -321,8 +356,7 @@ pub(crate) fn put_answer(answer: Answer<'_>, at: usize, out: &mut [u8]) -> usize
     }
 }
 
-/// The bytes that were read, in hex; out of line, as all that has many bytes or that a load seldom says.
-#[inline(never)]
+/// The bytes that were read, in hex.
 fn put_bytes(bytes: &[u8], at: usize, out: &mut [u8]) -> usize
     requires few { length bytes.now ≤ MOST_BYTES }
     requires front { at ≤ MOST_FRONT_BYTES }
@@ -331,6 +365,16 @@ fn put_bytes(bytes: &[u8], at: usize, out: &mut [u8]) -> usize
     ensures short { result < MOST_ANSWER_BYTES }
 {
     let at = put_text(b"bytes ", at, out);
+    put_digits(bytes, at, out)
+}
+
+/// [`put_hex`] out of line.
+#[inline(never)]
+fn put_digits(bytes: &[u8], at: usize, out: &mut [u8]) -> usize
+    requires { at + 2 * length bytes.now ≤ length out.old }
+    ensures text { take result out.new ≡ take at out.old ++ encode_lower bytes.now }
+    ensures end { result ≡ at + 2 * length bytes.now }
+{
     put_hex(bytes, at, out)
 }
 
