@@ -1,6 +1,5 @@
 pub mod Directions
 pub mod Changes
-pub mod Ranks
 pub mod Chains
 pub mod Tables
 pub mod Rewired
@@ -12,6 +11,4 @@ pub mod Calls
 pub mod Fresh
 pub mod Witnesses
 pub mod Before
-pub mod Search
-pub mod Reading
 pub mod Behind

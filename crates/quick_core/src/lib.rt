@@ -8,5 +8,4 @@ mod decode;
 mod number;
 mod request;
 
-pub use number::Number;
-pub use request::{RequestLine, WINDOW, read_known_request, read_request, read_tenant};
+pub use request::{RequestLine, WINDOW, read_request};
