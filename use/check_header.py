@@ -109,7 +109,7 @@ def numbers_of_source():
 
     limits = "crates/model_core/src/limits.rt"
     yield "MOST_BYTES", limit(limits, "MOST_BYTES")
-    yield "MOST_TEXT_BYTES", (1 + limit(limits, "MOST_SUPERBLOCKS")) * limit("crates/words_core/src/put.rt", "MOST_REPLY_BYTES")
+    yield "MOST_TEXT_BYTES", (1 + limit(limits, "MOST_SUPERBLOCKS")) * limit("crates/words_core/src/text.rt", "MOST_REPLY_BYTES")
 
 
 def by_name(what, pairs):

@@ -81,6 +81,7 @@ impl Superblock {
 
     /// Makes the taken block of `order` that begins at `first` free, joined with its buddies. The order of the free block
     /// that this gives.
+    #[inline(always)]
     pub fn release_at(&mut self, first: u32, order: u8) -> u8
         requires order { order ≤ self.old.tree.order }
         requires first { first < 2 ^ self.old.tree.order }

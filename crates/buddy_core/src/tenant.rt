@@ -153,6 +153,7 @@ impl Tenant {
     }
 
     /// Counts a taken block of `order` joined with its buddies to a free block of order `to`.
+    #[inline(always)]
     pub fn count_released(&mut self, order: u8, to: u8)
         requires order { order ≤ to }
         requires to { to < length self.old.free }

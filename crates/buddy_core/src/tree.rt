@@ -121,6 +121,7 @@ impl Tree {
 
     /// Makes the block of `order` around frame `first` available, and joins it at once with its buddy while that is one
     /// free block. The order of the free block that this gives.
+    #[inline(always)]
     pub fn release_at(&mut self, first: u32, order: u8) -> u8
         requires order { order ≤ self.old.order }
         requires first { first < 2 ^ self.old.order }

@@ -3,8 +3,19 @@ ghost use Rattle.std.specs.Io.KnownBytes.{Appends, Keeps, WriteAppends};
 
 use crate::feed::Stopped;
 
-/// How long a text is that is taken at once, with what stands behind it.
-pub const SHORT_BYTES: usize = 32;
+/// No text that writes itself has more bytes.
+pub const TEXT_BYTES: usize = 160;
+
+/// A text that writes itself where it stays.
+pub trait Text {
+    ghost bytes: { Self → List ℕ };
+
+    /// Writes its bytes over the first of the room, and answers how many they are. What stands behind them may change.
+    fn write(self, room: &mut [u8]) -> usize
+        requires room { TEXT_BYTES ≤ length room.old }
+        ensures text { take result room.new ≡ bytes self }
+        ensures short { result ≤ TEXT_BYTES };
+}
 
 /// Where replies go, a piece at a time.
 pub trait Drain {
@@ -16,6 +27,9 @@ pub trait Drain {
 
     // A push has failed.
     ghost has_failed: { Self → Bool };
+
+    // It has room at hand for a text, however long.
+    ghost is_roomy: { Self → Bool };
 
     // A send has failed.
     ghost has_failed_to_send: { Self → Bool } = { λ _. false };
@@ -30,19 +44,19 @@ pub trait Drain {
         ensures stopped { has_failed_to_send self.old ≡ true → (is_err result ≡ true) × (held_back self.new ≡ held_back self.old) }
         ensures sends { has_failed_to_send self.new ≡ has_failed_to_send self.old };
 
-    /// Takes the first `len` bytes of a short text where there is room at hand for the whole text, and answers whether it did:
-    /// then it took them all, else none, as where a send has failed. A copy of the whole text, of fixed length, costs less than
-    /// one of `len` bytes.
-    fn take_short(&mut self, text: &[u8; SHORT_BYTES], len: usize) -> bool
-        requires within { len ≤ SHORT_BYTES }
-        ensures taken { result ≡ true → Appends (contents self.old) (contents self.new) (take len text.now) }
-        ensures refused { result ≡ false → Keeps (contents self.old) (contents self.new) }
+    /// It has room at hand for a text: for `TEXT_BYTES` bytes.
+    fn has_space(&self) -> bool
+        ensures space { result ≡ is_roomy self.now }
+        ensures stopped { has_failed_to_send self.now ≡ true → result ≡ false };
+
+    /// Takes a text, which is written where it stays, and answers how many bytes it has.
+    fn take_text<T: Text>(&mut self, text: T) -> usize
+        requires space { is_roomy self.old ≡ true }
+        ensures taken { Appends (contents self.old) (contents self.new) (T.bytes text) }
+        ensures len { result ≡ length (T.bytes text) }
+        ensures short { result ≤ TEXT_BYTES }
         ensures failed { has_failed self.new ≡ has_failed self.old }
-        ensures stopped { has_failed_to_send self.old ≡ true → result ≡ false }
-        ensures sends { has_failed_to_send self.new ≡ has_failed_to_send self.old }
-    {
-        false
-    }
+        ensures sends { has_failed_to_send self.new ≡ has_failed_to_send self.old };
 
     /// Hands on what was pushed and is still held back, before what may be a long wait. Tells no failure: where it
     /// fails, so does the next push. Nothing is handed on once a push or a send has failed.

@@ -1,6 +1,6 @@
-ghost use Rattle.std.specs.Prelude.{◌≡◌, ◌≤◌, true, false, [], ◌++◌, length, take, drop, ◌==◌};
+ghost use Rattle.std.specs.Prelude.{◌≡◌, ◌≤◌, ◌-◌, nat_le, true, false, [], ◌++◌, length, take, drop, ◌==◌};
 
-use crate::drain::SHORT_BYTES;
+use crate::drain::{TEXT_BYTES, Text};
 use std::marker::Model;
 
 /// Bytes in a room of fixed size.
@@ -12,11 +12,12 @@ pub struct Held {
 }
 
 impl Model for Held {
-    ghost use Rattle.std.specs.Prelude.{ℕ, ◌≤◌, List, length, take};
+    ghost use Rattle.std.specs.Prelude.{◌-◌, ◌≤◌, length, take};
+    ghost use Rattle.ends.specs.Held.{HeldBytes};
 
-    ghost Value = { List ℕ };
+    ghost Value = { HeldBytes };
 
-    ghost view = { λ a. take a.len a.bytes.items };
+    ghost view = { λ a. record { bytes = take a.len a.bytes.items; room = length a.bytes.items - a.len } };
 
     ghost invariant = { λ a. a.len ≤ length a.bytes.items };
 }
@@ -24,7 +25,7 @@ impl Model for Held {
 impl Held {
     /// No bytes, in the capacity of `room`: nothing is allocated.
     pub fn new(room: Vec<u8>) -> Self
-        ensures { result ≡ [] }
+        ensures { result.bytes ≡ [] }
     {
         let mut bytes = room;
         bytes.resize(bytes.capacity(), 0).unwrap();
@@ -34,7 +35,7 @@ impl Held {
     /// Appends bytes, and answers whether there was room for them.
     #[inline(always)]
     pub fn append(&mut self, more: &[u8]) -> bool
-        ensures appended { result ≡ true → self.new ≡ self.old ++ more.now }
+        ensures appended { result ≡ true → self.new.bytes ≡ self.old.bytes ++ more.now }
         ensures refused { result ≡ false → self.new ≡ self.old }
     {
         if more.len() > self.bytes.len() - self.len {
@@ -46,60 +47,55 @@ impl Held {
         true
     }
 
-    /// Appends the first `len` bytes of a text, and answers whether there was room for the whole text.
+    /// There is room for a text.
     #[inline(always)]
-    pub fn append_short(&mut self, text: &[u8; SHORT_BYTES], len: usize) -> bool
-        requires { len ≤ SHORT_BYTES }
-        ensures appended { result ≡ true → self.new ≡ self.old ++ take len text.now }
-        ensures refused { result ≡ false → self.new ≡ self.old }
+    pub fn has_space(&self) -> bool
+        ensures { result ≡ nat_le TEXT_BYTES self.now.room }
     {
-        if !write_first(&mut self.bytes[self.len..], text) {
-            return false;
-        }
+        self.bytes.len() - self.len >= TEXT_BYTES
+    }
+
+    /// Appends a text, and answers how many bytes it has.
+    #[inline(always)]
+    pub fn append_text<T: Text>(&mut self, text: T) -> usize
+        requires { TEXT_BYTES ≤ self.old.room }
+        ensures appended { self.new.bytes ≡ self.old.bytes ++ T.bytes text }
+        ensures len { result ≡ length (T.bytes text) }
+        ensures short { result ≤ TEXT_BYTES }
+    {
+        let end = self.len + TEXT_BYTES;
+        let len = text.write(&mut self.bytes[self.len..end]);
         self.len += len;
-        true
+        len
     }
 
     /// The bytes.
     pub fn as_slice(&self) -> &[u8]
-        ensures { result.now ≡ self.now }
+        ensures { result.now ≡ self.now.bytes }
     {
         &self.bytes[..self.len]
     }
 
     /// How many there are.
     pub fn len(&self) -> usize
-        ensures { result ≡ length self.now }
+        ensures { result ≡ length self.now.bytes }
     {
         self.len
     }
 
     /// There are none.
     pub fn is_empty(&self) -> bool
-        ensures { result ≡ (length self.now == 0) }
+        ensures { result ≡ (length self.now.bytes == 0) }
     {
         self.len == 0
     }
 
     /// The bytes behind the first `count` of them move to the front.
     pub fn remove_front(&mut self, count: usize)
-        requires { count ≤ length self.old }
-        ensures { self.new ≡ drop count self.old }
+        requires { count ≤ length self.old.bytes }
+        ensures { self.new.bytes ≡ drop count self.old.bytes }
     {
         self.bytes.as_mut_slice().copy_within(count..self.len, 0);
         self.len -= count;
     }
-}
-
-/// Writes the text over the first bytes of the room, and answers whether it has so many.
-#[inline(always)]
-fn write_first(room: &mut [u8], text: &[u8; SHORT_BYTES]) -> bool
-    ensures written { result ≡ true → room.new ≡ text.now ++ drop SHORT_BYTES room.old }
-    ensures short { result ≡ false → room.new ≡ room.old }
-{
-    let Some(first) = room.first_chunk_mut::<SHORT_BYTES>() else {
-        return false;
-    };
-    *first = *text;
-    true
 }

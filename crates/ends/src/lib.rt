@@ -9,7 +9,7 @@ mod reader_feed;
 mod tally;
 mod writer_drain;
 
-pub use drain::{Drain, SHORT_BYTES};
+pub use drain::{Drain, TEXT_BYTES, Text};
 pub use feed::{Feed, Stopped};
 pub use reader_feed::ReaderFeed;
 pub use tally::{ReplayError, Tally};

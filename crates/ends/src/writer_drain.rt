@@ -1,8 +1,8 @@
-ghost use Rattle.std.specs.Prelude.{◌≡◌, ℕ, ◌<◌, ◌≤◌, true, false, [], length, take, OnOk, IfOk, is_err, vec_len};
+ghost use Rattle.std.specs.Prelude.{◌≡◌, ℕ, ◌<◌, ◌≤◌, true, false, not, ◌&&◌, [], length, take, OnOk, IfOk, is_err, vec_len};
 ghost use Rattle.std.specs.Io.KnownBytes.{Appends, Keeps, WriteAppends, append_known};
-ghost use Rattle.ends.specs.Held.{held_bytes};
+ghost use Rattle.ends.specs.Held.{held_bytes, has_space};
 
-use crate::drain::{Drain, SHORT_BYTES};
+use crate::drain::{Drain, Text};
 use crate::feed::Stopped;
 use crate::held::Held;
 use std::io::Write;
@@ -187,6 +187,8 @@ impl<W: Write> Drain for WriterDrain<W> {
 
     ghost has_failed_to_send = { λ s. s.send_failed };
 
+    ghost is_roomy = { λ s. (not s.send_failed) && has_space s.held };
+
     #[inline(always)]
     fn push(&mut self, bytes: &[u8]) -> Result<usize, Stopped> {
         if !self.send_failed
@@ -199,14 +201,19 @@ impl<W: Write> Drain for WriterDrain<W> {
     }
 
     #[inline(always)]
-    fn take_short(&mut self, text: &[u8; SHORT_BYTES], len: usize) -> bool {
-        if self.send_failed {
-            return false;
-        }
-        match &mut self.held {
-            Some(held) => held.append_short(text, len),
+    fn has_space(&self) -> bool {
+        match &self.held {
+            Some(held) => !self.send_failed && held.has_space(),
             None => false,
         }
+    }
+
+    #[inline(always)]
+    fn take_text<T: Text>(&mut self, text: T) -> usize {
+        let Some(held) = &mut self.held else {
+            unreachable!()
+        };
+        held.append_text(text)
     }
 
     fn send(&mut self)

@@ -21,6 +21,11 @@ pub record HasStepped (before : Parts) (t : ℕ) (request : Request) (answer : A
 abbrev pub RestsStepped : MutBor Parts → ℕ → Request → Answer → Fml
 RestsStepped kernel t request answer = Rests the_row kernel (HasStepped kernel.now t request answer)
 
+-- the request of a tenant that there is was a step of the world, with the answer to that tenant
+abbrev pub RestsAskedKnown : MutBor Parts → ℕ → Request → Answer → Fml
+RestsAskedKnown kernel t request answer =
+    Rests the_row kernel (λ after. Steps kernel.now (Tenant t (command_of request)) after (reply_of_answer t answer))
+
 -- the request of a tenant was a step of the world, with the answer to that tenant; nobody is told where there is no such tenant
 abbrev pub HasAsked : Parts → ℕ → Request → Option (ℕ × Answer) → Parts → Type 0
 HasAsked before tenant request result after = MatchOption result

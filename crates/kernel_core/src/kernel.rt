@@ -53,8 +53,10 @@ impl Kernel {
     ghost use Rattle.parts_core.specs.Shows.{ShowsMachine};
     ghost use Rattle.kernel_core.specs.Shows.{Shows};
     ghost use Rattle.kernel_core.specs.Steps.{is_named, HasPattern, Steps};
-    ghost use Rattle.words_core.specs.Requests.{command_of, HasFewBytes, IsAskable, asks_bytes, tells_bytes};
-    ghost use Rattle.kernel_core.specs.Asking.{RestsAsked};
+    ghost use Rattle.words_core.specs.Requests.{command_of, reply_to, HasFewBytes, IsAskable, asks_bytes, tells_bytes};
+    ghost use Rattle.words_core.specs.declared.event.AdminCommand.TheVariants as AdminCommand;
+    ghost use Rattle.words_core.specs.declared.reply.Addressee.TheVariants.{Admin};
+    ghost use Rattle.kernel_core.specs.Asking.{RestsAsked, RestsAskedKnown};
     ghost use Rattle.std.specs.Borrow.{sem};
     ghost use Rattle.space_core.specs.Content.{mark_at, owner_at};
     ghost use Rattle.model_core.specs.Owners.{owned_by};
@@ -115,7 +117,7 @@ impl Kernel {
         ensures { Steps self.old event.now self.new result }
     {
         match event {
-            Event::Admin(command) => self.administer(command),
+            Event::Admin(command) => self.reply_to_admin(command),
             Event::Tenant(tenant, command) => match command.request() {
                 Some(request) => self.reply_to(*tenant, request),
                 None => self.report(*tenant),
@@ -140,21 +142,40 @@ impl Kernel {
         }
     }
 
-    /// Runs a command of the administrator: [`Kernel::step`] of that event.
-    #[cold]
-    #[inline(never)]
-    pub fn administer(&mut self, command: &AdminCommand) -> Reply
+    /// Runs a command of the administrator, and answers it with a value of its own.
+    fn reply_to_admin(&mut self, command: &AdminCommand) -> Reply
         ensures { Steps self.old (Event.Admin command.now) self.new result }
     {
-        let reply = match command {
+        match self.administer(command) {
+            Some(answer) => Reply {
+                addressee: Addressee::Admin,
+                body: answer.into_body(),
+            },
+            None => self.pool(),
+        }
+    }
+
+    /// Runs a command of the administrator but for `pool`: [`Kernel::step`] of that event, with the answer to the administrator in
+    /// few bytes.
+    ///
+    /// None where the table of owners is asked for: it is [`Kernel::pool`] that tells it, and nothing is done.
+    #[cold]
+    #[inline(never)]
+    pub fn administer(&mut self, command: &AdminCommand) -> Option<Answer<'static>>
+        ensures steps { MatchOption result ((command.now ≡ AdminCommand.Pool) × (self.new ≡ self.old))
+            (λ answer. Steps self.old (Event.Admin command.now) self.new (reply_to Admin answer)) }
+        ensures few { IfSome result (λ answer. HasFewBytes answer) }
+        ensures bytes { IfSome result (λ answer. tells_bytes answer ≡ false) }
+    {
+        let answer = match command {
             AdminCommand::Grant { tenant } => self.grant(*tenant),
             AdminCommand::TakeBack { tenant, slot } => self.take_back(*tenant, *slot),
             AdminCommand::Reset { tenant } => self.reset(*tenant),
             AdminCommand::Move { tenant, slot } => self.move_slot(*tenant, *slot),
-            AdminCommand::Pool => self.pool(),
+            AdminCommand::Pool => return None,
         };
         self.parts_agree();
-        reply
+        Some(answer)
     }
 
     /// Runs a command of a tenant but for the report: [`Kernel::step`] of that event, with an answer to the tenant in few bytes. The
@@ -173,9 +194,20 @@ impl Kernel {
             return None;
         }
         let t = tenant as u8;
+        Some((t, self.ask_known(t, request)))
+    }
+
+    /// [`Kernel::ask`] of a tenant that there is.
+    #[inline(always)]
+    pub fn ask_known(&mut self, t: u8, request: Request<'_>) -> Answer<'_>
+        requires tenant { t < self.old.tenants }
+        requires askable { IsAskable request }
+        ensures* asked { sem 𝓛 (RestsAskedKnown self.entry t request.entry result) }
+        ensures few { HasFewBytes result }
+        ensures bytes { asks_bytes request.entry ≡ false → tells_bytes result ≡ false }
+    {
         self.parts_agree();
-        let answer = self.run(t, request);
-        Some((t, answer))
+        self.run(t, request)
     }
 
     /// Tells the figures of a tenant, be there such a tenant or not: [`Kernel::step`] of the event that asks for a report.
@@ -198,7 +230,7 @@ impl Kernel {
 
     /// The tenant of this number, if there is one.
     #[inline(always)]
-    pub(crate) fn tenant(&self, tenant: u32) -> Option<u8>
+    pub fn tenant(&self, tenant: u32) -> Option<u8>
         ensures { MatchOption result (self.now.tenants ≤ tenant) (λ t. (t ≡ tenant) × (t < self.now.tenants)) }
     {
         if tenant >= u32::from(self.parts.tenants()) {

@@ -2,8 +2,8 @@
 use Rattle.std.proofs.Common.{◌≡◌, ℕ, ◌+◌, ◌-◌, ◌^◌, ◌<◌, ◌≤◌, true, Option, Some, None, IsSome, is_some, ap, ◌∙◌, inl, inr, arith}
 use Rattle.std.specs.Prelude.{◌≢◌, IfSome}
 use Rattle.std.proofs.lemmas.Bool.{cases_lt, cases_eq, eqb-true, false≢true}
-use Rattle.klist_core.specs.Places.{is_in}
-use Rattle.klist_core.specs.Links.{IsLeastFrom, IsNearest, IsAfter, up, down}
+use Rattle.klist_core.specs.Places.{IsByKey, is_in}
+use Rattle.klist_core.specs.Links.{IsLeastFrom, IsNearest, IsFollowing, up, down}
 use Rattle.klist_core.proofs.Directions.{IsKeyed}
 use Rattle.klist_core.proofs.Changes.{same_key}
 use Rattle.klist_core.proofs.Walks.{key_in}
@@ -33,7 +33,7 @@ module _ (place : ℕ → Option (ℕ × ℕ)) (h key : ℕ) where
       record { is = (v.after.is.0, record { here = l.here; from = omega (arith, is); least = λ x k e le. l.least x k e (omega (arith, v.below)) }) }
 
   -- so node i is the last one below the key
-  pub behind_previous : (i : ℕ) (o : Option ℕ) → IsKeyed place h → key < 2 ^ 32 → IsBehind place h key i o → IsNearest up place h (up key + 1) o
+  pub behind_previous : (i : ℕ) (o : Option ℕ) → IsKeyed (2 ^ 32) place h → key < 2 ^ 32 → IsBehind place h key i o → IsNearest up place h (up key + 1) o
       → IsNearest down place h (down key + 1) (Some i)
   behind_previous i o keyed fits v n = record { is = (v.own, record { here = v.here; from = omega (arith, v.below); least = λ x k e le. least o v.after n x k e le }) }
     where
@@ -51,13 +51,13 @@ module _ (place : ℕ → Option (ℕ × ℕ)) (h key : ℕ) where
 
   -- the walk goes on to the next node, whose key is not above
   pub behind_on : (i j r : ℕ) (o' : Option ℕ) → ((x : ℕ) → place x ≢ Some (h, key)) → IsBehind place h key i (Some j) → IfSome (place j) (λ p. r ≡ p.1) → r ≤ key
-      → IsAfter up place j o' → IsBehind place h key j o'
-  behind_on i j r o' fresh v read le w =
+      → IsByKey h → IsFollowing up place j o' → IsBehind place h key j o'
+  behind_on i j r o' fresh v read le by_key w =
       let l : IsLeastFrom up place h (up v.own + 1) j v.after.is.0 = v.after.is.1 in
       let is : r ≡ v.after.is.0 = rw l.here at read in
       elim (cases_eq v.after.is.0 key) [
         | inl e ↦ absurd (fresh j (l.here ∙ ap (λ (x : ℕ). Some (h, x)) e))
-        | inr ne ↦ record { own = v.after.is.0; here = l.here; below = omega (arith, is); after = w h v.after.is.0 l.here }
+        | inr ne ↦ record { own = v.after.is.0; here = l.here; below = omega (arith, is); after = w h v.after.is.0 by_key l.here }
       ]
 
   pub behind_placed : (i j : ℕ) → IsBehind place h key i (Some j) → IsSome (place j)

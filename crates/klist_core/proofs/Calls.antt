@@ -1,18 +1,19 @@
 -- What is known in an insertion and in a removal before their writes.
-use Rattle.std.proofs.Common.{◌≡◌, ℕ, ◌+◌, ◌-◌, ◌^◌, ◌<◌, ◌≤◌, List, [], Option, Some, None, ◌++◌, take, length, get_or, set, refl, ap, sym, ◌∙◌, subst, arith}
-use Rattle.std.specs.Prelude.{◌≢◌, IfSome}
+use Rattle.std.proofs.Common.{◌≡◌, ℕ, ◌+◌, ◌-◌, ◌%◌, ◌^◌, ◌<◌, ◌≤◌, List, [], Option, Some, None, ◌++◌, take, length, get_or, set, refl, ap, sym, ◌∙◌, subst, arith}
+use Rattle.std.specs.Prelude.{◌≢◌, IfSome, MatchOption}
 use Rattle.std.proofs.Math.ListN.{get_or-map}
 use Rattle.std.proofs.Math.Seq.{take-append_seam}
 use Rattle.std.proofs.lemmas.List.{length-map, length-set, get_or_read}
 use Rattle.std.proofs.lemmas.List.Sums.{count_by-le-length}
 use Rattle.klist_core.specs.Places.{place_at, is_in}
-use Rattle.klist_core.specs.Links.{up, down, IsNearest, IsLinked, head_at, node_at, places_of, place_in}
+use Rattle.klist_core.specs.Links.{up, back_from, ranks, IsNearest, IsGap, IsLinked, head_at, node_at, places_of, place_in}
 use Rattle.klist_core.specs.Raw.{raw_place}
 use Rattle.klist_core.specs.declared.Head.{Head}
 use Rattle.klist_core.specs.declared.Node.{Node}
 use Rattle.klist_core.proofs.Tables.{count_inserted, count_removed}
 use Rattle.klist_core.proofs.Rewired.{IsWithin}
-use Rattle.klist_core.proofs.Linked.{nearest_within}
+use Rattle.klist_core.proofs.Linked.{nearest_within, ranked_before}
+use Rattle.klist_core.proofs.Ranks.{rank_in, by_time, by_key, ranked_there, nearest_ranked, nearest_limit, next_limit}
 
 -- a node of the table, if any, fits a link
 pub linkable : (o : Option ℕ) (len : ℕ) → IsWithin o len → len < 2 ^ 32 → IfSome o (λ i. i < 2 ^ 32 - 1)
@@ -39,8 +40,8 @@ removal_known heads nodes n x h t within got is = record {
   place = place;
   in_heads = in_heads;
   in_nodes = in_nodes;
-  left = subst (λ (y : Node). IsWithin y.previous (length nodes)) (sym read) (fitting _ (nearest_within down (places_of nodes) h _ _ (t.downwards.goes_on n h x.key place)));
-  right = subst (λ (y : Node). IsWithin y.next (length nodes)) (sym read) (fitting _ (nearest_within up (places_of nodes) h _ _ (t.upwards.goes_on n h x.key place)));
+  left = subst (λ (y : Node). IsWithin y.previous (length nodes)) (sym read) (fitting _ (nearest_within (back_from t.now) t.came (places_of nodes) h _ _ (t.downwards.goes_on n h _ ranked)));
+  right = subst (λ (y : Node). IsWithin y.next (length nodes)) (sym read) (fitting _ (nearest_within up t.came (places_of nodes) h _ _ (t.upwards.goes_on n h _ ranked)));
   some = omega (arith, t.counted h in_heads, count_removed (places_of nodes) h n x.key within place);
   small = omega (arith, t.table.small, length-map nodes place_in);
 }
@@ -54,43 +55,76 @@ removal_known heads nodes n x h t within got is = record {
     place : place_at (places_of nodes) n ≡ Some (h, x.key)
     place = get_or-map place_in nodes n (node_at [] 0) ∙ (ap place_in (sym read) ∙ ap (λ (o : Option ℕ). raw_place o x.key) is)
 
+    ranked : ranks t.came (places_of nodes) n ≡ Some (h, rank_in h (t.came n) x.key)
+    ranked = ranked_there (t.came n) h x.key (place_at (places_of nodes) n) place
+
     in_heads : h < length heads
     in_heads = t.table.headed n h x.key place
 
     fitting : (o : Option ℕ) → IsWithin o (length (places_of nodes)) → IsWithin o (length nodes)
     fitting o w = record { below = λ i e. omega (arith, w.below i e, length-map nodes place_in) }
 
--- node n stands in no list, and the key k comes between `previous` and `next` of list h
-pub record IsInsertion (heads : List Head) (nodes : List Node) (h n k : ℕ) (previous next : Option ℕ) : Type 0 where
+-- between these two nodes node n is linked into list h under the key k: in the gap, or at the end of a loose list
+pub record IsLinkPlace (heads : List Head) (nodes : List Node) (h k : ℕ) (t : IsLinked heads nodes) (g : Option ℕ × Option ℕ) : Type 0 where
+  pub before : IsNearest (back_from (t.now + 1)) (ranks t.came (places_of nodes)) h (back_from (t.now + 1) (rank_in h t.now k) + 1) g.0
+  pub after : IsNearest up (ranks t.came (places_of nodes)) h (up (rank_in h t.now k) + 1) g.1
+
+at_end : (heads : List Head) (nodes : List Node) (h k : ℕ) (t : IsLinked heads nodes) → h < length heads → h % 3 ≡ 0 → IsLinkPlace heads nodes h k t ((head_at heads h).last, None)
+at_end heads nodes h k t lt loose = record {
+  before = nearest_limit t.now (t.now + 1) (ranks t.came (places_of nodes)) h 0 _ _ (λ i r e. let u = ranked_before heads nodes t i h r e in (u, omega (arith, u)))
+      (λ r a b e. omega (arith, by_time h t.now k loose)) (λ r a b e. omega arith) (t.downwards.begins h lt);
+  after = record { is = λ i r e. omega (arith, ranked_before heads nodes t i h r e, by_time h t.now k loose) };
+}
+
+in_gap : (heads : List Head) (nodes : List Node) (h k : ℕ) (t : IsLinked heads nodes) (g : Option ℕ × Option ℕ) → k < 2 ^ 32 → IsGap (place_at (places_of nodes)) h k g → IsLinkPlace heads nodes h k t g
+in_gap heads nodes h k t g fits v =
+    let limit = t.now + 1 in
+    let places = places_of nodes in
+    subst (λ r. IsNearest (back_from limit) (ranks t.came places) h (back_from limit r + 1) g.0 → IsNearest up (ranks t.came places) h (up r + 1) g.1 → IsLinkPlace heads nodes h k t g)
+    (by_key h t.now k v.by_key) (λ before after. record { before = before; after = after })
+    (nearest_ranked (back_from limit) t.came places h _ g.0 v.by_key
+    (next_limit (2 ^ 32) limit (place_at places) h k g.0 fits (omega (arith, t.wide)) (λ i r e. let u = t.table.keyed i h r e in (u, omega (arith, t.wide, u))) v.previous))
+    (nearest_ranked up t.came places h _ g.1 v.by_key v.next)
+
+pub link_place : (heads : List Head) (nodes : List Node) (h k : ℕ) (t : IsLinked heads nodes) (o : Option (Option ℕ × Option ℕ)) (g : Option ℕ × Option ℕ) → h < length heads → k < 2 ^ 32
+    → MatchOption o (h % 3 ≡ 0) (λ x. IsGap (place_at (places_of nodes)) h k x) → MatchOption o (g ≡ ((head_at heads h).last, None)) (λ x. g ≡ x) → IsLinkPlace heads nodes h k t g
+link_place heads nodes h k t None g lt fits loose is = subst (λ x. IsLinkPlace heads nodes h k t x) (sym is) (at_end heads nodes h k t lt loose)
+link_place heads nodes h k t (Some x) g lt fits gap is = subst (λ y. IsLinkPlace heads nodes h k t y) (sym is) (in_gap heads nodes h k t x fits gap)
+
+-- node n stands in no list, and is to come into list h under the key k between these two nodes
+pub record IsInsertion (heads : List Head) (nodes : List Node) (h n k : ℕ) (g : Option ℕ × Option ℕ) : Type 0 where
   pub linked : IsLinked heads nodes
   pub in_heads : h < length heads
   pub in_nodes : n < length nodes
   pub fits : k < 2 ^ 32
   pub free : place_at (places_of nodes) n ≡ None
   pub fresh : (i : ℕ) → place_at (places_of nodes) i ≢ Some (h, k)
-  pub before : IsNearest down (place_at (places_of nodes)) h (down k + 1) previous
-  pub after : IsNearest up (place_at (places_of nodes)) h (up k + 1) next
-  pub left : IsWithin previous (length nodes)
-  pub right : IsWithin next (length nodes)
+  pub place : IsLinkPlace heads nodes h k linked g
+  pub left : IsWithin g.0 (length nodes)
+  pub right : IsWithin g.1 (length nodes)
   pub room : (head_at heads h).len + 1 < 2 ^ 32
+  pub small : length nodes < 2 ^ 32
 
-pub insertion_known : (heads : List Head) (nodes : List Node) (h n k : ℕ) (previous next : Option ℕ) → IsLinked heads nodes → h < length heads → n < length (places_of nodes) → k < 2 ^ 32
-    → place_at (places_of nodes) n ≡ None → ((i : ℕ) → place_at (places_of nodes) i ≢ Some (h, k))
-    → IsNearest down (place_at (places_of nodes)) h (down k + 1) previous → IsNearest up (place_at (places_of nodes)) h (up k + 1) next → IsInsertion heads nodes h n k previous next
-insertion_known heads nodes h n k previous next t in_heads within fits free fresh before after = record {
+pub insertion_known : (heads : List Head) (nodes : List Node) (h n k : ℕ) (o : Option (Option ℕ × Option ℕ)) (g : Option ℕ × Option ℕ) → IsLinked heads nodes → h < length heads
+    → n < length (places_of nodes) → k < 2 ^ 32 → place_at (places_of nodes) n ≡ None → ((i : ℕ) → place_at (places_of nodes) i ≢ Some (h, k))
+    → MatchOption o (h % 3 ≡ 0) (λ x. IsGap (place_at (places_of nodes)) h k x) → MatchOption o (g ≡ ((head_at heads h).last, None)) (λ x. g ≡ x) → IsInsertion heads nodes h n k g
+insertion_known heads nodes h n k o g t in_heads within fits free fresh gap is = record {
   linked = t;
   in_heads = in_heads;
   in_nodes = omega (arith, same_length);
   fits = fits;
   free = free;
   fresh = fresh;
-  before = before;
-  after = after;
-  left = fitting previous (nearest_within down (places_of nodes) h _ previous before);
-  right = fitting next (nearest_within up (places_of nodes) h _ next after);
+  place = place;
+  left = fitting g.0 (nearest_within (back_from (t.now + 1)) t.came (places_of nodes) h _ g.0 place.before);
+  right = fitting g.1 (nearest_within up t.came (places_of nodes) h _ g.1 place.after);
   room = omega (arith, t.counted h in_heads, count_inserted (places_of nodes) h n k within free, count_by-le-length (is_in h) (set (places_of nodes) n (Some (h, k))), length-set (places_of nodes) n (Some (h, k)), t.table.small);
+  small = omega (arith, t.table.small, same_length);
 }
   where
+    place : IsLinkPlace heads nodes h k t g
+    place = link_place heads nodes h k t o g in_heads fits gap is
+
     same_length : length (places_of nodes) ≡ length nodes
     same_length = length-map nodes place_in
 

@@ -1,5 +1,5 @@
 -- What an insertion and a removal leave of a chain of links, in one direction.
-use Rattle.std.proofs.Common.{◌≡◌, ℕ, ◌+◌, ◌^◌, ◌<◌, ◌≤◌, Option, Some, None, refl, ap, sym, ◌∙◌, subst, ◌⊎◌, inl, inr, arith}
+use Rattle.std.proofs.Common.{◌≡◌, ℕ, ◌+◌, ◌<◌, ◌≤◌, Option, Some, None, refl, ap, sym, ◌∙◌, subst, ◌⊎◌, inl, inr, arith}
 use Rattle.std.specs.Prelude.{◌≢◌}
 use Rattle.std.proofs.lemmas.Bool.{cases_lt, cases_eq}
 use Rattle.klist_core.specs.Links.{IsNearest, IsAfter, IsChain}
@@ -13,9 +13,9 @@ pub record IsRelinked (ends links ends' links' : ℕ → Option ℕ) (h n : ℕ)
   pub link : (i : ℕ) → before ≡ Some i → links' i ≡ to
   pub other_link : (i : ℕ) → i ≢ n → before ≢ Some i → links' i ≡ links i
 
--- no two nodes of list h have one key, and its keys fit 32 bits
-pub record IsApart (place : ℕ → Option (ℕ × ℕ)) (h : ℕ) : Type 0 where
-  pub keyed : IsKeyed place h
+-- no two nodes of list h have one key, and its keys are below the limit
+pub record IsApart (limit : ℕ) (place : ℕ → Option (ℕ × ℕ)) (h : ℕ) : Type 0 where
+  pub keyed : IsKeyed limit place h
   pub apart : (i j k : ℕ) → place i ≡ Some (h, k) → place j ≡ Some (h, k) → i ≡ j
 
 -- what an insertion and a removal have in common: `old` becomes `new`, and `small` is the one without node n
@@ -25,8 +25,8 @@ record IsChange (rank : ℕ → ℕ) (old new small : ℕ → Option (ℕ × ℕ
   joined : (b : ℕ) → b ≤ r → ((i k : ℕ) → small i ≡ Some (h, k) → b ≤ rank k → r ≤ rank k) → IsNearest rank new h b to
   was : (i : ℕ) (q : ℕ × ℕ) → i ≢ n → new i ≡ Some q → (old i ≡ Some q) × (small i ≡ Some q)
 
-module _ (rank back : ℕ → ℕ) (d : IsDirection rank back) (old new small : ℕ → Option (ℕ × ℕ)) (heads h n r : ℕ) (to : Option ℕ) (c : IsChange rank old new small h n r to)
-    (a : IsApart small h) (ends links ends' links' : ℕ → Option ℕ) (chain : IsChain rank old heads ends links) where
+module _ (limit : ℕ) (rank back : ℕ → ℕ) (d : IsDirection limit rank back) (old new small : ℕ → Option (ℕ × ℕ)) (heads h n r : ℕ) (to : Option ℕ) (c : IsChange rank old new small h n r to)
+    (a : IsApart limit small h) (ends links ends' links' : ℕ → Option ℕ) (chain : IsChain rank old heads ends links) where
   begins : (before : Option ℕ) → IsRelinked ends links ends' links' h n before to → IsLastBelow rank small h r before → h < heads → IsNearest rank new h 0 (ends' h)
   begins None x l lt = subst (λ o. IsNearest rank new h 0 o) (sym (x.begin refl)) (c.joined 0 (omega arith) (λ i k e le. l.is i k e))
   begins (Some p) x l lt =
@@ -94,12 +94,12 @@ module _ (rank back : ℕ → ℕ) (d : IsDirection rank back) (old new small : 
       ]
 
 -- node n is put between `before` and `after`
-pub chain_inserted : (rank back : ℕ → ℕ) → IsDirection rank back → (small large : ℕ → Option (ℕ × ℕ)) (heads h n k : ℕ) → IsPut small large h n k → IsApart small h
+pub chain_inserted : (limit : ℕ) (rank back : ℕ → ℕ) → IsDirection limit rank back → (small large : ℕ → Option (ℕ × ℕ)) (heads h n k : ℕ) → IsPut small large h n k → IsApart limit small h
     → (ends links ends' links' : ℕ → Option ℕ) (before : Option ℕ) → IsRelinked ends links ends' links' h n before (Some n)
     → IsLastBelow rank small h (rank k) before → IsNearest rank small h (rank k + 1) (links' n)
     → IsChain rank small heads ends links → IsChain rank large heads ends' links'
-chain_inserted rank back d small large heads h n k p a ends links ends' links' before x l after chain =
-    relinked rank back d small large small heads h n (rank k) (Some n) change a ends links ends' links' chain before x l own
+chain_inserted limit rank back d small large heads h n k p a ends links ends' links' before x l after chain =
+    relinked limit rank back d small large small heads h n (rank k) (Some n) change a ends links ends' links' chain before x l own
   where
     change : IsChange rank small large small h n (rank k) (Some n)
     change = record {
@@ -116,12 +116,12 @@ chain_inserted rank back d small large heads h n k p a ends links ends' links' b
         (subst (λ y. IsNearest rank large h (rank y + 1) (links' n)) key (kept_large rank small large h n k p (rank k + 1) (links' n) (inl (omega arith)) after))
 
 -- node n is taken out from between `before` and `after`
-pub chain_removed : (rank back : ℕ → ℕ) → IsDirection rank back → (small large : ℕ → Option (ℕ × ℕ)) (heads h n k : ℕ) → k < 2 ^ 32 → IsPut small large h n k → IsApart small h
+pub chain_removed : (limit : ℕ) (rank back : ℕ → ℕ) → IsDirection limit rank back → (small large : ℕ → Option (ℕ × ℕ)) (heads h n k : ℕ) → k < limit → IsPut small large h n k → IsApart limit small h
     → (ends links ends' links' : ℕ → Option ℕ) (before after : Option ℕ) → IsRelinked ends links ends' links' h n before after
     → IsLastBelow rank small h (rank k) before → IsNearest rank large h (rank k + 1) after
     → IsChain rank large heads ends links → IsChain rank small heads ends' links'
-chain_removed rank back d small large heads h n k fits p a ends links ends' links' before after x l next chain =
-    relinked rank back d large small small heads h n (rank k) after change a ends links ends' links' chain before x l (λ g k' e. let f = p.free in absurd (let q : ◌≡◌ {A = Option (ℕ × ℕ)} None (Some (g, k')) = cc in cc))
+chain_removed limit rank back d small large heads h n k fits p a ends links ends' links' before after x l next chain =
+    relinked limit rank back d large small small heads h n (rank k) after change a ends links ends' links' chain before x l (λ g k' e. let f = p.free in absurd (let q : ◌≡◌ {A = Option (ℕ × ℕ)} None (Some (g, k')) = cc in cc))
   where
     above : (b : ℕ) → ((i k' : ℕ) → small i ≡ Some (h, k') → b ≤ rank k' → rank k ≤ rank k') → (i k' : ℕ) → small i ≡ Some (h, k') → b ≤ rank k' → rank k + 1 ≤ rank k'
     above b f i k' e le = elim (cases_eq (rank k') (rank k)) [

@@ -1,20 +1,21 @@
 -- The two directions of a list: what is nearest in one, seen from the other.
-use Rattle.std.proofs.Common.{◌≡◌, ℕ, ◌+◌, ◌^◌, ◌<◌, ◌≤◌, Option, Some, None, ap, ◌∙◌, inl, inr, arith}
+use Rattle.std.proofs.Common.{◌≡◌, ℕ, ◌+◌, ◌<◌, ◌≤◌, Option, Some, None, ap, ◌∙◌, inl, inr, arith}
 use Rattle.std.specs.Prelude.{MatchOption, ◌≢◌}
 use Rattle.std.proofs.lemmas.Bool.{cases_lt, cases_eq}
-use Rattle.klist_core.specs.Links.{NoneFrom, IsLeastFrom, IsNearest, IsAfter, up, down}
+use Rattle.klist_core.specs.Places.{IsByKey}
+use Rattle.klist_core.specs.Links.{NoneFrom, IsLeastFrom, IsNearest, IsFollowing, up, back_from}
 
--- keys of 32 bits rise by `rank` as they fall by `back`
-pub record IsDirection (rank back : ℕ → ℕ) : Type 0 where
-  pub same : (x y : ℕ) → x < 2 ^ 32 → y < 2 ^ 32 → rank x ≡ rank y → x ≡ y
-  pub turned : (x y : ℕ) → x < 2 ^ 32 → y < 2 ^ 32 → rank x < rank y → back y < back x
-  pub returned : (x y : ℕ) → x < 2 ^ 32 → y < 2 ^ 32 → back x < back y → rank y < rank x
+-- keys below the limit rise by `rank` as they fall by `back`
+pub record IsDirection (limit : ℕ) (rank back : ℕ → ℕ) : Type 0 where
+  pub same : (x y : ℕ) → x < limit → y < limit → rank x ≡ rank y → x ≡ y
+  pub turned : (x y : ℕ) → x < limit → y < limit → rank x < rank y → back y < back x
+  pub returned : (x y : ℕ) → x < limit → y < limit → back x < back y → rank y < rank x
 
-pub upwards : IsDirection up down
-upwards = record { same = λ x y a b e. e; turned = λ x y a b lt. omega arith; returned = λ x y a b lt. omega arith }
+pub upwards : (limit : ℕ) → IsDirection limit up (back_from limit)
+upwards limit = record { same = λ x y a b e. e; turned = λ x y a b lt. omega arith; returned = λ x y a b lt. omega arith }
 
-pub downwards : IsDirection down up
-downwards = record { same = λ x y a b e. omega arith; turned = λ x y a b lt. omega arith; returned = λ x y a b lt. omega arith }
+pub downwards : (limit : ℕ) → IsDirection limit (back_from limit) up
+downwards limit = record { same = λ x y a b e. omega arith; turned = λ x y a b lt. omega arith; returned = λ x y a b lt. omega arith }
 
 -- node j has the greatest rank below r in list h, which is that of the key k
 pub record IsGreatest (rank : ℕ → ℕ) (place : ℕ → Option (ℕ × ℕ)) (h r j k : ℕ) : Type 0 where
@@ -26,21 +27,21 @@ pub record IsGreatest (rank : ℕ → ℕ) (place : ℕ → Option (ℕ × ℕ))
 pub record IsLastBelow (rank : ℕ → ℕ) (place : ℕ → Option (ℕ × ℕ)) (h r : ℕ) (o : Option ℕ) : Type 0 where
   pub is : MatchOption o ((i k : ℕ) → place i ≡ Some (h, k) → r ≤ rank k) (λ j. (k : ℕ) × IsGreatest rank place h r j k)
 
--- the keys of list h fit 32 bits
-pub record IsKeyed (place : ℕ → Option (ℕ × ℕ)) (h : ℕ) : Type 0 where
-  pub below : (i k : ℕ) → place i ≡ Some (h, k) → k < 2 ^ 32
+-- the keys of list h are below the limit
+pub record IsKeyed (limit : ℕ) (place : ℕ → Option (ℕ × ℕ)) (h : ℕ) : Type 0 where
+  pub below : (i k : ℕ) → place i ≡ Some (h, k) → k < limit
 
 -- the node before a key, found in the other direction
-pub last_below : (rank back : ℕ → ℕ) (place : ℕ → Option (ℕ × ℕ)) (h k : ℕ) (o : Option ℕ) → IsDirection rank back → IsKeyed place h → k < 2 ^ 32
+pub last_below : {limit : ℕ} (rank back : ℕ → ℕ) (place : ℕ → Option (ℕ × ℕ)) (h k : ℕ) (o : Option ℕ) → IsDirection limit rank back → IsKeyed limit place h → k < limit
     → IsNearest back place h (back k + 1) o → IsLastBelow rank place h (rank k) o
-last_below rank back place h k None d keyed small v = record { is = above }
+last_below {limit} rank back place h k None d keyed small v = record { is = above }
   where
     above : (i k' : ℕ) → place i ≡ Some (h, k') → rank k ≤ rank k'
     above i k' e = elim (cases_lt (rank k') (rank k)) [
       | inl lt ↦ let t = d.turned k' k (keyed.below i k' e) small lt in let v' = v.is i k' e in absurd (omega arith)
       | inr le ↦ le
     ]
-last_below rank back place h k (Some j) d keyed small v = record { is = (v.is.0, record { here = l.here; below = d.returned k kj small fits (omega (arith, l.from)); greatest = greatest }) }
+last_below {limit} rank back place h k (Some j) d keyed small v = record { is = (v.is.0, record { here = l.here; below = d.returned k kj small fits (omega (arith, l.from)); greatest = greatest }) }
   where
     kj : ℕ
     kj = v.is.0
@@ -48,7 +49,7 @@ last_below rank back place h k (Some j) d keyed small v = record { is = (v.is.0,
     l : IsLeastFrom back place h (back k + 1) j kj
     l = v.is.1
 
-    fits : kj < 2 ^ 32
+    fits : kj < limit
     fits = keyed.below j kj l.here
 
     greatest : (i k' : ℕ) → place i ≡ Some (h, k') → rank k' < rank k → rank k' ≤ rank kj
@@ -61,10 +62,10 @@ last_below rank back place h k (Some j) d keyed small v = record { is = (v.is.0,
     ]
 
 -- the node before a new key is the one before the node after it, or the last one where that is missing
-across_none : (rank back : ℕ → ℕ) (place : ℕ → Option (ℕ × ℕ)) (h k : ℕ) (o : Option ℕ) → IsDirection rank back → IsKeyed place h → k < 2 ^ 32 → ((i : ℕ) → place i ≢ Some (h, k))
+across_none : {limit : ℕ} (rank back : ℕ → ℕ) (place : ℕ → Option (ℕ × ℕ)) (h k : ℕ) (o : Option ℕ) → IsDirection limit rank back → IsKeyed limit place h → k < limit → ((i : ℕ) → place i ≢ Some (h, k))
     → NoneFrom rank place h (rank k + 1) → IsNearest back place h 0 o → IsNearest back place h (back k + 1) o
-across_none rank back place h k None d keyed small fresh after v = record { is = λ i k' e. let v' = v.is i k' e in absurd (omega arith) }
-across_none rank back place h k (Some j) d keyed small fresh after v = record { is = (kj, record { here = l.here; from = apart; least = λ i k' e le. l.least i k' e (omega arith) }) }
+across_none {limit} rank back place h k None d keyed small fresh after v = record { is = λ i k' e. let v' = v.is i k' e in absurd (omega arith) }
+across_none {limit} rank back place h k (Some j) d keyed small fresh after v = record { is = (kj, record { here = l.here; from = apart; least = λ i k' e le. l.least i k' e (omega arith) }) }
   where
     kj : ℕ
     kj = v.is.0
@@ -72,7 +73,7 @@ across_none rank back place h k (Some j) d keyed small fresh after v = record { 
     l : IsLeastFrom back place h 0 j kj
     l = v.is.1
 
-    fits : kj < 2 ^ 32
+    fits : kj < limit
     fits = keyed.below j kj l.here
 
     below : rank kj < rank k + 1
@@ -84,9 +85,9 @@ across_none rank back place h k (Some j) d keyed small fresh after v = record { 
       | inr ne ↦ let t = d.turned kj k fits small (omega (arith, below)) in omega arith
     ]
 
-across_some : (rank back : ℕ → ℕ) (place : ℕ → Option (ℕ × ℕ)) (h k i : ℕ) (o : Option ℕ) → IsDirection rank back → IsKeyed place h → k < 2 ^ 32 → ((i : ℕ) → place i ≢ Some (h, k))
+across_some : {limit : ℕ} (rank back : ℕ → ℕ) (place : ℕ → Option (ℕ × ℕ)) (h k i : ℕ) (o : Option ℕ) → IsDirection limit rank back → IsKeyed limit place h → k < limit → ((i : ℕ) → place i ≢ Some (h, k))
     → (ki : ℕ) → IsLeastFrom rank place h (rank k + 1) i ki → IsNearest back place h (back ki + 1) o → IsNearest back place h (back k + 1) o
-across_some rank back place h k i None d keyed small fresh ki n v = record { is = below }
+across_some {limit} rank back place h k i None d keyed small fresh ki n v = record { is = below }
   where
     below : (j k' : ℕ) → place j ≡ Some (h, k') → back k' < back k + 1
     below j k' e = elim (cases_lt (back k') (back k + 1)) [
@@ -97,7 +98,7 @@ across_some rank back place h k i None d keyed small fresh ki n v = record { is 
           let t = d.turned k' ki fits (keyed.below i ki n.here) (omega (arith, n.from)) in
           let v' = v.is j k' e in absurd (omega arith)
     ]
-across_some rank back place h k i (Some j) d keyed small fresh ki n v = record { is = (kj, record { here = l.here; from = apart; least = least }) }
+across_some {limit} rank back place h k i (Some j) d keyed small fresh ki n v = record { is = (kj, record { here = l.here; from = apart; least = least }) }
   where
     kj : ℕ
     kj = v.is.0
@@ -105,7 +106,7 @@ across_some rank back place h k i (Some j) d keyed small fresh ki n v = record {
     l : IsLeastFrom back place h (back ki + 1) j kj
     l = v.is.1
 
-    fits : kj < 2 ^ 32
+    fits : kj < limit
     fits = keyed.below j kj l.here
 
     before : rank kj < rank ki
@@ -127,9 +128,9 @@ across_some rank back place h k i (Some j) d keyed small fresh ki n v = record {
         let t = d.turned k' ki fx (keyed.below i ki n.here) (omega (arith, n.from)) in
         l.least x k' e (omega arith)
 
-pub across : (rank back : ℕ → ℕ) (place : ℕ → Option (ℕ × ℕ)) (h k : ℕ) (o r : Option ℕ) → IsDirection rank back → IsKeyed place h → k < 2 ^ 32 → ((i : ℕ) → place i ≢ Some (h, k))
-    → IsNearest rank place h (rank k + 1) o → MatchOption o (IsNearest back place h 0 r) (λ i. IsAfter back place i r) → IsNearest back place h (back k + 1) r
-across rank back place h k None r d keyed small fresh v w = across_none rank back place h k r d keyed small fresh v.is w
-across rank back place h k (Some i) r d keyed small fresh v w =
+pub across : {limit : ℕ} (rank back : ℕ → ℕ) (place : ℕ → Option (ℕ × ℕ)) (h k : ℕ) (o r : Option ℕ) → IsDirection limit rank back → IsKeyed limit place h → k < limit → ((i : ℕ) → place i ≢ Some (h, k))
+    → IsNearest rank place h (rank k + 1) o → IsByKey h → MatchOption o (IsNearest back place h 0 r) (λ i. IsFollowing back place i r) → IsNearest back place h (back k + 1) r
+across {limit} rank back place h k None r d keyed small fresh v by_key w = across_none rank back place h k r d keyed small fresh v.is w
+across {limit} rank back place h k (Some i) r d keyed small fresh v by_key w =
     let l : IsLeastFrom rank place h (rank k + 1) i v.is.0 = v.is.1 in
-    across_some rank back place h k i r d keyed small fresh v.is.0 l (w h v.is.0 l.here)
+    across_some rank back place h k i r d keyed small fresh v.is.0 l (w h v.is.0 by_key l.here)

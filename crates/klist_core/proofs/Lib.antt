@@ -1,5 +1,6 @@
 pub mod Directions
 pub mod Changes
+pub mod Ranks
 pub mod Chains
 pub mod Tables
 pub mod Rewired
@@ -11,4 +12,6 @@ pub mod Calls
 pub mod Fresh
 pub mod Witnesses
 pub mod Before
+pub mod Search
+pub mod Reading
 pub mod Behind

@@ -1,13 +1,13 @@
 -- The lists as pairs of key and node: what is in them, that they rise, how long they are.
 use Rattle.std.proofs.Common.{◌≡◌, ℕ, suc, zero, ◌+◌, ◌<◌, ◌≤◌, Bool, true, false, cond, eqb, ltb, List, [], ◌∷◌, Option, Some, None, length, map, get_or, refl, ap, sym, ◌∙◌, subst, ◌⊎◌, inl, inr, arith, add-zero}
-use Rattle.std.specs.Prelude.{◌≢◌, count_by, if◌then◌else◌, not, slice_get}
+use Rattle.std.specs.Prelude.{◌≢◌, ◌↔◌, count_by, if◌then◌else◌, not, slice_get}
 use Rattle.std.specs.List.{Contains}
 use Rattle.std.proofs.lemmas.Bool.{eq-eqb, eqb-true, eqb-false, ltb-true, ltb-false}
 use Rattle.std.proofs.lemmas.List.{length-map}
 use Rattle.std.proofs.lemmas.List.Sums.{sum_by-cons}
 use Rattle.model_core.specs.WellFormed.{RisesFrom}
-use Rattle.klist_core.specs.Places.{place_at, is_in}
-use Rattle.klist_core.specs.Lists.{put_by_key, with_node, list_from, list_of, without_node}
+use Rattle.klist_core.specs.Places.{place_at, is_in, IsEmpty}
+use Rattle.klist_core.specs.Lists.{put_by_key, with_node, list_from, list_of, keys_of, without_node}
 use Rattle.klist_core.specs.Laws.{ListsCountPlaces}
 
 -- x is one of the elements
@@ -228,3 +228,18 @@ among_keys k i (q ∷ qs) (inr a) = inr (among_keys k i qs a)
 -- a list is as long as there are nodes in it
 pub lists_count_places : ListsCountPlaces
 lists_count_places places h = (length_list h 0 places, length-map (list_of places h) (λ p. p.0) ∙ length_list h 0 places)
+
+-- and has none where nobody stands in it
+unlisted : (qs : List (ℕ × ℕ)) → ((x : ℕ × ℕ) → IsAmong x qs → ⊥) → length qs ≡ 0
+unlisted [] f = refl
+unlisted (q ∷ qs) f = absurd (f q (inl refl))
+
+none_among : (x : ℕ × ℕ) (qs : List (ℕ × ℕ)) → length qs ≡ 0 → IsAmong x qs → ⊥
+none_among x [] e a = a
+none_among x (q ∷ qs) e a = omega (arith, e)
+
+pub no_keys : (places : List (Option (ℕ × ℕ))) (h : ℕ) → length (keys_of places h) ≡ 0 ↔ IsEmpty places h
+no_keys places h = (
+  λ e i k at. none_among (k, i) (list_of places h) (omega (arith, e, length-map (list_of places h) (λ p. p.0))) (listed places h k i at),
+  λ none. length-map (list_of places h) (λ p. p.0) ∙ unlisted (list_of places h) (λ x a. none x.1 x.0 (in_list places h x.0 x.1 a)),
+)

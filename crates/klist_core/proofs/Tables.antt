@@ -7,7 +7,6 @@ use Rattle.std.proofs.lemmas.List.Sums.{sum_by-set}
 use Rattle.std.proofs.lemmas.Bool.{cases_lt, false≢true}
 use Rattle.klist_core.specs.Places.{Placed, place_at, is_in, ArePlaces, inserted, removed}
 use Rattle.klist_core.proofs.Changes.{IsPut, raised, lowered}
-use Rattle.klist_core.proofs.Chains.{IsApart}
 
 -- a node that has a place is one of the table
 pub placed_within : (places : List (Option (ℕ × ℕ))) (i : ℕ) (q : ℕ × ℕ) → place_at places i ≡ Some q → i < length places
@@ -36,9 +35,6 @@ put_by_removal s h n k t e = record { free = gone; here = e; others = λ i ne. s
       | inl is ↦ let f : ◌≡◌ {A = Option (ℕ × ℕ)} None (Some (h, k)) = sym gone ∙ (sym (ap (place_at (set s.places n None)) is) ∙ q) in cc
       | inr ne ↦ ne (t.apart i n h k (sym (kept i ne) ∙ q) e)
     ]
-
-pub apart_of : (s : Placed) (h : ℕ) → ArePlaces s → IsApart (place_at s.places) h
-apart_of s h t = record { keyed = record { below = λ i k e. t.keyed i h k e }; apart = λ i j k. t.apart i j h k }
 
 -- with the node too no two nodes of a list have one key
 pub apart_large : {small large : ℕ → Option (ℕ × ℕ)} {h n k : ℕ} → IsPut small large h n k → ((i j g k' : ℕ) → small i ≡ Some (g, k') → small j ≡ Some (g, k') → i ≡ j)

@@ -1,6 +1,6 @@
 -- What the links of a table say. A list has two directions, up and down the keys; what holds in one holds in the other.
-use Rattle.std.specs.Prelude.{◌≡◌, ◌≢◌, ℕ, ◌+◌, ◌-◌, ◌^◌, ◌<◌, ◌≤◌, Option, Some, None, List, length, map, slice_index_or, count_by, MatchOption}
-use Rattle.klist_core.specs.Places.{Placed, ArePlaces, place_at, is_in}
+use Rattle.std.specs.Prelude.{◌≡◌, ◌≢◌, ℕ, ◌+◌, ◌-◌, ◌%◌, ◌^◌, ◌<◌, ◌≤◌, ◌==◌, if◌then◌else◌, Option, Some, None, List, length, map, slice_index_or, count_by, MatchOption}
+use Rattle.klist_core.specs.Places.{Placed, ArePlaces, IsByKey, place_at, is_in}
 use Rattle.klist_core.specs.Raw.{raw_place}
 use Rattle.klist_core.specs.declared.Head.{Head}
 use Rattle.klist_core.specs.declared.Node.{Node}
@@ -9,8 +9,12 @@ use Rattle.klist_core.specs.declared.Node.{Node}
 abbrev pub up : ℕ → ℕ
 up key = key
 
+-- .. and the same ranks from the limit on, for numbers below it
+abbrev pub back_from : ℕ → ℕ → ℕ
+back_from limit r = limit - r
+
 abbrev pub down : ℕ → ℕ
-down key = 2 ^ 32 - key
+down = back_from (2 ^ 32)
 
 -- no node of list h has a rank of bound or more
 abbrev pub NoneFrom : (ℕ → ℕ) → (ℕ → Option (ℕ × ℕ)) → ℕ → ℕ → Type 0
@@ -26,9 +30,19 @@ pub record IsLeastFrom (rank : ℕ → ℕ) (place : ℕ → Option (ℕ × ℕ)
 pub record IsNearest (rank : ℕ → ℕ) (place : ℕ → Option (ℕ × ℕ)) (h bound : ℕ) (o : Option ℕ) : Type 0 where
   pub is : MatchOption o (NoneFrom rank place h bound) (λ j. (k : ℕ) × IsLeastFrom rank place h bound j k)
 
+-- list h is linked by key, and in it a new key comes between these two nodes
+pub record IsGap (place : ℕ → Option (ℕ × ℕ)) (h key : ℕ) (g : Option ℕ × Option ℕ) : Type 0 where
+  pub by_key : IsByKey h
+  pub previous : IsNearest down place h (down key + 1) g.0
+  pub next : IsNearest up place h (up key + 1) g.1
+
 -- o is the node after node i in this direction
 abbrev pub IsAfter : (ℕ → ℕ) → (ℕ → Option (ℕ × ℕ)) → ℕ → Option ℕ → Type 0
 IsAfter rank place i o = (h k : ℕ) → place i ≡ Some (h, k) → IsNearest rank place h (rank k + 1) o
+
+-- the same, if the list of node i is linked by key
+abbrev pub IsFollowing : (ℕ → ℕ) → (ℕ → Option (ℕ × ℕ)) → ℕ → Option ℕ → Type 0
+IsFollowing rank place i o = (h k : ℕ) → IsByKey h → place i ≡ Some (h, k) → IsNearest rank place h (rank k + 1) o
 
 -- o is a node of list h, and none only where the list is empty
 pub record IsStart (place : ℕ → Option (ℕ × ℕ)) (h : ℕ) (o : Option ℕ) : Type 0 where
@@ -60,9 +74,24 @@ places_of nodes = map place_in nodes
 abbrev pub shown : List Head → List Node → Placed
 shown heads nodes = record { heads = length heads; places = places_of nodes }
 
+-- list and rank in the links of a node with this place: a loose list ranks by the time at which the node came, any other by key
+abbrev pub ranked : ℕ → Option (ℕ × ℕ) → Option (ℕ × ℕ)
+ranked time None = None
+ranked time (Some p) = Some (p.0, if p.0 % 3 == 0 then time else p.1)
+
+-- the same for all nodes, from when they came
+abbrev pub ranks : (ℕ → ℕ) → List (Option (ℕ × ℕ)) → ℕ → Option (ℕ × ℕ)
+ranks came places i = ranked (came i) (place_at places i)
+
 -- the links of a table and its lengths are those of its lists
 pub record IsLinked (heads : List Head) (nodes : List Node) : Type 0 where
   pub table : ArePlaces (shown heads nodes)
-  pub upwards : IsChain up (place_at (places_of nodes)) (length heads) (λ h. (head_at heads h).first) (λ i. (node_at nodes i).next)
-  pub downwards : IsChain down (place_at (places_of nodes)) (length heads) (λ h. (head_at heads h).last) (λ i. (node_at nodes i).previous)
+  -- when each node came into its list, before now: any numbers that agree with the links of the loose lists
+  pub came : ℕ → ℕ
+  pub now : ℕ
+  pub wide : 2 ^ 32 ≤ now
+  pub before : (i : ℕ) → came i < now
+  pub apart : (i j h r : ℕ) → ranks came (places_of nodes) i ≡ Some (h, r) → ranks came (places_of nodes) j ≡ Some (h, r) → i ≡ j
+  pub upwards : IsChain up (ranks came (places_of nodes)) (length heads) (λ h. (head_at heads h).first) (λ i. (node_at nodes i).next)
+  pub downwards : IsChain (back_from now) (ranks came (places_of nodes)) (length heads) (λ h. (head_at heads h).last) (λ i. (node_at nodes i).previous)
   pub counted : (h : ℕ) → h < length heads → (head_at heads h).len ≡ count_by (is_in h) (places_of nodes)

@@ -1,5 +1,5 @@
 -- Ordered lists of nodes, by node: the list in which it stands and the key under which it stands there.
-use Rattle.std.specs.Prelude.{◌≡◌, ◌≢◌, ℕ, ◌==◌, ◌^◌, ◌<◌, ◌≤◌, Bool, false, List, Option, Some, None, length, slice_index_or, slice_set}
+use Rattle.std.specs.Prelude.{◌≡◌, ◌≢◌, ℕ, ◌%◌, ◌==◌, ◌^◌, ◌<◌, ◌≤◌, Bool, false, List, Option, Some, None, length, slice_index_or, slice_set}
 
 -- heads: how many lists there are, numbered from 0. places: by node, its list and its key
 pub record Placed : Type 0 where
@@ -13,6 +13,17 @@ place_at places i = slice_index_or places i None
 abbrev pub is_in : ℕ → Option (ℕ × ℕ) → Bool
 is_in h None = false
 is_in h (Some p) = p.0 == h
+
+-- list h is linked by key: it is none of the loose lists 0, 3, 6 ..
+abbrev pub IsByKey : ℕ → Type 0
+IsByKey h = 0 < h % 3
+
+-- node i stands in a list that is linked by key
+pub record IsPlacedByKey (places : List (Option (ℕ × ℕ))) (i : ℕ) : Type 0 where
+  pub list : ℕ
+  pub key : ℕ
+  pub here : place_at places i ≡ Some (list, key)
+  pub by_key : IsByKey list
 
 -- what holds of every table: its numbers fit 32 bits, and no two nodes of a list have one key
 pub record ArePlaces (s : Placed) : Type 0 where

@@ -4,14 +4,17 @@
 //! a list rises by key: no two of its nodes have the same key. Lists are doubly linked through their
 //! nodes, with a first and a last node for each list (Knuth, The Art of Computer Programming, 2.2.5).
 //!
+//! Every third list, from list 0 on, is loose: it rises by key like any other, but is linked in the order in which its nodes came.
+//! A node comes into it in constant time, whatever its key, and its first node is looked for among all nodes.
+//!
 //! Only [`Lists::new`] allocates.
 #![tactic(auto)]
 
-ghost use Rattle.std.specs.Prelude.{◌≡◌, ◌≢◌, ℕ, ◌+◌, ◌-◌, ◌^◌, ◌<◌, ◌≤◌, ◌↔◌, true, Some, None, length, IsTrue, IsSome, IfSome, IfOk, MatchOption, slice_get, replicate, count_by};
+ghost use Rattle.std.specs.Prelude.{◌≡◌, ◌≢◌, ℕ, ◌+◌, ◌-◌, ◌%◌, ◌^◌, ◌<◌, ◌≤◌, ◌↔◌, true, false, Some, None, length, IsTrue, IsSome, IfSome, IfOk, MatchOption, slice_get, replicate, count_by};
 ghost use Rattle.std.specs.Option.{ForSome};
-ghost use Rattle.klist_core.specs.Places.{ArePlaces, IsEmpty, IsFirst, NoneAbove, IsNext, NoneBelow, IsPrevious, place_at, is_in, inserted, removed, replaced};
+ghost use Rattle.klist_core.specs.Places.{ArePlaces, IsByKey, IsPlacedByKey, IsEmpty, IsFirst, NoneAbove, IsNext, NoneBelow, IsPrevious, place_at, is_in, inserted, removed, replaced};
 ghost use Rattle.klist_core.specs.Lists.{list_of};
-ghost use Rattle.klist_core.specs.Links.{free_node, up, down, IsNearest, IsAfter, IsStart};
+ghost use Rattle.klist_core.specs.Links.{free_node, head_at, up, down, IsNearest, IsGap, IsAfter, IsFollowing, IsStart};
 ghost use Rattle.klist_core.specs.Writes.{heads_linked_after, heads_linked_before, nodes_linked_after, nodes_linked_before};
 
 use std::alloc::{AllocError, Global};
@@ -105,6 +108,15 @@ impl Node {
     }
 }
 
+/// Whether the list is loose.
+#[inline(always)]
+pub fn is_loose(head: u32) -> bool
+    ensures loose { IsTrue result → head % 3 ≡ 0 }
+    ensures by_key { result ≡ false → IsByKey head }
+{
+    head % 3 == 0
+}
+
 /// Ordered lists over one table of nodes. Lists are numbered by their heads, from 0, and so are nodes.
 #[derive(Drop)]
 pub struct Lists {
@@ -187,21 +199,54 @@ impl Lists {
         list.len
     }
 
-    /// Least key of the list and its node; None where the list is empty.
+    /// Least key of the list and its node; None where the list is empty. Of a loose list it is looked for among all nodes.
     pub fn first(&self, head: u32) -> Option<(u32, u32)>
         requires { head < self.now.heads }
         ensures head { result ≡ slice_get (list_of self.now.places head) 0 }
         ensures least { MatchOption result (IsEmpty self.now.places head) (λ p. IsFirst self.now.places head p.0 p.1) }
     {
+        if is_loose(head) {
+            self.first_at(head, self.least(head))
+        } else {
+            self.first_by_key(head)
+        }
+    }
+
+    /// As [`Lists::first`], of a list that is not loose: in constant time.
+    #[inline(always)]
+    pub fn first_by_key(&self, head: u32) -> Option<(u32, u32)>
+        requires head { head < self.now.heads }
+        requires by_key { IsByKey head }
+        ensures head { result ≡ slice_get (list_of self.now.places head) 0 }
+        ensures least { MatchOption result (IsEmpty self.now.places head) (λ p. IsFirst self.now.places head p.0 p.1) }
+    {
+        self.first_at(head, self.first_of(head))
+    }
+
+    /// Key and node of the node with the least key of the list, if there is one.
+    #[inline(always)]
+    fn first_at(&self, head: u32, least: Option<u32>) -> Option<(u32, u32)>
+        requires { IsNearest up (place_at self.now.places) head 0 least }
+        ensures head { result ≡ slice_get (list_of self.now.places head) 0 }
+        ensures least { MatchOption result (IsEmpty self.now.places head) (λ p. IsFirst self.now.places head p.0 p.1) }
+    {
         self.laws();
-        let node = self.first_of(head)?;
+        let node = least?;
         Some((self.key_of(node), node))
     }
 
-    /// Key and node that follow the node in its list; None where it is the last.
+    /// Some node of the list, in constant time; None where the list is empty.
+    pub fn any(&self, head: u32) -> Option<u32>
+        requires { head < self.now.heads }
+        ensures { MatchOption result (IsEmpty self.now.places head) (λ n. is_in head (place_at self.now.places n) ≡ true) }
+    {
+        self.heads[head as usize].first.get()
+    }
+
+    /// Key and node that follow the node in its list, which is not loose; None where it is the last.
     pub fn after(&self, node: u32) -> Option<(u32, u32)>
         requires node { node < length self.now.places }
-        requires placed { IsSome (place_at self.now.places node) }
+        requires placed { IsPlacedByKey self.now.places node }
         ensures { IfSome (place_at self.now.places node) (λ p.
             MatchOption result (NoneAbove self.now.places p.0 p.1) (λ q. IsNext self.now.places p.0 p.1 q.0 q.1)) }
     {
@@ -209,10 +254,10 @@ impl Lists {
         Some((self.key_of(next), next))
     }
 
-    /// Key and node that come before the node in its list; None where it is the first.
+    /// Key and node that come before the node in its list, which is not loose; None where it is the first.
     pub fn before(&self, node: u32) -> Option<(u32, u32)>
         requires node { node < length self.now.places }
-        requires placed { IsSome (place_at self.now.places node) }
+        requires placed { IsPlacedByKey self.now.places node }
         ensures { IfSome (place_at self.now.places node) (λ p.
             MatchOption result (NoneBelow self.now.places p.0 p.1) (λ q. IsPrevious self.now.places p.0 p.1 q.0 q.1)) }
     {
@@ -223,8 +268,8 @@ impl Lists {
 
     /// Puts a node that stands in no list into the list, under a key that the list does not have.
     ///
-    /// A key below the first of the list or above the last takes constant time. Any other is looked for from the
-    /// first on, so a long list wants [`Lists::insert_near`].
+    /// A key below the first of the list or above the last takes constant time, and in a loose list each does. Any other is
+    /// looked for from the first on, so a long list wants [`Lists::insert_near`].
     #[inline(always)]
     pub fn insert(&mut self, head: u32, node: u32, key: u32)
         requires head { head < self.old.heads }
@@ -233,14 +278,32 @@ impl Lists {
         requires fresh { (i : ℕ) → place_at self.old.places i ≢ Some (head, key) }
         ensures { self.new ≡ inserted self.old head node key }
     {
-        let (previous, next) = self.gap(head, key);
-        self.put_between(head, node, key, previous, next);
+        let gap = if is_loose(head) {
+            None
+        } else {
+            Some(self.gap(head, key))
+        };
+        self.put(head, node, key, gap);
     }
 
-    /// As [`Lists::insert`], with the place of the key looked for from the node `near`, where that stands in
-    /// the list: in constant time where it is to be a neighbour. A hint that is wrong costs steps alone.
+    /// As [`Lists::insert`], into a loose list.
+    #[inline(always)]
+    pub fn append(&mut self, head: u32, node: u32, key: u32)
+        requires head { head < self.old.heads }
+        requires loose { head % 3 ≡ 0 }
+        requires node { node < length self.old.places }
+        requires free { place_at self.old.places node ≡ None }
+        requires fresh { (i : ℕ) → place_at self.old.places i ≢ Some (head, key) }
+        ensures { self.new ≡ inserted self.old head node key }
+    {
+        self.put(head, node, key, None);
+    }
+
+    /// As [`Lists::insert`], into a list that is not loose, with the place of the key looked for from the node `near`, where
+    /// that stands in the list: in constant time where it is to be a neighbour. A hint that is wrong costs steps alone.
     pub fn insert_near(&mut self, head: u32, node: u32, key: u32, near: u32)
         requires head { head < self.old.heads }
+        requires by_key { IsByKey head }
         requires node { node < length self.old.places }
         requires free { place_at self.old.places node ≡ None }
         requires fresh { (i : ℕ) → place_at self.old.places i ≢ Some (head, key) }
@@ -251,8 +314,8 @@ impl Lists {
             self.insert_by(head, node, key, near);
         } else {
             let start = self.nearer_end(head, key);
-            let (previous, next) = self.neighbours(head, key, start);
-            self.put_between(head, node, key, previous, next);
+            let gap = self.neighbours(head, key, start);
+            self.put(head, node, key, Some(gap));
         }
     }
 
@@ -260,6 +323,7 @@ impl Lists {
     #[inline(always)]
     pub fn insert_by(&mut self, head: u32, node: u32, key: u32, near: u32)
         requires head { head < self.old.heads }
+        requires by_key { IsByKey head }
         requires node { node < length self.old.places }
         requires free { place_at self.old.places node ≡ None }
         requires fresh { (i : ℕ) → place_at self.old.places i ≢ Some (head, key) }
@@ -268,15 +332,15 @@ impl Lists {
     {
         if self.key_of(near) < key {
             let (previous, next) = self.gap_behind(head, key, near);
-            self.put_between(head, node, key, Some(previous), next);
+            self.put(head, node, key, Some((Some(previous), next)));
         } else {
-            let (previous, next) = self.neighbours(head, key, Some(near));
-            self.put_between(head, node, key, previous, next);
+            let gap = self.neighbours(head, key, Some(near));
+            self.put(head, node, key, Some(gap));
         }
     }
 
-    /// Lets the node `by`, which stands in no list, take the place of `node` in its list, under the same key.
-    /// It takes constant time.
+    /// Takes `node` out of its list and puts the node `by`, which stands in no list, there under the same key. It takes constant
+    /// time.
     pub fn replace(&mut self, node: u32, by: u32)
         requires node { node < length self.old.places }
         requires placed { IsSome (place_at self.old.places node) }
@@ -288,9 +352,13 @@ impl Lists {
         let Some((head, key)) = self.place_of(node) else {
             unreachable!()
         };
-        let (previous, next) = (self.previous_of(node), self.next_of(node));
+        let gap = if is_loose(head) {
+            None
+        } else {
+            Some((self.previous_of(node), self.next_of(node)))
+        };
         self.remove(node);
-        self.put_between(head, by, key, previous, next);
+        self.put(head, by, key, gap);
     }
 
     /// Takes a node out of the list in which it stands, in constant time.
@@ -312,24 +380,18 @@ impl Lists {
         heads[head as usize].len -= 1;
     }
 
-    /// Puts a node into the list between two that are neighbours there; None stands for an end.
-    fn put_between(
-        &mut self,
-        head: u32,
-        node: u32,
-        key: u32,
-        previous: Option<u32>,
-        next: Option<u32>,
-    )
+    /// Puts a node into the list between two that are neighbours there, where None stands for an end; where there is no gap, at
+    /// the end of a loose list.
+    fn put(&mut self, head: u32, node: u32, key: u32, gap: Option<(Option<u32>, Option<u32>)>)
         requires head { head < self.old.heads }
         requires node { node < length self.old.places }
         requires free { place_at self.old.places node ≡ None }
         requires fresh { (i : ℕ) → place_at self.old.places i ≢ Some (head, key) }
-        requires previous { IsNearest down (place_at self.old.places) head (down key + 1) previous }
-        requires next { IsNearest up (place_at self.old.places) head (up key + 1) next }
+        requires gap { MatchOption gap (head % 3 ≡ 0) (λ g. IsGap (place_at self.old.places) head key g) }
         ensures { self.new ≡ inserted self.old head node key }
     {
         self.laws();
+        let (previous, next) = link_place(&self.heads, head, gap);
         let heads: &mut [Head] = &mut self.heads;
         let nodes: &mut [Node] = &mut self.nodes;
         nodes[node as usize] = Node {
@@ -347,6 +409,7 @@ impl Lists {
     #[inline(always)]
     fn gap(&self, head: u32, key: u32) -> (Option<u32>, Option<u32>)
         requires head { head < self.now.heads }
+        requires by_key { IsByKey head }
         requires fresh { (i : ℕ) → place_at self.now.places i ≢ Some (head, key) }
         ensures previous { IsNearest down (place_at self.now.places) head (down key + 1) result.0 }
         ensures next { IsNearest up (place_at self.now.places) head (up key + 1) result.1 }
@@ -368,6 +431,7 @@ impl Lists {
     /// The nodes between which a key comes that the list does not have, looked for from a node of the list.
     fn neighbours(&self, head: u32, key: u32, start: Option<u32>) -> (Option<u32>, Option<u32>)
         requires head { head < self.now.heads }
+        requires by_key { IsByKey head }
         requires fresh { (i : ℕ) → place_at self.now.places i ≢ Some (head, key) }
         requires start { IsStart (place_at self.now.places) head start }
         ensures previous { IsNearest down (place_at self.now.places) head (down key + 1) result.0 }
@@ -388,7 +452,8 @@ impl Lists {
 
     /// The end of the list whose key is nearer to `key`; None where the list is empty.
     fn nearer_end(&self, head: u32, key: u32) -> Option<u32>
-        requires { head < self.now.heads }
+        requires head { head < self.now.heads }
+        requires by_key { IsByKey head }
         ensures { IsStart (place_at self.now.places) head result }
     {
         let first = self.first_of(head)?;
@@ -403,6 +468,7 @@ impl Lists {
     /// The last node of the list with a key below `key` and what follows it, looked for from a node whose key is below.
     #[inline(always)]
     fn gap_behind(&self, head: u32, key: u32, from: u32) -> (u32, Option<u32>)
+        requires by_key { IsByKey head }
         requires fresh { (i : ℕ) → place_at self.now.places i ≢ Some (head, key) }
         requires from { (k : ℕ) × (place_at self.now.places from ≡ Some (head, k)) × (k < key) }
         ensures previous { IsNearest down (place_at self.now.places) head (down key + 1) (Some result.0) }
@@ -423,7 +489,8 @@ impl Lists {
 
     /// The first node of the list with a key above `key`, looked for behind a node whose key is not above it.
     fn first_above(&self, head: u32, key: u32, from: u32) -> Option<u32>
-        requires { (k : ℕ) × (place_at self.now.places from ≡ Some (head, k)) × (k ≤ key) }
+        requires by_key { IsByKey head }
+        requires from { (k : ℕ) × (place_at self.now.places from ≡ Some (head, k)) × (k ≤ key) }
         ensures { IsNearest up (place_at self.now.places) head (up key + 1) result }
     {
         let mut next = self.next_of(from);
@@ -438,7 +505,8 @@ impl Lists {
 
     /// The last node of the list with a key below `key`, looked for before a node whose key is not below it.
     fn last_below(&self, head: u32, key: u32, from: u32) -> Option<u32>
-        requires { (k : ℕ) × (place_at self.now.places from ≡ Some (head, k)) × (key ≤ k) }
+        requires by_key { IsByKey head }
+        requires from { (k : ℕ) × (place_at self.now.places from ≡ Some (head, k)) × (key ≤ k) }
         ensures { IsNearest down (place_at self.now.places) head (down key + 1) result }
     {
         let mut previous = self.previous_of(from);
@@ -454,8 +522,9 @@ impl Lists {
     /// The node after `previous`, or the first of the list where there is none.
     fn next_or_first(&self, head: u32, previous: Option<u32>) -> Option<u32>
         requires head { head < self.now.heads }
+        requires by_key { IsByKey head }
         requires placed { ForSome previous (λ i. IsSome (place_at self.now.places i)) }
-        ensures { MatchOption previous (IsNearest up (place_at self.now.places) head 0 result) (λ i. IsAfter up (place_at self.now.places) i result) }
+        ensures { MatchOption previous (IsNearest up (place_at self.now.places) head 0 result) (λ i. IsFollowing up (place_at self.now.places) i result) }
     {
         match previous {
             Some(node) => self.next_of(node),
@@ -466,8 +535,9 @@ impl Lists {
     /// The node before `next`, or the last of the list where there is none.
     fn previous_or_last(&self, head: u32, next: Option<u32>) -> Option<u32>
         requires head { head < self.now.heads }
+        requires by_key { IsByKey head }
         requires placed { ForSome next (λ i. IsSome (place_at self.now.places i)) }
-        ensures { MatchOption next (IsNearest down (place_at self.now.places) head 0 result) (λ i. IsAfter down (place_at self.now.places) i result) }
+        ensures { MatchOption next (IsNearest down (place_at self.now.places) head 0 result) (λ i. IsFollowing down (place_at self.now.places) i result) }
     {
         match next {
             Some(node) => self.previous_of(node),
@@ -482,15 +552,36 @@ impl Lists {
         self.nodes[node as usize].key
     }
 
-    fn first_of(&self, head: u32) -> Option<u32>
+    /// The node with the least key of the list, looked for among all nodes.
+    #[cold]
+    #[inline(never)]
+    fn least(&self, head: u32) -> Option<u32>
         requires { head < self.now.heads }
+        ensures { IsNearest up (place_at self.now.places) head 0 result }
+    {
+        self.laws();
+        let mut least = None;
+        let mut bound = 1 << 32;
+        for node in 0..self.nodes() {
+            if self.is_in(node, head) && u64::from(self.key_of(node)) < bound {
+                bound = self.key_of(node).into();
+                least = Some(node);
+            }
+        }
+        least
+    }
+
+    fn first_of(&self, head: u32) -> Option<u32>
+        requires head { head < self.now.heads }
+        requires by_key { IsByKey head }
         ensures { IsNearest up (place_at self.now.places) head 0 result }
     {
         self.heads[head as usize].first.get()
     }
 
     fn last_of(&self, head: u32) -> Option<u32>
-        requires { head < self.now.heads }
+        requires head { head < self.now.heads }
+        requires by_key { IsByKey head }
         ensures { IsNearest down (place_at self.now.places) head 0 result }
     {
         self.heads[head as usize].last.get()
@@ -498,16 +589,32 @@ impl Lists {
 
     fn next_of(&self, node: u32) -> Option<u32>
         requires { IsSome (place_at self.now.places node) }
-        ensures { IsAfter up (place_at self.now.places) node result }
+        ensures { IsFollowing up (place_at self.now.places) node result }
     {
         self.nodes[node as usize].next.get()
     }
 
     fn previous_of(&self, node: u32) -> Option<u32>
         requires { IsSome (place_at self.now.places node) }
-        ensures { IsAfter down (place_at self.now.places) node result }
+        ensures { IsFollowing down (place_at self.now.places) node result }
     {
         self.nodes[node as usize].previous.get()
+    }
+}
+
+/// The nodes of the gap; where there is no gap, the last node of the list and none.
+#[inline(always)]
+fn link_place(
+    heads: &[Head],
+    head: u32,
+    gap: Option<(Option<u32>, Option<u32>)>,
+) -> (Option<u32>, Option<u32>)
+    requires { head < length heads.now }
+    ensures { MatchOption gap (result ≡ ((head_at heads.now head).last, None)) (λ g. result ≡ g) }
+{
+    match gap {
+        Some(gap) => gap,
+        None => (heads[head as usize].last.get(), None),
     }
 }
 

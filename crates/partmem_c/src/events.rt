@@ -4,7 +4,8 @@ ghost use Rattle.std.specs.Prelude.{◌≡◌, ◌≢◌, ◌<◌, ◌≤◌, �
 ghost use Rattle.words_core.specs.Requests.{command_of, IsAskable, asks_bytes};
 ghost use Rattle.words_core.specs.declared.event.Event.TheVariants as Event;
 ghost use Rattle.words_core.specs.declared.event.Event.TheVariants.{Tenant};
-ghost use Rattle.words_core.specs.declared.event.Command.TheVariants.{Read};
+ghost use Rattle.words_core.specs.declared.event.Command.TheVariants.{Read, Report};
+ghost use Rattle.words_core.specs.declared.event.AdminCommand.TheVariants as AdminCommand;
 ghost use Rattle.kernel_core.specs.Steps.{HasPattern};
 ghost use Rattle.partmem_c.specs.Events.{asked_event, machine_status, status_of_event, event_status, AnswersEvent, RunsEvent};
 ghost use Rattle.partmem_c.specs.Events.{RunsApart, TellsNothing, ChangesNothing};
@@ -460,7 +461,7 @@ fn reap_event(alloc: Global, machine: &mut Machine, asked: &Asked, told: &mut To
     ask(alloc, machine, asked.tenant, Request::Reap, told)
 }
 
-/// [`partmem_event`] of any event, by way of a reply, which has room for the owners of all superblocks: all of that is cleared.
+/// [`partmem_event`] of any event.
 #[cold]
 #[inline(never)]
 fn rare_event(
@@ -485,11 +486,59 @@ fn rare_event(
         return NOT_AN_EVENT;
     };
     let mut kernel = machine.take_out(alloc);
-    let reply = kernel.step(&event);
+    *told = step(&mut kernel, &event, room);
     machine.put_in(kernel);
-    put(bytes_of_body(&reply.body), room, 0);
-    *told = told_of(&reply.body);
     DONE
+}
+
+/// Runs an event, puts the bytes that it tells over the first of `room`, and answers it in numbers.
+fn step(kernel: &mut Kernel, event: &Event, room: &mut [u8]) -> Told
+    requires pattern { HasPattern event.now }
+    requires room { MOST_BYTES ≤ length room.old }
+    ensures { AnswersEvent kernel.old event.now kernel.new result room.old room.new }
+{
+    match event {
+        Event::Admin(command) => match kernel.administer(command) {
+            Some(answer) => told_of_answer(answer),
+            None => pool(kernel, room),
+        },
+        Event::Tenant(tenant, Command::Report) => report(kernel, *tenant, room),
+        _ => step_whole(kernel, event, room),
+    }
+}
+
+/// Answers who owns each superblock. It is out of line, as all that makes a reply: that has room for the owners of all superblocks.
+#[inline(never)]
+fn pool(kernel: &Kernel, room: &mut [u8]) -> Told
+    requires { MOST_BYTES ≤ length room.old }
+    ensures { AnswersEvent kernel.now (Event.Admin AdminCommand.Pool) kernel.now result room.old room.new }
+{
+    let reply = kernel.pool();
+    put(bytes_of_body(&reply.body), room, 0);
+    told_of(&reply.body)
+}
+
+/// Answers the report of a tenant.
+#[inline(never)]
+fn report(kernel: &Kernel, tenant: u32, room: &mut [u8]) -> Told
+    requires { MOST_BYTES ≤ length room.old }
+    ensures { AnswersEvent kernel.now (Tenant tenant Report) kernel.now result room.old room.new }
+{
+    let reply = kernel.report(tenant);
+    put(bytes_of_body(&reply.body), room, 0);
+    told_of(&reply.body)
+}
+
+/// [`step`] of any event.
+#[inline(never)]
+fn step_whole(kernel: &mut Kernel, event: &Event, room: &mut [u8]) -> Told
+    requires pattern { HasPattern event.now }
+    requires room { MOST_BYTES ≤ length room.old }
+    ensures { AnswersEvent kernel.old event.now kernel.new result room.old room.new }
+{
+    let reply = kernel.step(event);
+    put(bytes_of_body(&reply.body), room, 0);
+    told_of(&reply.body)
 }
 
 /// Runs a request that asks for no bytes, and answers it in numbers.

@@ -4,8 +4,9 @@ ghost use Rattle.std.specs.Prelude.{◌≡◌, ◌≢◌, ℕ, ◌+◌, ◌*◌,
 ghost use Rattle.std.specs.Prelude.{IfSome, MatchOption, if◌then◌else◌};
 ghost use Rattle.words_core.specs.Grammar.{reading_of};
 ghost use Rattle.words_core.specs.Texts.{text_of};
-ghost use Rattle.words_core.specs.Requests.{command_of, reply_of_answer, HasFewBytes, IsAskable};
+ghost use Rattle.words_core.specs.Requests.{command_of, reply_of_answer, reply_to, HasFewBytes, IsAskable};
 ghost use Rattle.words_core.specs.declared.event.Event.TheVariants.{Tenant, Admin};
+ghost use Rattle.words_core.specs.declared.event.AdminCommand.TheVariants.{Pool};
 ghost use Rattle.words_core.specs.declared.event.Command.TheVariants.{Report};
 ghost use Rattle.words_core.specs.declared.reply.Addressee.TheVariants as Addressee;
 ghost use Rattle.words_core.specs.declared.reply.Body.TheVariants as Body;
@@ -16,15 +17,14 @@ ghost use Rattle.partmem_c.specs.Lines.{AnswersWhole, AnswersOrNot, RunsLine};
 
 use crate::machine::Machine;
 use crate::status::{DONE, NO_MACHINE, NO_ROOM, NOT_A_LINE};
-use arrayvec::ArrayVec;
 use kernel_core::Kernel;
 use model_core::limits::MOST_BYTES;
 use quick_core::{WINDOW, read_request};
 use std::alloc::Global;
 use words_core::{
-    Addressee, AdminCommand, Answer, Body, Event, LineFault, MOST_ANSWER_BYTES, MOST_REPLY_BYTES,
+    Addressee, AdminCommand, Answer, Event, LineFault, MOST_ANSWER_BYTES, MOST_REPLY_BYTES,
     MOST_ROWS, Refusal, Reply, Request, SHORT_ANSWER_BYTES, read_line, rows, write_answer,
-    write_line,
+    write_answer_to, write_row,
 };
 
 /// No line is answered by more bytes than these: the owners of all superblocks, with a line in front of them.
@@ -160,10 +160,58 @@ fn put_ended(line: &[u8], out: &mut [u8])
     put(b"\n", out, line.len());
 }
 
-/// Runs a request, and writes what it is answered over the first bytes of `room`; answers how many they are. [`run_line`] alone
-/// calls it: of a function that has one caller the compiler makes a part of it, however long it is.
+/// The commands that make up a load, by number.
+const ALLOC: usize = 0;
+
+const FREE: usize = 1;
+
+const TAKE: usize = 2;
+
+const GIVE: usize = 3;
+
+const READ: usize = 4;
+
+const WRITE: usize = 5;
+
+/// Runs a request, and writes what it is answered over the first bytes of `room`; answers how many they are.
 #[inline(always)]
 fn answer_request(tenant: u32, request: Request<'_>, kernel: &mut Kernel, room: &mut [u8]) -> usize
+    requires askable { IsAskable request }
+    requires room { IsWide room.old }
+    ensures { PutsAnswer kernel.old (Ok (Some (Tenant tenant (command_of request.entry)))) kernel.new room.old room.new result }
+{
+    match request {
+        Request::Alloc { order } => {
+            answer_as::<ALLOC>(tenant, Request::Alloc { order }, kernel, room)
+        }
+        Request::Free { frame } => {
+            answer_as::<FREE>(tenant, Request::Free { frame }, kernel, room)
+        }
+        Request::Take { cache } => {
+            answer_as::<TAKE>(tenant, Request::Take { cache }, kernel, room)
+        }
+        Request::Give { cache, place } => {
+            answer_as::<GIVE>(tenant, Request::Give { cache, place }, kernel, room)
+        }
+        Request::Read { place, len } => {
+            answer_as::<READ>(tenant, Request::Read { place, len }, kernel, room)
+        }
+        Request::Write { place, bytes } => {
+            answer_as::<WRITE>(tenant, Request::Write { place, bytes }, kernel, room)
+        }
+        rare => answer_apart(tenant, rare, kernel, room),
+    }
+}
+
+/// [`answer_request`] of one command, which `COMMAND` numbers. Each has a function of its own with one caller: of such a function the
+/// compiler makes a part of its caller, however long it is, and what the command may be answered is then known where that is written.
+#[inline]
+fn answer_as<const COMMAND: usize>(
+    tenant: u32,
+    request: Request<'_>,
+    kernel: &mut Kernel,
+    room: &mut [u8],
+) -> usize
     requires askable { IsAskable request }
     requires room { IsWide room.old }
     ensures { PutsAnswer kernel.old (Ok (Some (Tenant tenant (command_of request.entry)))) kernel.new room.old room.new result }
@@ -194,26 +242,24 @@ fn put_answer(tenant: u8, answer: Answer<'_>, room: &mut [u8]) -> usize
     requires room { IsWide room.old }
     ensures { IsTextWritten (text_of (reply_of_answer tenant answer.entry)) room.old room.new result }
 {
-    match answer {
-        Answer::Bytes(_) | Answer::Cache { .. } => put_long_answer(tenant, answer, room),
-        _ => {
-            let mut text = [0; SHORT_ANSWER_BYTES];
-            let len = write_answer(tenant, answer, &mut text);
-            put_short(&text[..len], room);
-            len
-        }
+    if answer.is_long() {
+        return put_long_answer(Addressee::Tenant(tenant), answer, room);
     }
+    let mut text = [0; SHORT_ANSWER_BYTES];
+    let len = write_answer(tenant, answer, &mut text);
+    put_short(&text[..len], room);
+    len
 }
 
-/// [`put_answer`] of a longer text; out of line, so that only it pays for its room.
+/// [`put_answer`] of a longer text, or to anyone; out of line, so that only it pays for its room.
 #[inline(never)]
-fn put_long_answer(tenant: u8, answer: Answer<'_>, room: &mut [u8]) -> usize
+fn put_long_answer(addressee: Addressee, answer: Answer<'_>, room: &mut [u8]) -> usize
     requires few { HasFewBytes answer }
     requires room { IsWide room.old }
-    ensures { IsTextWritten (text_of (reply_of_answer tenant answer.entry)) room.old room.new result }
+    ensures { IsTextWritten (text_of (reply_to addressee answer.entry)) room.old room.new result }
 {
     let mut text = [0; MOST_ANSWER_BYTES];
-    let len = write_answer(tenant, answer, &mut text);
+    let len = write_answer_to(addressee, answer, &mut text);
     put(&text[..len], room, 0);
     len
 }
@@ -225,11 +271,8 @@ fn put_no_tenant(room: &mut [u8]) -> usize
     ensures { IsTextWritten (text_of (record { addressee = Addressee.Nobody; body = Body.Refused NoTenant }))
         room.old room.new result }
 {
-    let reply = Reply {
-        addressee: Addressee::Nobody,
-        body: Body::Refused(Refusal::NoTenant),
-    };
-    put_reply(&reply, room)
+    let answer = Answer::Refused(Refusal::NoTenant);
+    put_long_answer(Addressee::Nobody, answer, room)
 }
 
 /// Runs a line that was read so, and writes what it is answered.
@@ -267,7 +310,19 @@ fn administer(command: &AdminCommand, kernel: &mut Kernel, room: &mut [u8]) -> u
     requires { IsWide room.old }
     ensures { PutsAnswer kernel.old (Ok (Some (Admin command.now))) kernel.new room.old room.new result }
 {
-    put_reply(&kernel.administer(command), room)
+    match kernel.administer(command) {
+        Some(answer) => put_long_answer(Addressee::Admin, answer, room),
+        None => put_pool(kernel, room),
+    }
+}
+
+#[cold]
+#[inline(never)]
+fn put_pool(kernel: &Kernel, room: &mut [u8]) -> usize
+    requires { IsWide room.old }
+    ensures { PutsAnswer kernel.now (Ok (Some (Admin Pool))) kernel.now room.old room.new result }
+{
+    put_reply(&kernel.pool(), room)
 }
 
 #[cold]
@@ -277,11 +332,7 @@ fn put_fault(fault: LineFault, room: &mut [u8]) -> usize
     ensures { IsTextWritten (text_of (record { addressee = Addressee.Nobody; body = Body.Fault fault }))
         room.old room.new result }
 {
-    let reply = Reply {
-        addressee: Addressee::Nobody,
-        body: Body::Fault(fault),
-    };
-    put_reply(&reply, room)
+    put_long_answer(Addressee::Nobody, Answer::Fault(fault), room)
 }
 
 /// Writes the text of a reply, line by line.
@@ -289,12 +340,12 @@ fn put_reply(reply: &Reply, room: &mut [u8]) -> usize
     requires { IsWide room.old }
     ensures { IsTextWritten (text_of reply.now) room.old room.new result }
 {
-    let mut line = ArrayVec::new();
+    let mut line = [0; MOST_REPLY_BYTES];
     let mut written = 0;
     for row in 0..rows(reply) {
-        write_line(reply, row, &mut line);
-        put(line.as_slice(), room, written);
-        written += line.len();
+        let len = write_row(reply, row, &mut line);
+        put(&line[..len], room, written);
+        written += len;
     }
     written
 }

@@ -28,53 +28,7 @@ pub fn told_of(body: &Body) -> Told
     ensures { result ≡ told_of body.now }
 {
     match body {
-        Body::Granted {
-            tenant,
-            slot,
-            superblock,
-        } => three(
-            GRANTED,
-            u32::from(*tenant),
-            u32::from(*slot),
-            u32::from(*superblock),
-        ),
-        Body::TakenBack(superblock) => one(TAKEN_BACK, u32::from(*superblock)),
-        Body::WasReset {
-            tenant,
-            superblocks,
-        } => three(WAS_RESET, u32::from(*tenant), u32::from(*superblocks), 0),
-        Body::Moved {
-            tenant,
-            slot,
-            superblock,
-        } => three(
-            MOVED,
-            u32::from(*tenant),
-            u32::from(*slot),
-            u32::from(*superblock),
-        ),
         Body::Owners(owners) => one(OWNERS, owners.len() as u32),
-        Body::Frame(frame) => told_of_answer(Answer::Frame(*frame)),
-        Body::Freed(order) => told_of_answer(Answer::Freed(*order)),
-        Body::Bytes(bytes) => told_of_answer(Answer::Bytes(bytes.as_slice())),
-        Body::Written(count) => told_of_answer(Answer::Written(*count)),
-        Body::Cache {
-            cache,
-            chunk,
-            order,
-            objects,
-            colours,
-        } => told_of_answer(Answer::Cache {
-            cache: *cache,
-            chunk: *chunk,
-            order: *order,
-            objects: *objects,
-            colours: *colours,
-        }),
-        Body::Destroyed(frames) => told_of_answer(Answer::Destroyed(*frames)),
-        Body::Object(place) => told_of_answer(Answer::Object(*place)),
-        Body::Given => told_of_answer(Answer::Given),
-        Body::Reaped(frames) => told_of_answer(Answer::Reaped(*frames)),
         Body::Report(report) => Told {
             kind: FIGURES,
             first: report.frames,
@@ -83,8 +37,7 @@ pub fn told_of(body: &Body) -> Told
             fourth: top_number(report.top),
             fifth: report.split,
         },
-        Body::Refused(refusal) => told_of_answer(Answer::Refused(*refusal)),
-        Body::Fault(_) => one(NOTHING, 0),
+        _ => told_of_answer(body.answer().unwrap()),
     }
 }
 
@@ -118,6 +71,32 @@ pub fn told_of_answer(answer: Answer<'_>) -> Told
         Answer::Given => one(GIVEN, 0),
         Answer::Reaped(frames) => one(REAPED, frames),
         Answer::Refused(refusal) => one(REFUSED, u32::from(refusal.number())),
+        Answer::Granted {
+            tenant,
+            slot,
+            superblock,
+        } => three(
+            GRANTED,
+            u32::from(tenant),
+            u32::from(slot),
+            u32::from(superblock),
+        ),
+        Answer::TakenBack(superblock) => one(TAKEN_BACK, u32::from(superblock)),
+        Answer::WasReset {
+            tenant,
+            superblocks,
+        } => three(WAS_RESET, u32::from(tenant), u32::from(superblocks), 0),
+        Answer::Moved {
+            tenant,
+            slot,
+            superblock,
+        } => three(
+            MOVED,
+            u32::from(tenant),
+            u32::from(slot),
+            u32::from(superblock),
+        ),
+        Answer::Fault(_) => one(NOTHING, 0),
     }
 }
 

@@ -15,9 +15,13 @@ pub record ReadsAs (bytes : List ℕ) (tenant : ℕ) (command : Command) (len : 
   pub ended : position (λ b. b == 10) bytes ≡ Some (len - 1)
   pub reading : reading_of (take (len - 1) bytes) ≡ Ok (Some (Tenant tenant command))
 
--- the number of a tenant, a blank, and the first four letters of a command
-pub record BeginsLine (bytes : List ℕ) (tenant : Number) (four : List ℕ) : Type 0 where
+-- the number of a tenant, and a blank
+pub record NamesTenant (bytes : List ℕ) (tenant : Number) : Type 0 where
   pub number : number_of (slice_range bytes 0 tenant.end) ≡ Some tenant.value
   pub short : tenant.end ≤ MOST_TENANT_DIGITS
   pub blank : slice_index bytes tenant.end ≡ 32
+
+-- then the first four letters of a command
+pub record BeginsLine (bytes : List ℕ) (tenant : Number) (four : List ℕ) : Type 0 where
+  pub names : NamesTenant bytes tenant
   pub letters : slice_range bytes (tenant.end + 1) (tenant.end + 5) ≡ four

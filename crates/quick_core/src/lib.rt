@@ -8,4 +8,5 @@ mod decode;
 mod number;
 mod request;
 
-pub use request::{RequestLine, WINDOW, read_request};
+pub use number::Number;
+pub use request::{RequestLine, WINDOW, read_known_request, read_request, read_tenant};

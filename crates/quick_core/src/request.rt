@@ -7,7 +7,7 @@ ghost use Rattle.words_core.specs.Grammar.{reading_of};
 ghost use Rattle.words_core.specs.Numbers.{number_of};
 ghost use Rattle.words_core.specs.Requests.{command_of, IsAskable};
 ghost use Rattle.words_core.specs.declared.event.Event.TheVariants.{Tenant};
-ghost use Rattle.quick_core.specs.Lines.{BeginsLine, ReadsAs};
+ghost use Rattle.quick_core.specs.Lines.{BeginsLine, NamesTenant, ReadsAs};
 
 use crate::decode::decode_at;
 use crate::number::{MOST_READ_DIGITS, Number, number_at};
@@ -48,13 +48,36 @@ pub fn read_request<'a>(bytes: &[u8], room: &'a mut [u8; MOST_BYTES]) -> Option<
     ensures reads { IfSome result (λ line. ReadsAs bytes.now line.tenant (command_of line.request) line.len) }
     ensures askable { IfSome result (λ line. IsAskable line.request) }
 {
+    let tenant = read_tenant(bytes)?;
+    read_known_request(bytes, tenant, room)
+}
+
+/// The number of the tenant that a line at the front of these bytes names, with a blank behind it.
+#[inline(always)]
+pub fn read_tenant(bytes: &[u8]) -> Option<Number>
+    ensures size { IfSome result (λ tenant. WINDOW ≤ length bytes.now) }
+    ensures names { IfSome result (λ tenant. NamesTenant bytes.now tenant) }
+{
     if bytes.len() < WINDOW {
         return None;
     }
     let tenant = number_at(bytes, 0, MOST_TENANT_DIGITS)?;
-    if bytes[tenant.end] != b' ' {
-        return None;
-    }
+    (bytes[tenant.end] == b' ').then_some(tenant)
+}
+
+/// [`read_request`] of a line whose tenant is known: what stands behind that number.
+#[inline(always)]
+pub fn read_known_request<'a>(
+    bytes: &[u8],
+    tenant: Number,
+    room: &'a mut [u8; MOST_BYTES],
+) -> Option<RequestLine<'a>>
+    requires size { WINDOW ≤ length bytes.now }
+    requires names { NamesTenant bytes.now tenant }
+    ensures reads { IfSome result (λ line. ReadsAs bytes.now line.tenant (command_of line.request) line.len) }
+    ensures tenant { IfSome result (λ line. line.tenant ≡ tenant.value) }
+    ensures askable { IfSome result (λ line. IsAskable line.request) }
+{
     match four_at(bytes, tenant.end + 1) {
         ALLO => alloc_line(bytes, tenant),
         FREE => free_line(bytes, tenant),
@@ -93,6 +116,7 @@ fn alloc_line(bytes: &[u8], tenant: Number) -> Option<RequestLine<'static>>
     requires size { WINDOW ≤ length bytes.now }
     requires begins { BeginsLine bytes.now tenant (codes "allo") }
     ensures reads { IfSome result (λ line. ReadsAs bytes.now line.tenant (command_of line.request) line.len) }
+    ensures tenant { IfSome result (λ line. line.tenant ≡ tenant.value) }
     ensures askable { IfSome result (λ line. IsAskable line.request) }
 {
     one_case();
@@ -113,6 +137,7 @@ fn free_line(bytes: &[u8], tenant: Number) -> Option<RequestLine<'static>>
     requires size { WINDOW ≤ length bytes.now }
     requires begins { BeginsLine bytes.now tenant (codes "free") }
     ensures reads { IfSome result (λ line. ReadsAs bytes.now line.tenant (command_of line.request) line.len) }
+    ensures tenant { IfSome result (λ line. line.tenant ≡ tenant.value) }
     ensures askable { IfSome result (λ line. IsAskable line.request) }
 {
     one_case();
@@ -133,6 +158,7 @@ fn take_line(bytes: &[u8], tenant: Number) -> Option<RequestLine<'static>>
     requires size { WINDOW ≤ length bytes.now }
     requires begins { BeginsLine bytes.now tenant (codes "take") }
     ensures reads { IfSome result (λ line. ReadsAs bytes.now line.tenant (command_of line.request) line.len) }
+    ensures tenant { IfSome result (λ line. line.tenant ≡ tenant.value) }
     ensures askable { IfSome result (λ line. IsAskable line.request) }
 {
     one_case();
@@ -153,6 +179,7 @@ fn give_line(bytes: &[u8], tenant: Number) -> Option<RequestLine<'static>>
     requires size { WINDOW ≤ length bytes.now }
     requires begins { BeginsLine bytes.now tenant (codes "give") }
     ensures reads { IfSome result (λ line. ReadsAs bytes.now line.tenant (command_of line.request) line.len) }
+    ensures tenant { IfSome result (λ line. line.tenant ≡ tenant.value) }
     ensures askable { IfSome result (λ line. IsAskable line.request) }
 {
     one_case();
@@ -180,6 +207,7 @@ fn read_line(bytes: &[u8], tenant: Number) -> Option<RequestLine<'static>>
     requires size { WINDOW ≤ length bytes.now }
     requires begins { BeginsLine bytes.now tenant (codes "read") }
     ensures reads { IfSome result (λ line. ReadsAs bytes.now line.tenant (command_of line.request) line.len) }
+    ensures tenant { IfSome result (λ line. line.tenant ≡ tenant.value) }
     ensures askable { IfSome result (λ line. IsAskable line.request) }
 {
     one_case();
@@ -212,6 +240,7 @@ fn write_line<'a>(
     requires size { WINDOW ≤ length bytes.now }
     requires begins { BeginsLine bytes.now tenant (codes "writ") }
     ensures reads { IfSome result (λ line. ReadsAs bytes.now line.tenant (command_of line.request) line.len) }
+    ensures tenant { IfSome result (λ line. line.tenant ≡ tenant.value) }
     ensures askable { IfSome result (λ line. IsAskable line.request) }
 {
     one_case();

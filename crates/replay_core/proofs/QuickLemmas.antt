@@ -1,5 +1,5 @@
 -- A line at the front of a piece.
-use Rattle.std.proofs.Common.{◌≡◌, ℕ, ◌+◌, ◌-◌, ◌<◌, Bool, List, [], ◌++◌, Option, Some, take, drop, ap, sym, subst, ◌∙◌, arith}
+use Rattle.std.proofs.Common.{◌≡◌, ℕ, ◌+◌, ◌-◌, ◌<◌, ◌≤◌, Bool, List, [], ◌++◌, Option, Some, length, take, drop, ap, sym, subst, ◌∙◌, arith, length-drop}
 use Rattle.std.specs.Prelude.{Result, Ok, Err}
 use Rattle.words_core.specs.declared.event.Event.{Event}
 use Rattle.words_core.specs.declared.event.Event.TheVariants.{Tenant}
@@ -51,3 +51,7 @@ line_stopped only before now next given rest start old new failing pending run r
     let none = holds stands.tail stands.holds in
     stopped_within only before now next given rest (take end rest) (drop (end + 1) rest) start old new failing pending run run' stopped stands
     (Ok (Some (Tenant tenant command))) found.0 found.1 (whole_line stands.tail (take end rest) _ none read.reading) answered
+
+-- what is left behind the line, and the line
+pub left_over : (rest : List ℕ) (len : ℕ) → len ≤ length rest → length (drop len rest) + len ≡ length rest
+left_over rest len within = omega (arith, length-drop len rest)

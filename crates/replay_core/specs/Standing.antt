@@ -3,7 +3,10 @@ use Rattle.std.specs.Prelude.{◌≡◌, ℕ, ◌+◌, ◌^◌, ◌<◌, ◌==�
 use Rattle.std.specs.Prelude.{Option, Some, None, Result, Ok, Err, is_err}
 use Rattle.std.specs.Io.KnownBytes.{Appends}
 use Rattle.words_core.specs.declared.event.Event.{Event}
+use Rattle.words_core.specs.declared.event.Event.TheVariants.{Tenant}
+use Rattle.words_core.specs.declared.event.Command.{Command}
 use Rattle.words_core.specs.declared.event.LineFault.{LineFault}
+use Rattle.quick_core.specs.Lines.{ReadsAs}
 use Rattle.parts_core.specs.Parts.{Parts, SameSizes}
 use Rattle.kernel_core.specs.Shows.{Shows}
 use Rattle.kernel_core.specs.Steps.{HasPattern}
@@ -58,6 +61,14 @@ pub record HasAnswered (reading : Result (Option Event) LineFault) (before after
   pub faults : run'.faults ≡ run.faults + fault_in reading
   pub written : run'.replies.written ≡ run.replies.written + length taken
   pub same : run'.replies.only ≡ run.replies.only
+
+-- nothing was done, or the line of so many bytes at the front was a command of a tenant, which was run and answered in full
+abbrev pub HasAnsweredLine : List ℕ → Parts → Parts → Option (List ℕ) → Option (List ℕ) → Bool → Run → Run → Option ℕ → Type 0
+HasAnsweredLine bytes before after old new failing run run' None =
+    (after ≡ before) × (new ≡ old) × (failing ≡ false) × (run' ≡ run)
+HasAnsweredLine bytes before after old new failing run run' (Some len) = (tenant : ℕ) × (command : Command)
+    × ReadsAs bytes tenant command len
+    × HasAnswered (Ok (Some (Tenant tenant command))) before after old new failing run run' (Ok tt)
 
 -- Of what was given the lines that ended are done, the beginning of the next is held, and the rest is to come.
 pub record Stands (only : Option ℕ) (before now : Parts) (given rest : List ℕ) (start contents : Option (List ℕ))

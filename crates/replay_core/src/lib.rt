@@ -2,12 +2,13 @@
 //! an end fails.
 #![tactic(auto)]
 
+mod answer_line;
 mod pending;
 mod quick;
 mod replaying;
 mod replies;
 mod run;
 
-pub use ends::{Drain, Feed, ReaderFeed, ReplayError, Stopped, Tally, WriterDrain};
+pub use ends::{Drain, Feed, ReaderFeed, ReplayError, Stopped, Tally, Text, WriterDrain};
 pub use pending::{Pending, line_end};
 pub use replaying::replay;

@@ -19,8 +19,7 @@ use words_core::Request;
 
 impl Run {
     /// Runs the lines at the front of a piece as long as they are read the short way, and answers the rest of the piece. No
-    /// beginning of a line may be pending. By itself, so that its loop has all registers.
-    #[inline(never)]
+    /// beginning of a line may be pending.
     pub fn run_quick_lines<'a, D: Drain>(
         &mut self,
         piece: &'a [u8],
@@ -38,39 +37,16 @@ impl Run {
     {
         // What a write stores: one room for all lines, filled anew by each.
         let mut room = [0; MOST_BYTES];
-        let mut rest = piece;
+        let mut rest = self.run_in_place(piece, kernel, drain);
         'lines: while let Some(line) = read_request(rest, &mut room) {
             let len = line.len;
-            self.answer_request(line.tenant, line.request, kernel, drain)?;
-            rest = &rest[len..];
+            self.answer_apart(line.tenant, line.request, kernel, drain)?;
+            rest = self.run_in_place(&rest[len..], kernel, drain);
         }
         Ok(rest)
     }
 
-    /// Runs a request that was read off a line, counts the line, and pushes what it shows. The loop alone calls it: of a function
-    /// that has one caller the compiler makes a part of it, however long it is.
-    #[inline(always)]
-    fn answer_request<D: Drain>(
-        &mut self,
-        tenant: u32,
-        request: Request<'_>,
-        kernel: &mut Kernel,
-        drain: &mut D,
-    ) -> Result<(), Stopped>
-        requires askable { IsAskable request }
-        requires ready { IsReady (D.has_failed drain.old) self.old 1 }
-        ensures { HasAnswered (Ok (Some (Tenant tenant (command_of request.entry)))) kernel.old kernel.new
-            (D.contents drain.old) (D.contents drain.new) (D.has_failed drain.new) self.old self.new result }
-    {
-        self.lines += 1;
-        self.events += 1;
-        match kernel.ask(tenant, request) {
-            Some((t, answer)) => self.replies.show_answer(t, answer, drain),
-            None => self.replies.show_no_tenant(drain),
-        }
-    }
-
-    /// [`Run::answer_request`] for all others.
+    /// Runs a request that was read off a line, counts the line, and pushes what it shows.
     #[inline(never)]
     pub fn answer_apart<D: Drain>(
         &mut self,

@@ -1,25 +1,26 @@
 //! The replies of a replay, into a drain.
 
-ghost use Rattle.std.specs.Prelude.{◌≡◌, ◌+◌, ◌<◌, ◌≤◌, length, take};
+ghost use Rattle.std.specs.Prelude.{◌≡◌, ◌+◌, ◌≤◌, true, Ok, length};
 ghost use Rattle.words_core.specs.declared.event.Event.TheVariants as Event;
+ghost use Rattle.words_core.specs.declared.event.AdminCommand.TheVariants as AdminCommand;
 ghost use Rattle.words_core.specs.declared.event.Command.TheVariants as Command;
 ghost use Rattle.words_core.specs.declared.reply.Reply.{Reply};
 ghost use Rattle.words_core.specs.declared.reply.Addressee.TheVariants as Addressee;
 ghost use Rattle.words_core.specs.declared.reply.Body.TheVariants as Body;
 ghost use Rattle.words_core.specs.declared.reply.Refusal.TheVariants.{NoTenant};
-ghost use Rattle.words_core.specs.Requests.{reply_of_answer, HasFewBytes};
+ghost use Rattle.words_core.specs.Requests.{reply_of_answer, reply_to, HasFewBytes};
 ghost use Rattle.words_core.specs.Texts.{text_of};
 ghost use Rattle.kernel_core.specs.Steps.{Steps};
 ghost use Rattle.world_core.specs.Output.{is_shown, shown_text};
 ghost use Rattle.replay_core.specs.Pushes.{HasRoomToWrite, HasPushed, most_reply_bytes};
 ghost use Rattle.replay_core.specs.Shown.{HasShown};
 
-use arrayvec::ArrayVec;
-use ends::{Drain, SHORT_BYTES, Stopped};
+use ends::{Drain, Stopped, TEXT_BYTES, Text};
 use kernel_core::Kernel;
+use std::marker::Model;
 use words_core::{
-    Addressee, AdminCommand, Answer, Body, LineFault, MOST_ANSWER_BYTES, MOST_REPLY_BYTES, Refusal,
-    Reply, rows, write_answer, write_line,
+    Addressee, AdminCommand, Answer, LineFault, MOST_ANSWER_BYTES, MOST_REPLY_BYTES, Refusal,
+    Reply, rows, write_answer, write_answer_to, write_row,
 };
 
 /// The replies of a replay: those to one tenant alone are shown, or all, and the bytes that the drain took are counted.
@@ -27,8 +28,6 @@ use words_core::{
 pub struct Replies {
     pub only: Option<u8>,
     pub written: u128,
-    // Each line of a reply is written here.
-    line: ArrayVec<u8, MOST_REPLY_BYTES>,
 }
 
 impl Replies {
@@ -37,15 +36,12 @@ impl Replies {
         ensures only { result.only ≡ only }
         ensures none { result.written ≡ 0 }
     {
-        Replies {
-            only,
-            written: 0,
-            line: ArrayVec::new(),
-        }
+        Replies { only, written: 0 }
     }
 
     /// Replies to this addressee are shown.
-    fn is_shown(&self, addressee: Addressee) -> bool
+    #[inline(always)]
+    pub fn is_shown(&self, addressee: Addressee) -> bool
         ensures { result ≡ is_shown self.now.only addressee }
     {
         match (self.only, addressee) {
@@ -55,8 +51,21 @@ impl Replies {
         }
     }
 
-    /// Pushes what a tenant is answered, a short text at once where the drain has room at hand.
+    /// Writes what a tenant is answered where it stays, which is shown, and counts its bytes.
     #[inline(always)]
+    pub fn show_in_place<D: Drain>(&mut self, tenant: u8, answer: Answer<'_>, drain: &mut D)
+        requires few { HasFewBytes answer }
+        requires shown { is_shown self.old.only (Addressee.Tenant tenant) ≡ true }
+        requires space { D.is_roomy drain.old ≡ true }
+        requires room { HasRoomToWrite (D.has_failed drain.old) self.old.written most_reply_bytes }
+        ensures { HasShown (D.contents drain.old) (D.contents drain.new) (D.has_failed drain.new)
+            (shown_text self.old.only (reply_of_answer tenant answer.entry)) self.old self.new (Ok tt) }
+    {
+        let len = drain.take_text(AnswerText { tenant, answer });
+        self.written += len as u128;
+    }
+
+    /// Pushes what a tenant is answered.
     pub fn show_answer<D: Drain>(
         &mut self,
         tenant: u8,
@@ -68,36 +77,28 @@ impl Replies {
         ensures { HasShown (D.contents drain.old) (D.contents drain.new) (D.has_failed drain.new)
             (shown_text self.old.only (reply_of_answer tenant answer.entry)) self.old self.new result }
     {
-        if !self.is_shown(Addressee::Tenant(tenant)) {
-            return Ok(());
-        }
-        match answer {
-            Answer::Bytes(_) | Answer::Cache { .. } => self.show_long(tenant, answer, drain),
-            _ => {
-                let mut text = [0; SHORT_BYTES];
-                let len = write_answer(tenant, answer, &mut text);
-                push_short(&text, len, drain, &mut self.written)
-            }
-        }
+        self.show_to(Addressee::Tenant(tenant), answer, drain)
     }
 
-    /// [`Replies::show_answer`] of a longer text; out of line, so that only it pays for its room.
+    /// Pushes an answer to anyone, by way of the room that the longest takes.
+    #[cold]
     #[inline(never)]
-    fn show_long<D: Drain>(
+    fn show_to<D: Drain>(
         &mut self,
-        tenant: u8,
+        addressee: Addressee,
         answer: Answer<'_>,
         drain: &mut D,
     ) -> Result<(), Stopped>
         requires few { HasFewBytes answer }
         requires room { HasRoomToWrite (D.has_failed drain.old) self.old.written most_reply_bytes }
-        ensures pushed { HasPushed (D.contents drain.old) (D.contents drain.new) (D.has_failed drain.new)
-            (text_of (reply_of_answer tenant answer.entry)) self.old.written self.new.written result }
-        ensures few { self.new.written ≤ self.old.written + most_reply_bytes }
-        ensures same { self.new.only ≡ self.old.only }
+        ensures { HasShown (D.contents drain.old) (D.contents drain.new) (D.has_failed drain.new)
+            (shown_text self.old.only (reply_to addressee answer.entry)) self.old self.new result }
     {
+        if !self.is_shown(addressee) {
+            return Ok(());
+        }
         let mut text = [0; MOST_ANSWER_BYTES];
-        let len = write_answer(tenant, answer, &mut text);
+        let len = write_answer_to(addressee, answer, &mut text);
         push_all(&text[..len], drain, &mut self.written)
     }
 
@@ -112,9 +113,10 @@ impl Replies {
         if !self.is_shown(reply.addressee) {
             return Ok(());
         }
+        let mut text = [0; MOST_REPLY_BYTES];
         for row in 0..rows(reply) {
-            write_line(reply, row, &mut self.line);
-            push_all(self.line.as_slice(), drain, &mut self.written)?;
+            let len = write_row(reply, row, &mut text);
+            push_all(&text[..len], drain, &mut self.written)?;
         }
         Ok(())
     }
@@ -137,7 +139,7 @@ impl Replies {
         self.show(&reply, drain)
     }
 
-    /// Runs a command of the administrator, and pushes what it shows; by itself, as a report is.
+    /// Runs a command of the administrator, and pushes what it shows.
     #[cold]
     #[inline(never)]
     pub fn administer<D: Drain>(
@@ -151,7 +153,22 @@ impl Replies {
             × HasShown (D.contents drain.old) (D.contents drain.new) (D.has_failed drain.new)
             (shown_text self.old.only reply) self.old self.new result }
     {
-        let reply = kernel.administer(command);
+        match kernel.administer(command) {
+            Some(answer) => self.show_to(Addressee::Admin, answer, drain),
+            None => self.show_pool(kernel, drain),
+        }
+    }
+
+    /// Pushes who owns each superblock; by itself, as a report is.
+    #[cold]
+    #[inline(never)]
+    fn show_pool<D: Drain>(&mut self, kernel: &Kernel, drain: &mut D) -> Result<(), Stopped>
+        requires { HasRoomToWrite (D.has_failed drain.old) self.old.written most_reply_bytes }
+        ensures { (reply : Reply) × Steps kernel.now (Event.Admin AdminCommand.Pool) kernel.now reply
+            × HasShown (D.contents drain.old) (D.contents drain.new) (D.has_failed drain.new)
+            (shown_text self.old.only reply) self.old self.new result }
+    {
+        let reply = kernel.pool();
         self.show(&reply, drain)
     }
 
@@ -164,11 +181,7 @@ impl Replies {
             (shown_text self.old.only (record { addressee = Addressee.Nobody; body = Body.Fault fault }))
             self.old self.new result }
     {
-        let reply = Reply {
-            addressee: Addressee::Nobody,
-            body: Body::Fault(fault),
-        };
-        self.show(&reply, drain)
+        self.show_to(Addressee::Nobody, Answer::Fault(fault), drain)
     }
 
     /// Pushes the answer to a command of a number that is no tenant, which is to nobody.
@@ -180,43 +193,36 @@ impl Replies {
             (shown_text self.old.only (record { addressee = Addressee.Nobody; body = Body.Refused NoTenant }))
             self.old self.new result }
     {
-        let reply = Reply {
-            addressee: Addressee::Nobody,
-            body: Body::Refused(Refusal::NoTenant),
-        };
-        self.show(&reply, drain)
+        self.show_to(Addressee::Nobody, Answer::Refused(Refusal::NoTenant), drain)
     }
 }
 
-/// Pushes the first `len` bytes of a short text, at once where the drain has room at hand.
-#[inline(always)]
-fn push_short<D: Drain>(
-    text: &[u8; SHORT_BYTES],
-    len: usize,
-    drain: &mut D,
-    written: &mut u128,
-) -> Result<(), Stopped>
-    requires within { len ≤ SHORT_BYTES }
-    requires room { HasRoomToWrite (D.has_failed drain.old) written.old len }
-    ensures { HasPushed (D.contents drain.old) (D.contents drain.new) (D.has_failed drain.new)
-        (take len text.now) written.old written.new result }
-{
-    if drain.take_short(text, len) {
-        *written += len as u128;
-        return Ok(());
-    }
-    push_rest(&text[..len], drain, written)
+/// The line of an answer to a tenant.
+#[derive(Drop)]
+struct AnswerText<'a> {
+    tenant: u8,
+    answer: Answer<'a>,
 }
 
-/// [`push_all`] out of line, which keeps its loop out of the path of a text that is taken at once.
-#[cold]
-#[inline(never)]
-fn push_rest<D: Drain>(bytes: &[u8], drain: &mut D, written: &mut u128) -> Result<(), Stopped>
-    requires { HasRoomToWrite (D.has_failed drain.old) written.old (length bytes.now) }
-    ensures { HasPushed (D.contents drain.old) (D.contents drain.new) (D.has_failed drain.new)
-        bytes.now written.old written.new result }
-{
-    push_all(bytes, drain, written)
+impl<'a> Model for AnswerText<'a> {
+    ghost use Rattle.std.specs.Prelude.{ℕ, List};
+    ghost use Rattle.words_core.specs.Requests.{reply_of_answer, HasFewBytes};
+    ghost use Rattle.words_core.specs.Texts.{text_of};
+
+    ghost Value = { List ℕ };
+
+    ghost view = { λ a. text_of (reply_of_answer a.tenant a.answer) };
+
+    ghost invariant = { λ a. HasFewBytes a.answer };
+}
+
+impl Text for AnswerText<'_> {
+    ghost bytes = { λ text. text };
+
+    #[inline(always)]
+    fn write(self, room: &mut [u8]) -> usize {
+        write_answer(self.tenant, self.answer, room)
+    }
 }
 
 /// Pushes all of the bytes, the rest again after a push that took less, and counts those that were taken.

@@ -112,6 +112,12 @@ fn put_answer(answer: Answer<'_>, body: &mut Body)
         Answer::Given => *body = Body::Given,
         Answer::Reaped(frames) => *body = Body::Reaped(frames),
         Answer::Refused(refusal) => *body = Body::Refused(refusal),
+        // No tenant is told these.
+        Answer::Granted { .. }
+        | Answer::TakenBack(_)
+        | Answer::WasReset { .. }
+        | Answer::Moved { .. }
+        | Answer::Fault(_) => *body = answer.into_body(),
     }
 }
 

@@ -2,17 +2,15 @@
 use Rattle.std.proofs.Common.{◌≡◌, ℕ, ◌+◌, ◌<◌, ◌≤◌, cond, ltb, List, [], ◌∷◌, ◌++◌, map, Some, None, refl, sym, ap, ◌∙◌, inl, inr, arith}
 use Rattle.std.specs.Prelude.{filter, Option, option_map}
 use Rattle.std.proofs.lemmas.Bool.{cases_eq, cases_lt, lt-ltb, le-ltb}
-use Rattle.model_core.specs.declared.limits.TheConstants.{MOST_CACHES}
 use Rattle.model_core.specs.WellFormed.{RisesFrom}
 use Rattle.model_core.specs.Machine.{Cache, Machine}
 use Rattle.model_core.specs.Elements.{IsIn}
 use Rattle.space_core.specs.Content as spaces
 use Rattle.buddy_core.specs.Content as buddies
-use Rattle.slab_tables.specs.Content.{Content}
+use Rattle.slab_tables.specs.Content.{Content, cache_at}
 use Rattle.parts_laws.specs.Shows.{ShowsMachine}
-use Rattle.parts_laws.proofs.Lookups.{some_none, some_same, at, at_here, at_past, in_found}
-use Rattle.parts_laws.proofs.Facts.{cache_kept}
-use Rattle.parts_laws.proofs.Steady.{in_table}
+use Rattle.parts_laws.proofs.Lookups.{some_none, some_same, at, at_here, at_past}
+use Rattle.slab_core.proofs.ReturnFrames.{numbers_below}
 use Rattle.model_core.specs.declared.report.CacheRow.{CacheRow}
 use Rattle.model_core.specs.Reports.{row_of_cache}
 
@@ -77,8 +75,7 @@ pub not_pushed : (rows : List CacheRow) (xs : List Cache) (o : Option Cache) →
 not_pushed rows xs None e same = same ∙ ap (map row_of_cache) (no_more xs)
 not_pushed rows xs (Some x) e same = absurd (some_none (sym e))
 
--- all caches have a number below the most
-pub all_caches : (r : spaces.Content) (b : buddies.Content) (s : Content) (t : ℕ) (m : Machine) → ShowsMachine r b s t m → below (λ x. x.number) MOST_CACHES m.caches ≡ m.caches
-all_caches r b s t m h = all_below (λ x. x.number) MOST_CACHES m.caches (λ x i.
-    let is = cache_kept r b s t m h x.number x (in_found (λ z. z.number) 0 x m.caches h.caches_rise i) in
-    (in_table s t x.number is.kept is.cached).number)
+-- all caches have a number below one from which there is none
+pub all_caches : (r : spaces.Content) (b : buddies.Content) (s : Content) (t end : ℕ) (m : Machine) → ((c : ℕ) → end ≤ c → cache_at s t c ≡ None)
+    → ShowsMachine r b s t m → below (λ x. x.number) end m.caches ≡ m.caches
+all_caches r b s t end m none h = all_below (λ x. x.number) end m.caches (numbers_below r b s t end m none h)

@@ -10,8 +10,7 @@ use Rattle.model_core.specs.CacheOperations.{frames_of}
 use Rattle.model_core.specs.WellFormed.{RisesFrom}
 use Rattle.model_core.specs.Elements.{IsIn}
 use Rattle.model_core.specs.Blocks.{Block}
-use Rattle.parts_laws.proofs.Lookups.{at, at_here, at_past, in_found}
-use Rattle.model_core.specs.declared.limits.TheConstants.{MOST_CACHES}
+use Rattle.parts_laws.proofs.Lookups.{some_none, at, at_here, at_past, in_found}
 use Rattle.klist_core.specs.Places.{ArePlaces}
 use Rattle.klist_core.specs.Lists.{keys_of}
 use Rattle.space_core.specs.Content as spaces
@@ -21,7 +20,6 @@ use Rattle.slab_tables.specs.Content.{Content, IsSlabs, cache_at, head_of, layou
 use Rattle.parts_laws.specs.Shows.{ShowsMachine, Agree}
 use Rattle.parts_laws.specs.Steady.{IsSteady}
 use Rattle.parts_laws.proofs.Facts.{cache_shown, cache_kept}
-use Rattle.parts_laws.proofs.Steady.{in_table}
 use Rattle.parts_laws.proofs.KindLists.{kinds_hold}
 use Rattle.slab_core.specs.Calls.{empty_frames_in}
 
@@ -123,9 +121,9 @@ frames_counted s t c count cache w table cached counted r b m a st h =
     ap empty_frames_in there.cached ∙ frames_each x (filter is_empty x.slabs)
     ∙ ap (λ n. n * 2 ^ (layout x).order) (sym long) ∙ ap (λ l. count * 2 ^ l.order) there.layout
 
--- the tenant's caches have layout_numbers below the most
-pub numbers_below : (r : spaces.Content) (b : buddies.Content) (s : Content) (t : ℕ) (m : Machine) → ShowsMachine r b s t m
-    → (x : Cache) → IsIn x m.caches → x.number < MOST_CACHES
-numbers_below r b s t m h x i =
+-- the tenant's caches have numbers below one from which there is none
+pub numbers_below : (r : spaces.Content) (b : buddies.Content) (s : Content) (t end : ℕ) (m : Machine) → ((c : ℕ) → end ≤ c → cache_at s t c ≡ None)
+    → ShowsMachine r b s t m → (x : Cache) → IsIn x m.caches → x.number < end
+numbers_below r b s t end m none h x i =
     let there = cache_kept r b s t m h x.number x (in_found (λ y. y.number) 0 x m.caches h.caches_rise i) in
-    (in_table s t x.number there.kept there.cached).number
+    ⊎_elim (λ low. low) (λ high. absurd (some_none (sym there.cached ∙ none x.number high))) (cases_lt x.number end)

@@ -1,7 +1,8 @@
 -- The search around the empty slabs of one cache.
-use Rattle.std.proofs.Common.{◌≡◌, ℕ, ◌*◌, ◌-◌, ◌^◌, ◌<◌, ◌≤◌, Some, None, Bool, eqb, ◌||◌, sym, ap, ◌∙◌, subst, inl, inr, ⊎_elim, arith}
-use Rattle.std.specs.Prelude.{Option, List, IfSome, MatchOption}
-use Rattle.std.proofs.Math.Nat.{div-mul-le_self}
+use Rattle.std.proofs.Common.{◌≡◌, ℕ, ◌*◌, ◌-◌, ◌/◌, ◌^◌, ◌<◌, ◌≤◌, length, Some, None, Bool, eqb, ◌||◌, sym, ap, ◌∙◌, subst, inl, inr, ⊎_elim, arith}
+use Rattle.std.specs.Prelude.{Option, List, IfSome, MatchOption, is_some}
+use Rattle.std.proofs.Math.Nat.{div-mul-le_self, div-lt_iff_lt-mul}
+use Rattle.std.proofs.lemmas.Nat.{pow_pos}
 use Rattle.std.proofs.lemmas.Bool.{cases_lt, cases_eq, ne_eqb}
 use Rattle.model_core.specs.Blocks.{around}
 use Rattle.model_core.specs.declared.limits.TheConstants.{MOST_CACHES}
@@ -12,6 +13,7 @@ use Rattle.slab_tables.specs.Content.{Content, IsSlabs, head_of}
 use Rattle.parts_laws.specs.Shows.{Agree}
 use Rattle.parts_laws.specs.Steady.{IsSteady}
 use Rattle.slab_core.specs.Room.{IsUnusedBlock, HasRoomAround, AreRefused}
+use Rattle.slab_core.proofs.RoomFree.{held_within}
 use Rattle.slab_core.proofs.RoomFrames.{listed_taken}
 
 -- how far the search has to go yet
@@ -43,6 +45,14 @@ module _ (r : spaces.Content) (b : buddies.Content) (s : Content) (t c k : ℕ) 
   module _ (slab node : ℕ) (here : IsNextSlab slab node) where
     pub slab_small : IsSlabs s → Agree r b s → IsSteady r b s t → c < MOST_CACHES → slab < 65536
     slab_small w a st less = let taken = listed_taken r b s t c slab node w a less here.placed in st.few slab taken.0 taken.1
+
+    -- the machine has its first frame
+    pub slab_within : IsSlabs s → Agree r b s → IsSteady r b s t → buddies.IsSized b → t < length b.tenants → c < MOST_CACHES → slab < length s.lists.places
+    slab_within w a st sized lt less =
+        let taken = listed_taken r b s t c slab node w a less here.placed in
+        let held = ap is_some (a.slots t (slab / 2 ^ s.top)) ∙ (st.sound.placed slab taken.0 taken.1).1 in
+        let below : slab < b.superblocks * 2 ^ s.top = (div-lt_iff_lt-mul (pow_pos s.top)).0 (held_within b t (slab / 2 ^ s.top) sized lt held) in
+        omega (arith, below, a.nodes)
 
     -- what follows the slab in its list
     abbrev pub IsAfter : Option (ℕ × ℕ) → Type 0

@@ -13,7 +13,12 @@ use Rattle.model_core.proofs.Choosing.{choice_is_found}
 use Rattle.space_core.specs.Content as spaces
 use Rattle.buddy_core.specs.Content as buddies
 use Rattle.slab_tables.specs.Content.{Content, IsSlabs, layout_numbers}
-use Rattle.parts_laws.specs.Shows.{Agree}
+use Rattle.model_core.specs.Machine.{Machine, choice}
+use Rattle.model_core.specs.Slabs.{reaped}
+use Rattle.parts_laws.specs.Shows.{Agree, ShowsMachine}
+use Rattle.parts_laws.specs.Slots.{HoldTogether}
+use Rattle.parts_laws.proofs.Steady.{counted}
+use Rattle.parts_laws.proofs.Room.{room_meets}
 use Rattle.parts_laws.specs.Steady.{IsSteady}
 use Rattle.parts_laws.specs.Room.{IsIdle, HasRoom}
 use Rattle.model_core.proofs.Vacant.{IsVacant, some_choice}
@@ -24,8 +29,14 @@ use Rattle.slab_core.proofs.RoomFree.{held_within}
 use Rattle.slab_core.proofs.RoomFrames.{idle_begins, listed_taken}
 
 -- two tests of one fact answer the same
-pub same_answer : {P : Type 0} (v u : Bool) → (v ≡ true) ↔ P → P ↔ (u ≡ true) → v ≡ u
+same_answer : {P : Type 0} (v u : Bool) → (v ≡ true) ↔ P → P ↔ (u ≡ true) → v ≡ u
 same_answer v u by_v by_u = same_bool v u (λ e. by_u.0 (by_v.0 e)) (λ e. by_v.1 (by_u.1 e))
+
+-- a test of whether there is room answers whether a block is chosen once the empty slabs are given back
+pub room_answers : (r : spaces.Content) (b : buddies.Content) (s : Content) (t k : ℕ) → HoldTogether r b s → IsSteady r b s t → k ≤ s.top → (fits : Bool)
+    → (fits ≡ true) ↔ HasRoom r b s t k → (m : Machine) → ShowsMachine r b s t m → fits ≡ is_some (choice s.top (reaped m) k)
+room_answers r b s t k parts st order fits by m shows =
+    same_answer fits (is_some (choice s.top (reaped m) k)) by (room_meets r b s t k m st (counted r b s parts.slabs parts.agree t) shows order)
 
 -- a frame of a smaller block is one of a larger that begins there too
 wider : (f j k x : ℕ) → j ≤ k → HasFrame (block f j) x → HasFrame (block f k) x

@@ -1,6 +1,8 @@
 -- Sets of numbers, a bit each.
-use Rattle.std.proofs.Common.{◌≡◌, ◌≢◌, ℕ, ◌*◌, ◌/◌, ◌%◌, ◌^◌, ◌<◌, ◌⊎◌, false, List, replicate, length, get_or, set, eqb, ◌||◌, sym, ap, ◌∙◌, inl, inr, w64, arith}
-use Rattle.std.specs.Int.{bit_at}
+use Rattle.std.proofs.Common.{◌≡◌, ◌≢◌, ℕ, suc, ◌*◌, ◌/◌, ◌%◌, ◌^◌, ◌<◌, ◌≤◌, ◌⊎◌, ⊎_elim, false, List, replicate, length, get_or, set, eqb, ◌||◌, sym, ap, ◌∙◌, inl, inr, w64, arith}
+use Rattle.std.specs.Int.{bit_at, div_ceil}
+use Rattle.std.proofs.Math.Nat.{mul-le-mul_left, mul-le-mul_right}
+use Rattle.std.proofs.lemmas.Grind.{div_ceil_times}
 use Rattle.std.specs.Int.RustNames.{bit_or}
 use Rattle.std.proofs.lemmas.Bool.{cases_eq, cases_lt, eq-eqb, ne_eqb}
 use Rattle.std.proofs.lemmas.List.{get_or-set_same, get_or-set_other, get_or-replicate, get_or_past, length-replicate}
@@ -42,3 +44,14 @@ none_yet count n = ap (λ w. eqb (bit_at w (n % 64)) 1) word ∙ ap (λ b. eqb b
       | inl less ↦ get_or-replicate count (n / 64) 0 0 less
       | inr past ↦ get_or_past (replicate count 0) (n / 64) 0 (omega (arith, length-replicate {A = ℕ} count 0))
     ]
+
+-- a set of larger blocks takes no more words
+pub few_words : (count size : ℕ) → 0 < size → div_ceil count size ≤ count
+few_words count size some = ⊎_elim
+    (λ over.
+    let most = (div_ceil_times count size some).1 in
+    let rows : suc count * size ≤ div_ceil count size * size = mul-le-mul_right size over in
+    let own : count * 1 ≤ count * size = mul-le-mul_left count some in
+    absurd (grind (arith, most, rows, own)))
+    (λ le. le)
+    (cases_lt count (div_ceil count size))

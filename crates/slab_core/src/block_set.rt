@@ -1,48 +1,24 @@
-//! Sets of blocks.
+//! Sets of blocks, of one order, by their numbers: a bit each.
 
-ghost use Rattle.std.specs.Prelude.{◌≡◌, ℕ, ◌<◌, ◌==◌, ◌||◌, false};
+ghost use Rattle.std.specs.Prelude.{◌≡◌, ℕ, ◌<◌, ◌*◌, ◌==◌, ◌||◌, length};
 ghost use Rattle.slab_core.specs.Room.{has_number};
 
-use std::marker::Model;
-
 /// How many words have a bit for each frame that a tenant may have.
-const WORDS: usize = 1024;
+pub(crate) const MOST_WORDS: usize = 1024;
 
-/// A set of blocks of one order, by their numbers below 65,536.
-#[derive(Drop)]
-pub(crate) struct BlockSet {
-    words: [u64; WORDS],
+/// Whether the set has the block.
+pub(crate) fn has_block(words: &[u64], number: u32) -> bool
+    requires { number < 64 * length words.now }
+    ensures { result ≡ has_number words.now number }
+{
+    words[(number / 64) as usize] >> (number % 64) & 1 == 1
 }
 
-impl Model for BlockSet {
-    ghost use Rattle.std.specs.Prelude.{ℕ, List};
-
-    ghost Value = { List ℕ };
-
-    ghost view = { λ a. a.words };
-}
-
-impl BlockSet {
-    /// No block.
-    pub(crate) fn new() -> BlockSet
-        ensures { (n : ℕ) → has_number result n ≡ false }
-    {
-        BlockSet { words: [0; WORDS] }
-    }
-
-    /// Whether it has the block.
-    pub(crate) fn has(&self, number: u32) -> bool
-        requires { number < 65536 }
-        ensures { result ≡ has_number self.now number }
-    {
-        self.words[(number / 64) as usize] >> (number % 64) & 1 == 1
-    }
-
-    /// Puts the block in.
-    pub(crate) fn add(&mut self, number: u32)
-        requires { number < 65536 }
-        ensures { (n : ℕ) → has_number self.new n ≡ (n == number || has_number self.old n) }
-    {
-        self.words[(number / 64) as usize] |= 1 << (number % 64);
-    }
+/// Puts the block in.
+pub(crate) fn add_block(words: &mut [u64], number: u32)
+    requires { number < 64 * length words.old }
+    ensures len { length words.new ≡ length words.old }
+    ensures has { (n : ℕ) → has_number words.new n ≡ (n == number || has_number words.old n) }
+{
+    words[(number / 64) as usize] |= 1 << (number % 64);
 }

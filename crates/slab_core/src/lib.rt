@@ -39,14 +39,19 @@ use std::marker::Model;
 #[derive(Drop)]
 pub struct Slabs {
     tables: Tables,
+    /// Room for the set of the blocks that a search refuses: a bit for each frame of the machine.
+    refused: Vec<u64>,
 }
 
 impl Model for Slabs {
+    ghost use Rattle.std.specs.Prelude.{◌*◌, ◌≤◌, length};
     ghost use Rattle.slab_tables.specs.Content.{Content};
 
     ghost Value = { Content };
 
     ghost view = { λ s. s.tables };
+
+    ghost invariant = { λ s. length s.tables.lists.places ≤ 64 * length s.refused.items };
 }
 
 impl Slabs {
@@ -59,8 +64,10 @@ impl Slabs {
         requires tenants { tenants ≤ MOST_TENANTS }
         ensures { IfOk result (λ s. s ≡ empty_tables order superblocks tenants) }
     {
+        let frames = usize::from(superblocks) << order;
         Ok(Slabs {
             tables: Tables::new(alloc, order, superblocks, tenants)?,
+            refused: vec![in alloc; 0; frames.div_ceil(64)]?,
         })
     }
 

@@ -17,7 +17,7 @@ ghost use Rattle.klist_core.specs.Places.{place_at};
 use crate::Slabs;
 use buddy_core::Buddy;
 use model_core::limits::{FRAME_BYTES, RECORD_OFFSET};
-use slab_tables::{Cache, ListId};
+use slab_tables::{Cache, ListId, Tables};
 use space_core::Space;
 
 /// An object: the first frame and the node of its slab, and which of the slab's objects it is.
@@ -46,6 +46,19 @@ pub(crate) fn block_around(place: u32, order: u8) -> u32
     place / FRAME_BYTES >> order << order
 }
 
+/// The machine frame at a frame of tenant `t`, if it holds the slot.
+pub(crate) fn node_in(tables: &Tables, space: &Space, t: u8, frame: u32) -> Option<u32>
+    requires tenant { t < length space.now.slots }
+    requires nodes { length tables.now.lists.places ≡ length space.now.owners * 2 ^ tables.now.top }
+    ensures value { result ≡ node_of tables.now.top space.now.slots t frame }
+    ensures below { IfSome result (λ node. node < length tables.now.lists.places) }
+{
+    tables.laws();
+    let order = tables.order();
+    let m = space.machine_of(t, frame >> order)?;
+    Some((u32::from(m) << order) + frame % (1 << order))
+}
+
 impl Slabs {
     /// The machine frame at a frame of tenant `t`, if it holds the slot.
     pub(crate) fn node(&self, space: &Space, t: u8, frame: u32) -> Option<u32>
@@ -54,10 +67,7 @@ impl Slabs {
         ensures value { result ≡ node_of self.now.top space.now.slots t frame }
         ensures below { IfSome result (λ node. node < length self.now.lists.places) }
     {
-        self.tables.laws();
-        let order = self.tables.order();
-        let m = space.machine_of(t, frame >> order)?;
-        Some((u32::from(m) << order) + frame % (1 << order))
+        node_in(&self.tables, space, t, frame)
     }
 
     /// The superblock that has the machine frame.

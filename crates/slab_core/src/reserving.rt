@@ -19,6 +19,7 @@ impl Slabs {
     /// slabs of the tenant are given back, they are given back first.
     ///
     /// None, and nothing changed, where none is found then either.
+    #[inline(always)]
     pub fn reserve_by_need(
         &mut self,
         space: &mut Space,

@@ -1,6 +1,7 @@
 //! Empty slabs given back to the buddy system, their frames zeroed.
 
 ghost use Rattle.std.specs.Prelude.{◌≡◌, ℕ, ◌<◌, ◌≤◌, ◌^◌, ◌==◌, ◌↔◌, length, flat_map, Some, true, false, OnErr};
+ghost use Rattle.model_core.specs.declared.limits.TheConstants.{MOST_CACHES};
 ghost use Rattle.slab_tables.specs.Changes.{without_slab};
 ghost use Rattle.klist_core.specs.Places.{IsEmpty};
 ghost use Rattle.slab_tables.specs.Content.{IsTenant, IsSlabs, kept_at, cache_at, index_of_cache, head_of};
@@ -17,7 +18,7 @@ ghost use Rattle.parts_laws.specs.Changes.{IsReturned};
 
 use crate::Slabs;
 use buddy_core::Buddy;
-use model_core::limits::{FRAME_BYTES, MOST_CACHES};
+use model_core::limits::FRAME_BYTES;
 use model_core::refusals::DestroyRefusal;
 use slab_tables::{Cache, Kind};
 use space_core::Space;
@@ -82,7 +83,7 @@ impl Slabs {
         ensures agree { Agree space.new buddy.new self.new }
     {
         self.laws_with(space, buddy, t);
-        for c in 0..u32::from(MOST_CACHES) {
+        for c in 0..self.tables.caches_below(t) {
             if let Some(cache) = self.tables.cache(t, c).copied() {
                 self.give_back_empty(space, buddy, t, c, &cache);
             }
@@ -102,6 +103,7 @@ impl Slabs {
         self.laws_with(space, buddy, t);
         let frames = self.empty_frames(t);
         self.give_back_all(space, buddy, t);
+        self.tables.lower(t);
         frames
     }
 
@@ -143,8 +145,7 @@ impl Slabs {
         requires cache { c < MOST_CACHES }
         ensures { (result ≡ false) ↔ IsUnused self.now t c }
     {
-        self.tables.first(t, c, Kind::Full).is_some()
-            || self.tables.first(t, c, Kind::Partial).is_some()
+        0 < self.tables.count(t, c, Kind::Full) || 0 < self.tables.count(t, c, Kind::Partial)
     }
 
     /// How many frames the slabs of tenant `t` have of which no object is live.
@@ -154,7 +155,7 @@ impl Slabs {
             → ShowsMachine r b self.now t m → result ≡ frames_of (flat_map empty_blocks m.caches) }
     {
         let mut frames = 0;
-        for c in 0..u32::from(MOST_CACHES) {
+        for c in 0..self.tables.caches_below(t) {
             frames += self.empty_frames_of(t, c);
         }
         frames

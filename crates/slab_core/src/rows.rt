@@ -13,7 +13,6 @@ ghost use Rattle.model_core.specs.Reports.{row_of_cache, rows_of_caches};
 
 use crate::{CacheRow, Slabs};
 use arrayvec::ArrayVec;
-use model_core::limits::MOST_CACHES;
 use slab_tables::Kind;
 
 impl Slabs {
@@ -24,7 +23,7 @@ impl Slabs {
             → result.items ≡ rows_of_caches m }
     {
         let mut rows = ArrayVec::new();
-        for c in 0..MOST_CACHES {
+        for c in 0..self.tables.caches_below(t) as u8 {
             if let Some(row) = self.row(t, c) {
                 rows.push(row);
             }

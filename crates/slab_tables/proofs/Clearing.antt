@@ -1,11 +1,11 @@
 -- Caches go with all their slabs.
-use Rattle.std.proofs.Common.{◌≡◌, ℕ, ◌+◌, ◌*◌, ◌/◌, ◌%◌, ◌<◌, ◌≤◌, Bool, true, false, cond, eqb, ltb, ◌&&◌, ◌||◌, Option, Some, None, length, get_or, set, refl, sym, ap, ◌∙◌, inl, inr, arith}
+use Rattle.std.proofs.Common.{◌≡◌, ℕ, ◌+◌, ◌*◌, ◌/◌, ◌%◌, ◌<◌, ◌≤◌, ◌⊎◌, Bool, true, false, cond, eqb, ltb, ◌&&◌, ◌||◌, Option, Some, None, length, get_or, set, refl, sym, ap, ◌∙◌, inl, inr, arith}
 use Rattle.std.proofs.lemmas.Bool.{cases_eq, cases_lt, eqb-true, eqb-false, eq-eqb, ne_eqb, lt-ltb, le-ltb}
 use Rattle.std.proofs.lemmas.List.{length-set, get_or-set_same, get_or-set_other}
 use Rattle.klist_core.specs.Places.{Placed, place_at, is_in}
 use Rattle.model_core.specs.declared.limits.TheConstants.{MOST_CACHES}
 use Rattle.slab_tables.specs.declared.cache.Cache.{Cache}
-use Rattle.slab_tables.specs.Content.{Content, IsSlabs, cache_in, index_of_cache, is_of_index, live_total}
+use Rattle.slab_tables.specs.Content.{Content, IsSlabs, cache_in, cache_at, index_of_cache, is_of_index, live_total}
 use Rattle.slab_tables.specs.Changes.{IsEmptied, IsCleared, IsReset, unless_gone}
 use Rattle.slab_tables.proofs.Totals.{total_along, total_none}
 
@@ -191,25 +191,53 @@ one_more t c lt n = elim (cases_eq (n / MOST_CACHES) t) [
           ]
         ]
 
--- all of them: the tenant is reset
-pub cleared_all : (s s' : Content) (t c : ℕ) → MOST_CACHES ≤ c → IsCleared s s' (those_below t c) → IsReset s s' t
-cleared_all s s' t c all a = record {
+-- all of them, where none has a higher number: the tenant is reset
+pub cleared_all : (s s' : Content) (t c : ℕ) → IsSlabs s → ((d : ℕ) → c ≤ d → cache_at s t d ≡ None) → IsCleared s s' (those_below t c) → IsReset s s' t
+cleared_all s s' t c w none a = record {
   top = a.top;
   heads = a.heads;
   nodes = a.nodes;
-  places = λ n. a.places n ∙ unless_same (place_at s.lists.places n);
+  places = λ n. a.places n ∙ place_same n (place_at s.lists.places n) refl;
   kept = a.kept;
   tenants = a.tenants;
-  caches = λ n. a.caches n ∙ ap (λ b. cond b None (cache_in s.caches n)) (every n);
+  caches = λ n. a.caches n ∙ cache_same n;
 }
   where
-    every : (n : ℕ) → those_below t c n ≡ eqb (n / MOST_CACHES) t
-    every n = go (eqb (n / MOST_CACHES) t)
-      where
-        go : (b : Bool) → (b && ltb (n % MOST_CACHES) c) ≡ b
-        go true = lt-ltb (n % MOST_CACHES) c (omega arith)
-        go false = refl
+    -- a cache that is not below is none of the tenant's
+    vacant : (n : ℕ) → n / MOST_CACHES ≡ t → c ≤ n % MOST_CACHES → cache_in s.caches n ≡ None
+    vacant n own from =
+        let at : n ≡ index_of_cache t (n % MOST_CACHES) = omega arith in
+        ap (cache_in s.caches) at ∙ (sym (ap (λ b. cond b (cache_in s.caches (index_of_cache t (n % MOST_CACHES))) None) (lt-ltb (n % MOST_CACHES) MOST_CACHES (omega arith)))
+        ∙ none (n % MOST_CACHES) from)
 
-    unless_same : (o : Option (ℕ × ℕ)) → unless_gone (those_below t c) o ≡ unless_gone (λ n. eqb (n / MOST_CACHES) t) o
-    unless_same None = refl
-    unless_same (Some (g, k)) = ap (λ b. cond b None (Some (g, k))) (every (g / 3))
+    same : (n : ℕ) → (n / MOST_CACHES ≡ t → c ≤ n % MOST_CACHES → ⊥) → those_below t c n ≡ eqb (n / MOST_CACHES) t
+    same n high = go (cases_eq (n / MOST_CACHES) t)
+      where
+        go : (n / MOST_CACHES ≡ t) ⊎ (n / MOST_CACHES ≡ t → ⊥) → those_below t c n ≡ eqb (n / MOST_CACHES) t
+        go (inl is) = elim (cases_lt (n % MOST_CACHES) c) [
+          | inl lt ↦ ap (λ b. eqb (n / MOST_CACHES) t && b) (lt-ltb (n % MOST_CACHES) c lt) ∙ (ap (λ b. b && true) (eq-eqb (n / MOST_CACHES) t is) ∙ sym (eq-eqb (n / MOST_CACHES) t is))
+          | inr ge ↦ absurd (high is ge)
+        ]
+        go (inr ne) = ap (λ b. b && ltb (n % MOST_CACHES) c) (ne_eqb (n / MOST_CACHES) t ne) ∙ sym (ne_eqb (n / MOST_CACHES) t ne)
+
+    some_differs : {x : Cache} {o : Option Cache} → o ≡ None → o ≡ Some x → ⊥
+    some_differs {x} {o} e f = absurd (let g : ◌≡◌ {A = Option Cache} None (Some x) = sym e ∙ f in cc)
+
+    place_same : (n : ℕ) (o : Option (ℕ × ℕ)) → place_at s.lists.places n ≡ o → unless_gone (those_below t c) o ≡ unless_gone (λ i. eqb (i / MOST_CACHES) t) o
+    place_same n None e = refl
+    place_same n (Some (g, k)) e =
+        let x = w.standing n g k e in
+        ap (λ b. cond b None (Some (g, k))) (same (g / 3) (λ own from. some_differs (vacant (g / 3) own from) x.1))
+
+    cache_same : (n : ℕ) → cond (those_below t c n) None (cache_in s.caches n) ≡ cond (eqb (n / MOST_CACHES) t) None (cache_in s.caches n)
+    cache_same n = by_value (cache_in s.caches n) refl
+      where
+        by_value : (o : Option Cache) → cache_in s.caches n ≡ o → cond (those_below t c n) None o ≡ cond (eqb (n / MOST_CACHES) t) None o
+        by_value None e = both (those_below t c n) (eqb (n / MOST_CACHES) t)
+          where
+            both : (a b : Bool) → cond {A = Option Cache} a None None ≡ cond b None None
+            both true true = refl
+            both true false = refl
+            both false true = refl
+            both false false = refl
+        by_value (Some x) e = ap (λ b. cond b None (Some x)) (same n (λ own from. some_differs (vacant n own from) e))

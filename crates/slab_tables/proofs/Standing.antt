@@ -1,20 +1,17 @@
--- A walk along a list comes to nodes that stand in one.
-use Rattle.std.proofs.Common.{ℕ, List, Option, Some, None, IsSome, IfSome, is_some, ap}
+-- A walk along a list that is linked by key comes to nodes that stand in it.
+use Rattle.std.proofs.Common.{ℕ, List, Option, Some, None, IfSome}
 use Rattle.std.specs.Prelude.{MatchOption}
-use Rattle.std.proofs.lemmas.Bool.{false≢true}
-use Rattle.klist_core.specs.Places.{place_at, IsEmpty, IsFirst, NoneAbove, IsNext}
+use Rattle.klist_core.specs.Places.{IsByKey, IsPlacedByKey, IsEmpty, IsFirst, NoneAbove, IsNext}
 
--- the node of this pair of key and node, if it is one, stands in a list
+-- the node of this pair of key and node, if it is one, stands in such a list
 abbrev pub IsThere : List (Option (ℕ × ℕ)) → Option (ℕ × ℕ) → Type 0
-IsThere places o = IfSome o (λ p. IsSome (place_at places p.1))
+IsThere places o = IfSome o (λ p. IsPlacedByKey places p.1)
 
-pub first_there : (places : List (Option (ℕ × ℕ))) (h : ℕ) (o : Option (ℕ × ℕ)) → MatchOption o (IsEmpty places h) (λ p. IsFirst places h p.0 p.1)
+pub first_there : (places : List (Option (ℕ × ℕ))) (h : ℕ) (o : Option (ℕ × ℕ)) → IsByKey h → MatchOption o (IsEmpty places h) (λ p. IsFirst places h p.0 p.1)
     → IsThere places o
-first_there places h None none = tt
-first_there places h (Some p) first = ap is_some first.here
+first_there places h None by_key none = tt
+first_there places h (Some p) by_key first = record { list = h; key = p.0; here = first.here; by_key = by_key }
 
-pub after_there : (places : List (Option (ℕ × ℕ))) (q o : Option (ℕ × ℕ)) → IsSome q
-    → IfSome q (λ p. MatchOption o (NoneAbove places p.0 p.1) (λ n. IsNext places p.0 p.1 n.0 n.1)) → IsThere places o
-after_there places None o some after = absurd (false≢true some)
-after_there places (Some q) None some after = tt
-after_there places (Some q) (Some n) some after = ap is_some after.here
+pub after_there : (places : List (Option (ℕ × ℕ))) (h k : ℕ) (o : Option (ℕ × ℕ)) → IsByKey h → MatchOption o (NoneAbove places h k) (λ n. IsNext places h k n.0 n.1) → IsThere places o
+after_there places h k None by_key after = tt
+after_there places h k (Some n) by_key after = record { list = h; key = n.0; here = after.here; by_key = by_key }

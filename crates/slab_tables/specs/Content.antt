@@ -99,6 +99,17 @@ pub record IsSlabs (s : Content) : Type 0 where
       → (c : Cache) × (cache_in s.caches (head / 3) ≡ Some c) × IsListed (kept_at s.kept node) c head
   pub counted : (n : ℕ) → n < length s.caches → slice_index s.live n ≡ live_total n s.lists.places s.kept
 
+-- by tenant a number above those of its caches
+pub record AreBelow (caches : List (Option Cache)) (below : List ℕ) : Type 0 where
+  pub tenants : length caches ≡ MOST_CACHES * length below
+  pub few : (t : ℕ) → slice_index below t ≤ MOST_CACHES
+  pub none : (n : ℕ) → slice_index below (n / MOST_CACHES) ≤ n % MOST_CACHES → cache_in caches n ≡ None
+
+-- what holds of all tables and of the numbers that are kept beside them
+pub record AreTables (s : Content) (below : List ℕ) : Type 0 where
+  pub slabs : IsSlabs s
+  pub ends : AreBelow s.caches below
+
 -- no cache and no slab
 abbrev pub empty_tables : ℕ → ℕ → ℕ → Content
 empty_tables top superblocks tenants = record {

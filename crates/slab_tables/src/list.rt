@@ -10,6 +10,8 @@ use model_core::limits::MOST_CACHES;
 
 /// The list of the slabs of one kind of one cache of one tenant: `3 * (32 * tenant + cache)` for the full ones, and the next two
 /// numbers for the partial and the empty ones.
+///
+/// So the lists of full slabs are loose ([`klist_core`]): slabs fill up often, and no call asks for the first full one.
 #[derive(Clone, Copy, Debug, PartialEq, Eq)]
 pub struct ListId {
     pub number: u32,

@@ -2,12 +2,12 @@
 
 ghost use Rattle.std.specs.Prelude.{◌≡◌, ◌≢◌, ℕ, ◌+◌, ◌*◌, ◌^◌, ◌<◌, ◌≤◌, true, Some, None, length, replicate, IsSome, IfSome, IfOk, MatchOption};
 ghost use Rattle.model_core.specs.declared.limits.TheConstants.{MOST_ORDER, MOST_SUPERBLOCKS, MOST_TENANTS, MOST_CACHES};
-ghost use Rattle.klist_core.specs.Places.{IsEmpty, IsFirst, place_at, is_in, inserted, removed, replaced};
+ghost use Rattle.klist_core.specs.Places.{IsByKey, IsPlacedByKey, IsEmpty, place_at, is_in, inserted, removed, replaced};
 ghost use Rattle.slab_tables.specs.Content.{index_of_cache};
 ghost use Rattle.slab_tables.specs.Changes.{IsEmptied};
 
 use crate::groups::Groups;
-use klist_core::Lists;
+use klist_core::{Lists, is_loose};
 use model_core::limits::MOST_CACHES;
 use std::alloc::{AllocError, Global};
 use std::marker::Model;
@@ -82,17 +82,18 @@ impl SlabLists {
         &self.lists
     }
 
-    /// Least key of the list and its node; None where the list is empty.
-    pub(crate) fn first(&self, head: u32) -> Option<(u32, u32)>
+    /// As [`Lists::any`].
+    pub(crate) fn any(&self, head: u32) -> Option<u32>
         requires { head < self.now.heads }
-        ensures { MatchOption result (IsEmpty self.now.places head) (λ p. IsFirst self.now.places head p.0 p.1) }
+        ensures { MatchOption result (IsEmpty self.now.places head) (λ n. is_in head (place_at self.now.places n) ≡ true) }
     {
-        self.lists.first(head)
+        self.lists.any(head)
     }
 
-    /// As [`Lists::insert`].
+    /// As [`Lists::insert`], into a list that is not loose.
     pub(crate) fn insert(&mut self, head: u32, node: u32, key: u32)
         requires head { head < self.old.heads }
+        requires by_key { IsByKey head }
         requires node { node < length self.old.places }
         requires free { place_at self.old.places node ≡ None }
         requires fresh { (i : ℕ) → place_at self.old.places i ≢ Some (head, key) }
@@ -123,7 +124,8 @@ impl SlabLists {
     /// A node stands in the list under the key now.
     #[inline(always)]
     fn note(&mut self, head: u32, key: u32)
-        requires { head < self.old.heads }
+        requires head { head < self.old.heads }
+        requires by_key { IsByKey head }
         ensures { self.new ≡ self.old }
     {
         let len = self.lists.len(head);
@@ -136,7 +138,8 @@ impl SlabLists {
     /// become long is kept from now on.
     #[inline(never)]
     fn note_in_groups(&mut self, head: u32, key: u32)
-        requires { head < self.old.heads }
+        requires head { head < self.old.heads }
+        requires by_key { IsByKey head }
         ensures { self.new ≡ self.old }
     {
         if self.groups.is_kept(head) {
@@ -151,10 +154,10 @@ impl SlabLists {
     fn forget(&mut self, list: u32, node: u32, key: u32)
         requires list { list < self.old.heads }
         requires node { node < length self.old.places }
-        requires placed { IsSome (place_at self.old.places node) }
+        requires placed { place_at self.old.places node ≡ Some (list, key) }
         ensures { self.new ≡ self.old }
     {
-        if self.lists.len(list) <= NOT_LONG {
+        if self.lists.len(list) <= NOT_LONG || is_loose(list) {
             self.groups.leave(list);
         } else if self.is_alone(node, key) {
             self.groups.take(list, key);
@@ -164,7 +167,7 @@ impl SlabLists {
     /// Whether the node's neighbours in its list are of other groups than its key.
     fn is_alone(&self, node: u32, key: u32) -> bool
         requires node { node < length self.now.places }
-        requires placed { IsSome (place_at self.now.places node) }
+        requires placed { IsPlacedByKey self.now.places node }
     {
         if let Some((next, _)) = self.lists.after(node)
             && self.groups.is_one(next, key)
@@ -196,7 +199,8 @@ impl SlabLists {
 
     /// Moves the node, which stands in a list, into the list `head` under the same key.
     ///
-    /// A short list is walked, unless the node comes at an end of it. In a longer one, a node that comes before it is looked for.
+    /// Into a loose list it goes at once. A short list is walked, unless the node comes at an end of it. In a longer one, a node
+    /// that comes before it is looked for.
     #[inline(never)]
     fn move_to(&mut self, head: u32, node: u32, key: u32, slab: u8)
         requires head { head < self.old.heads }
@@ -206,7 +210,9 @@ impl SlabLists {
         ensures { self.new ≡ inserted self.old head node key }
     {
         self.remove(node);
-        if self.lists.len(head) < SHORT {
+        if is_loose(head) {
+            self.lists.append(head, node, key);
+        } else if self.lists.len(head) < SHORT {
             self.lists.insert(head, node, key);
         } else {
             self.insert_among(head, node, key, 1 << slab);
@@ -218,6 +224,7 @@ impl SlabLists {
     #[inline(always)]
     fn insert_among(&mut self, head: u32, node: u32, key: u32, step: u32)
         requires head { head < self.old.heads }
+        requires by_key { IsByKey head }
         requires node { node < length self.old.places }
         requires free { place_at self.old.places node ≡ None }
         requires fresh { (i : ℕ) → place_at self.old.places i ≢ Some (head, key) }
@@ -286,7 +293,7 @@ impl SlabLists {
         requires { head < self.old.heads }
         ensures { IsEmptied self.old self.new head }
     {
-        while let Some((_, node)) = self.first(head) {
+        while let Some(node) = self.any(head) {
             self.remove(node);
         }
     }
@@ -296,10 +303,11 @@ impl SlabLists {
 #[cold]
 #[inline(never)]
 fn keep(lists: &Lists, groups: &mut Groups, head: u32)
-    requires { head < lists.now.heads }
+    requires head { head < lists.now.heads }
+    requires by_key { IsByKey head }
 {
     groups.keep(head);
-    let mut next = lists.first(head);
+    let mut next = lists.first_by_key(head);
     for _ in 0..LONG {
         let Some((key, node)) = next else {
             return;

@@ -3,7 +3,7 @@
 ghost use Rattle.std.specs.Prelude.{◌≡◌, ◌≢◌, ℕ, ◌<◌, ◌≤◌, ◌==◌, ◌^◌, ◌*◌, ◌+◌, Some, None, length, is_none, slice_index, option_map, IfOk, IfSome, IfNone, IsSome, MatchOption};
 ghost use Rattle.klist_core.specs.Places.{ArePlaces, IsEmpty, IsFirst, place_at, inserted};
 ghost use Rattle.klist_core.specs.Lists.{keys_of};
-ghost use Rattle.model_core.specs.declared.limits.TheConstants.{MOST_ORDER, MOST_SUPERBLOCKS, MOST_TENANTS};
+ghost use Rattle.model_core.specs.declared.limits.TheConstants.{MOST_CACHES, MOST_ORDER, MOST_SUPERBLOCKS, MOST_TENANTS};
 ghost use Rattle.slab_tables.specs.Content.{IsSlabs, IsTenant, IsPlacedIn, empty_tables, kept_at, cache_at, index_of_cache, head_of, kind_number, layout_numbers};
 ghost use Rattle.slab_tables.specs.Changes.{with_slab, with_count, with_outside, without_slab, with_cache, new_cache, IsLeastNumber, IsAllUsed, IsCleared, IsReset, IsMoved, with_node_moved};
 
@@ -25,16 +25,18 @@ pub struct Tables {
     kept: Vec<Kept>,
     caches: Vec<Option<Cache>>,
     live: Vec<u32>,
+    /// By tenant the number above its highest cache.
+    below: Vec<u8>,
 }
 
 impl Model for Tables {
-    ghost use Rattle.slab_tables.specs.Content.{Content, IsSlabs};
+    ghost use Rattle.slab_tables.specs.Content.{Content, AreTables};
 
     ghost Value = { Content };
 
     ghost view = { λ s. record { top = s.order; lists = s.lists; kept = s.kept.items; caches = s.caches.items; live = s.live.items } };
 
-    ghost invariant = { λ s. IsSlabs (record { top = s.order; lists = s.lists; kept = s.kept.items; caches = s.caches.items; live = s.live.items }) };
+    ghost invariant = { λ s. AreTables (record { top = s.order; lists = s.lists; kept = s.kept.items; caches = s.caches.items; live = s.live.items }) s.below.items };
 }
 
 impl Tables {
@@ -66,6 +68,7 @@ impl Tables {
             kept: vec![in alloc; blank; nodes as usize]?,
             caches: vec![in alloc; None; caches as usize]?,
             live: vec![in alloc; 0; caches as usize]?,
+            below: vec![in alloc; 0; usize::from(tenants)]?,
         })
     }
 
@@ -102,6 +105,15 @@ impl Tables {
         self.caches[index_of(t, c)].as_ref()
     }
 
+    /// A number above those of all caches of tenant `t`: where a loop over them ends.
+    pub fn caches_below(&self, t: u8) -> u32
+        requires { IsTenant self.now t }
+        ensures few { result ≤ MOST_CACHES }
+        ensures none { (c : ℕ) → result ≤ c → cache_at self.now t c ≡ None }
+    {
+        u32::from(self.below[usize::from(t)])
+    }
+
     /// What is kept of the slab that begins at the node.
     pub fn kept_of(&self, node: u32) -> Kept
         requires { node < length self.now.lists.places }
@@ -118,7 +130,8 @@ impl Tables {
         self.lists.lists().place_of(node)
     }
 
-    /// First frame and node of the slab of least frame among those of one kind of cache `c` of tenant `t`.
+    /// First frame and node of the slab of least frame among those of one kind of cache `c` of tenant `t`. A full one is looked
+    /// for among all nodes.
     pub fn first(&self, t: u8, c: u32, kind: Kind) -> Option<(u32, u32)>
         requires tenant { IsTenant self.now t }
         requires cache { c < MOST_CACHES }
@@ -126,7 +139,11 @@ impl Tables {
             (IsEmpty self.now.lists.places (head_of t c (kind_number kind)))
             (λ p. IsFirst self.now.lists.places (head_of t c (kind_number kind)) p.0 p.1) }
     {
-        self.lists.first(ListId::of(t, c, kind).number)
+        let list = ListId::of(t, c, kind).number;
+        match kind {
+            Kind::Full => self.lists.lists().first(list),
+            Kind::Partial | Kind::Empty => self.lists.lists().first_by_key(list),
+        }
     }
 
     /// How many slabs of one kind cache `c` of tenant `t` has.
@@ -164,6 +181,8 @@ impl Tables {
             pattern,
             made: 0,
         });
+        let below = self.below[usize::from(t)];
+        self.below[usize::from(t)] = below.max(c + 1);
         Some(c)
     }
 
@@ -188,6 +207,18 @@ impl Tables {
         ensures { self.new ≡ with_cache self.old t c None }
     {
         self.caches[index_of(t, c)] = None;
+    }
+
+    /// Lets loops over the caches of tenant `t` end at its highest one.
+    pub fn lower(&mut self, t: u8)
+        requires { IsTenant self.old t }
+        ensures { self.new ≡ self.old }
+    {
+        let mut below = self.below[usize::from(t)];
+        while below > 0 && self.cache(t, u32::from(below) - 1).is_none() {
+            below -= 1;
+        }
+        self.below[usize::from(t)] = below;
     }
 
     /// Lets the next slab of cache `c` of tenant `t`, an empty one, begin at frame `first` and node `node`. The cache has made
@@ -255,9 +286,10 @@ impl Tables {
         requires { IsTenant self.old t }
         ensures { IsReset self.old self.new t }
     {
-        for number in 0..MOST_CACHES {
-            self.clear(t, number.into());
+        for number in 0..self.caches_below(t) {
+            self.clear(t, number);
         }
+        self.below[usize::from(t)] = 0;
     }
 
     /// Lets go of cache `c` of tenant `t`, where it stands, and of its slabs.

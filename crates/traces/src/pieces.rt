@@ -3,6 +3,7 @@
 ghost use Rattle.std.specs.Prelude.{◌≡◌, ◌≤◌, true, false, [], length};
 ghost use Rattle.traces.specs.declared.pieces.TheConstants.{ROOM};
 
+use ends::{TEXT_BYTES, Text};
 use replay_core::{Drain, Feed, Stopped};
 
 /// More than any worked trace writes.
@@ -110,11 +111,15 @@ impl PieceDrain {
 }
 
 impl Drain for PieceDrain {
-    ghost use Rattle.std.specs.Prelude.{take, Some};
+    ghost use Rattle.std.specs.Prelude.{take, Some, nat_le, ◌&&◌, ◌+◌};
+    ghost use Rattle.ends.specs.declared.drain.TheConstants.{TEXT_BYTES};
 
     ghost contents = { λ s. Some (take s.len s.bytes) };
 
     ghost has_failed = { λ s. s.failed };
+
+    // A text is one push, where a push may be as long.
+    ghost is_roomy = { λ s. nat_le 1 s.good_pushes && (nat_le TEXT_BYTES s.piece && nat_le (s.len + TEXT_BYTES) ROOM) };
 
     fn push(&mut self, bytes: &[u8]) -> Result<usize, Stopped> {
         let count = bytes
@@ -129,6 +134,19 @@ impl Drain for PieceDrain {
         self.bytes[self.len..self.len + count].copy_from_slice(&bytes[..count]);
         self.len += count;
         Ok(count)
+    }
+
+    fn has_space(&self) -> bool {
+        self.good_pushes >= 1 && self.piece >= TEXT_BYTES && self.len + TEXT_BYTES <= ROOM
+    }
+
+    fn take_text<T: Text>(&mut self, text: T) -> usize {
+        let mut line = [0; TEXT_BYTES];
+        let count = text.write(&mut line);
+        self.good_pushes -= 1;
+        self.bytes[self.len..self.len + count].copy_from_slice(&line[..count]);
+        self.len += count;
+        count
     }
 
     fn failed(&self) -> bool {

@@ -1,5 +1,5 @@
 -- The small forms of commands and answers, as the values that they are.
-use Rattle.std.specs.Prelude.{◌≡◌, ℕ, ◌≤◌, Bool, true, false, length}
+use Rattle.std.specs.Prelude.{◌≡◌, ℕ, ◌≤◌, Bool, true, false, if◌then◌else◌, length}
 use Rattle.model_core.specs.Layouts.{is_pattern}
 use Rattle.model_core.specs.declared.limits.TheConstants.{MOST_BYTES}
 use Rattle.words_core.specs.declared.answer.TheConstants.{MOST_ANSWER_BYTES, SHORT_ANSWER_BYTES}
@@ -8,9 +8,10 @@ use Rattle.words_core.specs.declared.answer.Answer.TheVariants as Told
 use Rattle.words_core.specs.declared.event.Command.{Command}
 use Rattle.words_core.specs.declared.event.Command.TheVariants.{Alloc, Free, Read, Write, Destroy, Take, Give, Reap}
 use Rattle.words_core.specs.declared.event.Command.TheVariants as Whole
+use Rattle.words_core.specs.declared.reply.Addressee.{Addressee}
 use Rattle.words_core.specs.declared.reply.Addressee.TheVariants.{Tenant}
 use Rattle.words_core.specs.declared.reply.Body.{Body}
-use Rattle.words_core.specs.declared.reply.Body.TheVariants.{Frame, Freed, Bytes, Written, Cache, Destroyed, Object, Given, Reaped, Refused}
+use Rattle.words_core.specs.declared.reply.Body.TheVariants.{Granted, TakenBack, WasReset, Moved, Owners, Frame, Freed, Bytes, Written, Cache, Destroyed, Object, Given, Reaped, Report, Refused, Fault}
 use Rattle.words_core.specs.declared.reply.Reply.{Reply}
 use Rattle.words_core.specs.declared.event.Request.{Request}
 use Rattle.words_core.specs.declared.event.Request.TheVariants as Asked
@@ -37,6 +38,21 @@ body_of_answer (Told.Object place) = Object place
 body_of_answer Told.Given = Given
 body_of_answer (Told.Reaped frames) = Reaped frames
 body_of_answer (Told.Refused refusal) = Refused refusal
+body_of_answer (Told.Granted tenant slot superblock) = Granted tenant slot superblock
+body_of_answer (Told.TakenBack superblock) = TakenBack superblock
+body_of_answer (Told.WasReset tenant superblocks) = WasReset tenant superblocks
+body_of_answer (Told.Moved tenant slot superblock) = Moved tenant slot superblock
+body_of_answer (Told.Fault fault) = Fault fault
+
+-- it has several lines, and is no answer
+abbrev pub is_table : Body → Bool
+is_table (Owners owners) = true
+is_table (Report report) = true
+is_table other = false
+
+-- the reply that an answer is
+abbrev pub reply_to : Addressee → Answer → Reply
+reply_to addressee answer = record { addressee = addressee; body = body_of_answer answer }
 
 -- the reply to a tenant that is answered so
 abbrev pub reply_of_answer : ℕ → Answer → Reply
@@ -44,16 +60,8 @@ reply_of_answer tenant answer = record { addressee = Tenant tenant; body = body_
 
 -- the bytes that an answer tells are no more than a read may ask for
 abbrev pub HasFewBytes : Answer → Type 0
-HasFewBytes (Told.Frame frame) = Unit {0}
-HasFewBytes (Told.Freed order) = Unit {0}
 HasFewBytes (Told.Bytes bytes) = length bytes.now ≤ MOST_BYTES
-HasFewBytes (Told.Written count) = Unit {0}
-HasFewBytes (Told.Cache cache chunk order objects colours) = Unit {0}
-HasFewBytes (Told.Destroyed frames) = Unit {0}
-HasFewBytes (Told.Object place) = Unit {0}
-HasFewBytes Told.Given = Unit {0}
-HasFewBytes (Told.Reaped frames) = Unit {0}
-HasFewBytes (Told.Refused refusal) = Unit {0}
+HasFewBytes other = Unit {0}
 
 -- the pattern of a cache that the command asks for has 1 to 16 bytes
 abbrev pub AsksPattern : Command → Type 0
@@ -95,25 +103,18 @@ asks_bytes Asked.Reap = false
 -- the answer tells bytes
 abbrev pub tells_bytes : Answer → Bool
 tells_bytes (Told.Bytes bytes) = true
-tells_bytes (Told.Frame frame) = false
-tells_bytes (Told.Freed order) = false
-tells_bytes (Told.Written count) = false
-tells_bytes (Told.Cache cache chunk order objects colours) = false
-tells_bytes (Told.Destroyed frames) = false
-tells_bytes (Told.Object place) = false
-tells_bytes Told.Given = false
-tells_bytes (Told.Reaped frames) = false
-tells_bytes (Told.Refused refusal) = false
+tells_bytes other = false
+
+-- what is told has many bytes: those of a read, the layout of a cache, or a superblock
+abbrev pub is_long : Answer → Bool
+is_long (Told.Bytes bytes) = true
+is_long (Told.Cache cache chunk order objects colours) = true
+is_long (Told.Granted tenant slot superblock) = true
+is_long (Told.TakenBack superblock) = true
+is_long (Told.WasReset tenant superblocks) = true
+is_long (Told.Moved tenant slot superblock) = true
+is_long other = false
 
 -- the room that the text of an answer is given
 abbrev pub room_of : Answer → ℕ
-room_of (Told.Bytes bytes) = MOST_ANSWER_BYTES
-room_of (Told.Cache cache chunk order objects colours) = MOST_ANSWER_BYTES
-room_of (Told.Frame frame) = SHORT_ANSWER_BYTES
-room_of (Told.Freed order) = SHORT_ANSWER_BYTES
-room_of (Told.Written count) = SHORT_ANSWER_BYTES
-room_of (Told.Destroyed frames) = SHORT_ANSWER_BYTES
-room_of (Told.Object place) = SHORT_ANSWER_BYTES
-room_of Told.Given = SHORT_ANSWER_BYTES
-room_of (Told.Reaped frames) = SHORT_ANSWER_BYTES
-room_of (Told.Refused refusal) = SHORT_ANSWER_BYTES
+room_of answer = if is_long answer then MOST_ANSWER_BYTES else SHORT_ANSWER_BYTES

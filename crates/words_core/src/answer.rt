@@ -1,19 +1,20 @@
-//! What a tenant is answered, but for the report: in few bytes, those of a read where they lie, and as the text of its line.
+//! What a line is answered in one line: in few bytes, those of a read where they lie, and as its text.
 
-ghost use Rattle.std.specs.Prelude.{◌≡◌, ◌+◌, ◌*◌, ◌<◌, ◌≤◌, [], ◌∷◌, ◌++◌, codes, decimal, length, take};
+ghost use Rattle.std.specs.Prelude.{◌≡◌, ◌+◌, ◌*◌, ◌<◌, ◌≤◌, [], ◌∷◌, ◌++◌, codes, decimal, length, take, not, is_some, IfSome};
 ghost use Rattle.hex.specs.Hex.{encode_lower};
-ghost use Rattle.words_core.specs.Texts.{body_texts, text_of};
-ghost use Rattle.words_core.specs.Requests.{body_of_answer, reply_of_answer, HasFewBytes, room_of};
-ghost use Rattle.words_core.specs.declared.reply.Body.TheVariants.{Cache, Refused};
+ghost use Rattle.words_core.specs.Texts.{addressee_text, body_texts, text_of};
+ghost use Rattle.words_core.specs.Requests.{body_of_answer, reply_of_answer, reply_to, HasFewBytes, is_long, is_table, room_of};
+ghost use Rattle.words_core.specs.declared.reply.Body.TheVariants.{Cache, Refused, Fault};
 
+use crate::event::LineFault;
 use crate::hex_digits::put_hex;
 use crate::numbers::MOST_DIGITS;
-use crate::reply::{Body, Refusal};
-use crate::window::{put_number, put_place, put_text, put_up_to_three};
+use crate::reply::{Addressee, Body, Refusal};
+use crate::window::{put_figure, put_front, put_number, put_place, put_text, put_up_to_three};
 use arrayvec::ArrayVec;
 use model_core::limits::MOST_BYTES;
 
-/// What a tenant's command is answered, but for the report: a [`Body`] whose bytes are lent from where they lie.
+/// What a line is answered, but for a report and the table of owners: a [`Body`] whose bytes are lent from where they lie.
 #[derive(Clone, Copy)]
 pub enum Answer<'a> {
     Frame(u32),
@@ -32,16 +33,32 @@ pub enum Answer<'a> {
     Given,
     Reaped(u32),
     Refused(Refusal),
+    Granted {
+        tenant: u8,
+        slot: u16,
+        superblock: u16,
+    },
+    TakenBack(u16),
+    WasReset {
+        tenant: u8,
+        superblocks: u16,
+    },
+    Moved {
+        tenant: u8,
+        slot: u16,
+        superblock: u16,
+    },
+    Fault(LineFault),
 }
 
 /// Room for the text of any answer, with its line feed: the longest is of 64 bytes that were read.
 pub const MOST_ANSWER_BYTES: usize = 160;
 
-/// Room for the text of an answer that tells no bytes and no layout.
+/// Room for the text of an answer that is not [`Answer::is_long`].
 pub const SHORT_ANSWER_BYTES: usize = 32;
 
-/// Before what it says the line of an answer has no more bytes than these.
-const MOST_FRONT_BYTES: usize = 5;
+/// Before what it says the line of a reply has no more bytes than these.
+pub(crate) const MOST_FRONT_BYTES: usize = 7;
 
 impl Answer<'_> {
     /// The same, as what a reply says.
@@ -72,7 +89,112 @@ impl Answer<'_> {
             Answer::Given => Body::Given,
             Answer::Reaped(frames) => Body::Reaped(frames),
             Answer::Refused(refusal) => Body::Refused(refusal),
+            Answer::Granted {
+                tenant,
+                slot,
+                superblock,
+            } => Body::Granted {
+                tenant,
+                slot,
+                superblock,
+            },
+            Answer::TakenBack(superblock) => Body::TakenBack(superblock),
+            Answer::WasReset {
+                tenant,
+                superblocks,
+            } => Body::WasReset {
+                tenant,
+                superblocks,
+            },
+            Answer::Moved {
+                tenant,
+                slot,
+                superblock,
+            } => Body::Moved {
+                tenant,
+                slot,
+                superblock,
+            },
+            Answer::Fault(fault) => Body::Fault(fault),
         }
+    }
+
+    /// Whether the text needs `MOST_ANSWER_BYTES`: of bytes that were read, of the layout of a cache, and of a superblock.
+    #[inline(always)]
+    pub fn is_long(&self) -> bool
+        ensures { result ≡ is_long self.now }
+    {
+        matches!(
+            self,
+            Answer::Bytes(_)
+                | Answer::Cache { .. }
+                | Answer::Granted { .. }
+                | Answer::TakenBack(_)
+                | Answer::WasReset { .. }
+                | Answer::Moved { .. }
+        )
+    }
+}
+
+impl Body {
+    /// The same in few bytes, its bytes lent; None of a report and of the table of owners.
+    pub fn answer(&self) -> Option<Answer<'_>>
+        ensures same { IfSome result (λ answer. body_of_answer answer ≡ self.now) }
+        ensures few { IfSome result (λ answer. HasFewBytes answer) }
+        ensures some { is_some result ≡ not (is_table self.now) }
+    {
+        Some(match self {
+            Body::Granted {
+                tenant,
+                slot,
+                superblock,
+            } => Answer::Granted {
+                tenant: *tenant,
+                slot: *slot,
+                superblock: *superblock,
+            },
+            Body::TakenBack(superblock) => Answer::TakenBack(*superblock),
+            Body::WasReset {
+                tenant,
+                superblocks,
+            } => Answer::WasReset {
+                tenant: *tenant,
+                superblocks: *superblocks,
+            },
+            Body::Moved {
+                tenant,
+                slot,
+                superblock,
+            } => Answer::Moved {
+                tenant: *tenant,
+                slot: *slot,
+                superblock: *superblock,
+            },
+            Body::Owners(_) | Body::Report(_) => return None,
+            Body::Frame(frame) => Answer::Frame(*frame),
+            Body::Freed(order) => Answer::Freed(*order),
+            Body::Bytes(bytes) => Answer::Bytes(bytes.as_slice()),
+            Body::Written(count) => Answer::Written(*count),
+            Body::Cache {
+                cache,
+                chunk,
+                order,
+                objects,
+                colours,
+            } => Answer::Cache {
+                cache: *cache,
+                chunk: *chunk,
+                order: *order,
+                objects: *objects,
+                colours: *colours,
+            },
+            Body::Destroyed(frames) => Answer::Destroyed(*frames),
+            Body::Object(place) => Answer::Object(*place),
+            Body::Given => Answer::Given,
+            Body::Reaped(frames) => Answer::Reaped(*frames),
+            Body::Refused(refusal) => Answer::Refused(*refusal),
+            Body::Fault(fault) => Answer::Fault(*fault),
+        })
     }
 }
 
@@ -88,7 +210,7 @@ fn copied(bytes: &[u8]) -> ArrayVec<u8, MOST_BYTES>
 }
 
 /// Writes the whole text of the answer to a tenant, one line with its line feed, and answers its length. The room is
-/// `MOST_ANSWER_BYTES` for bytes and for the layout of a new cache, else `SHORT_ANSWER_BYTES`.
+/// `MOST_ANSWER_BYTES` where it is long, else `SHORT_ANSWER_BYTES`.
 #[inline(always)]
 pub fn write_answer(tenant: u8, answer: Answer<'_>, out: &mut [u8]) -> usize
     requires few { HasFewBytes answer }
@@ -97,10 +219,73 @@ pub fn write_answer(tenant: u8, answer: Answer<'_>, out: &mut [u8]) -> usize
     ensures some { 0 < result }
     ensures within { result ≤ room_of answer.entry }
 {
-    let at = put_up_to_three(u32::from(tenant), 0, out);
-    let at = put_text(b"> ", at, out);
-    let at = put_answer(answer, at, out);
+    let end = match answer {
+        Answer::Frame(frame) => {
+            let at = put_front(tenant, b"0> frame        ", 9, out);
+            put_number(frame, at, out)
+        }
+        Answer::Freed(order) => {
+            let at = put_front(tenant, b"0> freed        ", 9, out);
+            put_up_to_three(u32::from(order), at, out)
+        }
+        Answer::Bytes(bytes) => {
+            let at = put_front(tenant, b"0> bytes        ", 9, out);
+            put_digits(bytes, at, out)
+        }
+        Answer::Written(count) => {
+            let at = put_front(tenant, b"0> written      ", 11, out);
+            put_number(count, at, out)
+        }
+        Answer::Object(place) => {
+            let at = put_front(tenant, b"0> object       ", 10, out);
+            put_place(place, at, out)
+        }
+        Answer::Given => put_front(tenant, b"0> given        ", 8, out),
+        rare => put_line(Addressee::Tenant(tenant), rare, out),
+    };
+    put_text(b"\n", end, out)
+}
+
+/// [`write_answer`] to anyone.
+pub fn write_answer_to(addressee: Addressee, answer: Answer<'_>, out: &mut [u8]) -> usize
+    requires few { HasFewBytes answer }
+    requires room { room_of answer ≤ length out.old }
+    ensures text { take result out.new ≡ text_of (reply_to addressee answer.entry) }
+    ensures some { 0 < result }
+    ensures within { result ≤ room_of answer.entry }
+{
+    let at = put_line(addressee, answer, out);
     put_text(b"\n", at, out)
+}
+
+/// Writes the line of an answer without its line feed, and answers where it ends.
+#[cold]
+#[inline(never)]
+fn put_line(addressee: Addressee, answer: Answer<'_>, out: &mut [u8]) -> usize
+    requires few { HasFewBytes answer }
+    requires room { room_of answer ≤ length out.old }
+    ensures text { body_texts (addressee_text addressee) (body_of_answer answer.entry) ≡ take result out.new ∷ [] }
+    ensures short { result < room_of answer.entry }
+{
+    let at = put_addressee(addressee, out);
+    put_answer(answer, at, out)
+}
+
+/// Writes whom a line is for, and answers where it ends.
+#[inline(always)]
+pub(crate) fn put_addressee(addressee: Addressee, out: &mut [u8]) -> usize
+    requires { MOST_FRONT_BYTES ≤ length out.old }
+    ensures text { take result out.new ≡ addressee_text addressee }
+    ensures short { result ≤ MOST_FRONT_BYTES }
+{
+    match addressee {
+        Addressee::Admin => put_text(b"admin> ", 0, out),
+        Addressee::Nobody => put_text(b"!> ", 0, out),
+        Addressee::Tenant(tenant) => {
+            let at = put_up_to_three(u32::from(tenant), 0, out);
+            put_text(b"> ", at, out)
+        }
+    }
 }
 
 /// Writes what is said behind the first `at` bytes, and answers where it ends.
@@ -141,11 +326,37 @@ pub(crate) fn put_answer(answer: Answer<'_>, at: usize, out: &mut [u8]) -> usize
         Answer::Given => put_text(b"given", at, out),
         Answer::Reaped(frames) => put_labelled(b"reaped ", frames, at, out),
         Answer::Refused(refusal) => put_refused(refusal, at, out),
+        Answer::Granted {
+            tenant,
+            slot,
+            superblock,
+        } => {
+            let at = put_text(b"granted ", at, out);
+            put_slot(tenant, slot, superblock, at, out)
+        }
+        Answer::TakenBack(superblock) => {
+            put_labelled(b"taken superblock ", u32::from(superblock), at, out)
+        }
+        Answer::WasReset {
+            tenant,
+            superblocks,
+        } => {
+            let at = put_labelled(b"reset ", u32::from(tenant), at, out);
+            put_labelled(b" superblocks ", u32::from(superblocks), at, out)
+        }
+        Answer::Moved {
+            tenant,
+            slot,
+            superblock,
+        } => {
+            let at = put_text(b"moved ", at, out);
+            put_slot(tenant, slot, superblock, at, out)
+        }
+        Answer::Fault(fault) => put_fault(fault, at, out),
     }
 }
 
-/// The bytes that were read, in hex; out of line, as all that has many bytes or that a load seldom says.
-#[inline(never)]
+/// The bytes that were read, in hex.
 fn put_bytes(bytes: &[u8], at: usize, out: &mut [u8]) -> usize
     requires few { length bytes.now ≤ MOST_BYTES }
     requires front { at ≤ MOST_FRONT_BYTES }
@@ -154,23 +365,43 @@ fn put_bytes(bytes: &[u8], at: usize, out: &mut [u8]) -> usize
     ensures short { result < MOST_ANSWER_BYTES }
 {
     let at = put_text(b"bytes ", at, out);
+    put_digits(bytes, at, out)
+}
+
+/// [`put_hex`] out of line.
+#[inline(never)]
+fn put_digits(bytes: &[u8], at: usize, out: &mut [u8]) -> usize
+    requires { at + 2 * length bytes.now ≤ length out.old }
+    ensures text { take result out.new ≡ take at out.old ++ encode_lower bytes.now }
+    ensures end { result ≡ at + 2 * length bytes.now }
+{
     put_hex(bytes, at, out)
 }
 
-/// No label of a number has more bytes.
-const MOST_LABEL_BYTES: usize = 10;
-
-/// A label, and then a number in decimal.
+/// [`put_figure`] out of line.
 #[cold]
 #[inline(never)]
 fn put_labelled(label: &[u8], number: u32, at: usize, out: &mut [u8]) -> usize
-    requires few { length label.now ≤ MOST_LABEL_BYTES }
-    requires room { at + MOST_LABEL_BYTES + MOST_DIGITS ≤ length out.old }
+    requires { at + length label.now + MOST_DIGITS ≤ length out.old }
     ensures text { take result out.new ≡ take at out.old ++ label.now ++ decimal number }
     ensures short { result ≤ at + length label.now + MOST_DIGITS }
 {
-    let at = put_text(label, at, out);
-    put_number(number, at, out)
+    put_figure(label, number, at, out)
+}
+
+/// A slot of a tenant and the superblock under it.
+#[cold]
+#[inline(never)]
+fn put_slot(tenant: u8, slot: u16, superblock: u16, at: usize, out: &mut [u8]) -> usize
+    requires front { at ≤ MOST_FRONT_BYTES + 8 }
+    requires room { MOST_ANSWER_BYTES ≤ length out.old }
+    ensures text { take result out.new
+        ≡ take at out.old ++ decimal tenant ++ codes " slot " ++ decimal slot ++ codes " superblock " ++ decimal superblock }
+    ensures short { result < MOST_ANSWER_BYTES }
+{
+    let at = put_number(u32::from(tenant), at, out);
+    let at = put_labelled(b" slot ", u32::from(slot), at, out);
+    put_labelled(b" superblock ", u32::from(superblock), at, out)
 }
 
 /// That a cache was made: its number, and how its slabs are cut. The chunk is in bytes; a slab has `2^order` frames.
@@ -210,4 +441,17 @@ fn put_refused(refusal: Refusal, at: usize, out: &mut [u8]) -> usize
     let at = put_up_to_three(u32::from(refusal.number()), at, out);
     let at = put_text(b" ", at, out);
     put_text(refusal.name().as_bytes(), at, out)
+}
+
+/// That a line is faulty.
+#[cold]
+#[inline(never)]
+fn put_fault(fault: LineFault, at: usize, out: &mut [u8]) -> usize
+    requires front { at ≤ MOST_FRONT_BYTES }
+    requires room { SHORT_ANSWER_BYTES ≤ length out.old }
+    ensures text { body_texts (take at out.old) (Fault fault) ≡ take result out.new ∷ [] }
+    ensures short { result < SHORT_ANSWER_BYTES }
+{
+    let at = put_text(b"fault ", at, out);
+    put_text(fault.name().as_bytes(), at, out)
 }

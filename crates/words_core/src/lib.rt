@@ -2,7 +2,7 @@
 //!
 //! [`read_line`] reads one line as an [`Event`], as nothing, or as a [`LineFault`]; [`write_line`]
 //! writes one line of a [`Reply`]. A [`Request`] is a tenant's command that is borrowed, and an
-//! [`Answer`] the small reply to it, of which [`write_answer`] writes the line. No call of this
+//! [`Answer`] a reply of one line in few bytes, which [`write_answer`] writes. No call of this
 //! crate allocates.
 #![tactic(auto)]
 
@@ -13,18 +13,16 @@ mod hex_digits;
 mod laws;
 mod line;
 mod numbers;
-mod put;
 mod reply;
 mod report;
 mod text;
 mod window;
 mod words;
 
-pub use answer::{Answer, MOST_ANSWER_BYTES, SHORT_ANSWER_BYTES, write_answer};
+pub use answer::{Answer, MOST_ANSWER_BYTES, SHORT_ANSWER_BYTES, write_answer, write_answer_to};
 pub use event::{AdminCommand, Command, Event, LineFault, Request};
 pub use laws::one_case;
 pub use line::{MOST_LINE_BYTES, read_line};
-pub use put::MOST_REPLY_BYTES;
 pub use reply::{Addressee, Body, OWNERS, Refusal, Reply};
 pub use report::{CACHES, ORDERS, Report};
-pub use text::{MOST_ROWS, rows, write_line};
+pub use text::{MOST_REPLY_BYTES, MOST_ROWS, rows, write_line, write_row};

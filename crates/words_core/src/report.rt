@@ -1,11 +1,12 @@
 //! The figures of a tenant's memory, and their lines.
 
-ghost use Rattle.std.specs.Prelude.{◌≡◌, ◌+◌, ◌<◌, ◌≤◌, ◌++◌, length, slice_get, Some};
-ghost use Rattle.arrayvec.specs.ArrayVec.{array_vec_len};
+ghost use Rattle.std.specs.Prelude.{◌≡◌, ◌+◌, ◌<◌, ◌≤◌, ◌++◌, length, slice_get, take, Some};
 ghost use Rattle.words_core.specs.ReportTexts.{top_text, frames_text, order_text, cache_text, report_texts};
 
+use crate::answer::MOST_FRONT_BYTES;
 use crate::numbers::MOST_DIGITS;
-use crate::put::{Line, MOST_ADDRESSEE_BYTES, MOST_REPLY_BYTES, put, put_labelled, put_number};
+use crate::text::MOST_REPLY_BYTES;
+use crate::window::{put_figure, put_number, put_text};
 use arrayvec::ArrayVec;
 use model_core::limits::{MOST_CACHES, MOST_ORDER};
 use model_core::report::{CacheRow, OrderRow};
@@ -35,69 +36,76 @@ pub struct Report {
     pub caches: ArrayVec<CacheRow, CACHES>,
 }
 
-/// Writes the line of this row of a report behind what `out` holds.
-pub fn put_report(report: &Report, row: usize, out: &mut Line)
-    requires row { row < length (report_texts out.old.items report.now) }
-    requires room { array_vec_len out.old ≤ MOST_ADDRESSEE_BYTES }
-    ensures text { slice_get (report_texts out.old.items report.now) row ≡ Some out.new.items }
-    ensures short { array_vec_len out.new < MOST_REPLY_BYTES }
+/// Writes the line of this row of a report behind the first `at` bytes, and answers where it ends; so do the others.
+pub(crate) fn put_report(report: &Report, row: usize, at: usize, out: &mut [u8]) -> usize
+    requires row { row < length (report_texts (take at out.old) report.now) }
+    requires front { at ≤ MOST_FRONT_BYTES }
+    requires room { MOST_REPLY_BYTES ≤ length out.old }
+    ensures text { slice_get (report_texts (take at out.old) report.now) row ≡ Some (take result out.new) }
+    ensures short { result < MOST_REPLY_BYTES }
 {
     let Some(order) = row.checked_sub(1) else {
-        return put_frames(report, out);
+        return put_frames(report, at, out);
     };
     let orders = report.orders.as_slice();
     let caches = report.caches.as_slice();
     match order.checked_sub(orders.len()) {
-        None => put_order(order as u32, orders[order], out),
-        Some(cache) => put_cache_row(caches[cache], out),
+        None => put_order(order as u32, orders[order], at, out),
+        Some(cache) => put_cache_row(caches[cache], at, out),
     }
 }
 
-/// Writes the figures of the frames behind what `out` holds.
-fn put_frames(report: &Report, out: &mut Line)
-    requires { array_vec_len out.old ≤ MOST_ADDRESSEE_BYTES }
-    ensures text { out.new.items ≡ frames_text out.old.items report.now }
-    ensures short { array_vec_len out.new < MOST_REPLY_BYTES }
+/// Writes the figures of the frames.
+#[inline(never)]
+fn put_frames(report: &Report, at: usize, out: &mut [u8]) -> usize
+    requires front { at ≤ MOST_FRONT_BYTES }
+    requires room { MOST_REPLY_BYTES ≤ length out.old }
+    ensures text { take result out.new ≡ frames_text (take at out.old) report.now }
+    ensures short { result < MOST_REPLY_BYTES }
 {
-    put_labelled(b"frames ", report.frames, out);
-    put_labelled(b" live ", report.live, out);
-    put_labelled(b" free ", report.free, out);
-    put(b" top ", out);
-    put_top(report.top, out);
-    put_labelled(b" split ", report.split, out);
+    let at = put_figure(b"frames ", report.frames, at, out);
+    let at = put_figure(b" live ", report.live, at, out);
+    let at = put_figure(b" free ", report.free, at, out);
+    let at = put_text(b" top ", at, out);
+    let at = put_top(report.top, at, out);
+    put_figure(b" split ", report.split, at, out)
 }
 
-fn put_top(top: Option<u8>, out: &mut Line)
-    requires { array_vec_len out.old + MOST_DIGITS ≤ MOST_REPLY_BYTES }
-    ensures text { out.new.items ≡ out.old.items ++ top_text top }
-    ensures short { array_vec_len out.new ≤ array_vec_len out.old + MOST_DIGITS }
+fn put_top(top: Option<u8>, at: usize, out: &mut [u8]) -> usize
+    requires { at + MOST_DIGITS ≤ length out.old }
+    ensures text { take result out.new ≡ take at out.old ++ top_text top }
+    ensures short { result ≤ at + MOST_DIGITS }
 {
     match top {
-        None => put(b"none", out),
-        Some(order) => put_number(u32::from(order), out),
+        None => put_text(b"none", at, out),
+        Some(order) => put_number(u32::from(order), at, out),
     }
 }
 
-/// Writes the numbers of blocks of an order behind what `out` holds.
-fn put_order(order: u32, row: OrderRow, out: &mut Line)
-    requires { array_vec_len out.old ≤ MOST_ADDRESSEE_BYTES }
-    ensures text { out.new.items ≡ order_text out.old.items order row }
-    ensures short { array_vec_len out.new < MOST_REPLY_BYTES }
+/// Writes the numbers of blocks of an order.
+#[inline(never)]
+fn put_order(order: u32, row: OrderRow, at: usize, out: &mut [u8]) -> usize
+    requires front { at ≤ MOST_FRONT_BYTES }
+    requires room { MOST_REPLY_BYTES ≤ length out.old }
+    ensures text { take result out.new ≡ order_text (take at out.old) order row }
+    ensures short { result < MOST_REPLY_BYTES }
 {
-    put_labelled(b"order ", order, out);
-    put_labelled(b" free ", row.free, out);
-    put_labelled(b" taken ", row.taken, out);
+    let at = put_figure(b"order ", order, at, out);
+    let at = put_figure(b" free ", row.free, at, out);
+    put_figure(b" taken ", row.taken, at, out)
 }
 
-/// Writes the numbers of slabs and objects of a cache behind what `out` holds.
-fn put_cache_row(row: CacheRow, out: &mut Line)
-    requires { array_vec_len out.old ≤ MOST_ADDRESSEE_BYTES }
-    ensures text { out.new.items ≡ cache_text out.old.items row }
-    ensures short { array_vec_len out.new < MOST_REPLY_BYTES }
+/// Writes the numbers of slabs and objects of a cache.
+#[inline(never)]
+fn put_cache_row(row: CacheRow, at: usize, out: &mut [u8]) -> usize
+    requires front { at ≤ MOST_FRONT_BYTES }
+    requires room { MOST_REPLY_BYTES ≤ length out.old }
+    ensures text { take result out.new ≡ cache_text (take at out.old) row }
+    ensures short { result < MOST_REPLY_BYTES }
 {
-    put_labelled(b"cache ", u32::from(row.cache), out);
-    put_labelled(b" full ", row.full, out);
-    put_labelled(b" partial ", row.partial, out);
-    put_labelled(b" empty ", row.empty, out);
-    put_labelled(b" live ", row.live, out);
+    let at = put_figure(b"cache ", u32::from(row.cache), at, out);
+    let at = put_figure(b" full ", row.full, at, out);
+    let at = put_figure(b" partial ", row.partial, at, out);
+    let at = put_figure(b" empty ", row.empty, at, out);
+    put_figure(b" live ", row.live, at, out)
 }

@@ -1,20 +1,18 @@
 //! The text of a reply, a line at a time.
 
-ghost use Rattle.std.specs.Prelude.{◌≡◌, ◌+◌, ◌<◌, ◌≤◌, [], ◌∷◌, length, slice_get, Some};
-ghost use Rattle.arrayvec.specs.ArrayVec.{array_vec_len};
+ghost use Rattle.std.specs.Prelude.{◌≡◌, ◌+◌, ◌<◌, ◌≤◌, length, slice_get, take, Some};
 ghost use Rattle.words_core.specs.Texts.{owner_text, pool_texts, body_texts, lines_of};
-ghost use Rattle.words_core.specs.Requests.{body_of_answer, HasFewBytes};
 
-use crate::answer::{Answer, MOST_ANSWER_BYTES, put_answer};
-use crate::put::{
-    Line, MOST_ADDRESSEE_BYTES, MOST_REPLY_BYTES, put, put_fault, put_labelled, put_slot,
-    put_taken_back, put_was_reset, start_line,
-};
+use crate::answer::{MOST_FRONT_BYTES, put_addressee, put_answer};
 use crate::reply::{Body, OWNERS, Reply};
 use crate::report::put_report;
+use crate::window::{put_figure, put_text};
 use arrayvec::ArrayVec;
 use model_core::limits::MOST_SUPERBLOCKS;
 use model_core::owner::Owner;
+
+/// Room for the longest line of a reply, its line feed included.
+pub const MOST_REPLY_BYTES: usize = 256;
 
 /// A reply has at most this many lines: those of the table of owners.
 pub const MOST_ROWS: usize = 1 + OWNERS;
@@ -37,112 +35,75 @@ pub fn write_line(reply: &Reply, row: usize, out: &mut ArrayVec<u8, MOST_REPLY_B
     requires { row < length (lines_of reply.now) }
     ensures { slice_get (lines_of reply.now) row ≡ Some out.new.items }
 {
-    start_line(reply.addressee, out);
-    put_body(&reply.body, row, out);
-    out.push(b'\n');
+    let mut text = [0; MOST_REPLY_BYTES];
+    let len = write_row(reply, row, &mut text);
+    out.clear();
+    let taken = out.try_extend_from_slice(&text[..len]);
+    prove!(taken.is_ok());
 }
 
-/// Writes the line of this row of the body behind what `out` holds.
+/// [`write_line`] over the first of the bytes; answers how many they are.
+pub fn write_row(reply: &Reply, row: usize, out: &mut [u8]) -> usize
+    requires row { row < length (lines_of reply.now) }
+    requires room { MOST_REPLY_BYTES ≤ length out.old }
+    ensures text { slice_get (lines_of reply.now) row ≡ Some (take result out.new) }
+    ensures short { result ≤ MOST_REPLY_BYTES }
+{
+    let at = put_addressee(reply.addressee, out);
+    let at = put_body(&reply.body, row, at, out);
+    put_text(b"\n", at, out)
+}
+
+/// Writes the line of this row of the body behind the first `at` bytes, and answers where it ends; so do the others.
 #[tactic(auto, using(crate::proofs::TextLemmas::table_rows))]
-fn put_body(body: &Body, row: usize, out: &mut Line)
-    requires row { row < length (body_texts out.old.items body.now) }
-    requires room { array_vec_len out.old ≤ MOST_ADDRESSEE_BYTES }
-    ensures text { slice_get (body_texts out.old.items body.now) row ≡ Some out.new.items }
-    ensures short { array_vec_len out.new < MOST_REPLY_BYTES }
+fn put_body(body: &Body, row: usize, at: usize, out: &mut [u8]) -> usize
+    requires row { row < length (body_texts (take at out.old) body.now) }
+    requires front { at ≤ MOST_FRONT_BYTES }
+    requires room { MOST_REPLY_BYTES ≤ length out.old }
+    ensures text { slice_get (body_texts (take at out.old) body.now) row ≡ Some (take result out.new) }
+    ensures short { result < MOST_REPLY_BYTES }
 {
     match body {
-        Body::Granted {
-            tenant,
-            slot,
-            superblock,
-        } => put_slot(b"granted ", *tenant, *slot, *superblock, out),
-        Body::TakenBack(superblock) => put_taken_back(*superblock, out),
-        Body::WasReset {
-            tenant,
-            superblocks,
-        } => put_was_reset(*tenant, *superblocks, out),
-        Body::Moved {
-            tenant,
-            slot,
-            superblock,
-        } => put_slot(b"moved ", *tenant, *slot, *superblock, out),
-        Body::Owners(owners) => put_owners(owners.as_slice(), row, out),
-        Body::Frame(frame) => put_told(Answer::Frame(*frame), out),
-        Body::Freed(order) => put_told(Answer::Freed(*order), out),
-        Body::Bytes(bytes) => put_told(Answer::Bytes(bytes.as_slice()), out),
-        Body::Written(count) => put_told(Answer::Written(*count), out),
-        Body::Cache {
-            cache,
-            chunk,
-            order,
-            objects,
-            colours,
-        } => put_told(
-            Answer::Cache {
-                cache: *cache,
-                chunk: *chunk,
-                order: *order,
-                objects: *objects,
-                colours: *colours,
-            },
-            out,
-        ),
-        Body::Destroyed(frames) => put_told(Answer::Destroyed(*frames), out),
-        Body::Object(place) => put_told(Answer::Object(*place), out),
-        Body::Given => put_told(Answer::Given, out),
-        Body::Reaped(frames) => put_told(Answer::Reaped(*frames), out),
-        Body::Report(report) => put_report(report, row, out),
-        Body::Refused(refusal) => put_told(Answer::Refused(*refusal), out),
-        Body::Fault(fault) => put_fault(*fault, out),
+        Body::Owners(owners) => put_owners(owners.as_slice(), row, at, out),
+        Body::Report(report) => put_report(report, row, at, out),
+        _ => put_answer(body.answer().unwrap(), at, out),
     }
 }
 
-/// Writes what a tenant is told behind what `out` holds.
-#[inline(never)]
-fn put_told(answer: Answer<'_>, out: &mut Line)
-    requires few { HasFewBytes answer }
-    requires room { array_vec_len out.old ≤ MOST_ADDRESSEE_BYTES }
-    ensures text { body_texts out.old.items (body_of_answer answer.entry) ≡ out.new.items ∷ [] }
-    ensures short { array_vec_len out.new < MOST_REPLY_BYTES }
-{
-    let mut text = [0; MOST_ANSWER_BYTES];
-    let end = put_answer(answer, 0, &mut text);
-    put(&text[..end], out);
-}
-
-/// Writes a line of the table of owners behind what `out` holds.
-#[cold]
-#[inline(never)]
+/// Writes a line of the table of owners.
 #[tactic(auto, using(crate::proofs::TextLemmas::table_rows))]
-fn put_owners(owners: &[Option<Owner>], row: usize, out: &mut Line)
+fn put_owners(owners: &[Option<Owner>], row: usize, at: usize, out: &mut [u8]) -> usize
     requires row { row < length owners.now + 1 }
     requires few { length owners.now ≤ MOST_SUPERBLOCKS }
-    requires room { array_vec_len out.old ≤ MOST_ADDRESSEE_BYTES }
-    ensures text { slice_get (pool_texts out.old.items owners.now) row ≡ Some out.new.items }
-    ensures short { array_vec_len out.new < MOST_REPLY_BYTES }
+    requires front { at ≤ MOST_FRONT_BYTES }
+    requires room { MOST_REPLY_BYTES ≤ length out.old }
+    ensures text { slice_get (pool_texts (take at out.old) owners.now) row ≡ Some (take result out.new) }
+    ensures short { result < MOST_REPLY_BYTES }
 {
     match row.checked_sub(1) {
         None => {
             let free = owners.iter().filter(|owner| owner.is_none()).count();
-            put_labelled(b"pool free ", free as u32, out);
-            put_labelled(b" of ", owners.len() as u32, out);
+            let at = put_figure(b"pool free ", free as u32, at, out);
+            put_figure(b" of ", owners.len() as u32, at, out)
         }
-        Some(superblock) => put_owner(superblock as u32, owners[superblock], out),
+        Some(superblock) => put_owner(superblock as u32, owners[superblock], at, out),
     }
 }
 
-/// Writes who owns a superblock behind what `out` holds.
-fn put_owner(superblock: u32, owner: Option<Owner>, out: &mut Line)
-    requires { array_vec_len out.old ≤ MOST_ADDRESSEE_BYTES }
-    ensures text { out.new.items ≡ owner_text out.old.items superblock owner }
-    ensures short { array_vec_len out.new < MOST_REPLY_BYTES }
+/// Writes who owns a superblock.
+#[inline(never)]
+fn put_owner(superblock: u32, owner: Option<Owner>, at: usize, out: &mut [u8]) -> usize
+    requires front { at ≤ MOST_FRONT_BYTES }
+    requires room { MOST_REPLY_BYTES ≤ length out.old }
+    ensures text { take result out.new ≡ owner_text (take at out.old) superblock owner }
+    ensures short { result < MOST_REPLY_BYTES }
 {
-    put_labelled(b"superblock ", superblock, out);
+    let at = put_figure(b"superblock ", superblock, at, out);
     match owner {
-        None => put(b" free", out),
+        None => put_text(b" free", at, out),
         Some(owner) => {
-            put_labelled(b" tenant ", u32::from(owner.tenant), out);
-            put_labelled(b" slot ", u32::from(owner.slot), out);
+            let at = put_figure(b" tenant ", u32::from(owner.tenant), at, out);
+            put_figure(b" slot ", u32::from(owner.slot), at, out)
         }
     }
 }

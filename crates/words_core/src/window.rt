@@ -1,6 +1,6 @@
 //! Text and numbers, written one behind the other into the front of some bytes.
 
-ghost use Rattle.std.specs.Prelude.{◌≡◌, ◌+◌, ◌<◌, ◌≤◌, [], ◌∷◌, ◌++◌, take, decimal, length};
+ghost use Rattle.std.specs.Prelude.{◌≡◌, ◌+◌, ◌<◌, ◌≤◌, [], ◌∷◌, ◌++◌, take, drop, decimal, length, slice_range};
 ghost use Rattle.words_core.specs.Digits.{two_digits, five_digits};
 
 /// A number has at most so many digits.
@@ -16,6 +16,52 @@ pub fn put_text(text: &[u8], at: usize, out: &mut [u8]) -> usize
     let end = at + text.len();
     out[at..end].copy_from_slice(text);
     end
+}
+
+/// A front is written at this width, whatever its length.
+const FRONT_BYTES: usize = 16;
+
+/// Writes the number of a tenant and, of the first `len` bytes of `front`, those behind the first; in one store where that number has
+/// one digit, which takes the place of the first. Answers where it ends.
+#[inline(always)]
+pub fn put_front(tenant: u8, front: &[u8; FRONT_BYTES], len: usize, out: &mut [u8]) -> usize
+    requires some { 0 < len }
+    requires within { len ≤ FRONT_BYTES }
+    requires room { FRONT_BYTES + 2 ≤ length out.old }
+    ensures text { take result out.new ≡ decimal tenant ++ slice_range front.now 1 len }
+    ensures short { result ≤ len + 2 }
+{
+    if tenant >= 10 {
+        return put_long_front(tenant, front, len, out);
+    }
+    put_whole(front, out);
+    out[0] = b'0' + tenant;
+    len
+}
+
+/// [`put_front`] of a number of several digits.
+#[inline(never)]
+fn put_long_front(tenant: u8, front: &[u8; FRONT_BYTES], len: usize, out: &mut [u8]) -> usize
+    requires some { 0 < len }
+    requires within { len ≤ FRONT_BYTES }
+    requires room { FRONT_BYTES + 2 ≤ length out.old }
+    ensures text { take result out.new ≡ decimal tenant ++ slice_range front.now 1 len }
+    ensures short { result ≤ len + 2 }
+{
+    let at = put_up_to_three(u32::from(tenant), 0, out);
+    put_text(&front[1..len], at, out)
+}
+
+/// Writes the whole front over the first bytes.
+#[inline(always)]
+fn put_whole(front: &[u8; FRONT_BYTES], out: &mut [u8])
+    requires { FRONT_BYTES ≤ length out.old }
+    ensures { out.new ≡ front.now ++ drop FRONT_BYTES out.old }
+{
+    let Some(first) = out.first_chunk_mut::<FRONT_BYTES>() else {
+        unreachable!()
+    };
+    *first = *front;
 }
 
 /// Writes one digit.
@@ -120,6 +166,17 @@ pub fn put_number(number: u32, at: usize, out: &mut [u8]) -> usize
         return put_up_to_five(number, at, out);
     }
     put_long(number, at, out)
+}
+
+/// Writes a label, and then such a number.
+#[inline(always)]
+pub fn put_figure(label: &[u8], number: u32, at: usize, out: &mut [u8]) -> usize
+    requires { at + length label.now + MOST_DIGITS ≤ length out.old }
+    ensures text { take result out.new ≡ take at out.old ++ label.now ++ decimal number }
+    ensures short { result ≤ at + length label.now + MOST_DIGITS }
+{
+    let at = put_text(label, at, out);
+    put_number(number, at, out)
 }
 
 /// Writes a number that often has more than five digits.

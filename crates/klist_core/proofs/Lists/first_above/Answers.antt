@@ -6,8 +6,8 @@ use Rattle.klist_core.proofs.Lists.first_above.Goals as goal
 
 pub loop-next-init : goal.loop-next-init
 loop-next-init c =
-    let w = c.requires in
-    way_gone_on up (place_at c.args.self.now.places) c.args.head (up c.args.key + 1) c.args.from w.0 _ (omega (arith, w.2)) (c.next_of-next.ensures c.args.head w.0 w.1)
+    let w = c.requires.from in
+    way_gone_on up (place_at c.args.self.now.places) c.args.head (up c.args.key + 1) c.args.from w.0 _ (omega (arith, w.2)) (c.next_of-next.ensures c.args.head w.0 c.requires.by_key w.1)
 
 pub key_of-requires : goal.key_of-requires
 key_of-requires c = way_placed up (place_at c.args.self.now.places) c.args.head (up c.args.key + 1) c.in-Some.node (rw c.in-Some.is at c.loop-next.invariant)
@@ -28,7 +28,7 @@ loop-next-smaller c =
     let v = rw c.in-Some.is at c.loop-next.invariant in
     let k = way_key up place c.args.head (up c.args.key + 1) c.in-Some.node c.key_of.result v c.key_of.ensures in
     let p = v.is.1 in
-    rw c.in-Some.is (way_shortened up place c.args.head (up c.args.key + 1) c.in-Some.node _ v (omega (arith, k, c.key_of.type_inv)) (c.next_of-next-in-Some.ensures c.args.head v.is.0 p.here))
+    rw c.in-Some.is (way_shortened up place c.args.head (up c.args.key + 1) c.in-Some.node _ v (omega (arith, k, c.key_of.type_inv)) (c.next_of-next-in-Some.ensures c.args.head v.is.0 c.requires.by_key p.here))
 
 pub loop-next-preserved : goal.loop-next-preserved
 loop-next-preserved c =
@@ -36,7 +36,7 @@ loop-next-preserved c =
     let v = rw c.in-Some.is at c.loop-next.invariant in
     let k = way_key up place c.args.head (up c.args.key + 1) c.in-Some.node c.key_of.result v c.key_of.ensures in
     let p = v.is.1 in
-    way_gone_on up place c.args.head (up c.args.key + 1) c.in-Some.node v.is.0 _ (omega (arith, k, c.if-key-key_of.false, c.key_of.type_inv, c.ranges.key)) (c.next_of-next-in-Some.ensures c.args.head v.is.0 p.here)
+    way_gone_on up place c.args.head (up c.args.key + 1) c.in-Some.node v.is.0 _ (omega (arith, k, c.if-key-key_of.false, c.key_of.type_inv, c.ranges.key)) (c.next_of-next-in-Some.ensures c.args.head v.is.0 c.requires.by_key p.here)
 
 pub returns : goal.returns
 returns c = rw c.in_default.is (way_exhausted up (place_at c.args.self.now.places) c.args.head (up c.args.key + 1) (rw c.in_default.is at c.loop-next.invariant))

@@ -5,7 +5,7 @@ use Rattle.klist_core.proofs.Lists.gap_behind.Goals as goal
 pub loop-next-init : goal.loop-next-init
 loop-next-init c =
     let w = c.requires.from in
-    record { own = w.0; here = w.1; below = w.2; after = c.next_of-next.ensures c.args.head w.0 w.1 }
+    record { own = w.0; here = w.1; below = w.2; after = c.next_of-next.ensures c.args.head w.0 c.requires.by_key w.1 }
 
 pub key_of-requires : goal.key_of-requires
 key_of-requires c = behind_placed (place_at c.args.self.now.places) c.args.head c.args.key c.loop-next.previous c.in-Some.node (rw c.in-Some.is at c.loop-next.invariant)
@@ -34,7 +34,7 @@ loop-next-smaller c =
 pub loop-next-preserved : goal.loop-next-preserved
 loop-next-preserved c =
     behind_on (place_at c.args.self.now.places) c.args.head c.args.key c.loop-next.previous c.in-Some.node c.key_of.result _ c.requires.fresh
-    (rw c.in-Some.is at c.loop-next.invariant) c.key_of.ensures c.if-key-key_of.false c.next_of-next-in-Some.ensures
+    (rw c.in-Some.is at c.loop-next.invariant) c.key_of.ensures c.if-key-key_of.false c.requires.by_key c.next_of-next-in-Some.ensures
 
 pub returns-clause-previous : goal.returns-clause-previous
 returns-clause-previous c =

@@ -1,4 +1,5 @@
-use Rattle.std.proofs.Common.{◌+◌, length, Some, sym, ap, ◌∙◌, arith}
+use Rattle.std.proofs.Common.{◌≡◌, ◌+◌, length, take, sym, ap, arith}
+use Rattle.std.proofs.lemmas.List.{length-take-le}
 use Rattle.words_core.specs.Texts.{lines_of, text_of}
 use Rattle.replay_core.proofs.PushLemmas.{row_next}
 use Rattle.partmem_c.proofs.TextLemmas.{written_more}
@@ -6,9 +7,11 @@ use Rattle.partmem_c.proofs.lines.put_reply.Goals as goal
 
 pub loop-row-preserved : goal.loop-row-preserved
 loop-row-preserved c =
-    let same = c.as_slice.ensures.value in (
-      written_more (text_of c.args.reply.now) _ c.as_slice.result.now _ c.args.room.now c.loop-row.room c.put.new.room _ _ c.loop-row.invariant.0
-          (row_next (lines_of c.args.reply.now) c.loop-row.row _ (c.write_line.ensures ∙ ap (λ xs. Some xs) (sym same)))
-          c.put.ensures (ap (λ n. c.loop-row.written + n) (c.len-written.ensures.value ∙ ap length (sym same))),
-      omega (arith, c.loop-row.invariant.1, c.len-written.ensures.fits),
+    let len = c.write_row-len.result in
+    let line = take len c.write_row-len.new.out in
+    let counted : length line ≡ len = length-take-le len c.write_row-len.new.out (omega (arith, c.write_row-len.ensures.short, c.write_row-len.auto.out)) in (
+      written_more (text_of c.args.reply.now) _ line _ c.args.room.now c.loop-row.room c.put.new.room _ _ c.loop-row.invariant.0
+          (row_next (lines_of c.args.reply.now) c.loop-row.row _ c.write_row-len.ensures.text)
+          c.put.ensures (ap (λ n. c.loop-row.written + n) (sym counted)),
+      omega (arith, c.loop-row.invariant.1, c.write_row-len.ensures.short),
     )

@@ -18,6 +18,6 @@ returns-clause-reads c =
     is_read_one c.one_case.ensures.some c.one_case.ensures.only window a (a + 1) (a + 5 + 1) (a + 5 + 2) last.end c.args.tenant.value last.value
     alloc_row (Whole.Alloc last.value)
     refl (omega arith) (omega arith) c.in_ok-order.ensures.some (omega arith) (omega arith)
-    c.requires.begins.number c.requires.begins.blank word blank c.in_ok-order.ensures.value c.in_ok-order.ensures.ended
+    c.requires.begins.names.number c.requires.begins.names.blank word blank c.in_ok-order.ensures.value c.in_ok-order.ensures.ended
     (0, omega arith, refl) alloc_plain
     (one_number Whole.Alloc (slice_range window (a + 5 + 2) last.end) last.value c.in_ok-order.ensures.value)

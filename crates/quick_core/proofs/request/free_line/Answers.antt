@@ -14,6 +14,6 @@ returns-clause-reads c =
     is_read_one c.one_case.ensures.some c.one_case.ensures.only window a (a + 1) (a + 5) (a + 5 + 1) last.end c.args.tenant.value last.value
     free_row (Whole.Free last.value)
     refl (omega arith) refl c.in_ok-frame.ensures.some (omega arith) (omega arith)
-    c.requires.begins.number c.requires.begins.blank c.requires.begins.letters blank c.in_ok-frame.ensures.value c.in_ok-frame.ensures.ended
+    c.requires.begins.names.number c.requires.begins.names.blank c.requires.begins.letters blank c.in_ok-frame.ensures.value c.in_ok-frame.ensures.ended
     (1, omega arith, refl) free_plain
     (one_number Whole.Free (slice_range window (a + 5 + 1) last.end) last.value c.in_ok-frame.ensures.value)

@@ -17,7 +17,7 @@ returns-clause-reads c =
     is_read_two c.one_case.ensures.some c.one_case.ensures.only window a (a + 1) (a + 5) (a + 5 + 1) cache.end (cache.end + 1) place.end
     c.args.tenant.value cache.value place.value give_row (Whole.Give cache.value place.value)
     refl (omega arith) refl c.in_ok-cache.ensures.some refl c.in_ok-place.ensures.some (omega arith) (omega arith)
-    c.requires.begins.number c.requires.begins.blank c.requires.begins.letters blank c.in_ok-cache.ensures.value second c.in_ok-place.ensures.value
+    c.requires.begins.names.number c.requires.begins.names.blank c.requires.begins.letters blank c.in_ok-cache.ensures.value second c.in_ok-place.ensures.value
     c.in_ok-place.ensures.ended
     (7, omega arith, refl) give_plain
     (two_numbers Whole.Give (slice_range window (a + 5 + 1) cache.end) (slice_range window (cache.end + 1) place.end)

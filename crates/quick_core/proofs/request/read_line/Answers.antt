@@ -17,7 +17,7 @@ returns-clause-reads c =
     is_read_two c.one_case.ensures.some c.one_case.ensures.only window a (a + 1) (a + 5) (a + 5 + 1) place.end (place.end + 1) len.end
     c.args.tenant.value place.value len.value read_row (Whole.Read place.value len.value)
     refl (omega arith) refl c.in_ok-place.ensures.some refl c.in_ok-len.ensures.some (omega arith) (omega arith)
-    c.requires.begins.number c.requires.begins.blank c.requires.begins.letters blank c.in_ok-place.ensures.value second c.in_ok-len.ensures.value
+    c.requires.begins.names.number c.requires.begins.names.blank c.requires.begins.letters blank c.in_ok-place.ensures.value second c.in_ok-len.ensures.value
     c.in_ok-len.ensures.ended
     (2, omega arith, refl) read_plain
     (two_numbers Whole.Read (slice_range window (a + 5 + 1) place.end) (slice_range window (place.end + 1) len.end)

@@ -20,4 +20,4 @@ returns-clause-reads c =
     is_read_hex c.one_case.ensures.some c.one_case.ensures.only rest a (a + 1) (a + 5 + 1) (a + 5 + 2) place.end (place.end + 1)
     (place.end + 1 + 2 * count) c.args.tenant.value place.value (take count c.decode_at-count.new.out)
     refl (omega arith) (omega arith) c.in_ok-place.ensures.some refl (omega arith) (omega arith) (omega arith) (omega arith)
-    c.requires.begins.number c.requires.begins.blank word blank c.in_ok-place.ensures.value second (decoded.decoded 0) ended
+    c.requires.begins.names.number c.requires.begins.names.blank word blank c.in_ok-place.ensures.value second (decoded.decoded 0) ended

@@ -1,4 +1,5 @@
-use Rattle.std.proofs.Common.{◌+◌, sym, ap, ◌∙◌, arith}
+use Rattle.std.proofs.Common.{◌≡◌, ℕ, ◌+◌, ◌≤◌, None, sym, ap, ◌∙◌, subst, arith}
+use Rattle.slab_tables.specs.Content.{cache_at}
 use Rattle.std.specs.Prelude.{flat_map}
 use Rattle.model_core.specs.Slabs.{empty_blocks}
 use Rattle.model_core.specs.CacheOperations.{frames_of}
@@ -19,6 +20,7 @@ loop-c-preserved c = record {
 
 pub returns : goal.returns
 returns c = λ r b m a st h.
+    let none : (d : ℕ) → c.loop-c.c ≤ d → cache_at c.args.self.now c.args.t d ≡ None =
+    λ d from. subst (λ s. cache_at s c.args.t d ≡ None) c.self.view_is (c.caches_below-c-end.ensures.none d (omega (arith, from, c.loop-c-test.false))) in
     c.loop-c.invariant.frames r b m a st h
-    ∙ ap (λ xs. frames_of (flat_map empty_blocks xs)) (below_all c.loop-c.c m.caches (λ x i.
-    let small = numbers_below r b c.args.self.now c.args.t m h x i in omega (arith, c.loop-c-test.false, c.from-c-end.ensures, small)))
+    ∙ ap (λ xs. frames_of (flat_map empty_blocks xs)) (below_all c.loop-c.c m.caches (numbers_below r b c.args.self.now c.args.t c.loop-c.c m none h))

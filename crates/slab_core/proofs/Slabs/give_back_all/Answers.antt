@@ -1,6 +1,7 @@
-use Rattle.std.proofs.Common.{◌≡◌, ◌+◌, true, Some, None, sym, ◌∙◌, subst, arith}
+use Rattle.std.proofs.Common.{◌≡◌, ◌+◌, true, Some, None, sym, ◌∙◌, subst, ⊎_elim, arith}
+use Rattle.std.proofs.lemmas.Bool.{cases_lt}
 use Rattle.slab_tables.specs.Content.{cache_at}
-use Rattle.slab_core.proofs.ReturnMany.{giving_none, giving_all, still_apart, none_any, below_same, below_next, below_none}
+use Rattle.slab_core.proofs.ReturnMany.{giving_none, giving_all, still_apart, none_any, no_cache, below_same, below_next, below_none}
 use Rattle.slab_core.proofs.Slabs.give_back_all.Goals as goal
 use Rattle.slab_core.proofs.Slabs.give_back_all.Goals.{in-Some, in_default}
 
@@ -28,7 +29,7 @@ loop-c-preserved c = elim c.match-copied.branch [
       below_same c.args.space.now c.loop-c.space c.match-copied.space c.args.buddy.now c.loop-c.buddy c.match-copied.buddy
       c.args.self.now c.loop-c.self c.match-copied.self c.args.t (c.loop-c.c + 1) w.space-is w.buddy-is w.self-is
       (below_none c.args.space.now c.loop-c.space c.args.buddy.now c.loop-c.buddy c.args.self.now c.loop-c.self c.args.t c.loop-c.c c.loop-c.invariant
-      (omega (arith, c.loop-c-test.true, c.from-c-end.ensures))
+      (omega (arith, c.loop-c-test.true, c.caches_below-c-end.ensures.few))
       (subst (λ s. cache_at s c.args.t c.loop-c.c ≡ None) c.self-in-loop-c.view_is
       (sym c.cache.ensures ∙ sym c.copied.ensures ∙ w.in_default.is)))
 ]
@@ -40,4 +41,6 @@ returns-clause-returned c =
     c.laws_with.ensures.steady g
     (none_any c.loop-c.space c.loop-c.buddy c.loop-c.self c.args.t g.tables g.agree
     (still_apart _ _ _ _ _ _ _ _ c.laws_with.ensures.steady g c.laws_with.ensures.parts.space.apart)
-    (λ d less. c.loop-c.invariant.lists d (omega (arith, less, c.loop-c-test.false, c.from-c-end.ensures))))
+    (λ d less. ⊎_elim (c.loop-c.invariant.lists d)
+    (λ from. no_cache c.loop-c.self c.args.t d g.tables less (g.returned.caches d ∙ subst (λ s. cache_at s c.args.t d ≡ None) c.self.view_is
+    (c.caches_below-c-end.ensures.none d (omega (arith, from, c.loop-c-test.false))))) (cases_lt d c.loop-c.c)))

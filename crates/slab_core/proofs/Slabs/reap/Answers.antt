@@ -13,6 +13,7 @@ returns-clause-answer c = λ m h.
 pub returns-clause-shows : goal.returns-clause-shows
 unfolding reap_step
 returns-clause-shows c = λ m h.
-    reaped_shows c.args.space.now c.give_back_all.new.space c.args.buddy.now c.give_back_all.new.buddy c.args.self.now c.give_back_all.new.self
+    rw (c.lower.ensures, c.self.view_is)
+    (reaped_shows c.args.space.now c.give_back_all.new.space c.args.buddy.now c.give_back_all.new.buddy c.args.self.now c.give_back_all.new.self
     c.args.t (idle_at (λ i. true) c.args.space.now c.args.self.now c.args.t) m c.give_back_all.ensures.returned c.laws_with.ensures.steady h
-    (idle_empty c.args.space.now c.args.buddy.now c.args.self.now c.args.t m c.laws_with.ensures.parts.slabs c.requires.agree h)
+    (idle_empty c.args.space.now c.args.buddy.now c.args.self.now c.args.t m c.laws_with.ensures.parts.slabs c.requires.agree h))

@@ -49,9 +49,10 @@ returns-then-not-fits_by_need-clause-answer c = λ m h.
 
 pub returns-then-not-fits_by_need-clause-shows : goal.returns-then-not-fits_by_need-clause-shows
 returns-then-not-fits_by_need-clause-shows c = λ m h.
-    subst (λ b. ShowsMachine c.args.space.now b c.args.self.now c.args.t (alloc_step c.args.self.now.top c.args.k m).machine) (sym c.in_default.ensures.refused)
+    rw c.fits_by_need.ensures.same
+    (subst (λ b. ShowsMachine c.args.space.now b c.args.self.now c.args.t (alloc_step c.args.self.now.top c.args.k m).machine) (sym c.in_default.ensures.refused)
     (subst (ShowsMachine c.args.space.now c.args.buddy.now c.args.self.now c.args.t)
-    (sym (refused_step c.args.self.now.top c.args.k m c.requires.order (c.in_default.ensures.answer m h) (still_none c m h))) h)
+    (sym (refused_step c.args.self.now.top c.args.k m c.requires.order (c.in_default.ensures.answer m h) (still_none c m h))) h))
 
 pub returns-then-not-fits_by_need-clause-room : goal.returns-then-not-fits_by_need-clause-room
 returns-then-not-fits_by_need-clause-room c = (
@@ -65,7 +66,7 @@ gone : (c : goal.After-reserve-2) → IsReturned c.args.space.now c.give_back_al
     c.args.self.now c.give_back_all.new.self c.args.t (idle_at (λ i. true) c.args.space.now c.args.self.now c.args.t)
 gone c =
     subst (λ b. IsReturned c.args.space.now c.give_back_all.new.space b c.give_back_all.new.buddy c.args.self.now c.give_back_all.new.self c.args.t
-    (idle_at (λ i. true) c.args.space.now c.args.self.now c.args.t)) c.in_default.ensures.refused c.give_back_all.ensures.returned
+    (idle_at (λ i. true) c.args.space.now c.args.self.now c.args.t)) c.in_default.ensures.refused (rw c.fits_by_need.ensures.same at c.give_back_all.ensures.returned)
 
 room : (c : goal.After-reserve-2) → HasRoom c.args.space.now c.args.buddy.now c.args.self.now c.args.t c.args.k
 room c =
@@ -97,5 +98,5 @@ returns-clause-spares c =
     spares_twice c.args.space.now c.give_back_all.new.space c.give_back_all.new.space c.args.buddy.now c.give_back_all.new.buddy c.reserve-2.new.buddy
     c.args.self.now c.give_back_all.new.self c.give_back_all.new.self c.args.t
     (subst (λ b. Spares c.args.t c.args.space.now c.give_back_all.new.space b c.give_back_all.new.buddy c.args.self.now c.give_back_all.new.self)
-    c.in_default.ensures.refused c.give_back_all.ensures.spares)
+    c.in_default.ensures.refused (rw c.fits_by_need.ensures.same at c.give_back_all.ensures.spares))
     c.reserve-2.ensures.spares

@@ -1,4 +1,5 @@
-use Rattle.std.proofs.Common.{◌≡◌, ℕ, map, length, sym, ap, ◌∙◌, arith}
+use Rattle.std.proofs.Common.{◌≡◌, ℕ, ◌≤◌, None, map, length, sym, ap, ◌∙◌, subst, arith}
+use Rattle.slab_tables.specs.Content.{cache_at}
 use Rattle.model_core.specs.Machine.{Cache}
 use Rattle.model_core.specs.Slabs.{cache_of}
 use Rattle.model_core.specs.Reports.{row_of_cache}
@@ -34,6 +35,7 @@ loop-c-preserved c = elim c.match-row.branch [
 
 pub returns : goal.returns
 returns c = λ r b m a st h.
-    let last : c.loop-c.c ≡ 32 = omega arith in
+    let none : (d : ℕ) → c.loop-c.c ≤ d → cache_at c.args.self.now c.args.t d ≡ None =
+    λ d from. subst (λ s. cache_at s c.args.t d ≡ None) c.self.view_is (c.caches_below-c-end.ensures.none d (omega (arith, from, c.loop-c-test.false, c.caches_below-c-end.ensures.few))) in
     c.loop-c.invariant.1 r b m a st h
-    ∙ ap (map row_of_cache) (ap (λ (n : ℕ). below (λ (x : Cache). x.number) n m.caches) last ∙ all_caches r b c.args.self.now c.args.t m h)
+    ∙ ap (map row_of_cache) (all_caches r b c.args.self.now c.args.t c.loop-c.c m none h)

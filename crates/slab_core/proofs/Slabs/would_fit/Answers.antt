@@ -1,26 +1,39 @@
-use Rattle.std.proofs.Common.{sym, ◌∙◌}
-use Rattle.std.specs.Prelude.{is_some}
+use Rattle.std.proofs.Common.{◌≡◌, true, sym, ◌∙◌, subst, arith}
+use Rattle.std.specs.Prelude.{◌↔◌}
 use Rattle.std.proofs.lemmas.Bool.{false≢true}
-use Rattle.model_core.specs.Machine.{choice}
-use Rattle.model_core.specs.Slabs.{reaped}
-use Rattle.parts_laws.proofs.Steady.{counted}
-use Rattle.parts_laws.proofs.Room.{room_meets}
-use Rattle.slab_core.proofs.RoomFits.{room_by_free, same_answer}
+use Rattle.parts_laws.specs.Room.{HasRoom}
+use Rattle.slab_core.specs.Room.{HasRoomInSlabs}
+use Rattle.slab_core.proofs.RoomFits.{room_by_free, room_by_slabs, room_answers}
 use Rattle.slab_core.proofs.Slabs.would_fit.Goals as goal
+use Rattle.slab_core.proofs.Slabs.would_fit.Goals.{Then-has_free, After-has_room_in_slabs}
 
-pub returns-then-has_free-clause-room : goal.returns-then-has_free-clause-room
-returns-then-has_free-clause-room c =
+-- a block is free
+free : (c : Then-has_free) → (c.has_free.result ≡ true) ↔ HasRoom c.args.space.now c.args.buddy.now c.args.self.now c.args.t c.args.k
+free c =
     let x = c.args in
     room_by_free x.space.now x.buddy.now x.self.now x.t x.k c.laws_with.ensures.parts.slabs c.requires.agree c.laws_with.ensures.steady c.requires.order
     c.has_free.result c.if-has_free.true c.has_free.ensures
 
-pub returns-then-has_free-clause-answer : goal.returns-then-has_free-clause-answer
-returns-then-has_free-clause-answer c m shows =
-    let x = c.args in
-    same_answer c.has_free.result (is_some (choice x.self.now.top (reaped m) x.k))
-    (room_by_free x.space.now x.buddy.now x.self.now x.t x.k c.laws_with.ensures.parts.slabs c.requires.agree c.laws_with.ensures.steady c.requires.order
-    c.has_free.result c.if-has_free.true c.has_free.ensures)
-    (room_meets x.space.now x.buddy.now x.self.now x.t x.k m c.laws_with.ensures.steady (counted x.space.now x.buddy.now x.self.now c.laws_with.ensures.parts.slabs c.requires.agree x.t) shows c.requires.order)
+pub returns-then-has_free-clause-room : goal.returns-then-has_free-clause-room
+returns-then-has_free-clause-room c = free c
 
-pub fits_by_need-requires-clause-none : goal.fits_by_need-requires-clause-none
-fits_by_need-requires-clause-none c = λ h. false≢true (sym c.if-has_free.false ∙ c.has_free.ensures.1 h)
+pub returns-then-has_free-clause-answer : goal.returns-then-has_free-clause-answer
+returns-then-has_free-clause-answer c =
+    room_answers c.args.space.now c.args.buddy.now c.args.self.now c.args.t c.args.k c.laws_with.ensures.parts c.laws_with.ensures.steady c.requires.order
+    c.has_free.result (free c)
+
+-- none is
+room : (c : After-has_room_in_slabs) → (c.has_room_in_slabs.result ≡ true) ↔ HasRoom c.args.space.now c.args.buddy.now c.args.self.now c.args.t c.args.k
+room c =
+    let x = c.args in
+    room_by_slabs x.space.now x.buddy.now x.self.now x.t x.k c.laws_with.ensures.parts.slabs c.requires.agree c.laws_with.ensures.steady c.laws_with.ensures.parts.buddy
+    (omega (arith, c.requires.tenant, c.requires.agree.rows)) c.requires.order (λ h. false≢true (sym c.if-has_free.false ∙ c.has_free.ensures.1 h)) c.has_room_in_slabs.result
+    (subst (λ s. (c.has_room_in_slabs.result ≡ true) ↔ HasRoomInSlabs x.space.now x.buddy.now s x.t x.k) c.self.view_is c.has_room_in_slabs.ensures.room)
+
+pub returns-else-has_free-clause-room : goal.returns-else-has_free-clause-room
+returns-else-has_free-clause-room c = room (goal.at.returns-else-has_free-clause-room c).After-has_room_in_slabs
+
+pub returns-else-has_free-clause-answer : goal.returns-else-has_free-clause-answer
+returns-else-has_free-clause-answer c =
+    room_answers c.args.space.now c.args.buddy.now c.args.self.now c.args.t c.args.k c.laws_with.ensures.parts c.laws_with.ensures.steady c.requires.order
+    c.has_room_in_slabs.result (room (goal.at.returns-else-has_free-clause-answer c).After-has_room_in_slabs)

@@ -3,6 +3,7 @@ use lib.Seq.{paste}
 use Rattle.std.proofs.lemmas.List.{with_items_is, places}
 use Rattle.std.proofs.lemmas.List.Edits.{take-paste}
 use Rattle.std.proofs.lemmas.Slice.{between_is}
+use Rattle.ends.specs.Held.{HeldBytes}
 use Rattle.ends.proofs.held.Held.remove_front.Goals as goal
 
 pub returns : goal.returns
@@ -17,4 +18,4 @@ returns c =
     ∙ take-paste room 0 (drop c.args.count room) left (omega arith) within
     ∙ between_is room c.args.count len
     ∙ ap (λ xs. drop c.args.count (take len xs)) c.as_mut_slice.ensures.value
-    ∙ ap (drop c.args.count) c.self.view_is
+    ∙ ap (λ (h : HeldBytes). drop c.args.count h.bytes) c.self.view_is

@@ -1,7 +1,7 @@
-use Rattle.std.proofs.Common.{◌≡◌, ◌<◌, ◌≤◌, ◌∙◌, refl, ap, arith}
+use Rattle.std.proofs.Common.{◌≡◌, ◌≤◌, ◌∙◌, refl, ap, arith}
 use Rattle.words_core.specs.Requests.{command_of}
 use Rattle.parts_core.specs.Parts.{Parts}
-use Rattle.kernel_core.proofs.Worlds.{unknown_tenant, steps_asked}
+use Rattle.kernel_core.proofs.Worlds.{unknown_tenant}
 use Rattle.kernel_core.proofs.kernel.Kernel.ask.Goals as goal
 
 pub returns-then-tenant-from : goal.returns-then-tenant-from
@@ -14,9 +14,7 @@ returns-then-tenant-from c =
 
 pub returns : goal.returns
 returns c =
-    let done = c.run-answer.follows.holds-at-none in
-    let same : c.tenants.result ≡ c.args.self.now.tenants = c.tenants.ensures ∙ ap (λ (k : Parts). k.tenants) c.self.view_is in
-    let known : c.args.tenant < c.args.self.now.tenants = omega (arith, same, c.from.ensures) in (
-      (refl, λ _. tt, (refl, steps_asked _ _ c.args.tenant c.args.tenant (command_of c.args.request) _ refl known (λ _ _. done.agree c.parts_agree.ensures) done.steps)),
-      record { asked = tt; few = c.run-answer.ensures.few; bytes = c.run-answer.ensures.bytes },
+    let done = c.ask_known.follows.holds-at-none in (
+      (refl, λ _. tt, (refl, done)),
+      record { asked = tt; few = c.ask_known.ensures.few; bytes = c.ask_known.ensures.bytes },
     )

@@ -1,5 +1,6 @@
 use Rattle.std.proofs.Common.{subst, sym, arith}
-use Rattle.klist_core.specs.Places.{Placed, IsFirst}
+use Rattle.klist_core.specs.Places.{Placed, place_at}
+use Rattle.klist_core.proofs.Behind.{in_placed}
 use Rattle.klist_core.proofs.Tables.{placed_within, count_removed}
 use Rattle.slab_tables.proofs.Emptying.{IsEmptying, emptying_none, emptying_more, emptying_all}
 use Rattle.slab_tables.proofs.places.SlabLists.clear.Goals as goal
@@ -9,15 +10,15 @@ loop-node-init c = emptying_none c.args.self.now c.args.head
 
 pub loop-node-preserved : goal.loop-node-preserved
 loop-node-preserved c =
-    let first : IsFirst c.loop-node.self.places c.args.head c.in-Some.field-0-0 c.in-Some.node = rw c.in-Some.is at c.first.ensures in
+    let here = in_placed c.args.head (place_at c.loop-node.self.places c.in-Some.node) (rw c.in-Some.is at c.any.ensures) in
     subst (λ (s : Placed). IsEmptying c.args.self.now s c.args.head) (sym c.remove.ensures)
-    (emptying_more c.args.self.now c.loop-node.self c.args.head c.in-Some.node c.in-Some.field-0-0 c.loop-node.invariant first.here)
+    (emptying_more c.args.self.now c.loop-node.self c.args.head c.in-Some.node here.0 c.loop-node.invariant here.1)
 
 pub loop-node-smaller : goal.loop-node-smaller
 loop-node-smaller c =
-    let first : IsFirst c.loop-node.self.places c.args.head c.in-Some.field-0-0 c.in-Some.node = rw c.in-Some.is at c.first.ensures in
-    let less = count_removed c.loop-node.self.places c.args.head c.in-Some.node c.in-Some.field-0-0 (placed_within _ _ _ first.here) first.here in
+    let here = in_placed c.args.head (place_at c.loop-node.self.places c.in-Some.node) (rw c.in-Some.is at c.any.ensures) in
+    let less = count_removed c.loop-node.self.places c.args.head c.in-Some.node here.0 (placed_within _ _ _ here.1) here.1 in
     rw c.remove.ensures (omega (arith, less))
 
 pub returns : goal.returns
-returns c = emptying_all c.args.self.now c.loop-node.self c.args.head c.loop-node.invariant (rw c.in_default.is at c.first.ensures)
+returns c = emptying_all c.args.self.now c.loop-node.self c.args.head c.loop-node.invariant (rw c.in_default.is at c.any.ensures)

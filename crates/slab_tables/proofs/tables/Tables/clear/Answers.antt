@@ -1,7 +1,8 @@
-use Rattle.std.proofs.Common.{◌≡◌, ◌+◌, ◌*◌, ◌∙◌, subst, arith}
+use Rattle.std.proofs.Common.{◌≡◌, ◌+◌, ◌*◌, ◌∙◌, None, refl, subst, arith}
 use Rattle.slab_tables.specs.Content.{index_of_cache}
 use Rattle.slab_tables.specs.Changes.{IsEmptied}
 use Rattle.slab_tables.proofs.Reading.{shown, cache_within}
+use Rattle.slab_tables.proofs.Below.{below_cache}
 use Rattle.slab_tables.proofs.Clearing.{emptied_all, slabs_cleared}
 use Rattle.slab_tables.proofs.tables.Tables.clear.Goals as goal
 
@@ -15,7 +16,10 @@ invariant_of-self c =
     let x : IsEmptied c.self.inside.lists a (3 * i) = subst (IsEmptied c.self.inside.lists a) first c.clear.ensures in
     let y : IsEmptied a b (3 * i + 1) = rw c.of-2.ensures at c.clear-2.ensures in
     let w : IsEmptied b z (3 * i + 2) = rw c.of-3.ensures at c.clear-3.ensures in
+    let lt = cache_within (shown c.self.inside) c.args.t c.args.c (rw (← c.self.view_is) at c.requires.tenant) c.requires.cache in
     rw c.index_of-i.ensures
-    (slabs_cleared (shown c.self.inside) i z c.self.invariant (cache_within (shown c.self.inside) c.args.t c.args.c (rw (← c.self.view_is) at c.requires.tenant) c.requires.cache)
-    (w.heads ∙ (y.heads ∙ x.heads)) (w.nodes ∙ (y.nodes ∙ x.nodes))
-    (emptied_all c.self.inside.lists a b z i x y w))
+    (record {
+      slabs = slabs_cleared (shown c.self.inside) i z c.self.invariant.slabs lt (w.heads ∙ (y.heads ∙ x.heads)) (w.nodes ∙ (y.nodes ∙ x.nodes))
+          (emptied_all c.self.inside.lists a b z i x y w);
+      ends = below_cache c.self.inside.caches.items c.self.inside.below.items i None lt (λ le. refl) c.self.invariant.ends;
+    })

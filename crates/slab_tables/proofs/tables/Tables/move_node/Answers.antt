@@ -9,6 +9,9 @@ pub invariant_of-self : goal.invariant_of-self
 invariant_of-self c =
     let a = c.self.inside in
     let from = rw (← c.self.view_is) at c.requires.from in
-    let read = get_or_read a.kept.items c.args.from c.index.result.now (omega (arith, c.self.invariant.paired, from)) c.index.ensures blank in
+    let read = get_or_read a.kept.items c.args.from c.index.result.now (omega (arith, c.self.invariant.slabs.paired, from)) c.index.ensures blank in
     rw (c.replace.ensures, read)
-    (slabs_moved (shown a) c.args.from c.args.to c.self.invariant.paired from (rw (← c.self.view_is) at c.requires.to) c.requires.apart (rw (← c.self.view_is) at c.requires.free) c.self.invariant)
+    (record {
+      slabs = slabs_moved (shown a) c.args.from c.args.to c.self.invariant.slabs.paired from (rw (← c.self.view_is) at c.requires.to) c.requires.apart (rw (← c.self.view_is) at c.requires.free) c.self.invariant.slabs;
+      ends = c.self.invariant.ends;
+    })

@@ -9,10 +9,10 @@ next : (c : After-node_at-in-loop-i) → IsStep c.args.self.now c.loop-i.self c.
 next c =
     let same = ap (λ (s : Content). s.top) c.self.view_is in
     step c.args.self.now c.loop-i.self c.args.from c.args.to c.loop-i.i c.self.inside.order c.node_at.result c.node_at-in-loop-i.result same
-    (omega (arith, same, c.self.invariant.order)) c.loop-i-test.true c.node_at.ensures c.node_at-in-loop-i.ensures c.requires.from c.requires.to c.loop-i.invariant.nodes
+    (omega (arith, same, c.self.invariant.slabs.order)) c.loop-i-test.true c.node_at.ensures c.node_at-in-loop-i.ensures c.requires.from c.requires.to c.loop-i.invariant.nodes
 
 pub loop-i-init : goal.loop-i-init
-loop-i-init c = moving_none c.args.self.now c.args.from c.args.to (subst (λ (s : Content). length s.kept ≡ length s.lists.places) c.self.view_is c.self.invariant.paired)
+loop-i-init c = moving_none c.args.self.now c.args.from c.args.to (subst (λ (s : Content). length s.kept ≡ length s.lists.places) c.self.view_is c.self.invariant.slabs.paired)
 
 pub move_node-requires-clause-from : goal.move_node-requires-clause-from
 move_node-requires-clause-from c = let n = next c in omega (arith, n.from_is, n.from_lt)
@@ -41,5 +41,5 @@ loop-i-preserved c =
 pub returns : goal.returns
 returns c =
     let same = ap (λ (s : Content). s.top) c.self.view_is in
-    let frames = frames_are c.self.inside.order c.args.self.now.top same (omega (arith, same, c.self.invariant.order)) in
+    let frames = frames_are c.self.inside.order c.args.self.now.top same (omega (arith, same, c.self.invariant.slabs.order)) in
     moving_all c.args.self.now c.loop-i.self c.args.from c.args.to c.loop-i.i (omega (arith, frames)) c.loop-i.invariant

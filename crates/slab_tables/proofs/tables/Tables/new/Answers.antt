@@ -1,5 +1,6 @@
 use Rattle.std.proofs.Common.{◌≡◌, ◌*◌, ◌%◌, ◌^◌, ◌≤◌, rules, arith}
 use Rattle.std.proofs.Math.Nat.{pow-le-pow_right, mul-le-mul}
+use Rattle.slab_tables.proofs.Below.{below_opening}
 use Rattle.slab_tables.proofs.Keeping.{slabs_opening}
 use Rattle.slab_tables.proofs.tables.Tables.new.Goals as goal
 
@@ -13,4 +14,6 @@ invariant_of-result c =
     let caches = c.in_ok-vec-2.ensures.items_if_clones_equal (λ y h. search rules) in
     let live = c.in_ok-vec-3.ensures.items_if_clones_equal (λ y h. search rules) in
     let nodes : c.args.superblocks * 2 ^ c.args.order % 4294967296 ≡ c.args.superblocks * 2 ^ c.args.order = omega (arith, most) in
-    rw (lists, kept, caches, live, c.from.ensures, c.from-2.ensures, c.from-3.ensures, nodes) whole
+    let below = c.in_ok-vec-4.ensures.items_if_clones_equal (λ y h. search rules) in
+    rw (lists, kept, caches, live, below, c.from.ensures, c.from-2.ensures, c.from-3.ensures, c.from-4.ensures, nodes)
+    (record { slabs = whole; ends = below_opening c.args.tenants })

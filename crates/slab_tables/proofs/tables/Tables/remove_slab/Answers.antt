@@ -6,4 +6,7 @@ use Rattle.slab_tables.proofs.tables.Tables.remove_slab.Goals as goal
 pub invariant_of-self : goal.invariant_of-self
 invariant_of-self c =
     rw c.remove.ensures
-    (slabs_without (shown c.self.inside) c.args.node c.self.invariant (some_within _ c.args.node (rw (← c.self.view_is) at c.requires.placed)) (rw (← c.self.view_is) at c.requires.empty))
+    (record {
+      slabs = slabs_without (shown c.self.inside) c.args.node c.self.invariant.slabs (some_within _ c.args.node (rw (← c.self.view_is) at c.requires.placed)) (rw (← c.self.view_is) at c.requires.empty);
+      ends = c.self.invariant.ends;
+    })

@@ -1,5 +1,6 @@
-use Rattle.std.proofs.Common.{◌+◌, arith}
+use Rattle.std.proofs.Common.{◌+◌, sym, subst, arith}
 use Rattle.slab_tables.specs.Content.{index_of_cache}
+use Rattle.slab_tables.specs.Changes.{IsReset}
 use Rattle.slab_tables.proofs.Clearing.{this, those_below, cleared_none, cleared_more, cleared_all, one_more}
 use Rattle.slab_tables.proofs.tables.Tables.reset.Goals as goal
 
@@ -12,7 +13,10 @@ clear-requires-clause-tenant c = omega (arith, c.requires, c.loop-number.invaria
 pub loop-number-preserved : goal.loop-number-preserved
 loop-number-preserved c =
     cleared_more c.args.self.now c.loop-number.self c.clear.new.self (those_below c.args.t c.loop-number.number) (this (index_of_cache c.args.t c.loop-number.number)) (those_below c.args.t (c.loop-number.number + 1))
-    c.loop-number.invariant (rw c.into.ensures at c.clear.ensures) (one_more c.args.t c.loop-number.number (omega arith))
+    c.loop-number.invariant c.clear.ensures (one_more c.args.t c.loop-number.number (omega arith))
 
 pub returns : goal.returns
-returns c = cleared_all c.args.self.now c.loop-number.self c.args.t c.loop-number.number (omega arith) c.loop-number.invariant
+returns c =
+    subst (λ s. IsReset c.args.self.now s c.args.t) (sym c.self-2.view_is)
+    (cleared_all c.args.self.now c.loop-number.self c.args.t c.loop-number.number (rw c.self.view_is at c.self.invariant.slabs)
+    (λ d from. c.caches_below-number-end.ensures.none d (omega (arith, from, c.loop-number-test.false))) c.loop-number.invariant)

@@ -1,4 +1,4 @@
-use Rattle.std.proofs.Common.{◌≡◌, ℕ, Some, sym, ap, ◌∙◌, arith, rules}
+use Rattle.std.proofs.Common.{◌≡◌, ◌<◌, ℕ, Some, sym, ap, ◌∙◌, arith, rules}
 use Rattle.slab_tables.specs.Content.{layout_numbers, head_of, kind_of, kept_at}
 use Rattle.slab_tables.proofs.Reading.{shown, cached, cache_within, kind_below, placed_by_kind}
 use Rattle.slab_tables.proofs.Keeping.{counting, kept_read, slabs_count}
@@ -12,7 +12,7 @@ listed_as c = c.of-to.ensures ∙ ap (head_of c.args.t c.args.c) (c.of-2.ensures
 -- what is kept of the slab
 read_as : (c : After-of-to) → c.index.result.now ≡ kept_at c.self.inside.kept.items c.args.node
 read_as c =
-    kept_read (shown c.self.inside) c.args.t c.args.c c.args.first c.args.node c.index.result.now c.self.invariant
+    kept_read (shown c.self.inside) c.args.t c.args.c c.args.first c.args.node c.index.result.now c.self.invariant.slabs
     (rw (← c.self.view_is) at c.requires.slab) c.index.ensures
 
 -- the list in which it stands
@@ -25,7 +25,7 @@ listed_from c =
 pub relist-requires-clause-placed : goal.relist-requires-clause-placed
 relist-requires-clause-placed c =
     let place = goal.at.relist-requires-clause-placed c in
-    placed_by_kind (shown c.self.inside) c.self.invariant c.args.t c.args.c c.args.first c.args.node c.args.cache.now
+    placed_by_kind (shown c.self.inside) c.self.invariant.slabs c.args.t c.args.c c.args.first c.args.node c.args.cache.now
     (rw (← c.self.view_is) at c.requires.cache) (rw (← c.self.view_is) at c.requires.slab)
     ∙ ap (λ (x : ℕ). Some (x, c.args.first)) (sym (listed_from place.After-of-to))
 
@@ -38,7 +38,7 @@ relist-requires-clause-alone c = λ i e.
 
 pub overflow_add-index : goal.overflow_add-index
 overflow_add-index c =
-    let k = counting (shown c.self.inside) c.args.t c.args.c c.args.cache.now c.args.first c.args.node c.args.count c.index-2.result.now c.index.result.now c.self.invariant
+    let k = counting (shown c.self.inside) c.args.t c.args.c c.args.cache.now c.args.first c.args.node c.args.count c.index-2.result.now c.index.result.now c.self.invariant.slabs
     (rw (← c.self.view_is) at c.requires.tenant) (rw (← c.self.view_is) at c.requires.cache) (rw (← c.self.view_is) at c.requires.slab) c.requires.few
     (rw c.index_of-i.ensures at c.index-2.ensures) c.index.ensures in
     let fits = k.fits in
@@ -46,7 +46,7 @@ overflow_add-index c =
 
 pub overflow_sub-index : goal.overflow_sub-index
 overflow_sub-index c =
-    let k = counting (shown c.self.inside) c.args.t c.args.c c.args.cache.now c.args.first c.args.node c.args.count c.index-2.result.now c.index.result.now c.self.invariant
+    let k = counting (shown c.self.inside) c.args.t c.args.c c.args.cache.now c.args.first c.args.node c.args.count c.index-2.result.now c.index.result.now c.self.invariant.slabs
     (rw (← c.self.view_is) at c.requires.tenant) (rw (← c.self.view_is) at c.requires.cache) (rw (← c.self.view_is) at c.requires.slab) c.requires.few
     (rw c.index_of-i.ensures at c.index-2.ensures) c.index.ensures in
     omega (arith, k.enough, c.from-before.ensures)
@@ -57,8 +57,17 @@ invariant_of-self c =
     let tenant = rw (← c.self.view_is) at c.requires.tenant in
     let slab = rw (← c.self.view_is) at c.requires.slab in
     let place = goal.at.invariant_of-self c in
-    let k = counting (shown c.self.inside) c.args.t c.args.c c.args.cache.now c.args.first c.args.node c.args.count c.index-2.result.now c.index_mut-kept.result.now c.self.invariant
+    let k = counting (shown c.self.inside) c.args.t c.args.c c.args.cache.now c.args.first c.args.node c.args.count c.index-2.result.now c.index_mut-kept.result.now c.self.invariant.slabs
     tenant e slab c.requires.few (rw c.index_of-i.ensures at c.index-2.ensures) c.index_mut-kept.ensures.value in
     let below = cache_within (shown c.self.inside) c.args.t c.args.c tenant (cached (shown c.self.inside) c.args.t c.args.c c.args.cache.now e).below in
     rw (c.relist.ensures, listed_as place.After-of-to, c.from-before.ensures, read_as place.After-of-to, k.kept_is, k.total_is, c.index_of-i.ensures)
-    (slabs_count (shown c.self.inside) c.args.t c.args.c c.args.cache.now c.args.first c.args.node c.args.count c.self.invariant e below slab c.requires.few)
+    (record {
+      slabs = slabs_count (shown c.self.inside) c.args.t c.args.c c.args.cache.now c.args.first c.args.node c.args.count c.self.invariant.slabs e below slab c.requires.few;
+      ends = c.self.invariant.ends;
+    })
+
+pub overflow_cast-kept : goal.overflow_cast-kept
+overflow_cast-kept c =
+    let few = (c.laws.ensures.fits.fits 0).few in
+    let fits : c.args.count < 65536 = omega (arith, few, c.requires.few) in
+    search (rules, fits)

@@ -1,0 +1,25 @@
+use Rattle.std.proofs.Common.{◌≡◌, ℕ, ◌+◌, ◌≤◌, ◌++◌, List, take, length, sym, ap, ◌∙◌, arith, rules}
+use Rattle.std.proofs.Math.Seq.{take-append-add}
+use Rattle.std.proofs.lemmas.List.{take-append-le, length-take-le, with_items_is, places}
+use Rattle.ends.specs.Held.{HeldBytes}
+use Rattle.ends.proofs.held.Held.append_text.Goals as goal
+
+-- what is held, and then the beginning of what stands behind it
+taken : (front text rest : List ℕ) (len n : ℕ) → length front ≡ len → n ≤ length text → take (len + n) (front ++ (text ++ rest)) ≡ front ++ take n text
+taken front text rest len n size fits =
+    ap (λ k. take (k + n) (front ++ (text ++ rest))) (sym size)
+    ∙ take-append-add front (text ++ rest) n
+    ∙ ap (λ xs. front ++ xs) (take-append-le n text rest fits)
+
+pub returns-clause-appended : goal.returns-clause-appended
+returns-clause-appended g c =
+    let len = c.self.inside.len in
+    let n = c.write-len.result in
+    let room = c.deref_mut.result.now in
+    let text = c.write-len.new.room in
+    let size : length (take len room) ≡ len = length-take-le len room (omega (arith, c.self.invariant, ap length c.deref_mut.ensures.value)) in
+    let fits : n ≤ length text = omega (arith, c.write-len.ensures.short) in
+    ap (take (len + n)) (with_items_is c.self.inside.bytes (take len room ++ (text ++ _)) (search (rules, places)))
+    ∙ taken (take len room) text _ len n size fits
+    ∙ ap (λ xs. take len room ++ xs) c.write-len.ensures.text
+    ∙ ap (λ xs. xs ++ g.T.Text.bytes c.args.text) (ap (take len) c.deref_mut.ensures.value ∙ ap (λ (h : HeldBytes). h.bytes) c.self.view_is)

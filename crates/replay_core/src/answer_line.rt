@@ -1,0 +1,176 @@
+//! Lines of a load whose answers are written where they stay, each with its command known from reading on.
+
+ghost use Rattle.std.specs.Prelude.{◌≡◌, ℕ, ◌+◌, ◌^◌, ◌<◌, ◌≤◌, false, true, List, Option, Some, Ok, length, MatchOption};
+ghost use Rattle.words_core.specs.Requests.{command_of, IsAskable};
+ghost use Rattle.words_core.specs.declared.event.Event.TheVariants.{Tenant};
+ghost use Rattle.words_core.specs.declared.reply.Addressee.TheVariants as Addressee;
+ghost use Rattle.world_core.specs.Output.{is_shown};
+ghost use Rattle.parts_core.specs.Parts.{Parts};
+ghost use Rattle.replay_core.specs.declared.pending.Pending.{Pending};
+ghost use Rattle.replay_core.specs.Pending.{HoldsNothing};
+ghost use Rattle.replay_core.specs.Standing.{IsReady, HasAnswered, HasAnsweredLine, Stands};
+
+use crate::run::Run;
+use ends::Drain;
+use kernel_core::Kernel;
+use model_core::limits::MOST_BYTES;
+use quick_core::{read_known_request, read_tenant};
+use words_core::{Addressee, Request};
+
+/// The commands that make up a load, by number, and all others.
+const ALLOC: usize = 0;
+
+const FREE: usize = 1;
+
+const TAKE: usize = 2;
+
+const GIVE: usize = 3;
+
+const READ: usize = 4;
+
+const WRITE: usize = 5;
+
+const RARE: usize = 6;
+
+impl Run {
+    /// Runs the lines at the front of a piece as long as they are requests that are read the short way, of tenants that there are and
+    /// whose replies are shown, and the drain has space for an answer; answers the rest of the piece. By itself, so that its loop has
+    /// all registers.
+    #[inline(never)]
+    pub fn run_in_place<'a, D: Drain>(
+        &mut self,
+        piece: &'a [u8],
+        kernel: &mut Kernel,
+        drain: &mut D,
+    ) -> &'a [u8]
+        requires { IsReady (D.has_failed drain.old) self.old (length piece.now) }
+        ensures ran { (only : Option ℕ) (before : Parts) (given : List ℕ) (start : Option (List ℕ)) (pending : Pending)
+            → HoldsNothing pending → Stands only before kernel.old given piece.now start (D.contents drain.old) pending self.old
+            → Stands only before kernel.new given result.now start (D.contents drain.new) pending self.new }
+        ensures left { self.new.lines + length result.now < 2 ^ 64 }
+        ensures within { length result.now ≤ length piece.now }
+        ensures failed { D.has_failed drain.new ≡ false }
+    {
+        // What a write stores: one room for all lines, filled anew by each.
+        let mut room = [0; MOST_BYTES];
+        let mut rest = piece;
+        'lines: while drain.has_space() {
+            let Some(len) = self.answer_line(rest, &mut room, kernel, drain) else {
+                return rest;
+            };
+            rest = &rest[len..];
+        }
+        rest
+    }
+
+    /// Runs and answers the line at the front of these bytes, and answers how long it is; None, and nothing is done, where it is no
+    /// request that is read the short way, or of no tenant that there is and is shown.
+    #[inline(always)]
+    fn answer_line<D: Drain>(
+        &mut self,
+        bytes: &[u8],
+        room: &mut [u8; MOST_BYTES],
+        kernel: &mut Kernel,
+        drain: &mut D,
+    ) -> Option<usize>
+        requires ready { IsReady (D.has_failed drain.old) self.old (length bytes.now) }
+        requires space { D.is_roomy drain.old ≡ true }
+        ensures { HasAnsweredLine bytes.now kernel.old kernel.new (D.contents drain.old) (D.contents drain.new)
+            (D.has_failed drain.new) self.old self.new result }
+    {
+        let number = read_tenant(bytes)?;
+        let tenant = kernel.tenant(number.value)?;
+        if !self.replies.is_shown(Addressee::Tenant(tenant)) {
+            return None;
+        }
+        let line = read_known_request(bytes, number, room)?;
+        self.answer_request(tenant, line.request, kernel, drain);
+        Some(line.len)
+    }
+
+    /// Runs a request of a tenant that there is and is shown, counts its line, and writes what it is answered where it stays.
+    #[inline(always)]
+    fn answer_request<D: Drain>(
+        &mut self,
+        tenant: u8,
+        request: Request<'_>,
+        kernel: &mut Kernel,
+        drain: &mut D,
+    )
+        requires askable { IsAskable request }
+        requires tenant { tenant < kernel.old.tenants }
+        requires shown { is_shown self.old.replies.only (Addressee.Tenant tenant) ≡ true }
+        requires ready { IsReady (D.has_failed drain.old) self.old 1 }
+        requires space { D.is_roomy drain.old ≡ true }
+        ensures { HasAnswered (Ok (Some (Tenant tenant (command_of request.entry)))) kernel.old kernel.new
+            (D.contents drain.old) (D.contents drain.new) (D.has_failed drain.new) self.old self.new (Ok tt) }
+    {
+        match request {
+            Request::Alloc { order } => {
+                self.answer_as::<ALLOC, D>(tenant, Request::Alloc { order }, kernel, drain)
+            }
+            Request::Free { frame } => {
+                self.answer_as::<FREE, D>(tenant, Request::Free { frame }, kernel, drain)
+            }
+            Request::Take { cache } => {
+                self.answer_as::<TAKE, D>(tenant, Request::Take { cache }, kernel, drain)
+            }
+            Request::Give { cache, place } => {
+                self.answer_as::<GIVE, D>(tenant, Request::Give { cache, place }, kernel, drain)
+            }
+            Request::Read { place, len } => {
+                self.answer_as::<READ, D>(tenant, Request::Read { place, len }, kernel, drain)
+            }
+            Request::Write { place, bytes } => {
+                self.answer_as::<WRITE, D>(tenant, Request::Write { place, bytes }, kernel, drain)
+            }
+            rare => self.answer_rare(tenant, rare, kernel, drain),
+        }
+    }
+
+    /// [`Run::answer_request`] of one command, which `COMMAND` numbers. Each has a function of its own with one caller: of such a
+    /// function the compiler makes a part of its caller, however long it is, and what the command may be answered is then known where
+    /// that is written.
+    #[inline]
+    fn answer_as<const COMMAND: usize, D: Drain>(
+        &mut self,
+        tenant: u8,
+        request: Request<'_>,
+        kernel: &mut Kernel,
+        drain: &mut D,
+    )
+        requires askable { IsAskable request }
+        requires tenant { tenant < kernel.old.tenants }
+        requires shown { is_shown self.old.replies.only (Addressee.Tenant tenant) ≡ true }
+        requires ready { IsReady (D.has_failed drain.old) self.old 1 }
+        requires space { D.is_roomy drain.old ≡ true }
+        ensures { HasAnswered (Ok (Some (Tenant tenant (command_of request.entry)))) kernel.old kernel.new
+            (D.contents drain.old) (D.contents drain.new) (D.has_failed drain.new) self.old self.new (Ok tt) }
+    {
+        self.lines += 1;
+        self.events += 1;
+        let answer = kernel.ask_known(tenant, request);
+        self.replies.show_in_place(tenant, answer, drain);
+    }
+
+    /// [`Run::answer_as`] of a command that no load is made of.
+    #[cold]
+    #[inline(never)]
+    fn answer_rare<D: Drain>(
+        &mut self,
+        tenant: u8,
+        request: Request<'_>,
+        kernel: &mut Kernel,
+        drain: &mut D,
+    )
+        requires askable { IsAskable request }
+        requires tenant { tenant < kernel.old.tenants }
+        requires shown { is_shown self.old.replies.only (Addressee.Tenant tenant) ≡ true }
+        requires ready { IsReady (D.has_failed drain.old) self.old 1 }
+        requires space { D.is_roomy drain.old ≡ true }
+        ensures { HasAnswered (Ok (Some (Tenant tenant (command_of request.entry)))) kernel.old kernel.new
+            (D.contents drain.old) (D.contents drain.new) (D.has_failed drain.new) self.old self.new (Ok tt) }
+    {
+        self.answer_as::<RARE, D>(tenant, request, kernel, drain);
+    }
+}

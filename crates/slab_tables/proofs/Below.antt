@@ -1,0 +1,69 @@
+-- The number below which a tenant's caches are.
+use Rattle.std.proofs.Common.{◌≡◌, ℕ, ◌*◌, ◌/◌, ◌%◌, ◌<◌, ◌≤◌, List, Option, Some, None, length, get_or, set, replicate, sym, ap, ◌∙◌, inl, inr, arith}
+use Rattle.std.proofs.lemmas.Bool.{cases_eq}
+use Rattle.std.proofs.lemmas.List.{length-set, length-replicate, get_or-set_same, get_or-set_other}
+use Rattle.model_core.specs.declared.limits.TheConstants.{MOST_CACHES}
+use Rattle.slab_tables.specs.declared.cache.Cache.{Cache}
+use Rattle.slab_tables.specs.Content.{AreBelow, cache_in, index_of_cache}
+use Rattle.slab_tables.proofs.Reading.{everywhere}
+
+-- one cache is replaced: by none, where the number is not above it
+pub below_cache : (cs : List (Option Cache)) (bs : List ℕ) (i : ℕ) (o : Option Cache) → i < length cs → (get_or bs (i / MOST_CACHES) 0 ≤ i % MOST_CACHES → o ≡ None)
+    → AreBelow cs bs → AreBelow (set cs i o) bs
+below_cache cs bs i o lt none a = record {
+  tenants = length-set cs i o ∙ a.tenants;
+  few = a.few;
+  none = λ n le. elim (cases_eq n i) [
+    | inl is ↦ ap (cache_in (set cs i o)) is ∙ get_or-set_same cs i o None lt ∙ none (let at = ap (λ j. get_or bs (j / MOST_CACHES) 0) is in omega arith)
+    | inr ne ↦ get_or-set_other cs i n o None ne ∙ a.none n le
+  ];
+}
+
+-- a cache that stands is below
+pub below_standing : (cs : List (Option Cache)) (bs : List ℕ) (i : ℕ) (c : Cache) → cache_in cs i ≡ Some c → AreBelow cs bs
+    → (o : Option Cache) → get_or bs (i / MOST_CACHES) 0 ≤ i % MOST_CACHES → o ≡ None
+below_standing cs bs i c is a o le = absurd (let f : ◌≡◌ {A = Option Cache} None (Some c) = sym (a.none i le) ∙ is in cc)
+
+-- the number of one tenant is replaced
+pub below_number : (cs : List (Option Cache)) (bs : List ℕ) (t b : ℕ) → t < length bs → b ≤ MOST_CACHES
+    → ((c : ℕ) → b ≤ c → c < MOST_CACHES → cache_in cs (index_of_cache t c) ≡ None) → AreBelow cs bs → AreBelow cs (set bs t b)
+below_number cs bs t b lt few none a = record {
+  tenants = a.tenants ∙ ap (λ n. MOST_CACHES * n) (sym (length-set bs t b));
+  few = λ u. elim (cases_eq u t) [
+    | inl is ↦ let here = ap (λ j. get_or (set bs t b) j 0) is ∙ get_or-set_same bs t b 0 lt in omega arith
+    | inr ne ↦ let there = get_or-set_other bs t u b 0 ne in omega (arith, a.few u)
+  ];
+  none = λ n le. elim (cases_eq (n / MOST_CACHES) t) [
+    | inl is ↦
+        let here = ap (λ j. get_or (set bs t b) j 0) is ∙ get_or-set_same bs t b 0 lt in
+        let at : n ≡ index_of_cache t (n % MOST_CACHES) = omega arith in
+        ap (cache_in cs) at ∙ none (n % MOST_CACHES) (omega arith) (omega arith)
+    | inr ne ↦ let there = get_or-set_other bs t (n / MOST_CACHES) b 0 ne in a.none n (omega arith)
+  ];
+}
+
+-- one cache more, and a number above it
+pub below_more : (cs : List (Option Cache)) (bs : List ℕ) (t c b : ℕ) (o : Option Cache) → t < length bs → c < b → get_or bs t 0 ≤ b → b ≤ MOST_CACHES
+    → AreBelow cs bs → AreBelow (set cs (index_of_cache t c) o) (set bs t b)
+below_more cs bs t c b o lt over from few a =
+    let raised = below_number cs bs t b lt few (λ d le less. a.none (index_of_cache t d) (let at = ap (λ j. get_or bs j 0) (own d less) in omega (arith, at, from, le))) a in
+    below_cache cs (set bs t b) (index_of_cache t c) o (omega (arith, lt, over, few, a.tenants))
+    (λ le. let here = ap (λ j. get_or (set bs t b) j 0) (own c (omega arith)) ∙ get_or-set_same bs t b 0 lt in absurd (omega (arith, le, here, over, few)))
+    raised
+  where
+    own : (d : ℕ) → d < MOST_CACHES → index_of_cache t d / MOST_CACHES ≡ t
+    own d less = omega arith
+
+-- no cache
+pub below_opening : (tenants : ℕ) → AreBelow (replicate (MOST_CACHES * tenants) None) (replicate tenants 0)
+below_opening tenants = record {
+  tenants = length-replicate (MOST_CACHES * tenants) uncached ∙ ap (λ n. MOST_CACHES * n) (sym (length-replicate tenants zero_of));
+  few = λ t. let e = everywhere zero_of tenants t in omega arith;
+  none = λ n le. everywhere uncached (MOST_CACHES * tenants) n;
+}
+  where
+    uncached : Option Cache
+    uncached = None
+
+    zero_of : ℕ
+    zero_of = 0
