@@ -1,19 +1,22 @@
 -- What is known in an insertion and in a removal before their writes.
-use Rattle.std.proofs.Common.{◌≡◌, ℕ, ◌+◌, ◌-◌, ◌%◌, ◌^◌, ◌<◌, ◌≤◌, List, [], Option, Some, None, ◌++◌, take, length, get_or, set, refl, ap, sym, ◌∙◌, subst, arith}
+use Rattle.std.proofs.Common.{◌≡◌, ℕ, ◌+◌, ◌-◌, ◌%◌, ◌^◌, ◌<◌, ◌≤◌, List, [], Option, Some, None, ◌++◌, take, length, get_or, set, refl, ap, ap₂, sym, ◌∙◌, subst, inl, inr, arith}
 use Rattle.std.specs.Prelude.{◌≢◌, IfSome, MatchOption}
 use Rattle.std.proofs.Math.ListN.{get_or-map}
 use Rattle.std.proofs.Math.Seq.{take-append_seam}
 use Rattle.std.proofs.lemmas.List.{length-map, length-set, get_or_read}
 use Rattle.std.proofs.lemmas.List.Sums.{count_by-le-length}
-use Rattle.klist_core.specs.Places.{place_at, is_in}
-use Rattle.klist_core.specs.Links.{up, back_from, ranks, IsNearest, IsGap, IsLinked, head_at, node_at, places_of, place_in}
+use Rattle.std.proofs.lemmas.Bool.{cases_eq}
+use Rattle.klist_core.specs.Places.{place_at, is_in, inserted, removed, replaced}
+use Rattle.klist_core.specs.Links.{up, back_from, ranks, IsNearest, IsGap, IsLinked, free_node, head_at, node_at, places_of, place_in, shown}
 use Rattle.klist_core.specs.Raw.{raw_place}
 use Rattle.klist_core.specs.declared.Head.{Head}
 use Rattle.klist_core.specs.declared.Node.{Node}
-use Rattle.klist_core.proofs.Tables.{count_inserted, count_removed}
-use Rattle.klist_core.proofs.Rewired.{IsWithin}
-use Rattle.klist_core.proofs.Linked.{nearest_within, ranked_before}
-use Rattle.klist_core.proofs.Ranks.{rank_in, by_time, by_key, ranked_there, nearest_ranked, nearest_limit, next_limit}
+use Rattle.klist_core.specs.Writes.{linked_node, heads_linked, nodes_linked, heads_unlinked, nodes_unlinked}
+use Rattle.klist_core.proofs.Changes.{IsPut}
+use Rattle.klist_core.proofs.Tables.{put_by_removal, count_inserted, count_removed}
+use Rattle.klist_core.proofs.Rewired.{IsWithin, IsRewired, rewired, length_after, length_before}
+use Rattle.klist_core.proofs.Linked.{nearest_within, ranked_before, shown_rewired, linked_inserted, linked_removed, linked_replaced}
+use Rattle.klist_core.proofs.Ranks.{rank_in, by_time, by_key, ranked_there, nearest_ranked, nearest_limit, next_limit, rank_is_new}
 
 -- a node of the table, if any, fits a link
 pub linkable : (o : Option ℕ) (len : ℕ) → IsWithin o len → len < 2 ^ 32 → IfSome o (λ i. i < 2 ^ 32 - 1)
@@ -131,12 +134,77 @@ insertion_known heads nodes h n k o g t in_heads within fits free fresh gap is =
     fitting : (o : Option ℕ) → IsWithin o (length (places_of nodes)) → IsWithin o (length nodes)
     fitting o w = record { below = λ i e. omega (arith, w.below i e, same_length) }
 
--- what is written, as a change of the head that was read
-pub counted : (heads : List Head) (h m : ℕ) (y z : Head) → h < length heads → y ≡ get_or heads h y → z ≡ get_or heads h z
-    → record { first = (get_or heads h z).first; last = (get_or heads h z).last; len = m } ≡ record y { len = m }
-counted heads h m y z lt first second =
-    let same : get_or heads h z ≡ y = sym second ∙ get_or_read heads h z lt second (head_at [] 0) ∙ sym (get_or_read heads h y lt first (head_at [] 0)) in
-    ap (λ (x : Head). record x { len = m }) same
+-- the tables with node n in list h
+pub linked_in : (heads : List Head) (nodes : List Node) (h n k : ℕ) (g : Option ℕ × Option ℕ) → IsInsertion heads nodes h n k g
+    → IsLinked (heads_linked heads h n g.0 g.1) (nodes_linked nodes h n k g.0 g.1)
+linked_in heads nodes h n k g x =
+    linked_inserted heads _ nodes _ h n k x.linked.now g.0 g.1 ((head_at heads h).len + 1) x.linked
+    (rewired heads nodes h n (linked_node h k g.0 g.1) g.0 g.1 (Some n) (Some n) ((head_at heads h).len + 1) x.in_heads x.in_nodes x.left x.right) refl x.in_heads x.in_nodes x.fits (omega arith) x.free x.fresh
+    (rank_is_new x.linked.came x.linked.now (places_of nodes) (ranked_before heads nodes x.linked) h k x.fresh) x.place.before x.place.after
+
+pub shown_in : (heads : List Head) (nodes : List Node) (h n k : ℕ) (g : Option ℕ × Option ℕ) → IsInsertion heads nodes h n k g
+    → shown (heads_linked heads h n g.0 g.1) (nodes_linked nodes h n k g.0 g.1) ≡ inserted (shown heads nodes) h n k
+shown_in heads nodes h n k g x =
+    shown_rewired heads _ nodes _ h n (linked_node h k g.0 g.1) g.0 g.1 (Some n) (Some n) ((head_at heads h).len + 1)
+    (rewired heads nodes h n (linked_node h k g.0 g.1) g.0 g.1 (Some n) (Some n) ((head_at heads h).len + 1) x.in_heads x.in_nodes x.left x.right)
+
+-- .. without node n, which was read as x
+without : (heads : List Head) (nodes : List Node) (n : ℕ) (x : Node) (h : ℕ) → IsRemoval heads nodes n x h
+    → IsRewired heads (heads_unlinked heads h x.previous x.next) nodes (nodes_unlinked nodes n x.previous x.next) h n free_node x.previous x.next x.next x.previous ((head_at heads h).len - 1)
+without heads nodes n x h r = rewired heads nodes h n free_node x.previous x.next x.next x.previous ((head_at heads h).len - 1) r.in_heads r.in_nodes r.left r.right
+
+pub linked_out : (heads : List Head) (nodes : List Node) (n : ℕ) (x : Node) (h : ℕ) → IsRemoval heads nodes n x h
+    → IsLinked (heads_unlinked heads h x.previous x.next) (nodes_unlinked nodes n x.previous x.next)
+linked_out heads nodes n x h r = linked_removed heads _ nodes _ h n x.key x _ r.linked r.read (without heads nodes n x h r) (omega (arith, r.some)) r.place
+
+pub shown_out : (heads : List Head) (nodes : List Node) (n : ℕ) (x : Node) (h : ℕ) → IsRemoval heads nodes n x h
+    → shown (heads_unlinked heads h x.previous x.next) (nodes_unlinked nodes n x.previous x.next) ≡ removed (shown heads nodes) n
+shown_out heads nodes n x h r = shown_rewired heads _ nodes _ h n free_node x.previous x.next x.next x.previous _ (without heads nodes n x h r)
+
+-- .. and with node j in its place
+abbrev pub heads_replaced : List Head → (h j : ℕ) → Node → List Head
+heads_replaced heads h j x = heads_linked (heads_unlinked heads h x.previous x.next) h j x.previous x.next
+
+abbrev pub nodes_replaced : List Node → (h n j : ℕ) → Node → List Node
+nodes_replaced nodes h n j x = nodes_linked (nodes_unlinked nodes n x.previous x.next) h j x.key x.previous x.next
+
+pub nodes_stay : (nodes : List Node) (n : ℕ) (previous next : Option ℕ) → length (nodes_unlinked nodes n previous next) ≡ length nodes
+nodes_stay nodes n previous next = length_before next previous _ ∙ (length_after previous next _ ∙ length-set nodes n free_node)
+
+replacing : (heads : List Head) (nodes : List Node) (n j : ℕ) (x : Node) (h : ℕ) → IsRemoval heads nodes n x h → j < length (places_of nodes)
+    → IsRewired (heads_unlinked heads h x.previous x.next) (heads_replaced heads h j x) (nodes_unlinked nodes n x.previous x.next) (nodes_replaced nodes h n j x) h j (linked_node h x.key x.previous x.next)
+    x.previous x.next (Some j) (Some j) ((head_at (heads_unlinked heads h x.previous x.next) h).len + 1)
+replacing heads nodes n j x h r within =
+    rewired _ _ h j (linked_node h x.key x.previous x.next) x.previous x.next (Some j) (Some j) _ (omega (arith, (without heads nodes n x h r).heads_stay, r.in_heads)) (omega (arith, stay, length-map nodes place_in))
+    (record { below = λ i e. omega (arith, stay, r.left.below i e) }) (record { below = λ i e. omega (arith, stay, r.right.below i e) })
+  where
+    stay : length (nodes_unlinked nodes n x.previous x.next) ≡ length nodes
+    stay = nodes_stay nodes n x.previous x.next
+
+pub linked_over : (heads : List Head) (nodes : List Node) (n j : ℕ) (x : Node) (h : ℕ) → IsRemoval heads nodes n x h → j < length (places_of nodes) → place_at (places_of nodes) j ≡ None
+    → IsLinked (heads_replaced heads h j x) (nodes_replaced nodes h n j x)
+linked_over heads nodes n j x h r within free =
+    linked_replaced heads _ _ nodes _ _ h n j x.key x _ _ r.linked r.read w (omega (arith, r.some)) r.place (omega (arith, nodes_stay nodes n x.previous x.next, length-map nodes place_in))
+    (ap (λ ps. place_at ps j) w.places ∙ elim (cases_eq j n) [
+      | inl e ↦ let f : place_at (places_of nodes) j ≡ place_at (places_of nodes) n = ap (place_at (places_of nodes)) e in let p = r.place in absurd (let q : ◌≡◌ {A = Option (ℕ × ℕ)} None (Some (h, x.key)) = cc in cc)
+      | inr ne ↦ sym (put.others j ne) ∙ free
+    ]) (replacing heads nodes n j x h r within) refl
+  where
+    w : IsRewired heads (heads_unlinked heads h x.previous x.next) nodes (nodes_unlinked nodes n x.previous x.next) h n free_node x.previous x.next x.next x.previous ((head_at heads h).len - 1)
+    w = without heads nodes n x h r
+
+    put : IsPut (place_at (set (places_of nodes) n None)) (place_at (places_of nodes)) h n x.key
+    put = put_by_removal (shown heads nodes) h n x.key r.linked.table r.place
+
+pub shown_over : (heads : List Head) (nodes : List Node) (n j : ℕ) (x : Node) (h : ℕ) → IsRemoval heads nodes n x h → j < length (places_of nodes)
+    → shown (heads_replaced heads h j x) (nodes_replaced nodes h n j x) ≡ replaced (shown heads nodes) n j
+shown_over heads nodes n j x h r within =
+    shown_rewired _ _ _ _ h j (linked_node h x.key x.previous x.next) x.previous x.next (Some j) (Some j) _ (replacing heads nodes n j x h r within)
+    ∙ ap₂ (λ (m : ℕ) (ps : List (Option (ℕ × ℕ))). record { heads = m; places = set ps j (Some (h, x.key)) }) w.heads_stay w.places
+    ∙ ap (λ (o : Option (ℕ × ℕ)). record { heads = length heads; places = set (set (places_of nodes) n None) j o }) (sym r.place)
+  where
+    w : IsRewired heads (heads_unlinked heads h x.previous x.next) nodes (nodes_unlinked nodes n x.previous x.next) h n free_node x.previous x.next x.next x.previous ((head_at heads h).len - 1)
+    w = without heads nodes n x h r
 
 -- what a slice of the whole list leaves in it
 pub seam : {A : Type 0} (xs rest : List A) (len : ℕ) → len ≡ length xs → take len (xs ++ rest) ≡ xs

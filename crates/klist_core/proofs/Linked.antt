@@ -1,5 +1,5 @@
 -- The links of a table after an insertion and after a removal.
-use Rattle.std.proofs.Common.{◌≡◌, ℕ, ◌+◌, ◌%◌, ◌^◌, ◌<◌, List, Option, Some, None, length, set, ap, sym, ◌∙◌, subst, inl, inr, arith}
+use Rattle.std.proofs.Common.{◌≡◌, ℕ, ◌+◌, ◌%◌, ◌^◌, ◌<◌, ◌≤◌, List, Option, Some, None, length, set, ap, sym, ◌∙◌, subst, inl, inr, arith}
 use Rattle.std.specs.Prelude.{◌≢◌, count_by}
 use Rattle.std.proofs.lemmas.Bool.{cases_eq}
 use Rattle.std.proofs.lemmas.List.{length-map}
@@ -8,8 +8,9 @@ use Rattle.klist_core.specs.Links.{up, back_from, ranks, IsLeastFrom, IsNearest,
 use Rattle.klist_core.specs.declared.Head.{Head}
 use Rattle.klist_core.specs.declared.Node.{Node}
 use Rattle.klist_core.proofs.Directions.{IsKeyed, IsLastBelow, upwards, downwards, last_below}
-use Rattle.klist_core.proofs.Changes.{IsPut, raised, lowered}
-use Rattle.klist_core.proofs.Ranks.{rank_in, by_time, by_key, ranked_there, unranked, rank_below, chain_limit, come, come_before, put_ranked, put_unranked}
+use Rattle.klist_core.proofs.Changes.{IsPut, raised, lowered, kept_small}
+use Rattle.klist_core.specs.Writes.{linked_node}
+use Rattle.klist_core.proofs.Ranks.{rank_in, by_time, by_key, ranked_there, unranked, rank_below, chain_limit, next_limit, come, come_before, put_ranked, put_unranked}
 use Rattle.klist_core.proofs.Chains.{IsApart, chain_inserted, chain_removed}
 use Rattle.klist_core.proofs.Tables.{placed_within, put_by_insertion, put_by_removal, apart_large, table_inserted, table_removed, count_inserted, count_inserted_elsewhere, count_removed, count_removed_elsewhere}
 use Rattle.klist_core.proofs.Rewired.{IsWithin, IsRewired}
@@ -67,17 +68,19 @@ AreApart came places = (i j h r : ℕ) → ranks came places i ≡ Some (h, r) �
 pub ranked_before : (heads : List Head) (nodes : List Node) (t : IsLinked heads nodes) (i h r : ℕ) → ranks t.came (places_of nodes) i ≡ Some (h, r) → r < t.now
 ranked_before heads nodes t = rank_below t.came t.now (places_of nodes) t.before (λ i h k e. omega (arith, t.wide, t.table.keyed i h k e))
 
-pub linked_inserted : (heads heads' : List Head) (nodes nodes' : List Node) (h n k : ℕ) (previous next : Option ℕ) (m : ℕ) (t : IsLinked heads nodes)
-    → IsRewired heads heads' nodes nodes' h n (record { list = Some h; key = k; previous = previous; next = next }) previous next (Some n) (Some n) m → m ≡ (head_at heads h).len + 1
-    → h < length heads → n < length nodes → k < 2 ^ 32 → place_at (places_of nodes) n ≡ None → ((i : ℕ) → place_at (places_of nodes) i ≢ Some (h, k))
-    → IsNearest (back_from (t.now + 1)) (ranks t.came (places_of nodes)) h (back_from (t.now + 1) (rank_in h t.now k) + 1) previous
-    → IsNearest up (ranks t.came (places_of nodes)) h (up (rank_in h t.now k) + 1) next → IsLinked heads' nodes'
-linked_inserted heads heads' nodes nodes' h n k previous next m t w more in_heads in_nodes fits free fresh before after = record {
+-- node n comes into list h, in a loose list at this time
+pub linked_inserted : (heads heads' : List Head) (nodes nodes' : List Node) (h n k time : ℕ) (previous next : Option ℕ) (m : ℕ) (t : IsLinked heads nodes)
+    → IsRewired heads heads' nodes nodes' h n (linked_node h k previous next) previous next (Some n) (Some n) m → m ≡ (head_at heads h).len + 1
+    → h < length heads → n < length nodes → k < 2 ^ 32 → time ≤ t.now → place_at (places_of nodes) n ≡ None → ((i : ℕ) → place_at (places_of nodes) i ≢ Some (h, k))
+    → ((i : ℕ) → ranks t.came (places_of nodes) i ≢ Some (h, rank_in h time k))
+    → IsNearest (back_from (t.now + 1)) (ranks t.came (places_of nodes)) h (back_from (t.now + 1) (rank_in h time k) + 1) previous
+    → IsNearest up (ranks t.came (places_of nodes)) h (up (rank_in h time k) + 1) next → IsLinked heads' nodes'
+linked_inserted heads heads' nodes nodes' h n k time previous next m t w more in_heads in_nodes fits early free fresh fresh_rank before after = record {
   table = subst ArePlaces (sym (shown_rewired heads heads' nodes nodes' h n _ previous next (Some n) (Some n) _ w)) (table_inserted old h n k t.table placed in_heads fits);
   came = came;
   now = limit;
   wide = omega (arith, t.wide);
-  before = λ i. come_before t.came t.now n i (t.before i);
+  before = λ i. come_before t.came t.now time n i early (t.before i);
   apart = subst (λ x. AreApart came x) (sym w.places) (apart_large put t.apart);
   upwards = chain_rewired up came places (places_of nodes') (length heads) (length heads') _ _ w.places w.heads_stay
       (chain_inserted limit up (back_from limit) (upwards limit) small large (length heads) h n r put apart _ _ _ _ previous w.upwards
@@ -98,10 +101,10 @@ linked_inserted heads heads' nodes nodes' h n k previous next m t w more in_head
     limit = t.now + 1
 
     came : ℕ → ℕ
-    came = come t.came t.now n
+    came = come t.came time n
 
     r : ℕ
-    r = rank_in h t.now k
+    r = rank_in h time k
 
     places : List (Option (ℕ × ℕ))
     places = set (places_of nodes) n (Some (h, k))
@@ -119,12 +122,12 @@ linked_inserted heads heads' nodes nodes' h n k previous next m t w more in_head
     placed = put_by_insertion (places_of nodes) h n k within free fresh
 
     put : IsPut small large h n r
-    put = put_ranked t.came t.now (places_of nodes) (ranked_before heads nodes t) h n k placed
+    put = put_ranked t.came time (places_of nodes) h n k placed fresh_rank
 
     below : r < limit
     below = elim (cases_eq (h % 3) 0) [
-      | inl loose ↦ omega (arith, by_time h t.now k loose)
-      | inr keyed ↦ omega (arith, t.wide, by_key h t.now k (omega (arith, keyed)))
+      | inl loose ↦ omega (arith, early, by_time h time k loose)
+      | inr keyed ↦ omega (arith, t.wide, by_key h time k (omega (arith, keyed)))
     ]
 
     apart : IsApart limit small h
@@ -211,3 +214,55 @@ linked_removed heads heads' nodes nodes' h n k x m t read w less e = record {
       | inl q ↦ subst (λ x. (head_at heads' x).len ≡ count_by (is_in x) places) (sym q) (omega (arith, w.len, less, t.counted h (t.table.headed n h k e), count_removed (places_of nodes) h n k within e))
       | inr ne ↦ w.other_len g ne ∙ (t.counted g lt ∙ sym (count_removed_elsewhere (places_of nodes) g h n k ne within e))
     ]
+
+-- node n goes from list h, and node j comes in its place
+pub linked_replaced : (heads heads1 heads2 : List Head) (nodes nodes1 nodes2 : List Node) (h n j k : ℕ) (x : Node) (m m' : ℕ) → IsLinked heads nodes → x ≡ node_at nodes n
+    → IsRewired heads heads1 nodes nodes1 h n free_node x.previous x.next x.next x.previous m → m + 1 ≡ (head_at heads h).len
+    → place_at (places_of nodes) n ≡ Some (h, k) → j < length nodes1 → place_at (places_of nodes1) j ≡ None
+    → IsRewired heads1 heads2 nodes1 nodes2 h j (linked_node h k x.previous x.next) x.previous x.next (Some j) (Some j) m' → m' ≡ (head_at heads1 h).len + 1
+    → IsLinked heads2 nodes2
+unfolding linked_removed
+linked_replaced heads heads1 heads2 nodes nodes1 nodes2 h n j k x m m' t read w less e within free w' more =
+    linked_inserted heads1 heads2 nodes1 nodes2 h j k (t.came n) x.previous x.next m' mid w' more in_heads within fits (omega (arith, t.before n)) free
+    (subst (λ ps. (i : ℕ) → place_at ps i ≢ Some (h, k)) (sym w.places) placed.fresh)
+    (subst (λ ps. (i : ℕ) → ranks t.came ps i ≢ Some (h, r)) (sym w.places) put.fresh)
+    (subst (λ ps. IsNearest (back_from (t.now + 1)) (ranks t.came ps) h (back_from (t.now + 1) r + 1) x.previous) (sym w.places)
+    (next_limit t.now (t.now + 1) small h r x.previous below (omega (arith, below)) (λ i q s. let u = ranked_before heads nodes t i h q (raised put i (h, q) s) in (u, omega (arith, u)))
+    (kept_small (back_from t.now) small large h n r put _ x.previous (inl (omega arith)) before)))
+    (subst (λ ps. IsNearest up (ranks t.came ps) h (up r + 1) x.next) (sym w.places) (kept_small up small large h n r put _ x.next (inl (omega arith)) after))
+  where
+    mid : IsLinked heads1 nodes1
+    mid = linked_removed heads heads1 nodes nodes1 h n k x m t read w less e
+
+    r : ℕ
+    r = rank_in h (t.came n) k
+
+    large : ℕ → Option (ℕ × ℕ)
+    large = ranks t.came (places_of nodes)
+
+    small : ℕ → Option (ℕ × ℕ)
+    small = ranks t.came (set (places_of nodes) n None)
+
+    placed : IsPut (place_at (set (places_of nodes) n None)) (place_at (places_of nodes)) h n k
+    placed = put_by_removal (shown heads nodes) h n k t.table e
+
+    put : IsPut small large h n r
+    put = put_unranked t.came (places_of nodes) h n k placed t.apart
+
+    here : large n ≡ Some (h, r)
+    here = ranked_there (t.came n) h k (place_at (places_of nodes) n) e
+
+    below : r < t.now
+    below = ranked_before heads nodes t n h r here
+
+    fits : k < 2 ^ 32
+    fits = t.table.keyed n h k e
+
+    in_heads : h < length heads1
+    in_heads = omega (arith, w.heads_stay, t.table.headed n h k e)
+
+    before : IsNearest (back_from t.now) large h (back_from t.now r + 1) x.previous
+    before = subst (λ (y : Node). IsNearest (back_from t.now) large h (back_from t.now r + 1) y.previous) (sym read) (t.downwards.goes_on n h r here)
+
+    after : IsNearest up large h (up r + 1) x.next
+    after = subst (λ (y : Node). IsNearest up large h (up r + 1) y.next) (sym read) (t.upwards.goes_on n h r here)

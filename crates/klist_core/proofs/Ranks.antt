@@ -1,6 +1,7 @@
 -- The ranks by which nodes are linked, beside their keys.
 use Rattle.std.proofs.Common.{◌≡◌, ℕ, ◌+◌, ◌-◌, ◌%◌, ◌<◌, ◌≤◌, Bool, true, false, cond, eqb, List, Option, Some, None, set, refl, ap, sym, ◌∙◌, inl, inr, arith}
 use Rattle.std.proofs.lemmas.Bool.{cases_lt, cases_eq, eq-eqb, ne_eqb}
+use Rattle.std.specs.Prelude.{◌≢◌}
 use Rattle.klist_core.specs.Places.{IsByKey, place_at}
 use Rattle.klist_core.specs.Links.{IsLeastFrom, IsNearest, IsChain, back_from, ranked, ranks}
 use Rattle.klist_core.proofs.Changes.{IsPut, same_list, same_key, nearest_same}
@@ -92,29 +93,34 @@ chain_limit l l' place heads ends links below c = record {
   goes_on = λ i h k e. let w = below i h k e in next_limit l l' place h k (links i) w.0 w.1 (λ j r. below j h r) (c.goes_on i h k e);
 }
 
--- node n comes now
+-- node n has this time
 abbrev pub come : (ℕ → ℕ) → ℕ → ℕ → ℕ → ℕ
-come came now n i = cond (eqb i n) now (came i)
+come came time n i = cond (eqb i n) time (came i)
 
-pub come_before : (came : ℕ → ℕ) (now n i : ℕ) → came i < now → come came now n i < now + 1
-come_before came now n i lt = go (eqb i n)
+pub come_before : (came : ℕ → ℕ) (now time n i : ℕ) → time ≤ now → came i < now → come came time n i < now + 1
+come_before came now time n i le lt = go (eqb i n)
   where
-    go : (b : Bool) → cond b now (came i) < now + 1
-    go true = omega arith
+    go : (b : Bool) → cond b time (came i) < now + 1
+    go true = omega (arith, le)
     go false = omega (arith, lt)
 
-module _ (came : ℕ → ℕ) (now : ℕ) (places : List (Option (ℕ × ℕ))) (below : (i h r : ℕ) → ranks came places i ≡ Some (h, r) → r < now) where
-  pub put_ranked : (h n k : ℕ) → IsPut (place_at places) (place_at (set places n (Some (h, k)))) h n k
-      → IsPut (ranks came places) (ranks (come came now n) (set places n (Some (h, k)))) h n (rank_in h now k)
-  put_ranked h n k p = record {
-    free = ap (ranked (came n)) p.free;
-    here = ap (λ (t : ℕ). ranked t (place_at (set places n (Some (h, k))) n)) (ap (λ b. cond b now (came n)) (eq-eqb n n refl)) ∙ ranked_there now h k _ p.here;
-    others = λ i ne. ap (λ (t : ℕ). ranked t (place_at (set places n (Some (h, k))) i)) (ap (λ b. cond b now (came i)) (ne_eqb i n ne)) ∙ ap (ranked (came i)) (p.others i ne);
-    fresh = λ i e. elim (cases_eq (h % 3) 0) [
-      | inl loose ↦ omega (arith, below i h (rank_in h now k) e, by_time h now k loose)
-      | inr other ↦ p.fresh i (key_ranked (came i) h k (place_at places i) (omega (arith, other)) (e ∙ ap (λ (r : ℕ). Some (h, r)) (by_key h now k (omega (arith, other)))))
-    ];
-  }
+-- no node has the rank of a key that a list does not have, or of the present time
+pub rank_is_new : (came : ℕ → ℕ) (now : ℕ) (places : List (Option (ℕ × ℕ))) → ((i h r : ℕ) → ranks came places i ≡ Some (h, r) → r < now) → (h k : ℕ) → ((i : ℕ) → place_at places i ≢ Some (h, k))
+    → (i : ℕ) → ranks came places i ≢ Some (h, rank_in h now k)
+rank_is_new came now places below h k fresh i e = elim (cases_eq (h % 3) 0) [
+  | inl loose ↦ omega (arith, below i h (rank_in h now k) e, by_time h now k loose)
+  | inr other ↦ fresh i (key_ranked (came i) h k (place_at places i) (omega (arith, other)) (e ∙ ap (λ (r : ℕ). Some (h, r)) (by_key h now k (omega (arith, other)))))
+]
+
+-- node n comes into list h, with a rank that the list does not have
+pub put_ranked : (came : ℕ → ℕ) (time : ℕ) (places : List (Option (ℕ × ℕ))) (h n k : ℕ) → IsPut (place_at places) (place_at (set places n (Some (h, k)))) h n k
+    → ((i : ℕ) → ranks came places i ≢ Some (h, rank_in h time k)) → IsPut (ranks came places) (ranks (come came time n) (set places n (Some (h, k)))) h n (rank_in h time k)
+put_ranked came time places h n k p fresh = record {
+  free = ap (ranked (came n)) p.free;
+  here = ap (λ (t : ℕ). ranked t (place_at (set places n (Some (h, k))) n)) (ap (λ b. cond b time (came n)) (eq-eqb n n refl)) ∙ ranked_there time h k _ p.here;
+  others = λ i ne. ap (λ (t : ℕ). ranked t (place_at (set places n (Some (h, k))) i)) (ap (λ b. cond b time (came i)) (ne_eqb i n ne)) ∙ ap (ranked (came i)) (p.others i ne);
+  fresh = fresh;
+}
 
 -- node n goes, which stood in list h under the rank r
 pub put_unranked : (came : ℕ → ℕ) (places : List (Option (ℕ × ℕ))) (h n k : ℕ) → IsPut (place_at (set places n None)) (place_at places) h n k

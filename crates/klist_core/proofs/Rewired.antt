@@ -3,9 +3,9 @@ use Rattle.std.proofs.Common.{◌≡◌, ℕ, ◌<◌, List, Option, Some, None,
 use Rattle.std.specs.Prelude.{◌≢◌}
 use Rattle.std.proofs.Math.ListN.{get_or-map}
 use Rattle.std.proofs.Math.Seq.{map-set_same}
-use Rattle.std.proofs.lemmas.List.{length-set, get_or-set_same, get_or-set_other, get_or_read, map-set}
+use Rattle.std.proofs.lemmas.List.{length-set, get_or-set_same, get_or-set_other, map-set}
 use Rattle.klist_core.specs.Links.{head_at, node_at, places_of, place_in}
-use Rattle.klist_core.specs.Writes.{heads_linked_after, heads_linked_before, nodes_linked_after, nodes_linked_before}
+use Rattle.klist_core.specs.Writes.{heads_linked_after, heads_linked_before, nodes_linked_after, nodes_linked_before, heads_counted, heads_rewired, nodes_rewired}
 use Rattle.klist_core.specs.declared.Head.{Head}
 use Rattle.klist_core.specs.declared.Node.{Node}
 use Rattle.klist_core.proofs.Chains.{IsRelinked}
@@ -21,6 +21,10 @@ unseen {X} {Y} f xs i j y d e = sym (get_or-map f (set xs i y) j d) ∙ (ap (λ 
 pub length_after : (o to : Option ℕ) (nodes : List Node) → length (nodes_linked_after o to nodes) ≡ length nodes
 length_after None to nodes = refl
 length_after (Some i) to nodes = length-set nodes i _
+
+pub length_before : (o to : Option ℕ) (nodes : List Node) → length (nodes_linked_before o to nodes) ≡ length nodes
+length_before None to nodes = refl
+length_before (Some i) to nodes = length-set nodes i _
 
 heads_after : (o : Option ℕ) (h : ℕ) (to : Option ℕ) (heads : List Head) → length (heads_linked_after o h to heads) ≡ length heads
 heads_after None h to heads = length-set heads h _
@@ -116,16 +120,6 @@ kept_before : (o to : Option ℕ) (nodes : List Node) (n : ℕ) → o ≢ Some n
 kept_before None to nodes n ne = refl
 kept_before (Some j) to nodes n ne = ap (λ (x : Node). x.previous) (get_or-set_other nodes j n (record (node_at nodes j) { previous = to }) (node_at [] 0) (λ same. ne (ap Some (sym same))))
 
--- the tables after node n was written, `a` linked after `previous` and `b` before `next`, and the length of list h set
-abbrev pub nodes_rewired : List Node → ℕ → Node → (previous next a b : Option ℕ) → List Node
-nodes_rewired nodes n own previous next a b = nodes_linked_before next b (nodes_linked_after previous a (set nodes n own))
-
-abbrev pub heads_rewired : List Head → ℕ → (previous next a b : Option ℕ) → List Head
-heads_rewired heads h previous next a b = heads_linked_before next h b (heads_linked_after previous h a heads)
-
-abbrev pub heads_counted : List Head → ℕ → ℕ → List Head
-heads_counted heads h m = set heads h (record (head_at heads h) { len = m })
-
 pub record IsRewired (heads heads' : List Head) (nodes nodes' : List Node) (h n : ℕ) (own : Node) (previous next a b : Option ℕ) (m : ℕ) : Type 0 where
   pub heads_stay : length heads' ≡ length heads
   pub places : places_of nodes' ≡ set (places_of nodes) n (place_in own)
@@ -184,35 +178,3 @@ rewired heads nodes h n own previous next a b m in_heads in_nodes left right = r
 
     within_after : (o : Option ℕ) → IsWithin o (length nodes) → IsWithin o (length after)
     within_after o w = record { below = λ i e. omega (arith, w.below i e, length-set nodes n own, length_after previous a written) }
-
--- the same from what the calls say one after another, and the length that the last write reads
-pub rewired_by_calls : (heads heads1 heads2 : List Head) (nodes nodes1 nodes2 : List Node) (h n : ℕ) (own : Node) (previous next a b : Option ℕ) (y : Head) (m : ℕ) → h < length heads → n < length nodes
-    → IsWithin previous (length nodes) → IsWithin next (length nodes) → heads1 ≡ heads_linked_after previous h a heads → nodes1 ≡ nodes_linked_after previous a (set nodes n own)
-    → heads2 ≡ heads_linked_before next h b heads1 → nodes2 ≡ nodes_linked_before next b nodes1 → y ≡ get_or heads2 h y
-    → IsRewired heads (set heads2 h (record y { len = m })) nodes nodes2 h n own previous next a b m × (y.len ≡ (head_at heads h).len)
-rewired_by_calls heads heads1 heads2 nodes nodes1 nodes2 h n own previous next a b y m in_heads in_nodes left right e1 f1 e2 f2 got = (
-  subst (λ hs. IsRewired heads hs nodes nodes2 h n own previous next a b m) (sym same_heads)
-      (subst (λ ns. IsRewired heads (heads_counted two h m) nodes ns h n own previous next a b m) (sym same_nodes) (rewired heads nodes h n own previous next a b m in_heads in_nodes left right)),
-  ap (λ (x : Head). x.len) is ∙ (len_before next h b one h ∙ len_after previous h a heads h),
-)
-  where
-    one : List Head
-    one = heads_linked_after previous h a heads
-
-    two : List Head
-    two = heads_linked_before next h b one
-
-    same_two : heads2 ≡ two
-    same_two = e2 ∙ ap (heads_linked_before next h b) e1
-
-    same_nodes : nodes2 ≡ nodes_rewired nodes n own previous next a b
-    same_nodes = f2 ∙ ap (nodes_linked_before next b) f1
-
-    in_two : h < length heads2
-    in_two = omega (arith, ap length same_two, heads_before next h b one, heads_after previous h a heads)
-
-    is : y ≡ head_at two h
-    is = get_or_read heads2 h y in_two got (head_at [] 0) ∙ ap (λ (hs : List Head). head_at hs h) same_two
-
-    same_heads : set heads2 h (record y { len = m }) ≡ heads_counted two h m
-    same_heads = ap (λ (hs : List Head). set hs h (record y { len = m })) same_two ∙ ap (λ (x : Head). set two h (record x { len = m })) is

@@ -15,7 +15,7 @@ ghost use Rattle.std.specs.Option.{ForSome};
 ghost use Rattle.klist_core.specs.Places.{ArePlaces, IsByKey, IsPlacedByKey, IsEmpty, IsFirst, NoneAbove, IsNext, NoneBelow, IsPrevious, place_at, is_in, inserted, removed, replaced};
 ghost use Rattle.klist_core.specs.Lists.{list_of};
 ghost use Rattle.klist_core.specs.Links.{free_node, head_at, up, down, IsNearest, IsGap, IsAfter, IsFollowing, IsStart};
-ghost use Rattle.klist_core.specs.Writes.{heads_linked_after, heads_linked_before, nodes_linked_after, nodes_linked_before};
+ghost use Rattle.klist_core.specs.Writes.{heads_linked_after, heads_linked_before, nodes_linked_after, nodes_linked_before, heads_linked, nodes_linked, heads_unlinked, nodes_unlinked};
 
 use std::alloc::{AllocError, Global};
 use std::marker::Model;
@@ -339,8 +339,8 @@ impl Lists {
         }
     }
 
-    /// Takes `node` out of its list and puts the node `by`, which stands in no list, there under the same key. It takes constant
-    /// time.
+    /// Puts the node `by`, which is in no list, in the place of `node`: into its list, under its key and between its neighbours. It
+    /// takes constant time.
     pub fn replace(&mut self, node: u32, by: u32)
         requires node { node < length self.old.places }
         requires placed { IsSome (place_at self.old.places node) }
@@ -348,17 +348,15 @@ impl Lists {
         requires free { place_at self.old.places by ≡ None }
         ensures { self.new ≡ replaced self.old node by }
     {
-        self.laws();
-        let Some((head, key)) = self.place_of(node) else {
+        let heads: &mut [Head] = &mut self.heads;
+        let nodes: &mut [Node] = &mut self.nodes;
+        let own = nodes[node as usize];
+        let (previous, next) = (own.previous.get(), own.next.get());
+        let Some(head) = own.list.get() else {
             unreachable!()
         };
-        let gap = if is_loose(head) {
-            None
-        } else {
-            Some((self.previous_of(node), self.next_of(node)))
-        };
-        self.remove(node);
-        self.put(head, by, key, gap);
+        unlink_node(heads, nodes, head, node, previous, next);
+        link_node(heads, nodes, head, by, own.key, previous, next);
     }
 
     /// Takes a node out of the list in which it stands, in constant time.
@@ -374,10 +372,7 @@ impl Lists {
         let Some(head) = own.list.get() else {
             unreachable!()
         };
-        nodes[node as usize] = Node::free();
-        link_after(heads, nodes, head, previous, next);
-        link_before(heads, nodes, head, next, previous);
-        heads[head as usize].len -= 1;
+        unlink_node(heads, nodes, head, node, previous, next);
     }
 
     /// Puts a node into the list between two that are neighbours there, where None stands for an end; where there is no gap, at
@@ -394,15 +389,7 @@ impl Lists {
         let (previous, next) = link_place(&self.heads, head, gap);
         let heads: &mut [Head] = &mut self.heads;
         let nodes: &mut [Node] = &mut self.nodes;
-        nodes[node as usize] = Node {
-            list: Link::of(Some(head)),
-            key,
-            previous: Link::of(previous),
-            next: Link::of(next),
-        };
-        link_after(heads, nodes, head, previous, Some(node));
-        link_before(heads, nodes, head, next, Some(node));
-        heads[head as usize].len += 1;
+        link_node(heads, nodes, head, node, key, previous, next);
     }
 
     /// The nodes between which a key comes that the list does not have: the ends of the list are tried first.
@@ -616,6 +603,63 @@ fn link_place(
         Some(gap) => gap,
         None => (heads[head as usize].last.get(), None),
     }
+}
+
+/// Writes a node of the list, and links it between two nodes, where None stands for an end.
+#[inline(always)]
+fn link_node(
+    heads: &mut [Head],
+    nodes: &mut [Node],
+    head: u32,
+    node: u32,
+    key: u32,
+    previous: Option<u32>,
+    next: Option<u32>,
+)
+    requires head { head < length heads.old }
+    requires list { head < 2 ^ 32 - 1 }
+    requires node { node < length nodes.old }
+    requires nodes { length nodes.old < 2 ^ 32 }
+    requires previous { ForSome previous (λ i. i < length nodes.old) }
+    requires next { ForSome next (λ i. i < length nodes.old) }
+    requires room { (head_at heads.old head).len + 1 < 2 ^ 32 }
+    ensures heads { heads.new ≡ heads_linked heads.old head node previous next }
+    ensures nodes { nodes.new ≡ nodes_linked nodes.old head node key previous next }
+{
+    nodes[node as usize] = Node {
+        list: Link::of(Some(head)),
+        key,
+        previous: Link::of(previous),
+        next: Link::of(next),
+    };
+    link_after(heads, nodes, head, previous, Some(node));
+    link_before(heads, nodes, head, next, Some(node));
+    heads[head as usize].len += 1;
+}
+
+/// Frees a node of the list, and links the nodes beside it to each other, where None stands for an end.
+#[inline(always)]
+fn unlink_node(
+    heads: &mut [Head],
+    nodes: &mut [Node],
+    head: u32,
+    node: u32,
+    previous: Option<u32>,
+    next: Option<u32>,
+)
+    requires head { head < length heads.old }
+    requires node { node < length nodes.old }
+    requires nodes { length nodes.old < 2 ^ 32 }
+    requires previous { ForSome previous (λ i. i < length nodes.old) }
+    requires next { ForSome next (λ i. i < length nodes.old) }
+    requires some { 1 ≤ (head_at heads.old head).len }
+    ensures heads { heads.new ≡ heads_unlinked heads.old head previous next }
+    ensures nodes { nodes.new ≡ nodes_unlinked nodes.old node previous next }
+{
+    nodes[node as usize] = Node::free();
+    link_after(heads, nodes, head, previous, next);
+    link_before(heads, nodes, head, next, previous);
+    heads[head as usize].len -= 1;
 }
 
 /// Lets `to` come after `previous`, or first in the list where there is none.

@@ -382,7 +382,7 @@ fn write_event(
         → RunsEvent machine.old.slot.held machine.new.slot.held asked.now bytes.now told.new room room }
     ensures not_done { result ≢ DONE → TellsNothing machine.old.slot.held machine.new.slot.held told.old told.new }
 {
-    if !is_event(asked, bytes) {
+    if !(1..=MOST_BYTES).contains(&bytes.len()) {
         return status_of_none(machine);
     }
     let place = asked.first;
@@ -410,7 +410,7 @@ fn cache_event(
         → RunsEvent machine.old.slot.held machine.new.slot.held asked.now bytes.now told.new room room }
     ensures not_done { result ≢ DONE → TellsNothing machine.old.slot.held machine.new.slot.held told.old told.new }
 {
-    if !is_event(asked, bytes) {
+    if !(1..=MOST_PATTERN).contains(&bytes.len()) {
         return status_of_none(machine);
     }
     let request = Request::Cache {

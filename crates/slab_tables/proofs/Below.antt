@@ -42,17 +42,23 @@ below_number cs bs t b lt few none a = record {
   ];
 }
 
+-- the number in which a cache's index says its tenant
+own_number : (t c : ℕ) → c < MOST_CACHES → index_of_cache t c / MOST_CACHES ≡ t
+own_number t c less = omega arith
+
+-- a cache whose number is below is replaced
+pub below_used : (cs : List (Option Cache)) (bs : List ℕ) (t c : ℕ) (o : Option Cache) → t < length bs → c < get_or bs t 0 → c < MOST_CACHES
+    → AreBelow cs bs → AreBelow (set cs (index_of_cache t c) o) bs
+below_used cs bs t c o lt below less a =
+    below_cache cs bs (index_of_cache t c) o (omega (arith, lt, less, a.tenants))
+    (λ le. let here = ap (λ j. get_or bs j 0) (own_number t c less) in absurd (omega (arith, le, here, below, less))) a
+
 -- one cache more, and a number above it
 pub below_more : (cs : List (Option Cache)) (bs : List ℕ) (t c b : ℕ) (o : Option Cache) → t < length bs → c < b → get_or bs t 0 ≤ b → b ≤ MOST_CACHES
     → AreBelow cs bs → AreBelow (set cs (index_of_cache t c) o) (set bs t b)
 below_more cs bs t c b o lt over from few a =
-    let raised = below_number cs bs t b lt few (λ d le less. a.none (index_of_cache t d) (let at = ap (λ j. get_or bs j 0) (own d less) in omega (arith, at, from, le))) a in
-    below_cache cs (set bs t b) (index_of_cache t c) o (omega (arith, lt, over, few, a.tenants))
-    (λ le. let here = ap (λ j. get_or (set bs t b) j 0) (own c (omega arith)) ∙ get_or-set_same bs t b 0 lt in absurd (omega (arith, le, here, over, few)))
-    raised
-  where
-    own : (d : ℕ) → d < MOST_CACHES → index_of_cache t d / MOST_CACHES ≡ t
-    own d less = omega arith
+    below_used cs (set bs t b) t c o (omega (arith, lt, length-set bs t b)) (omega (arith, over, get_or-set_same bs t b 0 lt)) (omega (arith, over, few))
+    (below_number cs bs t b lt few (λ d le less. a.none (index_of_cache t d) (let at = ap (λ j. get_or bs j 0) (own_number t d less) in omega (arith, at, from, le))) a)
 
 -- no cache
 pub below_opening : (tenants : ℕ) → AreBelow (replicate (MOST_CACHES * tenants) None) (replicate tenants 0)

@@ -182,7 +182,9 @@ impl Tables {
             made: 0,
         });
         let below = self.below[usize::from(t)];
-        self.below[usize::from(t)] = below.max(c + 1);
+        if below <= c {
+            self.below[usize::from(t)] = c + 1;
+        }
         Some(c)
     }
 

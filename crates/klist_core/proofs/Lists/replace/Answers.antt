@@ -1,37 +1,80 @@
-use Rattle.std.proofs.Common.{◌≡◌, Some, sym, ◌∙◌, inl, arith}
-use Rattle.klist_core.specs.Places.{place_at, removed}
-use Rattle.klist_core.specs.Links.{up, down}
-use Rattle.klist_core.proofs.Changes.{IsPut, kept_small}
-use Rattle.klist_core.proofs.Tables.{put_by_removal}
+use Rattle.std.proofs.Common.{◌≡◌, ◌++◌, List, take, length, sym, ap, ap₂, ◌∙◌, arith}
+use Rattle.klist_core.specs.Links.{shown}
+use Rattle.klist_core.specs.Writes.{heads_linked, nodes_linked, heads_unlinked, nodes_unlinked}
+use Rattle.klist_core.specs.declared.Head.{Head}
+use Rattle.klist_core.specs.declared.Node.{Node}
+use Rattle.klist_core.proofs.Calls.{IsRemoval, removal_known, heads_replaced, nodes_replaced, nodes_stay, linked_over, shown_over, seam, linked_back}
 use Rattle.klist_core.proofs.Lists.replace.Goals as goal
-use Rattle.klist_core.proofs.Lists.replace.Goals.{After-laws, In-Some, then-is_loose, else-is_loose}
+use Rattle.klist_core.proofs.Lists.replace.Goals.{In-Some, After-unlink_node, After-link_node}
 
-stood : (c : In-Some) → place_at c.args.self.now.places c.args.node ≡ Some (c.in-Some.head, c.in-Some.key)
-stood c = sym c.place_of.ensures ∙ c.in-Some.is
+known : (c : In-Some) → IsRemoval c.self.inside.heads.items c.self.inside.nodes.items c.args.node c.index-nodes-node.result c.in-Some.head
+known c =
+    removal_known c.self.inside.heads.items c.self.inside.nodes.items c.args.node c.index-nodes-node.result c.in-Some.head c.self.invariant
+    (rw (← c.self.view_is) at c.requires.node) (rw c.deref_mut-nodes.ensures.value at c.index-nodes-node.is) (sym c.get.ensures ∙ c.in-Some.is)
 
--- the table before and after the removal
-taken_out : (c : In-Some) → IsPut (place_at (removed c.args.self.now c.args.node).places) (place_at c.args.self.now.places) c.in-Some.head c.args.node c.in-Some.key
-taken_out c = put_by_removal c.args.self.now c.in-Some.head c.args.node c.in-Some.key c.laws.ensures (stood c)
+pub unlink_node-requires : goal.unlink_node-requires
+unlink_node-requires c =
+    let k = known (goal.at.unlink_node-requires c).In-Some in
+    let heads = ap (λ (hs : List Head). length hs) c.deref_mut-heads.ensures.value in
+    let nodes = ap (λ (ns : List Node). length ns) c.deref_mut-nodes.ensures.value in
+    record {
+      head = omega (arith, heads, k.in_heads);
+      node = omega (arith, nodes, k.in_nodes);
+      nodes = omega (arith, nodes, k.small);
+      previous = λ i e. omega (arith, nodes, k.left.below i (sym c.get-previous.ensures ∙ e));
+      next = λ i e. omega (arith, nodes, k.right.below i (sym c.get-next.ensures ∙ e));
+      some = rw c.deref_mut-heads.ensures.value k.some;
+    }
 
-pub put-requires-clause-head : goal.put-requires-clause-head
-put-requires-clause-head c =
-    rw c.remove.ensures (c.laws.ensures.headed c.args.node c.in-Some.head c.in-Some.key (stood (goal.at.put-requires-clause-head c).In-Some))
+-- the tables without the node
+heads_freed : (c : After-unlink_node) → c.unlink_node.new.heads ≡ heads_unlinked c.self.inside.heads.items c.in-Some.head c.index-nodes-node.result.previous c.index-nodes-node.result.next
+heads_freed c =
+    c.unlink_node.ensures.heads ∙ ap (λ (hs : List Head). heads_unlinked hs c.in-Some.head c.get-previous.result c.get-next.result) c.deref_mut-heads.ensures.value
+    ∙ ap₂ (λ p q. heads_unlinked c.self.inside.heads.items c.in-Some.head p q) c.get-previous.ensures c.get-next.ensures
 
-pub put-requires-clause-fresh : goal.put-requires-clause-fresh
-put-requires-clause-fresh c = let p = taken_out (goal.at.put-requires-clause-fresh c).In-Some in rw c.remove.ensures p.fresh
+nodes_freed : (c : After-unlink_node) → c.unlink_node.new.nodes ≡ nodes_unlinked c.self.inside.nodes.items c.args.node c.index-nodes-node.result.previous c.index-nodes-node.result.next
+nodes_freed c =
+    c.unlink_node.ensures.nodes ∙ ap (λ (ns : List Node). nodes_unlinked ns c.args.node c.get-previous.result c.get-next.result) c.deref_mut-nodes.ensures.value
+    ∙ ap₂ (λ p q. nodes_unlinked c.self.inside.nodes.items c.args.node p q) c.get-previous.ensures c.get-next.ensures
 
-pub put-requires-clause-gap : goal.put-requires-clause-gap
-put-requires-clause-gap c =
-    let here = (goal.at.put-requires-clause-gap c).In-Some in
-    let head = c.in-Some.head in
-    let key = c.in-Some.key in
-    elim c.if-is_loose.branch [
-      | then-is_loose w ↦ rw w.gap-is (c.is_loose.ensures.loose w.if-is_loose.true)
-      | else-is_loose w ↦
-          let by_key = c.is_loose.ensures.by_key w.if-is_loose.false in
-          rw (w.gap-is, c.remove.ensures) (record {
-            by_key = by_key;
-            previous = kept_small down _ _ head c.args.node key (taken_out here) _ _ (inl (omega arith)) (w.previous_of.ensures head key by_key (stood here));
-            next = kept_small up _ _ head c.args.node key (taken_out here) _ _ (inl (omega arith)) (w.next_of.ensures head key by_key (stood here));
-          })
-    ]
+-- there are as many as before
+nodes_kept : (c : After-unlink_node) → length c.unlink_node.new.nodes ≡ length c.self.inside.nodes.items
+nodes_kept c = ap (λ (ns : List Node). length ns) (nodes_freed c) ∙ nodes_stay c.self.inside.nodes.items c.args.node c.index-nodes-node.result.previous c.index-nodes-node.result.next
+
+pub link_node-requires-clause-previous : goal.link_node-requires-clause-previous
+link_node-requires-clause-previous c = λ i e.
+    let g = goal.at.link_node-requires-clause-previous c in
+    let k = known g.In-Some in omega (arith, nodes_kept g.After-unlink_node, k.left.below i (sym c.get-previous.ensures ∙ e))
+
+pub link_node-requires-clause-next : goal.link_node-requires-clause-next
+link_node-requires-clause-next c = λ i e.
+    let g = goal.at.link_node-requires-clause-next c in
+    let k = known g.In-Some in omega (arith, nodes_kept g.After-unlink_node, k.right.below i (sym c.get-next.ensures ∙ e))
+
+-- the tables as they are when they are back
+heads_back : (c : After-link_node) (rest : List Head) → c.unlink_node.new.heads ≡ heads_unlinked c.self.inside.heads.items c.in-Some.head c.index-nodes-node.result.previous c.index-nodes-node.result.next
+    → take c.self.inside.heads.len (c.link_node.new.heads ++ rest) ≡ heads_replaced c.self.inside.heads.items c.in-Some.head c.args.by c.index-nodes-node.result
+heads_back c rest freed =
+    seam _ rest c.self.inside.heads.len (omega (arith, c.link_node.auto.heads, ap (λ (hs : List Head). length hs) c.deref_mut-heads.ensures.value, c.self.inside.heads.ok.0))
+    ∙ (c.link_node.ensures.heads ∙ ap₂ (λ p q. heads_linked c.unlink_node.new.heads c.in-Some.head c.args.by p q) c.get-previous.ensures c.get-next.ensures
+    ∙ ap (λ (hs : List Head). heads_linked hs c.in-Some.head c.args.by c.index-nodes-node.result.previous c.index-nodes-node.result.next) freed)
+
+nodes_back : (c : After-link_node) (rest : List Node) → c.unlink_node.new.nodes ≡ nodes_unlinked c.self.inside.nodes.items c.args.node c.index-nodes-node.result.previous c.index-nodes-node.result.next
+    → take c.self.inside.nodes.len (c.link_node.new.nodes ++ rest) ≡ nodes_replaced c.self.inside.nodes.items c.in-Some.head c.args.node c.args.by c.index-nodes-node.result
+nodes_back c rest freed =
+    seam _ rest c.self.inside.nodes.len (omega (arith, c.link_node.auto.nodes, ap (λ (ns : List Node). length ns) c.deref_mut-nodes.ensures.value, c.self.inside.nodes.ok.0))
+    ∙ (c.link_node.ensures.nodes ∙ ap₂ (λ p q. nodes_linked c.unlink_node.new.nodes c.in-Some.head c.args.by c.index-nodes-node.result.key p q) c.get-previous.ensures c.get-next.ensures
+    ∙ ap (λ (ns : List Node). nodes_linked ns c.in-Some.head c.args.by c.index-nodes-node.result.key c.index-nodes-node.result.previous c.index-nodes-node.result.next) freed)
+
+pub invariant_of-self : goal.invariant_of-self
+invariant_of-self c =
+    let g = goal.at.invariant_of-self c in
+    linked_back _ _ _ _ (heads_back g.After-link_node _ (heads_freed g.After-unlink_node)) (nodes_back g.After-link_node _ (nodes_freed g.After-unlink_node))
+    (linked_over c.self.inside.heads.items c.self.inside.nodes.items c.args.node c.args.by c.index-nodes-node.result c.in-Some.head (known g.In-Some) (rw (← c.self.view_is) at c.requires.by) (rw (← c.self.view_is) at c.requires.free))
+
+pub returns : goal.returns
+returns c =
+    let g = goal.at.returns c in
+    rw (← c.self.view_is) (
+    ap₂ (λ (hs : List Head) (ns : List Node). shown hs ns) (heads_back g.After-link_node _ (heads_freed g.After-unlink_node)) (nodes_back g.After-link_node _ (nodes_freed g.After-unlink_node))
+    ∙ shown_over c.self.inside.heads.items c.self.inside.nodes.items c.args.node c.args.by c.index-nodes-node.result c.in-Some.head (known g.In-Some) (rw (← c.self.view_is) at c.requires.by))
