@@ -116,6 +116,7 @@ impl Kernel {
     }
 
     /// Makes a cache for objects of `size` bytes.
+    #[inline(always)]
     pub(crate) fn make_cache(
         &mut self,
         t: u8,
