@@ -605,7 +605,7 @@ fn link_place(
     }
 }
 
-/// Writes a node of the list, and links it between two nodes, where None stands for an end.
+/// Writes a node of the list, and links it between two nodes. None is an end of the list.
 #[inline(always)]
 fn link_node(
     heads: &mut [Head],
@@ -637,7 +637,7 @@ fn link_node(
     heads[head as usize].len += 1;
 }
 
-/// Frees a node of the list, and links the nodes beside it to each other, where None stands for an end.
+/// Frees a node of the list, and links its neighbours to each other. None is an end of the list.
 #[inline(always)]
 fn unlink_node(
     heads: &mut [Head],
