@@ -1,0 +1,339 @@
+//! The jobs that users wait for, each on traces of its own.
+
+ghost use Rattle.replay_core.specs.Standing.{IsRunnable};
+
+use crate::digest::Digest;
+use crate::load::{BLOCKS, BYTES, CROWDED, GUESTS, Load, MIXED, OBJECTS};
+use crate::maker::Maker;
+use crate::numbers::Numbers;
+use check_core::{Finding, LineReader, Shown, Unchecked, check};
+use frame_picture::history::History;
+use judge::Machine;
+use kernel_core::{Config, Kernel};
+use own_trace::keep;
+use picture_svg::picture::Picture;
+use replay_core::{Drain, Pending, ReaderFeed, WriterDrain, replay};
+use run_notes::{MOST_NUMBER, NotedReader, NotedWriter};
+use std::alloc::{AllocError, Global};
+use std::io::{BufWriter, Read, Write};
+use words_core::{Answer, Event, LineFault, Refusal};
+
+/// Room for a line of a trace, on the average.
+const LINE_BYTES: usize = 32;
+
+/// The bytes that a drain holds back.
+const BUFFER_BYTES: usize = 65_536;
+
+/// How many columns a picture has.
+const COLUMNS: u32 = 600;
+
+/// What is done with a trace.
+#[derive(Clone, Copy, Debug, PartialEq, Eq)]
+pub enum Job {
+    /// It is replayed, once for all and once for one tenant.
+    Replay,
+    /// The own list of a tenant is kept.
+    Own,
+    /// It is replayed, and its faults and refusals are noted.
+    Tally,
+    /// The replies to it are checked, and then once more with one byte of them turned.
+    Check,
+    /// It is drawn.
+    Picture,
+}
+
+/// A job on a load: so many traces, each of so many lines.
+#[derive(Clone, Copy)]
+pub struct Work {
+    pub job: Job,
+    pub load: Load,
+    pub traces: u32,
+    pub lines: u32,
+}
+
+impl Work {
+    /// A job on a load.
+    const fn of(job: Job, load: Load, traces: u32, lines: u32) -> Work {
+        Work {
+            job,
+            load,
+            traces,
+            lines,
+        }
+    }
+}
+
+/// The works of a workload of this name.
+pub fn works_of(alloc: Global, name: &str) -> Result<Vec<Work>, AllocError> {
+    let mut works = Vec::new(alloc);
+    let loads = [
+        (GUESTS, 4u32, 250_000u32),
+        (BLOCKS, 4, 250_000),
+        (OBJECTS, 4, 250_000),
+        (BYTES, 2, 250_000),
+        (MIXED, 2, 250_000),
+    ];
+    match name {
+        "replay" => {
+            for (load, traces, lines) in loads {
+                works.push(Work::of(Job::Replay, load, traces, lines))?;
+            }
+        }
+        "own" => {
+            for (load, traces, lines) in loads {
+                works.push(Work::of(Job::Own, load, traces, lines))?;
+            }
+        }
+        "tally" => {
+            for (load, traces, lines) in loads {
+                works.push(Work::of(Job::Tally, load, traces, lines))?;
+            }
+        }
+        "check" => {
+            for (load, traces, lines) in loads {
+                works.push(Work::of(Job::Check, load, traces, lines / 4))?;
+            }
+        }
+        "picture" => {
+            works.push(Work::of(Job::Picture, GUESTS, 1, 60_000))?;
+            works.push(Work::of(Job::Picture, MIXED, 1, 60_000))?;
+            works.push(Work::of(Job::Picture, CROWDED, 1, 6_000))?;
+        }
+        "crowded" => {
+            works.push(Work::of(Job::Replay, CROWDED, 1, 300_000))?;
+            works.push(Work::of(Job::Own, CROWDED, 1, 300_000))?;
+            works.push(Work::of(Job::Check, CROWDED, 1, 60_000))?;
+        }
+        _ => {}
+    }
+    Ok(works)
+}
+
+/// Does a work with traces of this seed, and adds all that comes out to the digest.
+pub fn run(alloc: Global, work: &Work, seed: u64, digest: &mut Digest) -> Result<(), AllocError> {
+    for trace in 0..work.traces {
+        let own_seed = seed.wrapping_mul(1000).wrapping_add(u64::from(trace));
+        let room = work.lines as usize * LINE_BYTES;
+        let mut maker = Maker::new(alloc, work.load, own_seed, room)?;
+        maker.make(work.lines)?;
+        digest.add(maker.digest.value());
+        let lines = maker.trace.as_slice();
+        let tenant = u8::try_from(trace % work.load.config.tenants.max(1)).unwrap_or(0);
+        match work.job {
+            Job::Replay => {
+                replay_all(alloc, work.load.config, lines, None, digest)?;
+                replay_all(alloc, work.load.config, lines, Some(tenant), digest)?;
+            }
+            Job::Own => keep_own(alloc, work.load.config, lines, tenant, digest)?,
+            Job::Tally => replay_noted(alloc, work.load.config, lines, digest)?,
+            Job::Check => check_both(alloc, work.load.config, lines, own_seed, digest)?,
+            Job::Picture => draw(alloc, work.load.config, lines, digest)?,
+        }
+    }
+    Ok(())
+}
+
+/// A new machine.
+fn booted(alloc: Global, config: Config) -> Result<Kernel, AllocError> {
+    Kernel::boot(alloc, config).map_err(|_| AllocError)
+}
+
+/// Replays the trace of a reader into a writer, for one tenant or for all, and answers a number that hangs on how it went.
+fn replay_between<R: Read + Drop, W: Write + Drop>(
+    alloc: Global,
+    config: Config,
+    only: Option<u8>,
+    reader: R,
+    writer: W,
+) -> Result<u64, AllocError> {
+    let mut kernel = booted(alloc, config)?;
+    let room = Vec::with_capacity(alloc, BUFFER_BYTES)?;
+    let mut drain = WriterDrain::holding(writer, room);
+    let replayed = replay(&mut kernel, &mut ReaderFeed::new(reader), &mut drain, only);
+    let flushed = !drain.failed() && drain.flush().is_ok();
+    Ok(match replayed {
+        Ok(tally) => tally
+            .lines
+            .wrapping_mul(3)
+            .wrapping_add(tally.events)
+            .wrapping_mul(5)
+            .wrapping_add(tally.faults)
+            .wrapping_add(u64::from(flushed)),
+        Err(_) => 0,
+    })
+}
+
+/// Writes a tenant's own list of the trace of a reader, and answers whether all was done.
+fn keep_between<R: Read + Drop, W: Write + Drop>(
+    alloc: Global,
+    config: Config,
+    tenant: u8,
+    reader: R,
+    writer: W,
+) -> Result<bool, AllocError> {
+    let mut kernel = booted(alloc, config)?;
+    let room = Vec::with_capacity(alloc, BUFFER_BYTES)?;
+    let mut drain = WriterDrain::holding(writer, room);
+    let kept = keep(
+        &mut kernel,
+        &mut ReaderFeed::new(reader),
+        &mut drain,
+        tenant,
+    );
+    let flushed = !drain.failed() && drain.flush().is_ok();
+    Ok(kept.is_ok() && flushed)
+}
+
+/// Replays a trace, for one tenant or for all.
+fn replay_all(
+    alloc: Global,
+    config: Config,
+    trace: &[u8],
+    only: Option<u8>,
+    digest: &mut Digest,
+) -> Result<(), AllocError> {
+    let ended = replay_between(alloc, config, only, trace, &mut *digest)?;
+    digest.add(ended);
+    Ok(())
+}
+
+/// Replays a trace, and notes what goes through.
+fn replay_noted(
+    alloc: Global,
+    config: Config,
+    trace: &[u8],
+    digest: &mut Digest,
+) -> Result<(), AllocError> {
+    let mut reader = NotedReader::new(trace);
+    let mut writer = NotedWriter::new(&mut *digest);
+    let ended = replay_between(alloc, config, None, &mut reader, &mut writer)?;
+    let refusals = writer.into_notes();
+    digest.add(ended);
+    for number in 1..=MOST_NUMBER {
+        if let Some(refused) = refusals.told(number) {
+            digest.add_bytes(format!(in alloc; "{refused}")?.as_bytes());
+        }
+    }
+    for line in reader.into_notes().first().iter().flatten() {
+        digest.add_bytes(format!(in alloc; "{line}")?.as_bytes());
+    }
+    Ok(())
+}
+
+/// Keeps the own list of a tenant.
+fn keep_own(
+    alloc: Global,
+    config: Config,
+    trace: &[u8],
+    tenant: u8,
+    digest: &mut Digest,
+) -> Result<(), AllocError> {
+    let done = keep_between(alloc, config, tenant, trace, &mut *digest)?;
+    digest.add(u64::from(done));
+    Ok(())
+}
+
+/// Checks the replies to a trace, and then once more with a byte of their last quarter turned.
+fn check_both(
+    alloc: Global,
+    config: Config,
+    trace: &[u8],
+    seed: u64,
+    digest: &mut Digest,
+) -> Result<(), AllocError> {
+    let mut replies = Vec::with_capacity(alloc, trace.len().saturating_mul(2))?;
+    let ended = replay_between(alloc, config, None, trace, &mut replies)?;
+    digest.add(ended);
+    digest.add(checked(alloc, config, trace, replies.as_slice())?);
+    let quarter = u32::try_from(replies.len() / 4).unwrap_or(0);
+    if quarter > 0 {
+        let back = Numbers::new(seed).below(quarter) as usize + 1;
+        let at = replies.len().saturating_sub(back);
+        if let Some(byte) = replies.get_mut(at) {
+            *byte ^= 1;
+        }
+        digest.add(checked(alloc, config, trace, replies.as_slice())?);
+    }
+    Ok(())
+}
+
+/// A number that hangs on what is found.
+fn checked(alloc: Global, config: Config, trace: &[u8], replies: &[u8]) -> Result<u64, AllocError> {
+    if !config.is_bootable() {
+        return Ok(0);
+    }
+    let mut machine = Machine::new(
+        alloc,
+        config.order as u8,
+        config.superblocks as u16,
+        config.tenants as u8,
+    )?;
+    let mut trace = LineReader::new(ReaderFeed::with_room(trace, u64::MAX));
+    let mut replies = LineReader::new(ReaderFeed::with_room(replies, u64::MAX));
+    let found = check(&mut machine, &mut trace, &mut replies, &mut Shown::new());
+    match found {
+        Ok(Finding::Kept(lines)) => Ok(low(lines)),
+        Ok(Finding::Broken(breach)) => Ok(
+            low(breach.line)
+                .wrapping_mul(31)
+                .wrapping_add(low(breach.reply))
+                .wrapping_mul(31)
+                .wrapping_add(breach.promise as u64),
+        ),
+        Err(Unchecked::Memory) => Err(AllocError),
+        Err(_) => Ok(0),
+    }
+}
+
+/// A count, if it is no greater than a trace may have.
+fn low(count: u128) -> u64 {
+    u64::try_from(count).unwrap_or(0)
+}
+
+/// Draws what becomes of the frames.
+fn draw(
+    alloc: Global,
+    config: Config,
+    trace: &[u8],
+    digest: &mut Digest,
+) -> Result<(), AllocError> {
+    let mut kernel = booted(alloc, config)?;
+    let mut history = History::new(alloc, &kernel, COLUMNS)?;
+    let mut picture = Picture::new(alloc, &history, None)?;
+    let mut pending = Pending::new();
+    for line in trace.split(|byte| *byte == b'\n') {
+        watch_line(pending.end_with(line), &mut kernel, &mut history);
+    }
+    history.end(&kernel);
+    let drawn = draw_into(alloc, &history, &mut picture, &mut *digest);
+    digest.add(u64::from(drawn));
+    Ok(())
+}
+
+/// Writes the picture, and answers whether it was written.
+fn draw_into(alloc: Global, history: &History, picture: &mut Picture, digest: &mut Digest) -> bool {
+    let Ok(mut writer) = BufWriter::with_capacity(alloc, BUFFER_BYTES, digest) else {
+        return false;
+    };
+    picture.draw(history, Some("trace"), &mut writer).is_ok()
+}
+
+/// Runs a line, as `framemap` does, and keeps what the machine is like after it.
+fn watch_line(reading: Result<Option<Event>, LineFault>, kernel: &mut Kernel, history: &mut History)
+    requires { IsRunnable reading }
+{
+    match reading {
+        Ok(Some(Event::Admin(command))) => {
+            let _ = kernel.administer(&command);
+        }
+        Ok(Some(Event::Tenant(tenant, command))) => {
+            if let Some(request) = command.request()
+                && let Some((t, Answer::Refused(Refusal::NoFrames))) = kernel.ask(tenant, request)
+            {
+                history.add_refusal(t);
+            }
+        }
+        Ok(None) | Err(_) => {}
+    }
+    history.add_line(kernel);
+}

@@ -1,0 +1,81 @@
+//! The benchmark: does the jobs that users wait for, on traces that it makes from a seed, and prints a digest of all that came out.
+//!
+//! `workloads NAME SEED [PART]`
+//!
+//! NAME is one of `replay`, `own`, `tally`, `check`, `picture` and `crowded`, or `all`; SEED is a number below 2^32. With PART each
+//! trace has one line where it had PART.
+#![tactic(auto)]
+
+ghost use Rattle.std.specs.Prelude.{◌<◌};
+
+mod digest;
+mod jobs;
+mod load;
+mod maker;
+mod numbers;
+mod text;
+
+use digest::Digest;
+use jobs::{run, works_of};
+use std::process::ExitCode;
+use std::rt::Env;
+use std::{env, io};
+
+/// All workloads.
+const NAMES: [&str; 6] = ["replay", "own", "tally", "check", "picture", "crowded"];
+
+fn main(rt: HostRuntime) -> ExitCode {
+    match run_words(&rt) {
+        Ok(true) => ExitCode::SUCCESS,
+        Ok(false) => {
+            let _unheard = eprintln!(rt;
+                "usage: workloads replay|own|tally|check|picture|crowded|all SEED [PART]"
+            );
+            ExitCode::from(2)
+        }
+        Err(error) => {
+            let _unheard = eprintln!(rt; "workloads: {error}");
+            ExitCode::FAILURE
+        }
+    }
+}
+
+/// Does what the words ask for, and answers whether they ask for something.
+fn run_words(rt: &(impl Env + Print + AllocGlobal)) -> io::Result<bool> {
+    let mut words = env::args(rt)?;
+    let _program = words.next();
+    let (Some(name), Some(seed)) = (words.next(), words.next()) else {
+        return Ok(false);
+    };
+    let Ok(seed) = seed.as_str().parse::<u32>() else {
+        return Ok(false);
+    };
+    let part = match words.next() {
+        Some(part) => part.as_str().parse::<u32>().unwrap_or(1),
+        None => 1,
+    };
+    let mut is_known = false;
+    for known in NAMES {
+        if name.as_str() == known || name.as_str() == "all" {
+            is_known = true;
+            print_digest(rt, known, seed, part.max(1))?;
+        }
+    }
+    Ok(is_known)
+}
+
+/// Does the works of a workload, and prints their digest.
+fn print_digest(rt: &(impl Print + AllocGlobal), name: &str, seed: u32, part: u32) -> io::Result<()>
+    requires { 0 < part }
+{
+    let mut digest = Digest::new();
+    let works = works_of(rt.alloc(), name)?;
+    for (at, work) in works.iter().enumerate() {
+        let mut work = *work;
+        work.lines /= part;
+        let own_seed = u64::from(seed).wrapping_mul(64).wrapping_add(at as u64);
+        run(rt.alloc(), &work, own_seed, &mut digest)?;
+    }
+    let value = digest.value();
+    println!(rt; "{name} {value:016x}")
+}

@@ -1,0 +1,484 @@
+//! Traces that do something in every line: each command is asked of a kernel while the trace is made, and what it answers, frames
+//! and places, is what later lines name.
+
+ghost use Rattle.std.specs.Prelude.{◌≡◌, ◌<◌, MatchOption};
+ghost use Rattle.words_core.specs.Requests.{IsAskable};
+
+use crate::digest::Digest;
+use crate::load::{Kind, Load};
+use crate::numbers::Numbers;
+use crate::text::Line;
+use kernel_core::Kernel;
+use std::alloc::{AllocError, Global};
+use words_core::{AdminCommand, Answer, Body, CACHES, Request};
+
+/// Lines that are no commands; a tenant's number stands before each.
+const ODD_LINES: [&[u8]; 8] = [
+    b" frobnicate 1\n",
+    b" alloc\n",
+    b" allot 1\n",
+    b" free x\n",
+    b" write 0 0\n",
+    b" take 12345678901\n",
+    b" \t\n",
+    b"  read  4096   4 \n",
+];
+
+/// Patterns of new caches.
+static PATTERN: [u8; 16] = *b"\xa5\x5a\x01\xfe\xa5\x5a\x02\xfd\xa5\x5a\x03\xfc\xa5\x5a\x04\xfb";
+
+/// What a tenant holds, as it was told.
+#[derive(Drop)]
+struct Tenant {
+    /// The first frames of its blocks.
+    blocks: Vec<u32>,
+    objects: Vec<Object>,
+    /// By cache, the bytes of an object.
+    sizes: [u32; CACHES],
+    /// How many superblocks it was granted at the start.
+    slots: u32,
+}
+
+#[derive(Clone, Copy)]
+struct Object {
+    cache: u32,
+    place: u32,
+    size: u32,
+}
+
+/// What a command was answered.
+#[derive(Clone, Copy)]
+enum Told {
+    Frame(u32),
+    Object(u32),
+    Cache(u32),
+    Done,
+    Refused,
+}
+
+/// Makes a trace of a load.
+#[derive(Drop)]
+pub struct Maker {
+    load: Load,
+    kernel: Kernel,
+    numbers: Numbers,
+    /// The kinds of lines, each as often as it is to come.
+    kinds: Vec<Kind>,
+    tenants: Vec<Tenant>,
+    /// What the tenants store.
+    bytes: [u8; 64],
+    /// The line that is written.
+    line: Line,
+    pub trace: Vec<u8>,
+    /// Of all answers.
+    pub digest: Digest,
+}
+
+impl Maker {
+    /// A new machine of the load, with the lines that grant its superblocks and make its caches. The trace has room for so many
+    /// bytes.
+    pub fn new(alloc: Global, load: Load, seed: u64, room: usize) -> Result<Maker, AllocError> {
+        let Ok(kernel) = Kernel::boot(alloc, load.config) else {
+            return Err(AllocError);
+        };
+        let mut kinds = Vec::new(alloc);
+        for (kind, times) in load.kinds {
+            for _ in 0..*times {
+                kinds.push(*kind)?;
+            }
+        }
+        let mut tenants = Vec::new(alloc);
+        for _ in 0..load.config.tenants {
+            tenants.push(Tenant {
+                blocks: Vec::with_capacity(alloc, load.most_blocks)?,
+                objects: Vec::with_capacity(alloc, load.most_objects)?,
+                sizes: [1; CACHES],
+                slots: 0,
+            })?;
+        }
+        let mut maker = Maker {
+            load,
+            kernel,
+            numbers: Numbers::new(seed),
+            kinds,
+            tenants,
+            bytes: [0; 64],
+            line: Line::new(),
+            trace: Vec::with_capacity(alloc, room)?,
+            digest: Digest::new(),
+        };
+        maker.begin()?;
+        Ok(maker)
+    }
+
+    /// The superblocks are shared out in turn, and each tenant makes its caches.
+    fn begin(&mut self) -> Result<(), AllocError> {
+        let tenants = self.load.config.tenants.max(1);
+        for superblock in 0..self.load.granted {
+            let t = superblock % tenants;
+            self.grant(t)?;
+            if let Some(tenant) = self.tenants.get_mut(t as usize) {
+                tenant.slots = tenant.slots.saturating_add(1);
+            }
+        }
+        for t in 0..tenants {
+            self.make_caches(t)?;
+        }
+        Ok(())
+    }
+
+    /// Puts so many lines more behind the trace; a tenant that begins again makes some beside.
+    pub fn make(&mut self, lines: u32) -> Result<(), AllocError> {
+        let tenants = self.load.config.tenants.max(1);
+        let kinds = u32::try_from(self.kinds.len()).unwrap_or(0);
+        for _ in 0..lines {
+            let t = self.numbers.below(tenants);
+            if kinds > 0 {
+                let at = self.numbers.below(kinds) as usize;
+                let kind = self.kinds.get(at).copied().unwrap_or(Kind::Odd);
+                self.make_line(t, kind)?;
+            }
+        }
+        Ok(())
+    }
+
+    /// A line of this kind.
+    fn make_line(&mut self, t: u32, kind: Kind) -> Result<(), AllocError> {
+        match kind {
+            Kind::Alloc => self.alloc(t),
+            Kind::Free => self.free(t),
+            Kind::Take => self.take(t),
+            Kind::Give => self.give(t),
+            Kind::Read => self.read(t),
+            Kind::Write => self.write(t),
+            Kind::Cache => self.cache_of_any_size(t),
+            Kind::Destroy => {
+                let cache = self.numbers.below(CACHES as u32);
+                self.ask(t, Request::Destroy { cache })?;
+                Ok(())
+            }
+            Kind::Reap => {
+                self.ask(t, Request::Reap)?;
+                Ok(())
+            }
+            Kind::Report => self.report(t),
+            Kind::Move | Kind::TakeBack | Kind::Reset | Kind::Pool => self.administer_some(t, kind),
+            Kind::Odd => self.odd_line(t),
+        }
+    }
+
+    /// Puts the line that was written behind the trace.
+    #[inline(always)]
+    fn put_line(&mut self) -> Result<(), AllocError> {
+        self.trace.extend_from_slice(self.line.text())
+    }
+
+    /// Asks the kernel, and puts the line behind the trace.
+    fn ask(&mut self, t: u32, request: Request<'_>) -> Result<Told, AllocError>
+        requires { IsAskable request }
+    {
+        self.line.request(t, &request);
+        self.put_line()?;
+        let told = match self.kernel.ask(t, request) {
+            None => Told::Refused,
+            Some((_, answer)) => {
+                let told = told_by(&answer);
+                if let Answer::Bytes(bytes) = answer {
+                    self.digest.add_bytes(bytes);
+                }
+                told
+            }
+        };
+        self.digest.add(number_of(told));
+        Ok(told)
+    }
+
+    /// A block, of any order of the load; if the tenant has too many, one of them is given back.
+    fn alloc(&mut self, t: u32) -> Result<(), AllocError> {
+        let most = self.load.most_blocks;
+        if self
+            .tenants
+            .get(t as usize)
+            .is_some_and(|it| it.blocks.len() >= most)
+        {
+            return self.free(t);
+        }
+        let orders = self.load.orders;
+        let at = self.numbers.below(count_of(orders)) as usize;
+        let order = orders.get(at).copied().unwrap_or(0);
+        let told = self.ask(t, Request::Alloc { order })?;
+        if let (Told::Frame(frame), Some(tenant)) = (told, self.tenants.get_mut(t as usize)) {
+            tenant.blocks.push(frame)?;
+        }
+        Ok(())
+    }
+
+    /// A block is given back: any may be the one. If there is none, a frame that begins none is named.
+    fn free(&mut self, t: u32) -> Result<(), AllocError> {
+        let draw = self.numbers.next();
+        let mut frame = (draw >> 48) as u32;
+        if let Some(tenant) = self.tenants.get_mut(t as usize) {
+            if let Some(at) = chosen(draw, tenant.blocks.len()) {
+                frame = tenant.blocks.swap_remove(at);
+            }
+        }
+        self.ask(t, Request::Free { frame })?;
+        Ok(())
+    }
+
+    /// An object of any cache; if the tenant has too many, one of them is given back.
+    fn take(&mut self, t: u32) -> Result<(), AllocError> {
+        let most = self.load.most_objects;
+        if self
+            .tenants
+            .get(t as usize)
+            .is_some_and(|it| it.objects.len() >= most)
+        {
+            return self.give(t);
+        }
+        let cache = self.numbers.below(count_of(self.load.sizes));
+        let told = self.ask(t, Request::Take { cache })?;
+        if let (Told::Object(place), Some(tenant)) = (told, self.tenants.get_mut(t as usize)) {
+            let size = tenant.sizes.get(cache as usize).copied().unwrap_or(1);
+            tenant.objects.push(Object { cache, place, size })?;
+        }
+        Ok(())
+    }
+
+    /// An object is given back: any may be the one. If there is none, a place is named where none begins.
+    fn give(&mut self, t: u32) -> Result<(), AllocError> {
+        let draw = self.numbers.next();
+        let mut object = Object {
+            cache: 0,
+            place: (draw >> 40) as u32,
+            size: 1,
+        };
+        if let Some(tenant) = self.tenants.get_mut(t as usize) {
+            if let Some(at) = chosen(draw, tenant.objects.len()) {
+                object = tenant.objects.swap_remove(at);
+            }
+        }
+        let Object { cache, place, .. } = object;
+        self.ask(t, Request::Give { cache, place })?;
+        Ok(())
+    }
+
+    /// A place that the tenant holds, and how many bytes from there on.
+    fn some_room(&mut self, t: u32) -> (u32, u32) {
+        let draw = self.numbers.next();
+        let Some(tenant) = self.tenants.get(t as usize) else {
+            return (0, 64);
+        };
+        if draw % 2 == 0 {
+            if let Some(at) = chosen(draw, tenant.blocks.len()) {
+                let frame = tenant.blocks.get(at).copied().unwrap_or(0);
+                let inside = (draw >> 40) as u32 % 4032;
+                return (frame.wrapping_mul(4096).wrapping_add(inside), 64);
+            }
+        }
+        match chosen(draw, tenant.objects.len()) {
+            Some(at) => match tenant.objects.get(at) {
+                Some(object) => (object.place, object.size.clamp(1, 64)),
+                None => (0, 64),
+            },
+            None => (0, 64),
+        }
+    }
+
+    /// 1 to 64 bytes are read, as often as not the most or the fewest.
+    fn read(&mut self, t: u32) -> Result<(), AllocError> {
+        let (place, room) = self.some_room(t);
+        let len = self.some_count(room);
+        self.ask(t, Request::Read { place, len })?;
+        Ok(())
+    }
+
+    /// 1 to 64 bytes are stored.
+    fn write(&mut self, t: u32) -> Result<(), AllocError> {
+        let (place, room) = self.some_room(t);
+        let len = self.some_count(room);
+        let draw = self.numbers.next();
+        let at = (draw % 64) as usize;
+        self.bytes[at] = (draw >> 56) as u8;
+        let bytes = self.bytes;
+        let count = (len as usize).min(bytes.len());
+        self.ask(
+            t,
+            Request::Write {
+                place,
+                bytes: &bytes[..count],
+            },
+        )?;
+        Ok(())
+    }
+
+    /// How many bytes of so many.
+    fn some_count(&mut self, room: u32) -> u32 {
+        let room = room.max(1);
+        match self.numbers.below(3) {
+            0 => 1,
+            1 => room,
+            _ => self.numbers.below(room).saturating_add(1),
+        }
+    }
+
+    /// The caches that each tenant makes at the start.
+    fn make_caches(&mut self, t: u32) -> Result<(), AllocError> {
+        for size in self.load.sizes {
+            self.cache(t, *size, 8)?;
+        }
+        Ok(())
+    }
+
+    fn cache_of_any_size(&mut self, t: u32) -> Result<(), AllocError> {
+        let size = self.numbers.below(4096).saturating_add(1);
+        let align = 8 << self.numbers.below(6);
+        self.cache(t, size, align)
+    }
+
+    fn cache(&mut self, t: u32, size: u32, align: u32) -> Result<(), AllocError> {
+        let count = self.numbers.below(16) as usize + 1;
+        let told = self.ask(
+            t,
+            Request::Cache {
+                size,
+                align,
+                pattern: &PATTERN[..count],
+            },
+        )?;
+        if let (Told::Cache(cache), Some(tenant)) = (told, self.tenants.get_mut(t as usize)) {
+            if let Some(its) = tenant.sizes.get_mut(cache as usize) {
+                *its = size;
+            }
+        }
+        Ok(())
+    }
+
+    fn report(&mut self, t: u32) -> Result<(), AllocError> {
+        self.line.begin(t);
+        self.line.word(b" report\n");
+        self.put_line()?;
+        if let Body::Report(report) = self.kernel.report(t).body {
+            self.digest.add(u64::from(report.live));
+            for row in report.caches.as_slice() {
+                self.digest.add(u64::from(row.live));
+            }
+        }
+        Ok(())
+    }
+
+    fn odd_line(&mut self, t: u32) -> Result<(), AllocError> {
+        let at = self.numbers.below(8) as usize;
+        self.line.begin(t);
+        self.line.word(ODD_LINES[at]);
+        self.put_line()
+    }
+
+    fn grant(&mut self, t: u32) -> Result<(), AllocError> {
+        self.line.admin(b"grant", &[t]);
+        self.put_line()?;
+        self.administer(&AdminCommand::Grant { tenant: t });
+        Ok(())
+    }
+
+    /// A line of the administrator, or those by which a tenant begins again.
+    fn administer_some(&mut self, t: u32, kind: Kind) -> Result<(), AllocError> {
+        let slots = self.tenants.get(t as usize).map_or(1, |it| it.slots.max(1));
+        let slot = self.numbers.below(slots);
+        match kind {
+            Kind::Move => {
+                self.line.admin(b"move", &[t, slot]);
+                self.put_line()?;
+                self.administer(&AdminCommand::Move { tenant: t, slot });
+                Ok(())
+            }
+            Kind::TakeBack => {
+                self.line.admin(b"takeback", &[t, slot]);
+                self.put_line()?;
+                if self.administer(&AdminCommand::TakeBack { tenant: t, slot }) {
+                    self.grant(t)?;
+                }
+                Ok(())
+            }
+            Kind::Reset => self.begin_again(t, slots),
+            _ => {
+                self.administer(&AdminCommand::Pool);
+                self.line.admin(b"pool", &[]);
+                self.put_line()
+            }
+        }
+    }
+
+    /// Runs a command of the administrator, and answers whether it was done.
+    fn administer(&mut self, command: &AdminCommand) -> bool {
+        match self.kernel.administer(command) {
+            Some(answer) => {
+                let told = told_by(&answer);
+                self.digest.add(number_of(told));
+                !matches!(told, Told::Refused)
+            }
+            None => {
+                if let Body::Owners(owners) = self.kernel.pool().body {
+                    self.digest.add(owners.len() as u64);
+                }
+                true
+            }
+        }
+    }
+
+    fn begin_again(&mut self, t: u32, slots: u32) -> Result<(), AllocError> {
+        self.line.admin(b"reset", &[t]);
+        self.put_line()?;
+        self.administer(&AdminCommand::Reset { tenant: t });
+        if let Some(tenant) = self.tenants.get_mut(t as usize) {
+            tenant.blocks.clear();
+            tenant.objects.clear();
+        }
+        for _ in 0..slots {
+            self.grant(t)?;
+        }
+        self.make_caches(t)
+    }
+}
+
+/// How many numbers there are, or 1.
+fn count_of(numbers: &[u32]) -> u32
+    ensures { 0 < result }
+{
+    u32::try_from(numbers.len()).unwrap_or(1).max(1)
+}
+
+/// One of so many, if there are some.
+#[inline(always)]
+fn chosen(draw: u64, count: usize) -> Option<usize>
+    ensures { MatchOption result (count ≡ 0) (λ at. at < count) }
+{
+    if count == 0 {
+        return None;
+    }
+    let high = (draw >> 8) & 0xffff_ffff;
+    let at = (high.wrapping_mul(count as u64) >> 32) as usize;
+    Some(at.min(count - 1))
+}
+
+/// What a maker has to know of an answer.
+fn told_by(answer: &Answer<'_>) -> Told {
+    match answer {
+        Answer::Frame(frame) => Told::Frame(*frame),
+        Answer::Object(place) => Told::Object(*place),
+        Answer::Cache { cache, .. } => Told::Cache(u32::from(*cache)),
+        Answer::Refused(_) => Told::Refused,
+        _ => Told::Done,
+    }
+}
+
+/// A number for what was told.
+fn number_of(told: Told) -> u64 {
+    match told {
+        Told::Frame(frame) => u64::from(frame),
+        Told::Object(place) => u64::from(place),
+        Told::Cache(cache) => u64::from(cache),
+        Told::Done => 1 << 40,
+        Told::Refused => 1 << 41,
+    }
+}

@@ -1,0 +1,34 @@
+//! Numbers that look random, the same for the same seed.
+
+ghost use Rattle.std.specs.Prelude.{◌<◌};
+
+/// The upper bits of a xorshift generator (Marsaglia, Journal of Statistical Software 8, 2003).
+#[derive(Drop)]
+pub struct Numbers(u64);
+
+impl Numbers {
+    /// A generator for each seed.
+    pub fn new(seed: u64) -> Numbers {
+        Numbers(seed.wrapping_add(1).wrapping_mul(0x9e37_79b9_7f4a_7c15) | 1)
+    }
+
+    /// The next number.
+    #[inline(always)]
+    pub fn next(&mut self) -> u64 {
+        self.0 ^= self.0 << 13;
+        self.0 ^= self.0 >> 7;
+        self.0 ^= self.0 << 17;
+        self.0
+    }
+
+    /// The next number, below `n`.
+    #[inline(always)]
+    pub fn below(&mut self, n: u32) -> u32
+        requires { 0 < n }
+        ensures { result < n }
+    {
+        let high = self.next() >> 32;
+        let number = (high.wrapping_mul(u64::from(n)) >> 32) as u32;
+        number.min(n - 1)
+    }
+}
