@@ -1,5 +1,5 @@
 -- One more line is run, and kept or not.
-use Rattle.std.proofs.Common.{◌≡◌, ℕ, ◌<◌, Bool, true, false, List, [], ◌∷◌, ◌++◌, Result, Ok, Err, Option, length, take, refl, ap, sym, subst, ◌∙◌, append_assoc}
+use Rattle.std.proofs.Common.{◌≡◌, ℕ, ◌<◌, ◌≤◌, Bool, true, false, List, [], ◌∷◌, ◌++◌, Result, Ok, Err, Option, length, refl, ap, sym, subst, ◌∙◌, append_assoc}
 use Rattle.std.proofs.lemmas.List.{append-nil, nil_from_length}
 use Rattle.std.specs.Io.KnownBytes.{Appends, Keeps}
 use Rattle.std.specs.Result.{is_err}
@@ -21,7 +21,6 @@ use Rattle.replay_core.specs.Runs.{StandsAfter}
 use Rattle.replay_core.specs.Standing.{IsOneLine}
 use Rattle.ends.proofs.MoveLemmas.{appends_nothing, appends_more, appends_kept}
 use Rattle.replay_core.proofs.LineLemmas.{one_line_append, lines_append, with_line_feeds_append, lines_cut, lines_ended, one_line_cut, one_line_unended}
-use Rattle.replay_core.proofs.PendingLemmas.{take-short}
 use Rattle.own_trace.specs.Kept.{has_entry, own_text}
 use Rattle.own_trace.specs.Keeping.{IsTextTaken, IsAllAtOk, HasKept, StandsOwn, HasStoppedOwn, TellsOwn, BeginsOwn}
 use Rattle.own_trace.proofs.Kept.{own_both, none_kept, line_kept, own_is_short}
@@ -67,17 +66,21 @@ not_kept t line before after known failing own run is fine = record {
   failed = fine;
 }
 
+-- the text is the line, unless the line is too long
+abbrev pub IsItIfShort : List ℕ → List ℕ → Type 0
+IsItIfShort text line = length line ≤ 256 → text ≡ line
+
 -- a line of the tenant's, which is held whole
-kept_text : (t : ℕ) (line held : List ℕ) (before after : Parts) (own : Bool) → IsLineRun t line before after own → own ≡ true → held ≡ take 256 line
+kept_text : (t : ℕ) (line held : List ℕ) (before after : Parts) (own : Bool) → IsLineRun t line before after own → own ≡ true → IsItIfShort held line
     → (w : World) → Shows before w → own_text t cache_limit before.order (line ∷ []) w ≡ held ++ 10 ∷ []
 kept_text t line held before after own run is front w shows =
     let own_line = sym (run.2 w shows) ∙ is in
     line_kept t cache_limit before.order line w own_line
-    ∙ ap (λ xs. xs ++ 10 ∷ []) (sym (front ∙ take-short line (own_is_short t cache_limit before.order line w own_line)))
+    ∙ ap (λ xs. xs ++ 10 ∷ []) (sym (front (own_is_short t cache_limit before.order line w own_line)))
 
 -- the drain failed in its bytes ..
 pub kept_part : (t : ℕ) (line held : List ℕ) (before after : Parts) (old new : Option (List ℕ)) (failing own : Bool) (stopped : Stopped) (result : Result (Unit {0}) Stopped)
-    → IsLineRun t line before after own → own ≡ true → held ≡ take 256 line → IsTextTaken old new failing held (Err stopped) → is_err result ≡ true
+    → IsLineRun t line before after own → own ≡ true → IsItIfShort held line → IsTextTaken old new failing held (Err stopped) → is_err result ≡ true
     → HasKept t line before after old new failing result
 kept_part t line held before after old new failing own stopped result run is front part failed = record {
   taken = part.taken;
@@ -93,7 +96,7 @@ kept_part t line held before after old new failing own stopped result run is fro
 
 -- .. or they were taken, and the LF was or was not
 pub kept_whole : (t : ℕ) (line held : List ℕ) (before after : Parts) (old now new : Option (List ℕ)) (failing failing' own : Bool) (result : Result (Unit {0}) Stopped)
-    → IsLineRun t line before after own → own ≡ true → held ≡ take 256 line → IsTextTaken old now failing held (Ok tt) → IsTextTaken now new failing' (10 ∷ []) result
+    → IsLineRun t line before after own → own ≡ true → IsItIfShort held line → IsTextTaken old now failing held (Ok tt) → IsTextTaken now new failing' (10 ∷ []) result
     → HasKept t line before after old new failing' result
 kept_whole t line held before after old now new failing failing' own result run is front whole end =
     let all : held ≡ whole.taken = whole.split ∙ ap (λ xs. whole.taken ++ xs) whole.whole ∙ append-nil whole.taken in record {
@@ -107,6 +110,21 @@ kept_whole t line held before after old now new failing failing' own result run 
       whole = end.whole;
       failed = end.failed;
     }
+
+-- or it is taken with its LF
+pub kept_ended : (t : ℕ) (line text : List ℕ) (before after : Parts) (old new : Option (List ℕ)) (failing own : Bool) (result : Result (Unit {0}) Stopped)
+    → IsLineRun t line before after own → own ≡ true → text ≡ line ++ 10 ∷ [] → IsTextTaken old new failing text result
+    → HasKept t line before after old new failing result
+kept_ended t line text before after old new failing own result run is whole part = record {
+  taken = part.taken;
+  rest = part.rest;
+  sizes = run.0;
+  shows = run.1;
+  text = λ w shows. line_kept t cache_limit before.order line w (sym (run.2 w shows) ∙ is) ∙ sym whole ∙ part.split;
+  appended = part.appended;
+  whole = part.whole;
+  failed = part.failed;
+}
 
 events_more : (xs : List (List ℕ)) (line : List ℕ) → events_of (xs ++ line ∷ []) ≡ events_of xs ++ event_in (reading_of line)
 events_more [] line = append-nil _

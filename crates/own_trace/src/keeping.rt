@@ -1,6 +1,6 @@
 //! The lines of a tenant's own list, from a feed into a drain.
 
-ghost use Rattle.std.specs.Prelude.{◌≡◌, ℕ, ◌+◌, ◌^◌, ◌<◌, true, false, List, [], Option, length, is_err, MatchResult};
+ghost use Rattle.std.specs.Prelude.{◌≡◌, ℕ, ◌+◌, ◌^◌, ◌<◌, ◌≤◌, true, false, List, [], ◌++◌, Option, length, is_err, MatchResult, IfOk, OnOk};
 ghost use Rattle.std.specs.Io.KnownBytes.{Consumes, Appends, IsAtEnd};
 ghost use Rattle.words_core.specs.Grammar.{reading_of};
 ghost use Rattle.parts_core.specs.Parts.{Parts, SameSizes};
@@ -9,11 +9,12 @@ ghost use Rattle.world_core.specs.Limits.{cache_limit};
 ghost use Rattle.world_core.specs.World.{World, history, world_after};
 ghost use Rattle.world_core.specs.OwnList.{own_entries, own_list};
 ghost use Rattle.world_core.specs.Output.{event_in};
-ghost use Rattle.replay_core.specs.Pending.{HoldsLine};
+ghost use Rattle.replay_core.specs.Pending.{HoldsLine, HoldsNothing};
 ghost use Rattle.replay_core.specs.Standing.{IsRunnable};
 ghost use Rattle.own_trace.specs.Kept.{has_entry};
 ghost use Rattle.own_trace.specs.Keeping.{KeepsOwn, IsKeptToEnd, NamesEnd, IsTextTaken, HasKept, StandsOwn, HasStoppedOwn};
 
+use crate::quick::keep_quick_lines;
 use kernel_core::Kernel;
 use replay_core::{Drain, Feed, Pending, Stopped, line_end};
 use thiserror::Error;
@@ -99,14 +100,64 @@ fn keep_piece<D: Drain>(
         (λ _. HasStoppedOwn tenant before given start (D.contents drain.new)) }
     ensures failed { D.has_failed drain.new ≡ is_err result }
 {
-    let mut rest = piece;
+    let mut rest = begin_piece(piece, pending, kernel, drain, tenant)?;
     'lines: while let Some(end) = line_end(rest) {
-        pending.add(&rest[..end]);
-        keep_line(pending, kernel, drain, tenant)?;
-        *pending = Pending::new();
-        rest = &rest[end + 1..];
+        end_line(&rest[..end], pending, kernel, drain, tenant)?;
+        rest = keep_quick_lines(&rest[end + 1..], kernel, drain, tenant)?;
     }
     pending.add(rest);
+    Ok(())
+}
+
+/// Runs the lines at the front of a piece that are read the short way, where no beginning of a line is pending, and answers the
+/// rest of the piece.
+fn begin_piece<'a, D: Drain>(
+    piece: &'a [u8],
+    pending: &Pending,
+    kernel: &mut Kernel,
+    drain: &mut D,
+    tenant: u8,
+) -> Result<&'a [u8], Stopped>
+    requires fits { length piece.now < 2 ^ 64 }
+    requires fine { D.has_failed drain.old ≡ false }
+    ensures kept { (before : Parts) (given : List ℕ) (start : Option (List ℕ))
+        → StandsOwn tenant before kernel.old given piece.now start (D.contents drain.old) pending.now
+        → MatchResult result
+        (λ rest. StandsOwn tenant before kernel.new given rest.now start (D.contents drain.new) pending.now)
+        (λ _. HasStoppedOwn tenant before given start (D.contents drain.new)) }
+    ensures left { IfOk result (λ rest. length rest.now ≤ length piece.now) }
+    ensures failed { D.has_failed drain.new ≡ is_err result }
+{
+    if pending.is_empty() {
+        keep_quick_lines(piece, kernel, drain, tenant)
+    } else {
+        Ok(piece)
+    }
+}
+
+/// Runs the line that ends with these bytes, and pushes it where it is the tenant's own. The next line begins.
+fn end_line<D: Drain>(
+    bytes: &[u8],
+    pending: &mut Pending,
+    kernel: &mut Kernel,
+    drain: &mut D,
+    tenant: u8,
+) -> Result<(), Stopped>
+    requires { D.has_failed drain.old ≡ false }
+    ensures kept { (line : List ℕ) → HoldsLine line pending.old →
+        HasKept tenant (line ++ bytes.now) kernel.old kernel.new (D.contents drain.old) (D.contents drain.new) (D.has_failed drain.new) result }
+    ensures cleared { OnOk result ((line : List ℕ) → HoldsLine line pending.old → HoldsLine [] pending.new) }
+    ensures none_held { OnOk result (HoldsNothing pending.new) }
+    ensures failed { D.has_failed drain.new ≡ is_err result }
+{
+    if pending.is_empty() {
+        // It lies whole in these bytes: nothing is copied.
+        let reading = pending.end_with(bytes);
+        return keep_read(reading, bytes, kernel, drain, tenant);
+    }
+    pending.add(bytes);
+    keep_line(pending, kernel, drain, tenant)?;
+    *pending = Pending::new();
     Ok(())
 }
 
@@ -123,10 +174,34 @@ fn keep_line<D: Drain>(
         HasKept tenant line kernel.old kernel.new (D.contents drain.old) (D.contents drain.new) (D.has_failed drain.new) result }
     ensures failed { D.has_failed drain.new ≡ is_err result }
 {
-    if !run_line(pending.reading(), kernel, tenant) {
+    keep_read(
+        pending.reading(),
+        pending.held.as_slice(),
+        kernel,
+        drain,
+        tenant,
+    )
+}
+
+/// Runs a line that was read so, and pushes it where it is the tenant's own. Such a line has at most 256 bytes, so `text` is that line
+/// where it has no more.
+fn keep_read<D: Drain>(
+    reading: Result<Option<Event>, LineFault>,
+    text: &[u8],
+    kernel: &mut Kernel,
+    drain: &mut D,
+    tenant: u8,
+) -> Result<(), Stopped>
+    requires runnable { IsRunnable reading }
+    requires fine { D.has_failed drain.old ≡ false }
+    ensures kept { (line : List ℕ) → reading ≡ reading_of line → (length line ≤ 256 → text.now ≡ line) →
+        HasKept tenant line kernel.old kernel.new (D.contents drain.old) (D.contents drain.new) (D.has_failed drain.new) result }
+    ensures failed { D.has_failed drain.new ≡ is_err result }
+{
+    if !run_line(reading, kernel, tenant) {
         return Ok(());
     }
-    push_all(pending.held.as_slice(), drain)?;
+    push_all(text, drain)?;
     push_all(b"\n", drain)
 }
 
@@ -163,7 +238,7 @@ fn is_own(tenant: u8, event: &Event, body: &Body) -> bool
 }
 
 /// Pushes all of the bytes, the rest again after a push that took less.
-fn push_all<D: Drain>(bytes: &[u8], drain: &mut D) -> Result<(), Stopped>
+pub(crate) fn push_all<D: Drain>(bytes: &[u8], drain: &mut D) -> Result<(), Stopped>
     requires { D.has_failed drain.old ≡ false }
     ensures { IsTextTaken (D.contents drain.old) (D.contents drain.new) (D.has_failed drain.new) bytes.now result }
 {

@@ -4,5 +4,6 @@
 
 mod keeping;
 pub mod laws;
+mod quick;
 
 pub use keeping::{KeepError, keep};

@@ -1,25 +1,7 @@
-use Rattle.std.proofs.Common.{◌≡◌, true, false, rules, ◌∙◌}
-use Rattle.own_trace.proofs.Lines.{line_run, not_kept, kept_part, kept_whole}
+use Rattle.std.proofs.Common.{◌∙◌}
+use Rattle.replay_core.proofs.PendingLemmas.{take-short}
 use Rattle.own_trace.proofs.keeping.keep_line.Goals as goal
-
-pub returns-then-not-run_line-clause-kept : goal.returns-then-not-run_line-clause-kept
-returns-then-not-run_line-clause-kept g c line holds =
-    let none : c.run_line.result ≡ false = grind (rules) in
-    let ran = c.run_line.ensures in
-    not_kept _ line _ _ _ _ _ (line_run _ line _ _ _ _ (c.reading.ensures.reading line holds) ran.sizes ran.shows ran.own) none c.requires
-
-pub returns-in_err-push_all-clause-kept : goal.returns-in_err-push_all-clause-kept
-returns-in_err-push_all-clause-kept g c line holds =
-    let own : c.run_line.result ≡ true = grind (rules) in
-    let ran = c.run_line.ensures in
-    kept_part _ line c.as_slice.result.now _ _ _ _ _ _ c.in_err-push_all.field-0.0 _
-    (line_run _ line _ _ _ _ (c.reading.ensures.reading line holds) ran.sizes ran.shows ran.own) own (c.as_slice.ensures.value ∙ holds.front)
-    c.in_err-push_all.ensures c.from_residual.ensures.0
 
 pub returns-clause-kept : goal.returns-clause-kept
 returns-clause-kept g c line holds =
-    let own : c.run_line.result ≡ true = grind (rules) in
-    let ran = c.run_line.ensures in
-    kept_whole _ line c.as_slice.result.now _ _ _ _ _ _ _ _ _
-    (line_run _ line _ _ _ _ (c.reading.ensures.reading line holds) ran.sizes ran.shows ran.own) own (c.as_slice.ensures.value ∙ holds.front)
-    c.in_ok-push_all.ensures c.push_all-2.ensures
+    c.keep_read.ensures.kept line (c.reading.ensures.reading line holds) (λ few. c.as_slice.ensures.value ∙ holds.front ∙ take-short line few)

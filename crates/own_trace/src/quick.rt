@@ -1,0 +1,93 @@
+//! Requests of tenants, read the short way: the lines that make up a load.
+
+ghost use Rattle.std.specs.Prelude.{◌≡◌, ℕ, ◌^◌, ◌<◌, ◌≤◌, false, List, ◌∷◌, [], ◌++◌, Option, Some, Ok, length, is_err, IfOk, MatchResult};
+ghost use Rattle.words_core.specs.Grammar.{reading_of};
+ghost use Rattle.words_core.specs.Requests.{command_of, IsAskable};
+ghost use Rattle.words_core.specs.declared.event.Event.TheVariants.{Tenant};
+ghost use Rattle.parts_core.specs.Parts.{Parts, SameSizes};
+ghost use Rattle.kernel_core.specs.Shows.{Shows};
+ghost use Rattle.world_core.specs.Limits.{cache_limit};
+ghost use Rattle.world_core.specs.World.{World, history, world_after};
+ghost use Rattle.world_core.specs.OwnList.{own_list};
+ghost use Rattle.world_core.specs.Output.{event_in};
+ghost use Rattle.replay_core.specs.declared.pending.Pending.{Pending};
+ghost use Rattle.replay_core.specs.Pending.{HoldsNothing};
+ghost use Rattle.own_trace.specs.Kept.{has_entry};
+ghost use Rattle.own_trace.specs.Keeping.{HasKept, StandsOwn, HasStoppedOwn};
+
+use crate::keeping::push_all;
+use kernel_core::Kernel;
+use model_core::limits::MOST_BYTES;
+use quick_core::read_request;
+use replay_core::{Drain, Stopped};
+use words_core::Request;
+
+/// Runs the lines at the front of a piece as long as they are read the short way, pushes the tenant's own, and answers the rest of
+/// the piece. No beginning of a line may be pending.
+pub(crate) fn keep_quick_lines<'a, D: Drain>(
+    piece: &'a [u8],
+    kernel: &mut Kernel,
+    drain: &mut D,
+    tenant: u8,
+) -> Result<&'a [u8], Stopped>
+    requires fits { length piece.now < 2 ^ 64 }
+    requires fine { D.has_failed drain.old ≡ false }
+    ensures kept { (before : Parts) (given : List ℕ) (start : Option (List ℕ)) (pending : Pending)
+        → HoldsNothing pending → StandsOwn tenant before kernel.old given piece.now start (D.contents drain.old) pending
+        → MatchResult result
+        (λ rest. StandsOwn tenant before kernel.new given rest.now start (D.contents drain.new) pending)
+        (λ _. HasStoppedOwn tenant before given start (D.contents drain.new)) }
+    ensures left { IfOk result (λ rest. length rest.now ≤ length piece.now) }
+    ensures failed { D.has_failed drain.new ≡ is_err result }
+{
+    // What a write stores: one room for all lines, filled anew by each.
+    let mut room = [0; MOST_BYTES];
+    let mut rest = piece;
+    'lines: while let Some(line) = read_request(rest, &mut room) {
+        let len = line.len;
+        keep_request(
+            &rest[..len],
+            line.tenant,
+            line.request,
+            kernel,
+            drain,
+            tenant,
+        )?;
+        rest = &rest[len..];
+    }
+    Ok(rest)
+}
+
+/// Runs a request that was read off a line, and pushes the line where it is the tenant's own: `text` has it with its line feed.
+fn keep_request<D: Drain>(
+    text: &[u8],
+    asked: u32,
+    request: Request<'_>,
+    kernel: &mut Kernel,
+    drain: &mut D,
+    tenant: u8,
+) -> Result<(), Stopped>
+    requires askable { IsAskable request }
+    requires fine { D.has_failed drain.old ≡ false }
+    ensures kept { (line : List ℕ) → text.now ≡ line ++ 10 ∷ [] → reading_of line ≡ Ok (Some (Tenant asked (command_of request.entry)))
+        → HasKept tenant line kernel.old kernel.new (D.contents drain.old) (D.contents drain.new) (D.has_failed drain.new) result }
+    ensures failed { D.has_failed drain.new ≡ is_err result }
+{
+    if !run_request(asked, request, kernel, tenant) {
+        return Ok(());
+    }
+    push_all(text, drain)
+}
+
+/// Runs a request, and answers whether it is in the tenant's own list: whatever it is answered, it is where the tenant asks.
+fn run_request(asked: u32, request: Request<'_>, kernel: &mut Kernel, tenant: u8) -> bool
+    requires { IsAskable request }
+    ensures sizes { SameSizes kernel.old kernel.new }
+    ensures shows { (w : World) → Shows kernel.old w
+        → Shows kernel.new (world_after cache_limit kernel.old.order w (event_in (Ok (Some (Tenant asked (command_of request.entry)))))) }
+    ensures own { (w : World) → Shows kernel.old w → result
+        ≡ has_entry (own_list tenant (history cache_limit kernel.old.order w (event_in (Ok (Some (Tenant asked (command_of request.entry))))))) }
+{
+    let _answered = kernel.ask(asked, request);
+    asked == u32::from(tenant)
+}
