@@ -1,6 +1,11 @@
 //! The first faulty lines of a trace.
 
-use replay_core::Pending;
+ghost use Rattle.std.specs.Prelude.{◌^◌, ◌<◌, ◌≤◌, length};
+ghost use Rattle.run_notes.specs.Passed.{ArePassed};
+
+use model_core::limits::MOST_BYTES;
+use quick_core::read_request;
+use replay_core::{Pending, line_end};
 use std::fmt;
 use words_core::LineFault;
 
@@ -86,12 +91,34 @@ impl FaultNotes {
         if self.first[MOST_FAULTS - 1].is_some() {
             return;
         }
-        for part in piece.split_inclusive(|byte| *byte == b'\n') {
-            match part {
-                [line @ .., b'\n'] => self.end_line(line),
-                unended => self.pending.add(unended),
-            }
+        let mut rest = self.begin_piece(piece);
+        'lines: while let Some(end) = line_end(rest) {
+            self.end_line(&rest[..end]);
+            rest = self.pass(&rest[end + 1..]);
         }
+        self.pending.add(rest);
+    }
+
+    /// Passes over the lines at the front of a piece, where no beginning of a line is pending, and answers the rest of the piece.
+    fn begin_piece<'a>(&mut self, piece: &'a [u8]) -> &'a [u8]
+        requires { length piece.now < 2 ^ 64 }
+        ensures { length result.now ≤ length piece.now }
+    {
+        if self.pending.is_empty() {
+            self.pass(piece)
+        } else {
+            piece
+        }
+    }
+
+    /// Counts the lines at the front of these bytes that are surely not faulty, and answers what follows them.
+    fn pass<'a>(&mut self, bytes: &'a [u8]) -> &'a [u8]
+        requires { length bytes.now < 2 ^ 64 }
+        ensures { length result.now ≤ length bytes.now }
+    {
+        let (lines, rest) = pass_requests(bytes);
+        self.lines = self.lines.saturating_add(lines);
+        rest
     }
 
     /// The trace has ended.
@@ -109,6 +136,13 @@ impl FaultNotes {
     /// The line ends with these bytes.
     fn end_line(&mut self, bytes: &[u8]) {
         self.lines = self.lines.saturating_add(1);
+        if self.pending.is_empty() {
+            // It lies whole in these bytes: nothing is copied.
+            if let Err(fault) = self.pending.end_with(bytes) {
+                self.note(FaultyLine::new(self.lines, fault, bytes));
+            }
+            return;
+        }
         self.pending.add(bytes);
         if let Err(fault) = self.pending.reading() {
             let line = FaultyLine::new(self.lines, fault, self.pending.held.as_slice());
@@ -125,4 +159,22 @@ impl FaultNotes {
             }
         }
     }
+}
+
+/// Passes over the lines at the front of these bytes that are read the short way, and so are not faulty: how many they are, and what
+/// follows them.
+fn pass_requests(bytes: &[u8]) -> (u64, &[u8])
+    requires { length bytes.now < 2 ^ 64 }
+    ensures passed { ArePassed result.0 bytes.now result.1.now }
+    ensures within { length result.1.now ≤ length bytes.now }
+{
+    // What a write stores: it is decoded, and not looked at.
+    let mut room = [0; MOST_BYTES];
+    let mut lines = 0u64;
+    let mut rest = bytes;
+    'lines: while let Some(line) = read_request(rest, &mut room) {
+        lines += 1;
+        rest = &rest[line.len..];
+    }
+    (lines, rest)
 }

@@ -1,6 +1,6 @@
 //! How often each refusal was told.
 
-use replay_core::Pending;
+use replay_core::{Pending, line_end};
 use std::fmt;
 use words_core::Refusal;
 
@@ -25,6 +25,9 @@ const REFUSALS: [Refusal; 15] = [
 
 /// The greatest number of a refusal.
 pub const MOST_NUMBER: u8 = 15;
+
+/// How many bytes of a line are held while its end has not come.
+const MOST_HELD: usize = 256;
 
 /// A refusal, and how often it was told.
 #[derive(Clone, Copy, Debug)]
@@ -60,12 +63,12 @@ impl RefusalNotes {
 
     /// A piece of the replies has come.
     pub fn add(&mut self, piece: &[u8]) {
-        for part in piece.split_inclusive(|byte| *byte == b'\n') {
-            match part {
-                [line @ .., b'\n'] => self.end_line(line),
-                unended => self.pending.add(unended),
-            }
+        let mut rest = piece;
+        'lines: while let Some(end) = line_end(rest) {
+            self.end_line(&rest[..end]);
+            rest = &rest[end + 1..];
         }
+        self.pending.add(rest);
     }
 
     /// The refusal of this number, with how often it was told; None where it never was.
@@ -82,15 +85,27 @@ impl RefusalNotes {
 
     /// The line ends with these bytes.
     fn end_line(&mut self, bytes: &[u8]) {
+        if self.pending.is_empty() {
+            // It lies whole in these bytes: nothing is copied. Of a longer line as much is looked at as would be held.
+            self.count(refusal_in(&bytes[..bytes.len().min(MOST_HELD)]));
+            return;
+        }
         self.pending.add(bytes);
-        if let Some(number) = refusal_in(self.pending.held.as_slice()) {
-            for (refusal, times) in REFUSALS.iter().zip(&mut self.times) {
-                if refusal.number() == number {
-                    *times = times.saturating_add(1);
-                }
+        let told = refusal_in(self.pending.held.as_slice());
+        self.count(told);
+        self.pending = Pending::new();
+    }
+
+    /// The refusal of this number, if there is one, was told once more.
+    fn count(&mut self, told: Option<u8>) {
+        let Some(number) = told else {
+            return;
+        };
+        for (refusal, times) in REFUSALS.iter().zip(&mut self.times) {
+            if refusal.number() == number {
+                *times = times.saturating_add(1);
             }
         }
-        self.pending = Pending::new();
     }
 }
 
