@@ -25,7 +25,7 @@ pub struct FaultyLine {
 }
 
 impl FaultyLine {
-    fn new(number: u64, fault: LineFault, line: &[u8]) -> FaultyLine {
+    pub(crate) fn new(number: u64, fault: LineFault, line: &[u8]) -> FaultyLine {
         let mut begin = [b' '; MOST_SHOWN];
         for (to, byte) in begin.iter_mut().zip(line) {
             *to = *byte;

@@ -5,6 +5,8 @@
 mod faults;
 mod reader;
 mod refusals;
+#[cfg(test)]
+mod tests;
 mod writer;
 
 pub use faults::{FaultNotes, FaultyLine};

@@ -110,7 +110,7 @@ impl RefusalNotes {
 }
 
 /// The number of the refusal that a line of a reply tells.
-fn refusal_in(line: &[u8]) -> Option<u8> {
+pub(crate) fn refusal_in(line: &[u8]) -> Option<u8> {
     let start = line.iter().position(|byte| *byte == b'>')?;
     match &line[start..] {
         [
