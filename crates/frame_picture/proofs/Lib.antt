@@ -1,4 +1,3 @@
 pub mod Even
 pub mod Filling
-pub mod Reported
 pub mod RowLemmas

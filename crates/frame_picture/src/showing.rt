@@ -6,6 +6,7 @@ ghost use Rattle.model_core.specs.declared.owner.Owner.{Owner};
 ghost use Rattle.space_core.specs.Content.{owner_at};
 ghost use Rattle.world_core.specs.World.{World};
 ghost use Rattle.kernel_core.specs.Shows.{Shows};
+ghost use Rattle.parts_core.specs.Shows.{ShowsMachine};
 ghost use Rattle.parts_core.specs.Frames.{IsFrame};
 ghost use Rattle.frame_picture.specs.Columns.{AreCells, AreFigures};
 ghost use Rattle.frame_picture.specs.declared.history.Sheet.{Sheet};
@@ -16,7 +17,6 @@ use crate::history::{Figures, ORDERS, Sheet};
 use kernel_core::{FrameKind, Kernel};
 use model_core::owner::Owner;
 use model_core::report::OrderRow;
-use words_core::Body;
 
 /// Shows the owner and the frames of each superblock.
 pub fn show_sheets(sheets: &mut [Sheet], kernel: &Kernel)
@@ -49,13 +49,27 @@ fn show_cells(cells: &mut [FrameKind], kernel: &Kernel, t: u8, slot: u16)
         → IsFrame kernel.now.order m (slot * 2 ^ kernel.now.order + k) cell }
 {
     kernel.parts_agree();
-    if u32::from(t) >= kernel.tenants() {
+    let Some(known) = kernel.tenant(u32::from(t)) else {
         return;
-    }
-    let mut frame = u32::from(slot) << kernel.order();
-    for cell in cells.iter_mut() {
-        *cell = kernel.frame_at(t, frame);
-        frame = frame.saturating_add(1);
+    };
+    kernel.show_frames(known, slot, cells);
+    let frames = 1usize << kernel.order();
+    show_beyond(cells, kernel, known, slot, 1usize << kernel.order());
+}
+
+/// Shows what the frames behind the first `from` of a tenant's slot are: there are none where each slot has as many cells as frames.
+fn show_beyond(cells: &mut [FrameKind], kernel: &Kernel, t: u8, slot: u16, from: usize)
+    requires { t < kernel.now.tenants }
+    ensures kept { (k : ℕ) → k < from → slice_get cells.new k ≡ slice_get cells.old k }
+    ensures told { (m : Machine) (k : ℕ) (cell : FrameKind) → ShowsMachine kernel.now t m → from ≤ k
+        → slot * 2 ^ kernel.now.order + k < 2 ^ 32 → slice_get cells.new k ≡ Some cell
+        → IsFrame kernel.now.order m (slot * 2 ^ kernel.now.order + k) cell }
+{
+    kernel.parts_agree();
+    let first = u64::from(slot) << kernel.order();
+    for k in from..cells.len() {
+        let frame = first.saturating_add(k as u64).min(u64::from(u32::MAX));
+        cells[k] = kernel.frame_at(t, frame as u32);
     }
 }
 
@@ -75,13 +89,14 @@ pub fn show_figures(figures: &mut [Figures], kernel: &Kernel)
 fn figures_of(kernel: &Kernel, t: u32) -> Figures
     ensures { (w : World) (m : Machine) → Shows kernel.now w → slice_get w.machines t ≡ Some m → AreFigures kernel.now.order m result }
 {
-    match kernel.report(t).body {
-        Body::Report(report) => Figures {
-            held: report.frames,
-            taken: report.live,
-            free: free_by_order(report.orders.as_slice()),
-        },
-        _ => Figures::NONE,
+    let Some(t) = kernel.tenant(t) else {
+        return Figures::NONE;
+    };
+    let figures = kernel.block_figures(t);
+    Figures {
+        held: figures.frames,
+        taken: figures.live,
+        free: free_by_order(figures.orders.as_slice()),
     }
 }
 

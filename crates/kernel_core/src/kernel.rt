@@ -43,7 +43,7 @@ impl Model for Kernel {
 }
 
 impl Kernel {
-    ghost use Rattle.std.specs.Prelude.{MatchOption, Option, Some};
+    ghost use Rattle.std.specs.Prelude.{MatchOption, Option, Some, slice_get};
     ghost use Rattle.model_core.specs.Booting.{is_bootable};
     ghost use Rattle.world_core.specs.OwnList.{is_refused};
     ghost use Rattle.parts_core.specs.Parts.{PartsAgree, SameSizes, MarksFollow, opening_parts, superblock_at, superblock_bytes, Keeps};
@@ -253,6 +253,16 @@ impl Kernel {
         ensures { (m : Machine) → ShowsMachine self.now t m → IsFrame self.now.order m frame result }
     {
         self.parts.frame_at(t, frame)
+    }
+
+    /// What the frames of a slot of tenant `t` are, from its first one on, as many as there are cells: [`Kernel::frame_at`] of each, a
+    /// block at a time. Cells behind those of the slot may be set to anything.
+    pub fn show_frames(&self, t: u8, slot: u16, cells: &mut [FrameKind])
+        requires { t < self.now.tenants }
+        ensures { (m : Machine) (k : ℕ) (cell : FrameKind) → ShowsMachine self.now t m → k < 2 ^ self.now.order
+            → slice_get cells.new k ≡ Some cell → IsFrame self.now.order m (slot * 2 ^ self.now.order + k) cell }
+    {
+        self.parts.show_frames(t, slot, cells);
     }
 
     /// The bytes of superblock `superblock`, `2^order * 4096` of them.

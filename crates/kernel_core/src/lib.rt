@@ -33,3 +33,4 @@ mod reporting;
 pub use kernel::{BootError, Kernel};
 pub use model_core::config::Config;
 pub use parts_core::FrameKind;
+pub use reporting::BlockFigures;

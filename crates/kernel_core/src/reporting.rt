@@ -2,7 +2,7 @@
 
 ghost use Rattle.std.specs.Prelude.{◌≡◌, ◌+◌, ◌<◌, ◌≤◌, length, IfSome};
 ghost use Rattle.model_core.specs.Machine.{Machine};
-ghost use Rattle.model_core.specs.Reports.{free_count, greatest, order_rows, split_share as share};
+ghost use Rattle.model_core.specs.Reports.{frames_held, frames_taken, free_count, greatest, order_rows, split_share as share};
 ghost use Rattle.buddy_core.specs.Content.{holding_of};
 ghost use Rattle.parts_laws.specs.Figures.{HasFigures, AreWithin, frames_below};
 ghost use Rattle.world_core.specs.PrivateStep.{figures_of};
@@ -26,7 +26,35 @@ struct Blocks {
     top: Option<u8>,
 }
 
+/// The figures of a tenant's frames and blocks, as its report tells them.
+#[derive(Debug, Drop)]
+pub struct BlockFigures {
+    /// How many frames the tenant's slots have.
+    pub frames: u32,
+    /// How many of them lie in taken blocks: page blocks and slabs, empty slabs too.
+    pub live: u32,
+    /// The blocks of each order, from order 0 on.
+    pub orders: ArrayVec<OrderRow, ORDERS>,
+}
+
 impl Kernel {
+    /// What a report of tenant `t` tells of its frames and blocks: [`Kernel::report`] without its caches, which are not counted.
+    pub fn block_figures(&self, t: u8) -> BlockFigures
+        requires { t < self.now.tenants }
+        ensures frames { (m : Machine) → ShowsMachine self.now t m → result.frames ≡ frames_held self.now.order m }
+        ensures live { (m : Machine) → ShowsMachine self.now t m → result.live ≡ frames_taken m }
+        ensures orders { (m : Machine) → ShowsMachine self.now t m → result.orders.items ≡ order_rows self.now.order m (self.now.order + 1) }
+    {
+        self.parts.laws();
+        let buddy = self.parts.buddy();
+        let blocks = orders_of(buddy, t);
+        BlockFigures {
+            frames: buddy.slots(t) << buddy.order(),
+            live: blocks.live,
+            orders: blocks.orders,
+        }
+    }
+
     /// The figures of tenant `t`'s memory: its frames, its blocks of each order, and its caches.
     pub(crate) fn figures(&self, t: u8) -> Report
         requires { t < self.now.tenants }

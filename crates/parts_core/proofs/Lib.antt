@@ -13,3 +13,4 @@ pub mod PageBlocks
 pub mod PageBytes
 pub mod CacheCalls
 pub mod FrameKinds
+pub mod Runs

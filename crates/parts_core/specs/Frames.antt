@@ -1,6 +1,6 @@
 -- What a frame of a private machine is.
-use Rattle.std.specs.Prelude.{◌≡◌, ℕ, ◌/◌, ◌^◌, Bool, true, false, Some}
-use Rattle.model_core.specs.Blocks.{HasFrame, IsTaken}
+use Rattle.std.specs.Prelude.{◌≡◌, ℕ, ◌+◌, ◌/◌, ◌^◌, ◌<◌, ◌≤◌, Bool, true, false, Some}
+use Rattle.model_core.specs.Blocks.{HasFrame, IsTaken, Taken}
 use Rattle.model_core.specs.Machine.{Slab, Cache, Machine, holds, order_in, taken_in, slab_block}
 use Rattle.model_core.specs.Slabs.{cache_of, slab_of, is_full, is_partial, is_empty}
 use Rattle.parts_core.specs.declared.frames.FrameKind.{FrameKind}
@@ -24,3 +24,7 @@ IsFrame order m f Page = IsTaken (order_in m.blocks) f
 IsFrame order m f Full = IsInSlab m f is_full
 IsFrame order m f Partial = IsInSlab m f is_partial
 IsFrame order m f Empty = IsInSlab m f is_empty
+
+-- each taken block that begins before a frame ends there or before
+abbrev pub AreEndedBefore : Taken → ℕ → Type 0
+AreEndedBefore taken x = (f k : ℕ) → taken f ≡ Some k → f < x → f + 2 ^ k ≤ x

@@ -1,12 +1,15 @@
 //! What a frame of a tenant is.
 
-ghost use Rattle.std.specs.Prelude.{◌≡◌, ℕ, ◌<◌, ◌/◌, ◌^◌, false, is_some, MatchOption, IfSome, Some, length};
+ghost use Rattle.std.specs.Prelude.{◌≡◌, ℕ, ◌<◌, ◌≤◌, ◌+◌, ◌*◌, ◌/◌, ◌%◌, ◌^◌, false, is_some, MatchOption, IfSome, Some, length, slice_get};
+ghost use Rattle.model_core.specs.Blocks.{block, HasFrame};
+ghost use Rattle.buddy_core.specs.Content.{holding_of, taken_of};
 ghost use Rattle.model_core.specs.Machine.{Machine};
 ghost use Rattle.klist_core.specs.Places.{place_at};
 ghost use Rattle.parts_laws.specs.Shows.{node_of, has_slab};
 ghost use Rattle.parts_core.specs.Parts.{superblock_at};
 ghost use Rattle.parts_core.specs.Shows.{ShowsMachine};
-ghost use Rattle.parts_core.specs.Frames.{IsFrame};
+ghost use Rattle.parts_core.specs.Frames.{IsFrame, IsInSlab, AreEndedBefore};
+ghost use Rattle.parts_laws.specs.Laws.{is_kind};
 
 use crate::Parts;
 use slab_tables::{Kind, ListId};
@@ -41,13 +44,88 @@ impl Parts {
         let Some((first, _)) = self.buddy.block_of(t, frame) else {
             return FrameKind::Free;
         };
-        let Some(list) = self.list_at(t, first) else {
-            return FrameKind::Page;
-        };
-        match list.kind() {
-            Kind::Full => FrameKind::Full,
-            Kind::Partial => FrameKind::Partial,
-            Kind::Empty => FrameKind::Empty,
+        match self.list_at(t, first) {
+            Some(list) => kind_in(list),
+            None => FrameKind::Page,
+        }
+    }
+
+    /// What the frames of a slot of tenant `t` are, from its first one on, as many as there are cells: [`Parts::frame_at`] of each, a
+    /// block at a time. Cells behind those of the slot may be set to anything.
+    pub fn show_frames(&self, t: u8, slot: u16, cells: &mut [FrameKind])
+        requires { t < self.now.tenants }
+        ensures { (m : Machine) (k : ℕ) (cell : FrameKind) → ShowsMachine self.now t m → k < 2 ^ self.now.order
+            → slice_get cells.new k ≡ Some cell → IsFrame self.now.order m (slot * 2 ^ self.now.order + k) cell }
+    {
+        match self.superblock_of(t, u32::from(slot)) {
+            Some(superblock) => self.show_held(superblock, t, slot, cells),
+            None => {
+                for cell in cells.iter_mut() {
+                    *cell = FrameKind::NotHeld;
+                }
+            }
+        }
+    }
+
+    /// [`Parts::show_frames`] of a slot under which this superblock stands.
+    fn show_held(&self, superblock: u16, t: u8, slot: u16, cells: &mut [FrameKind])
+        requires tenant { t < self.now.tenants }
+        requires held { superblock_at self.now t slot ≡ Some superblock }
+        ensures { (m : Machine) (k : ℕ) (cell : FrameKind) → ShowsMachine self.now t m → k < 2 ^ self.now.order
+            → slice_get cells.new k ≡ Some cell → IsFrame self.now.order m (slot * 2 ^ self.now.order + k) cell }
+    {
+        self.laws();
+        let base = self.slot_start(slot);
+        let orders = self.buddy().orders_under(t, u32::from(slot));
+        let most = cells.len().min(orders.len());
+        let mut at = 0usize;
+        'runs: while at < most {
+            let (kind, frames) = self.run_at(superblock, t, base + at as u32, orders[at]);
+            let end = at + frames;
+            set_cells(cells, at, end.min(most), kind);
+            at = end;
+        }
+    }
+
+    /// The first frame of a slot.
+    fn slot_start(&self, slot: u16) -> u32
+        ensures { result ≡ slot * 2 ^ self.now.order }
+    {
+        self.laws();
+        u32::from(slot) << self.order()
+    }
+
+    /// What a frame of tenant `t` is before which all blocks end that begin before it, and how many frames from there on are the same:
+    /// those of the block that begins there, or one where none does. The order is that of such a block.
+    fn run_at(&self, superblock: u16, t: u8, first: u32, order: Option<u8>) -> (FrameKind, usize)
+        requires tenant { t < self.now.tenants }
+        requires held { superblock_at self.now t (first / 2 ^ self.now.order) ≡ Some superblock }
+        requires taken { order ≡ taken_of (holding_of t self.now.buddy) first }
+        ensures some { 0 < result.1 }
+        ensures few { result.1 ≤ 256 }
+        ensures kinds { (m : Machine) (frame : ℕ) → ShowsMachine self.now t m → AreEndedBefore (taken_of (holding_of t self.now.buddy)) first
+            → first ≤ frame → frame < first + result.1 → IsFrame self.now.order m frame result.0 }
+        ensures next { AreEndedBefore (taken_of (holding_of t self.now.buddy)) first
+            → AreEndedBefore (taken_of (holding_of t self.now.buddy)) (first + result.1) }
+    {
+        self.laws();
+        match order {
+            None => (FrameKind::Free, 1),
+            Some(order) => (self.kind_of_block(superblock, t, first), 1usize << order),
+        }
+    }
+
+    /// What the frames of the taken block are that begins at a frame of tenant `t`, under whose slot this superblock stands.
+    fn kind_of_block(&self, superblock: u16, t: u8, first: u32) -> FrameKind
+        requires tenant { t < self.now.tenants }
+        requires held { superblock_at self.now t (first / 2 ^ self.now.order) ≡ Some superblock }
+        ensures { (m : Machine) (order frame : ℕ) → ShowsMachine self.now t m → taken_of (holding_of t self.now.buddy) first ≡ Some order
+            → HasFrame (block first order) frame → IsFrame self.now.order m frame result }
+    {
+        self.laws();
+        match self.list_in(superblock, t, first) {
+            Some(list) => kind_in(list),
+            None => FrameKind::Page,
         }
     }
 
@@ -67,6 +145,19 @@ impl Parts {
             × (place_at self.now.slabs.lists.places node ≡ Some (list.number, key))) }
     {
         let node = self.node_of(t, first)?;
+        let (number, _) = self.slabs.lists().place_of(node)?;
+        Some(ListId { number })
+    }
+
+    /// As `list_at`, where the caller knows that this superblock stands under the slot.
+    fn list_in(&self, superblock: u16, t: u8, first: u32) -> Option<ListId>
+        requires tenant { t < self.now.tenants }
+        requires held { superblock_at self.now t (first / 2 ^ self.now.order) ≡ Some superblock }
+        ensures { MatchOption result (has_slab self.now.slabs (node_of self.now.slabs.top self.now.space.slots t first) ≡ false)
+            (λ list. (node key : ℕ) × (node_of self.now.slabs.top self.now.space.slots t first ≡ Some node)
+            × (place_at self.now.slabs.lists.places node ≡ Some (list.number, key))) }
+    {
+        let node = self.node_in(superblock, t, first);
         let (number, _) = self.slabs.lists().place_of(node)?;
         Some(ListId { number })
     }
@@ -93,5 +184,51 @@ impl Parts {
         self.laws();
         let order = self.order();
         (u32::from(superblock) << order) + frame % (1 << order)
+    }
+}
+
+/// What the frames of a slab that stands in the list are.
+fn kind_in(list: ListId) -> FrameKind
+    ensures { (order : ℕ) (m : Machine) (frame : ℕ) → IsInSlab m frame (is_kind (list.number % 3)) → IsFrame order m frame result }
+{
+    match list.kind() {
+        Kind::Full => FrameKind::Full,
+        Kind::Partial => FrameKind::Partial,
+        Kind::Empty => FrameKind::Empty,
+    }
+}
+
+/// Sets the cells from `begin` on and below `end`: in most loads it is one.
+#[inline(always)]
+fn set_cells(cells: &mut [FrameKind], begin: usize, end: usize, kind: FrameKind)
+    requires { end ≤ length cells.old }
+    ensures set { (k : ℕ) (cell : FrameKind) → begin ≤ k → k < end → slice_get cells.new k ≡ Some cell → cell ≡ kind }
+    ensures kept { (k : ℕ) → k < begin → slice_get cells.new k ≡ slice_get cells.old k }
+{
+    if end.saturating_sub(begin) == 1 {
+        set_cell(cells, begin, kind);
+    } else {
+        set_more_cells(cells, begin, end, kind);
+    }
+}
+
+/// Sets one cell.
+#[inline(always)]
+fn set_cell(cells: &mut [FrameKind], at: usize, kind: FrameKind)
+    requires { at < length cells.old }
+    ensures set { (cell : FrameKind) → slice_get cells.new at ≡ Some cell → cell ≡ kind }
+    ensures kept { (k : ℕ) → k < at → slice_get cells.new k ≡ slice_get cells.old k }
+{
+    cells[at] = kind;
+}
+
+/// Sets any number of cells.
+fn set_more_cells(cells: &mut [FrameKind], begin: usize, end: usize, kind: FrameKind)
+    requires { end ≤ length cells.old }
+    ensures set { (k : ℕ) (cell : FrameKind) → begin ≤ k → k < end → slice_get cells.new k ≡ Some cell → cell ≡ kind }
+    ensures kept { (k : ℕ) → k < begin → slice_get cells.new k ≡ slice_get cells.old k }
+{
+    for k in begin..end {
+        cells[k] = kind;
     }
 }
