@@ -1,3 +1,4 @@
 pub mod Even
 pub mod Filling
 pub mod RowLemmas
+pub mod OwnedLemmas

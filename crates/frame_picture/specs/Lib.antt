@@ -5,3 +5,4 @@ pub mod Rectangles
 pub mod Rows
 pub mod Stacks
 pub mod Tones
+pub mod Owned

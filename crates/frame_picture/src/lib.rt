@@ -9,6 +9,7 @@
 pub mod grid;
 pub mod history;
 pub mod kinds;
+mod owned;
 pub mod rectangles;
 pub mod rows;
 mod showing;

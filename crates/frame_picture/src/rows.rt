@@ -1,8 +1,9 @@
 //! What each row of a column is drawn as.
 
-ghost use Rattle.std.specs.Prelude.{◌≡◌, ℕ, ◌+◌, ◌-◌, ◌^◌, ◌<◌, ◌≤◌, ◌==◌, List, Some, length, count_by, slice_get, slice_index, slice_index_or};
+ghost use Rattle.std.specs.Prelude.{◌≡◌, ℕ, ◌+◌, ◌-◌, ◌^◌, ◌<◌, ◌≤◌, ◌==◌, List, Some, length, take, count_by, slice_get, slice_index, slice_index_or};
 ghost use Rattle.frame_picture.specs.Kinds.{rank_of};
 ghost use Rattle.frame_picture.specs.Rows.{cells_in, row_cells, kind_count, first_of, end_of};
+ghost use Rattle.frame_picture.specs.Owned.{IsOwn};
 ghost use Rattle.frame_picture.specs.Tones.{is_tone, not_held, taken_cells, drawn_kinds, quarters_of, IsMostCommon, IsRowTone};
 ghost use Rattle.frame_picture.specs.declared.history.Column.{Column};
 ghost use Rattle.frame_picture.specs.declared.rows.Tone.{Tone};
@@ -10,6 +11,7 @@ ghost use Rattle.frame_picture.specs.declared.rows.Tone.{Tone};
 use crate::grid::Grid;
 use crate::history::{Column, Sheet};
 use crate::kinds::{KINDS, TAKEN_KINDS, of_rank, rank};
+use crate::owned::OwnSheets;
 use kernel_core::FrameKind;
 
 /// A band has at most this many rows.
@@ -53,33 +55,43 @@ pub fn set_cells(cells: &mut [[Tone; MOST_ROWS]], columns: &[Column], t: u8, gri
 fn set_rows(rows: &mut [Tone; MOST_ROWS], column: &Column, t: u8, grid: Grid)
     ensures { (row : ℕ) → row < 256 → row < grid.rows → IsRowTone column.now t grid row (slice_index_or rows.new row not_held) }
 {
+    let own = OwnSheets::of(&column.sheets, t);
     for row in 0..MOST_ROWS {
-        rows[row] = row_tone(column, t, grid, row as u32);
+        rows[row] = row_tone(column, &own, t, grid, row as u32);
     }
 }
 
 /// What a row is drawn as, if it is shown.
-fn row_tone(column: &Column, t: u8, grid: Grid, row: u32) -> Tone
+fn row_tone(column: &Column, own: &OwnSheets, t: u8, grid: Grid, row: u32) -> Tone
+    requires { IsOwn t column.now.sheets.items own.now }
     ensures { row < grid.rows → IsRowTone column.now t grid row result }
 {
     if row >= grid.rows {
         return Tone::NOT_HELD;
     }
     let frames = grid.frames_of(row);
-    let counts = row_counts(column, t, grid, row);
+    let counts = row_counts(column, own, t, grid, row);
     tone_of(&counts, frames.end - frames.start)
 }
 
 /// How many frames of a row have each kind; those that the column doesn't show are not held.
-fn row_counts(column: &Column, t: u8, grid: Grid, row: u32) -> [usize; KINDS]
-    requires { row < grid.rows }
+fn row_counts(column: &Column, own: &OwnSheets, t: u8, grid: Grid, row: u32) -> [usize; KINDS]
+    requires row { row < grid.rows }
+    requires own { IsOwn t column.now.sheets.items own.now }
     ensures long { length result ≡ 6 }
     ensures kinds { let cells = row_cells grid.order t (first_of grid row) (end_of grid row) column.now.sheets.items in
         (k : ℕ) → k < 6 → length cells + 2 ^ 32 < 2 ^ 64
         → slice_index result k ≡ kind_count cells (end_of grid row - first_of grid row) k }
 {
     let frames = grid.frames_of(row);
-    let (mut counts, shown) = count_kinds(&column.sheets, t, grid.order, frames.start, frames.end);
+    let (mut counts, shown) = count_kinds(
+        &column.sheets,
+        own,
+        t,
+        grid.order,
+        frames.start,
+        frames.end,
+    );
     let all = (frames.end - frames.start) as usize;
     let not_held = rank(FrameKind::NotHeld);
     counts[not_held] = counts[not_held].saturating_add(all.saturating_sub(shown));
@@ -113,18 +125,52 @@ fn quarters_of(taken: usize, frames: u32) -> u8
 }
 
 /// How many of tenant `t`'s frames from `first` on, and below `end`, the sheets show of each kind, and how many together.
-fn count_kinds(sheets: &[Sheet], t: u8, order: u32, first: u32, end: u32) -> ([usize; KINDS], usize)
+fn count_kinds(
+    sheets: &[Sheet],
+    own: &OwnSheets,
+    t: u8,
+    order: u32,
+    first: u32,
+    end: u32,
+) -> ([usize; KINDS], usize)
     requires order { order ≤ 8 }
     requires rising { first ≤ end }
+    requires own { IsOwn t sheets.now own.now }
     ensures long { length result.0 ≡ 6 }
     ensures kinds { (k : ℕ) → k < 6 → length (row_cells order t first end sheets.now) < 2 ^ 64
         → slice_index result.0 k ≡ count_by (λ cell. rank_of cell == k) (row_cells order t first end sheets.now) }
     ensures all { length (row_cells order t first end sheets.now) < 2 ^ 64 → result.1 ≡ length (row_cells order t first end sheets.now) }
 {
+    let (mut counts, mut shown) = count_listed(sheets, own, t, order, first, end);
+    for sheet in &sheets[own.rest..] {
+        let cells = cells_of(sheet, t, order, first, end);
+        count_cells(cells, &mut counts);
+        shown = shown.saturating_add(cells.len());
+    }
+    (counts, shown)
+}
+
+/// The same of the sheets that are listed.
+fn count_listed(
+    sheets: &[Sheet],
+    own: &OwnSheets,
+    t: u8,
+    order: u32,
+    first: u32,
+    end: u32,
+) -> ([usize; KINDS], usize)
+    requires order { order ≤ 8 }
+    requires rising { first ≤ end }
+    requires own { IsOwn t sheets.now own.now }
+    ensures long { length result.0 ≡ 6 }
+    ensures kinds { let cells = row_cells order t first end (take own.now.rest sheets.now) in
+        (k : ℕ) → k < 6 → length cells < 2 ^ 64 → slice_index result.0 k ≡ count_by (λ cell. rank_of cell == k) cells }
+    ensures all { let cells = row_cells order t first end (take own.now.rest sheets.now) in length cells < 2 ^ 64 → result.1 ≡ length cells }
+{
     let mut counts = [0usize; KINDS];
     let mut shown = 0usize;
-    for sheet in sheets {
-        let cells = cells_of(sheet, t, order, first, end);
+    for j in 0..own.len {
+        let cells = cells_of(&sheets[own.listed[j] as usize], t, order, first, end);
         count_cells(cells, &mut counts);
         shown = shown.saturating_add(cells.len());
     }

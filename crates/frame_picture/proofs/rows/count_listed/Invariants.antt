@@ -1,0 +1,14 @@
+use Rattle.std.proofs.Common.{◌≡◌, ℕ, ◌^◌, ◌<◌, ◌==◌, length, take, get_or, count_by}
+use Rattle.frame_picture.specs.Kinds.{rank_of}
+use Rattle.frame_picture.specs.Owned.{listed_cells}
+use Rattle.frame_picture.proofs.rows.count_listed.Given as goal
+
+-- the listed sheets so far
+abbrev pub invariant-loop-j : goal.invariant-loop-j
+invariant-loop-j l = record {
+  long : length l.counts ≡ 6;
+  kinds : (k : ℕ) → k < 6 → length (listed_cells l.order l.t l.first l.end l.sheets (take l.j l.own.listed)) < 2 ^ 64
+      → get_or l.counts k 0 ≡ count_by (λ cell. rank_of cell == k) (listed_cells l.order l.t l.first l.end l.sheets (take l.j l.own.listed));
+  all : length (listed_cells l.order l.t l.first l.end l.sheets (take l.j l.own.listed)) < 2 ^ 64
+      → l.shown ≡ length (listed_cells l.order l.t l.first l.end l.sheets (take l.j l.own.listed));
+}
