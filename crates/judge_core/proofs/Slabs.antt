@@ -79,7 +79,7 @@ beside_part c place a b i j is_a is_b order inside one two =
     behind p from = let at = place_inside c.order p in ne_eqb _ _ (λ e. absurd (omega (arith, at.1, e, is_b, from)))
 
 -- a slab before the block
-ends_before : (c : ToldCache) (b : Block) (a p : ℕ) → a ≡ 4096 * (b.first / 2 ^ c.order * 2 ^ c.order) → p < a
+pub ends_before : (c : ToldCache) (b : Block) (a p : ℕ) → a ≡ 4096 * (b.first / 2 ^ c.order * 2 ^ c.order) → p < a
     → overlaps b (slab_around c p) ≡ false
 ends_before c b a p is_a lt =
     let low : first_of c.order p ≤ p / 4096 = div-mul-le_self (p / 4096) (2 ^ c.order) in

@@ -32,7 +32,7 @@ pub struct HeldCache {
     order: u8,
     count: u32,
     /// Rising.
-    live: Vec<u32>,
+    pub(crate) live: Vec<u32>,
 }
 
 impl Model for HeldCache {

@@ -131,7 +131,7 @@ impl Held {
     }
 
     /// All live page blocks that end behind the frame `begin` and begin before the frame `end`, and maybe others.
-    fn pages_near(&self, begin: u64, end: u64) -> &[FrameBlock]
+    pub(crate) fn pages_near(&self, begin: u64, end: u64) -> &[FrameBlock]
         requires order { begin ≤ end }
         requires small { end < 2 ^ 33 }
         ensures { (test : Block → Bool)
@@ -186,8 +186,13 @@ impl Held {
         ensures value { result ≡ length (filter (is_vacant self.now) (blocks_of_slot order k slot)) }
         ensures most { result ≤ 256 }
     {
-        let blocks = 1u32 << order.saturating_sub(k);
-        self.count_vacant_from(k, u32::from(slot) * blocks, blocks)
+        // A few large blocks are sooner looked for one by one in the caches than all frames are marked.
+        if k > order || self.caches.len() < 1 << k {
+            let blocks = 1u32 << order.saturating_sub(k);
+            return self.count_vacant_from(k, u32::from(slot) * blocks, blocks);
+        }
+        let taken = self.taken_in(&FrameBlock::of_slot(order, slot));
+        self.count_clear(&taken, order, k, slot)
     }
 
     /// How many of so many blocks of `2^k` frames from the one of number `begin` on have no taken frame.

@@ -11,6 +11,7 @@ mod held;
 mod holder;
 mod layout;
 mod rising;
+mod vacancy;
 mod walking;
 
 pub use block::FrameBlock;

@@ -152,7 +152,8 @@ fn are_all_taken(held: &Held, order: u8, rows: &[CacheRow], taken: &[u32]) -> bo
     (0..order + 1).all(|k| are_taken(held, rows, k, count_at(taken, k)))
 }
 
-/// Whether so many free blocks of each order can stand, beside those of greater orders.
+/// Whether so many free blocks of each order can stand, beside those of greater orders. The held slots are looked at once for all
+/// orders.
 #[tactic(auto, using(crate::proofs::Lists::all_from))]
 fn have_room(held: &Held, order: u8, free: &[u32]) -> bool
     requires order { order ≤ MOST_ORDER }
@@ -160,22 +161,23 @@ fn have_room(held: &Held, order: u8, free: &[u32]) -> bool
     ensures { result ≡ list_all (λ k. nat_le (frames_of_counts (drop k free.now)) (length (vacant_blocks order held.now k)))
         (range_with_len 0 (order + 1)) }
 {
+    let vacant = held.vacant_by_order(order);
     for k in 0..order + 1 {
-        if !has_room(held, order, k, free) {
+        if !has_room(held, order, k, free, vacant[k as usize]) {
             return false;
         }
     }
     true
 }
 
-/// Whether blocks of order `k` and of greater orders can stand, of which these are the numbers.
-fn has_room(held: &Held, order: u8, k: u8, free: &[u32]) -> bool
-    requires order { order ≤ MOST_ORDER }
-    requires k { k ≤ order }
+/// Whether blocks of order `k` and of greater orders can stand, of which these are the numbers, where so many blocks of order `k` are
+/// vacant.
+fn has_room(held: &Held, order: u8, k: u8, free: &[u32], vacant: u128) -> bool
     requires short { length free.now ≤ ORDERS }
+    requires vacant { vacant ≡ length (vacant_blocks order held.now k) }
     ensures { result ≡ nat_le (frames_of_counts (drop k free.now)) (length (vacant_blocks order held.now k)) }
 {
-    u128::from(frames_from(free, k)) <= held.count_vacant(order, k)
+    u128::from(frames_from(free, k)) <= vacant
 }
 
 /// Whether a report tells the free blocks and empty slabs that the last one told.

@@ -1,0 +1,12 @@
+use Rattle.std.proofs.Common.{◌≡◌, ℕ, ◌+◌, ◌<◌, ◌≤◌, length, filter, slice_index}
+use Rattle.promise_core.specs.Holdings.{is_vacant, blocks_of_slot}
+use Rattle.judge_core.proofs.held.Held.add_vacant.Given as goal
+
+-- the orders so far
+abbrev pub invariant-loop-k : goal.invariant-loop-k
+invariant-loop-k l = record {
+  long : length l.counts ≡ 9;
+  added : (j : ℕ) → j < l.k → slice_index l.counts j ≡ slice_index l.fn.counts j + length (filter (is_vacant l.self) (blocks_of_slot l.order j l.slot));
+  most : (j : ℕ) → slice_index l.counts j ≤ slice_index l.fn.counts j + 256;
+  kept : (j : ℕ) → l.k ≤ j → slice_index l.counts j ≡ slice_index l.fn.counts j;
+}

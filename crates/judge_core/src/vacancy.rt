@@ -1,0 +1,151 @@
+//! Which frames of a slot are taken: looked for once for all blocks of the slot.
+
+ghost use Rattle.std.specs.Prelude.{◌≡◌, ℕ, ◌+◌, ◌*◌, ◌^◌, ◌<◌, ◌≤◌, not, ◌||◌, false, length, filter, slice_index, slice_index_or, slice_range};
+ghost use Rattle.std.specs.List.{list_any};
+ghost use Rattle.model_core.specs.declared.limits.TheConstants.{MOST_ORDER};
+ghost use Rattle.model_core.specs.Blocks.{block};
+ghost use Rattle.model_core.specs.Operations.{overlaps};
+ghost use Rattle.promise_core.specs.Holdings.{is_vacant, slab_around, blocks_of_slot, vacant_blocks};
+
+use crate::block::FrameBlock;
+use crate::cache::HeldCache;
+use crate::held::Held;
+use crate::rising::places_before;
+
+/// No slot has more frames.
+const MOST_FRAMES: usize = 256;
+
+/// The greatest order of a block is 8.
+const ORDERS: usize = 9;
+
+impl Held {
+    /// Which frames of a slot are taken, from its first one on.
+    pub(crate) fn taken_in(&self, slot: &FrameBlock) -> [bool; MOST_FRAMES]
+        ensures long { length result ≡ 256 }
+        ensures taken { (f : ℕ) → f < 2 ^ slot.now.order
+            → slice_index_or result f false ≡ not (is_vacant self.now (block (slot.now.first + f) 0)) }
+    {
+        let mut taken = [false; MOST_FRAMES];
+        let pages = self.pages_near(u64::from(slot.first()), slot.end());
+        mark_blocks(&mut taken, slot, pages);
+        mark_caches(&mut taken, slot, &self.caches);
+        taken
+    }
+
+    /// How many aligned blocks of `2^k` frames of a slot of `2^order` have no taken frame, where these of its frames are taken. The
+    /// slot is named for the contract alone.
+    pub(crate) fn count_clear(
+        &self,
+        taken: &[bool; MOST_FRAMES],
+        order: u8,
+        k: u8,
+        slot: u16,
+    ) -> u32
+        requires order { order ≤ MOST_ORDER }
+        requires k { k ≤ order }
+        requires taken { (f : ℕ) → f < 2 ^ order
+            → slice_index_or taken.now f false ≡ not (is_vacant self.now (block (slot * 2 ^ order + f) 0)) }
+        ensures value { result ≡ length (filter (is_vacant self.now) (blocks_of_slot order k slot)) }
+        ensures most { result ≤ 256 }
+    {
+        let _ = slot;
+        let frames = 1u32 << k;
+        let mut count = 0u32;
+        for i in 0..1u32 << (order - k) {
+            if !is_some_taken(taken, (i * frames) as usize, frames as usize) {
+                count += 1;
+            }
+        }
+        count
+    }
+
+    /// [`Held::count_vacant`] of each order up to that of a slot, from order 0 on. Each slot is looked at once.
+    pub fn vacant_by_order(&self, order: u8) -> [u128; ORDERS]
+        requires { order ≤ MOST_ORDER }
+        ensures long { length result ≡ 9 }
+        ensures counts { (k : ℕ) → k ≤ order → slice_index result k ≡ length (vacant_blocks order self.now k) }
+    {
+        let mut counts = [0u128; ORDERS];
+        for slot in &self.slots {
+            self.add_vacant(&mut counts, order, *slot);
+        }
+        counts
+    }
+
+    /// Adds the vacant blocks of a slot to the counts of their orders.
+    fn add_vacant(&self, counts: &mut [u128; ORDERS], order: u8, slot: u16)
+        requires order { order ≤ MOST_ORDER }
+        requires few { (k : ℕ) → slice_index counts.old k + 256 < 2 ^ 128 }
+        ensures added { (k : ℕ) → k ≤ order
+            → slice_index counts.new k ≡ slice_index counts.old k + length (filter (is_vacant self.now) (blocks_of_slot order k slot)) }
+        ensures most { (k : ℕ) → slice_index counts.new k ≤ slice_index counts.old k + 256 }
+    {
+        let taken = self.taken_in(&FrameBlock::of_slot(order, slot));
+        for k in 0..order + 1 {
+            counts[k as usize] += u128::from(self.count_clear(&taken, order, k, slot));
+        }
+    }
+}
+
+/// Marks the frames of the slot that one of these blocks has.
+fn mark_blocks(taken: &mut [bool; MOST_FRAMES], slot: &FrameBlock, blocks: &[FrameBlock])
+    ensures { (f : ℕ) → f < 2 ^ slot.now.order → slice_index_or taken.new f false
+        ≡ (slice_index_or taken.old f false || list_any (overlaps (block (slot.now.first + f) 0)) blocks.now) }
+{
+    for other in blocks {
+        mark(taken, slot, other);
+    }
+}
+
+/// Marks the frames of the slot that the slab of a live object of one of these caches has.
+fn mark_caches(taken: &mut [bool; MOST_FRAMES], slot: &FrameBlock, caches: &[HeldCache])
+    ensures { (f : ℕ) → f < 2 ^ slot.now.order → slice_index_or taken.new f false ≡ (slice_index_or taken.old f false
+        || list_any (λ c. list_any (λ p. overlaps (block (slot.now.first + f) 0) (slab_around c p)) c.live) caches.now) }
+{
+    for cache in caches {
+        cache.mark_slabs(taken, slot);
+    }
+}
+
+impl HeldCache {
+    /// Marks the frames of the slot that the slab of a live object has: from each slab on to the first object behind it.
+    fn mark_slabs(&self, taken: &mut [bool; MOST_FRAMES], slot: &FrameBlock)
+        ensures { (f : ℕ) → f < 2 ^ slot.now.order → slice_index_or taken.new f false ≡ (slice_index_or taken.old f false
+            || list_any (λ p. overlaps (block (slot.now.first + f) 0) (slab_around self.now p)) self.now.live) }
+    {
+        let live = self.live.as_slice();
+        let mut at = places_before(
+            live,
+            FrameBlock::around(slot.first(), self.order()).first_byte(),
+        );
+        'slabs: while at < live.len() {
+            let slab = self.slab_around(live[at]);
+            if u64::from(slab.first()) >= slot.end() {
+                return;
+            }
+            mark(taken, slot, &slab);
+            at = places_before(live, slab.end_byte());
+        }
+    }
+}
+
+/// Marks the frames of the slot that the block has.
+fn mark(taken: &mut [bool; MOST_FRAMES], slot: &FrameBlock, other: &FrameBlock)
+    ensures { (f : ℕ) → f < 2 ^ slot.now.order → slice_index_or taken.new f false
+        ≡ (slice_index_or taken.old f false || overlaps (block (slot.now.first + f) 0) other.now) }
+{
+    let first = u64::from(slot.first());
+    let from = u64::from(other.first()).saturating_sub(first);
+    let to = other.end().saturating_sub(first).min(1 << slot.order());
+    for f in from..to {
+        taken[f as usize] = true;
+    }
+}
+
+/// Whether one of so many frames from one on is taken.
+fn is_some_taken(taken: &[bool; MOST_FRAMES], from: usize, frames: usize) -> bool
+    requires { from + frames ≤ 256 }
+    ensures { result ≡ list_any (λ t. t) (slice_range taken.now from (from + frames)) }
+{
+    taken[from..from + frames].iter().any(|frame| *frame)
+}
