@@ -111,21 +111,6 @@ kept_whole t line held before after old now new failing failing' own result run 
       failed = end.failed;
     }
 
--- or it is taken with its LF
-pub kept_ended : (t : ℕ) (line text : List ℕ) (before after : Parts) (old new : Option (List ℕ)) (failing own : Bool) (result : Result (Unit {0}) Stopped)
-    → IsLineRun t line before after own → own ≡ true → text ≡ line ++ 10 ∷ [] → IsTextTaken old new failing text result
-    → HasKept t line before after old new failing result
-kept_ended t line text before after old new failing own result run is whole part = record {
-  taken = part.taken;
-  rest = part.rest;
-  sizes = run.0;
-  shows = run.1;
-  text = λ w shows. line_kept t cache_limit before.order line w (sym (run.2 w shows) ∙ is) ∙ sym whole ∙ part.split;
-  appended = part.appended;
-  whole = part.whole;
-  failed = part.failed;
-}
-
 events_more : (xs : List (List ℕ)) (line : List ℕ) → events_of (xs ++ line ∷ []) ≡ events_of xs ++ event_in (reading_of line)
 events_more [] line = append-nil _
 events_more (x ∷ xs) line =

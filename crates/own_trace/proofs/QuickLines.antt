@@ -15,14 +15,6 @@ use Rattle.own_trace.proofs.Lines.{stands_more, stopped_within}
 one_more : (bytes : List ℕ) (len : ℕ) → 0 < len → drop (len - 1 + 1) bytes ≡ drop len bytes
 one_more bytes len some = ap (λ n. drop n bytes) (omega arith)
 
--- the bytes of the line, with its line feed
-pub with_line_feed : (bytes : List ℕ) (tenant : ℕ) (command : Command) (len : ℕ) → ReadsAs bytes tenant command len → take len bytes ≡ take (len - 1) bytes ++ 10 ∷ []
-with_line_feed bytes tenant command len read =
-    let end : ℕ = len - 1 in
-    let found = found_cut bytes end read.ended in
-    let long : length (take end bytes ++ 10 ∷ []) ≡ len = omega (arith, length-append (take end bytes) (10 ∷ []), length-take end bytes, read.some, read.within) in
-    ap (λ xs. take len xs) found.1 ∙ take_at (take end bytes ++ 10 ∷ []) (drop (end + 1) bytes) len long
-
 -- a line at the front of the rest has been run and kept
 pub line_done : (t : ℕ) (before now next : Parts) (given rest : List ℕ) (start old new : Option (List ℕ)) (failing : Bool) (pending : Pending)
     (tenant : ℕ) (command : Command) (len : ℕ) → ReadsAs rest tenant command len → HoldsNothing pending

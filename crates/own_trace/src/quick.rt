@@ -46,7 +46,7 @@ pub(crate) fn keep_quick_lines<'a, D: Drain>(
     'lines: while let Some(line) = read_request(rest, &mut room) {
         let len = line.len;
         keep_request(
-            &rest[..len],
+            &rest[..len - 1],
             line.tenant,
             line.request,
             kernel,
@@ -58,9 +58,9 @@ pub(crate) fn keep_quick_lines<'a, D: Drain>(
     Ok(rest)
 }
 
-/// Runs a request that was read off a line, and pushes the line where it is the tenant's own: `text` has it with its line feed.
+/// Runs a request that was read off a line, and pushes the line where it is the tenant's own, and its line feed.
 fn keep_request<D: Drain>(
-    text: &[u8],
+    line: &[u8],
     asked: u32,
     request: Request<'_>,
     kernel: &mut Kernel,
@@ -69,14 +69,15 @@ fn keep_request<D: Drain>(
 ) -> Result<(), Stopped>
     requires askable { IsAskable request }
     requires fine { D.has_failed drain.old ≡ false }
-    ensures kept { (line : List ℕ) → text.now ≡ line ++ 10 ∷ [] → reading_of line ≡ Ok (Some (Tenant asked (command_of request.entry)))
-        → HasKept tenant line kernel.old kernel.new (D.contents drain.old) (D.contents drain.new) (D.has_failed drain.new) result }
+    ensures kept { reading_of line.now ≡ Ok (Some (Tenant asked (command_of request.entry)))
+        → HasKept tenant line.now kernel.old kernel.new (D.contents drain.old) (D.contents drain.new) (D.has_failed drain.new) result }
     ensures failed { D.has_failed drain.new ≡ is_err result }
 {
     if !run_request(asked, request, kernel, tenant) {
         return Ok(());
     }
-    push_all(text, drain)
+    push_all(line, drain)?;
+    push_all(b"\n", drain)
 }
 
 /// Runs a request, and answers whether it is in the tenant's own list: whatever it is answered, it is where the tenant asks.
