@@ -186,8 +186,8 @@ impl Held {
         ensures value { result ≡ length (filter (is_vacant self.now) (blocks_of_slot order k slot)) }
         ensures most { result ≤ 256 }
     {
-        // A few large blocks are sooner looked for one by one in the caches than all frames are marked.
-        if k > order || self.caches.len() < 1 << k {
+        // Marking costs as much as some hundred blocks: of greater orders a slot has fewer, and they are tested one by one.
+        if k > order.min(1) {
             let blocks = 1u32 << order.saturating_sub(k);
             return self.count_vacant_from(k, u32::from(slot) * blocks, blocks);
         }
