@@ -15,7 +15,7 @@ pub struct OwnSheets {
     /// The indices of the first of them, rising, and how many are listed.
     pub listed: [u16; MOST_LISTED],
     pub len: usize,
-    /// From this index on the sheets were not looked at: there are none, unless more had to be listed than there is room for.
+    /// From this index on the sheets were not looked at: of a machine within its limits there are none, or none of the tenant.
     pub rest: usize,
 }
 

@@ -53,7 +53,6 @@ fn show_cells(cells: &mut [FrameKind], kernel: &Kernel, t: u8, slot: u16)
         return;
     };
     kernel.show_frames(known, slot, cells);
-    let frames = 1usize << kernel.order();
     show_beyond(cells, kernel, known, slot, 1usize << kernel.order());
 }
 
