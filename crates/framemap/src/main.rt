@@ -11,6 +11,8 @@ ghost use Rattle.command_line.specs.declared.outcome.Outcome.{Outcome};
 
 mod run;
 mod settings;
+#[cfg(test)]
+mod tests;
 
 use command_line::{
     FileError, Outcome, WatchedReader, hand_out, open, tell, tell_file, texts_of, words_given,

@@ -1,6 +1,6 @@
 //! A trace on a new machine, and its picture.
 
-ghost use Rattle.std.specs.Prelude.{◌≡◌, false};
+ghost use Rattle.std.specs.Prelude.{◌≡◌, ◌^◌, ◌<◌, ◌≤◌, false, length};
 ghost use Rattle.kernel_core.specs.Steps.{HasPattern};
 ghost use Rattle.replay_core.specs.Standing.{IsRunnable};
 
@@ -8,8 +8,10 @@ use crate::settings::Settings;
 use command_line::Outcome;
 use frame_picture::history::History;
 use kernel_core::Kernel;
+use model_core::limits::MOST_BYTES;
 use picture_svg::picture::Picture;
-use replay_core::{Feed, Pending, Stopped};
+use quick_core::read_request;
+use replay_core::{Feed, Pending, Stopped, line_end};
 use std::alloc::Global;
 use std::io::Write;
 use words_core::{Answer, Event, LineFault, Refusal};
@@ -107,28 +109,55 @@ fn watch<F: Feed>(kernel: &mut Kernel, feed: &mut F, history: &mut History) -> R
 
 /// Runs the lines that end in a piece of the trace, and answers how many were events; what follows the last of them becomes
 /// pending.
-fn watch_piece(
+pub(crate) fn watch_piece(
     piece: &[u8],
     pending: &mut Pending,
     kernel: &mut Kernel,
     history: &mut History,
-) -> u64 {
+) -> u64
+    requires { length piece.now < 2 ^ 64 }
+{
     let mut events = 0u64;
-    for part in piece.split_inclusive(|byte| *byte == b'\n') {
-        match part {
-            [line @ .., b'\n'] => {
-                let more = watch_line(pending.end_with(line), kernel, history);
-                events = events.saturating_add(more);
-            }
-            unended => pending.add(unended),
-        }
+    let mut rest = piece;
+    if pending.is_empty() {
+        rest = watch_requests(piece, &mut events, kernel, history);
     }
+    'lines: while let Some(end) = line_end(rest) {
+        let more = watch_line(pending.end_with(&rest[..end]), kernel, history);
+        events = events.saturating_add(more);
+        rest = watch_requests(&rest[end + 1..], &mut events, kernel, history);
+    }
+    pending.add(rest);
     events
+}
+
+/// Runs the lines at the front of a piece as long as they are requests that are read the short way, counts them as events, and answers
+/// the rest of the piece. No beginning of a line may be pending.
+fn watch_requests<'a>(
+    piece: &'a [u8],
+    events: &mut u64,
+    kernel: &mut Kernel,
+    history: &mut History,
+) -> &'a [u8]
+    requires { length piece.now < 2 ^ 64 }
+    ensures { length result.now ≤ length piece.now }
+{
+    // What a write stores: one room for all lines, filled anew by each.
+    let mut room = [0; MOST_BYTES];
+    let mut rest = piece;
+    'lines: while let Some(line) = read_request(rest, &mut room) {
+        let len = line.len;
+        note_refusal(kernel.ask(line.tenant, line.request), history);
+        history.add_line(kernel);
+        *events = events.saturating_add(1);
+        rest = &rest[len..];
+    }
+    rest
 }
 
 /// Runs a line that was read so, and answers whether it was an event, by 1 or 0; nobody is told what the kernel answers. A
 /// report changes nothing, and is not made.
-fn watch_line(
+pub(crate) fn watch_line(
     reading: Result<Option<Event>, LineFault>,
     kernel: &mut Kernel,
     history: &mut History,

@@ -190,6 +190,32 @@ fn compare_refusals(
     Ok(())
 }
 
+/// A line of so many bytes, with its end, that begins so: blanks fill it up.
+fn line_of(alloc: Global, begin: &[u8], len: usize, end: &[u8]) -> Result<Vec<u8>, AllocError> {
+    let mut line = Vec::new(alloc);
+    line.extend_from_slice(begin)?;
+    for _ in begin.len()..len {
+        line.extend_from_slice(b" ")?;
+    }
+    line.extend_from_slice(end)?;
+    Ok(line)
+}
+
+#[test]
+fn long_lines_are_as_before(rt: HostRuntime) -> Result<(), Fail> {
+    for begin in [&b"0> refused 4 OutOfReach"[..], b"0 alloc 1", b"frob", b""] {
+        for len in 250..262usize {
+            for end in [&b"\n"[..], b"\r\n", b"", b"\n\n0> refused 1 NoFrames\n"] {
+                let line = line_of(rt.alloc(), begin, len, end)?;
+                for piece in [1usize, 100, 256, 1 << 16] {
+                    compare(&rt, line.as_slice(), piece)?;
+                }
+            }
+        }
+    }
+    Ok(())
+}
+
 #[test]
 fn notes_are_as_before(rt: HostRuntime) -> Result<(), Fail> {
     let mut state = 0x9e37_79b9_7f4a_7c15u64;
