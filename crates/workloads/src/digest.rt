@@ -2,7 +2,7 @@
 
 use std::io::{self, Write};
 
-/// A number that hangs on all bytes and numbers that were added, in their order, and not on how the bytes were cut.
+/// A number that hangs on all numbers that were added, in their order, and on all bytes, in theirs, and not on how the bytes were cut.
 #[derive(Drop)]
 pub struct Digest {
     sum: u64,

@@ -12,7 +12,7 @@ use judge::Machine;
 use kernel_core::{Config, Kernel};
 use own_trace::keep;
 use picture_svg::picture::Picture;
-use replay_core::{Drain, Pending, ReaderFeed, WriterDrain, replay};
+use replay_core::{Drain, Pending, ReaderFeed, ReplayError, WriterDrain, replay};
 use run_notes::{MOST_NUMBER, NotedReader, NotedWriter};
 use std::alloc::{AllocError, Global};
 use std::io::{BufWriter, Read, Write};
@@ -151,16 +151,25 @@ fn replay_between<R: Read + Drop, W: Write + Drop>(
     let mut drain = WriterDrain::holding(writer, room);
     let replayed = replay(&mut kernel, &mut ReaderFeed::new(reader), &mut drain, only);
     let flushed = !drain.failed() && drain.flush().is_ok();
-    Ok(match replayed {
-        Ok(tally) => tally
-            .lines
-            .wrapping_mul(3)
-            .wrapping_add(tally.events)
-            .wrapping_mul(5)
-            .wrapping_add(tally.faults)
-            .wrapping_add(u64::from(flushed)),
-        Err(_) => 0,
-    })
+    let (tally, error) = match replayed {
+        Ok(tally) => (tally, 0),
+        Err(ReplayError::Feed(tally)) => (tally, 1),
+        Err(ReplayError::Drain(tally)) => (tally, 2),
+    };
+    let counts = [
+        tally.lines,
+        tally.events,
+        tally.faults,
+        low(tally.written),
+        error,
+        u64::from(flushed),
+    ];
+    Ok(
+        counts.iter().fold(
+            0u64,
+            |sum, count| sum.wrapping_mul(1_000_003).wrapping_add(*count),
+        ),
+    )
 }
 
 /// Writes a tenant's own list of the trace of a reader, and answers whether all was done.
@@ -244,6 +253,7 @@ fn check_both(
     let mut replies = Vec::with_capacity(alloc, trace.len().saturating_mul(2))?;
     let ended = replay_between(alloc, config, None, trace, &mut replies)?;
     digest.add(ended);
+    digest.add_bytes(replies.as_slice());
     digest.add(checked(alloc, config, trace, replies.as_slice())?);
     let quarter = u32::try_from(replies.len() / 4).unwrap_or(0);
     if quarter > 0 {
@@ -281,11 +291,12 @@ fn checked(alloc: Global, config: Config, trace: &[u8], replies: &[u8]) -> Resul
                 .wrapping_add(breach.promise as u64),
         ),
         Err(Unchecked::Memory) => Err(AllocError),
-        Err(_) => Ok(0),
+        Err(Unchecked::Trace) => Ok(1 << 60),
+        Err(Unchecked::Replies) => Ok(1 << 61),
     }
 }
 
-/// A count, if it is no greater than a trace may have.
+/// A count, or 0 if it is greater than any of a trace.
 fn low(count: u128) -> u64 {
     u64::try_from(count).unwrap_or(0)
 }

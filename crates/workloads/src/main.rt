@@ -55,17 +55,19 @@ fn run_words(rt: &(impl Env + Print + AllocGlobal)) -> io::Result<bool> {
         None => 1,
     };
     let mut is_known = false;
-    for known in NAMES {
-        if name.as_str() == known || name.as_str() == "all" {
+    for (at, known) in NAMES.iter().enumerate() {
+        if name.as_str() == *known || name.as_str() == "all" {
             is_known = true;
-            print_digest(rt, known, seed, part.max(1))?;
+            // No two workloads have traces of the same seed.
+            let own_seed = u64::from(seed).wrapping_mul(8).wrapping_add(at as u64);
+            print_digest(rt, known, own_seed, part.max(1))?;
         }
     }
     Ok(is_known)
 }
 
 /// Does the works of a workload, and prints their digest.
-fn print_digest(rt: &(impl Print + AllocGlobal), name: &str, seed: u32, part: u32) -> io::Result<()>
+fn print_digest(rt: &(impl Print + AllocGlobal), name: &str, seed: u64, part: u32) -> io::Result<()>
     requires { 0 < part }
 {
     let mut digest = Digest::new();
@@ -73,7 +75,7 @@ fn print_digest(rt: &(impl Print + AllocGlobal), name: &str, seed: u32, part: u3
     for (at, work) in works.iter().enumerate() {
         let mut work = *work;
         work.lines /= part;
-        let own_seed = u64::from(seed).wrapping_mul(64).wrapping_add(at as u64);
+        let own_seed = seed.wrapping_mul(64).wrapping_add(at as u64);
         run(rt.alloc(), &work, own_seed, &mut digest)?;
     }
     let value = digest.value();
