@@ -186,8 +186,8 @@ impl Held {
         ensures value { result ≡ length (filter (is_vacant self.now) (blocks_of_slot order k slot)) }
         ensures most { result ≤ 256 }
     {
-        // Marking costs as much as some hundred blocks: of greater orders a slot has fewer, and they are tested one by one.
-        if k > order.min(1) {
+        // Marking costs a search in each cache and a short one for each slab: less than the tests of 64 frames, one by one.
+        if k > 0 || order < 6 {
             let blocks = 1u32 << order.saturating_sub(k);
             return self.count_vacant_from(k, u32::from(slot) * blocks, blocks);
         }

@@ -14,6 +14,18 @@ pub(crate) fn places_before(places: &[u32], place: u64) -> usize
     places.partition_point(|p| u64::from(*p) < place)
 }
 
+/// [`places_before`], by a shorter search if the place of index `near` is there and is none of them.
+pub(crate) fn places_before_near(places: &[u32], near: usize, place: u64) -> usize
+    requires { IsNonDecreasing places.now }
+    ensures inside { result ≤ length places.now }
+    ensures point { IsPartitionPoint (λ p. p < place) (λ p. place ≤ p) places.now result }
+{
+    match places.get(near) {
+        Some(next) if u64::from(*next) >= place => places_before(&places[..near], place),
+        _ => places_before(places, place),
+    }
+}
+
 /// How many of the page blocks begin before the frame.
 pub(crate) fn pages_before(pages: &[FrameBlock], frame: u64) -> usize
     requires { IsNonDecreasingBy (λ b. b.first) pages.now }

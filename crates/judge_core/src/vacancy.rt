@@ -1,4 +1,4 @@
-//! Which frames of a slot are taken: looked for once for all blocks of the slot.
+//! Which frames of a slot are taken, found once for all blocks of the slot.
 
 ghost use Rattle.std.specs.Prelude.{◌≡◌, ℕ, ◌+◌, ◌*◌, ◌^◌, ◌<◌, ◌≤◌, not, ◌||◌, false, length, filter, slice_index, slice_index_or, slice_range};
 ghost use Rattle.std.specs.List.{list_any};
@@ -10,7 +10,7 @@ ghost use Rattle.promise_core.specs.Holdings.{is_vacant, slab_around, blocks_of_
 use crate::block::FrameBlock;
 use crate::cache::HeldCache;
 use crate::held::Held;
-use crate::rising::places_before;
+use crate::rising::{places_before, places_before_near};
 
 /// No slot has more frames.
 const MOST_FRAMES: usize = 256;
@@ -59,7 +59,7 @@ impl Held {
         count
     }
 
-    /// [`Held::count_vacant`] of each order up to that of a slot, from order 0 on. Each slot is looked at once.
+    /// [`Held::count_vacant`] of each order from 0 to that of a slot, in one pass over the slots.
     pub fn vacant_by_order(&self, order: u8) -> [u128; ORDERS]
         requires { order ≤ MOST_ORDER }
         ensures long { length result ≡ 9 }
@@ -108,7 +108,7 @@ fn mark_caches(taken: &mut [bool; MOST_FRAMES], slot: &FrameBlock, caches: &[Hel
 }
 
 impl HeldCache {
-    /// Marks the frames of the slot that the slab of a live object has: from each slab on to the first object behind it.
+    /// Marks the frames of the slot that the slab of a live object has, one slab after the other.
     fn mark_slabs(&self, taken: &mut [bool; MOST_FRAMES], slot: &FrameBlock)
         ensures { (f : ℕ) → f < 2 ^ slot.now.order → slice_index_or taken.new f false ≡ (slice_index_or taken.old f false
             || list_any (λ p. overlaps (block (slot.now.first + f) 0) (slab_around self.now p)) self.now.live) }
@@ -124,7 +124,8 @@ impl HeldCache {
                 return;
             }
             mark(taken, slot, &slab);
-            at = places_before(live, slab.end_byte());
+            // A slab of a sound machine has no more objects than `count`, so the first one behind it is near.
+            at += places_before_near(&live[at..], self.count() as usize, slab.end_byte());
         }
     }
 }
@@ -142,7 +143,7 @@ fn mark(taken: &mut [bool; MOST_FRAMES], slot: &FrameBlock, other: &FrameBlock)
     }
 }
 
-/// Whether one of so many frames from one on is taken.
+/// Whether a frame is taken of those from `from` on, `frames` in number.
 fn is_some_taken(taken: &[bool; MOST_FRAMES], from: usize, frames: usize) -> bool
     requires { from + frames ≤ 256 }
     ensures { result ≡ list_any (λ t. t) (slice_range taken.now from (from + frames)) }
