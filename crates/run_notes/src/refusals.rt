@@ -26,9 +26,6 @@ const REFUSALS: [Refusal; 15] = [
 /// The greatest number of a refusal.
 pub const MOST_NUMBER: u8 = 15;
 
-/// How many bytes of a line are held while its end has not come.
-const MOST_HELD: usize = 256;
-
 /// A refusal, and how often it was told.
 #[derive(Clone, Copy, Debug)]
 pub struct Refused {
@@ -86,8 +83,9 @@ impl RefusalNotes {
     /// The line ends with these bytes.
     fn end_line(&mut self, bytes: &[u8]) {
         if self.pending.is_empty() {
-            // It lies whole in these bytes: nothing is copied. Of a longer line as much is looked at as would be held.
-            self.count(refusal_in(&bytes[..bytes.len().min(MOST_HELD)]));
+            // The whole line is in these bytes: nothing is copied. Of a longer line only what would be held is read.
+            let most = self.pending.held.capacity();
+            self.count(refusal_in(&bytes[..bytes.len().min(most)]));
             return;
         }
         self.pending.add(bytes);
@@ -96,7 +94,7 @@ impl RefusalNotes {
         self.pending = Pending::new();
     }
 
-    /// The refusal of this number, if there is one, was told once more.
+    /// Counts a refusal, by its number, if there was one.
     fn count(&mut self, told: Option<u8>) {
         let Some(number) = told else {
             return;
