@@ -1,4 +1,4 @@
--- One sheet more is looked at: it is listed, or has no frame of the tenant.
+-- The search goes on by a sheet: it is listed, or has no frame of the tenant.
 use Rattle.std.proofs.Common.{◌≡◌, ◌≢◌, ℕ, ◌+◌, ◌^◌, ◌<◌, ◌≤◌, ◌==◌, min, List, [], ◌∷◌, ◌++◌, Some, length, take, count_by, get_or, set, slice_get, slice_index, ap, sym, subst, ◌∙◌, refl, ◌⊎◌, inl, inr, append_assoc, arith, length-append}
 use Rattle.std.proofs.lemmas.List.Sums.{sum_by-append, count_by-le-length}
 use Rattle.std.proofs.Math.ListN.{length-set}

@@ -1,4 +1,4 @@
-//! Where the sheets of a tenant stand in a column.
+//! The indices of a tenant's sheets in a column.
 
 ghost use Rattle.std.specs.Prelude.{◌≡◌, ℕ, ◌<◌, ◌≤◌, false, []};
 ghost use Rattle.frame_picture.specs.Rows.{cells_in};
@@ -9,13 +9,13 @@ use crate::history::Sheet;
 /// So many sheets of a tenant are listed.
 pub const MOST_LISTED: usize = 256;
 
-/// Where a tenant's sheets stand among those of a column. They are looked for once for all rows.
+/// The indices of a tenant's sheets in a column, found once for all rows.
 #[derive(Drop)]
 pub struct OwnSheets {
     /// The indices of the first of them, rising, and how many are listed.
     pub listed: [u16; MOST_LISTED],
     pub len: usize,
-    /// From this index on the sheets were not looked at: of a machine within its limits there are none, or none of the tenant.
+    /// Sheets from this index on were not searched. On a machine within its limits there are none, or none of the tenant.
     pub rest: usize,
 }
 

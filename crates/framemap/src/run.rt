@@ -131,7 +131,7 @@ pub(crate) fn watch_piece(
     events
 }
 
-/// Runs the lines at the front of a piece as long as they are requests that are read the short way, counts them as events, and answers
+/// Runs the lines at the front of a piece as long as they are requests that are read the short way, counts them as events, and returns
 /// the rest of the piece. No beginning of a line may be pending.
 fn watch_requests<'a>(
     piece: &'a [u8],
@@ -142,7 +142,7 @@ fn watch_requests<'a>(
     requires { length piece.now < 2 ^ 64 }
     ensures { length result.now ≤ length piece.now }
 {
-    // What a write stores: one room for all lines, filled anew by each.
+    // The bytes of a write: one buffer for all lines.
     let mut room = [0; MOST_BYTES];
     let mut rest = piece;
     'lines: while let Some(line) = read_request(rest, &mut room) {

@@ -106,7 +106,7 @@ fn draw(state: &mut u64) -> usize {
     (*state >> 48) as usize
 }
 
-/// Compares what becomes of a text that comes in pieces of so many bytes.
+/// Compares the pictures of a text that comes in pieces of this length.
 fn compare(rt: &(impl Abort + AllocGlobal), text: &[u8], piece: usize) -> Result<(), AllocError>
     requires { 0 < piece }
 {

@@ -26,7 +26,7 @@ struct Blocks {
     top: Option<u8>,
 }
 
-/// The figures of a tenant's frames and blocks, as its report tells them.
+/// The figures of a tenant's frames and blocks in its report.
 #[derive(Debug, Drop)]
 pub struct BlockFigures {
     /// How many frames the tenant's slots have.
@@ -38,7 +38,7 @@ pub struct BlockFigures {
 }
 
 impl Kernel {
-    /// What a report of tenant `t` tells of its frames and blocks: [`Kernel::report`] without its caches, which are not counted.
+    /// The figures of frames and blocks in a report of tenant `t`: [`Kernel::report`] without the caches, which are not counted.
     pub fn block_figures(&self, t: u8) -> BlockFigures
         requires { t < self.now.tenants }
         ensures frames { (m : Machine) → ShowsMachine self.now t m → result.frames ≡ frames_held self.now.order m }

@@ -11,7 +11,7 @@ use Rattle.replay_core.proofs.LineLemmas.{found_cut}
 use Rattle.own_trace.specs.Keeping.{HasKept, StandsOwn, HasStoppedOwn}
 use Rattle.own_trace.proofs.Lines.{stands_more, stopped_within}
 
--- what stands behind a line with its line feed
+-- what follows a line with its line feed
 one_more : (bytes : List ℕ) (len : ℕ) → 0 < len → drop (len - 1 + 1) bytes ≡ drop len bytes
 one_more bytes len some = ap (λ n. drop n bytes) (omega arith)
 

@@ -22,8 +22,8 @@ use quick_core::read_request;
 use replay_core::{Drain, Stopped};
 use words_core::Request;
 
-/// Runs the lines at the front of a piece as long as they are read the short way, pushes the tenant's own, and answers the rest of
-/// the piece. No beginning of a line may be pending.
+/// Runs the lines at the front of a piece as long as they are read the short way, pushes the tenant's own, and returns the rest of the
+/// piece. No beginning of a line may be pending.
 pub(crate) fn keep_quick_lines<'a, D: Drain>(
     piece: &'a [u8],
     kernel: &mut Kernel,
@@ -40,7 +40,7 @@ pub(crate) fn keep_quick_lines<'a, D: Drain>(
     ensures left { IfOk result (λ rest. length rest.now ≤ length piece.now) }
     ensures failed { D.has_failed drain.new ≡ is_err result }
 {
-    // What a write stores: one room for all lines, filled anew by each.
+    // The bytes of a write: one buffer for all lines.
     let mut room = [0; MOST_BYTES];
     let mut rest = piece;
     'lines: while let Some(line) = read_request(rest, &mut room) {
@@ -58,7 +58,7 @@ pub(crate) fn keep_quick_lines<'a, D: Drain>(
     Ok(rest)
 }
 
-/// Runs a request that was read off a line, and pushes the line where it is the tenant's own, and its line feed.
+/// Runs the request of a line. If the line is the tenant's own, pushes it and its line feed.
 fn keep_request<D: Drain>(
     line: &[u8],
     asked: u32,
@@ -80,7 +80,7 @@ fn keep_request<D: Drain>(
     push_all(b"\n", drain)
 }
 
-/// Runs a request, and answers whether it is in the tenant's own list: whatever it is answered, it is where the tenant asks.
+/// Runs a request, and returns whether it is in the tenant's own list. It is if the tenant made it, with any answer.
 fn run_request(asked: u32, request: Request<'_>, kernel: &mut Kernel, tenant: u8) -> bool
     requires { IsAskable request }
     ensures sizes { SameSizes kernel.old kernel.new }

@@ -3,7 +3,7 @@ use Rattle.std.specs.Prelude.{◌≡◌, ℕ, zero, suc, ◌+◌, ◌==◌, List
 use Rattle.std.specs.List.{position}
 use Rattle.words_core.specs.Grammar.{reading_of}
 
--- so many lines, each with its line feed (byte 10) and none of them faulty, stand before the rest
+-- before the rest there are this many lines, each with its line feed (byte 10) and none of them faulty
 abbrev pub ArePassed : ℕ → List ℕ → List ℕ → Type 0
 ArePassed zero bytes rest = bytes ≡ rest
 ArePassed (suc lines) bytes rest = (end : ℕ) × (position (λ b. b == 10) bytes ≡ Some end) × IsOk (reading_of (take end bytes))

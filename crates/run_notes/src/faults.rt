@@ -99,7 +99,7 @@ impl FaultNotes {
         self.pending.add(rest);
     }
 
-    /// Passes over the lines at the front of a piece, where no beginning of a line is pending, and answers the rest of the piece.
+    /// Passes over the lines at the front of a piece if no beginning of a line is pending, and returns the rest of the piece.
     fn begin_piece<'a>(&mut self, piece: &'a [u8]) -> &'a [u8]
         requires { length piece.now < 2 ^ 64 }
         ensures { length result.now ≤ length piece.now }
@@ -111,7 +111,7 @@ impl FaultNotes {
         }
     }
 
-    /// Counts the lines at the front of these bytes that are surely not faulty, and answers what follows them.
+    /// Counts the lines at the front of these bytes that are surely not faulty, and returns what follows them.
     fn pass<'a>(&mut self, bytes: &'a [u8]) -> &'a [u8]
         requires { length bytes.now < 2 ^ 64 }
         ensures { length result.now ≤ length bytes.now }
@@ -137,7 +137,7 @@ impl FaultNotes {
     fn end_line(&mut self, bytes: &[u8]) {
         self.lines = self.lines.saturating_add(1);
         if self.pending.is_empty() {
-            // It lies whole in these bytes: nothing is copied.
+            // The whole line is in these bytes: nothing is copied.
             if let Err(fault) = self.pending.end_with(bytes) {
                 self.note(FaultyLine::new(self.lines, fault, bytes));
             }
@@ -161,14 +161,14 @@ impl FaultNotes {
     }
 }
 
-/// Passes over the lines at the front of these bytes that are read the short way, and so are not faulty: how many they are, and what
-/// follows them.
+/// Passes over the lines at the front of these bytes that are read the short way, and so are not faulty. Returns how many they are, and
+/// what follows them.
 fn pass_requests(bytes: &[u8]) -> (u64, &[u8])
     requires { length bytes.now < 2 ^ 64 }
     ensures passed { ArePassed result.0 bytes.now result.1.now }
     ensures within { length result.1.now ≤ length bytes.now }
 {
-    // What a write stores: it is decoded, and not looked at.
+    // The bytes of a write: they are decoded, and not used.
     let mut room = [0; MOST_BYTES];
     let mut lines = 0u64;
     let mut rest = bytes;

@@ -1,5 +1,4 @@
-//! The notes beside those that were taken before lines were looked at where they stand: the same, whatever the text and however it is
-//! cut.
+//! The notes beside those that were taken before lines were read in place: the same for any text, cut in any way.
 
 ghost use Rattle.std.specs.Prelude.{◌<◌};
 
@@ -81,7 +80,7 @@ impl FaultsBefore {
     }
 }
 
-/// The notes of refusals, as they were: by number, how often each was told.
+/// The notes of refusals, as they were: how often each came, indexed by number.
 #[derive(Drop)]
 struct RefusalsBefore {
     pending: Pending,
@@ -117,7 +116,7 @@ fn draw(state: &mut u64) -> usize {
     (*state >> 48) as usize
 }
 
-/// A text of so many parts.
+/// A text of this many parts.
 fn text_of(alloc: Global, state: &mut u64, parts: usize) -> Result<Vec<u8>, AllocError> {
     let mut text = Vec::new(alloc);
     for _ in 0..parts {
@@ -127,7 +126,7 @@ fn text_of(alloc: Global, state: &mut u64, parts: usize) -> Result<Vec<u8>, Allo
     Ok(text)
 }
 
-/// Compares the notes of a text that comes in pieces of so many bytes.
+/// Compares the notes of a text that comes in pieces of this length.
 fn compare(rt: &(impl Abort + AllocGlobal), text: &[u8], piece: usize) -> Result<(), AllocError>
     requires { 0 < piece }
 {
@@ -190,7 +189,7 @@ fn compare_refusals(
     Ok(())
 }
 
-/// A line of so many bytes, with its end, that begins so: blanks fill it up.
+/// A line of this length that begins and ends so, filled up with blanks.
 fn line_of(alloc: Global, begin: &[u8], len: usize, end: &[u8]) -> Result<Vec<u8>, AllocError> {
     let mut line = Vec::new(alloc);
     line.extend_from_slice(begin)?;
