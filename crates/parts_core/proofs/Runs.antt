@@ -70,7 +70,7 @@ whole k agree = λ i. record {
   slabs = k.slabs;
 }
 
--- a power of two that a byte has room for
+-- a power of two that fits a byte
 pub small_shift : (order : ℕ) → order ≤ 8 → (1 * 2 ^ order % 18446744073709551616 ≡ 2 ^ order) × (0 < 2 ^ order) × (2 ^ order ≤ 256)
 small_shift order few = (one_shl order 64 (omega arith), pow_pos order, pow_mono few)
 

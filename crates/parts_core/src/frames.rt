@@ -9,6 +9,7 @@ ghost use Rattle.parts_laws.specs.Shows.{node_of, has_slab};
 ghost use Rattle.parts_core.specs.Parts.{superblock_at};
 ghost use Rattle.parts_core.specs.Shows.{ShowsMachine};
 ghost use Rattle.parts_core.specs.Frames.{IsFrame, IsInSlab, AreEndedBefore};
+ghost use Rattle.parts_core.specs.declared.frames.FrameKind.TheVariants.{Free};
 ghost use Rattle.parts_laws.specs.Laws.{is_kind};
 
 use crate::Parts;
@@ -67,7 +68,7 @@ impl Parts {
         }
     }
 
-    /// [`Parts::show_frames`] of a slot under which this superblock stands.
+    /// [`Parts::show_frames`] of a slot that this superblock is under.
     fn show_held(&self, superblock: u16, t: u8, slot: u16, cells: &mut [FrameKind])
         requires tenant { t < self.now.tenants }
         requires held { superblock_at self.now t slot ≡ Some superblock }
@@ -78,6 +79,7 @@ impl Parts {
         let base = self.slot_start(slot);
         let orders = self.buddy().orders_under(t, u32::from(slot));
         let most = cells.len().min(orders.len());
+        set_more_cells(cells, 0, most, FrameKind::Free);
         let mut at = 0usize;
         'runs: while at < most {
             let (kind, frames) = self.run_at(superblock, t, base + at as u32, orders[at]);
@@ -115,7 +117,7 @@ impl Parts {
         }
     }
 
-    /// What the frames of the taken block are that begins at a frame of tenant `t`, under whose slot this superblock stands.
+    /// The kind of the frames of a taken block that begins at this frame of tenant `t`, in a slot that this superblock is under.
     fn kind_of_block(&self, superblock: u16, t: u8, first: u32) -> FrameKind
         requires tenant { t < self.now.tenants }
         requires held { superblock_at self.now t (first / 2 ^ self.now.order) ≡ Some superblock }
@@ -149,7 +151,7 @@ impl Parts {
         Some(ListId { number })
     }
 
-    /// As `list_at`, where the caller knows that this superblock stands under the slot.
+    /// As `list_at`, for a caller who knows that this superblock is under the slot.
     fn list_in(&self, superblock: u16, t: u8, first: u32) -> Option<ListId>
         requires tenant { t < self.now.tenants }
         requires held { superblock_at self.now t (first / 2 ^ self.now.order) ≡ Some superblock }
@@ -187,7 +189,7 @@ impl Parts {
     }
 }
 
-/// What the frames of a slab that stands in the list are.
+/// The kind of the frames of a slab in the list.
 fn kind_in(list: ListId) -> FrameKind
     ensures { (order : ℕ) (m : Machine) (frame : ℕ) → IsInSlab m frame (is_kind (list.number % 3)) → IsFrame order m frame result }
 {
@@ -198,13 +200,17 @@ fn kind_in(list: ListId) -> FrameKind
     }
 }
 
-/// Sets the cells from `begin` on and below `end`: in most loads it is one.
-#[inline(always)]
+/// Sets the cells from `begin` on and below `end`, which are set to free. Most frames stay so, and most other blocks have one frame.
 fn set_cells(cells: &mut [FrameKind], begin: usize, end: usize, kind: FrameKind)
-    requires { end ≤ length cells.old }
+    requires inside { end ≤ length cells.old }
+    requires free { (k : ℕ) (cell : FrameKind) → begin ≤ k → k < end → slice_get cells.old k ≡ Some cell → cell ≡ Free }
     ensures set { (k : ℕ) (cell : FrameKind) → begin ≤ k → k < end → slice_get cells.new k ≡ Some cell → cell ≡ kind }
-    ensures kept { (k : ℕ) → k < begin → slice_get cells.new k ≡ slice_get cells.old k }
+    ensures before { (k : ℕ) → k < begin → slice_get cells.new k ≡ slice_get cells.old k }
+    ensures behind { (k : ℕ) → end ≤ k → slice_get cells.new k ≡ slice_get cells.old k }
 {
+    if matches!(kind, FrameKind::Free) {
+        return;
+    }
     if end.saturating_sub(begin) == 1 {
         set_cell(cells, begin, kind);
     } else {
@@ -217,7 +223,8 @@ fn set_cells(cells: &mut [FrameKind], begin: usize, end: usize, kind: FrameKind)
 fn set_cell(cells: &mut [FrameKind], at: usize, kind: FrameKind)
     requires { at < length cells.old }
     ensures set { (cell : FrameKind) → slice_get cells.new at ≡ Some cell → cell ≡ kind }
-    ensures kept { (k : ℕ) → k < at → slice_get cells.new k ≡ slice_get cells.old k }
+    ensures before { (k : ℕ) → k < at → slice_get cells.new k ≡ slice_get cells.old k }
+    ensures behind { (k : ℕ) → at < k → slice_get cells.new k ≡ slice_get cells.old k }
 {
     cells[at] = kind;
 }
@@ -226,7 +233,8 @@ fn set_cell(cells: &mut [FrameKind], at: usize, kind: FrameKind)
 fn set_more_cells(cells: &mut [FrameKind], begin: usize, end: usize, kind: FrameKind)
     requires { end ≤ length cells.old }
     ensures set { (k : ℕ) (cell : FrameKind) → begin ≤ k → k < end → slice_get cells.new k ≡ Some cell → cell ≡ kind }
-    ensures kept { (k : ℕ) → k < begin → slice_get cells.new k ≡ slice_get cells.old k }
+    ensures before { (k : ℕ) → k < begin → slice_get cells.new k ≡ slice_get cells.old k }
+    ensures behind { (k : ℕ) → end ≤ k → slice_get cells.new k ≡ slice_get cells.old k }
 {
     for k in begin..end {
         cells[k] = kind;

@@ -14,6 +14,7 @@ runs-init c =
     record {
       ended = λ f j is less. omega (arith, subst (λ (n : ℕ). f + 2 ^ j ≤ c.args.slot * 2 ^ n) c.laws.ensures.agree.top (begins f j is (subst (λ (n : ℕ). f < c.args.slot * 2 ^ n) (sym c.laws.ensures.agree.top) (omega (arith, less)))));
       told = λ m j cell shown within less. absurd (omega (arith, less));
+      free = λ j cell from to is. c.set_more_cells.ensures.set j cell from to is;
     }
 
 pub run_at-kind-requires-clause-held : goal.run_at-kind-requires-clause-held
@@ -36,6 +37,9 @@ run_at-kind-requires-clause-taken c =
     c.buddy.ensures (λ f is. c.orders_under-orders.ensures.orders f (is ∙ sym c.from.ensures))) in
     rw c.slot_start-base.ensures (ap (λ (n : ℕ). slice_index_or c.orders_under-orders.result.now n None) (sym at.1) ∙ orders (c.args.slot * 2 ^ k.order + c.runs.at) at.0)
 
+pub set_cells-requires-clause-free : goal.set_cells-requires-clause-free
+set_cells-requires-clause-free c = λ j cell from to is. c.runs.invariant.free j cell from (omega (arith, to, c.min.ensures)) is
+
 pub runs-preserved : goal.runs-preserved
 runs-preserved c =
     let k = c.args.self.now in
@@ -46,10 +50,12 @@ runs-preserved c =
       told = λ m j cell shown within less is.
           runs_more (λ j x. IsFrame k.order m (base + j) x) c.runs.cells c.set_cells.new.cells c.runs.at c.run_at-kind.result.1 c.min-most.result c.run_at-kind.result.0
           (λ j x below there. c.runs.invariant.told m j x shown (omega (arith, below, c.runs-test.true)) below there)
-          c.set_cells.ensures.kept
+          c.set_cells.ensures.before
           (λ j x from to there. c.set_cells.ensures.set j x from (omega (arith, to, c.min.ensures)) there)
           (λ j from to. ran.kinds m (base + j) shown c.runs.invariant.ended (omega (arith, from)) (omega (arith, to)))
           j cell within less is;
+      free = λ j cell from to is.
+          c.runs.invariant.free j cell (omega (arith, from)) to (sym (c.set_cells.ensures.behind j (omega (arith, from, c.min.ensures))) ∙ is);
     }
 
 pub returns : goal.returns

@@ -1,9 +1,10 @@
-use Rattle.std.proofs.Common.{◌≡◌, ℕ, ◌+◌, ◌*◌, ◌^◌, ◌<◌, ◌-◌, Some, slice_get}
+use Rattle.std.proofs.Common.{◌≡◌, ℕ, ◌+◌, ◌*◌, ◌^◌, ◌<◌, ◌≤◌, ◌-◌, Some, slice_get}
 use Rattle.model_core.specs.Machine.{Machine}
 use Rattle.buddy_core.specs.Content.{holding_of, taken_of}
 use Rattle.parts_core.specs.Frames.{IsFrame, AreEndedBefore}
 use Rattle.parts_core.specs.Shows.{ShowsMachine}
 use Rattle.parts_core.specs.declared.frames.FrameKind.{FrameKind}
+use Rattle.parts_core.specs.declared.frames.FrameKind.TheVariants.{Free}
 use Rattle.parts_core.proofs.parts.Parts.show_held.Given as goal
 
 abbrev pub invariant-runs : goal.invariant-runs
@@ -11,6 +12,7 @@ invariant-runs l = record {
   ended : AreEndedBefore (taken_of (holding_of l.t l.self.buddy)) (l.slot * 2 ^ l.self.order + l.at);
   told : (m : Machine) (k : ℕ) (cell : FrameKind) → ShowsMachine l.self l.t m → k < l.most → k < l.at
       → slice_get l.cells k ≡ Some cell → IsFrame l.self.order m (l.slot * 2 ^ l.self.order + k) cell;
+  free : (k : ℕ) (cell : FrameKind) → l.at ≤ k → k < l.most → slice_get l.cells k ≡ Some cell → cell ≡ Free;
 }
 
 abbrev pub decreases-runs : goal.decreases-runs
