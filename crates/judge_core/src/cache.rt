@@ -164,8 +164,8 @@ impl HeldCache {
         }
     }
 
-    /// The live objects of the slab that has the place.
-    fn beside(&self, place: u32) -> &[u32]
+    /// The live objects of the slab that has the place, rising.
+    pub fn beside(&self, place: u32) -> &[u32]
         ensures { result.now ≡ live_beside self.now place }
     {
         let slab = self.slab_around(place);

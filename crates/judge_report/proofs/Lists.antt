@@ -1,20 +1,11 @@
 -- Lists, one item at a time.
-use Rattle.std.proofs.Common.{◌≡◌, ℕ, suc, ◌+◌, ◌-◌, ◌<◌, Bool, true, false, ◌&&◌, List, [], ◌∷◌, ◌==◌, Option, Some, None, refl, ap, sym, arith}
-use Rattle.std.specs.Prelude.{if◌then◌else◌, find, filter, unwrap_or, slice_index}
+use Rattle.std.proofs.Common.{◌≡◌, ℕ, suc, ◌+◌, ◌-◌, ◌<◌, ◌≤◌, Bool, true, false, not, ◌&&◌, List, [], ◌∷◌, length, filter, take, length-take, get_or, cond, ◌==◌, Option, Some, None, refl, ap, ◌∙◌, sym, arith}
 use Rattle.std.specs.List.{list_all, range_with_len}
+use Rattle.std.specs.Int.{from_bool}
 use Rattle.std.specs.Option.{option_eq}
+use Rattle.std.proofs.lemmas.List.Filters.{length-filter_both, length-filter_more}
 use Rattle.std.proofs.lemmas.Bool.{eqb-true}
 use Rattle.model_core.specs.Reports.{split_share}
-
--- the first that passes, found and filtered
-pub first_found : (p : ℕ → Bool) (xs : List ℕ) → unwrap_or (find p xs) 0 ≡ slice_index (filter p xs) 0
-first_found p [] = refl
-first_found p (x ∷ xs) = go (p x) (first_found p xs)
-  where
-    go : (t : Bool) → unwrap_or (find p xs) 0 ≡ slice_index (filter p xs) 0
-        → unwrap_or (if t then Some x else find p xs) 0 ≡ slice_index (if t then x ∷ filter p xs else filter p xs) 0
-    go true rest = refl
-    go false rest = rest
 
 -- all numbers from k to below n, the first of them and the others
 pub all_from : (p : ℕ → Bool) (k n : ℕ) → k < n
@@ -44,3 +35,24 @@ same_share (Some i) (Some j) free split = go (i == j) refl
     go : (t : Bool) → (i == j) ≡ t → (t && split == split_share free (Some j)) ≡ (t && split == split_share free (Some i))
     go true e = ap (λ k. split == split_share free (Some k)) (sym (eqb-true i j e))
     go false e = refl
+
+-- one more is counted if it passes
+pub one_more : (p : ℕ → Bool) (xs : List ℕ) (i n more : ℕ) (b : Bool) → i < length xs → n ≡ length (filter p (take i xs)) → b ≡ p (get_or xs i 0)
+    → more ≡ from_bool b → n + more ≡ length (filter p (take (i + 1) xs))
+one_more p xs i n more b there is test bit =
+    ap (λ (m : ℕ). n + m) (bit ∙ number b) ∙ ap (λ (m : ℕ). m + cond b 1 0) is
+    ∙ ap (λ (t : Bool). length (filter p (take i xs)) + cond t 1 0) test ∙ sym (length-filter_more p xs i 0 there)
+  where
+    number : (t : Bool) → from_bool t ≡ cond t 1 0
+    number true = refl
+    number false = refl
+
+-- no more are counted than there are
+pub count_within : (p : ℕ → Bool) (xs : List ℕ) (i n more : ℕ) (b : Bool) → n ≡ length (filter p (take i xs)) → more ≡ from_bool b → n + more ≤ i + 1
+count_within p xs i n more b is bit =
+    let both = length-filter_both p (λ x. not (p x)) (λ x. refl) (take i xs) in
+    omega (arith, is, bit, both, length-take i xs, bound b)
+  where
+    bound : (t : Bool) → from_bool t ≤ 1
+    bound true = omega arith
+    bound false = omega arith

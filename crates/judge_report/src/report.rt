@@ -152,8 +152,8 @@ fn are_all_taken(held: &Held, order: u8, rows: &[CacheRow], taken: &[u32]) -> bo
     (0..order + 1).all(|k| are_taken(held, rows, k, count_at(taken, k)))
 }
 
-/// Whether so many free blocks of each order can stand, beside those of greater orders. The held slots are looked at once for all
-/// orders.
+/// Whether the reported free blocks of each order can exist, beside those of greater orders. One pass over the held slots counts the
+/// vacant blocks of all orders.
 #[tactic(auto, using(crate::proofs::Lists::all_from))]
 fn have_room(held: &Held, order: u8, free: &[u32]) -> bool
     requires order { order ≤ MOST_ORDER }
@@ -170,8 +170,7 @@ fn have_room(held: &Held, order: u8, free: &[u32]) -> bool
     true
 }
 
-/// Whether blocks of order `k` and of greater orders can stand, of which these are the numbers, where so many blocks of order `k` are
-/// vacant.
+/// Whether the free blocks of order `k` and of greater orders can exist, given the number of vacant blocks of order `k`.
 fn has_room(held: &Held, order: u8, k: u8, free: &[u32], vacant: u128) -> bool
     requires short { length free.now ≤ ORDERS }
     requires vacant { vacant ≡ length (vacant_blocks order held.now k) }

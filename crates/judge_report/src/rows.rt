@@ -44,54 +44,79 @@ fn has_slabs(cache: &HeldCache, row: &CacheRow) -> bool
     ensures { result ≡ (row.now.full == count_slabs (is_slab_full cache.now) cache.now
         && row.now.partial == count_slabs (λ p. not (is_slab_full cache.now p)) cache.now) }
 {
-    row.full as usize == count_full(cache) && row.partial as usize == count_partial(cache)
+    let (full, partial) = count_slabs(cache);
+    row.full as usize == full && row.partial as usize == partial
 }
 
-/// How many slabs have live objects alone.
-fn count_full(cache: &HeldCache) -> usize
-    ensures { result ≡ count_slabs (is_slab_full cache.now) cache.now }
+/// How many slabs have live objects alone, and how many have both live objects and others.
+fn count_slabs(cache: &HeldCache) -> (usize, usize)
+    ensures full { result.0 ≡ count_slabs (is_slab_full cache.now) cache.now }
+    ensures partial { result.1 ≡ count_slabs (λ p. not (is_slab_full cache.now p)) cache.now }
 {
-    cache
-        .live()
-        .iter()
-        .filter(|place| is_first(cache, **place) && cache.is_slab_full(**place))
-        .count()
+    let mut full = 0usize;
+    let mut partial = 0usize;
+    let mut slab = Slab::of(cache, 0);
+    for place in cache.live() {
+        slab = slab.at(cache, *place);
+        full += usize::from(slab.is_full_from(*place));
+        partial += usize::from(slab.is_partial_from(*place));
+    }
+    (full, partial)
 }
 
-/// How many slabs have both live objects and others.
-fn count_partial(cache: &HeldCache) -> usize
-    ensures { result ≡ count_slabs (λ p. not (is_slab_full cache.now p)) cache.now }
-{
-    cache
-        .live()
-        .iter()
-        .filter(|place| is_first(cache, **place) && !cache.is_slab_full(**place))
-        .count()
+/// A slab of a cache. Live objects of one slab lie side by side, so it is looked up once for all of them.
+#[derive(Clone, Copy)]
+struct Slab {
+    /// Its first frame.
+    begin: u32,
+    /// Its first live object, 0 if it has none.
+    first: u32,
+    /// Whether all its objects are live.
+    is_full: bool,
 }
 
-/// Whether the first live object of the slab that has the place begins there.
-fn is_first(cache: &HeldCache, place: u32) -> bool
-    ensures { result ≡ (slice_index (live_beside cache.now place) 0 == place) }
-{
-    first_beside(cache, place) == place
-}
+impl Slab {
+    ghost use Rattle.judge_report.specs.Slabs.{IsSlabOf};
 
-/// Where the first live object of that slab begins, 0 where it has none.
-fn first_beside(cache: &HeldCache, place: u32) -> u32
-    ensures { result ≡ slice_index (live_beside cache.now place) 0 }
-{
-    find_beside(cache, place).unwrap_or(0)
-}
+    /// The slab that has the place.
+    fn of(cache: &HeldCache, place: u32) -> Slab
+        ensures begin { result.begin ≡ (slab_around cache.now place).first }
+        ensures slab { IsSlabOf cache.now result }
+    {
+        let beside = cache.beside(place);
+        Slab {
+            begin: cache.slab_around(place).first(),
+            first: beside.first().copied().unwrap_or(0),
+            is_full: beside.len() == cache.count() as usize,
+        }
+    }
 
-fn find_beside(cache: &HeldCache, place: u32) -> Option<u32>
-    ensures { result ≡ find (λ p. (slab_around cache.now p).first == (slab_around cache.now place).first) cache.now.live }
-{
-    let first = cache.slab_around(place).first();
-    cache
-        .live()
-        .iter()
-        .copied()
-        .find(|p| cache.slab_around(*p).first() == first)
+    /// Whether its first live object is at the place, and all its objects are live.
+    fn is_full_from(self, place: u32) -> bool
+        ensures { result ≡ (self.first == place && self.is_full) }
+    {
+        self.first == place && self.is_full
+    }
+
+    /// Whether its first live object is at the place, and not all its objects are live.
+    fn is_partial_from(self, place: u32) -> bool
+        ensures { result ≡ (self.first == place && not self.is_full) }
+    {
+        self.first == place && !self.is_full
+    }
+
+    /// The slab that has the place: this one, or another.
+    fn at(self, cache: &HeldCache, place: u32) -> Slab
+        requires { IsSlabOf cache.now self }
+        ensures begin { result.begin ≡ (slab_around cache.now place).first }
+        ensures slab { IsSlabOf cache.now result }
+    {
+        if cache.slab_around(place).first() == self.begin {
+            self
+        } else {
+            Slab::of(cache, place)
+        }
+    }
 }
 
 /// The mark of this number, false where there is none.
