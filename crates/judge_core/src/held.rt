@@ -17,6 +17,7 @@ use crate::block::FrameBlock;
 use crate::cache::HeldCache;
 use crate::holder::RangeHolder;
 use crate::rising::pages_before;
+use crate::vacancy::count_clear;
 use model_core::limits::{FRAME_BYTES, MOST_CACHES};
 use std::marker::Model;
 
@@ -192,7 +193,7 @@ impl Held {
             return self.count_vacant_from(k, u32::from(slot) * blocks, blocks);
         }
         let taken = self.taken_in(&FrameBlock::of_slot(order, slot));
-        self.count_clear(&taken, order, k, slot)
+        count_clear(&taken, 1 << order) as u32
     }
 
     /// How many of so many blocks of `2^k` frames from the one of number `begin` on have no taken frame.

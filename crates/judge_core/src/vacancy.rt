@@ -1,6 +1,6 @@
 //! Which frames of a slot are taken, found once for all blocks of the slot.
 
-ghost use Rattle.std.specs.Prelude.{◌≡◌, ℕ, ◌+◌, ◌*◌, ◌^◌, ◌<◌, ◌≤◌, not, ◌||◌, false, length, filter, slice_index, slice_index_or, slice_range};
+ghost use Rattle.std.specs.Prelude.{◌≡◌, ℕ, ◌+◌, ◌*◌, ◌^◌, ◌<◌, ◌≤◌, not, ◌||◌, false, length, filter, slice_index, slice_index_or, take};
 ghost use Rattle.std.specs.List.{list_any};
 ghost use Rattle.model_core.specs.declared.limits.TheConstants.{MOST_ORDER};
 ghost use Rattle.model_core.specs.Blocks.{block};
@@ -32,33 +32,6 @@ impl Held {
         taken
     }
 
-    /// How many aligned blocks of `2^k` frames of a slot of `2^order` have no taken frame, where these of its frames are taken. The
-    /// slot is named for the contract alone.
-    pub(crate) fn count_clear(
-        &self,
-        taken: &[bool; MOST_FRAMES],
-        order: u8,
-        k: u8,
-        slot: u16,
-    ) -> u32
-        requires order { order ≤ MOST_ORDER }
-        requires k { k ≤ order }
-        requires taken { (f : ℕ) → f < 2 ^ order
-            → slice_index_or taken.now f false ≡ not (is_vacant self.now (block (slot * 2 ^ order + f) 0)) }
-        ensures value { result ≡ length (filter (is_vacant self.now) (blocks_of_slot order k slot)) }
-        ensures most { result ≤ 256 }
-    {
-        let _ = slot;
-        let frames = 1u32 << k;
-        let mut count = 0u32;
-        for i in 0..1u32 << (order - k) {
-            if !is_some_taken(taken, (i * frames) as usize, frames as usize) {
-                count += 1;
-            }
-        }
-        count
-    }
-
     /// [`Held::count_vacant`] of each order from 0 to that of a slot, in one pass over the slots.
     pub fn vacant_by_order(&self, order: u8) -> [u128; ORDERS]
         requires { order ≤ MOST_ORDER }
@@ -80,10 +53,33 @@ impl Held {
             → slice_index counts.new k ≡ slice_index counts.old k + length (filter (is_vacant self.now) (blocks_of_slot order k slot)) }
         ensures most { (k : ℕ) → slice_index counts.new k ≤ slice_index counts.old k + 256 }
     {
-        let taken = self.taken_in(&FrameBlock::of_slot(order, slot));
+        let mut taken = self.taken_in(&FrameBlock::of_slot(order, slot));
         for k in 0..order + 1 {
-            counts[k as usize] += u128::from(self.count_clear(&taken, order, k, slot));
+            let blocks = 1usize << (order - k);
+            counts[k as usize] += count_clear(&taken, blocks) as u128;
+            // now each mark is that of a block of the next order
+            join_pairs(&mut taken, blocks / 2);
         }
+    }
+}
+
+/// How many of the first `blocks` marks are not set.
+pub(crate) fn count_clear(taken: &[bool; MOST_FRAMES], blocks: usize) -> usize
+    requires { blocks ≤ 256 }
+    ensures value { result ≡ length (filter not (take blocks taken.now)) }
+    ensures most { result ≤ 256 }
+{
+    taken[..blocks].iter().filter(|mark| !**mark).count()
+}
+
+/// Makes each mark `i` of the first `pairs` tell whether one of the marks `2 * i` and `2 * i + 1` was set.
+fn join_pairs(taken: &mut [bool; MOST_FRAMES], pairs: usize)
+    requires { pairs ≤ 128 }
+    ensures { (i : ℕ) → i < pairs → slice_index_or taken.new i false
+        ≡ (slice_index_or taken.old (2 * i) false || slice_index_or taken.old (2 * i + 1) false) }
+{
+    for i in 0..pairs {
+        taken[i] = taken[2 * i] || taken[2 * i + 1];
     }
 }
 
@@ -141,12 +137,4 @@ fn mark(taken: &mut [bool; MOST_FRAMES], slot: &FrameBlock, other: &FrameBlock)
     for f in from..to {
         taken[f as usize] = true;
     }
-}
-
-/// Whether a frame is taken of those from `from` on, `frames` in number.
-fn is_some_taken(taken: &[bool; MOST_FRAMES], from: usize, frames: usize) -> bool
-    requires { from + frames ≤ 256 }
-    ensures { result ≡ list_any (λ t. t) (slice_range taken.now from (from + frames)) }
-{
-    taken[from..from + frames].iter().any(|frame| *frame)
 }

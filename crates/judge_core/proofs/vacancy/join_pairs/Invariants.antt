@@ -1,0 +1,11 @@
+use Rattle.std.proofs.Common.{◌≡◌, ℕ, ◌+◌, ◌*◌, ◌<◌, ◌≤◌, false, length, slice_index_or}
+use Rattle.std.specs.Prelude.{◌||◌}
+use Rattle.judge_core.proofs.vacancy.join_pairs.Given as goal
+
+-- the marks so far are joined, and no later one has changed
+abbrev pub invariant-loop-i : goal.invariant-loop-i
+invariant-loop-i l = record {
+  long : length l.taken ≡ 256;
+  joined : (j : ℕ) → j < l.i → slice_index_or l.taken j false ≡ (slice_index_or l.fn.taken (2 * j) false || slice_index_or l.fn.taken (2 * j + 1) false);
+  kept : (j : ℕ) → l.i ≤ j → slice_index_or l.taken j false ≡ slice_index_or l.fn.taken j false;
+}
