@@ -1,6 +1,6 @@
 //! A report's rows of the caches.
 
-ghost use Rattle.std.specs.Prelude.{◌≡◌, ℕ, ◌+◌, ◌*◌, ◌^◌, ◌≤◌, ◌<◌, ◌==◌, ◌&&◌, ◌||◌, not, length, filter, find, slice_index, slice_index_or, false};
+ghost use Rattle.std.specs.Prelude.{◌≡◌, ℕ, ◌+◌, ◌*◌, ◌^◌, ◌≤◌, ◌<◌, ◌==◌, ◌&&◌, ◌||◌, not, length, filter, slice_index, slice_index_or, false};
 ghost use Rattle.std.specs.List.{list_all, zip};
 ghost use Rattle.promise_core.specs.Holdings.{slab_around, live_beside, is_slab_full};
 ghost use Rattle.promise_core.specs.Promises.{count_slabs, is_row};
@@ -53,9 +53,12 @@ fn count_slabs(cache: &HeldCache) -> (usize, usize)
     ensures full { result.0 ≡ count_slabs (is_slab_full cache.now) cache.now }
     ensures partial { result.1 ≡ count_slabs (λ p. not (is_slab_full cache.now p)) cache.now }
 {
+    let Some(first) = cache.live().first() else {
+        return (0, 0);
+    };
+    let mut slab = Slab::of(cache, *first);
     let mut full = 0usize;
     let mut partial = 0usize;
-    let mut slab = Slab::of(cache, 0);
     for place in cache.live() {
         slab = slab.at(cache, *place);
         full += usize::from(slab.is_full_from(*place));
