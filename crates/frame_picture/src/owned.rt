@@ -6,7 +6,7 @@ ghost use Rattle.frame_picture.specs.Owned.{IsOwn};
 
 use crate::history::Sheet;
 
-/// So many sheets of a tenant are listed.
+/// At most so many sheets of a tenant are listed.
 pub const MOST_LISTED: usize = 256;
 
 /// The indices of a tenant's sheets in a column, found once for all rows.

@@ -109,7 +109,7 @@ fn keep_piece<D: Drain>(
     Ok(())
 }
 
-/// Runs the lines at the front of a piece that are read the short way, where no beginning of a line is pending, and answers the
+/// Runs the lines at the front of a piece that are read the short way, where no beginning of a line is pending, and returns the
 /// rest of the piece.
 fn begin_piece<'a, D: Drain>(
     piece: &'a [u8],
