@@ -10,7 +10,7 @@ use std::fmt;
 use words_core::LineFault;
 
 /// How many faulty lines are noted.
-const MOST_FAULTS: usize = 10;
+pub(crate) const MOST_FAULTS: usize = 10;
 
 /// How many bytes of one are.
 const MOST_SHOWN: usize = 32;

@@ -5,7 +5,7 @@ use std::fmt;
 use words_core::Refusal;
 
 /// All refusals, by rising number, from 1 on.
-const REFUSALS: [Refusal; 15] = [
+pub(crate) const REFUSALS: [Refusal; 15] = [
     Refusal::NoFrames,
     Refusal::BadOrder,
     Refusal::NotABlock,

@@ -1,9 +1,10 @@
-//! The notes beside those that were taken before lines were read in place: the same for any text, cut in any way.
+//! The notes beside those that were taken before lines were read in place, by code that is kept here: the same for any text, cut in
+//! any way.
 
 ghost use Rattle.std.specs.Prelude.{◌<◌};
 
-use crate::faults::{FaultNotes, FaultyLine};
-use crate::refusals::{MOST_NUMBER, RefusalNotes};
+use crate::faults::{FaultNotes, FaultyLine, MOST_FAULTS};
+use crate::refusals::{REFUSALS, RefusalNotes, refusal_in};
 use replay_core::Pending;
 use std::alloc::{AllocError, Global};
 use std::process::Abort;
@@ -42,52 +43,75 @@ const PARTS: [&[u8]; 24] = [
 struct FaultsBefore {
     lines: u64,
     pending: Pending,
-    first: Vec<FaultyLine>,
+    first: [Option<FaultyLine>; MOST_FAULTS],
 }
 
 impl FaultsBefore {
-    fn add(&mut self, piece: &[u8]) -> Result<(), AllocError> {
-        if self.first.len() >= 10 {
-            return Ok(());
+    fn new() -> FaultsBefore {
+        FaultsBefore {
+            lines: 0,
+            pending: Pending::new(),
+            first: [None; MOST_FAULTS],
+        }
+    }
+
+    fn add(&mut self, piece: &[u8]) {
+        if self.first[MOST_FAULTS - 1].is_some() {
+            return;
         }
         for part in piece.split_inclusive(|byte| *byte == b'\n') {
             match part {
-                [line @ .., b'\n'] => self.end_line(line)?,
+                [line @ .., b'\n'] => self.end_line(line),
                 unended => self.pending.add(unended),
             }
         }
-        Ok(())
     }
 
-    fn end(&mut self) -> Result<(), AllocError> {
+    fn end(&mut self) {
         if !self.pending.is_empty() {
-            self.end_line(&[])?;
+            self.end_line(&[]);
         }
-        Ok(())
     }
 
-    fn end_line(&mut self, bytes: &[u8]) -> Result<(), AllocError> {
+    fn first(&self) -> &[Option<FaultyLine>] {
+        &self.first
+    }
+
+    fn end_line(&mut self, bytes: &[u8]) {
         self.lines = self.lines.saturating_add(1);
         self.pending.add(bytes);
         if let Err(fault) = self.pending.reading() {
             let line = FaultyLine::new(self.lines, fault, self.pending.held.as_slice());
-            if self.first.len() < 10 {
-                self.first.push(line)?;
-            }
+            self.note(line);
         }
         self.pending = Pending::new();
-        Ok(())
+    }
+
+    fn note(&mut self, line: FaultyLine) {
+        for place in &mut self.first {
+            if place.is_none() {
+                *place = Some(line);
+                return;
+            }
+        }
     }
 }
 
-/// The notes of refusals, as they were: how often each came, indexed by number.
+/// The notes of refusals, as they were.
 #[derive(Drop)]
 struct RefusalsBefore {
     pending: Pending,
-    times: [u64; 100],
+    times: [u64; REFUSALS.len()],
 }
 
 impl RefusalsBefore {
+    fn new() -> RefusalsBefore {
+        RefusalsBefore {
+            pending: Pending::new(),
+            times: [0; REFUSALS.len()],
+        }
+    }
+
     fn add(&mut self, piece: &[u8]) {
         for part in piece.split_inclusive(|byte| *byte == b'\n') {
             match part {
@@ -99,10 +123,12 @@ impl RefusalsBefore {
 
     fn end_line(&mut self, bytes: &[u8]) {
         self.pending.add(bytes);
-        if let Some(number) = crate::refusals::refusal_in(self.pending.held.as_slice())
-            && let Some(times) = self.times.get_mut(usize::from(number))
-        {
-            *times = times.saturating_add(1);
+        if let Some(number) = refusal_in(self.pending.held.as_slice()) {
+            for (refusal, times) in REFUSALS.iter().zip(&mut self.times) {
+                if refusal.number() == number {
+                    *times = times.saturating_add(1);
+                }
+            }
         }
         self.pending = Pending::new();
     }
@@ -133,31 +159,24 @@ fn compare(rt: &(impl Abort + AllocGlobal), text: &[u8], piece: usize) -> Result
     let alloc = rt.alloc();
     let mut faults = FaultNotes::new();
     let mut refusals = RefusalNotes::new();
-    let mut faults_before = FaultsBefore {
-        lines: 0,
-        pending: Pending::new(),
-        first: Vec::new(alloc),
-    };
-    let mut refusals_before = RefusalsBefore {
-        pending: Pending::new(),
-        times: [0; 100],
-    };
+    let mut faults_before = FaultsBefore::new();
+    let mut refusals_before = RefusalsBefore::new();
     for part in text.chunks(piece) {
         faults.add(part);
         refusals.add(part);
-        faults_before.add(part)?;
+        faults_before.add(part);
         refusals_before.add(part);
     }
     faults.end();
-    faults_before.end()?;
+    faults_before.end();
     for (at, line) in faults.first().iter().enumerate() {
         let now = match line {
             Some(line) => format!(in alloc; "{line}")?,
             None => format!(in alloc; "")?,
         };
-        let before = match faults_before.first.get(at) {
-            Some(line) => format!(in alloc; "{line}")?,
-            None => format!(in alloc; "")?,
+        let before = match faults_before.first().get(at) {
+            Some(Some(line)) => format!(in alloc; "{line}")?,
+            _ => format!(in alloc; "")?,
         };
         assert!(rt;
             now.as_str() == before.as_str(),
@@ -172,8 +191,8 @@ fn compare_refusals(
     now: &RefusalNotes,
     before: &RefusalsBefore,
 ) -> Result<(), AllocError> {
-    for number in 1..=MOST_NUMBER {
-        let times = before.times.get(usize::from(number)).copied().unwrap_or(0);
+    for (refusal, times) in REFUSALS.iter().zip(&before.times) {
+        let number = refusal.number();
         let end = format!(in rt.alloc(); ": {times}")?;
         match now.told(number) {
             Some(refused) => {
@@ -183,7 +202,7 @@ fn compare_refusals(
                     "{text}, and before {times}"
                 );
             }
-            None => assert!(rt; times == 0, "refusal {number}"),
+            None => assert!(rt; *times == 0, "refusal {number}"),
         }
     }
     Ok(())
