@@ -1,8 +1,10 @@
 -- Rising lists: what is known of a test that changes once, or twice, along a list.
-use Rattle.std.proofs.Common.{◌≡◌, ℕ, zero, suc, ◌+◌, ◌-◌, ◌<◌, ◌≤◌, Bool, true, false, List, [], ◌∷◌, ◌++◌, length, get_or, take, drop, cond, Some, None, refl, ap, ◌∙◌, arith}
+use Rattle.std.proofs.Common.{◌≡◌, ℕ, zero, suc, ◌+◌, ◌-◌, ◌<◌, ◌≤◌, Bool, true, false, List, [], ◌∷◌, ◌++◌, length, get_or, take, drop, cond, Some, None, inl, inr, refl, ap, ◌∙◌, subst, arith, length-take, length-drop}
 use Rattle.std.specs.Prelude.{◌||◌, filter, find}
-use Rattle.std.specs.List.{list_any, prefix_len, remove}
-use Rattle.std.proofs.lemmas.List.{length-take-le, drop-drop}
+use Rattle.std.specs.List.{AllWithin, list_any, prefix_len, remove}
+use Rattle.std.specs.List.Sorted.{IsPartitionPoint}
+use Rattle.std.proofs.lemmas.Bool.{cases_lt}
+use Rattle.std.proofs.lemmas.List.{length-take-le, drop-drop, get_or-take, get_or-drop}
 use Rattle.std.proofs.lemmas.List.Edits.{remove-append_right}
 
 -- it passes at `n` places from `low` on, and nowhere else
@@ -118,3 +120,34 @@ remove_next {X} xs b i le lt =
     let first : b - b ≡ 0 = omega arith in
     remove-append_right (take b xs) (drop i xs) b b (length-take-le b xs (omega arith)) (omega arith)
     ∙ (ap (λ (n : ℕ). take b xs ++ remove (drop i xs) n) first ∙ ap (λ (ys : List X). take b xs ++ ys) (drop-drop 1 i xs))
+
+-- the point of a list, from that of what is behind its first `begin`
+pub point_from : {X : Type 0} (P Q : X → Type 0) (xs : List X) (begin n : ℕ) → begin ≤ length xs → AllWithin P xs 0 begin
+    → IsPartitionPoint P Q (drop begin xs) n → IsPartitionPoint P Q xs (begin + n)
+point_from {X} P Q xs begin n inside before point = (front, back)
+  where
+    same : (k : ℕ) (d : X) → begin ≤ k → get_or (drop begin xs) (k - begin) d ≡ get_or xs k d
+    same k d le = get_or-drop begin xs (k - begin) d ∙ ap (λ m. get_or xs m d) (omega (arith, le))
+
+    front : (k : ℕ) (d : X) → 0 ≤ k → k < begin + n → P (get_or xs k d)
+    front k d from lt = elim (cases_lt k begin) [
+      | inl less ↦ before k d from less
+      | inr behind ↦ subst P (same k d behind) (point.0 (k - begin) d (omega arith) (omega (arith, lt, behind)))
+    ]
+
+    back : (k : ℕ) (d : X) → begin + n ≤ k → k < length xs → Q (get_or xs k d)
+    back k d from lt = subst Q (same k d (omega (arith, from))) (point.1 (k - begin) d (omega (arith, from)) (omega (arith, lt, from, length-drop begin xs)))
+
+-- and from that of its first `near`
+pub point_upto : {X : Type 0} (P Q : X → Type 0) (xs : List X) (near n : ℕ) → near ≤ length xs → AllWithin Q xs near (length xs) → n ≤ near
+    → IsPartitionPoint P Q (take near xs) n → IsPartitionPoint P Q xs n
+point_upto {X} P Q xs near n inside behind upto point = (front, back)
+  where
+    front : (k : ℕ) (d : X) → 0 ≤ k → k < n → P (get_or xs k d)
+    front k d from lt = subst P (get_or-take near xs k d (omega (arith, lt, upto))) (point.0 k d from lt)
+
+    back : (k : ℕ) (d : X) → n ≤ k → k < length xs → Q (get_or xs k d)
+    back k d from lt = elim (cases_lt k near) [
+      | inl less ↦ subst Q (get_or-take near xs k d less) (point.1 k d from (omega (arith, less, inside, length-take near xs)))
+      | inr past ↦ behind k d past lt
+    ]

@@ -15,7 +15,7 @@ ghost use Rattle.judge_core.specs.Inside.{IsToldLayout, IsObjectAt};
 
 use crate::block::FrameBlock;
 use crate::layout::ToldLayout;
-use crate::rising::{places_before, remove_range};
+use crate::rising::{places_before, places_before_from, remove_range};
 use arrayvec::ArrayVec;
 use model_core::limits::{FRAME_BYTES, MOST_PATTERN};
 use std::alloc::{AllocError, Global};
@@ -170,7 +170,7 @@ impl HeldCache {
     {
         let slab = self.slab_around(place);
         let begin = places_before(&self.live, slab.first_byte());
-        let end = places_before(&self.live, slab.end_byte());
+        let end = places_before_from(&self.live, begin, self.count as usize, slab.end_byte());
         &self.live[begin..end]
     }
 
@@ -316,7 +316,15 @@ impl HeldCache {
             && (list_all (are_apart self.now place) beside && is_any_below (λ i. nat_le (i * self.now.chunk) place
             && is_grid self.now (slab_around self.now place) (place - i * self.now.chunk) beside) self.now.count)) }
     {
-        let beside = self.beside(place);
+        self.has_gap_among(place, self.beside(place))
+    }
+
+    /// [`HeldCache::has_gap`], where these are the live objects of that slab.
+    pub(crate) fn has_gap_among(&self, place: u32, beside: &[u32]) -> bool
+        ensures { result ≡ (nat_lt (length beside.now) self.now.count
+            && (list_all (are_apart self.now place) beside.now && is_any_below (λ i. nat_le (i * self.now.chunk) place
+            && is_grid self.now (slab_around self.now place) (place - i * self.now.chunk) beside.now) self.now.count)) }
+    {
         beside.len() < self.count as usize
             && self.is_apart(place, beside)
             && self.is_on_some_grid(place, beside)
@@ -366,6 +374,6 @@ fn drop_place(live: &mut Vec<u32>, place: u32)
     ensures { live.new.items ≡ filter (λ p. not (p == place)) live.old.items }
 {
     let begin = places_before(live, u64::from(place));
-    let end = places_before(live, u64::from(place) + 1);
+    let end = places_before_from(live, begin, 1, u64::from(place) + 1);
     remove_range(live, begin, end);
 }

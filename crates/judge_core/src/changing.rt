@@ -7,7 +7,7 @@ ghost use Rattle.promise_core.specs.Holdings.{with_live_places};
 use crate::block::FrameBlock;
 use crate::cache::HeldCache;
 use crate::held::{Held, index_of_cache};
-use crate::rising::{pages_before, remove_range};
+use crate::rising::{pages_before, pages_before_from, remove_range};
 
 impl Held {
     /// The page block that begins at the frame is freed.
@@ -56,7 +56,7 @@ fn drop_page(pages: &mut Vec<FrameBlock>, frame: u32)
     ensures { pages.new.items ≡ filter (λ b. not (b.first == frame)) pages.old.items }
 {
     let begin = pages_before(pages, u64::from(frame));
-    let end = pages_before(pages, u64::from(frame) + 1);
+    let end = pages_before_from(pages, begin, 1, u64::from(frame) + 1);
     remove_range(pages, begin, end);
 }
 

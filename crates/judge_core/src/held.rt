@@ -16,7 +16,7 @@ ghost use Rattle.promise_core.specs.Holdings.{blocks_of_slot, vacant_blocks, has
 use crate::block::FrameBlock;
 use crate::cache::HeldCache;
 use crate::holder::RangeHolder;
-use crate::rising::pages_before;
+use crate::rising::{pages_before, pages_before_from};
 use crate::vacancy::count_clear;
 use model_core::limits::{FRAME_BYTES, MOST_CACHES};
 use std::marker::Model;
@@ -142,7 +142,7 @@ impl Held {
         // those before do not reach the frame
         let first = begin.saturating_sub((1u64 << self.longest) - 1);
         let low = pages_before(&self.pages, first);
-        let high = pages_before(&self.pages, end);
+        let high = pages_before_from(&self.pages, low, (end - first) as usize, end);
         &self.pages[low..high]
     }
 
@@ -240,9 +240,10 @@ impl Held {
         requires { order ≤ MOST_ORDER }
         ensures { result ≡ can_be_taken order self.now cache.now place }
     {
+        let beside = cache.beside(place);
         cache.is_aligned(place)
-            && (cache.count_beside(place) > 0 || self.can_stand(order, &cache.slab_around(place)))
-            && cache.has_gap(place)
+            && (!beside.is_empty() || self.can_stand(order, &cache.slab_around(place)))
+            && cache.has_gap_among(place, beside)
     }
 
     /// What has the `len` bytes from a place on, at least one: a live page block, or a live object.

@@ -11,14 +11,14 @@ pub returns : goal.returns
 returns c = λ test tells.
     let pages = c.self.inside.pages.items in
     let i = c.pages_before-low.result in
-    let j = c.pages_before-high.result in
+    let j = c.pages_before_from-high.result in
     let a = c.saturating_sub-first.result in
     let one = subst (λ (xs : List Block). IsPartitionPoint (λ (b : Block). b.first < a) (λ (b : Block). a ≤ b.first) xs i)
     c.deref.ensures.value c.pages_before-low.ensures.point in
     let two = subst (λ (xs : List Block). IsPartitionPoint (λ (b : Block). b.first < c.args.end) (λ (b : Block). c.args.end ≤ b.first) xs j)
-    c.deref-2.ensures.value c.pages_before-high.ensures.point in
+    c.deref-2.ensures.value c.pages_before_from-high.ensures.point in
     let low = subst (λ (xs : List Block). i ≤ length xs) c.deref.ensures.value c.pages_before-low.ensures.inside in
-    let high = subst (λ (xs : List Block). j ≤ length xs) c.deref-2.ensures.value c.pages_before-high.ensures.inside in
+    let high = subst (λ (xs : List Block). j ≤ length xs) c.deref-2.ensures.value c.pages_before_from-high.ensures.inside in
     let size = one_shl c.self.inside.longest 64 (omega (arith, c.self.invariant.1.most)) in
     let is_a : a ≡ c.args.begin + 1 - 2 ^ c.self.inside.longest = omega (arith, c.saturating_sub-first.ensures, size, pow_pos c.self.inside.longest) in
     let order : i ≤ j = pages_rise pages a c.args.end i j (omega (arith, is_a, c.requires.order, pow_pos c.self.inside.longest)) low one two in
@@ -30,12 +30,12 @@ pub slice_bounds-result-count : goal.slice_bounds-result-count
 slice_bounds-result-count c =
     let pages = c.self.inside.pages.items in
     let i = c.pages_before-low.result in
-    let j = c.pages_before-high.result in
+    let j = c.pages_before_from-high.result in
     let a = c.saturating_sub-first.result in
     let one = subst (λ (xs : List Block). IsPartitionPoint (λ (b : Block). b.first < a) (λ (b : Block). a ≤ b.first) xs i)
     c.deref.ensures.value c.pages_before-low.ensures.point in
     let two = subst (λ (xs : List Block). IsPartitionPoint (λ (b : Block). b.first < c.args.end) (λ (b : Block). c.args.end ≤ b.first) xs j)
-    c.deref-2.ensures.value c.pages_before-high.ensures.point in
+    c.deref-2.ensures.value c.pages_before_from-high.ensures.point in
     let low = subst (λ (xs : List Block). i ≤ length xs) c.deref.ensures.value c.pages_before-low.ensures.inside in
     pages_rise pages a c.args.end i j (omega (arith, c.saturating_sub-first.ensures, c.requires.order)) low one two
 
@@ -43,12 +43,12 @@ pub slice_bounds-result-start : goal.slice_bounds-result-start
 slice_bounds-result-start c =
     let pages = c.self.inside.pages.items in
     let i = c.pages_before-low.result in
-    let j = c.pages_before-high.result in
+    let j = c.pages_before_from-high.result in
     let a = c.saturating_sub-first.result in
     let one = subst (λ (xs : List Block). IsPartitionPoint (λ (b : Block). b.first < a) (λ (b : Block). a ≤ b.first) xs i)
     c.deref.ensures.value c.pages_before-low.ensures.point in
     let two = subst (λ (xs : List Block). IsPartitionPoint (λ (b : Block). b.first < c.args.end) (λ (b : Block). c.args.end ≤ b.first) xs j)
-    c.deref-2.ensures.value c.pages_before-high.ensures.point in
+    c.deref-2.ensures.value c.pages_before_from-high.ensures.point in
     let low = subst (λ (xs : List Block). i ≤ length xs) c.deref.ensures.value c.pages_before-low.ensures.inside in
     let order : i ≤ j = pages_rise pages a c.args.end i j (omega (arith, c.saturating_sub-first.ensures, c.requires.order)) low one two in
     search rules
