@@ -240,9 +240,11 @@ impl Held {
         requires { order ≤ MOST_ORDER }
         ensures { result ≡ can_be_taken order self.now cache.now place }
     {
+        if !cache.is_aligned(place) {
+            return false;
+        }
         let beside = cache.beside(place);
-        cache.is_aligned(place)
-            && (!beside.is_empty() || self.can_stand(order, &cache.slab_around(place)))
+        (!beside.is_empty() || self.can_stand(order, &cache.slab_around(place)))
             && cache.has_gap_among(place, beside)
     }
 

@@ -48,7 +48,7 @@ pub(crate) fn pages_before(pages: &[FrameBlock], frame: u64) -> usize
 }
 
 /// [`pages_before`], by a shorter search if the block of index `near` is there and is none of them.
-pub(crate) fn pages_before_near(pages: &[FrameBlock], near: usize, frame: u64) -> usize
+fn pages_before_near(pages: &[FrameBlock], near: usize, frame: u64) -> usize
     requires { IsNonDecreasingBy (λ b. b.first) pages.now }
     ensures inside { result ≤ length pages.now }
     ensures point { IsPartitionPoint (λ b. b.first < frame) (λ b. frame ≤ b.first) pages.now result }

@@ -57,7 +57,7 @@ impl Held {
         for k in 0..order + 1 {
             let blocks = 1usize << (order - k);
             counts[k as usize] += count_clear(&taken, blocks) as u128;
-            // now each mark is that of a block of the next order
+            // makes each mark that of a block of the next order
             join_pairs(&mut taken, blocks / 2);
         }
     }
