@@ -6,7 +6,7 @@ ghost use Rattle.frame_picture.specs.Owned.{IsOwn};
 
 use crate::history::Sheet;
 
-/// At most so many sheets of a tenant are listed.
+/// How many sheets of a tenant are listed at most.
 pub const MOST_LISTED: usize = 256;
 
 /// The indices of a tenant's sheets in a column, found once for all rows.

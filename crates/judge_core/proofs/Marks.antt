@@ -49,39 +49,23 @@ none_before c first x a at is_a from point inside = none_passes (has_over c x) (
         ap (has_over c x) is
         ∙ ends_before c (block x 0) (4096 * (x / 2 ^ c.order * 2 ^ c.order)) (get_or c.live k d) refl (omega (arith, before, low))
 
--- the next objects before the end of the slab of the one that they begin with
-module _ (c : ToldCache) (at n b d : ℕ) (there : at < length c.live)
-    (is_b : b ≡ 4096 * ((slab_around c (get_or c.live at d)).first + 2 ^ c.order)) (inside : n ≤ length (drop at c.live))
-    (point : IsPartitionPoint (λ p. p < b) (λ p. b ≤ p) (drop at c.live) n) where
-  pub some_near : 1 ≤ n
-  some_near = elim (cases_lt 0 n) [
-    | inl less ↦ less
-    | inr none ↦ absurd (
-        let behind = point.1 0 d none (omega (arith, length-drop at c.live, there)) in
-        let same : get_or (drop at c.live) 0 d ≡ get_or c.live at d = get_or-drop at c.live 0 d ∙ ap (λ k. get_or c.live k d) (omega arith) in
-        let in_slab = place_inside c.order (get_or c.live at d) in
-        omega (arith, behind, same, in_slab.1, is_b))
-  ]
-
-  pub near_inside : at + n ≤ length c.live
-  near_inside = omega (arith, inside, length-drop at c.live, there)
-
-  pub near_before : (j : ℕ) → at ≤ j → j < at + n → get_or c.live j d < b
-  near_before j from below =
-      let same : get_or (drop at c.live) (j - at) d ≡ get_or c.live j d =
-      get_or-drop at c.live (j - at) d ∙ ap (λ k. get_or c.live k d) (omega (arith, from)) in
-      let before = point.0 (j - at) d (omega (arith, from, below)) (omega (arith, from, below)) in
-      omega (arith, before, same)
-
 -- from an object on those before the end of its slab have the same slab
 module _ (c : ToldCache) (x at to b d : ℕ) (rise : IsNonDecreasing c.live) (there : at < length c.live) (inside : to ≤ length c.live)
-    (is_b : b ≡ 4096 * ((slab_around c (get_or c.live at d)).first + 2 ^ c.order)) (goes_on : at < to)
-    (before : (j : ℕ) → at ≤ j → j < to → get_or c.live j d < b) where
+    (is_b : b ≡ 4096 * ((slab_around c (get_or c.live at d)).first + 2 ^ c.order)) (point : IsPartitionPoint (λ p. p < b) (λ p. b ≤ p) c.live to) where
+  place : ℕ
+  place = get_or c.live at d
+
+  pub goes_on : at < to
+  goes_on = elim (cases_lt at to) [
+    | inl less ↦ less
+    | inr past ↦ absurd (let behind = point.1 at d past there in let in_slab = place_inside c.order (get_or c.live at d) in omega (arith, behind, in_slab.1, is_b))
+  ]
+
   same_slab : (j : ℕ) → at ≤ j → j < to → has_over c x (get_or c.live j d) ≡ has_over c x (get_or c.live at d)
   same_slab j from below =
       let q : ℕ = get_or c.live j d in
       let later : get_or c.live at d ≤ q = rise at j d from (omega (arith, below, inside)) in
-      let under : q < b = before j from below in
+      let under : q < b = point.0 j d (omega (arith, below, inside)) below in
       let in_slab = place_inside c.order (get_or c.live at d) in
       ap (λ n. overlaps (block x 0) (block n c.order)) (first_same c.order q (get_or c.live at d) (omega (arith, in_slab.0, later)) (omega (arith, under, is_b)))
 

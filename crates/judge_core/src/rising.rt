@@ -16,7 +16,7 @@ pub(crate) fn places_before(places: &[u32], place: u64) -> usize
 }
 
 /// [`places_before`], by a shorter search if the place of index `near` is there and is none of them.
-pub(crate) fn places_before_near(places: &[u32], near: usize, place: u64) -> usize
+fn places_before_near(places: &[u32], near: usize, place: u64) -> usize
     requires { IsNonDecreasing places.now }
     ensures inside { result ≤ length places.now }
     ensures point { IsPartitionPoint (λ p. p < place) (λ p. place ≤ p) places.now result }

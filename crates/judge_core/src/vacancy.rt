@@ -10,7 +10,7 @@ ghost use Rattle.promise_core.specs.Holdings.{is_vacant, slab_around, blocks_of_
 use crate::block::FrameBlock;
 use crate::cache::HeldCache;
 use crate::held::Held;
-use crate::rising::{places_before, places_before_near};
+use crate::rising::{places_before, places_before_from};
 
 /// No slot has more frames.
 const MOST_FRAMES: usize = 256;
@@ -121,7 +121,7 @@ impl HeldCache {
             }
             mark(taken, slot, &slab);
             // A slab of a sound machine has no more objects than `count`, so the first one behind it is near.
-            at += places_before_near(&live[at..], self.count() as usize, slab.end_byte());
+            at = places_before_from(live, at, self.count() as usize, slab.end_byte());
         }
     }
 }
