@@ -44,17 +44,18 @@ def turn(checkout, crate, words, seed):
 
 def compare(old, new, seed):
     """Prints a row for each workload of the new checkout: the medians of its turns in both, and the old one's over the new one's."""
+    rows = workloads(new)
     print(f'{TURNS} turns, seed {seed}: seconds, medians')
     print(f'{"workload":<12}{"old":>9}{"new":>9}{"old/new":>9}   least to most')
-    for name, crate, words in workloads(new):
-        times = {old: [], new: []}
+    for name, crate, words in rows:
+        times, printed = {old: [], new: []}, {}
         for at in range(TURNS):
-            sums = set()
             for checkout in ((old, new) if at % 2 == 0 else (new, old)):
                 seconds, its = turn(checkout, crate, words, seed)
                 times[checkout].append(seconds)
-                sums.add(its)
-            if len(sums) > 1:
+                if printed.setdefault(checkout, its) != its:
+                    sys.exit(f'bench/run: {name}: {checkout} does not print the same at each turn')
+            if printed[old] != printed[new]:
                 sys.exit(f'bench/run: {name}: the outputs differ')
         before, after = (statistics.median(times[checkout]) for checkout in (old, new))
         spread = ', '.join(f'{min(its):.3f} to {max(its):.3f}' for its in times.values())
