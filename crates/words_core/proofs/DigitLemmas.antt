@@ -1,8 +1,11 @@
 -- The text of a number, two digits at a time.
-use Rattle.std.proofs.Common.{◌≡◌, ℕ, ◌+◌, ◌*◌, ◌/◌, ◌%◌, ◌^◌, ◌<◌, ◌≤◌, List, [], ◌∷◌, ◌++◌, get_or, map, refl, sym, ◌∙◌, ap, arith, append_assoc}
+use Rattle.std.proofs.Common.{◌≡◌, ℕ, zero, suc, ◌+◌, ◌*◌, ◌/◌, ◌%◌, ◌^◌, ◌<◌, ◌≤◌, List, [], ◌∷◌, ◌++◌, get_or, length, take, drop, map, refl, sym, ◌∙◌, ap, arith, append_assoc, length-append}
+use Rattle.std.proofs.Math.Nat.{pow-suc, one-le-pow}
+use Rattle.std.proofs.Math.Seq.{take-append_seam}
+use Rattle.std.proofs.lemmas.List.{take-append-drop, length-take-le}
 use Rattle.std.specs.Fmt.{decimal}
 use Rattle.std.specs.List.{range_with_len}
-use Rattle.std.proofs.lemmas.Fmt.{decimal_digit, decimal_step}
+use Rattle.std.proofs.lemmas.Fmt.{decimal_digit, decimal_step, length-decimal-le}
 use Rattle.std.proofs.lemmas.List.FromFn.{get_or-map-range_with_len}
 use Rattle.words_core.specs.Digits.{two_digits, five_digits}
 use Rattle.words_core.specs.declared.window.TheConstants.{PAIRS}
@@ -65,3 +68,33 @@ put_more front n low high =
     rw (five_more n (omega arith) high, decimal_step (n / 10000) (omega arith) (omega arith), a, b, c, d) (simp append_assoc)
 
 pub ruleset digit_rules = (put_one, put_two, put_three, put_four, put_five, put_more)
+
+pub length_one : (n : ℕ) → n < 10 → 1 ≡ length (decimal n)
+length_one n high = sym (ap length (decimal_digit n high))
+
+-- with a first digit that is not 0
+pub length_more : (k n : ℕ) → 10 ^ k ≤ n → n < 10 ^ suc k → n < 2 ^ 64 → k + 1 ≡ length (decimal n)
+length_more zero n low high fits = length_one n (omega arith)
+length_more (suc k) n low high fits =
+    let power : 10 ^ suc k ≡ 10 ^ k * 10 = pow-suc 10 k in
+    let power_more : 10 ^ suc (suc k) ≡ 10 ^ suc k * 10 = pow-suc 10 (suc k) in
+    let step : length (decimal n) ≡ length (decimal (n / 10)) + 1 =
+    ap length (decimal_step n (omega (arith, one-le-pow k 10 (omega arith))) fits) ∙ length-append _ _ in
+    omega (arith, step, length_more k (n / 10) (omega arith) (omega arith) (omega arith))
+
+-- the digits go before their end
+pub written_before : (start at end : ℕ) (digits old new : List ℕ) → start + length digits ≡ end → at + length digits ≡ end → end ≤ length old
+    → take start new ≡ take start old → drop start new ≡ digits ++ drop end old → take end new ≡ take at old ++ digits
+written_before start at end digits old new starts ends within before written =
+    let same : start ≡ at = omega arith in
+    let front : length (take at old ++ digits) ≡ end =
+    length-append _ _ ∙ ap (λ n. n + length digits) (length-take-le at old (omega arith)) ∙ ends in
+    ap (take end) (sym (take-append-drop start new))
+    ∙ ap (λ front. take end (front ++ drop start new)) (before ∙ ap (λ n. take n old) same)
+    ∙ ap (λ behind. take end (take at old ++ behind)) written
+    ∙ ap (take end) (sym (append_assoc (take at old) digits _))
+    ∙ ap (λ n. take n ((take at old ++ digits) ++ drop end old)) (sym front)
+    ∙ take-append_seam _ _
+
+pub length_short : (n : ℕ) → n < 1000 → length (decimal n) ≤ 3
+length_short n small = length-decimal-le 3 n (omega arith) (omega arith) (omega arith)

@@ -10,7 +10,7 @@ use crate::event::LineFault;
 use crate::hex_digits::put_hex;
 use crate::numbers::MOST_DIGITS;
 use crate::reply::{Addressee, Body, Refusal};
-use crate::window::{put_figure, put_front, put_number, put_place, put_text, put_up_to_three};
+use crate::window::{put_front, put_number, put_place, put_short_number, put_text};
 use arrayvec::ArrayVec;
 use model_core::limits::MOST_BYTES;
 
@@ -222,11 +222,11 @@ pub fn write_answer(tenant: u8, answer: Answer<'_>, out: &mut [u8]) -> usize
     let end = match answer {
         Answer::Frame(frame) => {
             let at = put_front(tenant, b"0> frame        ", 9, out);
-            put_number(frame, at, out)
+            put_short_number(frame, at, out)
         }
         Answer::Freed(order) => {
             let at = put_front(tenant, b"0> freed        ", 9, out);
-            put_up_to_three(u32::from(order), at, out)
+            put_short_number(u32::from(order), at, out)
         }
         Answer::Bytes(bytes) => {
             let at = put_front(tenant, b"0> bytes        ", 9, out);
@@ -234,7 +234,7 @@ pub fn write_answer(tenant: u8, answer: Answer<'_>, out: &mut [u8]) -> usize
         }
         Answer::Written(count) => {
             let at = put_front(tenant, b"0> written      ", 11, out);
-            put_number(count, at, out)
+            put_short_number(count, at, out)
         }
         Answer::Object(place) => {
             let at = put_front(tenant, b"0> object       ", 10, out);
@@ -271,10 +271,11 @@ fn put_line(addressee: Addressee, answer: Answer<'_>, out: &mut [u8]) -> usize
     put_answer(answer, at, out)
 }
 
-/// Writes whom a line is for, and answers where it ends.
+/// Writes whom a line is for, and returns where that ends.
+#[tactic(auto, using(crate::proofs::DigitLemmas::length_short))]
 #[inline(always)]
 pub(crate) fn put_addressee(addressee: Addressee, out: &mut [u8]) -> usize
-    requires { MOST_FRONT_BYTES ≤ length out.old }
+    requires { SHORT_ANSWER_BYTES ≤ length out.old }
     ensures text { take result out.new ≡ addressee_text addressee }
     ensures short { result ≤ MOST_FRONT_BYTES }
 {
@@ -282,7 +283,7 @@ pub(crate) fn put_addressee(addressee: Addressee, out: &mut [u8]) -> usize
         Addressee::Admin => put_text(b"admin> ", 0, out),
         Addressee::Nobody => put_text(b"!> ", 0, out),
         Addressee::Tenant(tenant) => {
-            let at = put_up_to_three(u32::from(tenant), 0, out);
+            let at = put_number(u32::from(tenant), 0, out);
             put_text(b"> ", at, out)
         }
     }
@@ -304,7 +305,7 @@ pub(crate) fn put_answer(answer: Answer<'_>, at: usize, out: &mut [u8]) -> usize
         }
         Answer::Freed(order) => {
             let at = put_text(b"freed ", at, out);
-            put_up_to_three(u32::from(order), at, out)
+            put_number(u32::from(order), at, out)
         }
         Answer::Bytes(bytes) => put_bytes(bytes, at, out),
         Answer::Written(count) => {
@@ -321,7 +322,7 @@ pub(crate) fn put_answer(answer: Answer<'_>, at: usize, out: &mut [u8]) -> usize
         Answer::Destroyed(frames) => put_labelled(b"destroyed ", frames, at, out),
         Answer::Object(place) => {
             let at = put_text(b"object ", at, out);
-            put_place(place, at, out)
+            put_number(place, at, out)
         }
         Answer::Given => put_text(b"given", at, out),
         Answer::Reaped(frames) => put_labelled(b"reaped ", frames, at, out),
@@ -378,7 +379,7 @@ fn put_digits(bytes: &[u8], at: usize, out: &mut [u8]) -> usize
     put_hex(bytes, at, out)
 }
 
-/// [`put_figure`] out of line.
+/// Writes a label, and then a number.
 #[cold]
 #[inline(never)]
 fn put_labelled(label: &[u8], number: u32, at: usize, out: &mut [u8]) -> usize
@@ -386,7 +387,8 @@ fn put_labelled(label: &[u8], number: u32, at: usize, out: &mut [u8]) -> usize
     ensures text { take result out.new ≡ take at out.old ++ label.now ++ decimal number }
     ensures short { result ≤ at + length label.now + MOST_DIGITS }
 {
-    put_figure(label, number, at, out)
+    let at = put_text(label, at, out);
+    put_number(number, at, out)
 }
 
 /// A slot of a tenant and the superblock under it.
@@ -429,6 +431,7 @@ fn put_cache(
 }
 
 /// That a command was refused, by the number and the name of the refusal.
+#[tactic(auto, using(crate::proofs::DigitLemmas::length_short))]
 #[cold]
 #[inline(never)]
 fn put_refused(refusal: Refusal, at: usize, out: &mut [u8]) -> usize
@@ -438,7 +441,7 @@ fn put_refused(refusal: Refusal, at: usize, out: &mut [u8]) -> usize
     ensures short { result < SHORT_ANSWER_BYTES }
 {
     let at = put_text(b"refused ", at, out);
-    let at = put_up_to_three(u32::from(refusal.number()), at, out);
+    let at = put_number(u32::from(refusal.number()), at, out);
     let at = put_text(b" ", at, out);
     put_text(refusal.name().as_bytes(), at, out)
 }

@@ -1,6 +1,6 @@
 //! Numbers in decimal.
 
-ghost use Rattle.std.specs.Prelude.{◌≡◌};
+ghost use Rattle.std.specs.Prelude.{◌≡◌, ◌≤◌, decimal, length};
 ghost use Rattle.words_core.specs.Numbers.{number_of};
 
 /// A number has at most this many decimal digits, leading zeros among them: any below `2^32` fits.
@@ -21,4 +21,24 @@ pub fn number(word: &[u8]) -> Option<u32>
         value = value * 10 + u64::from(*digit - b'0');
     }
     u32::try_from(value).ok()
+}
+
+/// Returns how many decimal digits a number has.
+#[inline(always)]
+pub fn digits_of(number: u32) -> usize
+    ensures count { result ≡ length (decimal number) }
+    ensures few { result ≤ MOST_DIGITS }
+{
+    match number {
+        0..=9 => 1,
+        10..=99 => 2,
+        100..=999 => 3,
+        1000..=9999 => 4,
+        10_000..=99_999 => 5,
+        100_000..=999_999 => 6,
+        1_000_000..=9_999_999 => 7,
+        10_000_000..=99_999_999 => 8,
+        100_000_000..=999_999_999 => 9,
+        1_000_000_000.. => 10,
+    }
 }

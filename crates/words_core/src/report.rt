@@ -6,7 +6,7 @@ ghost use Rattle.words_core.specs.ReportTexts.{top_text, frames_text, order_text
 use crate::answer::MOST_FRONT_BYTES;
 use crate::numbers::MOST_DIGITS;
 use crate::text::MOST_REPLY_BYTES;
-use crate::window::{put_figure, put_number, put_text};
+use crate::window::{put_figure, put_short_number, put_text};
 use arrayvec::ArrayVec;
 use model_core::limits::{MOST_CACHES, MOST_ORDER};
 use model_core::report::{CacheRow, OrderRow};
@@ -78,7 +78,7 @@ fn put_top(top: Option<u8>, at: usize, out: &mut [u8]) -> usize
 {
     match top {
         None => put_text(b"none", at, out),
-        Some(order) => put_number(u32::from(order), at, out),
+        Some(order) => put_short_number(u32::from(order), at, out),
     }
 }
 

@@ -3,8 +3,7 @@
 ghost use Rattle.std.specs.Prelude.{◌≡◌, ◌+◌, ◌<◌, ◌≤◌, [], ◌∷◌, ◌++◌, take, drop, decimal, length, slice_range};
 ghost use Rattle.words_core.specs.Digits.{two_digits, five_digits};
 
-/// A number has at most so many digits.
-pub const MOST_DIGITS: usize = 10;
+use crate::numbers::{MOST_DIGITS, digits_of};
 
 /// Writes the text behind the first `at` bytes, and answers where it ends; so do the others.
 #[inline(always)]
@@ -106,7 +105,7 @@ static PAIRS: [u8; 200] = *b"\
 /// Writes a number of at most three digits.
 #[tactic(auto, using(crate::proofs::DigitLemmas::digit_rules))]
 #[inline(always)]
-pub fn put_up_to_three(number: u32, at: usize, out: &mut [u8]) -> usize
+fn put_up_to_three(number: u32, at: usize, out: &mut [u8]) -> usize
     requires three { number < 1000 }
     requires room { at + 3 ≤ length out.old }
     ensures text { take result out.new ≡ take at out.old ++ decimal number }
@@ -155,9 +154,10 @@ fn put_five(number: u32, at: usize, out: &mut [u8]) -> usize
     put_two(rest % 100, at, out)
 }
 
-/// Writes a number that seldom has more than five digits.
+/// Writes a number of a line that a load or a report repeats, as [`put_number`] does: one of up to five digits takes fewer instructions
+/// than counting its digits first. It seldom has more.
 #[inline(always)]
-pub fn put_number(number: u32, at: usize, out: &mut [u8]) -> usize
+pub fn put_short_number(number: u32, at: usize, out: &mut [u8]) -> usize
     requires room { at + MOST_DIGITS ≤ length out.old }
     ensures text { take result out.new ≡ take at out.old ++ decimal number }
     ensures short { result ≤ at + MOST_DIGITS }
@@ -176,10 +176,10 @@ pub fn put_figure(label: &[u8], number: u32, at: usize, out: &mut [u8]) -> usize
     ensures short { result ≤ at + length label.now + MOST_DIGITS }
 {
     let at = put_text(label, at, out);
-    put_number(number, at, out)
+    put_short_number(number, at, out)
 }
 
-/// Writes a number that often has more than five digits.
+/// [`put_short_number`] of a number that often has more than five digits.
 #[inline(always)]
 pub fn put_place(number: u32, at: usize, out: &mut [u8]) -> usize
     requires room { at + MOST_DIGITS ≤ length out.old }
@@ -215,4 +215,17 @@ fn put_longer(number: u32, at: usize, out: &mut [u8]) -> usize
 {
     let at = put_up_to_five(number / 100_000, at, out);
     put_five(number % 100_000, at, out)
+}
+
+/// Writes a number by `itoa`, which writes backwards: so its digits are counted first.
+#[inline(always)]
+pub fn put_number(number: u32, at: usize, out: &mut [u8]) -> usize
+    requires room { at + MOST_DIGITS ≤ length out.old }
+    ensures text { take result out.new ≡ take at out.old ++ decimal number }
+    ensures end { result ≡ at + length (decimal number) }
+    ensures short { result ≤ at + MOST_DIGITS }
+{
+    let end = at + digits_of(number);
+    itoa::write_digits(u64::from(number), out, end);
+    end
 }
