@@ -24,9 +24,9 @@ use command_line::{
 };
 use outcome::Ended;
 use own::run_own;
-use replay_core::{ReaderFeed, Tally, WriterDrain};
+use replay_core::{NoNotes, Notes, ReaderFeed, Tally, WriterDrain};
 use run::run;
-use run_notes::{FaultNotes, MOST_NUMBER, NotedReader, NotedWriter, RefusalNotes};
+use run_notes::{MOST_NUMBER, RunNotes};
 use std::fs::File;
 use std::io::{self, Read, Write};
 use std::process::ExitCode;
@@ -55,14 +55,7 @@ struct Ran {
     /// Why the trace could not be opened or read.
     error: Option<FileError>,
     /// What was noted, if it was asked for.
-    notes: Option<Notes>,
-}
-
-/// What was noted of the trace and of the replies.
-#[derive(Drop)]
-struct Notes {
-    faults: FaultNotes,
-    refusals: RefusalNotes,
+    notes: Option<RunNotes>,
 }
 
 /// What the command line asks for.
@@ -105,22 +98,23 @@ fn run_opened<R: Read + Drop>(
         return keep_own(rt, &settings.machine(), tenant, reader);
     }
     Ran {
-        ended: run_between(rt, &settings.machine(), reader, io::writer(rt)),
+        ended: run_between(
+            rt,
+            &settings.machine(),
+            reader,
+            io::writer(rt),
+            &mut NoNotes,
+        ),
         error: None,
         notes: None,
     }
 }
 
-/// Runs the trace of a reader into standard output, and notes what goes through.
+/// Runs the trace of a reader into standard output, and takes notes.
 fn run_noted<R: Read + Drop>(rt: &(impl Print + AllocGlobal), machine: &Machine, reader: R) -> Ran {
     let mut watched = WatchedReader::new(reader);
-    let mut trace = NotedReader::new(&mut watched);
-    let mut replies = NotedWriter::new(io::writer(rt));
-    let ended = run_between(rt, machine, &mut trace, &mut replies);
-    let notes = Notes {
-        faults: trace.into_notes(),
-        refusals: replies.into_notes(),
-    };
+    let mut notes = RunNotes::new();
+    let ended = run_between(rt, machine, &mut watched, io::writer(rt), &mut notes);
     Ran {
         ended,
         error: watched.error(),
@@ -157,11 +151,12 @@ fn keep_own<R: Read + Drop>(
 }
 
 /// Runs the trace of a reader into a writer.
-fn run_between<R: Read + Drop, W: Write + Drop>(
+fn run_between<R: Read + Drop, W: Write + Drop, N: Notes>(
     rt: &impl AllocGlobal,
     machine: &Machine,
     reader: R,
     writer: W,
+    notes: &mut N,
 ) -> Ended {
     let alloc = rt.alloc();
     let Ok(room) = Vec::with_capacity(alloc, BUFFER_BYTES) else {
@@ -172,6 +167,7 @@ fn run_between<R: Read + Drop, W: Write + Drop>(
         machine,
         &mut ReaderFeed::new(reader),
         &mut WriterDrain::holding(writer, room),
+        notes,
     )
 }
 
@@ -190,19 +186,24 @@ fn tell_run(rt: &impl Eprint, settings: &Settings, ran: Ran) -> ExitCode {
         tell_file(rt, program, path.as_str(), error);
     }
     if let Some(notes) = &ran.notes {
-        tell_notes(rt, notes);
+        tell_notes(rt, notes, &ran.ended.outcome);
     }
     code
 }
 
-/// Tells how often each refusal was told, and the first faulty lines.
-fn tell_notes(rt: &impl Eprint, notes: &Notes) {
+/// Prints how often each refusal was answered, and the first faulty lines. If the replies could not be written, some of these answers
+/// were not, so the lines say that they count answers.
+fn tell_notes(rt: &impl Eprint, notes: &RunNotes, outcome: &Outcome) {
+    let counted = match outcome {
+        Outcome::Unwritable => " answered",
+        _ => "",
+    };
     for number in 1..=MOST_NUMBER {
-        if let Some(refused) = notes.refusals.told(number) {
-            let _unheard = eprintln!(rt; "partmem: {refused}");
+        if let Some(refused) = notes.told(number) {
+            let _unheard = eprintln!(rt; "partmem: {refused}{counted}");
         }
     }
-    for line in notes.faults.first().iter().flatten() {
+    for line in notes.first().iter().flatten() {
         let _unheard = eprintln!(rt; "partmem: {line}");
     }
 }

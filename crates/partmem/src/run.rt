@@ -8,18 +8,19 @@ ghost use Rattle.partmem.specs.Run.{Answers, EndsAs, HasReached, IsOfTrace, Tall
 use crate::outcome::{Ended, tally_of};
 use command_line::{Machine, Outcome, outcome_of};
 use kernel_core::{BootError, Kernel, laws};
-use replay_core::{Drain, Feed, WriterDrain, replay};
+use replay_core::{Drain, Feed, Notes, WriterDrain, replay_noted};
 use std::alloc::Global;
 use std::io::Write;
 use std::mem;
 
 /// Boots a new machine of these sizes, replays the trace and flushes: after a failed feed too, but not after a failed
-/// drain. The first failure decides.
-pub fn run<F: Feed, W: Write>(
+/// drain. The first failure decides. The notes are those of [`replay_noted`].
+pub fn run<F: Feed, W: Write, N: Notes>(
     alloc: Global,
     machine: &Machine,
     feed: &mut F,
     drain: &mut WriterDrain<W>,
+    notes: &mut N,
 ) -> Ended
     requires feed_fine { F.has_failed feed.old ≡ false }
     requires drain_fine { ⟦<WriterDrain<W> as Drain>⟧.has_failed drain.old ≡ false }
@@ -50,7 +51,7 @@ pub fn run<F: Feed, W: Write>(
         Err(BootError::Memory) => return Ended::at_once(Outcome::NoMemory),
         Err(BootError::BadConfig) => unreachable!(),
     };
-    let replayed = replay(&mut kernel, feed, drain, machine.only);
+    let replayed = replay_noted(&mut kernel, feed, drain, machine.only, notes);
     // The system takes all memory back at once when the process ends, sooner than piece by piece.
     mem::forget(kernel);
     let flushed = flush(drain);

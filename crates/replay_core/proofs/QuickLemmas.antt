@@ -1,5 +1,5 @@
 -- A line at the front of a piece.
-use Rattle.std.proofs.Common.{◌≡◌, ℕ, ◌+◌, ◌-◌, ◌<◌, ◌≤◌, Bool, List, [], ◌++◌, Option, Some, length, take, drop, ap, sym, subst, ◌∙◌, arith, length-drop}
+use Rattle.std.proofs.Common.{◌≡◌, ℕ, ◌+◌, ◌-◌, ◌<◌, ◌≤◌, Bool, List, [], ◌++◌, Option, Some, length, take, drop, position, ◌==◌, ap, sym, subst, ◌∙◌, arith, length-drop}
 use Rattle.std.specs.Prelude.{Result, Ok, Err}
 use Rattle.words_core.specs.declared.event.Event.{Event}
 use Rattle.words_core.specs.declared.event.Event.TheVariants.{Tenant}
@@ -19,6 +19,13 @@ use Rattle.replay_core.proofs.RunLemmas.{stands_more_lines, stopped_within}
 -- a line in whose front nothing was held
 whole_line : (tail part : List ℕ) (reading : Result (Option Event) LineFault) → tail ≡ [] → reading_of part ≡ reading → reading ≡ reading_of (tail ++ part)
 whole_line tail part reading none is = sym is ∙ ap (λ xs. reading_of (xs ++ part)) (sym none)
+
+-- a line that was read by itself, at the front of the rest
+pub reads_alone : (rest : List ℕ) (end tenant : ℕ) (command : Command) → end < length rest → position (λ b. b == 10) rest ≡ Some end
+    → reading_of (take end rest) ≡ Ok (Some (Tenant tenant command)) → ReadsAs rest tenant command (end + 1)
+reads_alone rest end tenant command within found reading =
+    let same : end + 1 - 1 ≡ end = omega arith in
+    record { some = omega arith; within = omega arith; ended = found ∙ ap Some (sym same); reading = ap (λ n. reading_of (take n rest)) same ∙ reading }
 
 -- what stands behind a line with its line feed
 one_more : (bytes : List ℕ) (len : ℕ) → 0 < len → drop (len - 1 + 1) bytes ≡ drop len bytes

@@ -10,6 +10,7 @@ ghost use Rattle.replay_core.specs.declared.pending.Pending.{Pending};
 ghost use Rattle.replay_core.specs.Pending.{HoldsNothing};
 ghost use Rattle.replay_core.specs.Standing.{IsReady, HasAnswered, HasAnsweredLine, Stands};
 
+use crate::notes::Notes;
 use crate::run::Run;
 use ends::Drain;
 use kernel_core::Kernel;
@@ -37,11 +38,12 @@ impl Run {
     /// whose replies are shown, and the drain has space for an answer; answers the rest of the piece. By itself, so that its loop has
     /// all registers.
     #[inline(never)]
-    pub fn run_in_place<'a, D: Drain>(
+    pub fn run_in_place<'a, D: Drain, N: Notes>(
         &mut self,
         piece: &'a [u8],
         kernel: &mut Kernel,
         drain: &mut D,
+        notes: &mut N,
     ) -> &'a [u8]
         requires { IsReady (D.has_failed drain.old) self.old (length piece.now) }
         ensures ran { (only : Option ℕ) (before : Parts) (given : List ℕ) (start : Option (List ℕ)) (pending : Pending)
@@ -55,7 +57,7 @@ impl Run {
         let mut room = [0; MOST_BYTES];
         let mut rest = piece;
         'lines: while drain.has_space() {
-            let Some(len) = self.answer_line(rest, &mut room, kernel, drain) else {
+            let Some(len) = self.answer_line(rest, &mut room, kernel, drain, notes) else {
                 return rest;
             };
             rest = &rest[len..];
@@ -66,12 +68,13 @@ impl Run {
     /// Runs and answers the line at the front of these bytes, and answers how long it is; None, and nothing is done, where it is no
     /// request that is read the short way, or of no tenant that there is and is shown.
     #[inline(always)]
-    fn answer_line<D: Drain>(
+    fn answer_line<D: Drain, N: Notes>(
         &mut self,
         bytes: &[u8],
         room: &mut [u8; MOST_BYTES],
         kernel: &mut Kernel,
         drain: &mut D,
+        notes: &mut N,
     ) -> Option<usize>
         requires ready { IsReady (D.has_failed drain.old) self.old (length bytes.now) }
         requires space { D.is_roomy drain.old ≡ true }
@@ -84,18 +87,19 @@ impl Run {
             return None;
         }
         let line = read_known_request(bytes, number, room)?;
-        self.answer_request(tenant, line.request, kernel, drain);
+        self.answer_request(tenant, line.request, kernel, drain, notes);
         Some(line.len)
     }
 
     /// Runs a request of a tenant that there is and is shown, counts its line, and writes what it is answered where it stays.
     #[inline(always)]
-    fn answer_request<D: Drain>(
+    fn answer_request<D: Drain, N: Notes>(
         &mut self,
         tenant: u8,
         request: Request<'_>,
         kernel: &mut Kernel,
         drain: &mut D,
+        notes: &mut N,
     )
         requires askable { IsAskable request }
         requires tenant { tenant < kernel.old.tenants }
@@ -107,24 +111,48 @@ impl Run {
     {
         match request {
             Request::Alloc { order } => {
-                self.answer_as::<ALLOC, D>(tenant, Request::Alloc { order }, kernel, drain)
+                self.answer_as::<ALLOC, D, N>(
+                    tenant,
+                    Request::Alloc { order },
+                    kernel,
+                    drain,
+                    notes,
+                )
             }
             Request::Free { frame } => {
-                self.answer_as::<FREE, D>(tenant, Request::Free { frame }, kernel, drain)
+                self.answer_as::<FREE, D, N>(tenant, Request::Free { frame }, kernel, drain, notes)
             }
             Request::Take { cache } => {
-                self.answer_as::<TAKE, D>(tenant, Request::Take { cache }, kernel, drain)
+                self.answer_as::<TAKE, D, N>(tenant, Request::Take { cache }, kernel, drain, notes)
             }
             Request::Give { cache, place } => {
-                self.answer_as::<GIVE, D>(tenant, Request::Give { cache, place }, kernel, drain)
+                self.answer_as::<GIVE, D, N>(
+                    tenant,
+                    Request::Give { cache, place },
+                    kernel,
+                    drain,
+                    notes,
+                )
             }
             Request::Read { place, len } => {
-                self.answer_as::<READ, D>(tenant, Request::Read { place, len }, kernel, drain)
+                self.answer_as::<READ, D, N>(
+                    tenant,
+                    Request::Read { place, len },
+                    kernel,
+                    drain,
+                    notes,
+                )
             }
             Request::Write { place, bytes } => {
-                self.answer_as::<WRITE, D>(tenant, Request::Write { place, bytes }, kernel, drain)
+                self.answer_as::<WRITE, D, N>(
+                    tenant,
+                    Request::Write { place, bytes },
+                    kernel,
+                    drain,
+                    notes,
+                )
             }
-            rare => self.answer_rare(tenant, rare, kernel, drain),
+            rare => self.answer_rare(tenant, rare, kernel, drain, notes),
         }
     }
 
@@ -132,12 +160,13 @@ impl Run {
     /// function the compiler makes a part of its caller, however long it is, and what the command may be answered is then known where
     /// that is written.
     #[inline]
-    fn answer_as<const COMMAND: usize, D: Drain>(
+    fn answer_as<const COMMAND: usize, D: Drain, N: Notes>(
         &mut self,
         tenant: u8,
         request: Request<'_>,
         kernel: &mut Kernel,
         drain: &mut D,
+        notes: &mut N,
     )
         requires askable { IsAskable request }
         requires tenant { tenant < kernel.old.tenants }
@@ -150,18 +179,20 @@ impl Run {
         self.lines += 1;
         self.events += 1;
         let answer = kernel.ask_known(tenant, request);
+        notes.answered(answer);
         self.replies.show_in_place(tenant, answer, drain);
     }
 
     /// [`Run::answer_as`] of a command that no load is made of.
     #[cold]
     #[inline(never)]
-    fn answer_rare<D: Drain>(
+    fn answer_rare<D: Drain, N: Notes>(
         &mut self,
         tenant: u8,
         request: Request<'_>,
         kernel: &mut Kernel,
         drain: &mut D,
+        notes: &mut N,
     )
         requires askable { IsAskable request }
         requires tenant { tenant < kernel.old.tenants }
@@ -171,6 +202,6 @@ impl Run {
         ensures { HasAnswered (Ok (Some (Tenant tenant (command_of request.entry)))) kernel.old kernel.new
             (D.contents drain.old) (D.contents drain.new) (D.has_failed drain.new) self.old self.new (Ok tt) }
     {
-        self.answer_as::<RARE, D>(tenant, request, kernel, drain);
+        self.answer_as::<RARE, D, N>(tenant, request, kernel, drain, notes);
     }
 }

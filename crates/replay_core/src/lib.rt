@@ -3,6 +3,7 @@
 #![tactic(auto)]
 
 mod answer_line;
+mod notes;
 mod pending;
 mod quick;
 mod replaying;
@@ -10,5 +11,6 @@ mod replies;
 mod run;
 
 pub use ends::{Drain, Feed, ReaderFeed, ReplayError, Stopped, Tally, Text, WriterDrain};
+pub use notes::{NoNotes, Notes};
 pub use pending::{Pending, line_end};
-pub use replaying::replay;
+pub use replaying::{replay, replay_noted};

@@ -77,7 +77,7 @@ impl Pending {
     }
 
     /// The next line begins.
-    fn clear(&mut self)
+    pub(crate) fn clear(&mut self)
         ensures { HoldsLine [] self.new }
     {
         self.held.clear();

@@ -1,7 +1,8 @@
-//! Requests of tenants: the lines that make up a load, run one after the other, and a request by itself.
+//! The lines that make up a load, run one after the other, and requests that are not answered in place.
 
 ghost use Rattle.std.specs.Prelude.{◌≡◌, ℕ, ◌+◌, ◌^◌, ◌<◌, ◌≤◌, List, Option, Some, Ok, length, is_err};
 ghost use Rattle.std.specs.Prelude.{IfOk, IfSome, MatchResult};
+ghost use Rattle.quick_core.specs.Lines.{ReadsAs};
 ghost use Rattle.words_core.specs.Grammar.{reading_of};
 ghost use Rattle.words_core.specs.Requests.{command_of, IsAskable};
 ghost use Rattle.words_core.specs.declared.event.Event.TheVariants.{Tenant};
@@ -10,21 +11,24 @@ ghost use Rattle.replay_core.specs.declared.pending.Pending.{Pending};
 ghost use Rattle.replay_core.specs.Pending.{HoldsNothing};
 ghost use Rattle.replay_core.specs.Standing.{IsReady, HasAnswered, Stands, HasStopped};
 
+use crate::notes::Notes;
+use crate::pending::line_end;
 use crate::run::Run;
 use ends::{Drain, Stopped};
 use kernel_core::Kernel;
 use model_core::limits::MOST_BYTES;
-use quick_core::{RequestLine, WINDOW, read_request};
-use words_core::Request;
+use quick_core::{RequestLine, WINDOW, read_known_request, read_request, read_tenant};
+use words_core::{Addressee, Request};
 
 impl Run {
-    /// Runs the lines at the front of a piece as long as they are read the short way, and answers the rest of the piece. No
+    /// Runs the lines at the front of a piece as long as they are read the short way, and returns the rest of the piece. No
     /// beginning of a line may be pending.
-    pub fn run_quick_lines<'a, D: Drain>(
+    pub fn run_quick_lines<'a, D: Drain, N: Notes>(
         &mut self,
         piece: &'a [u8],
         kernel: &mut Kernel,
         drain: &mut D,
+        notes: &mut N,
     ) -> Result<&'a [u8], Stopped>
         requires { IsReady (D.has_failed drain.old) self.old (length piece.now) }
         ensures ran { (only : Option ℕ) (before : Parts) (given : List ℕ) (start : Option (List ℕ)) (pending : Pending)
@@ -37,23 +41,78 @@ impl Run {
     {
         // What a write stores: one room for all lines, filled anew by each.
         let mut room = [0; MOST_BYTES];
-        let mut rest = self.run_in_place(piece, kernel, drain);
-        'lines: while let Some(line) = read_request(rest, &mut room) {
+        let mut rest = self.run_in_place(piece, kernel, drain, notes);
+        'lines: while let Some(line) = self.read_left(rest, &mut room, kernel, drain) {
             let len = line.len;
-            self.answer_apart(line.tenant, line.request, kernel, drain)?;
-            rest = self.run_in_place(&rest[len..], kernel, drain);
+            self.answer_apart(line.tenant, line.request, kernel, drain, notes)?;
+            rest = self.run_in_place(&rest[len..], kernel, drain, notes);
+        }
+        if rest.len() < WINDOW {
+            return self.run_last_lines(rest, kernel, drain, notes);
+        }
+        Ok(rest)
+    }
+
+    /// Reads the line at the front of what [`Run::run_in_place`] left, the short way. A line that was read in vain is not read again.
+    #[inline(always)]
+    fn read_left<'a, D: Drain>(
+        &self,
+        bytes: &[u8],
+        room: &'a mut [u8; MOST_BYTES],
+        kernel: &Kernel,
+        drain: &D,
+    ) -> Option<RequestLine<'a>>
+        ensures reads { IfSome result (λ line. ReadsAs bytes.now line.tenant (command_of line.request) line.len) }
+        ensures askable { IfSome result (λ line. IsAskable line.request) }
+    {
+        let number = read_tenant(bytes)?;
+        match kernel.tenant(number.value) {
+            Some(t) if self.replies.is_shown(Addressee::Tenant(t)) && drain.has_space() => None,
+            _ => read_known_request(bytes, number, room),
+        }
+    }
+
+    /// Runs the lines at the front of the last bytes of a piece as long as they are read the short way, and returns what is left. No
+    /// beginning of a line may be pending.
+    #[cold]
+    #[inline(never)]
+    pub fn run_last_lines<'a, D: Drain, N: Notes>(
+        &mut self,
+        piece: &'a [u8],
+        kernel: &mut Kernel,
+        drain: &mut D,
+        notes: &mut N,
+    ) -> Result<&'a [u8], Stopped>
+        requires { IsReady (D.has_failed drain.old) self.old (length piece.now) }
+        ensures ran { (only : Option ℕ) (before : Parts) (given : List ℕ) (start : Option (List ℕ)) (pending : Pending)
+            → HoldsNothing pending → Stands only before kernel.old given piece.now start (D.contents drain.old) pending self.old
+            → MatchResult result
+            (λ rest. Stands only before kernel.new given rest.now start (D.contents drain.new) pending self.new)
+            (λ _. HasStopped only before kernel.new given start (D.contents drain.new) self.new) }
+        ensures left { IfOk result (λ rest. (self.new.lines + length rest.now < 2 ^ 64) × (length rest.now ≤ length piece.now)) }
+        ensures failed { D.has_failed drain.new ≡ is_err result }
+    {
+        let mut room = [0; MOST_BYTES];
+        let mut rest = piece;
+        'lines: while let Some(end) = line_end(rest) {
+            let Some(read) = read_alone(&rest[..end], &mut room) else {
+                return Ok(rest);
+            };
+            self.answer_apart(read.tenant, read.request, kernel, drain, notes)?;
+            rest = &rest[end + 1..];
         }
         Ok(rest)
     }
 
     /// Runs a request that was read off a line, counts the line, and pushes what it shows.
     #[inline(never)]
-    pub fn answer_apart<D: Drain>(
+    pub fn answer_apart<D: Drain, N: Notes>(
         &mut self,
         tenant: u32,
         request: Request<'_>,
         kernel: &mut Kernel,
         drain: &mut D,
+        notes: &mut N,
     ) -> Result<(), Stopped>
         requires askable { IsAskable request }
         requires ready { IsReady (D.has_failed drain.old) self.old 1 }
@@ -63,15 +122,15 @@ impl Run {
         self.lines += 1;
         self.events += 1;
         match kernel.ask(tenant, request) {
-            Some((t, told)) => self.replies.show_answer(t, told, drain),
-            None => self.replies.show_no_tenant(drain),
+            Some((t, told)) => self.replies.show_answer(t, told, drain, notes),
+            None => self.replies.show_no_tenant(drain, notes),
         }
     }
 }
 
 /// A line by itself, without its line feed, where it has less than `WINDOW` bytes and is read the short way; `None` where it isn't,
 /// or where that is not sure.
-pub fn read_alone<'a>(line: &[u8], room: &'a mut [u8; MOST_BYTES]) -> Option<RequestLine<'a>>
+fn read_alone<'a>(line: &[u8], room: &'a mut [u8; MOST_BYTES]) -> Option<RequestLine<'a>>
     ensures reads { IfSome result (λ read. reading_of line.now ≡ Ok (Some (Tenant read.tenant (command_of read.request)))) }
     ensures askable { IfSome result (λ read. IsAskable read.request) }
 {

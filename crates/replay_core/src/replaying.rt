@@ -5,6 +5,7 @@ ghost use Rattle.std.specs.Io.KnownBytes.{Consumes, Appends, IsAtEnd};
 ghost use Rattle.replay_core.specs.Runs.{Replays, HasOwnLines, IsDone, NamesFailed};
 ghost use Rattle.replay_core.specs.Promised.{TakesAllowed};
 
+use crate::notes::{NoNotes, Notes};
 use crate::pending::Pending;
 use crate::run::Run;
 use ends::{Drain, Feed, ReplayError, Tally};
@@ -44,6 +45,37 @@ pub fn replay<F: Feed, D: Drain>(
     ensures whole { F.has_ended feed.new ≡ true → IsAtEnd (F.remaining feed.new) }
     ensures failed { NamesFailed result (F.has_failed feed.new) (D.has_failed drain.new) }
 {
+    replay_noted(kernel, feed, drain, only, &mut NoNotes)
+}
+
+/// Does what [`replay`] does, and notes the shown answers and the faulty lines.
+pub fn replay_noted<F: Feed, D: Drain, N: Notes>(
+    kernel: &mut Kernel,
+    feed: &mut F,
+    drain: &mut D,
+    only: Option<u8>,
+    notes: &mut N,
+) -> Result<Tally, ReplayError>
+    requires feed_fine { F.has_failed feed.old ≡ false }
+    requires drain_fine { D.has_failed drain.old ≡ false }
+    // What was given and taken during the call, and how they hang together, whichever world the kernel showed. Where the feed
+    // does not tell its bytes, how many it gave is known.
+    ensures ran { (given : List ℕ) × (taken : List ℕ)
+        × Consumes (F.remaining feed.old) (F.remaining feed.new) given
+        × Appends (D.contents drain.old) (D.contents drain.new) taken
+        × Replays (F.has_ended feed.new) only kernel.old kernel.new given taken result
+        × OnOk result (HasOwnLines only kernel.old given taken)
+        × (F.room_left feed.new + length given ≡ F.room_left feed.old) }
+    // From an opening world each of these replies keeps the promises, the ones that are not shown too.
+    ensures promises { (given : List ℕ) × (taken : List ℕ)
+        × Consumes (F.remaining feed.old) (F.remaining feed.new) given
+        × Appends (D.contents drain.old) (D.contents drain.new) taken
+        × TakesAllowed (F.has_ended feed.new) only kernel.old given taken result }
+    ensures ended { IsDone result (F.has_ended feed.new) }
+    // Then what was given is all that it had.
+    ensures whole { F.has_ended feed.new ≡ true → IsAtEnd (F.remaining feed.new) }
+    ensures failed { NamesFailed result (F.has_failed feed.new) (D.has_failed drain.new) }
+{
     laws::own_lines();
     laws::own_shown();
     // The texts of tenants' numbers, and the counts: each line has a byte at least.
@@ -55,12 +87,13 @@ pub fn replay<F: Feed, D: Drain>(
     'pulls: loop {
         drain.send();
         let Ok(count) = feed.pull(&mut piece) else {
+            note_unended(&pending, run.lines, notes);
             return Err(ReplayError::Feed(run.tally()));
         };
         if count == 0 {
             break;
         }
-        let ran = run.run_piece(&piece[..count], &mut pending, kernel, drain);
+        let ran = run.run_piece(&piece[..count], &mut pending, kernel, drain, notes);
         if ran.is_err() {
             return Err(ReplayError::Drain(run.tally()));
         }
@@ -68,10 +101,23 @@ pub fn replay<F: Feed, D: Drain>(
     if pending.is_empty() {
         return Ok(run.tally());
     }
-    let answered = run.answer(pending.reading(), kernel, drain);
+    let answered = run.answer(
+        pending.reading(),
+        pending.held.as_slice(),
+        kernel,
+        drain,
+        notes,
+    );
     let tally = run.tally();
     if answered.is_err() {
         return Err(ReplayError::Drain(tally));
     }
     Ok(tally)
+}
+
+/// Notes the line behind the first `lines` if its end could not be read and it is faulty as far as it was read.
+fn note_unended<N: Notes>(pending: &Pending, lines: u64, notes: &mut N) {
+    if let Err(fault) = pending.reading() {
+        notes.faulty(lines.saturating_add(1), fault, pending.held.as_slice());
+    }
 }

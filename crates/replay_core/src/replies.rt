@@ -15,11 +15,12 @@ ghost use Rattle.world_core.specs.Output.{is_shown, shown_text};
 ghost use Rattle.replay_core.specs.Pushes.{HasRoomToWrite, HasPushed, most_reply_bytes};
 ghost use Rattle.replay_core.specs.Shown.{HasShown};
 
+use crate::notes::Notes;
 use ends::{Drain, Stopped, TEXT_BYTES, Text};
 use kernel_core::Kernel;
 use std::marker::Model;
 use words_core::{
-    Addressee, AdminCommand, Answer, LineFault, MOST_ANSWER_BYTES, MOST_REPLY_BYTES, Refusal,
+    Addressee, AdminCommand, Answer, Body, LineFault, MOST_ANSWER_BYTES, MOST_REPLY_BYTES, Refusal,
     Reply, rows, write_answer, write_answer_to, write_row,
 };
 
@@ -66,28 +67,30 @@ impl Replies {
     }
 
     /// Pushes what a tenant is answered.
-    pub fn show_answer<D: Drain>(
+    pub fn show_answer<D: Drain, N: Notes>(
         &mut self,
         tenant: u8,
         answer: Answer<'_>,
         drain: &mut D,
+        notes: &mut N,
     ) -> Result<(), Stopped>
         requires few { HasFewBytes answer }
         requires room { HasRoomToWrite (D.has_failed drain.old) self.old.written most_reply_bytes }
         ensures { HasShown (D.contents drain.old) (D.contents drain.new) (D.has_failed drain.new)
             (shown_text self.old.only (reply_of_answer tenant answer.entry)) self.old self.new result }
     {
-        self.show_to(Addressee::Tenant(tenant), answer, drain)
+        self.show_to(Addressee::Tenant(tenant), answer, drain, notes)
     }
 
     /// Pushes an answer to anyone, by way of the room that the longest takes.
     #[cold]
     #[inline(never)]
-    fn show_to<D: Drain>(
+    fn show_to<D: Drain, N: Notes>(
         &mut self,
         addressee: Addressee,
         answer: Answer<'_>,
         drain: &mut D,
+        notes: &mut N,
     ) -> Result<(), Stopped>
         requires few { HasFewBytes answer }
         requires room { HasRoomToWrite (D.has_failed drain.old) self.old.written most_reply_bytes }
@@ -97,6 +100,7 @@ impl Replies {
         if !self.is_shown(addressee) {
             return Ok(());
         }
+        notes.answered(answer);
         let mut text = [0; MOST_ANSWER_BYTES];
         let len = write_answer_to(addressee, answer, &mut text);
         push_all(&text[..len], drain, &mut self.written)
@@ -105,13 +109,21 @@ impl Replies {
     /// Pushes a reply, line by line.
     #[cold]
     #[inline(never)]
-    fn show<D: Drain>(&mut self, reply: &Reply, drain: &mut D) -> Result<(), Stopped>
+    fn show<D: Drain, N: Notes>(
+        &mut self,
+        reply: &Reply,
+        drain: &mut D,
+        notes: &mut N,
+    ) -> Result<(), Stopped>
         requires { HasRoomToWrite (D.has_failed drain.old) self.old.written most_reply_bytes }
         ensures { HasShown (D.contents drain.old) (D.contents drain.new) (D.has_failed drain.new)
             (shown_text self.old.only reply.now) self.old self.new result }
     {
         if !self.is_shown(reply.addressee) {
             return Ok(());
+        }
+        if let Body::Refused(refusal) = &reply.body {
+            notes.answered(Answer::Refused(*refusal));
         }
         let mut text = [0; MOST_REPLY_BYTES];
         for row in 0..rows(reply) {
@@ -124,11 +136,12 @@ impl Replies {
     /// Pushes the report of a tenant; by itself, as each reply of several lines is, since it takes room that no other needs.
     #[cold]
     #[inline(never)]
-    pub fn report<D: Drain>(
+    pub fn report<D: Drain, N: Notes>(
         &mut self,
         tenant: u32,
         kernel: &Kernel,
         drain: &mut D,
+        notes: &mut N,
     ) -> Result<(), Stopped>
         requires { HasRoomToWrite (D.has_failed drain.old) self.old.written most_reply_bytes }
         ensures { (reply : Reply) × Steps kernel.now (Event.Tenant tenant Command.Report) kernel.now reply
@@ -136,17 +149,18 @@ impl Replies {
             (shown_text self.old.only reply) self.old self.new result }
     {
         let reply = kernel.report(tenant);
-        self.show(&reply, drain)
+        self.show(&reply, drain, notes)
     }
 
     /// Runs a command of the administrator, and pushes what it shows.
     #[cold]
     #[inline(never)]
-    pub fn administer<D: Drain>(
+    pub fn administer<D: Drain, N: Notes>(
         &mut self,
         command: &AdminCommand,
         kernel: &mut Kernel,
         drain: &mut D,
+        notes: &mut N,
     ) -> Result<(), Stopped>
         requires { HasRoomToWrite (D.has_failed drain.old) self.old.written most_reply_bytes }
         ensures { (reply : Reply) × Steps kernel.old (Event.Admin command.now) kernel.new reply
@@ -154,46 +168,65 @@ impl Replies {
             (shown_text self.old.only reply) self.old self.new result }
     {
         match kernel.administer(command) {
-            Some(answer) => self.show_to(Addressee::Admin, answer, drain),
-            None => self.show_pool(kernel, drain),
+            Some(answer) => self.show_to(Addressee::Admin, answer, drain, notes),
+            None => self.show_pool(kernel, drain, notes),
         }
     }
 
     /// Pushes who owns each superblock; by itself, as a report is.
     #[cold]
     #[inline(never)]
-    fn show_pool<D: Drain>(&mut self, kernel: &Kernel, drain: &mut D) -> Result<(), Stopped>
+    fn show_pool<D: Drain, N: Notes>(
+        &mut self,
+        kernel: &Kernel,
+        drain: &mut D,
+        notes: &mut N,
+    ) -> Result<(), Stopped>
         requires { HasRoomToWrite (D.has_failed drain.old) self.old.written most_reply_bytes }
         ensures { (reply : Reply) × Steps kernel.now (Event.Admin AdminCommand.Pool) kernel.now reply
             × HasShown (D.contents drain.old) (D.contents drain.new) (D.has_failed drain.new)
             (shown_text self.old.only reply) self.old self.new result }
     {
         let reply = kernel.pool();
-        self.show(&reply, drain)
+        self.show(&reply, drain, notes)
     }
 
     /// Pushes the answer to a faulty line, which is to nobody.
     #[cold]
     #[inline(never)]
-    pub fn show_fault<D: Drain>(&mut self, fault: LineFault, drain: &mut D) -> Result<(), Stopped>
+    pub fn show_fault<D: Drain, N: Notes>(
+        &mut self,
+        fault: LineFault,
+        drain: &mut D,
+        notes: &mut N,
+    ) -> Result<(), Stopped>
         requires { HasRoomToWrite (D.has_failed drain.old) self.old.written most_reply_bytes }
         ensures { HasShown (D.contents drain.old) (D.contents drain.new) (D.has_failed drain.new)
             (shown_text self.old.only (record { addressee = Addressee.Nobody; body = Body.Fault fault }))
             self.old self.new result }
     {
-        self.show_to(Addressee::Nobody, Answer::Fault(fault), drain)
+        self.show_to(Addressee::Nobody, Answer::Fault(fault), drain, notes)
     }
 
     /// Pushes the answer to a command of a number that is no tenant, which is to nobody.
     #[cold]
     #[inline(never)]
-    pub fn show_no_tenant<D: Drain>(&mut self, drain: &mut D) -> Result<(), Stopped>
+    pub fn show_no_tenant<D: Drain, N: Notes>(
+        &mut self,
+        drain: &mut D,
+        notes: &mut N,
+    ) -> Result<(), Stopped>
         requires { HasRoomToWrite (D.has_failed drain.old) self.old.written most_reply_bytes }
         ensures { HasShown (D.contents drain.old) (D.contents drain.new) (D.has_failed drain.new)
             (shown_text self.old.only (record { addressee = Addressee.Nobody; body = Body.Refused NoTenant }))
             self.old self.new result }
     {
-        self.show_to(Addressee::Nobody, Answer::Refused(Refusal::NoTenant), drain)
+        self.show_to(
+            Addressee::Nobody,
+            Answer::Refused(Refusal::NoTenant),
+            drain,
+            notes,
+        )
     }
 }
 

@@ -6,12 +6,11 @@ ghost use Rattle.replay_core.specs.Pending.{HoldsLine, HoldsNothing};
 ghost use Rattle.parts_core.specs.Parts.{Parts};
 ghost use Rattle.replay_core.specs.Bounds.{IsBounded};
 
+use crate::notes::Notes;
 use crate::pending::{Pending, line_end};
-use crate::quick::read_alone;
 use crate::replies::Replies;
 use ends::{Drain, Stopped, Tally};
 use kernel_core::Kernel;
-use model_core::limits::MOST_BYTES;
 use words_core::{Event, LineFault};
 
 /// What a replay keeps from one line to the next: the counts of a [`Tally`], and the replies.
@@ -53,12 +52,13 @@ impl Run {
     }
 
     /// Runs the lines that end in a piece of the trace; what follows the last of them becomes pending.
-    pub fn run_piece<D: Drain>(
+    pub fn run_piece<D: Drain, N: Notes>(
         &mut self,
         piece: &[u8],
         pending: &mut Pending,
         kernel: &mut Kernel,
         drain: &mut D,
+        notes: &mut N,
     ) -> Result<(), Stopped>
         requires { IsReady (D.has_failed drain.old) self.old (length piece.now) }
         ensures ran { (only : Option ℕ) (before : Parts) (given : List ℕ) (start : Option (List ℕ))
@@ -68,10 +68,10 @@ impl Run {
             (λ _. HasStopped only before kernel.new given start (D.contents drain.new) self.new) }
         ensures failed { D.has_failed drain.new ≡ is_err result }
     {
-        let mut rest = self.begin_piece(piece, pending, kernel, drain)?;
+        let mut rest = self.begin_piece(piece, pending, kernel, drain, notes)?;
         'lines: while let Some(end) = line_end(rest) {
-            self.end_line(&rest[..end], pending, kernel, drain)?;
-            rest = self.run_quick_lines(&rest[end + 1..], kernel, drain)?;
+            self.end_line(&rest[..end], pending, kernel, drain, notes)?;
+            rest = self.run_quick_lines(&rest[end + 1..], kernel, drain, notes)?;
         }
         pending.add(rest);
         Ok(())
@@ -79,12 +79,13 @@ impl Run {
 
     /// Runs the lines at the front of a piece that are read the short way, where no beginning of a line is pending, and answers the
     /// rest of the piece.
-    fn begin_piece<'a, D: Drain>(
+    fn begin_piece<'a, D: Drain, N: Notes>(
         &mut self,
         piece: &'a [u8],
         pending: &Pending,
         kernel: &mut Kernel,
         drain: &mut D,
+        notes: &mut N,
     ) -> Result<&'a [u8], Stopped>
         requires { IsReady (D.has_failed drain.old) self.old (length piece.now) }
         ensures ran { (only : Option ℕ) (before : Parts) (given : List ℕ) (start : Option (List ℕ))
@@ -96,19 +97,20 @@ impl Run {
         ensures failed { D.has_failed drain.new ≡ is_err result }
     {
         if pending.is_empty() {
-            self.run_quick_lines(piece, kernel, drain)
+            self.run_quick_lines(piece, kernel, drain, notes)
         } else {
             Ok(piece)
         }
     }
 
     /// Runs the line that ends with these bytes, counts it, and pushes what it shows. The next line begins.
-    fn end_line<D: Drain>(
+    fn end_line<D: Drain, N: Notes>(
         &mut self,
         bytes: &[u8],
         pending: &mut Pending,
         kernel: &mut Kernel,
         drain: &mut D,
+        notes: &mut N,
     ) -> Result<(), Stopped>
         requires { IsReady (D.has_failed drain.old) self.old 1 }
         ensures answered { (line : List ℕ) → HoldsLine line pending.old
@@ -120,21 +122,28 @@ impl Run {
         ensures failed { D.has_failed drain.new ≡ is_err result }
     {
         if pending.is_empty() {
-            let mut room = [0; MOST_BYTES];
-            if let Some(read) = read_alone(bytes, &mut room) {
-                return self.answer_apart(read.tenant, read.request, kernel, drain);
-            }
+            return self.answer(pending.end_with(bytes), bytes, kernel, drain, notes);
         }
-        let reading = pending.end_with(bytes);
-        self.answer(reading, kernel, drain)
+        pending.add(bytes);
+        let answered = self.answer(
+            pending.reading(),
+            pending.held.as_slice(),
+            kernel,
+            drain,
+            notes,
+        );
+        pending.clear();
+        answered
     }
 
-    /// Runs a line that was read so, counts it, and pushes what it shows.
-    pub fn answer<D: Drain>(
+    /// Runs a line that was read so and begins with `begin`, counts it, and pushes what it shows.
+    pub fn answer<D: Drain, N: Notes>(
         &mut self,
         reading: Result<Option<Event>, LineFault>,
+        begin: &[u8],
         kernel: &mut Kernel,
         drain: &mut D,
+        notes: &mut N,
     ) -> Result<(), Stopped>
         requires runnable { IsRunnable reading }
         requires ready { IsReady (D.has_failed drain.old) self.old 1 }
@@ -143,17 +152,17 @@ impl Run {
     {
         match reading {
             Ok(Some(Event::Tenant(tenant, command))) => match command.request() {
-                Some(request) => self.answer_apart(tenant, request, kernel, drain),
+                Some(request) => self.answer_apart(tenant, request, kernel, drain, notes),
                 None => {
                     self.lines += 1;
                     self.events += 1;
-                    self.replies.report(tenant, kernel, drain)
+                    self.replies.report(tenant, kernel, drain, notes)
                 }
             },
             Ok(Some(Event::Admin(command))) => {
                 self.lines += 1;
                 self.events += 1;
-                self.replies.administer(&command, kernel, drain)
+                self.replies.administer(&command, kernel, drain, notes)
             }
             Ok(None) => {
                 self.lines += 1;
@@ -162,7 +171,8 @@ impl Run {
             Err(fault) => {
                 self.lines += 1;
                 self.faults += 1;
-                self.replies.show_fault(fault, drain)
+                notes.faulty(self.lines, fault, begin);
+                self.replies.show_fault(fault, drain, notes)
             }
         }
     }

@@ -6,7 +6,7 @@ use Rattle.partmem.proofs.run.run.Goals as goal
 
 pub returns-clause-ran : goal.returns-clause-ran
 returns-clause-ran g c =
-    let said = c.replay-replayed.ensures in
+    let said = c.replay_noted-replayed.ensures in
     let ran = said.ran in
     let stays = c.shown_stays.ensures.shown in
     let new = booted c.args.machine.now c.in-Ok.kernel c.in-Ok.ensures.parts c.in-Ok.ensures.shows in
@@ -26,7 +26,7 @@ returns-clause-ran g c =
 
 pub returns-clause-ended : goal.returns-clause-ended
 returns-clause-ended g c =
-    let said = c.replay-replayed.ensures in
+    let said = c.replay_noted-replayed.ensures in
     rw (c.after_flush.ensures, c.outcome_of.ensures, c.send_failed.ensures, c.flush-flushed.ensures.failed) (
     ends _ _ _ _ _ _ said.ended said.failed (search rules) c.flush-flushed.ensures.fine
     )

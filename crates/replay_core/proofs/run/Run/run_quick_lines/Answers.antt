@@ -23,3 +23,7 @@ lines-preserved g c =
       omega (arith, c.lines.invariant.2, left, ran.within),
       ran.failed,
     )
+
+pub returns-then-rest-lt-WINDOW-clause-ran : goal.returns-then-rest-lt-WINDOW-clause-ran
+returns-then-rest-lt-WINDOW-clause-ran g c only before given start pending holds stands =
+    c.run_last_lines.ensures.ran only before given start pending holds (c.lines.invariant.0 only before given start pending holds stands)

@@ -1,7 +1,7 @@
 use Rattle.std.proofs.Common.{◌≡◌, ◌+◌, false, List, [], ℕ, length}
 use Rattle.std.specs.Io.KnownBytes.{Consumes}
 use Rattle.replay_core.specs.Standing.{Stands}
-use Rattle.replay_core.proofs.replaying.replay.Given as goal
+use Rattle.replay_core.proofs.replaying.replay_noted.Given as goal
 
 abbrev pub invariant-pulls : goal.invariant-pulls
 invariant-pulls g l =

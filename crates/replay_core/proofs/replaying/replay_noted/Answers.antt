@@ -7,7 +7,7 @@ use Rattle.replay_core.proofs.OwnLemmas.{own_lines_taken}
 use Rattle.replay_core.proofs.PromiseLemmas.{all_promised, part_promised}
 use Rattle.replay_core.proofs.PushLemmas.{some_left}
 use Rattle.replay_core.proofs.RunLemmas.{stands_first, stands_given, stands_sent, stands_few, ended_are_done, all_are_done, last_is_done, stopped_before, stopped_at_last, ended_at, err_of, ok_of, is_ok_of, is_err_of}
-use Rattle.replay_core.proofs.replaying.replay.Goals as goal
+use Rattle.replay_core.proofs.replaying.replay_noted.Goals as goal
 
 pub pulls-init : goal.pulls-init
 pulls-init g c = (
