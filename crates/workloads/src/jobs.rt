@@ -12,8 +12,10 @@ use judge::Machine;
 use kernel_core::{Config, Kernel};
 use own_trace::keep;
 use picture_svg::picture::Picture;
-use replay_core::{Drain, Pending, ReaderFeed, ReplayError, WriterDrain, replay};
-use run_notes::{MOST_NUMBER, NotedReader, NotedWriter};
+use replay_core::{
+    Drain, NoNotes, Notes, Pending, ReaderFeed, ReplayError, WriterDrain, replay_noted,
+};
+use run_notes::{MOST_NUMBER, RunNotes};
 use std::alloc::{AllocError, Global};
 use std::io::{BufWriter, Read, Write};
 use words_core::{Answer, Event, LineFault, Refusal};
@@ -125,7 +127,7 @@ pub fn run(alloc: Global, work: &Work, seed: u64, digest: &mut Digest) -> Result
                 replay_all(alloc, work.load.config, lines, Some(tenant), digest)?;
             }
             Job::Own => keep_own(alloc, work.load.config, lines, tenant, digest)?,
-            Job::Tally => replay_noted(alloc, work.load.config, lines, digest)?,
+            Job::Tally => replay_and_note(alloc, work.load.config, lines, digest)?,
             Job::Check => check_both(alloc, work.load.config, lines, own_seed, digest)?,
             Job::Picture => draw(alloc, work.load.config, lines, digest)?,
         }
@@ -138,18 +140,25 @@ fn booted(alloc: Global, config: Config) -> Result<Kernel, AllocError> {
     Kernel::boot(alloc, config).map_err(|_| AllocError)
 }
 
-/// Replays the trace of a reader into a writer, for one tenant or for all, and answers a number that hangs on how it went.
-fn replay_between<R: Read + Drop, W: Write + Drop>(
+/// Replays the trace of a reader into a writer, for one tenant or for all, and returns a number that depends on how it went.
+fn replay_between<R: Read + Drop, W: Write + Drop, N: Notes>(
     alloc: Global,
     config: Config,
     only: Option<u8>,
     reader: R,
     writer: W,
+    notes: &mut N,
 ) -> Result<u64, AllocError> {
     let mut kernel = booted(alloc, config)?;
     let room = Vec::with_capacity(alloc, BUFFER_BYTES)?;
     let mut drain = WriterDrain::holding(writer, room);
-    let replayed = replay(&mut kernel, &mut ReaderFeed::new(reader), &mut drain, only);
+    let replayed = replay_noted(
+        &mut kernel,
+        &mut ReaderFeed::new(reader),
+        &mut drain,
+        only,
+        notes,
+    );
     let flushed = !drain.failed() && drain.flush().is_ok();
     let (tally, error) = match replayed {
         Ok(tally) => (tally, 0),
@@ -201,29 +210,27 @@ fn replay_all(
     only: Option<u8>,
     digest: &mut Digest,
 ) -> Result<(), AllocError> {
-    let ended = replay_between(alloc, config, only, trace, &mut *digest)?;
+    let ended = replay_between(alloc, config, only, trace, &mut *digest, &mut NoNotes)?;
     digest.add(ended);
     Ok(())
 }
 
-/// Replays a trace, and notes what goes through.
-fn replay_noted(
+/// Replays a trace, and notes its faulty lines and the refusals.
+fn replay_and_note(
     alloc: Global,
     config: Config,
     trace: &[u8],
     digest: &mut Digest,
 ) -> Result<(), AllocError> {
-    let mut reader = NotedReader::new(trace);
-    let mut writer = NotedWriter::new(&mut *digest);
-    let ended = replay_between(alloc, config, None, &mut reader, &mut writer)?;
-    let refusals = writer.into_notes();
+    let mut notes = RunNotes::new();
+    let ended = replay_between(alloc, config, None, trace, &mut *digest, &mut notes)?;
     digest.add(ended);
     for number in 1..=MOST_NUMBER {
-        if let Some(refused) = refusals.told(number) {
+        if let Some(refused) = notes.told(number) {
             digest.add_bytes(format!(in alloc; "{refused}")?.as_bytes());
         }
     }
-    for line in reader.into_notes().first().iter().flatten() {
+    for line in notes.first().iter().flatten() {
         digest.add_bytes(format!(in alloc; "{line}")?.as_bytes());
     }
     Ok(())
@@ -251,7 +258,7 @@ fn check_both(
     digest: &mut Digest,
 ) -> Result<(), AllocError> {
     let mut replies = Vec::with_capacity(alloc, trace.len().saturating_mul(2))?;
-    let ended = replay_between(alloc, config, None, trace, &mut replies)?;
+    let ended = replay_between(alloc, config, None, trace, &mut replies, &mut NoNotes)?;
     digest.add(ended);
     digest.add_bytes(replies.as_slice());
     digest.add(checked(alloc, config, trace, replies.as_slice())?);
