@@ -310,16 +310,7 @@ impl HeldCache {
         false
     }
 
-    /// Whether the slab that has the place has room for an object there, beside its live ones.
-    pub fn has_gap(&self, place: u32) -> bool
-        ensures { let beside = live_beside self.now place in result ≡ (nat_lt (length beside) self.now.count
-            && (list_all (are_apart self.now place) beside && is_any_below (λ i. nat_le (i * self.now.chunk) place
-            && is_grid self.now (slab_around self.now place) (place - i * self.now.chunk) beside) self.now.count)) }
-    {
-        self.has_gap_among(place, self.beside(place))
-    }
-
-    /// [`HeldCache::has_gap`], where these are the live objects of that slab.
+    /// Whether the slab that has the place, whose live objects these are, has room for one more there.
     pub(crate) fn has_gap_among(&self, place: u32, beside: &[u32]) -> bool
         ensures { result ≡ (nat_lt (length beside.now) self.now.count
             && (list_all (are_apart self.now place) beside.now && is_any_below (λ i. nat_le (i * self.now.chunk) place
