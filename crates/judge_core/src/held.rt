@@ -289,14 +289,16 @@ impl Held {
 fn is_over_some(block: &FrameBlock, pages: &[FrameBlock]) -> bool
     ensures { result ≡ list_any (overlaps block.now) pages.now }
 {
-    pages.iter().any(|page| block.overlaps(page))
+    // The last are the nearest to the block.
+    pages.iter().rev().any(|page| block.overlaps(page))
 }
 
 /// Whether the `len` bytes from a place on lie inside one of these page blocks.
 fn some_has_range(pages: &[FrameBlock], place: u32, len: u32) -> bool
     ensures { result ≡ list_any (within_block place len) pages.now }
 {
-    pages.iter().any(|page| page.has_range(place, len))
+    // The last are the nearest to the place.
+    pages.iter().rev().any(|page| page.has_range(place, len))
 }
 
 /// The mark of this number, false where there is none.

@@ -98,6 +98,10 @@ fn mark_caches(taken: &mut [bool; MOST_FRAMES], slot: &FrameBlock, caches: &[Hel
     ensures { (f : ℕ) → f < 2 ^ slot.now.order → slice_index_or taken.new f false ≡ (slice_index_or taken.old f false
         || list_any (λ c. list_any (λ p. overlaps (block (slot.now.first + f) 0) (slab_around c p)) c.live) caches.now) }
 {
+    // If page blocks took the whole slot, no cache has to be searched.
+    if taken[..1 << slot.order()].iter().all(|mark| *mark) {
+        return;
+    }
     for cache in caches {
         cache.mark_slabs(taken, slot);
     }

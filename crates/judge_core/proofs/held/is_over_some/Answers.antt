@@ -1,0 +1,12 @@
+use Rattle.std.proofs.Common.{ap, ◌∙◌, rules}
+use Rattle.std.specs.Slice.Iter.{iter_rest}
+use Rattle.std.proofs.lemmas.Iterator.Adapters.{YieldsList-from_rev_slice}
+use Rattle.std.proofs.lemmas.Iterator.Search.{any_from_yields_List}
+use Rattle.model_core.specs.Operations.{overlaps}
+use Rattle.judge_core.proofs.Lists.{any_reversed}
+use Rattle.judge_core.proofs.held.is_over_some.Goals as goal
+
+pub returns : goal.returns
+returns c = any_from_yields_List (overlaps c.args.block.now) _ _ _ c.any.ensures.ran
+    (YieldsList-from_rev_slice c.args.pages.now (ap iter_rest c.rev.ensures.source ∙ c.iter.ensures.rest)) (λ x b q k. search rules)
+    ∙ any_reversed (overlaps c.args.block.now) c.args.pages.now
