@@ -5,9 +5,10 @@ ghost use Rattle.frame_picture.specs.Rows.{cells_in};
 ghost use Rattle.frame_picture.specs.Owned.{IsOwn};
 
 use crate::history::Sheet;
+use model_core::limits::MOST_SUPERBLOCKS;
 
-/// How many sheets of a tenant are listed at most.
-pub const MOST_LISTED: usize = 256;
+/// How many sheets of a tenant are listed at most: all, on a machine within its limits.
+pub const MOST_LISTED: usize = MOST_SUPERBLOCKS as usize;
 
 /// The indices of a tenant's sheets in a column, found once for all rows.
 #[derive(Drop)]
@@ -20,24 +21,29 @@ pub struct OwnSheets {
 }
 
 impl OwnSheets {
-    /// Of tenant `t` in these sheets.
-    pub fn of(sheets: &[Sheet], t: u8) -> OwnSheets
-        ensures { IsOwn t sheets.now result }
-    {
-        let mut own = OwnSheets {
+    /// Returns a list of none.
+    pub fn new() -> OwnSheets {
+        OwnSheets {
             listed: [0; MOST_LISTED],
             len: 0,
             rest: 0,
-        };
-        let most = sheets.len().min(1 << 16);
-        'sheets: while own.rest < most && own.len < MOST_LISTED {
-            if is_of(&sheets[own.rest], t) {
-                own.listed[own.len] = own.rest as u16;
-                own.len += 1;
-            }
-            own.rest += 1;
         }
-        own
+    }
+
+    /// Lists those of tenant `t` in these sheets, and no others.
+    pub fn list(&mut self, sheets: &[Sheet], t: u8)
+        ensures { IsOwn t sheets.now self.new }
+    {
+        self.len = 0;
+        self.rest = 0;
+        let most = sheets.len().min(1 << 16);
+        'sheets: while self.rest < most && self.len < MOST_LISTED {
+            if is_of(&sheets[self.rest], t) {
+                self.listed[self.len] = self.rest as u16;
+                self.len += 1;
+            }
+            self.rest += 1;
+        }
     }
 }
 

@@ -1,6 +1,6 @@
 //! What each row of a column is drawn as.
 
-ghost use Rattle.std.specs.Prelude.{◌≡◌, ℕ, ◌+◌, ◌-◌, ◌^◌, ◌<◌, ◌≤◌, ◌==◌, List, Some, length, take, count_by, slice_get, slice_index, slice_index_or};
+ghost use Rattle.std.specs.Prelude.{◌≡◌, ℕ, ◌+◌, ◌-◌, ◌^◌, ◌<◌, ◌≤◌, ◌==◌, List, Some, min, length, take, count_by, slice_get, slice_index, slice_index_or};
 ghost use Rattle.frame_picture.specs.Kinds.{rank_of};
 ghost use Rattle.frame_picture.specs.Rows.{cells_in, row_cells, kind_count, first_of, end_of};
 ghost use Rattle.frame_picture.specs.Owned.{IsOwn};
@@ -46,18 +46,21 @@ pub fn set_cells(cells: &mut [[Tone; MOST_ROWS]], columns: &[Column], t: u8, gri
     ensures { (at row : ℕ) (column : Column) (rows : List Tone) → slice_get columns.now at ≡ Some column → slice_get cells.new at ≡ Some rows
         → row < 256 → row < grid.rows → IsRowTone column t grid row (slice_index_or rows row not_held) }
 {
+    let mut own = OwnSheets::new();
     for at in 0..cells.len().min(columns.len()) {
-        set_rows(&mut cells[at], &columns[at], t, grid);
+        let column = &columns[at];
+        own.list(&column.sheets, t);
+        set_rows(&mut cells[at], column, &own, t, grid);
     }
 }
 
 /// Sets the rows of tenant `t` in a column.
-fn set_rows(rows: &mut [Tone; MOST_ROWS], column: &Column, t: u8, grid: Grid)
+fn set_rows(rows: &mut [Tone; MOST_ROWS], column: &Column, own: &OwnSheets, t: u8, grid: Grid)
+    requires { IsOwn t column.now.sheets.items own.now }
     ensures { (row : ℕ) → row < 256 → row < grid.rows → IsRowTone column.now t grid row (slice_index_or rows.new row not_held) }
 {
-    let own = OwnSheets::of(&column.sheets, t);
     for row in 0..MOST_ROWS {
-        rows[row] = row_tone(column, &own, t, grid, row as u32);
+        rows[row] = row_tone(column, own, t, grid, row as u32);
     }
 }
 
@@ -144,8 +147,7 @@ fn count_kinds(
     let (mut counts, mut shown) = count_listed(sheets, own, t, order, first, end);
     for sheet in &sheets[own.rest..] {
         let cells = cells_of(sheet, t, order, first, end);
-        count_cells(cells, &mut counts);
-        shown = shown.saturating_add(cells.len());
+        count_cells(cells, &mut counts, &mut shown);
     }
     (counts, shown)
 }
@@ -171,8 +173,7 @@ fn count_listed(
     let mut shown = 0usize;
     for j in 0..own.len {
         let cells = cells_of(&sheets[own.listed[j] as usize], t, order, first, end);
-        count_cells(cells, &mut counts);
-        shown = shown.saturating_add(cells.len());
+        count_cells(cells, &mut counts, &mut shown);
     }
     (counts, shown)
 }
@@ -196,15 +197,17 @@ fn cells_of(sheet: &Sheet, t: u8, order: u32, first: u32, end: u32) -> &[FrameKi
     &cells[from..to]
 }
 
-/// Counts cells by their kinds.
-fn count_cells(cells: &[FrameKind], counts: &mut [usize; KINDS])
-    ensures { (k : ℕ) → k < 6 → slice_index counts.old k + length cells.now < 2 ^ 64
+/// Counts cells by their kinds, and together.
+fn count_cells(cells: &[FrameKind], counts: &mut [usize; KINDS], shown: &mut usize)
+    ensures kinds { (k : ℕ) → k < 6 → slice_index counts.old k + length cells.now < 2 ^ 64
         → slice_index counts.new k ≡ slice_index counts.old k + count_by (λ cell. rank_of cell == k) cells.now }
+    ensures all { shown.new ≡ min (shown.old + length cells.now) usize.MAX }
 {
     for cell in cells {
         let kind = rank(*cell);
         counts[kind] = counts[kind].saturating_add(1);
     }
+    *shown = shown.saturating_add(cells.len());
 }
 
 /// Where the greatest of the first counts stands, of several the first.

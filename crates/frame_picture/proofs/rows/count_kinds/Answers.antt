@@ -22,6 +22,6 @@ loop-sheet-preserved c =
     ∙ ap (λ x. before ++ x) (sym c.cells_of-cells.ensures) in
     record {
       long = c.count_cells.array_long;
-      kinds = counts_more before here _ c.loop-sheet.counts c.count_cells.new.counts more c.loop-sheet.invariant.kinds c.count_cells.ensures;
-      all = shown_more before here _ c.loop-sheet.shown c.saturating_add-shown.result more c.loop-sheet.invariant.all c.saturating_add-shown.ensures;
+      kinds = counts_more before here _ c.loop-sheet.counts c.count_cells.new.counts more c.loop-sheet.invariant.kinds c.count_cells.ensures.kinds;
+      all = shown_more before here _ c.loop-sheet.shown c.count_cells.new.shown more c.loop-sheet.invariant.all c.count_cells.ensures.all;
     }

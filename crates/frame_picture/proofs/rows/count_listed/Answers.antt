@@ -15,6 +15,6 @@ loop-j-preserved c =
     ∙ ap (λ x. before ++ x) (sym c.cells_of-cells.ensures) in
     record {
       long = c.count_cells.array_long;
-      kinds = counts_more before here _ c.loop-j.counts c.count_cells.new.counts more c.loop-j.invariant.kinds c.count_cells.ensures;
-      all = shown_more before here _ c.loop-j.shown c.saturating_add-shown.result more c.loop-j.invariant.all c.saturating_add-shown.ensures;
+      kinds = counts_more before here _ c.loop-j.counts c.count_cells.new.counts more c.loop-j.invariant.kinds c.count_cells.ensures.kinds;
+      all = shown_more before here _ c.loop-j.shown c.count_cells.new.shown more c.loop-j.invariant.all c.count_cells.ensures.all;
     }
