@@ -1,8 +1,12 @@
 //! A trace on a new machine, and its picture.
 
-ghost use Rattle.std.specs.Prelude.{◌≡◌, ◌^◌, ◌<◌, ◌≤◌, false, length};
+ghost use Rattle.std.specs.Prelude.{◌≡◌, ℕ, ◌+◌, ◌^◌, ◌<◌, ◌≤◌, List, [], false, length};
 ghost use Rattle.kernel_core.specs.Steps.{HasPattern};
 ghost use Rattle.replay_core.specs.Standing.{IsRunnable};
+ghost use Rattle.world_core.specs.Output.{event_in};
+ghost use Rattle.framemap.specs.Pieces.{IsWatched};
+ghost use Rattle.replay_core.specs.declared.pending.Pending.{Pending};
+ghost use Rattle.replay_core.specs.Pending.{HoldsNothing};
 
 use crate::settings::Settings;
 use command_line::Outcome;
@@ -107,7 +111,7 @@ fn watch<F: Feed>(kernel: &mut Kernel, feed: &mut F, history: &mut History) -> R
     Ok(events)
 }
 
-/// Runs the lines that end in a piece of the trace, and answers how many were events; what follows the last of them becomes
+/// Runs the lines that end in a piece of the trace, and returns how many were events. What follows the last of them becomes
 /// pending.
 pub(crate) fn watch_piece(
     piece: &[u8],
@@ -116,53 +120,60 @@ pub(crate) fn watch_piece(
     history: &mut History,
 ) -> u64
     requires { length piece.now < 2 ^ 64 }
+    ensures { (given : List ℕ) (n : ℕ) → IsWatched given piece.now pending.old n → IsWatched given [] pending.new (n + result) }
 {
+    // The bytes of a write: one buffer for all lines.
+    let mut room = [0; MOST_BYTES];
     let mut events = 0u64;
     let mut rest = piece;
     if pending.is_empty() {
-        rest = watch_requests(piece, &mut events, kernel, history);
+        rest = watch_requests(piece, &mut room, &mut events, kernel, history);
     }
     'lines: while let Some(end) = line_end(rest) {
         let more = watch_line(pending.end_with(&rest[..end]), kernel, history);
         events = events.saturating_add(more);
-        rest = watch_requests(&rest[end + 1..], &mut events, kernel, history);
+        rest = watch_requests(&rest[end + 1..], &mut room, &mut events, kernel, history);
     }
     pending.add(rest);
     events
 }
 
-/// Runs the lines at the front of a piece as long as they are requests that are read the short way, counts them as events, and returns
-/// the rest of the piece. No beginning of a line may be pending.
+/// Runs the requests at the front of a piece that are read in place, counts them as events, and returns the rest of the piece. No
+/// beginning of a line may be pending.
+#[inline(always)]
 fn watch_requests<'a>(
     piece: &'a [u8],
+    room: &mut [u8; MOST_BYTES],
     events: &mut u64,
     kernel: &mut Kernel,
     history: &mut History,
 ) -> &'a [u8]
-    requires { length piece.now < 2 ^ 64 }
-    ensures { length result.now ≤ length piece.now }
+    requires { events.old + length piece.now < 2 ^ 64 }
+    ensures watched { (given : List ℕ) (pending : Pending) (n : ℕ) → HoldsNothing pending → IsWatched given piece.now pending (n + events.old)
+        → IsWatched given result.now pending (n + events.new) }
+    ensures more { events.old ≤ events.new }
+    ensures fewer { events.new + length result.now ≤ events.old + length piece.now }
 {
-    // The bytes of a write: one buffer for all lines.
-    let mut room = [0; MOST_BYTES];
     let mut rest = piece;
-    'lines: while let Some(line) = read_request(rest, &mut room) {
+    'lines: while let Some(line) = read_request(rest, room) {
         let len = line.len;
         note_refusal(kernel.ask(line.tenant, line.request), history);
         history.add_line(kernel);
-        *events = events.saturating_add(1);
+        *events += 1;
         rest = &rest[len..];
     }
     rest
 }
 
-/// Runs a line that was read so, and answers whether it was an event, by 1 or 0; nobody is told what the kernel answers. A
-/// report changes nothing, and is not made.
+/// Runs a line with this reading, and returns 1 if it was an event, else 0. The kernel's answer is not printed. A report
+/// changes nothing, and is not made.
 pub(crate) fn watch_line(
     reading: Result<Option<Event>, LineFault>,
     kernel: &mut Kernel,
     history: &mut History,
 ) -> u64
     requires { IsRunnable reading }
+    ensures { result ≡ length (event_in reading) }
 {
     let events = match reading {
         Ok(Some(Event::Admin(command))) => {

@@ -38,6 +38,10 @@ const PARTS: [&[u8]; 22] = [
     b"                                                                                                                                \n",
 ];
 
+/// Requests behind the beginnings of other lines, which a cut parts from them.
+const BEGINNINGS: &[u8] = b"\
+admin grant 0\nadmin grant 0\n    frob0 alloc 1\n10 alloc 1\n0 alloc 1\n0 alloc 1\n0 free 2\n0 alloc 0\n0 alloc 1\n0 alloc 1\n";
+
 /// A machine that is watched.
 #[derive(Drop)]
 struct Watched {
@@ -141,6 +145,14 @@ fn pictures_are_as_before(rt: HostRuntime) -> Result<(), Fail> {
             _ => 1 << 16,
         };
         compare(&rt, text.as_slice(), piece)?;
+    }
+    Ok(())
+}
+
+#[test]
+fn a_cut_in_a_line_changes_nothing(rt: HostRuntime) -> Result<(), Fail> {
+    for piece in 1..BEGINNINGS.len() {
+        compare(&rt, BEGINNINGS, piece)?;
     }
     Ok(())
 }
