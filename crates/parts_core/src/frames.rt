@@ -200,7 +200,8 @@ fn kind_in(list: ListId) -> FrameKind
     }
 }
 
-/// Sets the cells from `begin` on and below `end`, which are free so far. Most frames stay so, and most other blocks have one frame.
+/// Sets the cells from `begin` on and below `end`, which are free so far. Most blocks have one frame: its cell is set without the loop
+/// for more, which becomes a call of `memset`.
 fn set_cells(cells: &mut [FrameKind], begin: usize, end: usize, kind: FrameKind)
     requires inside { end ≤ length cells.old }
     requires free { (k : ℕ) (cell : FrameKind) → begin ≤ k → k < end → slice_get cells.old k ≡ Some cell → cell ≡ Free }
