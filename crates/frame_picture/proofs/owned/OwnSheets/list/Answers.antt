@@ -1,4 +1,4 @@
-use Rattle.std.proofs.Common.{◌≡◌, ℕ, ◌+◌, ◌<◌, ◌≤◌, ◌++◌, refl, length, take, get_or, set, slice_index, ap, sym, subst, ◌∙◌, arith}
+use Rattle.std.proofs.Common.{ℕ, ◌<◌, ◌++◌, refl, length, ap, sym, ◌∙◌, arith}
 use Rattle.frame_picture.proofs.RowLemmas.{row_cells_more}
 use Rattle.std.proofs.Math.ListN.{length-set}
 use Rattle.frame_picture.specs.Rows.{cells_in}
