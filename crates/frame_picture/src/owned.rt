@@ -21,7 +21,7 @@ pub struct OwnSheets {
 }
 
 impl OwnSheets {
-    /// Returns a list of none.
+    /// Returns an empty list.
     pub fn new() -> OwnSheets {
         OwnSheets {
             listed: [0; MOST_LISTED],
@@ -30,7 +30,7 @@ impl OwnSheets {
         }
     }
 
-    /// Lists those of tenant `t` in these sheets, and no others.
+    /// Lists the sheets of tenant `t` among these, in place of what was listed before.
     pub fn list(&mut self, sheets: &[Sheet], t: u8)
         ensures { IsOwn t sheets.now self.new }
     {

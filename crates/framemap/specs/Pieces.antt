@@ -5,7 +5,7 @@ use Rattle.replay_core.specs.declared.pending.Pending.{Pending}
 use Rattle.replay_core.specs.Pending.{HoldsLine}
 use Rattle.replay_core.specs.Standing.{IsOneLine, AreLines}
 
--- The lines that ended are done, and so many of them were events; the beginning of the next is held, and the rest is to come.
+-- The lines that ended are done, and `events` of them were events. The beginning of the next is held, and the rest is to come.
 pub record IsWatched (given rest : List ℕ) (pending : Pending) (events : ℕ) : Type 0 where
   pub done : List (List ℕ)
   pub tail : List ℕ
