@@ -23,11 +23,11 @@ use Rattle.space_core.proofs.Laws.{laws_of}
 use Rattle.buddy_core.specs.Content as buddies
 use Rattle.slab_tables.specs.Content as tables
 use Rattle.slab_tables.proofs.Keeping.{slabs_opening}
-use Rattle.parts_laws.specs.Shows.{ShowsMachine, node_of, has_slab}
-use Rattle.parts_laws.specs.Slots.{HoldTogether}
-use Rattle.parts_laws.specs.Pages.{IsInReach}
-use Rattle.parts_laws.proofs.SlotEmpty.{none_in, opening_shows}
-use Rattle.parts_laws.proofs.Lookups.{some_same}
+use Rattle.machine_changes.specs.Shows.{ShowsMachine, node_of, has_slab}
+use Rattle.machine_changes.specs.Slots.{HoldTogether}
+use Rattle.machine_changes.specs.Pages.{IsInReach}
+use Rattle.machine_changes.proofs.SlotEmpty.{none_in, opening_shows}
+use Rattle.machine_changes.proofs.Lookups.{some_same}
 use Rattle.slab_core.proofs.ReserveByNeed.{found_choice, found_step}
 use Rattle.slab_core.proofs.ReserveOne.{IsServed, is_served}
 use Rattle.parts_core.specs.Parts.{Parts, parts_of, opening_parts}

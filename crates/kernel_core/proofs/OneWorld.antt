@@ -1,6 +1,6 @@
 -- The parts of a kernel show one world at most.
 use Rattle.std.proofs.Common.{◌≡◌, ℕ, suc, List, [], ◌∷◌, length, Some, slice_get, refl, sym, ap, ◌∙◌, arith}
-use Rattle.parts_laws.proofs.PageOne.{one_machine}
+use Rattle.machine_changes.proofs.PageOne.{one_machine}
 use Rattle.kernel_core.specs.Shows.{OneWorld}
 
 -- lists of one length with the same elements are one

@@ -10,7 +10,7 @@ use Rattle.space_core.specs.Content as spaces
 use Rattle.space_core.specs.Content.{IsSpace, owner_at}
 use Rattle.model_core.specs.Owners.{owned_by, is_owner}
 use Rattle.world_core.specs.World.{given_up}
-use Rattle.parts_laws.proofs.Lookups.{some_none, some_same}
+use Rattle.machine_changes.proofs.Lookups.{some_none, some_same}
 use Rattle.parts_core.proofs.Numbers.{is_same}
 
 -- an owner is one tenant with one slot

@@ -6,10 +6,10 @@ use Rattle.model_core.specs.declared.report.CacheRow.{CacheRow}
 use Rattle.model_core.specs.Machine.{Machine}
 use Rattle.model_core.specs.Reports.{frames_held, frames_taken, frames_free, greatest, greatest_free, free_count, split_share, order_rows, rows_of_caches}
 use Rattle.buddy_core.specs.Content as buddies
-use Rattle.parts_laws.specs.Figures.{HasFigures, AreWithin, frames_below}
-use Rattle.parts_laws.specs.Slots.{HoldTogether}
-use Rattle.parts_laws.proofs.FigureBounds.{figures_fit}
-use Rattle.parts_laws.proofs.FigureMeets.{figures_meet}
+use Rattle.machine_changes.specs.Figures.{HasFigures, AreWithin, frames_below}
+use Rattle.machine_changes.specs.Slots.{HoldTogether}
+use Rattle.machine_changes.proofs.FigureBounds.{figures_fit}
+use Rattle.machine_changes.proofs.FigureMeets.{figures_meet}
 use Rattle.words_core.specs.declared.report.Report.{Report}
 use Rattle.world_core.specs.PrivateStep.{figures_of}
 use Rattle.parts_core.specs.Parts.{Parts, PartsAgree}

@@ -6,8 +6,8 @@ use Rattle.model_core.specs.declared.report.OrderRow.{OrderRow}
 use Rattle.model_core.specs.Machine.{Machine}
 use Rattle.model_core.specs.Reports.{order_row, order_rows, greatest}
 use Rattle.buddy_core.specs.Content as buddies
-use Rattle.parts_laws.specs.Figures.{AreWithin, frames_below}
-use Rattle.parts_laws.proofs.FigureOrders.{frames_more}
+use Rattle.machine_changes.specs.Figures.{AreWithin, frames_below}
+use Rattle.machine_changes.proofs.FigureOrders.{frames_more}
 
 abbrev row : ℕ → ℕ → OrderRow
 row free taken = record { free = free; taken = taken }

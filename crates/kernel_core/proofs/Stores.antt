@@ -14,9 +14,9 @@ use Rattle.space_core.specs.Content as spaces
 use Rattle.space_core.proofs.Laws.{laws_of, with_window-IsSpace}
 use Rattle.buddy_core.specs.Content as buddies
 use Rattle.slab_tables.specs.Content as tables
-use Rattle.parts_laws.specs.Pages.{IsInReach, stored}
-use Rattle.parts_laws.specs.Slots.{HoldTogether}
-use Rattle.parts_laws.proofs.PageHolds.{reach_bytes}
+use Rattle.machine_changes.specs.Pages.{IsInReach, stored}
+use Rattle.machine_changes.specs.Slots.{HoldTogether}
+use Rattle.machine_changes.proofs.PageHolds.{reach_bytes}
 use Rattle.parts_core.specs.Parts.{Parts, PartsAgree, parts_of}
 use Rattle.parts_core.proofs.Changing.{parts_agree, steady}
 use Rattle.parts_core.proofs.PageBytes.{IsAsked, held, write_agrees, write_done}

@@ -3,7 +3,7 @@ use Rattle.std.proofs.Common.{◌≡◌, ℕ, ◌≤◌, refl, arith}
 use Rattle.std.proofs.lemmas.List.{length-replicate}
 use Rattle.model_core.specs.declared.limits.TheConstants.{MOST_SUPERBLOCKS, MOST_TENANTS}
 use Rattle.space_core.proofs.Empty.{empty_space-IsSpace}
-use Rattle.parts_laws.proofs.SlotEmpty.{opening_shows}
+use Rattle.machine_changes.proofs.SlotEmpty.{opening_shows}
 use Rattle.world_core.specs.World.{opening_world}
 use Rattle.parts_core.specs.Parts.{PartsAgree, opening_parts}
 use Rattle.kernel_core.specs.Shows.{Shows, OneWorld}

@@ -13,7 +13,7 @@ use Rattle.world_core.specs.Limits.{cache_limit}
 use Rattle.world_core.specs.PrivateStep.{Ask, Grant}
 use Rattle.space_core.specs.Content as spaces
 use Rattle.space_core.specs.Changes.{with_grant}
-use Rattle.parts_laws.specs.Pages.{stored}
+use Rattle.machine_changes.specs.Pages.{stored}
 use Rattle.parts_core.specs.Parts.{Parts, parts_of}
 use Rattle.kernel_core.specs.Steps.{Steps}
 use Rattle.kernel_core.specs.Stores.{IsKernel, Stores, Loads, StoresAreWrites, LoadsAreOwn}

@@ -5,8 +5,8 @@ use Rattle.std.proofs.lemmas.Bool.{cases_eq, eq-eqb}
 use Rattle.std.proofs.lemmas.List.{length-set}
 use Rattle.model_core.specs.Machine.{Machine}
 use Rattle.model_core.specs.Operations.{Step}
-use Rattle.parts_laws.proofs.Lookups.{some_same}
-use Rattle.parts_laws.proofs.Untouched.{kept_shows_same}
+use Rattle.machine_changes.proofs.Lookups.{some_same}
+use Rattle.machine_changes.proofs.Untouched.{kept_shows_same}
 use Rattle.words_core.specs.declared.event.Event.TheVariants as On
 use Rattle.words_core.specs.declared.event.Command.{Command}
 use Rattle.words_core.specs.declared.reply.Addressee.TheVariants as To

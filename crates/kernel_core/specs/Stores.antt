@@ -7,8 +7,8 @@ use Rattle.words_core.specs.declared.reply.Addressee.TheVariants as To
 use Rattle.words_core.specs.declared.reply.Body.TheVariants.{Written}
 use Rattle.world_core.specs.World.{World}
 use Rattle.space_core.specs.Windows.{byte_at}
-use Rattle.parts_laws.specs.Slots.{HoldTogether}
-use Rattle.parts_laws.specs.Pages.{IsInReach, stored}
+use Rattle.machine_changes.specs.Slots.{HoldTogether}
+use Rattle.machine_changes.specs.Pages.{IsInReach, stored}
 use Rattle.parts_core.specs.Parts.{Parts, PartsAgree}
 use Rattle.kernel_core.specs.Shows.{Shows}
 use Rattle.kernel_core.specs.Steps.{Steps}

@@ -4,7 +4,7 @@ ghost use Rattle.std.specs.Prelude.{◌≡◌, ◌+◌, ◌<◌, ◌≤◌, leng
 ghost use Rattle.model_core.specs.Machine.{Machine};
 ghost use Rattle.model_core.specs.Reports.{frames_held, frames_taken, free_count, greatest, order_rows, split_share as share};
 ghost use Rattle.buddy_core.specs.Content.{holding_of};
-ghost use Rattle.parts_laws.specs.Figures.{HasFigures, AreWithin, frames_below};
+ghost use Rattle.machine_changes.specs.Figures.{HasFigures, AreWithin, frames_below};
 ghost use Rattle.world_core.specs.PrivateStep.{figures_of};
 ghost use Rattle.parts_core.specs.Shows.{ShowsMachine};
 

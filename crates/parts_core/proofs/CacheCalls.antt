@@ -14,8 +14,8 @@ use Rattle.layout_core.specs.declared.layout.LayoutRefusal.TheVariants as cuttin
 use Rattle.space_core.specs.Content as spaces
 use Rattle.buddy_core.specs.Content as buddies
 use Rattle.slab_tables.specs.Content as tables
-use Rattle.parts_laws.specs.Shows.{Agree}
-use Rattle.parts_laws.specs.Keeps.{Keeps, Spares}
+use Rattle.machine_changes.specs.Shows.{Agree}
+use Rattle.machine_changes.specs.Keeps.{Keeps, Spares}
 use Rattle.parts_core.specs.Parts.{Parts, parts_of}
 use Rattle.parts_core.specs.Shows.{ShowsMachine}
 use Rattle.parts_core.specs.Does.{Does}

@@ -7,7 +7,7 @@ use Rattle.space_core.specs.Content as spaces
 use Rattle.space_core.specs.Laws.{IsSameFor}
 use Rattle.buddy_core.specs.Content as buddies
 use Rattle.slab_tables.specs.Content as tables
-use Rattle.parts_laws.specs.Keeps.{Spares}
+use Rattle.machine_changes.specs.Keeps.{Spares}
 use Rattle.parts_core.specs.Parts.{Parts, Keeps, parts_of}
 use Rattle.parts_core.specs.Shows.{ShowsMachine}
 use Rattle.parts_core.specs.Does.{Does}

@@ -2,14 +2,14 @@
 use Rattle.std.proofs.Common.{◌≡◌, ◌⊎◌, inl, inr, ◌∙◌, ℕ, ◌<◌, ◌≤◌, Some, None, [], length, slice_index_or, refl, sym, ap, subst, arith}
 use Rattle.std.proofs.lemmas.Bool.{cases_lt}
 use Rattle.std.proofs.lemmas.List.{length-set, get_or_past}
-use Rattle.parts_laws.proofs.Lookups.{some_none}
+use Rattle.machine_changes.proofs.Lookups.{some_none}
 use Rattle.space_core.specs.Content as spaces
 use Rattle.buddy_core.specs.Content as buddies
 use Rattle.slab_tables.specs.Content as tables
-use Rattle.parts_laws.specs.Shows.{Agree}
-use Rattle.parts_laws.specs.Steady.{IsSteady}
-use Rattle.parts_laws.proofs.Steady.{agree_steady}
-use Rattle.parts_laws.specs.Slots.{HoldTogether}
+use Rattle.machine_changes.specs.Shows.{Agree}
+use Rattle.machine_changes.specs.Steady.{IsSteady}
+use Rattle.machine_changes.proofs.Steady.{agree_steady}
+use Rattle.machine_changes.specs.Slots.{HoldTogether}
 use Rattle.parts_core.specs.Parts.{Parts, PartsAgree, SameSizes, parts_of}
 
 -- each tenant has its row in the memory's mapping

@@ -8,16 +8,16 @@ use Rattle.klist_core.specs.Places.{place_at}
 use Rattle.space_core.specs.Content as spaces
 use Rattle.buddy_core.specs.Content as buddies
 use Rattle.slab_tables.specs.Content.{Content, IsSlabs, layout_numbers, head_of, index_of_cache}
-use Rattle.parts_laws.specs.Shows as showing
-use Rattle.parts_laws.specs.Shows.{node_of, has_slab, Agree}
-use Rattle.parts_laws.specs.Steady.{IsSteady}
-use Rattle.parts_laws.specs.Laws.{is_kind}
-use Rattle.parts_laws.proofs.Lookups.{some_same}
-use Rattle.parts_laws.proofs.Facts.{cache_shown}
-use Rattle.parts_laws.proofs.Steady.{placed_as}
-use Rattle.parts_laws.proofs.ByKind.{from_list}
-use Rattle.parts_laws.proofs.Taken.{taken_meets}
-use Rattle.parts_laws.specs.Slots.{HoldTogether}
+use Rattle.machine_changes.specs.Shows as showing
+use Rattle.machine_changes.specs.Shows.{node_of, has_slab, Agree}
+use Rattle.machine_changes.specs.Steady.{IsSteady}
+use Rattle.machine_changes.specs.Laws.{is_kind}
+use Rattle.machine_changes.proofs.Lookups.{some_same}
+use Rattle.machine_changes.proofs.Facts.{cache_shown}
+use Rattle.machine_changes.proofs.Steady.{placed_as}
+use Rattle.machine_changes.proofs.ByKind.{from_list}
+use Rattle.machine_changes.proofs.Taken.{taken_meets}
+use Rattle.machine_changes.specs.Slots.{HoldTogether}
 use Rattle.parts_core.specs.Parts.{Parts, parts_of}
 use Rattle.parts_core.specs.Shows.{ShowsMachine}
 use Rattle.parts_core.specs.Frames.{IsInSlab}

@@ -12,7 +12,7 @@ use Rattle.space_core.specs.Laws.{IsSameFor, OthersStay}
 use Rattle.model_core.specs.Owners.{owned_by, is_of}
 use Rattle.parts_core.specs.Parts.{mark_after, MarksFollow}
 use Rattle.parts_core.specs.GivenUp.{GivesUp, owner_without}
-use Rattle.parts_laws.proofs.Lookups.{some_none}
+use Rattle.machine_changes.proofs.Lookups.{some_none}
 use Rattle.parts_core.proofs.Numbers.{is_same, is_other, not_less}
 use Rattle.parts_core.proofs.Marks.{marks_replaced}
 

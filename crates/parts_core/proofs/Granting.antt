@@ -10,10 +10,10 @@ use Rattle.space_core.specs.Content.{owner_at, mark_at}
 use Rattle.space_core.specs.Changes.{IsLeastSlot, with_grant}
 use Rattle.buddy_core.specs.Content as buddies
 use Rattle.slab_tables.specs.Content as tables
-use Rattle.parts_laws.specs.Slots.{HoldTogether, IsSpare, ChangesFor}
-use Rattle.parts_laws.proofs.SlotGranted.{granted_shows}
-use Rattle.parts_laws.proofs.SlotNext.{next_meets}
-use Rattle.parts_laws.proofs.SlotBare.{unowned_is_spare}
+use Rattle.machine_changes.specs.Slots.{HoldTogether, IsSpare, ChangesFor}
+use Rattle.machine_changes.proofs.SlotGranted.{granted_shows}
+use Rattle.machine_changes.proofs.SlotNext.{next_meets}
+use Rattle.machine_changes.proofs.SlotBare.{unowned_is_spare}
 use Rattle.parts_core.specs.Parts.{parts_of, mark_after}
 use Rattle.parts_core.specs.Shows.{ShowsMachine}
 use Rattle.parts_core.specs.Does.{Does, slot_grant_step}

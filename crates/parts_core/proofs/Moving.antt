@@ -8,8 +8,8 @@ use Rattle.space_core.specs.Changes.{with_move}
 use Rattle.buddy_core.specs.Content as buddies
 use Rattle.slab_tables.specs.Content as tables
 use Rattle.slab_tables.specs.Changes.{IsMoved}
-use Rattle.parts_laws.specs.Slots.{HoldTogether, ChangesFor}
-use Rattle.parts_laws.proofs.SlotMoved.{moved_shows}
+use Rattle.machine_changes.specs.Slots.{HoldTogether, ChangesFor}
+use Rattle.machine_changes.proofs.SlotMoved.{moved_shows}
 use Rattle.parts_core.specs.Parts.{MarksFollow, parts_of, mark_after}
 use Rattle.parts_core.specs.Does.{Moves}
 use Rattle.parts_core.proofs.Marks.{marks_kept, marks_replaced}

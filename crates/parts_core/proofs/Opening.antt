@@ -2,8 +2,8 @@
 use Rattle.std.proofs.Common.{◌≡◌, ℕ}
 use Rattle.std.proofs.lemmas.List.{length-replicate}
 use Rattle.buddy_core.specs.Content as buddies
-use Rattle.parts_laws.specs.Shows.{Agree}
-use Rattle.parts_laws.proofs.SlotEmpty.{opening_shows}
+use Rattle.machine_changes.specs.Shows.{Agree}
+use Rattle.machine_changes.proofs.SlotEmpty.{opening_shows}
 use Rattle.parts_core.specs.Parts.{parts_of, opening_parts}
 
 pub opening_agrees : (order superblocks tenants : ℕ)

@@ -9,13 +9,13 @@ use Rattle.model_core.specs.declared.refusals.AllocRefusal.{AllocRefusal}
 use Rattle.space_core.specs.Content as spaces
 use Rattle.buddy_core.specs.Content as buddies
 use Rattle.slab_tables.specs.Content as tables
-use Rattle.parts_laws.specs.Pages.{released}
-use Rattle.parts_laws.proofs.PageTaken.{released_shows, released_agrees}
-use Rattle.parts_laws.specs.Shows.{Agree, frame_under, node_of, has_slab}
-use Rattle.parts_laws.specs.Steady.{IsSteady}
+use Rattle.machine_changes.specs.Pages.{released}
+use Rattle.machine_changes.proofs.PageTaken.{released_shows, released_agrees}
+use Rattle.machine_changes.specs.Shows.{Agree, frame_under, node_of, has_slab}
+use Rattle.machine_changes.specs.Steady.{IsSteady}
 use Rattle.std.specs.Prelude.{is_some}
 use Rattle.std.proofs.lemmas.Bool.{false≢true}
-use Rattle.parts_laws.specs.Keeps.{Spares}
+use Rattle.machine_changes.specs.Keeps.{Spares}
 use Rattle.parts_core.specs.Parts.{Parts, parts_of}
 use Rattle.parts_core.specs.Shows.{ShowsMachine}
 use Rattle.parts_core.specs.Does.{Does}

@@ -8,17 +8,17 @@ use Rattle.model_core.specs.Operations.{Step, read_step, write_step, written}
 use Rattle.model_core.specs.Reach.{in_reach}
 use Rattle.model_core.specs.declared.refusals.ReadRefusal.{ReadRefusal}
 use Rattle.space_core.specs.Content as spaces
-use Rattle.parts_laws.proofs.SlotChanged.{slot_by_unit}
+use Rattle.machine_changes.proofs.SlotChanged.{slot_by_unit}
 use Rattle.space_core.specs.Windows.{is_in_slot, home_of, window_of}
 use Rattle.buddy_core.specs.Content as buddies
 use Rattle.slab_tables.specs.Content as tables
-use Rattle.parts_laws.specs.Steady.{IsSteady}
-use Rattle.parts_laws.proofs.Lookups.{some_none}
-use Rattle.parts_laws.specs.Pages.{IsInReach, IsWritten, stored}
-use Rattle.parts_laws.specs.Slots.{HoldTogether}
-use Rattle.parts_laws.proofs.PageReach.{reach_meets}
-use Rattle.parts_laws.proofs.PageHolds.{reach_reads, reach_held}
-use Rattle.parts_laws.proofs.PageWritten.{written_shows, written_agrees}
+use Rattle.machine_changes.specs.Steady.{IsSteady}
+use Rattle.machine_changes.proofs.Lookups.{some_none}
+use Rattle.machine_changes.specs.Pages.{IsInReach, IsWritten, stored}
+use Rattle.machine_changes.specs.Slots.{HoldTogether}
+use Rattle.machine_changes.proofs.PageReach.{reach_meets}
+use Rattle.machine_changes.proofs.PageHolds.{reach_reads, reach_held}
+use Rattle.machine_changes.proofs.PageWritten.{written_shows, written_agrees}
 use Rattle.parts_core.specs.Parts.{Parts, parts_of}
 use Rattle.parts_core.specs.Shows.{ShowsMachine}
 use Rattle.parts_core.specs.Does.{Does}

@@ -1,10 +1,10 @@
 -- The control records in the kernel's memory.
 use Rattle.std.proofs.Common.{◌≡◌, ℕ, ◌+◌, ◌*◌, ◌/◌, ◌%◌, ◌^◌, true, slice_index, sym, ap, ◌∙◌, subst}
 use Rattle.model_core.specs.Layouts.{is_small}
-use Rattle.parts_laws.specs.Records.{is_set}
-use Rattle.parts_laws.proofs.Facts.{under_is, superblock_of_node, frame_of_node, slab_of_machine}
-use Rattle.parts_laws.specs.Pages.{record_at}
-use Rattle.parts_laws.proofs.PageRecords as pages
+use Rattle.machine_changes.specs.Records.{is_set}
+use Rattle.machine_changes.proofs.Facts.{under_is, superblock_of_node, frame_of_node, slab_of_machine}
+use Rattle.machine_changes.specs.Pages.{record_at}
+use Rattle.machine_changes.proofs.PageRecords as pages
 use Rattle.parts_core.specs.Parts.{Parts, PartsAgree, superblock_at, superblock_bytes}
 use Rattle.parts_core.specs.Records.{RecordsStand}
 

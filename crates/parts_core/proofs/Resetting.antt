@@ -6,8 +6,8 @@ use Rattle.space_core.specs.Content as spaces
 use Rattle.buddy_core.specs.Content as buddies
 use Rattle.slab_tables.specs.Content as tables
 use Rattle.slab_tables.specs.Changes.{IsReset}
-use Rattle.parts_laws.specs.Slots.{HoldTogether, ChangesFor}
-use Rattle.parts_laws.proofs.SlotEmptied.{emptied_shows}
+use Rattle.machine_changes.specs.Slots.{HoldTogether, ChangesFor}
+use Rattle.machine_changes.proofs.SlotEmptied.{emptied_shows}
 use Rattle.parts_core.specs.Parts.{parts_of}
 use Rattle.parts_core.specs.Does.{Does, machine_reset_step}
 use Rattle.parts_core.specs.GivenUp.{GivesUp, owner_without}

@@ -5,7 +5,7 @@ use Rattle.std.proofs.lemmas.Nat.{pow_pos, one_shl, shl_whole, div-mul-add, mod-
 use Rattle.std.proofs.Math.Nat.{div-lt_iff_lt-mul, mul-div_cancel}
 use Rattle.model_core.specs.Blocks.{block, IsTaken, Taken, IsSound}
 use Rattle.model_core.proofs.MemoryKept.{frame_slot}
-use Rattle.parts_laws.proofs.Lookups.{some_same, some_none}
+use Rattle.machine_changes.proofs.Lookups.{some_same, some_none}
 use Rattle.parts_core.specs.Frames.{AreEndedBefore}
 use Rattle.parts_core.specs.declared.frames.FrameKind.{FrameKind}
 use Rattle.parts_core.specs.Parts.{Parts, PartsAgree, parts_of}

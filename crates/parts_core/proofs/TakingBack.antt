@@ -10,9 +10,9 @@ use Rattle.space_core.specs.Content.{mark_at}
 use Rattle.space_core.specs.Changes.{with_take_back}
 use Rattle.buddy_core.specs.Content as buddies
 use Rattle.slab_tables.specs.Content as tables
-use Rattle.parts_laws.specs.Slots.{HoldTogether, ChangesFor}
-use Rattle.parts_laws.proofs.SlotTaken.{taken_back_shows}
-use Rattle.parts_laws.proofs.SlotBusy.{busy_meets}
+use Rattle.machine_changes.specs.Slots.{HoldTogether, ChangesFor}
+use Rattle.machine_changes.proofs.SlotTaken.{taken_back_shows}
+use Rattle.machine_changes.proofs.SlotBusy.{busy_meets}
 use Rattle.parts_core.specs.Parts.{Parts, parts_of, mark_after, superblock_at}
 use Rattle.parts_core.specs.Shows.{ShowsMachine}
 use Rattle.parts_core.specs.Does.{Does}

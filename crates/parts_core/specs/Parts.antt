@@ -4,8 +4,8 @@ use Rattle.model_core.specs.declared.owner.Owner.{Owner}
 use Rattle.space_core.specs.Content as spaces
 use Rattle.buddy_core.specs.Content as buddies
 use Rattle.slab_tables.specs.Content as tables
-use Rattle.parts_laws.specs.Shows.{Agree}
-use Rattle.parts_laws.specs.Keeps as keeping
+use Rattle.machine_changes.specs.Shows.{Agree}
+use Rattle.machine_changes.specs.Keeps as keeping
 use Rattle.model_core.specs.declared.limits.TheConstants.{FRAME_BYTES, MOST_ORDER, MOST_SUPERBLOCKS, MOST_TENANTS}
 
 pub record Parts : Type 0 where

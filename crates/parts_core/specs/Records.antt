@@ -4,7 +4,7 @@ use Rattle.model_core.specs.declared.limits.TheConstants.{FRAME_BYTES, RECORD_OF
 use Rattle.model_core.specs.Layouts.{is_small}
 use Rattle.model_core.specs.Machine.{Slab, Cache, Machine, layout}
 use Rattle.model_core.specs.Slabs.{cache_of, slab_of}
-use Rattle.parts_laws.specs.Records.{is_set}
+use Rattle.machine_changes.specs.Records.{is_set}
 use Rattle.parts_core.specs.Parts.{Parts, superblock_at, superblock_bytes}
 use Rattle.parts_core.specs.Shows.{ShowsMachine}
 

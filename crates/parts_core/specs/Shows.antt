@@ -1,7 +1,7 @@
 -- Which private machine the parts show for a tenant.
 use Rattle.std.specs.Prelude.{ℕ}
 use Rattle.model_core.specs.Machine.{Machine}
-use Rattle.parts_laws.specs.Shows as showing
+use Rattle.machine_changes.specs.Shows as showing
 use Rattle.parts_core.specs.Parts.{Parts}
 
 -- the parts show that the tenant's private machine is this one

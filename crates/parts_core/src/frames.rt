@@ -5,12 +5,12 @@ ghost use Rattle.model_core.specs.Blocks.{block, HasFrame};
 ghost use Rattle.buddy_core.specs.Content.{holding_of, taken_of};
 ghost use Rattle.model_core.specs.Machine.{Machine};
 ghost use Rattle.klist_core.specs.Places.{place_at};
-ghost use Rattle.parts_laws.specs.Shows.{node_of, has_slab};
+ghost use Rattle.machine_changes.specs.Shows.{node_of, has_slab};
 ghost use Rattle.parts_core.specs.Parts.{superblock_at};
 ghost use Rattle.parts_core.specs.Shows.{ShowsMachine};
 ghost use Rattle.parts_core.specs.Frames.{IsFrame, IsInSlab, AreEndedBefore};
 ghost use Rattle.parts_core.specs.declared.frames.FrameKind.TheVariants.{Free};
-ghost use Rattle.parts_laws.specs.Laws.{is_kind};
+ghost use Rattle.machine_changes.specs.Laws.{is_kind};
 
 use crate::Parts;
 use slab_tables::{Kind, ListId};

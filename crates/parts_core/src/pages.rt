@@ -2,8 +2,8 @@
 
 ghost use Rattle.std.specs.Prelude.{◌≡◌, ◌↔◌, true, ◌*◌, ◌/◌, ◌^◌, ◌<◌, ◌≤◌, Some, length, IfOk, IfErr, IfNone, IfSome, OnErr, MatchOption};
 ghost use Rattle.model_core.specs.Operations.{alloc_step, free_step, read_step, write_step};
-ghost use Rattle.parts_laws.specs.Pages.{IsInReach};
-ghost use Rattle.parts_laws.specs.Slots.{HoldTogether};
+ghost use Rattle.machine_changes.specs.Pages.{IsInReach};
+ghost use Rattle.machine_changes.specs.Slots.{HoldTogether};
 ghost use Rattle.space_core.specs.Windows.{home_of, window_of, with_window};
 ghost use Rattle.parts_core.specs.Parts.{superblock_at};
 ghost use Rattle.model_core.specs.declared.limits.TheConstants.{MOST_ORDER};

@@ -3,7 +3,7 @@
 ghost use Rattle.std.specs.Prelude.{◌≡◌, ◌↔◌, ℕ, ◌*◌, ◌^◌, ◌<◌, ◌≤◌, length, IfOk};
 ghost use Rattle.model_core.specs.Owners.{owned_by};
 ghost use Rattle.space_core.specs.Content.{mark_at, owner_at};
-ghost use Rattle.parts_laws.specs.Slots.{HoldTogether};
+ghost use Rattle.machine_changes.specs.Slots.{HoldTogether};
 ghost use Rattle.model_core.specs.declared.limits.TheConstants.{FRAME_BYTES, MOST_ORDER, MOST_SUPERBLOCKS, MOST_TENANTS};
 
 use buddy_core::Buddy;
@@ -24,7 +24,7 @@ pub struct Parts {
 }
 
 impl Model for Parts {
-    ghost use Rattle.parts_laws.specs.Shows.{Agree};
+    ghost use Rattle.machine_changes.specs.Shows.{Agree};
     ghost use Rattle.parts_core.specs.Parts.{Parts as Content, parts_of};
 
     ghost Value = { Content };

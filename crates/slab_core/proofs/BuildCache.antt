@@ -13,9 +13,9 @@ use Rattle.buddy_core.specs.Content as buddies
 use Rattle.slab_tables.specs.declared.cache.Cache as own
 use Rattle.slab_tables.specs.Content.{Content, kept_at, cache_in, cache_at, index_of_cache}
 use Rattle.slab_tables.specs.Changes.{with_cache}
-use Rattle.parts_laws.specs.Shows.{node_of, live_of, is_of_cache, slab_placed, slab_under, slab_at, bare, without_slabs, IsSlab, ShowsMachine, Agree}
-use Rattle.parts_laws.specs.Keeps.{Keeps}
-use Rattle.parts_laws.proofs.Lookups.{at}
+use Rattle.machine_changes.specs.Shows.{node_of, live_of, is_of_cache, slab_placed, slab_under, slab_at, bare, without_slabs, IsSlab, ShowsMachine, Agree}
+use Rattle.machine_changes.specs.Keeps.{Keeps}
+use Rattle.machine_changes.proofs.Lookups.{at}
 use Rattle.slab_core.proofs.Building.{same_here}
 
 -- no slab of the cache with this index stands anywhere

@@ -15,9 +15,9 @@ use Rattle.slab_tables.specs.declared.cache.Cache as own
 use Rattle.slab_tables.specs.Content.{Content, IsSlabs, IsTenant, cache_in, cache_at, index_of_cache}
 use Rattle.slab_tables.specs.Changes.{with_cache, new_cache, IsLeastNumber, IsAllUsed}
 use Rattle.slab_tables.proofs.Reading.{cache_within}
-use Rattle.parts_laws.specs.Shows.{bare, without_slabs, ShowsMachine, Agree}
-use Rattle.parts_laws.proofs.Lookups.{some_none, some_same, at, in_found, found_put}
-use Rattle.parts_laws.proofs.Facts.{none_mapped}
+use Rattle.machine_changes.specs.Shows.{bare, without_slabs, ShowsMachine, Agree}
+use Rattle.machine_changes.proofs.Lookups.{some_none, some_same, at, in_found, found_put}
+use Rattle.machine_changes.proofs.Facts.{none_mapped}
 use Rattle.slab_core.proofs.BuildCache.{IsBare, cache_agrees, cache_shows}
 use Rattle.slab_core.proofs.BuildNumber.{least_above, least_is}
 

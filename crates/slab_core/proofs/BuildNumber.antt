@@ -4,7 +4,7 @@ use Rattle.std.specs.Prelude.{Option, is_some}
 use Rattle.std.proofs.lemmas.Bool.{cases_eq, cases_lt, false≢true, eq-eqb, ne_eqb}
 use Rattle.model_core.specs.Machine.{least_missing}
 use Rattle.model_core.specs.WellFormed.{RisesFrom}
-use Rattle.parts_laws.proofs.Lookups.{some_none, at, at_here, at_past}
+use Rattle.machine_changes.proofs.Lookups.{some_none, at, at_here, at_past}
 
 module _ {X : Type 0} (key : X → ℕ) where
   none_below : (n k : ℕ) (xs : List X) → RisesFrom k (map key xs) → n < k → at key n xs ≡ None

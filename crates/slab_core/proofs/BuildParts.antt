@@ -11,12 +11,12 @@ use Rattle.buddy_core.specs.Content as buddies
 use Rattle.buddy_core.proofs.Holdings.{other_holding}
 use Rattle.slab_tables.specs.declared.cache.Cache as own
 use Rattle.slab_tables.specs.Content.{Content, IsSlabs, kept_at, cache_in, cache_at, index_of_cache, layout_numbers}
-use Rattle.parts_laws.specs.Records.{is_set, count_true}
-use Rattle.parts_laws.specs.Shows.{node_of, byte_or_zero, is_live, live_of, IsAgreed, Agree}
-use Rattle.parts_laws.specs.Keeps.{Keeps, Spares}
-use Rattle.parts_laws.proofs.Facts.{same_below}
-use Rattle.parts_laws.proofs.Steady.{one_owner}
-use Rattle.parts_laws.proofs.Untouched.{node_same}
+use Rattle.machine_changes.specs.Records.{is_set, count_true}
+use Rattle.machine_changes.specs.Shows.{node_of, byte_or_zero, is_live, live_of, IsAgreed, Agree}
+use Rattle.machine_changes.specs.Keeps.{Keeps, Spares}
+use Rattle.machine_changes.proofs.Facts.{same_below}
+use Rattle.machine_changes.proofs.Steady.{one_owner}
+use Rattle.machine_changes.proofs.Untouched.{node_same}
 
 -- only what tenant t has changed, and of the nodes only this one, which lies under frame `first`
 pub record IsLocal (r r' : spaces.Content) (b b' : buddies.Content) (s s' : Content) (t first node : ℕ) : Type 0 where

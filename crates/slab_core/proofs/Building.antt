@@ -15,7 +15,7 @@ use Rattle.space_core.specs.Windows.{is_in_slot, home_of, byte_at, with_window}
 use Rattle.space_core.proofs.Reading.{same_twice}
 use Rattle.slab_tables.specs.declared.cache.Cache as own
 use Rattle.slab_tables.specs.Content.{layout_numbers}
-use Rattle.parts_laws.specs.Shows.{byte_or_zero}
+use Rattle.machine_changes.specs.Shows.{byte_or_zero}
 use Rattle.slab_core.specs.Calls.{IsFilled, IsConstructed}
 
 pub same_here : (t : ℕ) (r : spaces.Content) → IsSameFor t r r

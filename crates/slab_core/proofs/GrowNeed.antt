@@ -17,13 +17,13 @@ use Rattle.space_core.specs.Content as spaces
 use Rattle.buddy_core.specs.Content as buddies
 use Rattle.slab_tables.specs.declared.cache.Cache as own
 use Rattle.slab_tables.specs.Content.{Content, IsSlabs, index_of_cache, head_of}
-use Rattle.parts_laws.specs.Shows.{frame_under, node_of, is_of_cache, ShowsMachine, Agree}
-use Rattle.parts_laws.specs.Steady.{IsSteady}
-use Rattle.parts_laws.specs.Changes.{IsReturned, IsGrown}
-use Rattle.parts_laws.specs.Objects.{IsAllFull}
-use Rattle.parts_laws.proofs.Lookups.{found_key, in_found, keys_mapped}
-use Rattle.parts_laws.proofs.Reaped.{reaped_shows}
-use Rattle.parts_laws.proofs.Using.{take_makes}
+use Rattle.machine_changes.specs.Shows.{frame_under, node_of, is_of_cache, ShowsMachine, Agree}
+use Rattle.machine_changes.specs.Steady.{IsSteady}
+use Rattle.machine_changes.specs.Changes.{IsReturned, IsGrown}
+use Rattle.machine_changes.specs.Objects.{IsAllFull}
+use Rattle.machine_changes.proofs.Lookups.{found_key, in_found, keys_mapped}
+use Rattle.machine_changes.proofs.Reaped.{reaped_shows}
+use Rattle.machine_changes.proofs.Using.{take_makes}
 use Rattle.slab_core.specs.Calls.{idle_at, IsNew}
 use Rattle.slab_core.proofs.ReserveByNeed.{next_choice, no_choice}
 use Rattle.slab_core.proofs.ReturnMany.{idle_empty}

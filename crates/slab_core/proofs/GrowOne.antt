@@ -20,19 +20,19 @@ use Rattle.buddy_core.proofs.Holdings.{own_holding, taken-with_block}
 use Rattle.slab_tables.specs.declared.cache.Cache as own
 use Rattle.slab_tables.specs.Content.{Content, IsSlabs, kept_at, cache_in, cache_at, index_of_cache, head_of, layout_numbers}
 use Rattle.slab_tables.specs.Changes.{fresh_kept, made_more, with_slab}
-use Rattle.parts_laws.specs.Records.{is_set, count_true, flags_from}
-use Rattle.parts_laws.specs.Shows.{frame_under, node_of, is_inside, record_byte, byte_or_zero, is_live, live_of, IsSlab, IsAgreed, Agree, ShowsMachine}
-use Rattle.parts_laws.specs.Keeps.{Spares}
-use Rattle.parts_laws.specs.Slots.{HoldTogether}
-use Rattle.parts_laws.specs.Steady.{IsSteady}
-use Rattle.parts_laws.specs.Changes.{IsGrown}
-use Rattle.parts_laws.proofs.Lookups.{some_none, some_same}
-use Rattle.parts_laws.proofs.Facts.{under_is, one_stays, record_inside, is_not}
-use Rattle.parts_laws.proofs.Grown.{none_set, grown_shows}
-use Rattle.parts_laws.proofs.Steady.{within, in_table, tenant_is}
+use Rattle.machine_changes.specs.Records.{is_set, count_true, flags_from}
+use Rattle.machine_changes.specs.Shows.{frame_under, node_of, is_inside, record_byte, byte_or_zero, is_live, live_of, IsSlab, IsAgreed, Agree, ShowsMachine}
+use Rattle.machine_changes.specs.Keeps.{Spares}
+use Rattle.machine_changes.specs.Slots.{HoldTogether}
+use Rattle.machine_changes.specs.Steady.{IsSteady}
+use Rattle.machine_changes.specs.Changes.{IsGrown}
+use Rattle.machine_changes.proofs.Lookups.{some_none, some_same}
+use Rattle.machine_changes.proofs.Facts.{under_is, one_stays, record_inside, is_not}
+use Rattle.machine_changes.proofs.Grown.{none_set, grown_shows}
+use Rattle.machine_changes.proofs.Steady.{within, in_table, tenant_is}
 use Rattle.model_core.proofs.FreeBlocks.{reserved_is_untaken}
 use Rattle.model_core.proofs.Chosen.{choices_meet}
-use Rattle.parts_laws.proofs.Taken.{taken_meets}
+use Rattle.machine_changes.proofs.Taken.{taken_meets}
 use Rattle.slab_core.specs.Calls.{IsConstructed}
 use Rattle.slab_core.specs.Room.{HasFreeBlock}
 use Rattle.slab_core.proofs.BuildParts.{IsLocal, agreed_still, spares_of, agree_of}

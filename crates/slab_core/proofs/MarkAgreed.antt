@@ -14,13 +14,13 @@ use Rattle.slab_tables.specs.declared.cache.Kept.{Kept}
 use Rattle.slab_tables.specs.Content.{Content, IsSlabs, IsPlacedIn, blank, kept_at, cache_in, index_of_cache, head_of, layout_numbers, kind_of}
 use Rattle.slab_tables.specs.Changes.{with_count}
 use Rattle.slab_tables.proofs.Reading.{kind_below, head_parts, same_place}
-use Rattle.parts_laws.specs.Records.{is_set, count_true}
-use Rattle.parts_laws.specs.Shows.{node_of, record_byte, byte_or_zero, is_live, live_of, is_of_cache, IsSlab, IsAgreed, Agree}
-use Rattle.parts_laws.specs.Keeps.{Spares}
-use Rattle.parts_laws.specs.Changes.{found, IsMarked}
-use Rattle.parts_laws.proofs.Lookups.{some_same}
-use Rattle.parts_laws.proofs.Facts.{under_is, superblock_of_node, same_below}
-use Rattle.parts_laws.proofs.Flags.{length_flags, flag_at, count_few}
+use Rattle.machine_changes.specs.Records.{is_set, count_true}
+use Rattle.machine_changes.specs.Shows.{node_of, record_byte, byte_or_zero, is_live, live_of, is_of_cache, IsSlab, IsAgreed, Agree}
+use Rattle.machine_changes.specs.Keeps.{Spares}
+use Rattle.machine_changes.specs.Changes.{found, IsMarked}
+use Rattle.machine_changes.proofs.Lookups.{some_same}
+use Rattle.machine_changes.proofs.Facts.{under_is, superblock_of_node, same_below}
+use Rattle.machine_changes.proofs.Flags.{length_flags, flag_at, count_few}
 use Rattle.slab_core.specs.Objects.{IsTurned}
 use Rattle.slab_core.proofs.MarkBits.{flags_changed, count_cleared, count_set}
 use Rattle.slab_core.proofs.ObjectSlabs.{IsHeld, held, node_within}

@@ -4,7 +4,7 @@ use Rattle.std.specs.Int.{bit_at}
 use Rattle.std.specs.Int.Bits.{bit_xor}
 use Rattle.std.proofs.lemmas.Bool.{cases_lt, eq-eqb, ne_eqb}
 use Rattle.std.proofs.lemmas.Nat.Bits.{bit_at_xor, bit_at-pow_same, bit_at-pow_other, bit_at-lt}
-use Rattle.parts_laws.specs.Records.{is_set, flags_from, count_true}
+use Rattle.machine_changes.specs.Records.{is_set, flags_from, count_true}
 
 turned : (a b c : ℕ) → a < 2 → b ≡ 1 → c ≡ (a + b) % 2 → eqb c 1 ≡ not (eqb a 1)
 turned a b c few one e = elim (cases_lt a 1) [

@@ -5,9 +5,9 @@ use Rattle.buddy_core.specs.Content as buddies
 use Rattle.slab_tables.specs.declared.cache.Cache as own
 use Rattle.slab_tables.specs.Content.{Content, IsTenant, IsPlacedIn, kept_at, cache_at, layout_numbers}
 use Rattle.slab_tables.specs.Changes.{with_count}
-use Rattle.parts_laws.specs.Shows.{Agree}
-use Rattle.parts_laws.specs.Keeps.{Spares}
-use Rattle.parts_laws.specs.Changes.{found, IsMarked}
+use Rattle.machine_changes.specs.Shows.{Agree}
+use Rattle.machine_changes.specs.Keeps.{Spares}
+use Rattle.machine_changes.specs.Changes.{found, IsMarked}
 use Rattle.slab_core.specs.Objects.{IsTurned, IsToCount}
 use Rattle.slab_core.proofs.ObjectSlabs.{node_within}
 use Rattle.slab_core.proofs.MarkAgreed.{IsCountOf, some_live, count_below, is_placed, alone, marked, agree, spares}

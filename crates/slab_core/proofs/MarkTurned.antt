@@ -13,9 +13,9 @@ use Rattle.slab_tables.specs.declared.cache.Cache as own
 use Rattle.slab_tables.specs.declared.cache.Kept.{Kept}
 use Rattle.slab_tables.specs.Content.{Content, blank, kept_at, layout_numbers}
 use Rattle.slab_tables.specs.Changes.{with_outside}
-use Rattle.parts_laws.specs.Records.{is_set}
-use Rattle.parts_laws.specs.Shows.{byte_or_zero, record_byte, is_live}
-use Rattle.parts_laws.specs.Changes.{Found}
+use Rattle.machine_changes.specs.Records.{is_set}
+use Rattle.machine_changes.specs.Shows.{byte_or_zero, record_byte, is_live}
+use Rattle.machine_changes.specs.Changes.{Found}
 use Rattle.slab_core.specs.Objects.{IsTurned, IsRecordRaised}
 use Rattle.slab_core.proofs.Building.{in_range, out_of_range}
 use Rattle.slab_core.proofs.MarkBits.{bit_turned, bit_stays}

@@ -11,10 +11,10 @@ use Rattle.space_core.specs.Content as spaces
 use Rattle.buddy_core.specs.Content as buddies
 use Rattle.slab_tables.specs.declared.cache.Cache as own
 use Rattle.slab_tables.specs.Content.{Content, IsSlabs, kept_at, cache_at, index_of_cache, layout_numbers}
-use Rattle.parts_laws.specs.Shows.{node_of, is_of_cache, is_live, Agree}
-use Rattle.parts_laws.specs.Changes.{Found, found}
-use Rattle.parts_laws.specs.Objects.{IsObject, IsNoObject}
-use Rattle.parts_laws.proofs.Lookups.{some_none, some_same}
+use Rattle.machine_changes.specs.Shows.{node_of, is_of_cache, is_live, Agree}
+use Rattle.machine_changes.specs.Changes.{Found, found}
+use Rattle.machine_changes.specs.Objects.{IsObject, IsNoObject}
+use Rattle.machine_changes.proofs.Lookups.{some_none, some_same}
 use Rattle.slab_core.proofs.ObjectSlabs.{held}
 
 -- an aligned block is the one around each of its frames

@@ -9,8 +9,8 @@ use Rattle.model_core.specs.declared.refusals.GiveRefusal.TheVariants.{NoCache}
 use Rattle.space_core.specs.Content as spaces
 use Rattle.buddy_core.specs.Content as buddies
 use Rattle.slab_tables.specs.Content.{Content, cache_at}
-use Rattle.parts_laws.specs.Shows.{bare, ShowsMachine}
-use Rattle.parts_laws.proofs.Facts.{none_mapped}
+use Rattle.machine_changes.specs.Shows.{bare, ShowsMachine}
+use Rattle.machine_changes.proofs.Facts.{none_mapped}
 
 -- the machine has no cache of a number that has none in the tables
 pub no_cache : (r : spaces.Content) (b : buddies.Content) (s : Content) (t c : ℕ) (m : Machine) → ShowsMachine r b s t m → cache_at s t c ≡ None → cache_of m c ≡ None

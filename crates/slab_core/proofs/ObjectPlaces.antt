@@ -5,8 +5,8 @@ use Rattle.std.proofs.Math.Nat.{div-div-eq-div-mul}
 use Rattle.space_core.specs.Content as spaces
 use Rattle.slab_tables.specs.declared.cache.Cache as own
 use Rattle.slab_tables.specs.Content.{Content}
-use Rattle.parts_laws.specs.Shows.{IsSlab}
-use Rattle.parts_laws.proofs.Facts.{under_is, superblock_of_node}
+use Rattle.machine_changes.specs.Shows.{IsSlab}
+use Rattle.machine_changes.proofs.Facts.{under_is, superblock_of_node}
 
 -- a place of a frame lies in the frame's slot
 pub place_slot : (unit top f j : ℕ) → unit ≡ 4096 * 2 ^ top → j < 4096 → (4096 * f + j) / unit ≡ f / 2 ^ top

@@ -13,13 +13,13 @@ use Rattle.space_core.specs.Content as spaces
 use Rattle.buddy_core.specs.Content as buddies
 use Rattle.slab_tables.specs.declared.cache.Cache as own
 use Rattle.slab_tables.specs.Content.{Content, kept_at, layout_numbers}
-use Rattle.parts_laws.specs.Shows.{node_of, has_slab, is_live, IsSlab, ShowsMachine}
-use Rattle.parts_laws.specs.Steady.{IsSteady}
-use Rattle.parts_laws.specs.Changes.{Found, found}
-use Rattle.parts_laws.specs.Objects.{IsObject, HasRange, HasNone}
-use Rattle.parts_laws.proofs.Facts.{is_not, has_it, one_slab}
-use Rattle.parts_laws.proofs.Objects.{fit_of}
-use Rattle.parts_laws.proofs.PageReach.{object_tells, object_from}
+use Rattle.machine_changes.specs.Shows.{node_of, has_slab, is_live, IsSlab, ShowsMachine}
+use Rattle.machine_changes.specs.Steady.{IsSteady}
+use Rattle.machine_changes.specs.Changes.{Found, found}
+use Rattle.machine_changes.specs.Objects.{IsObject, HasRange, HasNone}
+use Rattle.machine_changes.proofs.Facts.{is_not, has_it, one_slab}
+use Rattle.machine_changes.proofs.Objects.{fit_of}
+use Rattle.machine_changes.proofs.PageReach.{object_tells, object_from}
 use Rattle.slab_core.proofs.ObjectFinding.{in_frame}
 
 module _ (r : spaces.Content) (b : buddies.Content) (s : Content) (t place len : ℕ) (st : IsSteady r b s t) where

@@ -8,8 +8,8 @@ use Rattle.model_core.specs.Elements.{IsIn}
 use Rattle.space_core.specs.Content as spaces
 use Rattle.buddy_core.specs.Content as buddies
 use Rattle.slab_tables.specs.Content.{Content, cache_at}
-use Rattle.parts_laws.specs.Shows.{ShowsMachine}
-use Rattle.parts_laws.proofs.Lookups.{some_none, some_same, at, at_here, at_past}
+use Rattle.machine_changes.specs.Shows.{ShowsMachine}
+use Rattle.machine_changes.proofs.Lookups.{some_none, some_same, at, at_here, at_past}
 use Rattle.slab_core.proofs.ReturnFrames.{numbers_below}
 use Rattle.model_core.specs.declared.report.CacheRow.{CacheRow}
 use Rattle.model_core.specs.Reports.{row_of_cache}

@@ -13,13 +13,13 @@ use Rattle.space_core.specs.Content as spaces
 use Rattle.buddy_core.specs.Content as buddies
 use Rattle.slab_tables.specs.declared.cache.Cache as own
 use Rattle.slab_tables.specs.Content.{Content, IsSlabs, kept_at, cache_at, index_of_cache, head_of, live_total}
-use Rattle.parts_laws.specs.Records.{count_true}
-use Rattle.parts_laws.specs.Shows.{Agree, ShowsMachine}
-use Rattle.parts_laws.specs.Steady.{IsSteady}
-use Rattle.parts_laws.specs.Laws.{is_kind, ListsHold}
-use Rattle.parts_laws.proofs.Lookups.{some_same, found_key, in_found}
-use Rattle.parts_laws.proofs.Facts.{shown, slab_shown}
-use Rattle.parts_laws.proofs.KindLists.{in_among}
+use Rattle.machine_changes.specs.Records.{count_true}
+use Rattle.machine_changes.specs.Shows.{Agree, ShowsMachine}
+use Rattle.machine_changes.specs.Steady.{IsSteady}
+use Rattle.machine_changes.specs.Laws.{is_kind, ListsHold}
+use Rattle.machine_changes.proofs.Lookups.{some_same, found_key, in_found}
+use Rattle.machine_changes.proofs.Facts.{shown, slab_shown}
+use Rattle.machine_changes.proofs.KindLists.{in_among}
 use Rattle.model_core.specs.declared.report.CacheRow.{CacheRow}
 use Rattle.model_core.specs.Reports.{row_of_cache}
 use Rattle.slab_core.proofs.ObjectSlabs.{held}

@@ -8,10 +8,10 @@ use Rattle.space_core.specs.Content as spaces
 use Rattle.buddy_core.specs.Content as buddies
 use Rattle.slab_tables.specs.declared.cache.Cache as own
 use Rattle.slab_tables.specs.Content.{Content, IsSlabs, IsListed, kept_at, cache_in, cache_at, index_of_cache, layout_numbers}
-use Rattle.parts_laws.specs.Records.{count_true}
-use Rattle.parts_laws.specs.Shows.{live_of, is_live, IsSlab, Agree}
-use Rattle.parts_laws.proofs.Lookups.{some_same}
-use Rattle.parts_laws.proofs.Steady.{within, in_table, placed_as, agreed}
+use Rattle.machine_changes.specs.Records.{count_true}
+use Rattle.machine_changes.specs.Shows.{live_of, is_live, IsSlab, Agree}
+use Rattle.machine_changes.proofs.Lookups.{some_same}
+use Rattle.machine_changes.proofs.Steady.{within, in_table, placed_as, agreed}
 
 -- a slab's node is one of the tables
 pub node_within : (r : spaces.Content) (s : Content) (t c f n : ℕ) (cache : own.Cache) → IsSlab r s t c f n cache → n < length s.lists.places

@@ -9,8 +9,8 @@ use Rattle.model_core.specs.Slabs.{is_full, is_partial, is_empty, live_from, liv
 use Rattle.model_core.specs.Elements.{IsIn}
 use Rattle.slab_tables.specs.declared.cache.Kept.{Kept}
 use Rattle.slab_tables.specs.Content.{kept_at, live_total}
-use Rattle.parts_laws.specs.Records.{count_true}
-use Rattle.parts_laws.proofs.Flags.{any_counts}
+use Rattle.machine_changes.specs.Records.{count_true}
+use Rattle.machine_changes.proofs.Flags.{any_counts}
 
 -- the counts of the nodes of a list
 abbrev pub sum_of : (ℕ → ℕ) → List (ℕ × ℕ) → ℕ

@@ -8,16 +8,16 @@ use Rattle.model_core.specs.Operations.{with_block, alloc_step}
 use Rattle.model_core.specs.Slabs.{reaped, choice_by_need}
 use Rattle.model_core.proofs.Apart.{has_first}
 use Rattle.model_core.proofs.FreeBlocks.{reserved_is_untaken}
-use Rattle.parts_laws.proofs.Reaped.{reaped_shows}
+use Rattle.machine_changes.proofs.Reaped.{reaped_shows}
 use Rattle.model_core.proofs.ByNeed.{alloc_reaps, by_need_found, by_need_reaps, by_need_stays}
 use Rattle.space_core.specs.Content as spaces
 use Rattle.buddy_core.specs.Content as buddies
 use Rattle.slab_tables.specs.Content.{Content, IsSlabs, layout_numbers}
-use Rattle.parts_laws.specs.Shows.{ShowsMachine, Agree}
-use Rattle.parts_laws.specs.Steady.{IsSteady}
-use Rattle.parts_laws.specs.Changes.{IsReturned}
-use Rattle.parts_laws.specs.Room.{HasRoom}
-use Rattle.parts_laws.proofs.Lookups.{some_none}
+use Rattle.machine_changes.specs.Shows.{ShowsMachine, Agree}
+use Rattle.machine_changes.specs.Steady.{IsSteady}
+use Rattle.machine_changes.specs.Changes.{IsReturned}
+use Rattle.machine_changes.specs.Room.{HasRoom}
+use Rattle.machine_changes.proofs.Lookups.{some_none}
 use Rattle.slab_core.specs.Calls.{idle_at}
 use Rattle.slab_core.specs.Room.{HasFreeBlock}
 use Rattle.slab_core.proofs.RoomFrames.{idle_begins}

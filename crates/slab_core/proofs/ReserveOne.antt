@@ -16,14 +16,14 @@ use Rattle.space_core.specs.Content as spaces
 use Rattle.buddy_core.specs.Content as buddies
 use Rattle.buddy_core.proofs.Holdings.{own_holding, other_holding, taken-with_block}
 use Rattle.slab_tables.specs.Content.{Content, layout_numbers}
-use Rattle.parts_laws.specs.Shows.{ShowsMachine, IsAgreed, Agree}
-use Rattle.parts_laws.specs.Keeps.{Spares}
-use Rattle.parts_laws.specs.Steady.{IsSteady}
-use Rattle.parts_laws.proofs.Lookups.{some_none}
+use Rattle.machine_changes.specs.Shows.{ShowsMachine, IsAgreed, Agree}
+use Rattle.machine_changes.specs.Keeps.{Spares}
+use Rattle.machine_changes.specs.Steady.{IsSteady}
+use Rattle.machine_changes.proofs.Lookups.{some_none}
 use Rattle.model_core.proofs.Vacant.{IsVacant, some_choice}
-use Rattle.parts_laws.proofs.Steady.{within}
+use Rattle.machine_changes.proofs.Steady.{within}
 use Rattle.model_core.proofs.FreeBlocks.{reserved_is_untaken}
-use Rattle.parts_laws.proofs.Reserved.{reserved_shows}
+use Rattle.machine_changes.proofs.Reserved.{reserved_shows}
 use Rattle.slab_core.specs.Room.{HasFreeBlock}
 use Rattle.slab_core.proofs.Building.{same_here}
 use Rattle.slab_core.proofs.GrowOne.{something, choice_some, choice_none}

@@ -20,15 +20,15 @@ use Rattle.buddy_core.specs.Content as buddies
 use Rattle.slab_tables.specs.declared.cache.Cache as own
 use Rattle.slab_tables.specs.Content.{Content, IsSlabs, IsPlacedIn, kept_at, cache_at, index_of_cache, head_of}
 use Rattle.slab_tables.specs.Changes.{with_cache}
-use Rattle.parts_laws.specs.Shows.{node_of, ShowsMachine, Agree, bare, without_slabs}
-use Rattle.parts_laws.specs.Keeps.{Spares}
-use Rattle.parts_laws.specs.Steady.{IsSteady}
-use Rattle.parts_laws.specs.Changes.{IsReturned, kept_slabs, gone_blocks, returned}
-use Rattle.parts_laws.proofs.Lookups.{some_none, some_same, at, at_here, at_past, in_found, found_key, found_mapped, found_kept}
-use Rattle.parts_laws.proofs.Facts.{is_not, cache_shown, slab_of_machine, none_mapped}
-use Rattle.parts_laws.proofs.Steady.{in_table, placed_as}
-use Rattle.parts_laws.proofs.ByKind.{to_list, from_list}
-use Rattle.parts_laws.proofs.Returned.{returned_shows}
+use Rattle.machine_changes.specs.Shows.{node_of, ShowsMachine, Agree, bare, without_slabs}
+use Rattle.machine_changes.specs.Keeps.{Spares}
+use Rattle.machine_changes.specs.Steady.{IsSteady}
+use Rattle.machine_changes.specs.Changes.{IsReturned, kept_slabs, gone_blocks, returned}
+use Rattle.machine_changes.proofs.Lookups.{some_none, some_same, at, at_here, at_past, in_found, found_key, found_mapped, found_kept}
+use Rattle.machine_changes.proofs.Facts.{is_not, cache_shown, slab_of_machine, none_mapped}
+use Rattle.machine_changes.proofs.Steady.{in_table, placed_as}
+use Rattle.machine_changes.proofs.ByKind.{to_list, from_list}
+use Rattle.machine_changes.proofs.Returned.{returned_shows}
 use Rattle.slab_core.specs.Calls.{idle_at, empty_frames_in, IsUnused}
 use Rattle.slab_core.proofs.BuildCache.{IsBare, cache_others, cache_shows}
 use Rattle.slab_core.proofs.ReturnMany.{this, idle_tells, idle_is, idle_empty}

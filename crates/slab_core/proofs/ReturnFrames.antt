@@ -10,17 +10,17 @@ use Rattle.model_core.specs.CacheOperations.{frames_of}
 use Rattle.model_core.specs.WellFormed.{RisesFrom}
 use Rattle.model_core.specs.Elements.{IsIn}
 use Rattle.model_core.specs.Blocks.{Block}
-use Rattle.parts_laws.proofs.Lookups.{some_none, at, at_here, at_past, in_found}
+use Rattle.machine_changes.proofs.Lookups.{some_none, at, at_here, at_past, in_found}
 use Rattle.klist_core.specs.Places.{ArePlaces}
 use Rattle.klist_core.specs.Lists.{keys_of}
 use Rattle.space_core.specs.Content as spaces
 use Rattle.buddy_core.specs.Content as buddies
 use Rattle.slab_tables.specs.declared.cache.Cache as own
 use Rattle.slab_tables.specs.Content.{Content, IsSlabs, cache_at, head_of, layout_numbers}
-use Rattle.parts_laws.specs.Shows.{ShowsMachine, Agree}
-use Rattle.parts_laws.specs.Steady.{IsSteady}
-use Rattle.parts_laws.proofs.Facts.{cache_shown, cache_kept}
-use Rattle.parts_laws.proofs.KindLists.{kinds_hold}
+use Rattle.machine_changes.specs.Shows.{ShowsMachine, Agree}
+use Rattle.machine_changes.specs.Steady.{IsSteady}
+use Rattle.machine_changes.proofs.Facts.{cache_shown, cache_kept}
+use Rattle.machine_changes.proofs.KindLists.{kinds_hold}
 use Rattle.slab_core.specs.Calls.{empty_frames_in}
 
 pub frames_append : (f : Cache → List Block) (x : Cache) (xs : List Cache)

@@ -11,22 +11,22 @@ use Rattle.slab_tables.specs.declared.cache.Cache as own
 use Rattle.slab_tables.specs.Content.{Content, IsSlabs, kept_at, cache_in, cache_at, index_of_cache, head_of, kind_of, layout_numbers}
 use Rattle.slab_tables.specs.Changes.{without_slab}
 use Rattle.slab_tables.proofs.Reading.{kind_fresh}
-use Rattle.parts_laws.specs.Shows.{node_of, live_of, IsSlab, ShowsMachine, Agree}
-use Rattle.parts_laws.specs.Keeps.{Keeps, Spares}
-use Rattle.parts_laws.specs.Steady.{IsSteady}
+use Rattle.machine_changes.specs.Shows.{node_of, live_of, IsSlab, ShowsMachine, Agree}
+use Rattle.machine_changes.specs.Keeps.{Keeps, Spares}
+use Rattle.machine_changes.specs.Steady.{IsSteady}
 use Rattle.model_core.specs.Owners.{owned_by}
 use Rattle.space_core.specs.Laws.{IsOneToOne}
 use Rattle.space_core.proofs.Reading.{same_twice}
-use Rattle.parts_laws.specs.Changes.{IsReturned}
-use Rattle.parts_laws.proofs.Lookups.{some_none, some_same}
-use Rattle.parts_laws.proofs.Facts.{is_not, slab_of_machine}
-use Rattle.parts_laws.proofs.Flags.{any_counts}
+use Rattle.machine_changes.specs.Changes.{IsReturned}
+use Rattle.machine_changes.proofs.Lookups.{some_none, some_same}
+use Rattle.machine_changes.proofs.Facts.{is_not, slab_of_machine}
+use Rattle.machine_changes.proofs.Flags.{any_counts}
 use Rattle.model_core.specs.Machine.{Slab, Cache, Machine}
 use Rattle.model_core.specs.Slabs.{cache_of, slab_of, is_empty}
-use Rattle.parts_laws.proofs.Returned.{node_same}
-use Rattle.parts_laws.proofs.Untouched
-use Rattle.parts_laws.proofs.Steady.{IsInTable, in_table, placed_as, slab_from, slab_listed, counted}
-use Rattle.parts_laws.proofs.Twice.{twice}
+use Rattle.machine_changes.proofs.Returned.{node_same}
+use Rattle.machine_changes.proofs.Untouched
+use Rattle.machine_changes.proofs.Steady.{IsInTable, in_table, placed_as, slab_from, slab_listed, counted}
+use Rattle.machine_changes.proofs.Twice.{twice}
 use Rattle.slab_core.specs.Calls.{is_of_these, is_idle, idle_at}
 use Rattle.slab_core.proofs.BuildCreate.{bare_without}
 use Rattle.slab_core.proofs.Building.{same_here, banks_twice, spare_twice}

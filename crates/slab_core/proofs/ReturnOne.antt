@@ -19,13 +19,13 @@ use Rattle.buddy_core.proofs.Holdings.{own_holding, taken-without_block}
 use Rattle.slab_tables.specs.declared.cache.Cache as own
 use Rattle.slab_tables.specs.Content.{Content, IsSlabs, kept_at, cache_in, index_of_cache, layout_numbers}
 use Rattle.slab_tables.specs.Changes.{without_slab}
-use Rattle.parts_laws.specs.Shows.{node_of, is_of_cache, has_slab, is_inside, IsSlab, IsAgreed, Agree, byte_or_zero, is_live}
-use Rattle.parts_laws.specs.Keeps.{Spares}
-use Rattle.parts_laws.specs.Steady.{IsSteady}
-use Rattle.parts_laws.specs.Changes.{IsReturned}
-use Rattle.parts_laws.proofs.Lookups.{some_none, some_same}
-use Rattle.parts_laws.proofs.Facts.{has_it, one_slab, one_node, one_stays, record_inside}
-use Rattle.parts_laws.proofs.Returned.{not_gone}
+use Rattle.machine_changes.specs.Shows.{node_of, is_of_cache, has_slab, is_inside, IsSlab, IsAgreed, Agree, byte_or_zero, is_live}
+use Rattle.machine_changes.specs.Keeps.{Spares}
+use Rattle.machine_changes.specs.Steady.{IsSteady}
+use Rattle.machine_changes.specs.Changes.{IsReturned}
+use Rattle.machine_changes.proofs.Lookups.{some_none, some_same}
+use Rattle.machine_changes.proofs.Facts.{has_it, one_slab, one_node, one_stays, record_inside}
+use Rattle.machine_changes.proofs.Returned.{not_gone}
 use Rattle.slab_core.proofs.Building.{in_range, out_of_range, inside_from}
 use Rattle.slab_core.proofs.BuildParts.{IsLocal, agreed_still, spares_of, agree_of}
 

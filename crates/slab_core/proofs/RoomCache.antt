@@ -10,8 +10,8 @@ use Rattle.klist_core.specs.Places.{place_at, NoneAbove, IsNext}
 use Rattle.space_core.specs.Content as spaces
 use Rattle.buddy_core.specs.Content as buddies
 use Rattle.slab_tables.specs.Content.{Content, IsSlabs, head_of}
-use Rattle.parts_laws.specs.Shows.{Agree}
-use Rattle.parts_laws.specs.Steady.{IsSteady}
+use Rattle.machine_changes.specs.Shows.{Agree}
+use Rattle.machine_changes.specs.Steady.{IsSteady}
 use Rattle.slab_core.specs.Room.{IsUnusedBlock, HasRoomAround, AreRefused}
 use Rattle.slab_core.proofs.RoomFree.{held_within}
 use Rattle.slab_core.proofs.RoomFrames.{listed_taken}

@@ -15,12 +15,12 @@ use Rattle.buddy_core.specs.Content as buddies
 use Rattle.slab_tables.specs.Content.{Content, IsSlabs, layout_numbers}
 use Rattle.model_core.specs.Machine.{Machine, choice}
 use Rattle.model_core.specs.Slabs.{reaped}
-use Rattle.parts_laws.specs.Shows.{Agree, ShowsMachine}
-use Rattle.parts_laws.specs.Slots.{HoldTogether}
-use Rattle.parts_laws.proofs.Steady.{counted}
-use Rattle.parts_laws.proofs.Room.{room_meets}
-use Rattle.parts_laws.specs.Steady.{IsSteady}
-use Rattle.parts_laws.specs.Room.{IsIdle, HasRoom}
+use Rattle.machine_changes.specs.Shows.{Agree, ShowsMachine}
+use Rattle.machine_changes.specs.Slots.{HoldTogether}
+use Rattle.machine_changes.proofs.Steady.{counted}
+use Rattle.machine_changes.proofs.Room.{room_meets}
+use Rattle.machine_changes.specs.Steady.{IsSteady}
+use Rattle.machine_changes.specs.Room.{IsIdle, HasRoom}
 use Rattle.model_core.proofs.Vacant.{IsVacant, some_choice}
 use Rattle.slab_core.specs.Room.{HasFreeBlock, IsUnusedBlock, HasRoomInSlabs}
 use Rattle.slab_core.proofs.ObjectFinding.{around_frame}

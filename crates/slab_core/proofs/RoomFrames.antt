@@ -9,11 +9,11 @@ use Rattle.space_core.specs.Content as spaces
 use Rattle.buddy_core.specs.Content as buddies
 use Rattle.klist_core.specs.Places.{place_at}
 use Rattle.slab_tables.specs.Content.{Content, IsSlabs, layout_numbers, head_of}
-use Rattle.parts_laws.specs.Shows.{Agree}
-use Rattle.parts_laws.specs.Steady.{IsSteady}
-use Rattle.parts_laws.specs.Room.{IsIdle}
-use Rattle.parts_laws.proofs.Lookups.{some_none, some_same}
-use Rattle.parts_laws.proofs.Steady.{placed_as}
+use Rattle.machine_changes.specs.Shows.{Agree}
+use Rattle.machine_changes.specs.Steady.{IsSteady}
+use Rattle.machine_changes.specs.Room.{IsIdle}
+use Rattle.machine_changes.proofs.Lookups.{some_none, some_same}
+use Rattle.machine_changes.proofs.Steady.{placed_as}
 use Rattle.slab_core.specs.Calls.{idle_at}
 use Rattle.slab_core.specs.Room.{IsUnusedFrame, IsBorder, IsUnusedTo}
 use Rattle.slab_core.proofs.ReturnMany.{idle_tells, idle_is}

@@ -10,7 +10,7 @@ use Rattle.model_core.proofs.Choosing.{free_is_tested}
 use Rattle.model_core.proofs.Counting.{bit}
 use Rattle.buddy_core.specs.Content as buddies
 use Rattle.buddy_core.proofs.Counting.{count_some}
-use Rattle.parts_laws.proofs.Steady.{within}
+use Rattle.machine_changes.proofs.Steady.{within}
 use Rattle.slab_core.specs.Room.{HasFreeBlock}
 
 -- where some are counted, one passes

@@ -11,8 +11,8 @@ use Rattle.model_core.proofs.Halves.{same_above}
 use Rattle.space_core.specs.Content as spaces
 use Rattle.buddy_core.specs.Content as buddies
 use Rattle.slab_tables.specs.Content.{Content}
-use Rattle.parts_laws.specs.Shows.{Agree}
-use Rattle.parts_laws.specs.Steady.{IsSteady}
+use Rattle.machine_changes.specs.Shows.{Agree}
+use Rattle.machine_changes.specs.Steady.{IsSteady}
 use Rattle.slab_core.specs.Room.{IsBorder, IsWhole}
 
 module _ (r : spaces.Content) (b : buddies.Content) (s : Content) (t : ℕ) (a : Agree r b s) (st : IsSteady r b s t) where

@@ -7,7 +7,7 @@ use Rattle.std.proofs.lemmas.Bool.{cases_lt, eq-eqb, ne_eqb, eqb-true}
 use Rattle.std.proofs.lemmas.List.{get_or-take, get_or-drop}
 use Rattle.std.proofs.lemmas.Nat.{pow-add}
 use Rattle.std.proofs.lemmas.Nat.Bits.{bit_at_above, bit_at_cat_low, bit_at_ones, bit_at-trailing_ones, same_from_bits_below}
-use Rattle.parts_laws.specs.Records.{is_set, flags_from, flags}
+use Rattle.machine_changes.specs.Records.{is_set, flags_from, flags}
 
 -- every bit of a full byte is 1
 pub full_byte : (byte j : ℕ) → byte ≡ 255 → j < 8 → is_set byte j ≡ true

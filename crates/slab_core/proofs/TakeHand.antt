@@ -11,12 +11,12 @@ use Rattle.space_core.specs.Content as spaces
 use Rattle.buddy_core.specs.Content as buddies
 use Rattle.slab_tables.specs.declared.cache.Cache as own
 use Rattle.slab_tables.specs.Content.{Content, IsSlabs, kept_at, layout_numbers}
-use Rattle.parts_laws.specs.Records.{count_true}
-use Rattle.parts_laws.specs.Shows.{is_live, live_of, IsSlab, Agree, ShowsMachine}
-use Rattle.parts_laws.specs.Steady.{IsSteady}
-use Rattle.parts_laws.proofs.Lookups.{some_same}
-use Rattle.parts_laws.proofs.Flags.{length_flags, flag_at}
-use Rattle.parts_laws.proofs.Facts.{shown, slab_shown, cache_shown}
+use Rattle.machine_changes.specs.Records.{count_true}
+use Rattle.machine_changes.specs.Shows.{is_live, live_of, IsSlab, Agree, ShowsMachine}
+use Rattle.machine_changes.specs.Steady.{IsSteady}
+use Rattle.machine_changes.proofs.Lookups.{some_same}
+use Rattle.machine_changes.proofs.Flags.{length_flags, flag_at}
+use Rattle.machine_changes.proofs.Facts.{shown, slab_shown, cache_shown}
 use Rattle.slab_core.proofs.ObjectSlabs.{IsHeld, held}
 use Rattle.slab_core.proofs.ObjectFinding.{object_within}
 

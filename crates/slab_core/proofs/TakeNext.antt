@@ -11,11 +11,11 @@ use Rattle.space_core.proofs.Ranges.{range_held}
 use Rattle.slab_tables.specs.declared.cache.Cache as own
 use Rattle.slab_tables.specs.declared.cache.Kept.{Kept}
 use Rattle.slab_tables.specs.Content.{Content, layout_numbers}
-use Rattle.parts_laws.specs.Records.{is_set}
-use Rattle.parts_laws.specs.Shows.{byte_or_zero, record_byte, is_live, live_of, IsSlab}
-use Rattle.parts_laws.proofs.Facts.{under_is}
+use Rattle.machine_changes.specs.Records.{is_set}
+use Rattle.machine_changes.specs.Shows.{byte_or_zero, record_byte, is_live, live_of, IsSlab}
+use Rattle.machine_changes.proofs.Facts.{under_is}
 use Rattle.slab_core.proofs.MarkTurned.{live_small, live_large}
-use Rattle.parts_laws.proofs.Flags.{length_flags, flag_at}
+use Rattle.machine_changes.proofs.Flags.{length_flags, flag_at}
 use Rattle.slab_core.specs.Objects.{HasClear, IsRecordRaised}
 use Rattle.slab_core.proofs.ObjectPlaces.{record_under}
 use Rattle.slab_core.proofs.TakeBits.{IsClear, full_byte, least_of}

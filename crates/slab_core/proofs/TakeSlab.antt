@@ -9,9 +9,9 @@ use Rattle.buddy_core.specs.Content as buddies
 use Rattle.slab_tables.specs.declared.cache.Cache as own
 use Rattle.slab_tables.specs.Content.{Content, IsSlabs, kept_at, cache_in, cache_at, index_of_cache, head_of, kind_of, layout_numbers}
 use Rattle.slab_tables.proofs.Reading.{head_parts, listed}
-use Rattle.parts_laws.specs.Shows.{node_of, IsSlab, Agree}
-use Rattle.parts_laws.specs.Objects.{IsToUse, IsAllFull}
-use Rattle.parts_laws.proofs.Steady.{in_table, slab_from, tenant_is}
+use Rattle.machine_changes.specs.Shows.{node_of, IsSlab, Agree}
+use Rattle.machine_changes.specs.Objects.{IsToUse, IsAllFull}
+use Rattle.machine_changes.proofs.Steady.{in_table, slab_from, tenant_is}
 use Rattle.slab_core.specs.Objects.{standing}
 
 module _ (r : spaces.Content) (b : buddies.Content) (s : Content) (t c : ℕ) (cache : own.Cache) (a : Agree r b s) (cached : cache_at s t c ≡ Some cache) where

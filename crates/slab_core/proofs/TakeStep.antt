@@ -13,12 +13,12 @@ use Rattle.space_core.specs.Content as spaces
 use Rattle.buddy_core.specs.Content as buddies
 use Rattle.slab_tables.specs.declared.cache.Cache as own
 use Rattle.slab_tables.specs.Content.{Content, IsSlabs, cache_at, layout_numbers}
-use Rattle.parts_laws.specs.Shows.{ShowsMachine, Agree, bare}
-use Rattle.parts_laws.specs.Steady.{IsSteady}
-use Rattle.parts_laws.specs.Objects.{IsToUse, IsAllFull, Standing}
-use Rattle.parts_laws.proofs.Lookups.{found_key, found_new, in_found}
-use Rattle.parts_laws.proofs.Facts.{none_mapped, cache_shown}
-use Rattle.parts_laws.proofs.Using.{take_uses, take_makes}
+use Rattle.machine_changes.specs.Shows.{ShowsMachine, Agree, bare}
+use Rattle.machine_changes.specs.Steady.{IsSteady}
+use Rattle.machine_changes.specs.Objects.{IsToUse, IsAllFull, Standing}
+use Rattle.machine_changes.proofs.Lookups.{found_key, found_new, in_found}
+use Rattle.machine_changes.proofs.Facts.{none_mapped, cache_shown}
+use Rattle.machine_changes.proofs.Using.{take_uses, take_makes}
 use Rattle.slab_core.proofs.GrowNeed.{stands}
 
 -- The steps

@@ -11,7 +11,7 @@ use Rattle.slab_tables.specs.declared.cache.Cache as own
 use Rattle.klist_core.specs.Places.{place_at, IsEmpty}
 use Rattle.slab_tables.specs.Content.{Content, kept_at, head_of, layout_numbers}
 use Rattle.slab_tables.specs.Changes.{made_more}
-use Rattle.parts_laws.specs.Shows.{node_of, is_inside, record_byte, IsSlab}
+use Rattle.machine_changes.specs.Shows.{node_of, is_inside, record_byte, IsSlab}
 
 -- the range of tenant t holds the pattern now, over and over, and all else of the memory is as before
 pub record IsFilled (r r' : spaces.Content) (t place len : ℕ) (pattern : List ℕ) : Type 0 where

@@ -8,10 +8,10 @@ use Rattle.space_core.specs.Laws.{SpaceLaws, IsSameFor, SpareStays}
 use Rattle.space_core.specs.Windows.{byte_at, window_of, with_window}
 use Rattle.buddy_core.specs.Content as buddies
 use Rattle.slab_tables.specs.Content.{Content, IsSlabs, kept_at, layout_numbers}
-use Rattle.parts_laws.specs.Records.{is_set}
-use Rattle.parts_laws.specs.Shows.{is_live, IsSlab, Agree}
-use Rattle.parts_laws.specs.Changes.{Found}
-use Rattle.parts_laws.specs.Objects.{Standing}
+use Rattle.machine_changes.specs.Records.{is_set}
+use Rattle.machine_changes.specs.Shows.{is_live, IsSlab, Agree}
+use Rattle.machine_changes.specs.Changes.{Found}
+use Rattle.machine_changes.specs.Objects.{Standing}
 
 -- the slab at this first frame and node
 abbrev pub standing : ℕ → ℕ → Standing

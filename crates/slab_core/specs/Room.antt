@@ -7,7 +7,7 @@ use Rattle.klist_core.specs.Places.{place_at}
 use Rattle.space_core.specs.Content as spaces
 use Rattle.buddy_core.specs.Content as buddies
 use Rattle.slab_tables.specs.Content.{Content, head_of}
-use Rattle.parts_laws.specs.Room.{IsIdle}
+use Rattle.machine_changes.specs.Room.{IsIdle}
 
 -- tenant t has a free block of order k or more
 pub record HasFreeBlock (b : buddies.Content) (t k : ℕ) : Type 0 where

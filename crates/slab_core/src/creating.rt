@@ -6,8 +6,8 @@ ghost use Rattle.model_core.specs.CacheOperations.{create_step};
 ghost use Rattle.space_core.specs.Content as spaces;
 ghost use Rattle.buddy_core.specs.Content as buddies;
 ghost use Rattle.slab_tables.specs.Content.{IsTenant};
-ghost use Rattle.parts_laws.specs.Shows.{ShowsMachine, Agree};
-ghost use Rattle.parts_laws.specs.Keeps.{Keeps};
+ghost use Rattle.machine_changes.specs.Shows.{ShowsMachine, Agree};
+ghost use Rattle.machine_changes.specs.Keeps.{Keeps};
 
 use crate::Slabs;
 use layout_core::{Layout, Pattern};

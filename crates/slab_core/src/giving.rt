@@ -3,8 +3,8 @@
 ghost use Rattle.std.specs.Prelude.{◌≡◌, ◌<◌, length, OnErr};
 ghost use Rattle.model_core.specs.Machine.{Machine};
 ghost use Rattle.model_core.specs.CacheOperations.{give_step};
-ghost use Rattle.parts_laws.specs.Shows.{Agree, ShowsMachine};
-ghost use Rattle.parts_laws.specs.Keeps.{Spares};
+ghost use Rattle.machine_changes.specs.Shows.{Agree, ShowsMachine};
+ghost use Rattle.machine_changes.specs.Keeps.{Spares};
 
 use crate::Slabs;
 use buddy_core::Buddy;

@@ -1,9 +1,9 @@
 //! What parts that agree lend.
 
 ghost use Rattle.std.specs.Prelude.{◌<◌, length};
-ghost use Rattle.parts_laws.specs.Shows.{Agree};
-ghost use Rattle.parts_laws.specs.Slots.{HoldTogether};
-ghost use Rattle.parts_laws.specs.Steady.{IsSteady};
+ghost use Rattle.machine_changes.specs.Shows.{Agree};
+ghost use Rattle.machine_changes.specs.Slots.{HoldTogether};
+ghost use Rattle.machine_changes.specs.Steady.{IsSteady};
 
 use crate::Slabs;
 use buddy_core::Buddy;

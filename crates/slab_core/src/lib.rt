@@ -12,7 +12,7 @@
 ghost use Rattle.std.specs.Prelude.{◌≡◌, ℕ, ◌≤◌, IfOk};
 ghost use Rattle.model_core.specs.declared.limits.TheConstants.{MOST_ORDER, MOST_SUPERBLOCKS, MOST_TENANTS};
 ghost use Rattle.slab_tables.specs.Content.{IsSlabs, empty_tables};
-ghost use Rattle.parts_laws.specs.Laws.{ListsHold};
+ghost use Rattle.machine_changes.specs.Laws.{ListsHold};
 
 mod block_set;
 mod creating;

@@ -7,8 +7,8 @@ ghost use Rattle.space_core.specs.Changes.{with_move};
 ghost use Rattle.buddy_core.specs.Content as buddies;
 ghost use Rattle.slab_tables.specs.Content.{IsTenant};
 ghost use Rattle.slab_tables.specs.Changes.{IsReset, IsMoved};
-ghost use Rattle.parts_laws.specs.Shows.{Agree};
-ghost use Rattle.parts_laws.specs.Slots.{HoldTogether};
+ghost use Rattle.machine_changes.specs.Shows.{Agree};
+ghost use Rattle.machine_changes.specs.Slots.{HoldTogether};
 
 use crate::Slabs;
 

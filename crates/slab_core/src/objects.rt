@@ -4,12 +4,12 @@ ghost use Rattle.std.specs.Prelude.{◌≡◌, ℕ, ◌*◌, ◌+◌, ◌/◌, �
 ghost use Rattle.model_core.specs.Blocks.{around};
 ghost use Rattle.model_core.specs.declared.limits.TheConstants.{FRAME_BYTES, RECORD_OFFSET, MOST_CACHES};
 ghost use Rattle.slab_tables.specs.Content.{Content, IsSlabs, kept_at, cache_at, index_of_cache, layout_numbers};
-ghost use Rattle.parts_laws.specs.Shows.{node_of, has_slab, is_of_cache, is_live, IsSlab, Agree};
-ghost use Rattle.parts_laws.specs.Changes.{found, IsMarked};
-ghost use Rattle.parts_laws.specs.Objects.{IsObject, IsNoObject};
-ghost use Rattle.parts_laws.specs.Keeps.{Spares};
+ghost use Rattle.machine_changes.specs.Shows.{node_of, has_slab, is_of_cache, is_live, IsSlab, Agree};
+ghost use Rattle.machine_changes.specs.Changes.{found, IsMarked};
+ghost use Rattle.machine_changes.specs.Objects.{IsObject, IsNoObject};
+ghost use Rattle.machine_changes.specs.Keeps.{Spares};
 ghost use Rattle.slab_core.specs.Objects.{IsTurned, IsToCount};
-ghost use Rattle.parts_laws.specs.Slots.{HoldTogether};
+ghost use Rattle.machine_changes.specs.Slots.{HoldTogether};
 ghost use Rattle.space_core.specs.Content as spaces;
 ghost use Rattle.space_core.specs.Laws.{SpaceLaws};
 ghost use Rattle.klist_core.specs.Places.{place_at};

@@ -8,11 +8,11 @@ ghost use Rattle.model_core.specs.Reach.{within_objects};
 ghost use Rattle.model_core.specs.declared.limits.TheConstants.{FRAME_BYTES};
 ghost use Rattle.buddy_core.specs.Content.{holding_of, taken_of};
 ghost use Rattle.slab_tables.specs.declared.cache.Cache as own;
-ghost use Rattle.parts_laws.specs.Shows.{node_of, has_slab, IsSlab, Agree, ShowsMachine};
-ghost use Rattle.parts_laws.specs.Changes.{Found, found};
-ghost use Rattle.parts_laws.specs.Slots.{HoldTogether};
-ghost use Rattle.parts_laws.specs.Steady.{IsSteady};
-ghost use Rattle.parts_laws.specs.Objects.{HasRange, HasNone};
+ghost use Rattle.machine_changes.specs.Shows.{node_of, has_slab, IsSlab, Agree, ShowsMachine};
+ghost use Rattle.machine_changes.specs.Changes.{Found, found};
+ghost use Rattle.machine_changes.specs.Slots.{HoldTogether};
+ghost use Rattle.machine_changes.specs.Steady.{IsSteady};
+ghost use Rattle.machine_changes.specs.Objects.{HasRange, HasNone};
 
 use crate::Slabs;
 use crate::objects::Object;

@@ -5,9 +5,9 @@ ghost use Rattle.model_core.specs.Blocks.{block};
 ghost use Rattle.model_core.specs.Machine.{Machine, choice};
 ghost use Rattle.model_core.specs.Slabs.{choice_by_need};
 ghost use Rattle.model_core.specs.Operations.{with_block, alloc_step};
-ghost use Rattle.parts_laws.specs.Shows.{ShowsMachine, Agree};
-ghost use Rattle.parts_laws.specs.Keeps.{Spares};
-ghost use Rattle.parts_laws.specs.Room.{HasRoom};
+ghost use Rattle.machine_changes.specs.Shows.{ShowsMachine, Agree};
+ghost use Rattle.machine_changes.specs.Keeps.{Spares};
+ghost use Rattle.machine_changes.specs.Room.{HasRoom};
 ghost use Rattle.slab_core.specs.Room.{HasFreeBlock};
 
 use crate::Slabs;

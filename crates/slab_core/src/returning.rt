@@ -11,10 +11,10 @@ ghost use Rattle.model_core.specs.Slabs.{cache_of, empty_blocks};
 ghost use Rattle.model_core.specs.CacheOperations.{frames_of, reap_step, destroy_step};
 ghost use Rattle.space_core.specs.Content as spaces;
 ghost use Rattle.buddy_core.specs.Content as buddies;
-ghost use Rattle.parts_laws.specs.Steady.{IsSteady};
-ghost use Rattle.parts_laws.specs.Shows.{IsSlab, ShowsMachine, Agree};
-ghost use Rattle.parts_laws.specs.Keeps.{Spares};
-ghost use Rattle.parts_laws.specs.Changes.{IsReturned};
+ghost use Rattle.machine_changes.specs.Steady.{IsSteady};
+ghost use Rattle.machine_changes.specs.Shows.{IsSlab, ShowsMachine, Agree};
+ghost use Rattle.machine_changes.specs.Keeps.{Spares};
+ghost use Rattle.machine_changes.specs.Changes.{IsReturned};
 
 use crate::Slabs;
 use buddy_core::Buddy;

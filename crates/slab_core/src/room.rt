@@ -4,10 +4,10 @@ ghost use Rattle.std.specs.Prelude.{◌≡◌, ◌↔◌, ℕ, ◌-◌, ◌*◌,
 ghost use Rattle.model_core.specs.Machine.{Machine, choice};
 ghost use Rattle.model_core.specs.Slabs.{reaped};
 ghost use Rattle.model_core.specs.declared.limits.TheConstants.{MOST_CACHES, MOST_ORDER};
-ghost use Rattle.parts_laws.specs.Room.{HasRoom};
-ghost use Rattle.parts_laws.specs.Shows.{ShowsMachine, Agree};
-ghost use Rattle.parts_laws.specs.Slots.{HoldTogether};
-ghost use Rattle.parts_laws.specs.Steady.{IsSteady};
+ghost use Rattle.machine_changes.specs.Room.{HasRoom};
+ghost use Rattle.machine_changes.specs.Shows.{ShowsMachine, Agree};
+ghost use Rattle.machine_changes.specs.Slots.{HoldTogether};
+ghost use Rattle.machine_changes.specs.Steady.{IsSteady};
 ghost use Rattle.klist_core.specs.Places.{IsEmpty};
 ghost use Rattle.slab_tables.specs.Content.{IsTenant, head_of};
 ghost use Rattle.buddy_core.specs.Content.{BuddyLaws, holding_of, taken_of};

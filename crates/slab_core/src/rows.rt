@@ -7,8 +7,8 @@ ghost use Rattle.model_core.specs.declared.limits.TheConstants.{MOST_CACHES};
 ghost use Rattle.space_core.specs.Content as spaces;
 ghost use Rattle.buddy_core.specs.Content as buddies;
 ghost use Rattle.slab_tables.specs.Content.{IsTenant};
-ghost use Rattle.parts_laws.specs.Shows.{Agree, ShowsMachine};
-ghost use Rattle.parts_laws.specs.Steady.{IsSteady};
+ghost use Rattle.machine_changes.specs.Shows.{Agree, ShowsMachine};
+ghost use Rattle.machine_changes.specs.Steady.{IsSteady};
 ghost use Rattle.model_core.specs.Reports.{row_of_cache, rows_of_caches};
 
 use crate::{CacheRow, Slabs};

@@ -3,7 +3,7 @@ use Rattle.arrayvec.specs.ArrayVec.{array_vec_len}
 use Rattle.model_core.specs.Machine.{Machine}
 use Rattle.model_core.specs.Reports.{greatest, free_count, order_rows}
 use Rattle.buddy_core.specs.Content.{holding_of}
-use Rattle.parts_laws.specs.Figures.{HasFigures, frames_below}
+use Rattle.machine_changes.specs.Figures.{HasFigures, frames_below}
 use Rattle.kernel_core.proofs.reporting.orders_of.Given as goal
 
 abbrev pub invariant-loop-k : goal.invariant-loop-k

@@ -1,5 +1,5 @@
 use Rattle.std.proofs.Common.{ℕ, sym, subst}
-use Rattle.parts_laws.specs.Laws.{is_kind}
+use Rattle.machine_changes.specs.Laws.{is_kind}
 use Rattle.parts_core.specs.Frames.{IsInSlab}
 use Rattle.parts_core.proofs.frames.kind_in.Goals as goal
 

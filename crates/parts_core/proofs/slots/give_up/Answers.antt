@@ -1,7 +1,7 @@
 use Rattle.model_core.specs.Owners.{owned_by}
 use Rattle.std.proofs.Common.{◌≡◌, Some, length, sym, ap, ◌∙◌, subst, arith}
 use Rattle.space_core.specs.Content.{owner_at, superblock_at}
-use Rattle.parts_laws.proofs.Lookups.{some_same}
+use Rattle.machine_changes.proofs.Lookups.{some_same}
 use Rattle.parts_core.proofs.GivingUp.{IsGivingUp, giving_takes, giving_ends}
 use Rattle.parts_core.proofs.slots.give_up.Goals as goal
 

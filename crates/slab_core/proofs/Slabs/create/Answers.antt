@@ -3,7 +3,7 @@ use Rattle.model_core.specs.Machine.{Machine}
 use Rattle.space_core.specs.Content as spaces
 use Rattle.buddy_core.specs.Content as buddies
 use Rattle.slab_tables.specs.Content.{IsTenant}
-use Rattle.parts_laws.specs.Shows.{ShowsMachine, Agree}
+use Rattle.machine_changes.specs.Shows.{ShowsMachine, Agree}
 use Rattle.slab_core.proofs.Slabs.create.Goals as goal
 use Rattle.slab_core.proofs.BuildCreate.{IsCreated, created_as, created_agrees}
 

@@ -6,8 +6,8 @@ use Rattle.model_core.specs.Operations.{refuse}
 use Rattle.model_core.specs.declared.refusals.DestroyRefusal.TheVariants.{CacheInUse}
 use Rattle.slab_tables.specs.Content.{IsPlacedIn, cache_at}
 use Rattle.slab_tables.specs.Changes.{with_cache}
-use Rattle.parts_laws.specs.Shows.{ShowsMachine, Agree}
-use Rattle.parts_laws.specs.Keeps.{Spares}
+use Rattle.machine_changes.specs.Shows.{ShowsMachine, Agree}
+use Rattle.machine_changes.specs.Keeps.{Spares}
 use Rattle.slab_core.proofs.Slabs.destroy.Goals as goal
 use Rattle.slab_core.proofs.Slabs.destroy.Goals.{In-Some, Then-in_use, After-give_back_empty}
 use Rattle.slab_core.proofs.BuildCache.{cache_agrees}

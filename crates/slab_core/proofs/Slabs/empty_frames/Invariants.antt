@@ -5,8 +5,8 @@ use Rattle.model_core.specs.Slabs.{empty_blocks}
 use Rattle.model_core.specs.CacheOperations.{frames_of}
 use Rattle.space_core.specs.Content as spaces
 use Rattle.buddy_core.specs.Content as buddies
-use Rattle.parts_laws.specs.Shows.{ShowsMachine, Agree}
-use Rattle.parts_laws.specs.Steady.{IsSteady}
+use Rattle.machine_changes.specs.Shows.{ShowsMachine, Agree}
+use Rattle.machine_changes.specs.Steady.{IsSteady}
 use Rattle.slab_core.proofs.ReturnFrames.{below}
 use Rattle.slab_core.proofs.Slabs.empty_frames.Given as goal
 

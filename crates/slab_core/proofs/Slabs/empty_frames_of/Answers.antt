@@ -5,8 +5,8 @@ use Rattle.model_core.specs.Layouts.{IsLayout}
 use Rattle.klist_core.specs.Places.{is_in}
 use Rattle.klist_core.proofs.Listing.{lists_count_places}
 use Rattle.slab_tables.specs.Content.{head_of, cache_at, layout_numbers}
-use Rattle.parts_laws.specs.Shows.{ShowsMachine, Agree}
-use Rattle.parts_laws.specs.Steady.{IsSteady}
+use Rattle.machine_changes.specs.Shows.{ShowsMachine, Agree}
+use Rattle.machine_changes.specs.Steady.{IsSteady}
 use Rattle.slab_core.proofs.ObjectSlabs.{in_tables}
 use Rattle.slab_core.proofs.Slabs.empty_frames_of.Goals as goal
 use Rattle.slab_core.proofs.ReturnFrames.{frames_few, frames_counted}

@@ -1,6 +1,6 @@
 use Rattle.std.proofs.Common.{◌≡◌, true, subst, arith}
 use Rattle.std.specs.Prelude.{◌↔◌}
-use Rattle.parts_laws.specs.Room.{HasRoom}
+use Rattle.machine_changes.specs.Room.{HasRoom}
 use Rattle.slab_core.specs.Room.{HasRoomInSlabs}
 use Rattle.slab_core.proofs.RoomFits.{room_by_slabs, room_answers}
 use Rattle.slab_core.proofs.Slabs.fits_by_need.Goals as goal

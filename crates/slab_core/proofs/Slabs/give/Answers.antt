@@ -5,14 +5,14 @@ use Rattle.model_core.specs.CacheOperations.{give_step}
 use Rattle.model_core.specs.Operations.{refuse}
 use Rattle.model_core.specs.declared.refusals.GiveRefusal.TheVariants.{NoCache, NotAnObject}
 use Rattle.slab_tables.specs.Content.{Content, cache_at}
-use Rattle.parts_laws.specs.Shows.{ShowsMachine}
-use Rattle.parts_laws.specs.Changes.{Found, found}
-use Rattle.parts_laws.specs.Objects.{IsObject, IsNoObject}
-use Rattle.parts_laws.specs.Laws.{Gives}
+use Rattle.machine_changes.specs.Shows.{ShowsMachine}
+use Rattle.machine_changes.specs.Changes.{Found, found}
+use Rattle.machine_changes.specs.Objects.{IsObject, IsNoObject}
+use Rattle.machine_changes.specs.Laws.{Gives}
 use Rattle.slab_core.specs.Objects.{IsToCount}
 use Rattle.slab_core.proofs.ObjectGiven.{give_refused}
-use Rattle.parts_laws.proofs.Marked.{marked_shows}
-use Rattle.parts_laws.proofs.Objects.{found_gives, not_found_refuses}
+use Rattle.machine_changes.proofs.Marked.{marked_shows}
+use Rattle.machine_changes.proofs.Objects.{found_gives, not_found_refuses}
 use Rattle.slab_core.proofs.Slabs.give.Goals as goal
 use Rattle.slab_core.proofs.Slabs.give.Goals.{After-from_residual, In_ok-cache, After-from_residual-in_err-object, After-turn_bit}
 

@@ -3,7 +3,7 @@ use Rattle.klist_core.specs.Places.{IsEmpty, IsFirst}
 use Rattle.klist_core.proofs.Tables.{placed_within, count_removed}
 use Rattle.slab_tables.specs.Content.{IsSlabs, head_of}
 use Rattle.slab_tables.proofs.Keeping.{slabs_without}
-use Rattle.parts_laws.proofs.Steady.{in_table}
+use Rattle.machine_changes.proofs.Steady.{in_table}
 use Rattle.slab_core.proofs.ObjectSlabs.{node_within}
 use Rattle.slab_core.proofs.ReturnMany.{giving_none, giving_more, still_apart, giving_all, listed_empty, this, one_idle, none_idle, empty_without}
 use Rattle.slab_core.proofs.Slabs.give_back_empty.Goals as goal

@@ -4,9 +4,9 @@ use Rattle.std.proofs.lemmas.Bool.{false≢true}
 use Rattle.model_core.specs.Machine.{Machine, choice}
 use Rattle.model_core.specs.Slabs.{reaped}
 use Rattle.slab_tables.specs.Content.{layout_numbers}
-use Rattle.parts_laws.specs.Shows.{ShowsMachine}
-use Rattle.parts_laws.specs.Room.{HasRoom}
-use Rattle.parts_laws.specs.Changes.{IsReturned}
+use Rattle.machine_changes.specs.Shows.{ShowsMachine}
+use Rattle.machine_changes.specs.Room.{HasRoom}
+use Rattle.machine_changes.specs.Changes.{IsReturned}
 use Rattle.slab_core.specs.Calls.{idle_at}
 use Rattle.slab_core.specs.Room.{HasFreeBlock}
 use Rattle.slab_core.proofs.GrowNeed.{choice_above, need_none, unmoved, grown_by_need, chosen_by_need, grown_at_once, is_there}

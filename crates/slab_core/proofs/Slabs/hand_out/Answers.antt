@@ -4,11 +4,11 @@ use Rattle.layout_core.specs.Objects.{IsColour}
 use Rattle.model_core.specs.Slabs.{with_cache, with_slab, with_live}
 use Rattle.slab_tables.specs.declared.cache.Kept.{Kept}
 use Rattle.slab_tables.specs.Content.{Content, IsSlabs, kept_at, layout_numbers}
-use Rattle.parts_laws.specs.Shows.{ShowsMachine}
-use Rattle.parts_laws.specs.Changes.{found}
+use Rattle.machine_changes.specs.Shows.{ShowsMachine}
+use Rattle.machine_changes.specs.Changes.{found}
 use Rattle.slab_core.specs.Objects.{IsToCount}
 use Rattle.slab_core.proofs.TakeHand.{object_below, not_live, first_few, offset_few, next_is, answered}
-use Rattle.parts_laws.proofs.Marked.{marked_shows}
+use Rattle.machine_changes.proofs.Marked.{marked_shows}
 use Rattle.slab_core.proofs.Slabs.hand_out.Goals as goal
 use Rattle.slab_core.proofs.Slabs.hand_out.Goals.{After-mark_least_free-index, After-offset}
 

@@ -1,6 +1,6 @@
 use Rattle.std.proofs.Common.{subst}
-use Rattle.parts_laws.specs.Laws.{ListsHold}
-use Rattle.parts_laws.proofs.KindLists.{kinds_hold}
+use Rattle.machine_changes.specs.Laws.{ListsHold}
+use Rattle.machine_changes.proofs.KindLists.{kinds_hold}
 use Rattle.slab_core.proofs.Slabs.lists.Goals as goal
 
 pub returns-clause-hold : goal.returns-clause-hold

@@ -1,12 +1,12 @@
 use Rattle.std.proofs.Common.{◌≡◌, ◌+◌, ◌*◌, ◌^◌, ◌%◌, ◌<◌, ◌≤◌, not, Some, refl, sym, ap, ◌∙◌, subst, arith}
 use Rattle.std.specs.Prelude.{IsSome}
 use Rattle.std.specs.List.{position_or_len}
-use Rattle.parts_laws.specs.Shows.{live_of}
+use Rattle.machine_changes.specs.Shows.{live_of}
 use Rattle.std.specs.Int.Bits.{bit_xor}
 use Rattle.slab_tables.specs.declared.cache.Kept.{Kept}
 use Rattle.slab_tables.specs.Content.{Content, layout_numbers, kept_at}
 use Rattle.slab_tables.specs.Changes.{with_outside}
-use Rattle.parts_laws.specs.Changes.{found}
+use Rattle.machine_changes.specs.Changes.{found}
 use Rattle.slab_core.specs.Objects.{IsTurned}
 use Rattle.slab_core.proofs.ObjectSlabs.{node_within, slab_cache}
 use Rattle.slab_core.proofs.MarkTurned.{turned_window, turned_outside}

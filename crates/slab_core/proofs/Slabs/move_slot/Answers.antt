@@ -4,9 +4,9 @@ use Rattle.space_core.specs.Changes.{with_move}
 use Rattle.buddy_core.specs.Content as buddies
 use Rattle.slab_tables.specs.Content.{Content, IsTenant}
 use Rattle.slab_tables.specs.Changes.{IsMoved}
-use Rattle.parts_laws.specs.Shows.{Agree}
-use Rattle.parts_laws.specs.Slots.{HoldTogether}
-use Rattle.parts_laws.proofs.SlotMoved.{moved_shows}
+use Rattle.machine_changes.specs.Shows.{Agree}
+use Rattle.machine_changes.specs.Slots.{HoldTogether}
+use Rattle.machine_changes.proofs.SlotMoved.{moved_shows}
 use Rattle.slab_core.proofs.Slabs.move_slot.Goals as goal
 
 agrees : (s s' : Content) (t from to : ℕ) → IsTenant s t → IsMoved s s' from to

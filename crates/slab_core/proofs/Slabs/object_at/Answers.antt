@@ -1,9 +1,9 @@
 use Rattle.std.proofs.Common.{◌≡◌, true, false, sym, ap}
 use Rattle.std.specs.Prelude.{◌↔◌}
 use Rattle.std.proofs.lemmas.Bool.{false≢true}
-use Rattle.parts_laws.specs.Changes.{Found}
-use Rattle.parts_laws.specs.Objects.{HasRange}
-use Rattle.parts_laws.specs.Shows.{has_slab}
+use Rattle.machine_changes.specs.Changes.{Found}
+use Rattle.machine_changes.specs.Objects.{HasRange}
+use Rattle.machine_changes.specs.Shows.{has_slab}
 use Rattle.slab_core.proofs.ObjectReach.{no_block, no_slab}
 use Rattle.slab_core.proofs.Slabs.object_at.Goals as goal
 

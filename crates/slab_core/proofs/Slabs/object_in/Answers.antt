@@ -1,7 +1,7 @@
 use Rattle.std.proofs.Common.{◌≡◌, Bool, true, Option, Some, None}
 use Rattle.std.specs.Prelude.{MatchOption, is_some, ◌↔◌}
-use Rattle.parts_laws.specs.Changes.{Found}
-use Rattle.parts_laws.specs.Objects.{HasRange}
+use Rattle.machine_changes.specs.Changes.{Found}
+use Rattle.machine_changes.specs.Objects.{HasRange}
 use Rattle.slab_core.proofs.Slabs.object_in.Goals as goal
 
 -- a test by a look-up

@@ -4,8 +4,8 @@ use Rattle.layout_core.specs.Objects.{Holds, IsOnly}
 use Rattle.slab_tables.specs.declared.cache.Cache as own
 use Rattle.slab_tables.specs.declared.cache.Kept.{Kept}
 use Rattle.slab_tables.specs.Content.{Content, kept_at, cache_at}
-use Rattle.parts_laws.specs.Shows.{IsSlab}
-use Rattle.parts_laws.proofs.Lookups.{some_same}
+use Rattle.machine_changes.specs.Shows.{IsSlab}
+use Rattle.machine_changes.proofs.Lookups.{some_same}
 use Rattle.slab_core.proofs.ObjectReach.{no_slab, none_holds, not_live}
 use Rattle.slab_core.proofs.Slabs.object_over.Goals as goal
 use Rattle.slab_core.proofs.Slabs.object_over.Goals.{After-from-colour}

@@ -3,9 +3,9 @@ use Rattle.std.proofs.lemmas.Bool.{false≢true}
 use Rattle.slab_tables.specs.declared.cache.Kept.{Kept}
 use Rattle.slab_tables.specs.Content.{Content, IsPlacedIn, kept_at}
 use Rattle.slab_tables.specs.Changes.{with_count}
-use Rattle.parts_laws.specs.Shows.{Agree}
-use Rattle.parts_laws.specs.Keeps.{Spares}
-use Rattle.parts_laws.specs.Changes.{Found, found, IsMarked}
+use Rattle.machine_changes.specs.Shows.{Agree}
+use Rattle.machine_changes.specs.Keeps.{Spares}
+use Rattle.machine_changes.specs.Changes.{Found, found, IsMarked}
 use Rattle.slab_core.proofs.MarkAgreed.{IsCountOf}
 use Rattle.slab_core.proofs.MarkCount.{some_now, placed_now, alone_now, below_now, marked_now, spares_now, agree_now}
 use Rattle.slab_core.proofs.Slabs.recount.Goals as goal

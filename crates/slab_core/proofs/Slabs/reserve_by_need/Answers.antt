@@ -4,10 +4,10 @@ use Rattle.std.proofs.lemmas.Bool.{false≢true}
 use Rattle.model_core.specs.Machine.{Machine, choice}
 use Rattle.model_core.specs.Operations.{alloc_step}
 use Rattle.model_core.specs.Slabs.{reaped}
-use Rattle.parts_laws.specs.Shows.{ShowsMachine}
-use Rattle.parts_laws.specs.Keeps.{Spares}
-use Rattle.parts_laws.specs.Changes.{IsReturned}
-use Rattle.parts_laws.specs.Room.{HasRoom}
+use Rattle.machine_changes.specs.Shows.{ShowsMachine}
+use Rattle.machine_changes.specs.Keeps.{Spares}
+use Rattle.machine_changes.specs.Changes.{IsReturned}
+use Rattle.machine_changes.specs.Room.{HasRoom}
 use Rattle.slab_core.specs.Calls.{idle_at}
 use Rattle.slab_core.specs.Room.{HasFreeBlock}
 use Rattle.slab_core.proofs.ReturnMany.{spares_twice}

@@ -6,9 +6,9 @@ use Rattle.space_core.specs.Content as spaces
 use Rattle.buddy_core.specs.Content as buddies
 use Rattle.slab_tables.specs.Content.{Content, kept_at, cache_in}
 use Rattle.slab_tables.specs.Changes.{IsReset, unless_gone}
-use Rattle.parts_laws.specs.Records.{count_true}
-use Rattle.parts_laws.specs.Shows.{node_of, is_live, live_of, Agree}
-use Rattle.parts_laws.proofs.Lookups.{some_none, some_same}
+use Rattle.machine_changes.specs.Records.{count_true}
+use Rattle.machine_changes.specs.Shows.{node_of, is_live, live_of, Agree}
+use Rattle.machine_changes.proofs.Lookups.{some_none, some_same}
 use Rattle.slab_core.proofs.Slabs.reset.Goals as goal
 
 -- a slab that is left was there, and its cache is left

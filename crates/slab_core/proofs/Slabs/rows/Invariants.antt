@@ -3,8 +3,8 @@ use Rattle.arrayvec.specs.ArrayVec.{array_vec_len}
 use Rattle.model_core.specs.Machine.{Machine}
 use Rattle.space_core.specs.Content as spaces
 use Rattle.buddy_core.specs.Content as buddies
-use Rattle.parts_laws.specs.Shows.{Agree, ShowsMachine}
-use Rattle.parts_laws.specs.Steady.{IsSteady}
+use Rattle.machine_changes.specs.Shows.{Agree, ShowsMachine}
+use Rattle.machine_changes.specs.Steady.{IsSteady}
 use Rattle.model_core.specs.Reports.{row_of_cache}
 use Rattle.slab_core.proofs.ObjectReport.{below}
 use Rattle.slab_core.proofs.Slabs.rows.Given as goal

@@ -5,7 +5,7 @@ use Rattle.model_core.specs.Operations.{refuse}
 use Rattle.model_core.specs.CacheOperations.{take_step}
 use Rattle.model_core.specs.declared.refusals.TakeRefusal.TheVariants.{NoCache}
 use Rattle.slab_tables.specs.Content.{Content, cache_at}
-use Rattle.parts_laws.specs.Shows.{ShowsMachine}
+use Rattle.machine_changes.specs.Shows.{ShowsMachine}
 use Rattle.slab_core.specs.Objects.{standing}
 use Rattle.slab_core.proofs.TakeStep.{no_cache_step, IsUsed, used}
 use Rattle.slab_core.proofs.Slabs.take.Goals as goal

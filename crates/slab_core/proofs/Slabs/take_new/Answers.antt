@@ -8,8 +8,8 @@ use Rattle.model_core.specs.CacheOperations.{take_step}
 use Rattle.model_core.specs.declared.refusals.TakeRefusal.TheVariants.{NoCache, NoFrames}
 use Rattle.slab_tables.specs.declared.cache.Cache as own
 use Rattle.slab_tables.specs.Content.{Content, kept_at, cache_at, layout_numbers}
-use Rattle.parts_laws.specs.Shows.{ShowsMachine}
-use Rattle.parts_laws.proofs.Lookups.{some_same}
+use Rattle.machine_changes.specs.Shows.{ShowsMachine}
+use Rattle.machine_changes.proofs.Lookups.{some_same}
 use Rattle.slab_core.specs.Calls.{IsNew}
 use Rattle.slab_core.proofs.ObjectSlabs.{in_tables}
 use Rattle.slab_core.proofs.GrowNeed.{unmoved}

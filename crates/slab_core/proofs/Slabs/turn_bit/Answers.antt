@@ -4,7 +4,7 @@ use Rattle.std.specs.Int.Bits.{bit_xor}
 use Rattle.slab_tables.specs.declared.cache.Kept.{Kept}
 use Rattle.slab_tables.specs.Content.{Content, kept_at, layout_numbers}
 use Rattle.slab_tables.specs.Changes.{with_outside}
-use Rattle.parts_laws.specs.Changes.{found}
+use Rattle.machine_changes.specs.Changes.{found}
 use Rattle.slab_core.specs.Objects.{IsTurned}
 use Rattle.slab_core.proofs.ObjectSlabs.{node_within, slab_cache}
 use Rattle.slab_core.proofs.ObjectPlaces.{object_under}

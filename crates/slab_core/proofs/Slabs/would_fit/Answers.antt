@@ -1,7 +1,7 @@
 use Rattle.std.proofs.Common.{◌≡◌, true, sym, ◌∙◌, subst, arith}
 use Rattle.std.specs.Prelude.{◌↔◌}
 use Rattle.std.proofs.lemmas.Bool.{false≢true}
-use Rattle.parts_laws.specs.Room.{HasRoom}
+use Rattle.machine_changes.specs.Room.{HasRoom}
 use Rattle.slab_core.specs.Room.{HasRoomInSlabs}
 use Rattle.slab_core.proofs.RoomFits.{room_by_free, room_by_slabs, room_answers}
 use Rattle.slab_core.proofs.Slabs.would_fit.Goals as goal

@@ -1,7 +1,7 @@
 use Rattle.std.proofs.Common.{◌+◌, ◌<◌, ap, sym, subst, ◌∙◌}
 use Rattle.model_core.specs.Reports.{frames_held, order_rows}
 use Rattle.buddy_core.specs.Content as buddies
-use Rattle.parts_laws.specs.Figures.{HasFigures, AreWithin}
+use Rattle.machine_changes.specs.Figures.{HasFigures, AreWithin}
 use Rattle.parts_core.specs.Parts.{Parts}
 use Rattle.kernel_core.proofs.ReportFigures.{within, meet, frames_read}
 use Rattle.kernel_core.proofs.kernel.Kernel.block_figures.Goals as goal

@@ -2,9 +2,9 @@ use Rattle.std.proofs.Common.{◌≡◌, ◌*◌, ◌-◌, ◌%◌, ◌^◌, ◌
 use Rattle.model_core.specs.Reports.{frames_held, frames_taken, frames_free, greatest_free, rows_of_caches}
 use Rattle.buddy_core.specs.Content as buddies
 use Rattle.slab_tables.specs.Content as tables
-use Rattle.parts_laws.specs.Figures.{HasFigures, AreWithin}
-use Rattle.parts_laws.specs.Shows as showing
-use Rattle.parts_laws.specs.Steady.{IsSteady}
+use Rattle.machine_changes.specs.Figures.{HasFigures, AreWithin}
+use Rattle.machine_changes.specs.Shows as showing
+use Rattle.machine_changes.specs.Steady.{IsSteady}
 use Rattle.world_core.specs.PrivateStep.{figures_of}
 use Rattle.parts_core.specs.Parts.{Parts}
 use Rattle.parts_core.proofs.Changing.{steady}

@@ -1,6 +1,6 @@
 use Rattle.std.proofs.Common.{◌≡◌, sym, ap, ◌∙◌, ◌/◌, ◌^◌, None}
 use Rattle.space_core.specs.Content as spaces
-use Rattle.parts_laws.specs.Shows.{node_of, has_slab}
+use Rattle.machine_changes.specs.Shows.{node_of, has_slab}
 use Rattle.parts_core.specs.Parts.{Parts}
 use Rattle.parts_core.proofs.Changing.{steady, opened, known}
 use Rattle.parts_core.proofs.PageBlocks.{free_unheld, free_slab, free_agrees, free_done}

@@ -4,11 +4,11 @@ use Rattle.std.proofs.Math.Nat.{pow-le-pow_right, mod-eq_of_lt}
 use Rattle.space_core.specs.Content as spaces
 use Rattle.buddy_core.specs.Content as buddies
 use Rattle.slab_tables.specs.Content.{Content}
-use Rattle.parts_laws.specs.Steady.{IsSteady}
+use Rattle.machine_changes.specs.Steady.{IsSteady}
 use Rattle.slab_core.proofs.ObjectReach.{no_block, no_slab}
-use Rattle.parts_laws.specs.Slots.{HoldTogether}
-use Rattle.parts_laws.proofs.PageBlocks.{block_tells, no_block_tells}
-use Rattle.parts_laws.specs.Shows.{node_of, has_slab}
+use Rattle.machine_changes.specs.Slots.{HoldTogether}
+use Rattle.machine_changes.proofs.PageBlocks.{block_tells, no_block_tells}
+use Rattle.machine_changes.specs.Shows.{node_of, has_slab}
 use Rattle.parts_core.specs.Parts.{Parts, superblock_at}
 use Rattle.parts_core.proofs.Changing.{steady, opened, known}
 use Rattle.parts_core.proofs.PageBlocks.{block_slot}

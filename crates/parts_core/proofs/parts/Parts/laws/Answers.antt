@@ -1,5 +1,5 @@
 use Rattle.std.proofs.Common.{subst}
-use Rattle.parts_laws.specs.Slots.{HoldTogether}
+use Rattle.machine_changes.specs.Slots.{HoldTogether}
 use Rattle.parts_core.specs.Parts.{Parts, PartsAgree, parts_of}
 use Rattle.parts_core.specs.Records.{RecordsStand}
 use Rattle.parts_core.proofs.Changing.{parts_agree}

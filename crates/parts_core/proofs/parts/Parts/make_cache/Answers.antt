@@ -3,7 +3,7 @@ use Rattle.model_core.specs.declared.refusals.CacheRefusal.{CacheRefusal}
 use Rattle.model_core.specs.declared.limits.TheConstants.{MOST_CACHES}
 use Rattle.model_core.specs.CacheOperations.{cache_step}
 use Rattle.slab_tables.specs.Content.{Content}
-use Rattle.parts_laws.proofs.Lookups.{some_none}
+use Rattle.machine_changes.proofs.Lookups.{some_none}
 use Rattle.parts_core.specs.Parts.{parts_of}
 use Rattle.parts_core.specs.Does.{Does}
 use Rattle.parts_core.proofs.CacheCalls.{has_layout, cache_bad_size, cache_bad_align, created}

@@ -1,5 +1,5 @@
 use Rattle.std.proofs.Common.{◌∙◌, sym, arith}
-use Rattle.parts_laws.proofs.Lookups.{some_none}
+use Rattle.machine_changes.proofs.Lookups.{some_none}
 use Rattle.parts_core.proofs.Changing.{opened, no_row}
 use Rattle.parts_core.proofs.parts.Parts.superblock_of.Goals as goal
 

@@ -1,5 +1,5 @@
 use Rattle.std.proofs.Common.{◌≡◌, sym, ◌∙◌}
-use Rattle.parts_laws.proofs.Lookups.{some_same}
+use Rattle.machine_changes.proofs.Lookups.{some_same}
 use Rattle.parts_core.proofs.Changing.{opened, known}
 use Rattle.parts_core.proofs.TakingBack.{take_without_slot, take_busy, changes, does_taken}
 use Rattle.parts_core.proofs.parts.Parts.take_back.Goals as goal

@@ -1,0 +1,213 @@
+-- The parts show one machine at most.
+use Rattle.std.proofs.Common.{◌≡◌, ◌≢◌, ℕ, zero, suc, ◌+◌, ◌-◌, ◌*◌, ◌/◌, ◌<◌, Bool, true, false, List, [], ◌∷◌, map, Some, None, refl, sym, ap, ◌∙◌, subst, ◌⊎◌, inl, inr, ⊎_elim, arith}
+use Rattle.std.specs.Prelude.{Option, option_map, is_some, ◌==◌}
+use Rattle.std.proofs.lemmas.Bool.{false≢true, eqb-true, and_parts, cases_eq, cases_lt}
+use Rattle.model_core.specs.Blocks.{Block, block}
+use Rattle.model_core.specs.Machine.{Slab, Cache, Machine, slot_of, order_in}
+use Rattle.model_core.specs.Slabs.{cache_of}
+use Rattle.model_core.specs.WellFormed.{RisesFrom}
+use Rattle.model_core.specs.declared.limits.TheConstants.{MOST_CACHES}
+use Rattle.model_core.proofs.Apart.{in_block-true}
+use Rattle.model_core.proofs.Rising.{same_rising}
+use Rattle.klist_core.specs.Places.{place_at}
+use Rattle.space_core.specs.Content as spaces
+use Rattle.buddy_core.specs.Content as buddies
+use Rattle.slab_tables.specs.declared.cache.Cache as own
+use Rattle.slab_tables.specs.Content.{Content, cache_at, index_of_cache, layout_numbers}
+use Rattle.machine_changes.specs.Shows.{node_of, is_of_cache, without_slabs, is_inside, IsSlab, ShowsMachine}
+use Rattle.machine_changes.proofs.Lookups.{some_none, some_same, at, at_here, at_past, found_key}
+use Rattle.machine_changes.proofs.Facts.{is_not, one_slab, cache_kept}
+use Rattle.machine_changes.proofs.Reserved.{order_found}
+use Rattle.machine_changes.specs.Pages.{OneMachine}
+use Rattle.machine_changes.proofs.PageLists.{block_same}
+
+-- Rising lists
+
+module _ {X : Type 0} (key : X → ℕ) where
+  none_below : (n k : ℕ) (xs : List X) → RisesFrom n (map key xs) → k < n → at key k xs ≡ None
+  none_below n k [] rises less = refl
+  none_below n k (x ∷ xs) (low, rises) less =
+      at_past key k x xs (λ same. absurd (omega arith)) ∙ none_below (key x + 1) k xs rises (omega arith)
+
+  -- what follows one head is the same
+  rest_same : (x y : X) (xs ys : List X) → key x ≡ key y → RisesFrom (key x + 1) (map key xs) → RisesFrom (key y + 1) (map key ys)
+      → ((k : ℕ) → at key k (x ∷ xs) ≡ at key k (y ∷ ys)) → (k : ℕ) → at key k xs ≡ at key k ys
+  rest_same x y xs ys keys rises rises' same k =
+      ⊎_elim
+      (λ (here : key x ≡ k). none_below (key x + 1) k xs rises (omega arith) ∙ sym (none_below (key y + 1) k ys rises' (omega arith)))
+      (λ (other : key x ≢ k). sym (at_past key k x xs other) ∙ (same k ∙ at_past key k y ys (λ e. other (keys ∙ e))))
+      (cases_eq (key x) k)
+
+  -- a head is not in a list whose head is higher
+  not_higher : (x y : X) (xs ys : List X) → key x < key y → RisesFrom (key y + 1) (map key ys) → at key (key x) (x ∷ xs) ≡ at key (key x) (y ∷ ys) → ⊥
+  not_higher x y xs ys less rises same =
+      some_none (sym (at_here key (key x) x xs refl) ∙ (same ∙ none_below (key y) (key x) (y ∷ ys) (omega arith, rises) less))
+
+  -- rising lists with the same look-ups are one
+  pub same_keyed : (n : ℕ) (xs ys : List X) → RisesFrom n (map key xs) → RisesFrom n (map key ys) → ((k : ℕ) → at key k xs ≡ at key k ys) → xs ≡ ys
+  same_keyed n [] [] rises rises' same = refl
+  same_keyed n [] (y ∷ ys) rises rises' same = absurd (some_none (sym (at_here key (key y) y ys refl) ∙ sym (same (key y))))
+  same_keyed n (x ∷ xs) [] rises rises' same = absurd (some_none (sym (at_here key (key x) x xs refl) ∙ same (key x)))
+  same_keyed n (x ∷ xs) (y ∷ ys) (low, rises) (low', rises') same = go (same_keyed (key x + 1) xs ys rises)
+    where
+      go : (RisesFrom (key x + 1) (map key ys) → ((k : ℕ) → at key k xs ≡ at key k ys) → xs ≡ ys) → (x ∷ xs) ≡ (y ∷ ys)
+      go more =
+          ⊎_elim
+          (λ (keys : key x ≡ key y).
+          let one : x ≡ y = some_same (sym (at_here key (key x) x xs refl) ∙ (same (key x) ∙ at_here key (key x) y ys (sym keys))) in
+          ap (λ z. z ∷ xs) one
+          ∙ ap (λ zs. y ∷ zs) (more (subst (λ k. RisesFrom (k + 1) (map key ys)) (sym keys) rises') (rest_same x y xs ys keys rises rises' same)))
+          (λ (differ : key x ≢ key y).
+          ⊎_elim
+          (λ less. absurd (not_higher x y xs ys less rises' (same (key x))))
+          (λ le. absurd (not_higher y x ys xs (omega (arith, differ)) rises (sym (same (key y)))))
+          (cases_lt (key x) (key y)))
+          (cases_eq (key x) (key y))
+
+-- the block found at a frame is that of the told order
+block_found : (bs : List Block) (f : ℕ) → at (λ z. z.first) f bs ≡ option_map (block f) (order_in bs f)
+block_found bs f = go (at (λ z. z.first) f bs) refl ∙ ap (option_map (block f)) (sym (order_found bs f))
+  where
+    go : (o : Option Block) → at (λ z. z.first) f bs ≡ o → at (λ z. z.first) f bs ≡ option_map (block f) (option_map (λ z. z.order) (at (λ z. z.first) f bs))
+    go None e = e ∙ ap (λ o. option_map (block f) (option_map (λ z. z.order) o)) (sym e)
+    go (Some z) e =
+        e ∙ (ap (λ x. Some x) (block_same z f z.order (found_key (λ x. x.first) f bs z e) refl)
+        ∙ ap (λ o. option_map (block f) (option_map (λ x. x.order) o)) (sym e))
+
+-- Places inside slabs
+
+module _ (r : spaces.Content) (s : Content) (t place : ℕ) where
+  -- a slab has the place
+  record IsInSlab : Type 0 where
+    number : ℕ
+    first : ℕ
+    node : ℕ
+    cache : own.Cache
+    slab : IsSlab r s t number first node cache
+    inside : is_inside place first cache ≡ true
+
+  -- no slab at the frame has it
+  abbrev IsApart : ℕ → Type 0
+  IsApart f = (c n : ℕ) (cache : own.Cache) → IsSlab r s t c f n cache → is_inside place f cache ≡ false
+
+  -- the number of the cache of a place in the lists
+  number_in : Option (ℕ × ℕ) → ℕ
+  number_in None = 0
+  number_in (Some p) = p.0 / 3 - MOST_CACHES * t
+
+  number_is : (c f : ℕ) (o : Option (ℕ × ℕ)) → is_of_cache (index_of_cache t c) f o ≡ true → c ≡ number_in o
+  unfolding number_in
+  number_is c f None e = absurd (false≢true e)
+  number_is c f (Some p) e =
+      let index : p.0 / 3 ≡ index_of_cache t c = eqb-true (p.0 / 3) (index_of_cache t c) (and_parts (p.0 / 3 == index_of_cache t c) (p.1 == f) e).0 in
+      omega arith
+
+  module _ (f n : ℕ) (under : node_of s.top r.slots t f ≡ Some n) where
+    abbrev c : ℕ
+    c = number_in (place_at s.lists.places n)
+
+    -- a slab at the frame is one of this cache
+    only : (d x : ℕ) (cache : own.Cache) → IsSlab r s t d f x cache → (d ≡ c) × IsSlab r s t c f n cache
+    only d x cache q =
+        let node : x ≡ n = some_same (sym q.under ∙ under) in
+        let here : IsSlab r s t d f n cache = subst (λ z. IsSlab r s t d f z cache) node q in
+        let number : d ≡ c = number_is d f (place_at s.lists.places n) here.listed in
+        (number, subst (λ z. IsSlab r s t z f n cache) number here)
+
+    with_slab : (cache : own.Cache) → IsSlab r s t c f n cache → (v : Bool) → is_inside place f cache ≡ v → IsInSlab ⊎ IsApart f
+    with_slab cache q true inside = inl (record { number = c; first = f; node = n; cache = cache; slab = q; inside = inside })
+    with_slab cache q false outside =
+        inr (λ d x other p.
+        let one = one_slab r s t c f n c f n cache other q (only d x other p).1 refl in
+        ap (is_inside place f) one.same ∙ outside)
+
+    with_cache : (cache : own.Cache) → cache_at s t c ≡ Some cache → (v : Bool) → is_of_cache (index_of_cache t c) f (place_at s.lists.places n) ≡ v
+        → IsInSlab ⊎ IsApart f
+    with_cache cache cached true listed =
+        with_slab cache (record { cached = cached; under = under; listed = listed }) (is_inside place f cache) refl
+    with_cache cache cached false unlisted = inr (λ d x other p. absurd (false≢true (sym unlisted ∙ (only d x other p).1.listed)))
+
+    with_node : (o : Option own.Cache) → cache_at s t c ≡ o → IsInSlab ⊎ IsApart f
+    with_node None none = inr (λ d x other p. absurd (some_none (sym (only d x other p).1.cached ∙ none)))
+    with_node (Some cache) cached = with_cache cache cached (is_of_cache (index_of_cache t c) f (place_at s.lists.places n)) refl
+
+  at_frame : (f : ℕ) → IsInSlab ⊎ IsApart f
+  at_frame f = go (node_of s.top r.slots t f) refl
+    where
+      go : (o : Option ℕ) → node_of s.top r.slots t f ≡ o → IsInSlab ⊎ IsApart f
+      go None none = inr (λ d x other p. absurd (some_none (sym p.under ∙ none)))
+      go (Some n) under = with_node f n under (cache_at s t (number_in (place_at s.lists.places n))) refl
+
+  below : (k : ℕ) → IsInSlab ⊎ ((f : ℕ) → f < k → IsApart f)
+  below zero = inr (λ f less. absurd (omega arith))
+  below (suc k) = join (below k) (at_frame k)
+    where
+      join : IsInSlab ⊎ ((f : ℕ) → f < k → IsApart f) → IsInSlab ⊎ IsApart k → IsInSlab ⊎ ((f : ℕ) → f < suc k → IsApart f)
+      join (inl is) _ = inl is
+      join (inr none) (inl is) = inl is
+      join (inr none) (inr here) =
+          inr (λ f less. ⊎_elim (λ (same : f ≡ k). subst IsApart (sym same) here) (λ (differ : f ≢ k). none f (omega (arith, differ))) (cases_eq f k))
+
+  -- a slab has the place, or none has
+  in_slab_or_none : IsInSlab ⊎ ((c f n : ℕ) (cache : own.Cache) → IsSlab r s t c f n cache → is_inside place f cache ≡ false)
+  in_slab_or_none =
+      ⊎_elim (λ is. inl is)
+      (λ none.
+      inr (λ c f n cache q.
+      is_not (is_inside place f cache) (λ inside.
+      let low = (in_block-true place (block f (layout_numbers cache).order) inside).0 in
+      false≢true (sym (none f (omega arith) c n cache q) ∙ inside))))
+      (below (suc (place / 4096)))
+
+-- Machines
+
+cache_parts : (x y : Cache) → without_slabs x ≡ without_slabs y → x.slabs ≡ y.slabs → x ≡ y
+cache_parts x y same slabs = ap {A = Cache} (λ z. record z { slabs = x.slabs }) same ∙ ap {A = List Slab} (λ ss. record y { slabs = ss }) slabs
+
+module _ (r : spaces.Content) (b : buddies.Content) (s : Content) (t : ℕ) (m n : Machine) (h : ShowsMachine r b s t m) (h' : ShowsMachine r b s t n) where
+  cache_same : (c : ℕ) → cache_of m c ≡ cache_of n c
+  cache_same c = go (cache_of m c) (cache_of n c) refl refl
+    where
+      bare_same : option_map without_slabs (cache_of m c) ≡ option_map without_slabs (cache_of n c)
+      bare_same = h.caches c ∙ sym (h'.caches c)
+
+      slabs_same : (x y : Cache) → cache_of m c ≡ Some x → cache_of n c ≡ Some y → x.slabs ≡ y.slabs
+      slabs_same x y ex ey =
+          let there = cache_kept r b s t m h c x ex in
+          same_keyed (λ z. z.first) 0 x.slabs y.slabs (h.slabs_rise c x ex) (h'.slabs_rise c y ey)
+          (λ f. h.slabs c f x there.kept ex there.cached ∙ sym (h'.slabs c f y there.kept ey there.cached))
+
+      go : (o o' : Option Cache) → cache_of m c ≡ o → cache_of n c ≡ o' → cache_of m c ≡ cache_of n c
+      go None None e e' = e ∙ sym e'
+      go None (Some y) e e' = absurd (some_none (sym (ap (option_map without_slabs) e') ∙ (sym bare_same ∙ ap (option_map without_slabs) e)))
+      go (Some x) None e e' = absurd (some_none (sym (ap (option_map without_slabs) e) ∙ (bare_same ∙ ap (option_map without_slabs) e')))
+      go (Some x) (Some y) e e' =
+          let bare_is : without_slabs x ≡ without_slabs y = some_same (sym (ap (option_map without_slabs) e) ∙ (bare_same ∙ ap (option_map without_slabs) e')) in
+          e ∙ (ap (λ z. Some z) (cache_parts x y bare_is (slabs_same x y e e')) ∙ sym e')
+
+  mapped_same : (place : ℕ) → is_some (m.bytes place) ≡ is_some (n.bytes place)
+  mapped_same place =
+      ⊎_elim
+      (λ is. h.in_slab place is.number is.first is.node is.cache is.slab is.inside ∙ sym (h'.in_slab place is.number is.first is.node is.cache is.slab is.inside))
+      (λ out. h.mapped place out ∙ (h.slots (slot_of s.top place) ∙ (sym (h'.slots (slot_of s.top place)) ∙ sym (h'.mapped place out))))
+      (in_slab_or_none r s t place)
+
+  byte_same : (place : ℕ) → m.bytes place ≡ n.bytes place
+  byte_same place = go (m.bytes place) (n.bytes place) refl refl
+    where
+      go : (o o' : Option ℕ) → m.bytes place ≡ o → n.bytes place ≡ o' → m.bytes place ≡ n.bytes place
+      go None None e e' = e ∙ sym e'
+      go None (Some y) e e' = absurd (false≢true (sym (ap is_some e) ∙ (mapped_same place ∙ ap is_some e')))
+      go (Some x) None e e' = absurd (false≢true (sym (ap is_some e') ∙ (sym (mapped_same place) ∙ ap is_some e)))
+      go (Some x) (Some y) e e' = e ∙ (sym (h.bytes place x e) ∙ (h'.bytes place y e' ∙ sym e'))
+
+  one : m ≡ n
+  one =
+      let slots = same_rising 0 m.slots n.slots h.slots_rise h'.slots_rise (λ u. h.slots u ∙ sym (h'.slots u)) in
+      let blocks = same_keyed (λ z. z.first) 0 m.blocks n.blocks h.blocks_rise h'.blocks_rise
+      (λ f. block_found m.blocks f ∙ (ap (option_map (block f)) (h.blocks f ∙ sym (h'.blocks f)) ∙ sym (block_found n.blocks f))) in
+      let caches = same_keyed (λ z. z.number) 0 m.caches n.caches h.caches_rise h'.caches_rise cache_same in
+      λ i. record { slots = slots i; blocks = blocks i; caches = caches i; bytes = λ place. byte_same place i }
+
+pub one_machine : OneMachine
+one_machine = one

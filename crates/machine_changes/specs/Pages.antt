@@ -1,0 +1,123 @@
+-- The laws of page blocks, of reach, and of bytes read and written; and that the parts show one machine at most.
+use Rattle.std.specs.Prelude.{◌≡◌, ◌↔◌, ◌⊎◌, ℕ, ◌+◌, ◌*◌, ◌/◌, ◌%◌, ◌^◌, ◌<◌, ◌≤◌, true, false, List, Some, IsSome, length, filter_map, slice_index, slice_index_or}
+use Rattle.std.specs.List.{range_with_len}
+use Rattle.model_core.specs.declared.limits.TheConstants.{FRAME_BYTES, RECORD_OFFSET}
+use Rattle.model_core.specs.Blocks.{block, HasFrame, IsTaken}
+use Rattle.model_core.specs.Layouts.{is_small}
+use Rattle.model_core.specs.Machine.{Slab, Cache, Machine}
+use Rattle.model_core.specs.Slabs.{cache_of, slab_of}
+use Rattle.model_core.specs.Operations.{without_block, written}
+use Rattle.model_core.specs.Reach.{in_reach}
+use Rattle.space_core.specs.Content as spaces
+use Rattle.space_core.specs.Windows.{home_of, with_window, byte_at}
+use Rattle.space_core.specs.Laws.{IsRead, SpaceLaws}
+use Rattle.buddy_core.specs.Content as buddies
+use Rattle.slab_tables.specs.declared.cache.Cache as own
+use Rattle.slab_tables.specs.Content.{Content, IsSlabs, kept_at, layout_numbers}
+use Rattle.machine_changes.specs.Records.{is_set}
+use Rattle.machine_changes.specs.Shows.{node_of, live_of, has_slab, IsSlab, ShowsMachine, Agree}
+use Rattle.machine_changes.specs.Keeps.{Spares}
+use Rattle.machine_changes.specs.Steady.{IsSteady}
+use Rattle.machine_changes.specs.Changes.{Found}
+use Rattle.machine_changes.specs.Objects.{HasRange}
+
+-- the buddy systems with the taken block of tenant t at frame f released
+abbrev pub released : ℕ → ℕ → buddies.Content → buddies.Content
+released t f b = buddies.with_holding t (buddies.without_block f (buddies.holding_of t b)) b
+
+-- a block released is the page block less in the machine
+abbrev pub ReleasedShows : Type 0
+ReleasedShows = (r : spaces.Content) (b : buddies.Content) (s : Content) (t f : ℕ) (m : Machine)
+    → ShowsMachine r b s t m → ShowsMachine r (released t f b) s t (without_block f m)
+
+-- where it was no slab's, the parts agree as before, and others keep everything
+abbrev pub ReleasedAgrees : Type 0
+ReleasedAgrees = (r : spaces.Content) (b : buddies.Content) (s : Content) (t f : ℕ)
+    → Agree r b s → has_slab s (node_of s.top r.slots t f) ≡ false → Agree r (released t f b) s × Spares t r r b (released t f b) s s
+
+-- the range lies inside one taken block of tenant t that is no slab's
+pub record IsInPage (r : spaces.Content) (b : buddies.Content) (s : Content) (t place len : ℕ) : Type 0 where
+  pub first : ℕ
+  pub order : ℕ
+  pub taken : buddies.taken_of (buddies.holding_of t b) first ≡ Some order
+  pub page : has_slab s (node_of s.top r.slots t first) ≡ false
+  pub begins : FRAME_BYTES * first ≤ place
+  pub ends : place + len ≤ FRAME_BYTES * (first + 2 ^ order)
+
+-- the range has a byte, and lies inside a page block or inside a live object of tenant t
+pub record IsInReach (r : spaces.Content) (b : buddies.Content) (s : Content) (t place len : ℕ) : Type 0 where
+  pub some : 0 < len
+  pub inside : IsInPage r b s t place len ⊎ ((o : Found) × HasRange r s t place len o)
+
+-- exactly these ranges are in reach of the machine
+abbrev pub ReachMeets : Type 0
+ReachMeets = (r : spaces.Content) (b : buddies.Content) (s : Content) (t place len : ℕ) (m : Machine)
+    → IsSteady r b s t → ShowsMachine r b s t m → (in_reach m place len ≡ true) ↔ IsInReach r b s t place len
+
+-- the taken block that has the first frame of a range tells whether the range lies inside a page block ..
+abbrev pub BlockTells : Type 0
+BlockTells = (r : spaces.Content) (b : buddies.Content) (s : Content) (t place len first order : ℕ)
+    → IsSteady r b s t → 0 < len → buddies.taken_of (buddies.holding_of t b) first ≡ Some order → HasFrame (block first order) (place / FRAME_BYTES)
+    → IsInPage r b s t place len
+    ↔ ((has_slab s (node_of s.top r.slots t first) ≡ false) × (place + len ≤ FRAME_BYTES * (first + 2 ^ order)))
+
+-- .. and where none has it, the range does not
+abbrev pub NoBlockTells : Type 0
+NoBlockTells = (r : spaces.Content) (b : buddies.Content) (s : Content) (t place len : ℕ)
+    → 0 < len → (IsTaken (buddies.taken_of (buddies.holding_of t b)) (place / FRAME_BYTES) → ⊥) → IsInPage r b s t place len → ⊥
+
+-- a range in reach lies in one held slot
+abbrev pub ReachHeld : Type 0
+ReachHeld = (r : spaces.Content) (b : buddies.Content) (s : Content) (t place len : ℕ)
+    → Agree r b s → IsSteady r b s t → IsInReach r b s t place len → IsSome (home_of r t place len)
+
+-- the machine has the memory's byte at each of its places
+abbrev pub ReachBytes : Type 0
+ReachBytes = (r : spaces.Content) (b : buddies.Content) (s : Content) (t place len : ℕ) (m : Machine)
+    → IsSteady r b s t → ShowsMachine r b s t m → IsInReach r b s t place len
+    → (p : ℕ) → place ≤ p → p < place + len → m.bytes p ≡ byte_at r t p
+
+-- what the machine reads of a range in reach is what the memory has there
+abbrev pub ReachReads : Type 0
+ReachReads = (r : spaces.Content) (b : buddies.Content) (s : Content) (t place len : ℕ) (bytes : List ℕ) (m : Machine)
+    → IsSteady r b s t → ShowsMachine r b s t m → IsInReach r b s t place len
+    → IsRead r t place len bytes → filter_map m.bytes (range_with_len place len) ≡ bytes
+
+-- the memory with these bytes of tenant t written from a place on
+abbrev pub stored : ℕ → ℕ → List ℕ → spaces.Content → spaces.Content
+stored t place new r = with_window r t place (length new) new
+
+-- bytes written over a range in reach are written in the machine
+abbrev pub WrittenShows : Type 0
+WrittenShows = (r : spaces.Content) (b : buddies.Content) (s : Content) (t place : ℕ) (new : List ℕ) (m : Machine)
+    → SpaceLaws r → Agree r b s → IsSteady r b s t → IsInReach r b s t place (length new)
+    → ShowsMachine r b s t m → ShowsMachine (stored t place new r) b s t (record m { bytes = written place new m.bytes })
+
+-- a tenant's control records are as they were, the parts agree, and others keep everything
+pub record IsWritten (r r' : spaces.Content) (b : buddies.Content) (s : Content) (t : ℕ) : Type 0 where
+  pub live : (c f n : ℕ) (cache : own.Cache) → IsSlab r s t c f n cache
+      → live_of r' t cache (kept_at s.kept n) f ≡ live_of r t cache (kept_at s.kept n) f
+  pub agree : Agree r' b s
+  pub spares : Spares t r r' b b s s
+
+-- no byte of a range in reach is a control record's
+abbrev pub WrittenAgrees : Type 0
+WrittenAgrees = (r : spaces.Content) (b : buddies.Content) (s : Content) (t place : ℕ) (new : List ℕ)
+    → IsSlabs s → SpaceLaws r → Agree r b s → IsSteady r b s t → IsInReach r b s t place (length new)
+    → IsWritten r (stored t place new r) b s t
+
+-- the parts show one machine at most for a tenant
+abbrev pub OneMachine : Type 0
+OneMachine = (r : spaces.Content) (b : buddies.Content) (s : Content) (t : ℕ) (m n : Machine)
+    → ShowsMachine r b s t m → ShowsMachine r b s t n → m ≡ n
+
+-- byte i of the control record in the machine frame `node`: of the last 32 bytes of that frame
+abbrev pub record_at : spaces.Content → Content → ℕ → ℕ → ℕ
+record_at r s node i = slice_index (spaces.bank r.banks (node / 2 ^ s.top)) (FRAME_BYTES * (node % 2 ^ s.top) + RECORD_OFFSET + i)
+
+-- the control record of a slab of small objects has a 1 for each live object of the machine's slab, and else zeroes
+abbrev pub RecordMeets : Type 0
+RecordMeets = (r : spaces.Content) (b : buddies.Content) (s : Content) (t c f n : ℕ) (cache : own.Cache) (m : Machine) (x : Cache) (y : Slab)
+    → Agree r b s → ShowsMachine r b s t m → IsSlab r s t c f n cache → is_small (layout_numbers cache).chunk ≡ true
+    → cache_of m c ≡ Some x → slab_of x f ≡ Some y
+    → (i j : ℕ) → i < 32 → j < 8 → is_set (record_at r s n i) j ≡ slice_index_or y.live (8 * i + j) false

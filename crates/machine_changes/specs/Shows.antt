@@ -1,0 +1,122 @@
+-- Which private machine the memory, the buddy systems and the tables of caches show for a tenant, and when the three agree.
+use Rattle.std.specs.Prelude.{◌≡◌, ℕ, ◌+◌, ◌-◌, ◌*◌, ◌/◌, ◌%◌, ◌^◌, ◌<◌, ◌≤◌, ◌==◌, ◌&&◌, Bool, true, false, if◌then◌else◌, List, [], map, Option, Some, None, is_some, unwrap_or, option_map, length}
+use Rattle.model_core.specs.Blocks.{block}
+use Rattle.model_core.specs.Layouts.{is_small, in_object}
+use Rattle.model_core.specs.WellFormed.{RisesFrom}
+use Rattle.model_core.specs.Machine.{Slab, Cache, Machine, holds, slot_of, order_in, in_block}
+use Rattle.model_core.specs.Slabs.{cache_of, slab_of}
+use Rattle.model_core.specs.declared.limits.TheConstants.{FRAME_BYTES, RECORD_OFFSET, MOST_CACHES}
+use Rattle.klist_core.specs.Places.{place_at}
+use Rattle.space_core.specs.Content as spaces
+use Rattle.space_core.specs.Windows.{byte_at}
+use Rattle.buddy_core.specs.Content as buddies
+use Rattle.slab_tables.specs.declared.cache.Cache as own
+use Rattle.slab_tables.specs.declared.cache.Kept.{Kept}
+use Rattle.slab_tables.specs.Content.{Content, kept_at, cache_in, cache_at, index_of_cache, layout_numbers}
+use Rattle.machine_changes.specs.Records.{is_set, flags, count_true}
+
+-- the machine frame at frame f, when this superblock lies under the slot of f
+abbrev pub frame_under : ℕ → ℕ → Option ℕ → Option ℕ
+frame_under top f None = None
+frame_under top f (Some m) = Some (m * 2 ^ top + f % 2 ^ top)
+
+-- the node of frame f of tenant t: the machine frame there, if t holds the slot
+abbrev pub node_of : ℕ → List (List (Option ℕ)) → ℕ → ℕ → Option ℕ
+node_of top slots t f = frame_under top f (spaces.superblock_at slots t (f / 2 ^ top))
+
+abbrev pub byte_or_zero : Option ℕ → ℕ
+byte_or_zero o = unwrap_or o 0
+
+-- byte j of the control record in frame f of tenant t
+abbrev pub record_byte : spaces.Content → ℕ → ℕ → ℕ → ℕ
+record_byte r t f j = byte_or_zero (byte_at r t (FRAME_BYTES * f + RECORD_OFFSET + j))
+
+-- object i of the slab at frame f of tenant t is live: by the record in the frame where objects are small, else by what is kept
+abbrev pub is_live : spaces.Content → ℕ → own.Cache → Kept → ℕ → ℕ → Bool
+is_live r t c kept f i =
+    if is_small (layout_numbers c).chunk then is_set (record_byte r t f (i / 8)) (i % 8) else is_set kept.outside i
+
+-- a flag for each object of the slab
+abbrev pub live_of : spaces.Content → ℕ → own.Cache → Kept → ℕ → List Bool
+live_of r t c kept f = flags (layout_numbers c).count (is_live r t c kept f)
+
+-- the place in the lists is that of a slab at frame f of cache n of all
+abbrev pub is_of_cache : ℕ → ℕ → Option (ℕ × ℕ) → Bool
+is_of_cache n f None = false
+is_of_cache n f (Some p) = p.0 / 3 == n && p.1 == f
+
+abbrev pub slab_placed : List Bool → ℕ → ℕ → Bool → Option Slab
+slab_placed live colour f false = None
+slab_placed live colour f true = Some (record { first = f; colour = colour; live = live })
+
+abbrev pub slab_under : spaces.Content → Content → ℕ → ℕ → own.Cache → ℕ → Option ℕ → Option Slab
+slab_under r s t n c f None = None
+slab_under r s t n c f (Some node) =
+    slab_placed (live_of r t c (kept_at s.kept node) f) (kept_at s.kept node).colour f (is_of_cache n f (place_at s.lists.places node))
+
+-- the slab of cache c of tenant t at frame f
+abbrev pub slab_at : spaces.Content → Content → ℕ → ℕ → own.Cache → ℕ → Option Slab
+slab_at r s t c cache f = slab_under r s t (index_of_cache t c) cache f (node_of s.top r.slots t f)
+
+-- a slab begins at the node
+abbrev pub has_slab : Content → Option ℕ → Bool
+has_slab s None = false
+has_slab s (Some node) = is_some (place_at s.lists.places node)
+
+-- the cache with this number, but for its slabs
+abbrev pub bare : ℕ → own.Cache → Cache
+bare number c = record { number = number; size = c.layout.size; align = c.layout.align; pattern = c.pattern; made = c.made; slabs = [] }
+
+abbrev pub without_slabs : Cache → Cache
+without_slabs c = record c { slabs = [] }
+
+-- a slab of cache c of tenant t begins at frame f, node n
+pub record IsSlab (r : spaces.Content) (s : Content) (t c f n : ℕ) (cache : own.Cache) : Type 0 where
+  pub cached : cache_at s t c ≡ Some cache
+  pub under : node_of s.top r.slots t f ≡ Some n
+  pub listed : is_of_cache (index_of_cache t c) f (place_at s.lists.places n) ≡ true
+
+-- the place lies in a slab of the cache that begins at frame f
+abbrev pub is_inside : ℕ → ℕ → own.Cache → Bool
+is_inside place f cache = in_block place (block f (layout_numbers cache).order)
+
+-- the parts show that the tenant's private machine is this one
+pub record ShowsMachine (r : spaces.Content) (b : buddies.Content) (s : Content) (t : ℕ) (m : Machine) : Type 0 where
+  pub slots_rise : RisesFrom 0 m.slots
+  pub slots : (u : ℕ) → holds m u ≡ is_some (spaces.superblock_at r.slots t u)
+  pub blocks_rise : RisesFrom 0 (map (λ x. x.first) m.blocks)
+  -- page blocks are the taken blocks that are no slab's
+  pub blocks : (f : ℕ) → order_in m.blocks f
+      ≡ (if has_slab s (node_of s.top r.slots t f) then None else buddies.taken_of (buddies.holding_of t b) f)
+  pub caches_rise : RisesFrom 0 (map (λ x. x.number) m.caches)
+  pub caches : (c : ℕ) → option_map without_slabs (cache_of m c) ≡ option_map (bare c) (cache_at s t c)
+  pub slabs_rise : (c : ℕ) (x : Cache) → cache_of m c ≡ Some x → RisesFrom 0 (map (λ y. y.first) x.slabs)
+  pub slabs : (c f : ℕ) (x : Cache) (cache : own.Cache) → cache_of m c ≡ Some x → cache_at s t c ≡ Some cache
+      → slab_of x f ≡ slab_at r s t c cache f
+  -- outside slabs exactly the held places have a byte, and inside a slab those of its objects
+  pub mapped : (place : ℕ) → ((c f n : ℕ) (cache : own.Cache) → IsSlab r s t c f n cache → is_inside place f cache ≡ false)
+      → is_some (m.bytes place) ≡ holds m (slot_of s.top place)
+  pub in_slab : (place c f n : ℕ) (cache : own.Cache) → IsSlab r s t c f n cache → is_inside place f cache ≡ true
+      → is_some (m.bytes place) ≡ in_object (layout_numbers cache) cache.layout.size (kept_at s.kept n).colour (place - FRAME_BYTES * f)
+  pub bytes : (place byte : ℕ) → m.bytes place ≡ Some byte → byte_at r t place ≡ Some byte
+
+-- the slab at a node is a taken block of its tenant, and its record and its count say the same
+pub record IsAgreed (r : spaces.Content) (b : buddies.Content) (s : Content) (node head key : ℕ) (cache : own.Cache) : Type 0 where
+  pub under : node_of s.top r.slots (head / 3 / MOST_CACHES) key ≡ Some node
+  pub taken : buddies.taken_of (buddies.holding_of (head / 3 / MOST_CACHES) b) key ≡ Some (layout_numbers cache).order
+  pub counted : (kept_at s.kept node).live ≡ count_true (live_of r (head / 3 / MOST_CACHES) cache (kept_at s.kept node) key)
+  -- the record is the bitmap of the live objects and nothing else
+  pub rest : (i : ℕ) → (layout_numbers cache).count ≤ i → i < 256 → is_live r (head / 3 / MOST_CACHES) cache (kept_at s.kept node) key i ≡ false
+
+-- The memory, the buddy systems and the tables agree: on their sizes, on the superblock under each slot of each tenant, and
+-- on each slab.
+pub record Agree (r : spaces.Content) (b : buddies.Content) (s : Content) : Type 0 where
+  pub order : b.top ≡ s.top
+  pub unit : r.unit ≡ FRAME_BYTES * 2 ^ s.top
+  pub superblocks : length r.owners ≡ b.superblocks
+  pub nodes : length s.lists.places ≡ b.superblocks * 2 ^ s.top
+  pub rows : length r.slots ≡ length b.tenants
+  pub tenants : length s.caches ≡ MOST_CACHES * length b.tenants
+  pub slots : (t u : ℕ) → buddies.superblock_at (buddies.holding_of t b) u ≡ spaces.superblock_at r.slots t u
+  pub slabs : (node head key : ℕ) (cache : own.Cache) → place_at s.lists.places node ≡ Some (head, key)
+      → cache_in s.caches (head / 3) ≡ Some cache → IsAgreed r b s node head key cache

@@ -1,0 +1,101 @@
+-- What becomes of the parts, and of the private machines that they show, where the slots of a tenant change.
+use Rattle.std.specs.Prelude.{◌≡◌, ◌≢◌, ◌↔◌, ℕ, ◌+◌, ◌*◌, ◌^◌, ◌<◌, ◌≤◌, true, Some, None, length}
+use Rattle.model_core.specs.declared.limits.TheConstants.{FRAME_BYTES}
+use Rattle.model_core.specs.Blocks.{slot_block, HasTaken}
+use Rattle.model_core.specs.Machine.{Machine, empty_machine}
+use Rattle.model_core.specs.Operations.{next_slot, after_grant, is_busy, after_take_back}
+use Rattle.klist_core.specs.Places.{place_at}
+use Rattle.space_core.specs.Content as spaces
+use Rattle.space_core.specs.Changes.{IsLeastSlot, with_grant, with_take_back, with_move}
+use Rattle.space_core.specs.Laws.{SpaceLaws, IsSameFor, ReadsSame}
+use Rattle.buddy_core.specs.Content as buddies
+use Rattle.slab_tables.specs.Content.{Content, IsSlabs, empty_tables}
+use Rattle.slab_tables.specs.Changes.{IsReset, IsMoved}
+use Rattle.machine_changes.specs.Shows.{ShowsMachine, Agree}
+use Rattle.machine_changes.specs.Keeps.{Keeps}
+
+-- the memory, the buddy systems and the tables are each in order, and they agree
+pub record HoldTogether (r : spaces.Content) (b : buddies.Content) (s : Content) : Type 0 where
+  pub space : SpaceLaws r
+  pub buddy : buddies.BuddyLaws b
+  pub slabs : IsSlabs s
+  pub agree : Agree r b s
+
+-- The parts change for tenant t alone: they still agree, all other tenants keep everything, and whichever machine they showed
+-- for t, they show it with this change.
+pub record ChangesFor (t : ℕ) (r r' : spaces.Content) (b b' : buddies.Content) (s s' : Content) (change : Machine → Machine) : Type 0 where
+  pub agree : Agree r' b' s'
+  pub others : (u : ℕ) → u ≢ t → Keeps r r' b b' s s' u
+  pub shows : (m : Machine) → ShowsMachine r b s t m → ShowsMachine r' b' s' t (change m)
+
+-- superblock m, which has no owner, with_grant to tenant t as its least slot u that is not held
+abbrev pub GrantedShows : Type 0
+GrantedShows = (r : spaces.Content) (b : buddies.Content) (s : Content) (t u m : ℕ)
+    → HoldTogether r b s → t < length r.slots → IsLeastSlot r.slots t u → u < length r.owners
+    → m < length r.owners → spaces.owner_at r.owners m ≡ None
+    → ChangesFor t r (with_grant r t u m) b (buddies.with_holding t (buddies.with_slot u m (buddies.holding_of t b)) b) s s (after_grant s.top)
+
+-- the least slot that is not held is the machine's next one
+abbrev pub NextMeets : Type 0
+NextMeets = (r : spaces.Content) (b : buddies.Content) (s : Content) (t u : ℕ) (m : Machine)
+    → ShowsMachine r b s t m → IsLeastSlot r.slots t u → next_slot m ≡ u
+
+-- superblock m taken from under slot u of tenant t, of which no frame is taken
+abbrev pub TakenBackShows : Type 0
+TakenBackShows = (r : spaces.Content) (b : buddies.Content) (s : Content) (t u m : ℕ)
+    → HoldTogether r b s → t < length r.slots → spaces.superblock_at r.slots t u ≡ Some m
+    → (HasTaken (buddies.taken_of (buddies.holding_of t b)) (slot_block b.top u) → ⊥)
+    → ChangesFor t r (with_take_back r t u m) b (buddies.with_holding t (buddies.without_slot u (buddies.holding_of t b)) b) s s (after_take_back s.top u)
+
+-- a slot has a taken frame exactly where the machine has it busy
+abbrev pub BusyMeets : Type 0
+BusyMeets = (r : spaces.Content) (b : buddies.Content) (s : Content) (t u : ℕ) (m : Machine)
+    → HoldTogether r b s → t < length r.slots → ShowsMachine r b s t m
+    → HasTaken (buddies.taken_of (buddies.holding_of t b)) (slot_block b.top u) ↔ (is_busy s.top m u ≡ true)
+
+-- superblock m stands under no slot, and no slab begins on it
+pub record IsSpare (b : buddies.Content) (s : Content) (m : ℕ) : Type 0 where
+  pub unused : (t u : ℕ) → buddies.superblock_at (buddies.holding_of t b) u ≡ Some m → ⊥
+  pub bare : (i : ℕ) → i < 2 ^ s.top → place_at s.lists.places (m * 2 ^ s.top + i) ≡ None
+
+-- a superblock without owner is spare
+abbrev pub UnownedIsSpare : Type 0
+UnownedIsSpare = (r : spaces.Content) (b : buddies.Content) (s : Content) (m : ℕ)
+    → HoldTogether r b s → spaces.owner_at r.owners m ≡ None → IsSpare b s m
+
+-- each superblock's nodes are among those of the tables
+abbrev pub NodesWithin : Type 0
+NodesWithin = (r : spaces.Content) (b : buddies.Content) (s : Content) (m : ℕ)
+    → Agree r b s → m < length r.owners → (m + 1) * 2 ^ s.top ≤ length s.lists.places
+
+-- slot u of tenant t with_move from superblock `from` to superblock `to`, which has no owner
+abbrev pub MovedShows : Type 0
+MovedShows = (r : spaces.Content) (b : buddies.Content) (s s' : Content) (t u from to : ℕ)
+    → HoldTogether r b s → t < length r.slots → spaces.superblock_at r.slots t u ≡ Some from
+    → to < length r.owners → spaces.owner_at r.owners to ≡ None → IsMoved s s' from to
+    → ReadsSame t r (with_move r t u from to)
+    × ChangesFor t r (with_move r t u from to) b (buddies.with_holding t (buddies.with_slot u to (buddies.holding_of t b)) b) s s' (λ m. m)
+
+-- tenant t has no slot any more, and what all others have is as before
+pub record HasGivenUp (t : ℕ) (r r' : spaces.Content) : Type 0 where
+  pub unit : r'.unit ≡ r.unit
+  pub superblocks : length r'.owners ≡ length r.owners
+  pub rows : length r'.slots ≡ length r.slots
+  pub slots : (u : ℕ) → spaces.superblock_at r'.slots t u ≡ None
+  pub others : (u : ℕ) → u ≢ t → IsSameFor u r r'
+
+-- all that tenant t has is taken from it
+abbrev pub EmptiedShows : Type 0
+EmptiedShows = (r r' : spaces.Content) (b : buddies.Content) (s s' : Content) (t : ℕ)
+    → HoldTogether r b s → t < length r.slots → HasGivenUp t r r' → IsReset s s' t
+    → ChangesFor t r r' b (buddies.with_holding t (buddies.nothing_held b.top b.superblocks) b) s s' (λ m. empty_machine)
+
+-- the parts before the first event
+pub record IsOpening (r : spaces.Content) (b : buddies.Content) (s : Content) : Type 0 where
+  pub agree : Agree r b s
+  pub shows : (t : ℕ) → ShowsMachine r b s t empty_machine
+
+abbrev pub OpeningShows : Type 0
+OpeningShows = (order superblocks tenants : ℕ)
+    → IsOpening (spaces.empty_space (FRAME_BYTES * 2 ^ order) superblocks tenants) (buddies.empty_buddy order superblocks tenants)
+    (empty_tables order superblocks tenants)

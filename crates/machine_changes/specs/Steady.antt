@@ -1,0 +1,28 @@
+-- What parts that agree lend of one tenant: the premise of the laws.
+use Rattle.std.specs.Prelude.{◌≡◌, ℕ, ◌<◌, Some, is_some}
+use Rattle.model_core.specs.Blocks.{IsSound}
+use Rattle.model_core.specs.Layouts.{IsLayout}
+use Rattle.layout_core.specs.Objects.{IsColour}
+use Rattle.klist_core.specs.Places.{place_at}
+use Rattle.space_core.specs.Content as spaces
+use Rattle.buddy_core.specs.Content as buddies
+use Rattle.slab_tables.specs.declared.cache.Cache as own
+use Rattle.slab_tables.specs.Content.{Content, kept_at, layout_numbers}
+use Rattle.machine_changes.specs.Shows.{IsSlab, node_of}
+
+-- the slab's block is taken, and it is cut by its cache's layout
+pub record IsStanding (b : buddies.Content) (s : Content) (t f n : ℕ) (cache : own.Cache) : Type 0 where
+  pub taken : buddies.taken_of (buddies.holding_of t b) f ≡ Some (layout_numbers cache).order
+  pub layout : IsLayout cache.layout.size cache.layout.align (layout_numbers cache)
+  pub colour : IsColour cache.layout (kept_at s.kept n).colour
+
+pub record IsSteady (r : spaces.Content) (b : buddies.Content) (s : Content) (t : ℕ) : Type 0 where
+  pub stands : (c f n : ℕ) (cache : own.Cache) → IsSlab r s t c f n cache → IsStanding b s t f n cache
+  -- what stands in a list under a slot of the tenant is a slab of the tenant
+  pub listed : (f n head key : ℕ) → node_of s.top r.slots t f ≡ Some n → place_at s.lists.places n ≡ Some (head, key)
+      → (c : ℕ) × (cache : own.Cache) × IsSlab r s t c f n cache
+  pub sound : IsSound s.top (λ u. is_some (spaces.superblock_at r.slots t u)) (buddies.taken_of (buddies.holding_of t b))
+  -- a place of a taken frame fits 32 bits
+  pub few : (f k : ℕ) → buddies.taken_of (buddies.holding_of t b) f ≡ Some k → f < 65536
+  -- no superblock stands under two slots
+  pub apart : (u v m : ℕ) → spaces.superblock_at r.slots t u ≡ Some m → spaces.superblock_at r.slots t v ≡ Some m → u ≡ v
