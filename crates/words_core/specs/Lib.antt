@@ -5,6 +5,7 @@ pub mod Commands
 pub mod Grammar
 pub mod Cases
 pub mod ReportTexts
+pub mod Refusals
 pub mod Texts
 pub mod Digits
 pub mod Requests

@@ -13,6 +13,7 @@ mod hex_digits;
 mod laws;
 mod line;
 mod numbers;
+mod refusals;
 mod reply;
 mod report;
 mod text;

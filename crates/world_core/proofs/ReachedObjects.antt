@@ -29,8 +29,7 @@ reached_constructed limit order entries object j asked is less none =
 -- the reply that an object is taken says what the take answered
 taken_is : (place : ℕ) (answer : Result ℕ TakeRefusal) → take_body answer ≡ Say.Object place → answer ≡ Ok place
 taken_is place (Ok p) e = let same : p ≡ place = cc in ap Ok same
-taken_is place (Err TakeRefusal.NoCache) e = absurd (cc)
-taken_is place (Err TakeRefusal.NoFrames) e = absurd (cc)
+taken_is place (Err refusal) e = absurd (cc)
 
 pub reached_constructed_when_taken : ReachedConstructedWhenTaken
 unfolding command_step

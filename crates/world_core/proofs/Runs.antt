@@ -69,16 +69,14 @@ taken_back_same : (limit order t slot : ℕ) (w : World) (m : Machine) (answered
 unfolding answer private_step
 taken_back_same limit order t slot w m (Ok done) here =
     rw (is_same t) record { replies = refl; machine = slice_get-set_same w.machines t m _ here }
-taken_back_same limit order t slot w m (Err TakeBackRefusal.NoSlot) here = record { replies = refl; machine = here }
-taken_back_same limit order t slot w m (Err TakeBackRefusal.SlotBusy) here = record { replies = refl; machine = here }
+taken_back_same limit order t slot w m (Err refusal) here = record { replies = refl; machine = here }
 
 taken_back_other : (limit order t named slot : ℕ) (w : World) (m after : Machine) (answered : Result (Unit {0}) TakeBackRefusal) → slice_get w.machines t ≡ Some m → named ≢ t
     → StepLeaves limit order t (On.Admin (Do.TakeBack named slot)) m (take_back_answered named slot w after answered)
 unfolding answer
 taken_back_other limit order t named slot w m after (Ok done) here other =
     rw (is_other named t other) record { replies = refl; machine = slice_get-set_other w.machines named t _ other ∙ here }
-taken_back_other limit order t named slot w m after (Err TakeBackRefusal.NoSlot) here other = record { replies = refl; machine = here }
-taken_back_other limit order t named slot w m after (Err TakeBackRefusal.SlotBusy) here other = record { replies = refl; machine = here }
+taken_back_other limit order t named slot w m after (Err refusal) here other = record { replies = refl; machine = here }
 
 slot_other : (limit order t named slot : ℕ) (w : World) (m : Machine) (o : Option Machine) → slice_get w.machines t ≡ Some m → named ≢ t
     → StepLeaves limit order t (On.Admin (Do.TakeBack named slot)) m (slot_step order named slot w o)

@@ -227,8 +227,7 @@ grant_stays order named w (Some m) (Some superblock) = record { tenants = length
 taken_back_stays : (named slot : ℕ) (w : World) (after : Machine) (answered : Result (Unit {0}) TakeBackRefusal) → StaysNumbered w (take_back_answered named slot w after answered)
 unfolding answer
 taken_back_stays named slot w after (Ok done) = record { tenants = length-set w.machines named _; addressee = λ many. tt }
-taken_back_stays named slot w after (Err TakeBackRefusal.NoSlot) = record { tenants = refl; addressee = λ many. tt }
-taken_back_stays named slot w after (Err TakeBackRefusal.SlotBusy) = record { tenants = refl; addressee = λ many. tt }
+taken_back_stays named slot w after (Err refusal) = record { tenants = refl; addressee = λ many. tt }
 
 slot_stays : (order named slot : ℕ) (w : World) (o : Option Machine) → StaysNumbered w (slot_step order named slot w o)
 unfolding slot_step answer

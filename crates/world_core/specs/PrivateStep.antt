@@ -17,13 +17,13 @@ use Rattle.words_core.specs.declared.report.Report as figures
 use Rattle.words_core.specs.declared.reply.Body.{Body}
 use Rattle.words_core.specs.declared.reply.Body.TheVariants.{Frame, Freed, Bytes, Written, Cache, Destroyed, Object, Given, Reaped, Report, Refused}
 use Rattle.words_core.specs.declared.reply.Refusal.{Refusal}
+use Rattle.words_core.specs.Refusals.{alloc_refusal, read_refusal, cache_refusal, destroy_refusal, take_refusal, give_refusal}
 
 -- what the tenant is told of an operation on its machine
 
 abbrev pub alloc_body : Result ℕ AllocRefusal → Body
 alloc_body (Ok frame) = Frame frame
-alloc_body (Err AllocRefusal.BadOrder) = Refused Refusal.BadOrder
-alloc_body (Err AllocRefusal.NoFrames) = Refused Refusal.NoFrames
+alloc_body (Err refusal) = Refused (alloc_refusal refusal)
 
 abbrev pub free_body : Option ℕ → Body
 free_body (Some order) = Freed order
@@ -31,8 +31,7 @@ free_body None = Refused Refusal.NotABlock
 
 abbrev pub read_body : Result (List ℕ) ReadRefusal → Body
 read_body (Ok bytes) = Bytes (record { items = bytes })
-read_body (Err ReadRefusal.BadLength) = Refused Refusal.BadLength
-read_body (Err ReadRefusal.OutOfReach) = Refused Refusal.OutOfReach
+read_body (Err refusal) = Refused (read_refusal refusal)
 
 abbrev pub write_body : Option ℕ → Body
 write_body (Some count) = Written count
@@ -44,24 +43,19 @@ layout_body number l = Cache number l.chunk l.order l.count l.colours
 
 abbrev pub cache_body : ℕ → ℕ → Result ℕ CacheRefusal → Body
 cache_body size align (Ok number) = layout_body number (layout_of size align)
-cache_body size align (Err CacheRefusal.BadSize) = Refused Refusal.BadSize
-cache_body size align (Err CacheRefusal.BadAlign) = Refused Refusal.BadAlign
-cache_body size align (Err CacheRefusal.NoCacheSlot) = Refused Refusal.NoCacheSlot
+cache_body size align (Err refusal) = Refused (cache_refusal refusal)
 
 abbrev pub destroy_body : Result ℕ DestroyRefusal → Body
 destroy_body (Ok frames) = Destroyed frames
-destroy_body (Err DestroyRefusal.NoCache) = Refused Refusal.NoCache
-destroy_body (Err DestroyRefusal.CacheInUse) = Refused Refusal.CacheInUse
+destroy_body (Err refusal) = Refused (destroy_refusal refusal)
 
 abbrev pub take_body : Result ℕ TakeRefusal → Body
 take_body (Ok place) = Object place
-take_body (Err TakeRefusal.NoCache) = Refused Refusal.NoCache
-take_body (Err TakeRefusal.NoFrames) = Refused Refusal.NoFrames
+take_body (Err refusal) = Refused (take_refusal refusal)
 
 abbrev pub give_body : Result (Unit {0}) GiveRefusal → Body
 give_body (Ok done) = Given
-give_body (Err GiveRefusal.NoCache) = Refused Refusal.NoCache
-give_body (Err GiveRefusal.NotAnObject) = Refused Refusal.NotAnObject
+give_body (Err refusal) = Refused (give_refusal refusal)
 
 -- the figures of the machine; slots have 2 ^ order frames
 unfoldable pub figures_of : ℕ → Machine → figures.Report

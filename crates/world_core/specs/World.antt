@@ -17,6 +17,7 @@ use Rattle.words_core.specs.declared.reply.Body.TheVariants.{Granted, TakenBack,
 use Rattle.words_core.specs.declared.reply.Refusal.{Refusal}
 use Rattle.words_core.specs.declared.reply.Refusal.TheVariants.{NoTenant, PoolEmpty}
 use Rattle.words_core.specs.declared.reply.Reply.{Reply}
+use Rattle.words_core.specs.Refusals.{take_back_refusal}
 use Rattle.world_core.specs.PrivateStep.{command_step}
 
 -- by superblock the tenant and the slot that own it, by tenant its machine
@@ -64,8 +65,7 @@ take_back_answered t slot w after (Ok done) = record {
     machines = slice_set w.machines t after;
   };
 }
-take_back_answered t slot w after (Err TakeBackRefusal.NoSlot) = answer To.Admin (Refused Refusal.NoSlot) w
-take_back_answered t slot w after (Err TakeBackRefusal.SlotBusy) = answer To.Admin (Refused Refusal.SlotBusy) w
+take_back_answered t slot w after (Err refusal) = answer To.Admin (Refused (take_back_refusal refusal)) w
 
 unfoldable pub slot_step : ℕ → ℕ → ℕ → World → Option Machine → WorldStep
 slot_step order t slot w None = answer To.Admin (Refused NoTenant) w
