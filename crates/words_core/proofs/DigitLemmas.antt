@@ -1,9 +1,10 @@
 -- The text of a number, two digits at a time.
-use Rattle.std.proofs.Common.{◌≡◌, ℕ, zero, suc, ◌+◌, ◌*◌, ◌/◌, ◌%◌, ◌^◌, ◌<◌, ◌≤◌, List, [], ◌∷◌, ◌++◌, get_or, length, take, drop, map, refl, sym, ◌∙◌, ap, arith, append_assoc, length-append}
+use Rattle.std.proofs.Common.{◌≡◌, ℕ, zero, suc, ◌+◌, ◌*◌, ◌/◌, ◌%◌, ◌^◌, ◌<◌, ◌≤◌, Option, Some, None, List, [], ◌∷◌, ◌++◌, get_or, length, take, drop, map, refl, sym, ◌∙◌, ap, arith, append_assoc, length-append}
 use Rattle.std.proofs.Math.Nat.{pow-suc, one-le-pow}
 use Rattle.std.proofs.Math.Seq.{take-append_seam}
 use Rattle.std.proofs.lemmas.List.{take-append-drop, length-take-le}
 use Rattle.std.specs.Fmt.{decimal}
+use Rattle.std.specs.Option.{IfNone, IfSome, unwrap_or}
 use Rattle.std.specs.List.{range_with_len}
 use Rattle.std.proofs.lemmas.Fmt.{decimal_digit, decimal_step, length-decimal-le}
 use Rattle.std.proofs.lemmas.List.FromFn.{get_or-map-range_with_len}
@@ -69,18 +70,20 @@ put_more front n low high =
 
 pub ruleset digit_rules = (put_one, put_two, put_three, put_four, put_five, put_more)
 
-pub length_one : (n : ℕ) → n < 10 → 1 ≡ length (decimal n)
-length_one n high = sym (ap length (decimal_digit n high))
-
--- with a first digit that is not 0
-pub length_more : (k n : ℕ) → 10 ^ k ≤ n → n < 10 ^ suc k → n < 2 ^ 64 → k + 1 ≡ length (decimal n)
-length_more zero n low high fits = length_one n (omega arith)
+-- the number has `k + 1` digits, the first of them not 0
+length_more : (k n : ℕ) → 10 ^ k ≤ n → n < 10 * 10 ^ k → n < 2 ^ 64 → k + 1 ≡ length (decimal n)
+length_more zero n low high fits = sym (ap length (decimal_digit n (omega arith)))
 length_more (suc k) n low high fits =
     let power : 10 ^ suc k ≡ 10 ^ k * 10 = pow-suc 10 k in
-    let power_more : 10 ^ suc (suc k) ≡ 10 ^ suc k * 10 = pow-suc 10 (suc k) in
     let step : length (decimal n) ≡ length (decimal (n / 10)) + 1 =
     ap length (decimal_step n (omega (arith, one-le-pow k 10 (omega arith))) fits) ∙ length-append _ _ in
     omega (arith, step, length_more k (n / 10) (omega arith) (omega arith) (omega arith))
+
+-- the logarithm counts all digits but one; 0 has none
+pub digits_counted : (n : ℕ) (log : Option ℕ) → n < 2 ^ 64 → IfNone log (n ≡ 0) → IfSome log (λ k. 10 ^ k ≤ n) → IfSome log (λ k. n < 10 * 10 ^ k)
+    → unwrap_or log 0 + 1 ≡ length (decimal n)
+digits_counted n None fits none low high = sym (ap length (decimal_digit n (omega arith)))
+digits_counted n (Some k) fits none low high = length_more k n low high fits
 
 -- the digits go before their end
 pub written_before : (start at end : ℕ) (digits old new : List ℕ) → start + length digits ≡ end → at + length digits ≡ end → end ≤ length old

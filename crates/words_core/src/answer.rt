@@ -8,9 +8,8 @@ ghost use Rattle.words_core.specs.declared.reply.Body.TheVariants.{Cache, Refuse
 
 use crate::event::LineFault;
 use crate::hex_digits::put_hex;
-use crate::numbers::MOST_DIGITS;
 use crate::reply::{Addressee, Body, Refusal};
-use crate::window::{put_front, put_number, put_place, put_short_number, put_text};
+use crate::window::{put_front, put_labelled, put_number, put_number_quickly, put_text};
 use arrayvec::ArrayVec;
 use model_core::limits::MOST_BYTES;
 
@@ -219,31 +218,36 @@ pub fn write_answer(tenant: u8, answer: Answer<'_>, out: &mut [u8]) -> usize
     ensures some { 0 < result }
     ensures within { result ≤ room_of answer.entry }
 {
-    let end = match answer {
-        Answer::Frame(frame) => {
-            let at = put_front(tenant, b"0> frame        ", 9, out);
-            put_short_number(frame, at, out)
-        }
-        Answer::Freed(order) => {
-            let at = put_front(tenant, b"0> freed        ", 9, out);
-            put_short_number(u32::from(order), at, out)
-        }
+    let (front, len, number) = match answer {
+        Answer::Frame(frame) => (b"0> frame        ", 9, frame),
+        Answer::Freed(order) => (b"0> freed        ", 9, u32::from(order)),
+        Answer::Written(count) => (b"0> written      ", 11, count),
+        Answer::Object(place) => (b"0> object       ", 10, place),
+        other => return write_other(tenant, other, out),
+    };
+    let at = put_front(tenant, front, len, out);
+    let end = put_number_quickly(number, at, out);
+    put_text(b"\n", end, out)
+}
+
+/// [`write_answer`] of an answer that is not a word and a number, or is rare.
+#[inline(always)]
+fn write_other(tenant: u8, answer: Answer<'_>, out: &mut [u8]) -> usize
+    requires few { HasFewBytes answer }
+    requires room { room_of answer ≤ length out.old }
+    ensures text { take result out.new ≡ text_of (reply_of_answer tenant answer.entry) }
+    ensures some { 0 < result }
+    ensures within { result ≤ room_of answer.entry }
+{
+    let at = match answer {
         Answer::Bytes(bytes) => {
             let at = put_front(tenant, b"0> bytes        ", 9, out);
             put_digits(bytes, at, out)
         }
-        Answer::Written(count) => {
-            let at = put_front(tenant, b"0> written      ", 11, out);
-            put_short_number(count, at, out)
-        }
-        Answer::Object(place) => {
-            let at = put_front(tenant, b"0> object       ", 10, out);
-            put_place(place, at, out)
-        }
         Answer::Given => put_front(tenant, b"0> given        ", 8, out),
         rare => put_line(Addressee::Tenant(tenant), rare, out),
     };
-    put_text(b"\n", end, out)
+    put_text(b"\n", at, out)
 }
 
 /// [`write_answer`] to anyone.
@@ -377,18 +381,6 @@ fn put_digits(bytes: &[u8], at: usize, out: &mut [u8]) -> usize
     ensures end { result ≡ at + 2 * length bytes.now }
 {
     put_hex(bytes, at, out)
-}
-
-/// Writes a label, and then a number.
-#[cold]
-#[inline(never)]
-fn put_labelled(label: &[u8], number: u32, at: usize, out: &mut [u8]) -> usize
-    requires { at + length label.now + MOST_DIGITS ≤ length out.old }
-    ensures text { take result out.new ≡ take at out.old ++ label.now ++ decimal number }
-    ensures short { result ≤ at + length label.now + MOST_DIGITS }
-{
-    let at = put_text(label, at, out);
-    put_number(number, at, out)
 }
 
 /// A slot of a tenant and the superblock under it.

@@ -23,22 +23,12 @@ pub fn number(word: &[u8]) -> Option<u32>
     u32::try_from(value).ok()
 }
 
-/// Returns how many decimal digits a number has.
+/// Returns how many decimal digits a number has: one more than its logarithm, and 0 has one.
+#[tactic(auto, using(crate::proofs::DigitLemmas::digits_counted))]
 #[inline(always)]
 pub fn digits_of(number: u32) -> usize
     ensures count { result ≡ length (decimal number) }
     ensures few { result ≤ MOST_DIGITS }
 {
-    match number {
-        0..=9 => 1,
-        10..=99 => 2,
-        100..=999 => 3,
-        1000..=9999 => 4,
-        10_000..=99_999 => 5,
-        100_000..=999_999 => 6,
-        1_000_000..=9_999_999 => 7,
-        10_000_000..=99_999_999 => 8,
-        100_000_000..=999_999_999 => 9,
-        1_000_000_000.. => 10,
-    }
+    number.checked_ilog10().unwrap_or(0) as usize + 1
 }

@@ -6,7 +6,7 @@ ghost use Rattle.words_core.specs.ReportTexts.{top_text, frames_text, order_text
 use crate::answer::MOST_FRONT_BYTES;
 use crate::numbers::MOST_DIGITS;
 use crate::text::MOST_REPLY_BYTES;
-use crate::window::{put_figure, put_short_number, put_text};
+use crate::window::{put_labelled, put_number, put_text};
 use arrayvec::ArrayVec;
 use model_core::limits::{MOST_CACHES, MOST_ORDER};
 use model_core::report::{CacheRow, OrderRow};
@@ -63,12 +63,12 @@ fn put_frames(report: &Report, at: usize, out: &mut [u8]) -> usize
     ensures text { take result out.new ≡ frames_text (take at out.old) report.now }
     ensures short { result < MOST_REPLY_BYTES }
 {
-    let at = put_figure(b"frames ", report.frames, at, out);
-    let at = put_figure(b" live ", report.live, at, out);
-    let at = put_figure(b" free ", report.free, at, out);
+    let at = put_labelled(b"frames ", report.frames, at, out);
+    let at = put_labelled(b" live ", report.live, at, out);
+    let at = put_labelled(b" free ", report.free, at, out);
     let at = put_text(b" top ", at, out);
     let at = put_top(report.top, at, out);
-    put_figure(b" split ", report.split, at, out)
+    put_labelled(b" split ", report.split, at, out)
 }
 
 fn put_top(top: Option<u8>, at: usize, out: &mut [u8]) -> usize
@@ -78,7 +78,7 @@ fn put_top(top: Option<u8>, at: usize, out: &mut [u8]) -> usize
 {
     match top {
         None => put_text(b"none", at, out),
-        Some(order) => put_short_number(u32::from(order), at, out),
+        Some(order) => put_number(u32::from(order), at, out),
     }
 }
 
@@ -90,9 +90,9 @@ fn put_order(order: u32, row: OrderRow, at: usize, out: &mut [u8]) -> usize
     ensures text { take result out.new ≡ order_text (take at out.old) order row }
     ensures short { result < MOST_REPLY_BYTES }
 {
-    let at = put_figure(b"order ", order, at, out);
-    let at = put_figure(b" free ", row.free, at, out);
-    put_figure(b" taken ", row.taken, at, out)
+    let at = put_labelled(b"order ", order, at, out);
+    let at = put_labelled(b" free ", row.free, at, out);
+    put_labelled(b" taken ", row.taken, at, out)
 }
 
 /// Writes the numbers of slabs and objects of a cache.
@@ -103,9 +103,9 @@ fn put_cache_row(row: CacheRow, at: usize, out: &mut [u8]) -> usize
     ensures text { take result out.new ≡ cache_text (take at out.old) row }
     ensures short { result < MOST_REPLY_BYTES }
 {
-    let at = put_figure(b"cache ", u32::from(row.cache), at, out);
-    let at = put_figure(b" full ", row.full, at, out);
-    let at = put_figure(b" partial ", row.partial, at, out);
-    let at = put_figure(b" empty ", row.empty, at, out);
-    put_figure(b" live ", row.live, at, out)
+    let at = put_labelled(b"cache ", u32::from(row.cache), at, out);
+    let at = put_labelled(b" full ", row.full, at, out);
+    let at = put_labelled(b" partial ", row.partial, at, out);
+    let at = put_labelled(b" empty ", row.empty, at, out);
+    put_labelled(b" live ", row.live, at, out)
 }

@@ -6,7 +6,7 @@ ghost use Rattle.words_core.specs.Texts.{owner_text, pool_texts, body_texts, lin
 use crate::answer::{MOST_FRONT_BYTES, put_addressee, put_answer};
 use crate::reply::{Body, OWNERS, Reply};
 use crate::report::put_report;
-use crate::window::{put_figure, put_text};
+use crate::window::{put_labelled, put_text};
 use arrayvec::ArrayVec;
 use model_core::limits::MOST_SUPERBLOCKS;
 use model_core::owner::Owner;
@@ -83,8 +83,8 @@ fn put_owners(owners: &[Option<Owner>], row: usize, at: usize, out: &mut [u8]) -
     match row.checked_sub(1) {
         None => {
             let free = owners.iter().filter(|owner| owner.is_none()).count();
-            let at = put_figure(b"pool free ", free as u32, at, out);
-            put_figure(b" of ", owners.len() as u32, at, out)
+            let at = put_labelled(b"pool free ", free as u32, at, out);
+            put_labelled(b" of ", owners.len() as u32, at, out)
         }
         Some(superblock) => put_owner(superblock as u32, owners[superblock], at, out),
     }
@@ -98,12 +98,12 @@ fn put_owner(superblock: u32, owner: Option<Owner>, at: usize, out: &mut [u8]) -
     ensures text { take result out.new ≡ owner_text (take at out.old) superblock owner }
     ensures short { result < MOST_REPLY_BYTES }
 {
-    let at = put_figure(b"superblock ", superblock, at, out);
+    let at = put_labelled(b"superblock ", superblock, at, out);
     match owner {
         None => put_text(b" free", at, out),
         Some(owner) => {
-            let at = put_figure(b" tenant ", u32::from(owner.tenant), at, out);
-            put_figure(b" slot ", u32::from(owner.slot), at, out)
+            let at = put_labelled(b" tenant ", u32::from(owner.tenant), at, out);
+            put_labelled(b" slot ", u32::from(owner.slot), at, out)
         }
     }
 }

@@ -154,65 +154,18 @@ fn put_five(number: u32, at: usize, out: &mut [u8]) -> usize
     put_two(rest % 100, at, out)
 }
 
-/// Writes a number of a line that a load or a report repeats, as [`put_number`] does: one of up to five digits takes fewer instructions
-/// than counting its digits first. It seldom has more.
-#[inline(always)]
-pub fn put_short_number(number: u32, at: usize, out: &mut [u8]) -> usize
-    requires room { at + MOST_DIGITS ≤ length out.old }
-    ensures text { take result out.new ≡ take at out.old ++ decimal number }
-    ensures short { result ≤ at + MOST_DIGITS }
-{
-    if number < 100_000 {
-        return put_up_to_five(number, at, out);
-    }
-    put_long(number, at, out)
-}
-
-/// Writes a label, and then such a number.
-#[inline(always)]
-pub fn put_figure(label: &[u8], number: u32, at: usize, out: &mut [u8]) -> usize
-    requires { at + length label.now + MOST_DIGITS ≤ length out.old }
-    ensures text { take result out.new ≡ take at out.old ++ label.now ++ decimal number }
-    ensures short { result ≤ at + length label.now + MOST_DIGITS }
-{
-    let at = put_text(label, at, out);
-    put_short_number(number, at, out)
-}
-
-/// [`put_short_number`] of a number that often has more than five digits.
-#[inline(always)]
-pub fn put_place(number: u32, at: usize, out: &mut [u8]) -> usize
-    requires room { at + MOST_DIGITS ≤ length out.old }
-    ensures text { take result out.new ≡ take at out.old ++ decimal number }
-    ensures short { result ≤ at + MOST_DIGITS }
-{
-    if number < 100_000 {
-        return put_up_to_five(number, at, out);
-    }
-    put_longer(number, at, out)
-}
-
-/// [`put_longer`] out of line.
-#[cold]
-#[inline(never)]
-fn put_long(number: u32, at: usize, out: &mut [u8]) -> usize
-    requires long { 100000 ≤ number }
-    requires room { at + MOST_DIGITS ≤ length out.old }
-    ensures text { take result out.new ≡ take at out.old ++ decimal number }
-    ensures short { result ≤ at + MOST_DIGITS }
-{
-    put_longer(number, at, out)
-}
-
-/// Writes a number of more than five digits.
+/// Writes a number in fewer instructions than [`put_number`], for the lines that make up a load. It is inlined at one place alone: at
+/// several the function around it grows too large to be inlined.
 #[tactic(auto, using(crate::proofs::DigitLemmas::digit_rules))]
 #[inline(always)]
-fn put_longer(number: u32, at: usize, out: &mut [u8]) -> usize
-    requires long { 100000 ≤ number }
+pub fn put_number_quickly(number: u32, at: usize, out: &mut [u8]) -> usize
     requires room { at + MOST_DIGITS ≤ length out.old }
     ensures text { take result out.new ≡ take at out.old ++ decimal number }
     ensures short { result ≤ at + MOST_DIGITS }
 {
+    if number < 100_000 {
+        return put_up_to_five(number, at, out);
+    }
     let at = put_up_to_five(number / 100_000, at, out);
     put_five(number % 100_000, at, out)
 }
@@ -228,4 +181,15 @@ pub fn put_number(number: u32, at: usize, out: &mut [u8]) -> usize
     let end = at + digits_of(number);
     itoa::write_digits(u64::from(number), out, end);
     end
+}
+
+/// Writes a label, and then a number.
+#[inline(always)]
+pub fn put_labelled(label: &[u8], number: u32, at: usize, out: &mut [u8]) -> usize
+    requires { at + length label.now + MOST_DIGITS ≤ length out.old }
+    ensures text { take result out.new ≡ take at out.old ++ label.now ++ decimal number }
+    ensures short { result ≤ at + length label.now + MOST_DIGITS }
+{
+    let at = put_text(label, at, out);
+    put_number(number, at, out)
 }
