@@ -6,10 +6,10 @@ use Rattle.model_core.specs.Reports.{frames_held, frames_taken, order_rows}
 use Rattle.model_core.specs.declared.owner.Owner.{Owner}
 use Rattle.space_core.specs.Content.{owner_at}
 use Rattle.world_core.specs.World.{World}
-use Rattle.parts_core.specs.Parts.{Parts}
+use Rattle.kernel_core.specs.Content.{KernelContent}
 use Rattle.kernel_core.specs.Shows.{Shows}
-use Rattle.parts_core.specs.Frames.{IsFrame}
-use Rattle.parts_core.specs.declared.frames.FrameKind.{FrameKind}
+use Rattle.kernel_core.specs.Frames.{IsFrame}
+use Rattle.kernel_core.specs.declared.frames.FrameKind.{FrameKind}
 use Rattle.frame_picture.specs.declared.history.Sheet.{Sheet}
 use Rattle.frame_picture.specs.declared.history.Figures.{Figures}
 use Rattle.frame_picture.specs.declared.history.Column.{Column}
@@ -34,7 +34,7 @@ pub record IsColumnOf (order : ℕ) (w : World) (column : Column) : Type 0 where
       → slice_get w.machines t ≡ Some m → AreFigures order m figures
 
 -- the column shows the world that the kernel does, after so many lines; by tenant so many requests were refused for want of frames
-pub record IsColumnAfter (kernel : Parts) (lines : ℕ) (counts : List ℕ) (column : Column) : Type 0 where
+pub record IsColumnAfter (kernel : KernelContent) (lines : ℕ) (counts : List ℕ) (column : Column) : Type 0 where
   pub line : column.line ≡ lines
   pub refused : (t count : ℕ) → slice_get column.refused.items t ≡ Some count → count ≡ slice_index counts t
   pub shows : (w : World) → Shows kernel w → IsColumnOf kernel.order w column

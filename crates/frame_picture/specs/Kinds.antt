@@ -1,7 +1,7 @@
 -- The kinds of frames in the order in which they are drawn.
 use Rattle.std.specs.Prelude.{ℕ}
-use Rattle.parts_core.specs.declared.frames.FrameKind.{FrameKind}
-use Rattle.parts_core.specs.declared.frames.FrameKind.TheVariants.{NotHeld, Free, Page, Full, Partial, Empty}
+use Rattle.kernel_core.specs.declared.frames.FrameKind.{FrameKind}
+use Rattle.kernel_core.specs.declared.frames.FrameKind.TheVariants.{NotHeld, Free, Page, Full, Partial, Empty}
 
 -- where a kind stands among all kinds
 abbrev pub rank_of : FrameKind → ℕ

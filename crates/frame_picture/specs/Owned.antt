@@ -1,6 +1,6 @@
 -- The cells of the sheets that are listed for a tenant.
 use Rattle.std.specs.Prelude.{◌≡◌, ℕ, ◌<◌, ◌≤◌, List, [], ◌∷◌, ◌++◌, Option, Some, None, length, take, slice_get, slice_index}
-use Rattle.parts_core.specs.declared.frames.FrameKind.{FrameKind}
+use Rattle.kernel_core.specs.declared.frames.FrameKind.{FrameKind}
 use Rattle.frame_picture.specs.declared.history.Sheet.{Sheet}
 use Rattle.frame_picture.specs.declared.owned.OwnSheets.{OwnSheets}
 use Rattle.frame_picture.specs.Rows.{cells_in, row_cells}

@@ -1,8 +1,8 @@
 -- The frames of a row of a tenant's band in a column, and how many of them have which kind.
 use Rattle.std.specs.Prelude.{ℕ, ◌+◌, ◌-◌, ◌*◌, ◌^◌, ◌==◌, min, if◌then◌else◌, List, [], ◌∷◌, ◌++◌, Option, Some, None, length, count_by, slice_range}
 use Rattle.model_core.specs.declared.owner.Owner.{Owner}
-use Rattle.parts_core.specs.declared.frames.FrameKind.{FrameKind}
-use Rattle.parts_core.specs.declared.frames.FrameKind.TheVariants.{NotHeld}
+use Rattle.kernel_core.specs.declared.frames.FrameKind.{FrameKind}
+use Rattle.kernel_core.specs.declared.frames.FrameKind.TheVariants.{NotHeld}
 use Rattle.frame_picture.specs.declared.history.Sheet.{Sheet}
 use Rattle.frame_picture.specs.Kinds.{rank_of}
 use Rattle.frame_picture.specs.declared.grid.Grid.{Grid}

@@ -1,7 +1,7 @@
 -- What a row of a tenant's band is drawn as in a column.
 use Rattle.std.specs.Prelude.{◌≡◌, ℕ, ◌+◌, ◌-◌, ◌*◌, ◌^◌, ◌<◌, ◌≤◌, ◌==◌, ◌&&◌, min, Bool, if◌then◌else◌, length}
 use Rattle.std.specs.Int.{div_ceil}
-use Rattle.parts_core.specs.declared.frames.FrameKind.TheVariants.{NotHeld}
+use Rattle.kernel_core.specs.declared.frames.FrameKind.TheVariants.{NotHeld}
 use Rattle.frame_picture.specs.declared.history.Column.{Column}
 use Rattle.frame_picture.specs.Kinds.{rank_of}
 use Rattle.frame_picture.specs.Rows.{row_cells, kind_count, first_of, end_of}

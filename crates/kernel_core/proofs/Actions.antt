@@ -13,7 +13,7 @@ use Rattle.world_core.specs.PrivateRun.{private_run}
 use Rattle.world_core.specs.World.{World, opening_world, world_step}
 use Rattle.world_core.specs.OwnList.{own_entries}
 use Rattle.world_core.proofs.Runs.{step_leaves, opening-machine}
-use Rattle.parts_core.specs.Parts.{Parts}
+use Rattle.kernel_core.specs.Content.{KernelContent}
 use Rattle.kernel_core.specs.Shows.{Shows}
 use Rattle.kernel_core.specs.Steps.{Steps}
 use Rattle.kernel_core.specs.Stores.{IsKernel}
@@ -48,19 +48,19 @@ entered limit order (entry ∷ entries) m =
 -- Actions
 
 -- the kernel shows a world in which tenant t has this machine
-pub record Has (k : Parts) (t : ℕ) (m : Machine) : Type 0 where
+pub record Has (k : KernelContent) (t : ℕ) (m : Machine) : Type 0 where
   pub kernel : IsKernel k
   pub world : World
   pub shows : Shows k world
   pub machine : slice_get world.machines t ≡ Some m
 
 -- from one kernel to another, tenant t sees what its private machine gives to these
-pub record Follows (n t : ℕ) (owns : List Own) (m : Machine) (seen : List Sight) (k' : Parts) : Type 0 where
+pub record Follows (n t : ℕ) (owns : List Own) (m : Machine) (seen : List Sight) (k' : KernelContent) : Type 0 where
   pub sights : seen ≡ (own_seen cache_limit n owns m).sights
   pub order : k'.order ≡ n
   pub has : Has k' t (own_seen cache_limit n owns m).machine
 
-run_follows : (k k' : Parts) (event : Event) (reply : Reply) (t : ℕ) (m : Machine) → Has k t m → Steps k event k' reply → IsKernel k'
+run_follows : (k k' : KernelContent) (event : Event) (reply : Reply) (t : ℕ) (m : Machine) → Has k t m → Steps k event k' reply → IsKernel k'
     → Follows k.order t (own_in t (Runs event reply)) m (sights_in t (Runs event reply)) k'
 run_follows k k' event reply t m had steps is =
     let step = world_step cache_limit k.order event had.world in
@@ -88,7 +88,7 @@ unfolding private_step command_step
 store_seen order place bytes m true = refl
 store_seen order place bytes m false = refl
 
-store_follows : (k k' : Parts) (named place : ℕ) (bytes : List ℕ) (t : ℕ) (m : Machine) → Has k t m → Acts k (StoresAt named place bytes) k'
+store_follows : (k k' : KernelContent) (named place : ℕ) (bytes : List ℕ) (t : ℕ) (m : Machine) → Has k t m → Acts k (StoresAt named place bytes) k'
     → Follows k.order t (own_in t (StoresAt named place bytes)) m [] k'
 store_follows k k' named place bytes t m had did =
     let (is, steps) = stores_are_writes k k' named place bytes had.kernel did in
@@ -110,27 +110,27 @@ load_seen : (order place byte : ℕ) (m : Machine) (own : Bool) → (own ≡ tru
 load_seen order place byte m true is = ap (λ o. record { sights = Loaded o ∷ []; machine = m }) (is refl)
 load_seen order place byte m false is = refl
 
-load_follows : (k k' : Parts) (named place byte : ℕ) (t : ℕ) (m : Machine) → Has k t m → Acts k (LoadsAt named place byte) k'
+load_follows : (k k' : KernelContent) (named place byte : ℕ) (t : ℕ) (m : Machine) → Has k t m → Acts k (LoadsAt named place byte) k'
     → Follows k.order t (own_in t (LoadsAt named place byte)) m (sights_in t (LoadsAt named place byte)) k'
 load_follows k k' named place byte t m had did =
     let own : (named == t) ≡ true → m.bytes place ≡ Some byte = λ is.
     let here = ap (λ u. slice_get had.world.machines u) (eqb-true named t is) ∙ had.machine in
     loads_are_own k had.world m named place byte had.kernel had.shows here did.0 in
     let seen = load_seen k.order place byte m (named == t) own in
-    subst (λ (x : Parts). Follows k.order t (own_in t (LoadsAt named place byte)) m (sights_in t (LoadsAt named place byte)) x) (sym did.1) (record {
+    subst (λ (x : KernelContent). Follows k.order t (own_in t (LoadsAt named place byte)) m (sights_in t (LoadsAt named place byte)) x) (sym did.1) (record {
       sights = sym (ap (λ (x : OwnSeen). x.sights) seen);
       order = refl;
       has = subst (λ (x : OwnSeen). Has k t x.machine) (sym seen) had;
     })
 
-follows : (k k' : Parts) (action : Action) (t : ℕ) (m : Machine) → Has k t m → Acts k action k'
+follows : (k k' : KernelContent) (action : Action) (t : ℕ) (m : Machine) → Has k t m → Acts k action k'
     → Follows k.order t (own_in t action) m (sights_in t action) k'
 follows k k' (Runs event reply) t m had did = run_follows k k' event reply t m had did.0 did.1
 follows k k' (StoresAt named place bytes) t m had did = store_follows k k' named place bytes t m had did
 follows k k' (LoadsAt named place byte) t m had did = load_follows k k' named place byte t m had did
 
 -- one after the other
-both : (order t : ℕ) (owns owns' : List Own) (m : Machine) (sights sights' : List Sight) (k' l' : Parts) → Follows order t owns m sights k'
+both : (order t : ℕ) (owns owns' : List Own) (m : Machine) (sights sights' : List Sight) (k' l' : KernelContent) → Follows order t owns m sights k'
     → Follows order t owns' (own_seen cache_limit order owns m).machine sights' l' → Follows order t (owns ++ owns') m (sights ++ sights') l'
 both order t owns owns' m sights sights' k' l' one more =
     let seen = seen-append cache_limit order owns owns' m in
@@ -141,9 +141,9 @@ both order t owns owns' m sights sights' k' l' one more =
       has = subst (λ (x : OwnSeen). Has l' t x.machine) (sym seen) more.has;
     }
 
-pub all_follow : (k k' : Parts) (actions : List Action) (t : ℕ) (m : Machine) → Has k t m → AllAct k actions k'
+pub all_follow : (k k' : KernelContent) (actions : List Action) (t : ℕ) (m : Machine) → Has k t m → AllAct k actions k'
     → Follows k.order t (own_actions t actions) m (sights_of t actions) k'
-all_follow k k' [] t m had did = subst (λ (x : Parts). Follows k.order t [] m [] x) (sym did) (record { sights = refl; order = refl; has = had })
+all_follow k k' [] t m had did = subst (λ (x : KernelContent). Follows k.order t [] m [] x) (sym did) (record { sights = refl; order = refl; has = had })
 all_follow k k' (action ∷ actions) t m had did =
     let one = follows k did.0 action t m had did.1 in
     let next = (own_seen cache_limit k.order (own_in t action) m).machine in
@@ -151,7 +151,7 @@ all_follow k k' (action ∷ actions) t m had did =
     (subst (λ order. Follows order t (own_actions t actions) next (sights_of t actions) k') one.order (all_follow did.0 k' actions t next one.has did.2))
 
 -- a kernel that is booted shows the empty machine
-pub booted_has : (k : Parts) (superblocks tenants t : ℕ) → IsBooted k superblocks tenants → t < tenants → Has k t empty_machine
+pub booted_has : (k : KernelContent) (superblocks tenants t : ℕ) → IsBooted k superblocks tenants → t < tenants → Has k t empty_machine
 booted_has k superblocks tenants t booted here =
     record { kernel = booted.kernel; world = opening_world superblocks tenants; shows = booted.shows; machine = opening-machine superblocks tenants t here }
 

@@ -1,8 +1,13 @@
--- A call of the parts is a command of the tenant whose machine they show, told in words.
-use Rattle.std.proofs.Common.{◌≡◌, ℕ, true, false, Option, Some, None, Result, Ok, Err, ok_or, IfNone, refl, sym, ap, ◌∙◌, subst}
-use Rattle.std.specs.Prelude.{OnErr}
+-- What a call does for one tenant is a command of that tenant, told in words.
+use Rattle.std.proofs.Common.{◌≡◌, ℕ, true, false, Option, Some, None, Result, Ok, Err, IfNone, refl, sym, ap, ◌∙◌, subst}
+use Rattle.std.specs.Prelude.{OnErr, IsErrAnd}
+use Rattle.std.proofs.lemmas.Result.{err_from_is_err_and}
 use Rattle.model_core.specs.Machine.{Machine}
 use Rattle.model_core.specs.Operations.{Step}
+use Rattle.space_core.specs.Content as spaces
+use Rattle.buddy_core.specs.Content as buddies
+use Rattle.slab_tables.specs.Content as tables
+use Rattle.machine_changes.specs.Keeps.{Spares}
 use Rattle.layout_core.specs.Cut.{Cut, cut, numbers_of}
 use Rattle.words_core.specs.declared.event.Command.{Command}
 use Rattle.words_core.specs.declared.event.Command.TheVariants as Asked
@@ -13,16 +18,16 @@ use Rattle.words_core.specs.declared.reply.Refusal.{Refusal}
 use Rattle.words_core.specs.declared.report.Report as figures
 use Rattle.world_core.specs.Limits.{cache_limit}
 use Rattle.world_core.specs.OwnList.{is_refused}
-use Rattle.world_core.specs.PrivateStep.{command_step, told_by, free_body, write_body, cache_body, figures_of, report_step}
-use Rattle.parts_core.specs.Parts.{Parts}
-use Rattle.parts_core.specs.Shows.{ShowsMachine}
-use Rattle.parts_core.specs.Does.{Does}
-use Rattle.parts_core.proofs.Calls.{does_nothing}
+use Rattle.world_core.specs.PrivateStep.{command_step, told_by, cache_body, figures_of, report_step}
+use Rattle.kernel_core.specs.Content.{KernelContent, content_of}
+use Rattle.kernel_core.specs.Shows.{ShowsMachine}
+use Rattle.kernel_core.specs.Does.{Does}
+use Rattle.kernel_core.proofs.Changing.{does_called, does_nothing, same_of}
 use Rattle.kernel_core.specs.Steps.{StepsMachine, body_of}
 use Rattle.kernel_core.proofs.Worlds.{false_is}
 
 -- the call does the step that the command is, and the tenant is told its answer
-pub commanded : {A : Type 0} (k k' : Parts) (t : ℕ) (command : Command) (body : A → Body) (step : Machine → Step A) (told : A)
+pub commanded : {A : Type 0} (k k' : KernelContent) (t : ℕ) (command : Command) (body : A → Body) (step : Machine → Step A) (told : A)
     → ((m : Machine) → command_step cache_limit k.order command m ≡ told_by body (step m))
     → Does k t step k.space.owners k' told → (is_refused (body told) ≡ true → k' ≡ k) → StepsMachine k t command k' (body told)
 commanded k k' t command body step told same does refused = record {
@@ -38,6 +43,18 @@ commanded k k' t command body step told same does refused = record {
   refused = refused;
 }
 
+-- a call that spares all other tenants
+pub called : {A : Type 0} (r r' : spaces.Content) (b b' : buddies.Content) (s s' : tables.Content) (t : ℕ) → Spares t r r' b b' s s'
+    → (command : Command) (body : A → Body) (step : Machine → Step A) (told : A)
+    → ((m : Machine) → command_step cache_limit b.top command m ≡ told_by body (step m))
+    → ((m : Machine) → ShowsMachine (content_of r b s) t m → told ≡ (step m).answer)
+    → ((m : Machine) → ShowsMachine (content_of r b s) t m → ShowsMachine (content_of r' b' s') t (step m).machine)
+    → (is_refused (body told) ≡ true → (r' ≡ r) × ((b' ≡ b) × (s' ≡ s)))
+    → StepsMachine (content_of r b s) t command (content_of r' b' s') (body told)
+called r r' b b' s s' t spares command body step told same answer shows refused =
+    commanded (content_of r b s) (content_of r' b' s') t command body step told same (does_called r r' b b' s s' t spares step told answer shows)
+    (λ is. same_of r r' b b' s s' (refused is))
+
 -- only what is refused is told as a refusal
 pub by_err : {A E P : Type 0} (body : Result A E → Body) (x : Result A E) → ((a : A) → is_refused (body (Ok a)) ≡ false) → OnErr x P → is_refused (body x) ≡ true → P
 by_err body (Ok a) done same is = absurd (false_is (is_refused (body (Ok a))) (done a) is)
@@ -47,25 +64,22 @@ pub by_none : {A P : Type 0} (body : Option A → Body) (x : Option A) → ((a :
 by_none body (Some a) done same is = absurd (false_is (is_refused (body (Some a))) (done a) is)
 by_none body None done same is = same
 
--- a report, which changes nothing
-pub reported : (k : Parts) (t : ℕ) (told : figures.Report) → ((m : Machine) → ShowsMachine k t m → told ≡ figures_of k.order m)
+-- a refusal that `?` passes on
+pub passed : {A E : Type 0} (told : A → Body) (refusal : E → Refusal) (e : E) (y : Result A Refusal) → IsErrAnd y (λ r. r ≡ refusal e)
+    → body_of told y ≡ Refused (refusal e)
+passed told refusal e y is = let found = err_from_is_err_and y is in ap (body_of told) found.1 ∙ ap (λ r. Refused r) found.2
+
+-- a command that changes nothing, as its step does, whichever machine the kernel shows
+pub answered : (k : KernelContent) (t : ℕ) (command : Command) (body : Body)
+    → ((m : Machine) → ShowsMachine k t m → command_step cache_limit k.order command m ≡ record { answer = body; machine = m }) → StepsMachine k t command k body
+answered k t command body same = record { does = does_nothing k t (command_step cache_limit k.order command) body same; refused = λ _. refl }
+
+-- a report
+pub reported : (k : KernelContent) (t : ℕ) (told : figures.Report) → ((m : Machine) → ShowsMachine k t m → told ≡ figures_of k.order m)
     → StepsMachine k t Asked.Report k (Told.Report told)
 unfolding command_step report_step
-reported k t told are = record {
-  does = does_nothing k t (command_step cache_limit k.order Asked.Report) (Told.Report told)
-      (λ m shown. ap (λ r. record { answer = Told.Report r; machine = m }) (sym (are m shown)));
-  refused = λ _. refl;
-}
-
--- a block released, or none there
-pub freed : (o : Option ℕ) → body_of Told.Freed (ok_or o Refusal.NotABlock) ≡ free_body o
-freed (Some order) = refl
-freed None = refl
-
--- bytes stored, or out of reach
-pub written : (o : Option ℕ) → body_of Told.Written (ok_or o Refusal.OutOfReach) ≡ write_body o
-written (Some count) = refl
-written None = refl
+reported k t told are =
+    answered k t Asked.Report (Told.Report told) (λ m shown. ap (λ r. record { answer = Told.Report r; machine = m }) (sym (are m shown)))
 
 -- a cache made
 pub made : (size align number chunk order count colours : ℕ) (l : Cut) → l ≡ cut size align

@@ -1,3 +1,4 @@
+pub mod Changing
 pub mod Worlds
 pub mod Owners
 pub mod Commanding
@@ -6,11 +7,13 @@ pub mod TakingBack
 pub mod Resetting
 pub mod Moving
 pub mod Opening
-pub mod OneWorld
+pub mod Records
+pub mod PageCalls
+pub mod CacheCalls
+pub mod FrameKinds
 pub mod Stores
 pub mod Actions
 pub mod MadeKernels
 pub mod WitnessesActions
 pub mod Witnesses
-pub mod ReportOrders
 pub mod ReportFigures

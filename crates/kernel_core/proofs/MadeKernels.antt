@@ -1,9 +1,8 @@
 -- Kernels made step by step: what grants, page blocks taken and bytes read do to parts that are known.
-use Rattle.std.proofs.Common.{◌≡◌, ℕ, zero, suc, ◌+◌, ◌*◌, ◌/◌, ◌%◌, ◌^◌, ◌<◌, ◌≤◌, true, false, Option, Some, None, Ok, List, [], ◌∷◌, length, slice_range, inl, refl, sym, ap, ◌∙◌, subst, arith}
+use Rattle.std.proofs.Common.{◌≡◌, ℕ, zero, suc, ◌+◌, ◌*◌, ◌/◌, ◌%◌, ◌^◌, ◌<◌, ◌≤◌, true, false, Option, Some, None, List, [], ◌∷◌, length, slice_range, inl, refl, sym, ap, ◌∙◌, subst, arith}
 use Rattle.std.specs.Prelude.{is_some, replicate, slice_index, IsSome}
 use Rattle.std.proofs.lemmas.Bool.{false≢true}
 use Rattle.model_core.specs.Blocks.{block, IsAligned, IsChoice}
-use Rattle.model_core.specs.Operations.{alloc_step, read_step}
 use Rattle.model_core.proofs.Choosing.{choice_is_found}
 use Rattle.words_core.specs.declared.event.Event.TheVariants as On
 use Rattle.words_core.specs.declared.event.AdminCommand.TheVariants as Do
@@ -12,7 +11,7 @@ use Rattle.words_core.specs.declared.reply.Addressee.TheVariants as To
 use Rattle.words_core.specs.declared.reply.Body.{Body}
 use Rattle.words_core.specs.declared.reply.Body.TheVariants.{Frame, Bytes}
 use Rattle.words_core.specs.declared.reply.Reply.{Reply}
-use Rattle.world_core.specs.PrivateStep.{command_step, alloc_body, read_body}
+use Rattle.world_core.specs.PrivateStep.{command_step}
 use Rattle.world_core.specs.World.{opening_world}
 use Rattle.space_core.specs.Content as spaces
 use Rattle.space_core.specs.Changes.{with_grant}
@@ -30,20 +29,17 @@ use Rattle.machine_changes.proofs.SlotEmpty.{none_in, opening_shows}
 use Rattle.machine_changes.proofs.Lookups.{some_same}
 use Rattle.slab_core.proofs.ReserveByNeed.{found_choice, found_step}
 use Rattle.slab_core.proofs.ReserveOne.{IsServed, is_served}
-use Rattle.parts_core.specs.Parts.{Parts, parts_of, opening_parts}
-use Rattle.parts_core.proofs.Changing.{has_row, parts_agree, steady}
-use Rattle.parts_core.proofs.Granting.{IsGrantable, buddy_after, changes, does_granted, unowned_at}
-use Rattle.parts_core.proofs.PageBlocks.{alloc_done}
-use Rattle.parts_core.proofs.PageBytes.{IsAsked, held, read_done}
+use Rattle.kernel_core.specs.Content.{KernelContent, content_of, opening_content}
+use Rattle.kernel_core.proofs.Changing.{has_row, parts_agree, steady}
+use Rattle.kernel_core.proofs.Granting.{IsGrantable, buddy_after, changes, does_granted, unowned_at, granted_reply, steps_granted}
+use Rattle.kernel_core.proofs.PageCalls.{alloc_done, IsAsked, held, read_done}
 use Rattle.kernel_core.specs.Shows.{Shows}
 use Rattle.kernel_core.specs.Stores.{IsKernel, Loads}
 use Rattle.kernel_core.specs.Actions.{Runs, Acts, IsBooted}
-use Rattle.kernel_core.proofs.Commanding.{commanded}
-use Rattle.kernel_core.proofs.Granting.{granted_reply, steps_granted}
 use Rattle.kernel_core.proofs.Witnesses.{opening_shown}
 use Rattle.kernel_core.proofs.Worlds.{steps_asked}
 
-kernel_of : (r : spaces.Content) (b : buddies.Content) (s : tables.Content) → HoldTogether r b s → IsKernel (parts_of r b s)
+kernel_of : (r : spaces.Content) (b : buddies.Content) (s : tables.Content) → HoldTogether r b s → IsKernel (content_of r b s)
 kernel_of r b s together = record { agree = parts_agree r b s together; together = together }
 
 abbrev pub to_tenant : ℕ → Body → Reply
@@ -51,7 +47,7 @@ to_tenant t body = record { addressee = To.Tenant t; body = body }
 
 -- a superblock granted
 pub grant_acts : (r : spaces.Content) (b : buddies.Content) (s : tables.Content) (t u m : ℕ) → IsGrantable r b s t u m → buddies.BuddyLaws (buddy_after t u m b)
-    → Acts (parts_of r b s) (Runs (On.Admin (Do.Grant t)) (granted_reply t u m)) (parts_of (with_grant r t u m) (buddy_after t u m b) s)
+    → Acts (content_of r b s) (Runs (On.Admin (Do.Grant t)) (granted_reply t u m)) (content_of (with_grant r t u m) (buddy_after t u m b) s)
 grant_acts r b s t u m g laws =
     let together : HoldTogether (with_grant r t u m) (buddy_after t u m b) s = record {
       space = laws_of (granted-IsSpace g.together.space.facts t u m (has_row r b s t g.together.agree g.tenant) g.slot_below g.below g.least.vacant
@@ -61,7 +57,7 @@ grant_acts r b s t u m g laws =
       agree = (changes r b s t u m g).agree;
     } in
     let is = kernel_of (with_grant r t u m) (buddy_after t u m b) s together in (
-      steps_granted (parts_of r b s) (parts_of (with_grant r t u m) (buddy_after t u m b) s) t t u m refl g.tenant is.agree g.free (does_granted r b s t u m g),
+      steps_granted (content_of r b s) (content_of (with_grant r t u m) (buddy_after t u m b) s) t t u m refl g.tenant is.agree g.free (does_granted r b s t u m g),
       is,
     )
 
@@ -72,25 +68,24 @@ reserved t f k b = buddies.with_holding t (buddies.with_block f k (buddies.holdi
 pub alloc_acts : (r : spaces.Content) (b : buddies.Content) (s : tables.Content) (t k f j : ℕ) → HoldTogether r b s → t < length b.tenants → k ≤ s.top
     → IsChoice b.top (buddies.is_held (buddies.holding_of t b)) (buddies.taken_of (buddies.holding_of t b)) k (block f j)
     → buddies.BuddyLaws (reserved t f k b)
-    → Acts (parts_of r b s) (Runs (On.Tenant t (Alloc k)) (to_tenant t (Frame f))) (parts_of r (reserved t f k b) s)
+    → Acts (content_of r b s) (Runs (On.Tenant t (Alloc k)) (to_tenant t (Frame f))) (content_of r (reserved t f k b) s)
 unfolding command_step
 alloc_acts r b s t k f j together tenant small chosen laws =
-    let old = parts_of r b s in
-    let new = parts_of r (reserved t f k b) s in
+    let old = content_of r b s in
+    let new = content_of r (reserved t f k b) s in
     let row = has_row r b s t together.agree tenant in
     let served : IsServed r b s t k together.agree together.buddy row (reserved t f k b) (Some f) =
     is_served r b s t k together.agree together.buddy row (steady r b s t together tenant) (reserved t f k b) (Some f) tt (j, (chosen, refl)) in
     let is = kernel_of r (reserved t f k b) s (record { space = together.space; buddy = laws; slabs = together.slabs; agree = served.agree }) in (
       steps_asked old new t t (Alloc k) (Frame f) refl tenant (λ w shown. is.agree)
-          (commanded old new t (Alloc k) alloc_body (alloc_step b.top k) (Ok f) (λ m. refl)
           (alloc_done r r b (reserved t f k b) s s t k (Some f) (record {
             agree = together.agree;
             spares = served.spares;
             order = small;
             answer = λ m shown. found_choice s.top k m f (served.answer m shown);
             shows = λ m shown. subst (ShowsMachine r (reserved t f k b) s t) (sym (found_step s.top k m small f (served.answer m shown))) (served.shows m shown);
-          }))
-          (λ refused. absurd (false≢true refused))),
+            refused = tt;
+          })),
       is,
     )
 
@@ -102,7 +97,7 @@ one_byte (y ∷ []) x one is = ap (λ z. z ∷ []) is
 one_byte (y ∷ z ∷ zs) x one is = absurd (omega arith)
 
 -- what is loaded is what a read of it tells
-read_window : (k : Parts) (t place byte : ℕ) → IsKernel k → Loads k t place byte → window_of k.space t place 1 ≡ Some (byte ∷ [])
+read_window : (k : KernelContent) (t place byte : ℕ) → IsKernel k → Loads k t place byte → window_of k.space t place 1 ≡ Some (byte ∷ [])
 read_window k t place byte is loads =
     go (home_of k.space t place 1) refl
     (held k.space k.buddy k.slabs t place 1 (record { together = is.together; tenant = omega (arith, is.agree.holdings, loads.tenant) }) loads.reach)
@@ -118,14 +113,13 @@ read_window k t place byte is loads =
         some_same (sym (subst (λ p. byte_at k.space t p ≡ Some (slice_index xs 0)) here (read.each 0 (omega arith))) ∙ loads.is) in
         window ∙ ap Some (one_byte xs byte read.count first)
 
-pub read_acts : (k : Parts) (t place byte : ℕ) → IsKernel k → Loads k t place byte
+pub read_acts : (k : KernelContent) (t place byte : ℕ) → IsKernel k → Loads k t place byte
     → Acts k (Runs (On.Tenant t (Read place 1)) (to_tenant t (Bytes (record { items = byte ∷ [] })))) k
 unfolding command_step
 read_acts k t place byte is loads =
     let asked : IsAsked k.space k.buddy k.slabs t = record { together = is.together; tenant = omega (arith, is.agree.holdings, loads.tenant) } in (
       steps_asked k k t t (Read place 1) (Bytes (record { items = byte ∷ [] })) refl loads.tenant (λ w shown. is.agree)
-          (commanded k k t (Read place 1) read_body (read_step place 1) (Ok (byte ∷ [])) (λ m. refl)
-          (read_done k t place 1 (byte ∷ []) asked (omega arith) (omega arith) loads.reach (read_window k t place byte is loads)) (λ _. refl)),
+          (read_done k t place 1 (byte ∷ []) asked (omega arith) (omega arith) loads.reach (read_window k t place byte is loads)),
       is,
     )
 
@@ -217,11 +211,11 @@ opened_space = spaces.empty_space (4096 * 2 ^ 3) 2 2
 abbrev pub no_slabs : tables.Content
 no_slabs = tables.empty_tables 3 2 2
 
-abbrev pub opened : Parts
-opened = parts_of opened_space (holders None None None None) no_slabs
+abbrev pub opened : KernelContent
+opened = content_of opened_space (holders None None None None) no_slabs
 
-opened_is : opened ≡ opening_parts 3 2 2
-unfolding opening_parts
+opened_is : opened ≡ opening_content 3 2 2
+unfolding opening_content
 opened_is = refl
 
 pub is_opened : IsBooted opened 2 2
@@ -232,5 +226,5 @@ is_opened = record {
     slabs = slabs_opening 3 2 2 (omega arith) (omega arith) (omega arith);
     agree = (opening_shows 3 2 2).agree;
   });
-  shows = subst (λ (x : Parts). Shows x (opening_world 2 2)) (sym opened_is) (opening_shown 2 2 (omega arith) (omega arith));
+  shows = subst (λ (x : KernelContent). Shows x (opening_world 2 2)) (sym opened_is) (opening_shown 2 2 (omega arith) (omega arith));
 }

@@ -1,8 +1,21 @@
 -- A slot is moved to a superblock without owner.
-use Rattle.std.proofs.Common.{◌≡◌, ℕ, zero, suc, ◌<◌, ◌≤◌, true, false, Option, Some, None, is_some, is_none, IsSome, List, [], ◌∷◌, map, position, slice_get, slice_set, refl, sym, ap, ◌∙◌, subst, arith}
+use Rattle.std.proofs.Common.{◌≡◌, ℕ, ◌<◌, true, false, Some, None, is_none, length, position, slice_set, refl, ap, arith, zero, suc, ◌≤◌, Option, is_some, IsSome, List, [], ◌∷◌, map, slice_get, sym, ◌∙◌, subst}
+use Rattle.std.proofs.lemmas.List.{length-set}
+use Rattle.model_core.specs.Owners.{owned_by, is_owner}
+use Rattle.space_core.specs.Content as spaces
+use Rattle.space_core.specs.Content.{mark_at}
+use Rattle.space_core.specs.Changes.{with_move}
+use Rattle.buddy_core.specs.Content as buddies
+use Rattle.slab_tables.specs.Content as tables
+use Rattle.slab_tables.specs.Changes.{IsMoved}
+use Rattle.machine_changes.specs.Slots.{HoldTogether, ChangesFor}
+use Rattle.machine_changes.proofs.SlotMoved.{moved_shows}
+use Rattle.kernel_core.specs.Content.{MarksFollow, content_of, mark_after, KernelContent, PartsAgree, superblock_at}
+use Rattle.kernel_core.specs.Does.{Moves, no_step}
+use Rattle.kernel_core.proofs.Changing.{marks_kept, marks_replaced, has_row, same_sizes}
+use Rattle.kernel_core.proofs.Granting.{buddy_after, unowned_at}
 use Rattle.model_core.specs.declared.owner.Owner.{Owner}
 use Rattle.model_core.specs.Machine.{Machine, holds}
-use Rattle.model_core.specs.Owners.{owned_by, is_owner}
 use Rattle.words_core.specs.declared.event.Event.TheVariants as On
 use Rattle.words_core.specs.declared.event.AdminCommand.TheVariants as Do
 use Rattle.words_core.specs.declared.reply.Reply.{Reply}
@@ -11,12 +24,56 @@ use Rattle.words_core.specs.declared.reply.Body.TheVariants.{Moved, Refused}
 use Rattle.words_core.specs.declared.reply.Refusal.TheVariants.{NoTenant, NoSlot, PoolEmpty}
 use Rattle.world_core.specs.Limits.{cache_limit}
 use Rattle.world_core.specs.World.{World, WorldStep, answer, given_up, moved_to, move_step, world_step}
-use Rattle.parts_core.specs.Parts.{Parts, PartsAgree, superblock_at}
-use Rattle.parts_core.specs.Does.{Moves, no_step}
 use Rattle.kernel_core.specs.Shows.{Shows}
 use Rattle.kernel_core.specs.Steps.{Steps}
 use Rattle.kernel_core.proofs.Worlds.{get_past, get_within, steps_done, steps_answered, unnamed}
 use Rattle.kernel_core.proofs.Owners.{is_under, given_up_one}
+
+-- superblock `from` stands under slot u of tenant t, and `to` is the least without owner
+pub record IsMovable (r : spaces.Content) (b : buddies.Content) (s s' : tables.Content) (t u from to : ℕ) : Type 0 where
+  pub together : HoldTogether r b s
+  pub tenant : t < length b.tenants
+  pub here : spaces.superblock_at r.slots t u ≡ Some from
+  pub below : from < length r.owners
+  pub free : position is_none r.owners ≡ Some to
+  pub to_below : to < length r.owners
+  pub slabs : IsMoved s s' from to
+
+pub changes : (r : spaces.Content) (b : buddies.Content) (s s' : tables.Content) (t u from to : ℕ) → IsMovable r b s s' t u from to
+    → ChangesFor t r (with_move r t u from to) b (buddy_after t u to b) s s' (λ m. m)
+changes r b s s' t u from to g =
+    (moved_shows r b s s' t u from to g.together (has_row r b s t g.together.agree g.tenant) g.here g.to_below (unowned_at r.owners to g.free) g.slabs).1
+
+pub moves : (r : spaces.Content) (b : buddies.Content) (s s' : tables.Content) (t u from to : ℕ) → IsMovable r b s s' t u from to
+    → Moves (content_of r b s) t u to (content_of (with_move r t u from to) (buddy_after t u to b) s')
+moves r b s s' t u from to g =
+    let does = changes r b s s' t u from to g in
+    record {
+      from = from;
+      under = g.here;
+      does = record {
+        sizes = same_sizes r (with_move r t u from to) b s s' t (buddies.with_slot u to (buddies.holding_of t b));
+        shows = does.shows;
+        answer = λ m shown. refl;
+        others = does.others;
+        owners = refl;
+        marks = marks_replaced r left to (Some (owned_by t u)) false left_follows
+            (omega (arith, g.to_below, length-set r.owners from None))
+            (omega (arith, g.to_below, g.together.space.facts.flagged, length-set r.marks from true))
+            (ap (λ o. mark_after o (Some (owned_by t u)) (mark_at r.marks to)) (unowned_at r.owners to g.free));
+        spare = g.together.space.spare.move t u from to g.to_below;
+      };
+    }
+  where
+    -- the old superblock has lost its owner
+    left : spaces.Content
+    left = record r { owners = slice_set r.owners from None; marks = slice_set r.marks from true }
+
+    left_follows : MarksFollow r left
+    left_follows = marks_replaced r r from None true (marks_kept r r refl refl) g.below (omega (arith, g.below, g.together.space.facts.flagged))
+        (ap (λ o. mark_after o None (mark_at r.marks from)) ((g.together.space.facts.agree t u from).0 g.here))
+
+-- What it is to the world
 
 -- the reply
 abbrev pub moved_reply : ℕ → ℕ → ℕ → Reply
@@ -33,7 +90,7 @@ set_here (y ∷ ys) zero x here = let same : y ≡ x = cc in ap (λ z. z ∷ ys)
 set_here (y ∷ ys) (suc i) x here = ap (λ zs. y ∷ zs) (set_here ys i x here)
 
 -- what a move is to the world: the owners change alone
-moved_is : (k : Parts) (w : World) (t u from to : ℕ) (x : Machine) → Shows k w → slice_get w.machines t ≡ Some x
+moved_is : (k : KernelContent) (w : World) (t u from to : ℕ) (x : Machine) → Shows k w → slice_get w.machines t ≡ Some x
     → superblock_at k t u ≡ Some from → position is_none k.space.owners ≡ Some to → holds x u ≡ true
     → world_step cache_limit k.order (On.Admin (Do.Move t u)) w
     ≡ moved_world t u to (slice_set k.space.owners from None) (slice_set w.machines t x)
@@ -49,20 +106,20 @@ moved_is k w t u from to x shown here under free held =
     step : holds x u ≡ true → move_step t u w (Some x) (Some to) ≡ moved_to t u w (Some to)
     step is = rw is refl
 
-pub steps_moved : (k k' : Parts) (t n u to : ℕ) → t ≡ n → t < k.tenants → PartsAgree k' → position is_none k.space.owners ≡ Some to → Moves k t u to k'
+pub steps_moved : (k k' : KernelContent) (t n u to : ℕ) → t ≡ n → t < k.tenants → PartsAgree k' → position is_none k.space.owners ≡ Some to → Moves k t u to k'
     → Steps k (On.Admin (Do.Move n u)) k' (moved_reply t u to)
 steps_moved k k' t n u to same known agree free moves = subst (λ v. Steps k (On.Admin (Do.Move v u)) k' (moved_reply t u to)) same
     (steps_done k k' (On.Admin (Do.Move t u)) (moved_reply t u to) t no_step _ tt known agree moves.does
     (λ w x shown shows here. moved_is k w t u moves.from to x shown here moves.under free (shows.slots u ∙ ap is_some moves.under))
     (λ v named. unnamed t v named) refl)
 
-pub move_without_tenant : (k : Parts) (t u : ℕ) → k.tenants ≤ t → Steps k (On.Admin (Do.Move t u)) k (record { addressee = To.Admin; body = Refused NoTenant })
+pub move_without_tenant : (k : KernelContent) (t u : ℕ) → k.tenants ≤ t → Steps k (On.Admin (Do.Move t u)) k (record { addressee = To.Admin; body = Refused NoTenant })
 unfolding world_step move_step
 move_without_tenant k t u unknown =
     steps_answered k (On.Admin (Do.Move t u)) To.Admin (Refused NoTenant)
     (λ w shown. ap (λ o. move_step t u w o (position is_none w.owners)) (get_past w.machines t (omega (arith, shown.tenants))))
 
-pub move_without_slot : (k : Parts) (t n u : ℕ) → t ≡ n → t < k.tenants → superblock_at k t u ≡ None
+pub move_without_slot : (k : KernelContent) (t n u : ℕ) → t ≡ n → t < k.tenants → superblock_at k t u ≡ None
     → Steps k (On.Admin (Do.Move n u)) k (record { addressee = To.Admin; body = Refused NoSlot })
 unfolding world_step move_step
 move_without_slot k t n u same known none = subst (λ v. Steps k (On.Admin (Do.Move v u)) k (record { addressee = To.Admin; body = Refused NoSlot })) same
@@ -76,7 +133,7 @@ move_without_slot k t n u same known none = subst (λ v. Steps k (On.Admin (Do.M
     lacking w x free lacks = rw lacks refl
 
 -- every superblock has an owner
-pub move_without_superblock : (k : Parts) (t n u : ℕ) → t ≡ n → t < k.tenants → IsSome (superblock_at k t u) → position is_none k.space.owners ≡ None
+pub move_without_superblock : (k : KernelContent) (t n u : ℕ) → t ≡ n → t < k.tenants → IsSome (superblock_at k t u) → position is_none k.space.owners ≡ None
     → Steps k (On.Admin (Do.Move n u)) k (record { addressee = To.Admin; body = Refused PoolEmpty })
 unfolding world_step move_step
 move_without_superblock k t n u same known held none = subst (λ v. Steps k (On.Admin (Do.Move v u)) k (record { addressee = To.Admin; body = Refused PoolEmpty })) same

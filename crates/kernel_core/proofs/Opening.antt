@@ -1,19 +1,41 @@
 -- The parts of a kernel before its first event.
 use Rattle.std.proofs.Common.{◌≡◌, ℕ, ◌<◌, ◌≤◌, ◌&&◌, nat_le, true, refl, sym, ◌∙◌, subst, arith}
-use Rattle.std.proofs.lemmas.Bool.{and_parts, leb-true}
 use Rattle.std.proofs.lemmas.List.{length-replicate}
+use Rattle.buddy_core.specs.Content as buddies
+use Rattle.machine_changes.specs.Shows.{Agree}
+use Rattle.machine_changes.proofs.SlotEmpty.{opening_shows}
+use Rattle.kernel_core.specs.Content.{content_of, opening_content, PartsAgree}
+use Rattle.std.proofs.lemmas.Bool.{and_parts, leb-true}
 use Rattle.std.proofs.lemmas.Option.{slice_get_within, same_Some}
 use Rattle.std.specs.Prelude.{replicate}
 use Rattle.model_core.specs.Machine.{empty_machine}
 use Rattle.model_core.specs.declared.limits.TheConstants.{LEAST_ORDER, MOST_ORDER, MOST_SUPERBLOCKS, MOST_TENANTS}
-use Rattle.machine_changes.proofs.SlotEmpty.{opening_shows}
 use Rattle.world_core.specs.World.{opening_world}
 use Rattle.world_core.proofs.MachineLists.{slice_get-replicate}
-use Rattle.parts_core.specs.Parts.{PartsAgree, opening_parts}
-use Rattle.parts_core.specs.Shows.{ShowsMachine}
+use Rattle.kernel_core.specs.Shows.{ShowsMachine, Shows}
 use Rattle.model_core.specs.declared.config.Config.{Config}
-use Rattle.kernel_core.specs.Shows.{Shows}
 use Rattle.model_core.specs.Booting.{is_between, is_bootable}
+
+pub opening_agrees : (order superblocks tenants : ℕ)
+    → Agree (opening_content order superblocks tenants).space (opening_content order superblocks tenants).buddy (opening_content order superblocks tenants).slabs
+unfolding opening_content
+opening_agrees order superblocks tenants = (opening_shows order superblocks tenants).agree
+
+-- the tenants are counted
+pub opening_is : (order superblocks tenants : ℕ)
+    → content_of (opening_content order superblocks tenants).space (opening_content order superblocks tenants).buddy (opening_content order superblocks tenants).slabs
+    ≡ opening_content order superblocks tenants
+unfolding opening_content
+opening_is order superblocks tenants = λ i. record {
+  order = order;
+  superblocks = superblocks;
+  tenants = length-replicate tenants (buddies.nothing_held order superblocks) i;
+  space = (opening_content order superblocks tenants).space;
+  buddy = (opening_content order superblocks tenants).buddy;
+  slabs = (opening_content order superblocks tenants).slabs;
+}
+
+-- What it is to the world
 
 -- the sizes are within the limits
 pub bootable : (c : Config) → is_bootable c ≡ true → (c.order ≤ MOST_ORDER) × (c.superblocks ≤ MOST_SUPERBLOCKS) × (c.tenants ≤ MOST_TENANTS)
@@ -25,9 +47,9 @@ bootable c is =
       leb-true c.tenants MOST_TENANTS (and_parts (nat_le 1 c.tenants) (nat_le c.tenants MOST_TENANTS) second.1).1,
     )
 
-pub opening_world_shown : (order superblocks tenants : ℕ) → PartsAgree (opening_parts order superblocks tenants)
-    → Shows (opening_parts order superblocks tenants) (opening_world superblocks tenants)
-unfolding opening_parts opening_world
+pub opening_world_shown : (order superblocks tenants : ℕ) → PartsAgree (opening_content order superblocks tenants)
+    → Shows (opening_content order superblocks tenants) (opening_world superblocks tenants)
+unfolding opening_content opening_world
 opening_world_shown order superblocks tenants agree = record {
   agree = agree;
   owners = refl;
@@ -35,5 +57,5 @@ opening_world_shown order superblocks tenants agree = record {
   machines = λ t m here.
       let within : t < tenants = omega (arith, slice_get_within (replicate tenants empty_machine) t m here, length-replicate tenants empty_machine) in
       let is : empty_machine ≡ m = same_Some empty_machine m (sym (slice_get-replicate tenants t empty_machine within) ∙ here) in
-      subst (λ x. ShowsMachine (opening_parts order superblocks tenants) t x) is ((opening_shows order superblocks tenants).shows t);
+      subst (λ x. ShowsMachine (opening_content order superblocks tenants) t x) is ((opening_shows order superblocks tenants).shows t);
 }

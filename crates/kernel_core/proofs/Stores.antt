@@ -1,7 +1,5 @@
 -- A store is the step of a write, and a load gives the byte of the private machine.
-use Rattle.std.proofs.Common.{◌≡◌, ℕ, ◌<◌, Some, List, length, refl, sym, ◌∙◌, subst, arith}
-use Rattle.std.proofs.lemmas.Bool.{false≢true}
-use Rattle.model_core.specs.Operations.{write_step}
+use Rattle.std.proofs.Common.{◌≡◌, ℕ, ◌<◌, List, length, refl, sym, ◌∙◌, subst, arith}
 use Rattle.words_core.specs.declared.event.Event.{Event}
 use Rattle.words_core.specs.declared.event.Event.TheVariants.{Tenant}
 use Rattle.words_core.specs.declared.event.Command.{Command}
@@ -9,7 +7,6 @@ use Rattle.words_core.specs.declared.event.Command.TheVariants.{Write}
 use Rattle.words_core.specs.declared.reply.Addressee.TheVariants as To
 use Rattle.words_core.specs.declared.reply.Body.TheVariants.{Written}
 use Rattle.words_core.specs.declared.reply.Reply.{Reply}
-use Rattle.world_core.specs.PrivateStep.{command_step, write_body}
 use Rattle.space_core.specs.Content as spaces
 use Rattle.space_core.proofs.Laws.{laws_of, with_window-IsSpace}
 use Rattle.buddy_core.specs.Content as buddies
@@ -17,12 +14,11 @@ use Rattle.slab_tables.specs.Content as tables
 use Rattle.machine_changes.specs.Pages.{IsInReach, stored}
 use Rattle.machine_changes.specs.Slots.{HoldTogether}
 use Rattle.machine_changes.proofs.PageHolds.{reach_bytes}
-use Rattle.parts_core.specs.Parts.{Parts, PartsAgree, parts_of}
-use Rattle.parts_core.proofs.Changing.{parts_agree, steady}
-use Rattle.parts_core.proofs.PageBytes.{IsAsked, held, write_agrees, write_done}
+use Rattle.kernel_core.specs.Content.{KernelContent, content_of}
+use Rattle.kernel_core.proofs.Changing.{parts_agree, steady, with_space}
+use Rattle.kernel_core.proofs.PageCalls.{IsAsked, held, write_agrees, write_done}
 use Rattle.kernel_core.specs.Steps.{Steps}
 use Rattle.kernel_core.specs.Stores.{IsKernel, StoresAreWrites, LoadsAreOwn}
-use Rattle.kernel_core.proofs.Commanding.{commanded}
 use Rattle.kernel_core.proofs.Worlds.{steps_asked}
 
 abbrev write_of : ℕ → List ℕ → Command
@@ -41,41 +37,28 @@ module _ (r : spaces.Content) (b : buddies.Content) (s : tables.Content) (t plac
     agree = (write_agrees r b s t place bytes asked reach).agree;
   }
 
-  stored_kernel : IsKernel (parts_of (stored t place bytes r) b s)
+  stored_kernel : IsKernel (content_of (stored t place bytes r) b s)
   stored_kernel = record { agree = parts_agree (stored t place bytes r) b s stored_together; together = stored_together }
 
-  stored_steps : Steps (parts_of r b s) (Tenant t (write_of place bytes)) (parts_of (stored t place bytes r) b s) (written_reply t bytes)
-  unfolding command_step
+  stored_steps : Steps (content_of r b s) (Tenant t (write_of place bytes)) (content_of (stored t place bytes r) b s) (written_reply t bytes)
   stored_steps =
-      let old = parts_of r b s in
-      let new = parts_of (stored t place bytes r) b s in
+      let old = content_of r b s in
+      let new = content_of (stored t place bytes r) b s in
       steps_asked old new t t (write_of place bytes) (Written (length bytes)) refl asked.tenant (λ w shown. stored_kernel.agree)
-      (commanded old new t (write_of place bytes) write_body (write_step place bytes) (Some (length bytes)) (λ m. refl)
-      (write_done r b s t place bytes asked reach) (λ refused. absurd (false≢true refused)))
+      (write_done r b s t place bytes asked reach)
 
--- the parts with another memory, where the sizes are told by the buddy systems
-with_space : (k : Parts) (r : spaces.Content) → PartsAgree k → parts_of r k.buddy k.slabs ≡ record k { space = r }
-with_space k r agree = λ i. record {
-  order = agree.top i;
-  superblocks = agree.sheets i;
-  tenants = agree.holdings i;
-  space = r;
-  buddy = k.buddy;
-  slabs = k.slabs;
-}
-
-known : (k : Parts) (t : ℕ) → IsKernel k → t < k.tenants → t < length k.buddy.tenants
+known : (k : KernelContent) (t : ℕ) → IsKernel k → t < k.tenants → t < length k.buddy.tenants
 known k t is here = omega (arith, is.agree.holdings)
 
 pub stores_are_writes : StoresAreWrites
 stores_are_writes k k' t place bytes is did =
     let asked : IsAsked k.space k.buddy k.slabs t = record { together = is.together; tenant = known k t is did.tenant } in
     let event : Event = Tenant t (write_of place bytes) in
-    let new : Parts = parts_of (stored t place bytes k.space) k.buddy k.slabs in
+    let new : KernelContent = content_of (stored t place bytes k.space) k.buddy k.slabs in
     let after : new ≡ k' = with_space k (stored t place bytes k.space) is.agree ∙ sym did.is in
-    subst (λ (x : Parts). IsKernel x × Steps k event x (written_reply t bytes)) after (
+    subst (λ (x : KernelContent). IsKernel x × Steps k event x (written_reply t bytes)) after (
       stored_kernel k.space k.buddy k.slabs t place bytes asked did.reach,
-      subst (λ (x : Parts). Steps x event new (written_reply t bytes)) (with_space k k.space is.agree)
+      subst (λ (x : KernelContent). Steps x event new (written_reply t bytes)) (with_space k k.space is.agree)
           (stored_steps k.space k.buddy k.slabs t place bytes asked did.reach),
     )
 

@@ -5,13 +5,13 @@ use Rattle.model_core.specs.declared.limits.TheConstants.{MOST_SUPERBLOCKS, MOST
 use Rattle.space_core.proofs.Empty.{empty_space-IsSpace}
 use Rattle.machine_changes.proofs.SlotEmpty.{opening_shows}
 use Rattle.world_core.specs.World.{opening_world}
-use Rattle.parts_core.specs.Parts.{PartsAgree, opening_parts}
+use Rattle.kernel_core.specs.Content.{PartsAgree, opening_content}
 use Rattle.kernel_core.specs.Shows.{Shows, OneWorld}
 use Rattle.kernel_core.proofs.Opening.{opening_world_shown}
 
 -- superblocks of 8 frames
-opening_agrees : (superblocks tenants : ℕ) → superblocks ≤ MOST_SUPERBLOCKS → tenants ≤ MOST_TENANTS → PartsAgree (opening_parts 3 superblocks tenants)
-unfolding opening_parts
+opening_agrees : (superblocks tenants : ℕ) → superblocks ≤ MOST_SUPERBLOCKS → tenants ≤ MOST_TENANTS → PartsAgree (opening_content 3 superblocks tenants)
+unfolding opening_content
 opening_agrees superblocks tenants few many = record {
   space = empty_space-IsSpace _ superblocks tenants (omega arith) (omega arith) few many;
   order = omega arith;
@@ -23,8 +23,8 @@ opening_agrees superblocks tenants few many = record {
   agree = (opening_shows 3 superblocks tenants).agree;
 }
 
-pub opening_shown : (superblocks tenants : ℕ) → superblocks ≤ MOST_SUPERBLOCKS → tenants ≤ MOST_TENANTS → Shows (opening_parts 3 superblocks tenants) (opening_world superblocks tenants)
+pub opening_shown : (superblocks tenants : ℕ) → superblocks ≤ MOST_SUPERBLOCKS → tenants ≤ MOST_TENANTS → Shows (opening_content 3 superblocks tenants) (opening_world superblocks tenants)
 opening_shown superblocks tenants few many = opening_world_shown 3 superblocks tenants (opening_agrees superblocks tenants few many)
 
 OneWorld-met : OneWorld → opening_world 2 3 ≡ opening_world 2 3
-OneWorld-met law = law (opening_parts 3 2 3) (opening_world 2 3) (opening_world 2 3) (opening_shown 2 3 (omega arith) (omega arith)) (opening_shown 2 3 (omega arith) (omega arith))
+OneWorld-met law = law (opening_content 3 2 3) (opening_world 2 3) (opening_world 2 3) (opening_shown 2 3 (omega arith) (omega arith)) (opening_shown 2 3 (omega arith) (omega arith))

@@ -14,7 +14,7 @@ use Rattle.world_core.specs.PrivateStep.{Ask, Grant}
 use Rattle.space_core.specs.Content as spaces
 use Rattle.space_core.specs.Changes.{with_grant}
 use Rattle.machine_changes.specs.Pages.{stored}
-use Rattle.parts_core.specs.Parts.{Parts, parts_of}
+use Rattle.kernel_core.specs.Content.{KernelContent, content_of}
 use Rattle.kernel_core.specs.Steps.{Steps}
 use Rattle.kernel_core.specs.Stores.{IsKernel, Stores, Loads, StoresAreWrites, LoadsAreOwn}
 use Rattle.kernel_core.specs.Actions.{Action, Runs, StoresAt, LoadsAt, Acts, AllAct, Sight, Told, Loaded, sights_of, Own, Enters, Stored, LoadedAt, own_seen, OwnSights, SameSights}
@@ -31,13 +31,13 @@ bytes = replicate 100 7
 abbrev pub space_1 : spaces.Content
 space_1 = with_grant opened_space 0 0 0
 
-abbrev pub alone_1 : Parts
-alone_1 = parts_of space_1 (holders (Some 0) None None None) no_slabs
+abbrev pub alone_1 : KernelContent
+alone_1 = content_of space_1 (holders (Some 0) None None None) no_slabs
 
-abbrev pub alone_2 : Parts
-alone_2 = parts_of space_1 (holders (Some 0) (Some 0) None None) no_slabs
+abbrev pub alone_2 : KernelContent
+alone_2 = content_of space_1 (holders (Some 0) (Some 0) None None) no_slabs
 
-abbrev pub alone_3 : Parts
+abbrev pub alone_3 : KernelContent
 alone_3 = record alone_2 { space = stored 0 5 bytes space_1 }
 
 pub alone_granted : Acts opened (Runs (On.Admin (Do.Grant 0)) (granted_reply 0 0 0)) alone_1
@@ -84,29 +84,29 @@ alone_acts =
 abbrev space_of_1 : spaces.Content
 space_of_1 = with_grant opened_space 1 0 0
 
-abbrev beside_1 : Parts
-beside_1 = parts_of space_of_1 (holders None None (Some 0) None) no_slabs
+abbrev beside_1 : KernelContent
+beside_1 = content_of space_of_1 (holders None None (Some 0) None) no_slabs
 
-abbrev beside_2 : Parts
-beside_2 = parts_of space_of_1 (holders None None (Some 0) (Some 0)) no_slabs
+abbrev beside_2 : KernelContent
+beside_2 = content_of space_of_1 (holders None None (Some 0) (Some 0)) no_slabs
 
-abbrev beside_3 : Parts
+abbrev beside_3 : KernelContent
 beside_3 = record beside_2 { space = stored 1 5 (replicate 100 9) space_of_1 }
 
 abbrev space_of_both : spaces.Content
 space_of_both = with_grant beside_3.space 0 0 1
 
-abbrev beside_4 : Parts
-beside_4 = parts_of space_of_both (holders (Some 1) None (Some 0) (Some 0)) no_slabs
+abbrev beside_4 : KernelContent
+beside_4 = content_of space_of_both (holders (Some 1) None (Some 0) (Some 0)) no_slabs
 
-abbrev beside_5 : Parts
-beside_5 = parts_of space_of_both (holders (Some 1) (Some 0) (Some 0) (Some 0)) no_slabs
+abbrev beside_5 : KernelContent
+beside_5 = content_of space_of_both (holders (Some 1) (Some 0) (Some 0) (Some 0)) no_slabs
 
-abbrev beside_6 : Parts
+abbrev beside_6 : KernelContent
 beside_6 = record beside_5 { space = stored 0 5 bytes space_of_both }
 
 -- tenant 1 stores at the place where tenant 0 is to load
-abbrev beside_7 : Parts
+abbrev beside_7 : KernelContent
 beside_7 = record beside_6 { space = stored 1 104 (9 ∷ []) beside_6.space }
 
 granted_1 : Acts opened (Runs (On.Admin (Do.Grant 1)) (granted_reply 1 0 0)) beside_1

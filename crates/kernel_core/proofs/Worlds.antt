@@ -1,4 +1,4 @@
--- From what one event does to the parts to what it does to the world that they show.
+-- From what one event does to a kernel to what it does to the world that it shows, which is the only one.
 use Rattle.model_core.specs.declared.owner.Owner.{Owner}
 use Rattle.std.proofs.Common.{◌≡◌, ◌≢◌, ℕ, zero, suc, ◌<◌, ◌≤◌, ◌==◌, Bool, true, false, Option, Some, None, List, [], ◌∷◌, length, slice_get, slice_set, refl, sym, ap, ◌∙◌, subst, ⊎_elim, arith}
 use Rattle.std.proofs.lemmas.Bool.{cases_eq, eq-eqb}
@@ -21,13 +21,12 @@ use Rattle.world_core.specs.PrivateStep.{command_step}
 use Rattle.world_core.specs.World.{World, WorldStep, answer, tenant_step, world_step}
 use Rattle.world_core.specs.OwnList.{is_refused}
 use Rattle.world_core.proofs.MachineLists.{slice_get-set_same, slice_get-set_other}
-use Rattle.parts_core.specs.Parts.{Parts, PartsAgree, Keeps}
-use Rattle.parts_core.specs.Shows.{ShowsMachine}
-use Rattle.parts_core.specs.Does.{Does}
-use Rattle.parts_core.proofs.Calls.{keeps_all}
-use Rattle.parts_core.proofs.Marks.{marks_kept}
-use Rattle.kernel_core.specs.Shows.{Shows}
+use Rattle.kernel_core.specs.Content.{KernelContent, PartsAgree, Keeps}
+use Rattle.kernel_core.specs.Shows.{ShowsMachine, Shows, OneWorld}
+use Rattle.kernel_core.specs.Does.{Does}
+use Rattle.kernel_core.proofs.Changing.{keeps_all, marks_kept}
 use Rattle.kernel_core.specs.Steps.{is_named, Steps, StepsMachine}
+use Rattle.machine_changes.proofs.PageOne.{one_machine}
 
 pub get_past : {A : Type 0} (xs : List A) (i : ℕ) → length xs ≤ i → slice_get xs i ≡ None
 get_past [] i past = refl
@@ -43,11 +42,11 @@ pub false_is : (b : Bool) → b ≡ false → b ≡ true → ⊥
 false_is b isnt is = cc
 
 -- parts that keep what a tenant has show the same machine for it
-pub keeps_shows : (k k' : Parts) (t : ℕ) (m : Machine) → Keeps k k' t → ShowsMachine k t m → ShowsMachine k' t m
+pub keeps_shows : (k k' : KernelContent) (t : ℕ) (m : Machine) → Keeps k k' t → ShowsMachine k t m → ShowsMachine k' t m
 keeps_shows k k' t m keeps shown = kept_shows_same k.space k'.space k.buddy k'.buddy k.slabs k'.slabs t keeps m shown
 
 -- one tenant's machine changes, and the owners
-pub shows_changed : (k k' : Parts) (w : World) (t : ℕ) (m m' : Machine) (owners : List (Option Owner)) → Shows k w → PartsAgree k' → k'.tenants ≡ k.tenants → owners ≡ k'.space.owners
+pub shows_changed : (k k' : KernelContent) (w : World) (t : ℕ) (m m' : Machine) (owners : List (Option Owner)) → Shows k w → PartsAgree k' → k'.tenants ≡ k.tenants → owners ≡ k'.space.owners
     → slice_get w.machines t ≡ Some m → ShowsMachine k' t m' → ((u : ℕ) → u ≢ t → Keeps k k' u) → Shows k' (record { owners = owners; machines = slice_set w.machines t m' })
 shows_changed k k' w t m m' owners shown agree same_tenants same_owners here shown' keeps = record {
   agree = agree;
@@ -64,7 +63,7 @@ shows_changed k k' w t m m' owners shown agree same_tenants same_owners here sho
 }
 
 -- an answer that changes nothing
-pub steps_answered : (k : Parts) (event : Event) (to : Addressee) (body : Body)
+pub steps_answered : (k : KernelContent) (event : Event) (to : Addressee) (body : Body)
     → ((w : World) → Shows k w → world_step cache_limit k.order event w ≡ answer to body w)
     → Steps k event k (record { addressee = to; body = body })
 unfolding answer
@@ -79,7 +78,7 @@ steps_answered k event to body same = record {
 }
 
 -- What a call for one tenant does to the parts is the event's step of the world: of that tenant's machine, and of the owners.
-pub steps_done : {A : Type 0} (k k' : Parts) (event : Event) (reply : Reply) (t : ℕ) (step : Machine → Step A) (owned : List (Option Owner)) (told : A)
+pub steps_done : {A : Type 0} (k k' : KernelContent) (event : Event) (reply : Reply) (t : ℕ) (step : Machine → Step A) (owned : List (Option Owner)) (told : A)
     → t < k.tenants → PartsAgree k' → Does k t step owned k' told
     → ((w : World) (m : Machine) → Shows k w → ShowsMachine k t m → slice_get w.machines t ≡ Some m
     → world_step cache_limit k.order event w
@@ -106,7 +105,7 @@ pub unnamed : (t u : ℕ) → (t == u) ≡ false → u ≢ t
 unnamed t u named same = false_is (t == u) named (eq-eqb t u (sym same))
 
 -- the tenant has no machine
-pub unknown_tenant : (k : Parts) (t : ℕ) (command : Command) → k.tenants ≤ t
+pub unknown_tenant : (k : KernelContent) (t : ℕ) (command : Command) → k.tenants ≤ t
     → Steps k (On.Tenant t command) k (record { addressee = To.Nobody; body = Refused NoTenant })
 unfolding world_step tenant_step
 unknown_tenant k t command past =
@@ -114,7 +113,7 @@ unknown_tenant k t command past =
     (λ w shown. ap (λ o. tenant_step cache_limit k.order t command w o) (get_past w.machines t (omega (arith, shown.tenants))))
 
 -- a command of a tenant is a step of its machine
-pub steps_asked : (k k' : Parts) (t u : ℕ) (command : Command) (body : Body) → t ≡ u → t < k.tenants → ((w : World) → Shows k w → PartsAgree k')
+pub steps_asked : (k k' : KernelContent) (t u : ℕ) (command : Command) (body : Body) → t ≡ u → t < k.tenants → ((w : World) → Shows k w → PartsAgree k')
     → StepsMachine k t command k' body → Steps k (On.Tenant u command) k' (record { addressee = To.Tenant t; body = body })
 unfolding world_step tenant_step
 steps_asked k k' t u command body same known agree steps = subst (λ v. Steps k (On.Tenant v command) k' (record { addressee = To.Tenant t; body = body })) same (record {
@@ -133,3 +132,18 @@ steps_asked k k' t u command body same known agree steps = subst (λ v. Steps k 
   marks = steps.does.marks;
   spare = steps.does.spare;
 })
+
+-- lists of one length with the same elements are one
+same_by_get : {A : Type 0} (xs ys : List A) → length xs ≡ length ys → ((i : ℕ) (x y : A) → slice_get xs i ≡ Some x → slice_get ys i ≡ Some y → x ≡ y) → xs ≡ ys
+same_by_get [] [] _ _ = refl
+same_by_get [] (y ∷ ys) long _ = absurd (omega arith)
+same_by_get (x ∷ xs) [] long _ = absurd (omega arith)
+same_by_get (x ∷ xs) (y ∷ ys) long same =
+    ap (λ z. z ∷ xs) (same 0 x y refl refl) ∙ ap (λ zs. y ∷ zs) (same_by_get xs ys (omega arith) (λ i a b here there. same (suc i) a b here there))
+
+pub one_world : OneWorld
+one_world k w v shown shown' =
+    let owners = shown.owners ∙ sym shown'.owners in
+    let machines = same_by_get w.machines v.machines (shown.tenants ∙ sym shown'.tenants)
+    (λ t m n here there. one_machine k.space k.buddy k.slabs t m n (shown.machines t m here) (shown'.machines t n there)) in
+    λ i. record { owners = owners i; machines = machines i }

@@ -9,9 +9,8 @@ use Rattle.world_core.specs.Limits.{cache_limit}
 use Rattle.world_core.specs.PrivateStep.{Entry, private_step}
 use Rattle.world_core.specs.World.{opening_world}
 use Rattle.world_core.specs.OwnList.{own_entries, if_for}
-use Rattle.parts_core.specs.Parts.{Parts}
-use Rattle.parts_core.specs.Shows.{ShowsMachine}
-use Rattle.kernel_core.specs.Shows.{Shows}
+use Rattle.kernel_core.specs.Content.{KernelContent}
+use Rattle.kernel_core.specs.Shows.{ShowsMachine, Shows}
 use Rattle.kernel_core.specs.Steps.{Steps}
 use Rattle.kernel_core.specs.Stores.{IsKernel, Stores, Loads}
 
@@ -24,15 +23,15 @@ pub data Action : Type 0 where
   LoadsAt : ℕ → ℕ → ℕ → Action
 
 -- an action leads from one kernel to another
-abbrev pub Acts : Parts → Action → Parts → Type 0
+abbrev pub Acts : KernelContent → Action → KernelContent → Type 0
 Acts k (Runs event reply) k' = Steps k event k' reply × IsKernel k'
 Acts k (StoresAt t place bytes) k' = Stores k t place bytes k'
 Acts k (LoadsAt t place byte) k' = Loads k t place byte × (k' ≡ k)
 
 -- a list of actions does
-abbrev pub AllAct : Parts → List Action → Parts → Type 0
+abbrev pub AllAct : KernelContent → List Action → KernelContent → Type 0
 AllAct k [] k' = k' ≡ k
-AllAct k (action ∷ actions) k' = (next : Parts) × Acts k action next × AllAct next actions k'
+AllAct k (action ∷ actions) k' = (next : KernelContent) × Acts k action next × AllAct next actions k'
 
 -- what a tenant sees: what it is told, and the bytes that it loads
 pub data Sight : Type 0 where
@@ -87,14 +86,14 @@ own_seen limit order (own ∷ owns) m = record {
 }
 
 -- the kernel that boot made, of so many superblocks and tenants
-pub record IsBooted (k : Parts) (superblocks tenants : ℕ) : Type 0 where
+pub record IsBooted (k : KernelContent) (superblocks tenants : ℕ) : Type 0 where
   pub kernel : IsKernel k
   pub shows : Shows k (opening_world superblocks tenants)
 
 -- Whatever the others do: from boot on, what a tenant sees is what its private machine gives to its own list, and that machine
 -- is the one that the kernel shows.
 abbrev pub OwnSights : Type 0
-OwnSights = (k k' : Parts) (superblocks tenants t : ℕ) (actions : List Action) →
+OwnSights = (k k' : KernelContent) (superblocks tenants t : ℕ) (actions : List Action) →
     IsBooted k superblocks tenants → t < tenants → AllAct k actions k' →
     (sights_of t actions ≡ (own_seen cache_limit k.order (own_actions t actions) empty_machine).sights)
     × ShowsMachine k' t (own_seen cache_limit k.order (own_actions t actions) empty_machine).machine
@@ -102,7 +101,7 @@ OwnSights = (k k' : Parts) (superblocks tenants t : ℕ) (actions : List Action)
 -- So a tenant sees the same on two machines of one order, with any numbers of superblocks and tenants, where its own lists are
 -- equal.
 abbrev pub SameSights : Type 0
-SameSights = (k k' l l' : Parts) (superblocks tenants superblocks' tenants' t : ℕ) (actions actions' : List Action) →
+SameSights = (k k' l l' : KernelContent) (superblocks tenants superblocks' tenants' t : ℕ) (actions actions' : List Action) →
     IsBooted k superblocks tenants → IsBooted l superblocks' tenants' → l.order ≡ k.order → t < tenants → t < tenants' →
     AllAct k actions k' → AllAct l actions' l' → own_actions t actions ≡ own_actions t actions' →
     sights_of t actions ≡ sights_of t actions'

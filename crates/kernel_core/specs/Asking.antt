@@ -9,28 +9,28 @@ use Rattle.words_core.specs.declared.reply.Addressee.TheVariants.{Nobody}
 use Rattle.words_core.specs.declared.reply.Body.TheVariants.{Refused}
 use Rattle.words_core.specs.declared.reply.Refusal.TheVariants.{NoTenant}
 use Rattle.words_core.specs.declared.event.Request.{Request}
-use Rattle.parts_core.specs.Parts.{Parts, PartsAgree}
+use Rattle.kernel_core.specs.Content.{KernelContent, PartsAgree}
 use Rattle.kernel_core.specs.Steps.{Steps, StepsMachine}
 use Rattle.kernel_core.specs.contracts.kernel.Kernel.{the_row}
 
 -- the request was a step of the tenant's machine, with this answer, and the parts agree as before
-pub record HasStepped (before : Parts) (t : ℕ) (request : Request) (answer : Answer) (after : Parts) : Type 0 where
+pub record HasStepped (before : KernelContent) (t : ℕ) (request : Request) (answer : Answer) (after : KernelContent) : Type 0 where
   pub steps : StepsMachine before t (command_of request) after (body_of_answer answer)
   pub agree : PartsAgree before → PartsAgree after
 
-abbrev pub RestsStepped : MutBor Parts → ℕ → Request → Answer → Fml
+abbrev pub RestsStepped : MutBor KernelContent → ℕ → Request → Answer → Fml
 RestsStepped kernel t request answer = Rests the_row kernel (HasStepped kernel.now t request answer)
 
 -- the request of a tenant that there is was a step of the world, with the answer to that tenant
-abbrev pub RestsAskedKnown : MutBor Parts → ℕ → Request → Answer → Fml
+abbrev pub RestsAskedKnown : MutBor KernelContent → ℕ → Request → Answer → Fml
 RestsAskedKnown kernel t request answer =
     Rests the_row kernel (λ after. Steps kernel.now (Tenant t (command_of request)) after (reply_of_answer t answer))
 
 -- the request of a tenant was a step of the world, with the answer to that tenant; nobody is told where there is no such tenant
-abbrev pub HasAsked : Parts → ℕ → Request → Option (ℕ × Answer) → Parts → Type 0
+abbrev pub HasAsked : KernelContent → ℕ → Request → Option (ℕ × Answer) → KernelContent → Type 0
 HasAsked before tenant request result after = MatchOption result
     (Steps before (Tenant tenant (command_of request)) after (record { addressee = Nobody; body = Refused NoTenant }))
     (λ answer. (answer.0 ≡ tenant) × Steps before (Tenant tenant (command_of request)) after (reply_of_answer tenant answer.1))
 
-abbrev pub RestsAsked : MutBor Parts → ℕ → Request → Option (ℕ × Answer) → Fml
+abbrev pub RestsAsked : MutBor KernelContent → ℕ → Request → Option (ℕ × Answer) → Fml
 RestsAsked kernel tenant request result = Rests the_row kernel (HasAsked kernel.now tenant request result)

@@ -1,4 +1,9 @@
+pub mod Content
 pub mod Shows
+pub mod Does
+pub mod GivenUp
+pub mod Records
+pub mod Frames
 pub mod Steps
 pub mod Asking
 pub mod Stores

@@ -1,12 +1,16 @@
--- Which world the parts of a kernel show.
+-- Which private machine a kernel shows for a tenant, and which world it shows.
 use Rattle.std.specs.Prelude.{◌≡◌, ℕ, length, Some, slice_get}
 use Rattle.model_core.specs.Machine.{Machine}
+use Rattle.machine_changes.specs.Shows as showing
 use Rattle.world_core.specs.World.{World}
-use Rattle.parts_core.specs.Parts.{Parts, PartsAgree}
-use Rattle.parts_core.specs.Shows.{ShowsMachine}
+use Rattle.kernel_core.specs.Content.{KernelContent, PartsAgree}
+
+-- the kernel shows that the tenant's private machine is this one
+abbrev pub ShowsMachine : KernelContent → ℕ → Machine → Type 0
+ShowsMachine k t m = showing.ShowsMachine k.space k.buddy k.slabs t m
 
 -- the parts agree, and show this world
-pub record Shows (k : Parts) (w : World) : Type 0 where
+pub record Shows (k : KernelContent) (w : World) : Type 0 where
   pub agree : PartsAgree k
   pub owners : w.owners ≡ k.space.owners
   pub tenants : length w.machines ≡ k.tenants
@@ -14,4 +18,4 @@ pub record Shows (k : Parts) (w : World) : Type 0 where
 
 -- the parts show one world at most
 abbrev pub OneWorld : Type 0
-OneWorld = (k : Parts) (w v : World) → Shows k w → Shows k v → w ≡ v
+OneWorld = (k : KernelContent) (w v : World) → Shows k w → Shows k v → w ≡ v

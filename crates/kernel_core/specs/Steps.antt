@@ -4,18 +4,20 @@ use Rattle.words_core.specs.declared.event.Event.{Event}
 use Rattle.words_core.specs.declared.event.Event.TheVariants as On
 use Rattle.words_core.specs.declared.event.AdminCommand.TheVariants as Do
 use Rattle.words_core.specs.declared.event.Command.{Command}
-use Rattle.words_core.specs.Requests.{AsksPattern}
+use Rattle.words_core.specs.Requests.{AsksPattern, body_of_answer}
+use Rattle.words_core.specs.declared.answer.Answer.{Answer}
 use Rattle.words_core.specs.declared.reply.Body.{Body}
 use Rattle.words_core.specs.declared.reply.Body.TheVariants.{Refused}
 use Rattle.words_core.specs.declared.reply.Refusal.{Refusal}
 use Rattle.words_core.specs.declared.reply.Reply.{Reply}
+use Rattle.words_core.specs.declared.reply.Addressee.TheVariants.{Admin}
 use Rattle.world_core.specs.Limits.{cache_limit}
 use Rattle.world_core.specs.PrivateStep.{command_step}
 use Rattle.world_core.specs.World.{World, world_step}
 use Rattle.world_core.specs.OwnList.{is_refused}
 use Rattle.space_core.specs.Laws.{SpareStays}
-use Rattle.parts_core.specs.Parts.{Parts, SameSizes, MarksFollow, Keeps}
-use Rattle.parts_core.specs.Does.{Does}
+use Rattle.kernel_core.specs.Content.{KernelContent, SameSizes, MarksFollow, Keeps}
+use Rattle.kernel_core.specs.Does.{Does}
 use Rattle.kernel_core.specs.Shows.{Shows}
 
 -- the event names tenant t
@@ -33,7 +35,7 @@ HasPattern (On.Tenant t command) = AsksPattern command
 HasPattern (On.Admin command) = Unit {0}
 
 -- the event is a step of whichever world the parts show
-pub record Steps (old : Parts) (event : Event) (new : Parts) (reply : Reply) : Type 0 where
+pub record Steps (old : KernelContent) (event : Event) (new : KernelContent) (reply : Reply) : Type 0 where
   pub sizes : SameSizes old new
   pub shows : (w : World) → Shows old w → Shows new (world_step cache_limit old.order event w).world
   pub answer : (w : World) → Shows old w → reply ≡ (world_step cache_limit old.order event w).reply
@@ -43,7 +45,7 @@ pub record Steps (old : Parts) (event : Event) (new : Parts) (reply : Reply) : T
   pub spare : SpareStays old.space new.space
 
 -- the command is a step of whichever machine the parts show for the tenant
-pub record StepsMachine (old : Parts) (t : ℕ) (command : Command) (new : Parts) (body : Body) : Type 0 where
+pub record StepsMachine (old : KernelContent) (t : ℕ) (command : Command) (new : KernelContent) (body : Body) : Type 0 where
   pub does : Does old t (command_step cache_limit old.order command) old.space.owners new body
   pub refused : is_refused body ≡ true → new ≡ old
 
@@ -51,3 +53,7 @@ pub record StepsMachine (old : Parts) (t : ℕ) (command : Command) (new : Parts
 abbrev pub body_of : {A : Type 0} → (A → Body) → Result A Refusal → Body
 body_of said (Ok given) = said given
 body_of said (Err refusal) = Refused refusal
+
+-- the reply to the administrator: what its command gave, or why it was refused
+abbrev pub to_admin : Result Answer Refusal → Reply
+to_admin result = record { addressee = Admin; body = body_of body_of_answer result }

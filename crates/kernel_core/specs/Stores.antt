@@ -9,36 +9,36 @@ use Rattle.world_core.specs.World.{World}
 use Rattle.space_core.specs.Windows.{byte_at}
 use Rattle.machine_changes.specs.Slots.{HoldTogether}
 use Rattle.machine_changes.specs.Pages.{IsInReach, stored}
-use Rattle.parts_core.specs.Parts.{Parts, PartsAgree}
+use Rattle.kernel_core.specs.Content.{KernelContent, PartsAgree}
 use Rattle.kernel_core.specs.Shows.{Shows}
 use Rattle.kernel_core.specs.Steps.{Steps}
 
 -- what holds of the parts of every kernel
-pub record IsKernel (k : Parts) : Type 0 where
+pub record IsKernel (k : KernelContent) : Type 0 where
   pub agree : PartsAgree k
   pub together : HoldTogether k.space k.buddy k.slabs
 
 -- The bytes of tenant t from a place on, all inside one live page block or one live object, are these now, and nothing else
 -- has changed.
-pub record Stores (k : Parts) (t place : ℕ) (bytes : List ℕ) (k' : Parts) : Type 0 where
+pub record Stores (k : KernelContent) (t place : ℕ) (bytes : List ℕ) (k' : KernelContent) : Type 0 where
   pub tenant : t < k.tenants
   pub reach : IsInReach k.space k.buddy k.slabs t place (length bytes)
   pub is : k' ≡ record k { space = stored t place bytes k.space }
 
 -- tenant t has this byte at a place inside a live page block or a live object
-pub record Loads (k : Parts) (t place byte : ℕ) : Type 0 where
+pub record Loads (k : KernelContent) (t place byte : ℕ) : Type 0 where
   pub tenant : t < k.tenants
   pub reach : IsInReach k.space k.buddy k.slabs t place 1
   pub is : byte_at k.space t place ≡ Some byte
 
 -- a store is the step of the write of these bytes, however many, and leaves a kernel
 abbrev pub StoresAreWrites : Type 0
-StoresAreWrites = (k k' : Parts) (t place : ℕ) (bytes : List ℕ) → IsKernel k → Stores k t place bytes k' →
+StoresAreWrites = (k k' : KernelContent) (t place : ℕ) (bytes : List ℕ) → IsKernel k → Stores k t place bytes k' →
     IsKernel k'
     × Steps k (Tenant t (Write place (record { items = bytes }))) k'
     (record { addressee = To.Tenant t; body = Written (length bytes) })
 
 -- what is loaded is the byte of the private machine
 abbrev pub LoadsAreOwn : Type 0
-LoadsAreOwn = (k : Parts) (w : World) (m : Machine) (t place byte : ℕ) → IsKernel k → Shows k w →
+LoadsAreOwn = (k : KernelContent) (w : World) (m : Machine) (t place byte : ℕ) → IsKernel k → Shows k w →
     slice_get w.machines t ≡ Some m → Loads k t place byte → m.bytes place ≡ Some byte

@@ -1,18 +1,16 @@
-//! The kernel: the memory of the machine with its pool, the buddy systems of all tenants over it, and their caches.
+//! The kernel, and how it is run: events, requests, the administrator's commands.
 
-ghost use Rattle.std.specs.Prelude.{◌≡◌, ◌≢◌, ◌↔◌, ℕ, ◌+◌, ◌*◌, ◌^◌, ◌<◌, ◌≤◌, length, IfOk, IfSome, IsSome, true, false};
-ghost use Rattle.model_core.specs.Machine.{Machine};
-ghost use Rattle.model_core.specs.declared.limits.TheConstants.{FRAME_BYTES};
+ghost use Rattle.std.specs.Prelude.{◌≡◌, ◌↔◌, ℕ, ◌<◌, ◌≤◌, IfOk, IfSome, true, false};
+ghost use Rattle.model_core.specs.declared.limits.TheConstants.{MOST_ORDER, MOST_SUPERBLOCKS, MOST_TENANTS};
 ghost use Rattle.words_core.specs.declared.event.Command.TheVariants as Command;
 ghost use Rattle.world_core.specs.Limits.{cache_limit};
 ghost use Rattle.world_core.specs.World.{World, opening_world, world_step};
 
 use buddy_core::Buddy;
 use model_core::config::Config;
-use parts_core::{FrameKind, Parts};
 use slab_core::Slabs;
 use space_core::Space;
-use std::alloc::Global;
+use std::alloc::{AllocError, Global};
 use std::marker::Model;
 use thiserror::Error;
 use words_core::{Addressee, AdminCommand, Answer, Body, Event, Refusal, Reply, Request};
@@ -28,38 +26,42 @@ pub enum BootError {
     Memory,
 }
 
-/// A machine shared by tenants: its parts, run by events.
+/// A machine shared by tenants: its memory with the pool, the buddy systems and the caches of all tenants, run by events.
+///
+/// The memory's mapping and the buddy systems have the same superblock under each slot of each tenant, and each slab is a taken
+/// block of its tenant.
 #[derive(Drop)]
 pub struct Kernel {
-    pub(crate) parts: Parts,
+    pub(crate) space: Space,
+    pub(crate) buddy: Buddy,
+    pub(crate) slabs: Slabs,
 }
 
 impl Model for Kernel {
-    ghost use Rattle.parts_core.specs.Parts.{Parts as Content};
+    ghost use Rattle.machine_changes.specs.Shows.{Agree};
+    ghost use Rattle.kernel_core.specs.Content.{KernelContent, content_of};
 
-    ghost Value = { Content };
+    ghost Value = { KernelContent };
 
-    ghost view = { λ k. k.parts };
+    ghost view = { λ k. content_of k.space k.buddy k.slabs };
+
+    ghost invariant = { λ k. Agree k.space k.buddy k.slabs };
 }
 
 impl Kernel {
-    ghost use Rattle.std.specs.Prelude.{MatchOption, Option, Some, slice_get};
+    ghost use Rattle.std.specs.Prelude.{MatchOption};
     ghost use Rattle.model_core.specs.Booting.{is_bootable};
     ghost use Rattle.world_core.specs.OwnList.{is_refused};
-    ghost use Rattle.parts_core.specs.Parts.{PartsAgree, SameSizes, MarksFollow, opening_parts, superblock_at, superblock_bytes, Keeps};
+    ghost use Rattle.kernel_core.specs.Content.{SameSizes, MarksFollow, opening_content, Keeps};
     ghost use Rattle.space_core.specs.Laws.{SpareStays};
-    ghost use Rattle.parts_core.specs.Frames.{IsFrame};
-    ghost use Rattle.parts_core.specs.Records.{RecordsStand};
-    ghost use Rattle.parts_core.specs.Shows.{ShowsMachine};
+    ghost use Rattle.kernel_core.specs.Records.{RecordsStand};
     ghost use Rattle.kernel_core.specs.Shows.{Shows};
     ghost use Rattle.kernel_core.specs.Steps.{is_named, HasPattern, Steps};
     ghost use Rattle.words_core.specs.Requests.{command_of, reply_to, HasFewBytes, IsAskable, asks_bytes, tells_bytes};
     ghost use Rattle.words_core.specs.declared.event.AdminCommand.TheVariants as AdminCommand;
     ghost use Rattle.words_core.specs.declared.reply.Addressee.TheVariants.{Admin};
-    ghost use Rattle.kernel_core.specs.Asking.{RestsAsked, RestsAskedKnown};
+    ghost use Rattle.kernel_core.specs.Asking.{RestsAsked, RestsAskedKnown, RestsStepped};
     ghost use Rattle.std.specs.Borrow.{sem};
-    ghost use Rattle.space_core.specs.Content.{mark_at, owner_at};
-    ghost use Rattle.model_core.specs.Owners.{owned_by};
 
     /// A machine of these sizes: all its memory is zero, and no superblock has an owner.
     ///
@@ -67,7 +69,7 @@ impl Kernel {
     /// refused. No later call takes memory.
     pub fn boot(alloc: Global, config: Config) -> Result<Kernel, BootError>
         ensures config { (result ≡ Err BootError.BadConfig) ↔ (is_bootable config ≡ false) }
-        ensures parts { IfOk result (λ k. k ≡ opening_parts config.order config.superblocks config.tenants) }
+        ensures parts { IfOk result (λ k. k ≡ opening_content config.order config.superblocks config.tenants) }
         ensures shows { IfOk result (λ k. Shows k (opening_world config.superblocks config.tenants)) }
     {
         if !config.is_bootable() {
@@ -76,11 +78,28 @@ impl Kernel {
         let order = config.order as u8;
         let superblocks = config.superblocks as u16;
         let tenants = config.tenants as u8;
-        let Ok(parts) = Parts::new(alloc, order, superblocks, tenants) else {
+        let Ok(kernel) = Kernel::new(alloc, order, superblocks, tenants) else {
             return Err(BootError::Memory);
         };
-        parts.laws();
-        Ok(Kernel { parts })
+        kernel.laws();
+        Ok(kernel)
+    }
+
+    /// Boots with sizes within the limits.
+    fn new(alloc: Global, order: u8, superblocks: u16, tenants: u8) -> Result<Kernel, AllocError>
+        requires order { order ≤ MOST_ORDER }
+        requires superblocks { superblocks ≤ MOST_SUPERBLOCKS }
+        requires tenants { tenants ≤ MOST_TENANTS }
+        ensures { IfOk result (λ k. k ≡ opening_content order superblocks tenants) }
+    {
+        let space = Space::new(alloc, order, superblocks, tenants)?;
+        let buddy = Buddy::new(alloc, order, superblocks, tenants)?;
+        let slabs = Slabs::new(alloc, order, superblocks, tenants)?;
+        Ok(Kernel {
+            space,
+            buddy,
+            slabs,
+        })
     }
 
     /// Runs one event and returns the reply. A refused event changes nothing.
@@ -167,7 +186,7 @@ impl Kernel {
         ensures few { IfSome result (λ answer. HasFewBytes answer) }
         ensures bytes { IfSome result (λ answer. tells_bytes answer ≡ false) }
     {
-        let answer = match command {
+        let result = match command {
             AdminCommand::Grant { tenant } => self.grant(*tenant),
             AdminCommand::TakeBack { tenant, slot } => self.take_back(*tenant, *slot),
             AdminCommand::Reset { tenant } => self.reset(*tenant),
@@ -175,7 +194,10 @@ impl Kernel {
             AdminCommand::Pool => return None,
         };
         self.parts_agree();
-        Some(answer)
+        Some(match result {
+            Ok(answer) => answer,
+            Err(refusal) => Answer::Refused(refusal),
+        })
     }
 
     /// Runs a command of a tenant but for the report: [`Kernel::step`] of that event, with an answer to the tenant in few bytes. The
@@ -190,10 +212,7 @@ impl Kernel {
         // Bytes are told to a read alone.
         ensures bytes { IfSome result (λ answer. asks_bytes request.entry ≡ false → tells_bytes answer.1 ≡ false) }
     {
-        if tenant >= u32::from(self.parts.tenants()) {
-            return None;
-        }
-        let t = tenant as u8;
+        let t = self.tenant(tenant)?;
         Some((t, self.ask_known(t, request)))
     }
 
@@ -208,6 +227,60 @@ impl Kernel {
     {
         self.parts_agree();
         self.run(t, request)
+    }
+
+    /// Runs a command of a tenant that there is.
+    #[inline(always)]
+    pub(crate) fn run(&mut self, t: u8, request: Request<'_>) -> Answer<'_>
+        requires tenant { t < self.old.tenants }
+        requires askable { IsAskable request }
+        ensures* steps { sem 𝓛 (RestsStepped self.entry t request.entry result) }
+        ensures few { HasFewBytes result }
+        ensures bytes { asks_bytes request.entry ≡ false → tells_bytes result ≡ false }
+    {
+        let answer = match request {
+            Request::Alloc { order } => match self.alloc(t, order) {
+                Ok(frame) => Answer::Frame(frame),
+                Err(refusal) => Answer::Refused(refusal),
+            },
+            Request::Free { frame } => match self.free(t, frame) {
+                Ok(order) => Answer::Freed(order),
+                Err(refusal) => Answer::Refused(refusal),
+            },
+            Request::Read { place, len } => {
+                return match self.read(t, place, len) {
+                    Ok(bytes) => Answer::Bytes(bytes),
+                    Err(refusal) => Answer::Refused(refusal),
+                };
+            }
+            Request::Write { place, bytes } => match self.write(t, place, bytes) {
+                Ok(count) => Answer::Written(count),
+                Err(refusal) => Answer::Refused(refusal),
+            },
+            Request::Cache {
+                size,
+                align,
+                pattern,
+            } => match self.make_cache(t, size, align, pattern) {
+                Ok(answer) => answer,
+                Err(refusal) => Answer::Refused(refusal),
+            },
+            Request::Destroy { cache } => match self.destroy(t, cache) {
+                Ok(frames) => Answer::Destroyed(frames),
+                Err(refusal) => Answer::Refused(refusal),
+            },
+            Request::Take { cache } => match self.take(t, cache) {
+                Ok(place) => Answer::Object(place),
+                Err(refusal) => Answer::Refused(refusal),
+            },
+            Request::Give { cache, place } => match self.give(t, cache, place) {
+                Ok(()) => Answer::Given,
+                Err(refusal) => Answer::Refused(refusal),
+            },
+            Request::Reap => Answer::Reaped(self.reap(t)),
+        };
+        self.parts_agree();
+        answer
     }
 
     /// Tells the figures of a tenant, be there such a tenant or not: [`Kernel::step`] of the event that asks for a report.
@@ -226,116 +299,5 @@ impl Kernel {
             addressee: Addressee::Tenant(t),
             body: Body::Report(self.figures(t)),
         }
-    }
-
-    /// The tenant of this number, if there is one.
-    #[inline(always)]
-    pub fn tenant(&self, tenant: u32) -> Option<u8>
-        ensures { MatchOption result (self.now.tenants ≤ tenant) (λ t. (t ≡ tenant) × (t < self.now.tenants)) }
-    {
-        if tenant >= u32::from(self.parts.tenants()) {
-            return None;
-        }
-        Some(tenant as u8)
-    }
-
-    /// The superblock under slot `slot` of tenant `t`: the one that has both as its owner.
-    pub fn superblock_of(&self, t: u8, slot: u32) -> Option<u16>
-        ensures value { result ≡ superblock_at self.now t slot }
-        ensures owner { (m : ℕ) → (result ≡ Some m) ↔ (owner_at self.now.space.owners m ≡ Some (owned_by t slot)) }
-    {
-        self.parts.superblock_of(t, slot)
-    }
-
-    /// What frame `frame` of tenant `t` is.
-    pub fn frame_at(&self, t: u8, frame: u32) -> FrameKind
-        requires { t < self.now.tenants }
-        ensures { (m : Machine) → ShowsMachine self.now t m → IsFrame self.now.order m frame result }
-    {
-        self.parts.frame_at(t, frame)
-    }
-
-    /// What the frames of a slot of tenant `t` are, from its first one on, as many as there are cells: [`Kernel::frame_at`] of each, a
-    /// block at a time. Cells behind those of the slot may be set to anything.
-    pub fn show_frames(&self, t: u8, slot: u16, cells: &mut [FrameKind])
-        requires { t < self.now.tenants }
-        ensures { (m : Machine) (k : ℕ) (cell : FrameKind) → ShowsMachine self.now t m → k < 2 ^ self.now.order
-            → slice_get cells.new k ≡ Some cell → IsFrame self.now.order m (slot * 2 ^ self.now.order + k) cell }
-    {
-        self.parts.show_frames(t, slot, cells);
-    }
-
-    /// The bytes of superblock `superblock`, `2^order * 4096` of them.
-    pub fn machine_bytes(&self, superblock: u16) -> &[u8]
-        requires { superblock < self.now.superblocks }
-        ensures value { result.now ≡ superblock_bytes self.now superblock }
-        ensures len { length result.now ≡ FRAME_BYTES * 2 ^ self.now.order }
-    {
-        self.parts.machine_bytes(superblock)
-    }
-
-    /// Whether superblock `superblock` keeps bytes of an earlier owner, so that it is set to zero before it is granted.
-    pub fn is_marked(&self, superblock: u16) -> bool
-        requires { superblock < self.now.superblocks }
-        ensures { result ≡ mark_at self.now.space.marks superblock }
-    {
-        self.parts.is_marked(superblock)
-    }
-
-    /// A superblock has `2^order` frames of 4096 bytes.
-    pub fn order(&self) -> u32
-        ensures { result ≡ self.now.order }
-    {
-        u32::from(self.parts.order())
-    }
-
-    /// How many superblocks the machine has.
-    pub fn superblocks(&self) -> u32
-        ensures { result ≡ self.now.superblocks }
-    {
-        u32::from(self.parts.superblocks())
-    }
-
-    /// How many tenants share the machine, numbered from 0.
-    pub fn tenants(&self) -> u32
-        ensures { result ≡ self.now.tenants }
-    {
-        u32::from(self.parts.tenants())
-    }
-
-    /// The memory, with its pool and its mapping.
-    pub fn space(&self) -> &Space
-        ensures { result.now ≡ self.now.space }
-    {
-        self.parts.space()
-    }
-
-    /// The buddy systems: the held slots and the taken blocks of each tenant.
-    pub fn buddy(&self) -> &Buddy
-        ensures { result.now ≡ self.now.buddy }
-    {
-        self.parts.buddy()
-    }
-
-    /// The caches and slabs of all tenants.
-    pub fn slabs(&self) -> &Slabs
-        ensures { result.now ≡ self.now.slabs }
-    {
-        self.parts.slabs()
-    }
-
-    /// A law: what holds between the parts of every kernel. It costs nothing.
-    pub fn parts_agree(&self)
-        ensures { PartsAgree self.now }
-    {
-        self.parts.laws();
-    }
-
-    /// A law of every kernel, so also after [`Kernel::ask`]: in the memory, the last 32 bytes of each slab of small objects are the
-    /// bitmap of its live objects. The call does nothing.
-    pub fn records_stand(&self)
-        ensures { RecordsStand self.now }
-    {
-        self.parts.laws();
     }
 }

@@ -27,7 +27,7 @@ pub fn one_world()
 pub fn is_kernel(kernel: &Kernel)
     ensures { IsKernel kernel.now }
 {
-    kernel.parts.laws();
+    kernel.laws();
 }
 
 /// A change of bytes inside one live page block or one live object of a tenant, and of nothing else, is the step of its `write` of

@@ -23,14 +23,16 @@
 //! `step` asks for a proof that the pattern of a cache has a byte; of other commands it follows from their form.
 #![tactic(auto)]
 
-mod administering;
-mod commands;
+mod caches;
+mod frames;
 mod kernel;
 pub mod laws;
-mod refusals;
+mod lookups;
+mod pages;
 mod reporting;
+mod slots;
 
+pub use frames::FrameKind;
 pub use kernel::{BootError, Kernel};
 pub use model_core::config::Config;
-pub use parts_core::FrameKind;
 pub use reporting::BlockFigures;

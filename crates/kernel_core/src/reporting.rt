@@ -6,7 +6,7 @@ ghost use Rattle.model_core.specs.Reports.{frames_held, frames_taken, free_count
 ghost use Rattle.buddy_core.specs.Content.{holding_of};
 ghost use Rattle.machine_changes.specs.Figures.{HasFigures, AreWithin, frames_below};
 ghost use Rattle.world_core.specs.PrivateStep.{figures_of};
-ghost use Rattle.parts_core.specs.Shows.{ShowsMachine};
+ghost use Rattle.kernel_core.specs.Shows.{ShowsMachine};
 
 use crate::Kernel;
 use arrayvec::ArrayVec;
@@ -45,8 +45,8 @@ impl Kernel {
         ensures live { (m : Machine) → ShowsMachine self.now t m → result.live ≡ frames_taken m }
         ensures orders { (m : Machine) → ShowsMachine self.now t m → result.orders.items ≡ order_rows self.now.order m (self.now.order + 1) }
     {
-        self.parts.laws();
-        let buddy = self.parts.buddy();
+        self.laws();
+        let buddy = self.buddy();
         let blocks = orders_of(buddy, t);
         BlockFigures {
             frames: buddy.slots(t) << buddy.order(),
@@ -60,8 +60,8 @@ impl Kernel {
         requires { t < self.now.tenants }
         ensures { (m : Machine) → ShowsMachine self.now t m → result ≡ figures_of self.now.order m }
     {
-        self.parts.laws();
-        let buddy = self.parts.buddy();
+        self.laws();
+        let buddy = self.buddy();
         let blocks = orders_of(buddy, t);
         let frames = buddy.slots(t) << buddy.order();
         let free = frames - blocks.live;
@@ -74,7 +74,7 @@ impl Kernel {
             top,
             split: split_share(free, top),
             orders: blocks.orders,
-            caches: self.parts.slabs().rows(t),
+            caches: self.slabs().rows(t),
         }
     }
 }

@@ -12,7 +12,7 @@ use Rattle.world_core.specs.World.{World, world_after, history}
 use Rattle.world_core.specs.OwnList.{own_list}
 use Rattle.world_core.specs.Output.{event_in, events_of, with_line_feeds, ended_lines}
 use Rattle.world_core.proofs.Worlds.{world_both}
-use Rattle.parts_core.specs.Parts.{Parts, SameSizes}
+use Rattle.kernel_core.specs.Content.{KernelContent, SameSizes}
 use Rattle.kernel_core.specs.Shows.{Shows}
 use Rattle.ends.specs.declared.feed.Stopped.{Stopped}
 use Rattle.replay_core.specs.declared.pending.Pending.{Pending}
@@ -36,13 +36,13 @@ taken_at_err old new failing text taken rest result failed split appended stoppe
     record { taken = taken; rest = rest; split = split; appended = appended; whole = at_err result rest failed; failed = stopped ∙ sym failed }
 
 -- the line was run, and told to be the tenant's own or not
-abbrev pub IsLineRun : ℕ → List ℕ → Parts → Parts → Bool → Type 0
+abbrev pub IsLineRun : ℕ → List ℕ → KernelContent → KernelContent → Bool → Type 0
 IsLineRun t line before after own = SameSizes before after
     × ((w : World) → Shows before w → Shows after (world_after cache_limit before.order w (event_in (reading_of line))))
     × ((w : World) → Shows before w → own ≡ has_entry (own_list t (history cache_limit before.order w (event_in (reading_of line)))))
 
 -- the same of a line that was read
-pub line_run : (t : ℕ) (line : List ℕ) (before after : Parts) (own : Bool) (reading : Result (Option Event) LineFault) → reading ≡ reading_of line → SameSizes before after
+pub line_run : (t : ℕ) (line : List ℕ) (before after : KernelContent) (own : Bool) (reading : Result (Option Event) LineFault) → reading ≡ reading_of line → SameSizes before after
     → ((w : World) → Shows before w → Shows after (world_after cache_limit before.order w (event_in reading)))
     → ((w : World) → Shows before w → own ≡ has_entry (own_list t (history cache_limit before.order w (event_in reading))))
     → IsLineRun t line before after own
@@ -53,7 +53,7 @@ line_run t line before after own reading is sizes shows told = (
 )
 
 -- a line that is none of the tenant's
-pub not_kept : (t : ℕ) (line : List ℕ) (before after : Parts) (known : Option (List ℕ)) (failing own : Bool)
+pub not_kept : (t : ℕ) (line : List ℕ) (before after : KernelContent) (known : Option (List ℕ)) (failing own : Bool)
     → IsLineRun t line before after own → own ≡ false → failing ≡ false → HasKept t line before after known known failing (Ok tt)
 not_kept t line before after known failing own run is fine = record {
   taken = [];
@@ -71,7 +71,7 @@ abbrev pub IsItIfShort : List ℕ → List ℕ → Type 0
 IsItIfShort text line = length line ≤ 256 → text ≡ line
 
 -- a line of the tenant's, which is held whole
-kept_text : (t : ℕ) (line held : List ℕ) (before after : Parts) (own : Bool) → IsLineRun t line before after own → own ≡ true → IsItIfShort held line
+kept_text : (t : ℕ) (line held : List ℕ) (before after : KernelContent) (own : Bool) → IsLineRun t line before after own → own ≡ true → IsItIfShort held line
     → (w : World) → Shows before w → own_text t cache_limit before.order (line ∷ []) w ≡ held ++ 10 ∷ []
 kept_text t line held before after own run is front w shows =
     let own_line = sym (run.2 w shows) ∙ is in
@@ -79,7 +79,7 @@ kept_text t line held before after own run is front w shows =
     ∙ ap (λ xs. xs ++ 10 ∷ []) (sym (front (own_is_short t cache_limit before.order line w own_line)))
 
 -- the drain failed in its bytes ..
-pub kept_part : (t : ℕ) (line held : List ℕ) (before after : Parts) (old new : Option (List ℕ)) (failing own : Bool) (stopped : Stopped) (result : Result (Unit {0}) Stopped)
+pub kept_part : (t : ℕ) (line held : List ℕ) (before after : KernelContent) (old new : Option (List ℕ)) (failing own : Bool) (stopped : Stopped) (result : Result (Unit {0}) Stopped)
     → IsLineRun t line before after own → own ≡ true → IsItIfShort held line → IsTextTaken old new failing held (Err stopped) → is_err result ≡ true
     → HasKept t line before after old new failing result
 kept_part t line held before after old new failing own stopped result run is front part failed = record {
@@ -95,7 +95,7 @@ kept_part t line held before after old new failing own stopped result run is fro
 }
 
 -- .. or they were taken, and the LF was or was not
-pub kept_whole : (t : ℕ) (line held : List ℕ) (before after : Parts) (old now new : Option (List ℕ)) (failing failing' own : Bool) (result : Result (Unit {0}) Stopped)
+pub kept_whole : (t : ℕ) (line held : List ℕ) (before after : KernelContent) (old now new : Option (List ℕ)) (failing failing' own : Bool) (result : Result (Unit {0}) Stopped)
     → IsLineRun t line before after own → own ≡ true → IsItIfShort held line → IsTextTaken old now failing held (Ok tt) → IsTextTaken now new failing' (10 ∷ []) result
     → HasKept t line before after old new failing' result
 kept_whole t line held before after old now new failing failing' own result run is front whole end =
@@ -122,7 +122,7 @@ world_more order xs line w =
     ap (world_after cache_limit order w) (events_more xs line) ∙ world_both cache_limit order (events_of xs) (event_in (reading_of line)) w
 
 -- the kernel stands after one more line
-ran_more : (t : ℕ) (before now next : Parts) (xs : List (List ℕ)) (line : List ℕ) (old new : Option (List ℕ)) (failing : Bool) (result : Result (Unit {0}) Stopped)
+ran_more : (t : ℕ) (before now next : KernelContent) (xs : List (List ℕ)) (line : List ℕ) (old new : Option (List ℕ)) (failing : Bool) (result : Result (Unit {0}) Stopped)
     → StandsAfter before now xs → HasKept t line now next old new failing result → StandsAfter before next (xs ++ line ∷ [])
 ran_more t before now next xs line old new failing result stands kept = record {
   sizes = record {
@@ -137,7 +137,7 @@ ran_more t before now next xs line old new failing result stands kept = record {
 }
 
 -- what is kept of lines and of one more, of which this was taken
-own_more : (t : ℕ) (before now next : Parts) (xs : List (List ℕ)) (line taken : List ℕ) (old new : Option (List ℕ)) (failing : Bool) (result : Result (Unit {0}) Stopped)
+own_more : (t : ℕ) (before now next : KernelContent) (xs : List (List ℕ)) (line taken : List ℕ) (old new : Option (List ℕ)) (failing : Bool) (result : Result (Unit {0}) Stopped)
     → StandsAfter before now xs → TellsOwn t before xs taken → (kept : HasKept t line now next old new failing result)
     → (w : World) → Shows before w → own_text t cache_limit before.order (xs ++ line ∷ []) w ≡ (taken ++ kept.taken) ++ kept.rest
 own_more t before now next xs line taken old new failing result stands tells kept w shows =
@@ -148,7 +148,7 @@ own_more t before now next xs line taken old new failing result stands tells kep
     ∙ ap (λ more. taken ++ more) (kept.text later (stands.shows w shows))
     ∙ sym (append_assoc taken kept.taken kept.rest)
 
-tells_more : (t : ℕ) (before now next : Parts) (xs : List (List ℕ)) (line taken : List ℕ) (old new : Option (List ℕ)) (failing : Bool)
+tells_more : (t : ℕ) (before now next : KernelContent) (xs : List (List ℕ)) (line taken : List ℕ) (old new : Option (List ℕ)) (failing : Bool)
     → StandsAfter before now xs → TellsOwn t before xs taken → (kept : HasKept t line now next old new failing (Ok tt))
     → TellsOwn t before (xs ++ line ∷ []) (taken ++ kept.taken)
 tells_more t before now next xs line taken old new failing stands tells kept w shows =
@@ -156,7 +156,7 @@ tells_more t before now next xs line taken old new failing stands tells kept w s
     ∙ ap (λ more. (taken ++ kept.taken) ++ more) kept.whole ∙ append-nil _)
 
 -- a beginning of what is kept of some lines is one of what is kept of these and more
-begins_first : (t : ℕ) (before : Parts) (lines xs more : List (List ℕ)) (taken : List ℕ) → lines ≡ xs ++ more → BeginsOwn t before xs taken → BeginsOwn t before lines taken
+begins_first : (t : ℕ) (before : KernelContent) (lines xs more : List (List ℕ)) (taken : List ℕ) → lines ≡ xs ++ more → BeginsOwn t before xs taken → BeginsOwn t before lines taken
 begins_first t before lines xs more taken split begins w shows =
     let first = begins w shows in
     let later : World = world_after cache_limit before.order w (events_of xs) in (
@@ -165,11 +165,11 @@ begins_first t before lines xs more taken split begins w shows =
           ∙ ap (λ text. text ++ own_text t cache_limit before.order more later) first.1 ∙ append_assoc taken first.0 _,
     )
 
-same_sizes : (k : Parts) → SameSizes k k
+same_sizes : (k : KernelContent) → SameSizes k k
 same_sizes k = record { order = refl; superblocks = refl; tenants = refl }
 
 -- before the first pull
-pub stands_first : (t : ℕ) (k : Parts) (known : Option (List ℕ)) (pending : Pending) → HoldsLine [] pending → StandsOwn t k k [] [] known known pending
+pub stands_first : (t : ℕ) (k : KernelContent) (known : Option (List ℕ)) (pending : Pending) → HoldsLine [] pending → StandsOwn t k k [] [] known known pending
 stands_first t k known pending holds = record {
   done = [];
   tail = [];
@@ -184,7 +184,7 @@ stands_first t k known pending holds = record {
 }
 
 -- the drain has sent what it had taken
-pub stands_sent : (t : ℕ) (before now : Parts) (given rest : List ℕ) (start old new : Option (List ℕ)) (pending : Pending)
+pub stands_sent : (t : ℕ) (before now : KernelContent) (given rest : List ℕ) (start old new : Option (List ℕ)) (pending : Pending)
     → StandsOwn t before now given rest start old pending → Keeps old new → StandsOwn t before now given rest start new pending
 stands_sent t before now given rest start old new pending stands kept = record {
   done = stands.done;
@@ -200,7 +200,7 @@ stands_sent t before now given rest start old new pending stands kept = record {
 }
 
 -- a pull gave more
-pub stands_given : (t : ℕ) (before now : Parts) (given more : List ℕ) (start contents : Option (List ℕ)) (pending : Pending)
+pub stands_given : (t : ℕ) (before now : KernelContent) (given more : List ℕ) (start contents : Option (List ℕ)) (pending : Pending)
     → StandsOwn t before now given [] start contents pending → StandsOwn t before now (given ++ more) more start contents pending
 stands_given t before now given more start contents pending stands = record {
   done = stands.done;
@@ -227,7 +227,7 @@ split_more done tail given rest part after split cut =
     ∙ sym (with_line_feeds_append done (tail ++ part)))
 
 -- the line that ends with `part` is done
-pub stands_more : (t : ℕ) (before now next : Parts) (given rest part after : List ℕ) (start old new : Option (List ℕ)) (failing : Bool) (pending pending' : Pending)
+pub stands_more : (t : ℕ) (before now next : KernelContent) (given rest part after : List ℕ) (start old new : Option (List ℕ)) (failing : Bool) (pending pending' : Pending)
     → (stands : StandsOwn t before now given rest start old pending) → IsOneLine part → rest ≡ (part ++ 10 ∷ []) ++ after → HoldsLine [] pending'
     → HasKept t (stands.tail ++ part) now next old new failing (Ok tt)
     → StandsOwn t before next given after start new pending'
@@ -245,7 +245,7 @@ stands_more t before now next given rest part after start old new failing pendin
 }
 
 -- the drain failed in it
-pub stopped_within : (t : ℕ) (before now next : Parts) (given rest part after : List ℕ) (start old new : Option (List ℕ)) (failing : Bool) (pending : Pending) (result : Result (Unit {0}) Stopped)
+pub stopped_within : (t : ℕ) (before now next : KernelContent) (given rest part after : List ℕ) (start old new : Option (List ℕ)) (failing : Bool) (pending : Pending) (result : Result (Unit {0}) Stopped)
     → (stands : StandsOwn t before now given rest start old pending) → IsOneLine part → rest ≡ (part ++ 10 ∷ []) ++ after
     → HasKept t (stands.tail ++ part) now next old new failing result
     → HasStoppedOwn t before given start new
@@ -260,7 +260,7 @@ stopped_within t before now next given rest part after start old new failing pen
     }
 
 -- what is left of a piece is held
-pub stands_held : (t : ℕ) (before now : Parts) (given rest : List ℕ) (start contents : Option (List ℕ)) (pending pending' : Pending)
+pub stands_held : (t : ℕ) (before now : KernelContent) (given rest : List ℕ) (start contents : Option (List ℕ)) (pending pending' : Pending)
     → (stands : StandsOwn t before now given rest start contents pending) → IsOneLine rest → HoldsLine (stands.tail ++ rest) pending'
     → StandsOwn t before now given [] start contents pending'
 stands_held t before now given rest start contents pending pending' stands one holds = record {
@@ -277,7 +277,7 @@ stands_held t before now given rest start contents pending pending' stands one h
 }
 
 -- all that ended has been kept
-pub ended_are_kept : (t : ℕ) (before now : Parts) (given : List ℕ) (start contents : Option (List ℕ)) (pending : Pending)
+pub ended_are_kept : (t : ℕ) (before now : KernelContent) (given : List ℕ) (start contents : Option (List ℕ)) (pending : Pending)
     → (stands : StandsOwn t before now given [] start contents pending) → StandsAfter before now (ended_lines given) × TellsOwn t before (ended_lines given) stands.taken
 ended_are_kept t before now given start contents pending stands =
     subst (λ lines. StandsAfter before now lines × TellsOwn t before lines stands.taken)
@@ -286,7 +286,7 @@ ended_are_kept t before now given start contents pending stands =
     (stands.ran, stands.tells)
 
 -- all has been kept, where nothing is held
-pub all_are_kept : (t : ℕ) (before now : Parts) (given : List ℕ) (start contents : Option (List ℕ)) (pending : Pending)
+pub all_are_kept : (t : ℕ) (before now : KernelContent) (given : List ℕ) (start contents : Option (List ℕ)) (pending : Pending)
     → (stands : StandsOwn t before now given [] start contents pending) → length stands.tail ≡ 0
     → StandsAfter before now (lines_of_trace given) × TellsOwn t before (lines_of_trace given) stands.taken
 all_are_kept t before now given start contents pending stands none =
@@ -295,14 +295,14 @@ all_are_kept t before now given start contents pending stands none =
     ∙ ap (λ tail. stands.done ++ lines_of_trace tail) (nil_from_length stands.tail none) ∙ append-nil stands.done))
     (stands.ran, stands.tells)
 
-last_cut : (t : ℕ) (before now : Parts) (given : List ℕ) (start contents : Option (List ℕ)) (pending : Pending)
+last_cut : (t : ℕ) (before now : KernelContent) (given : List ℕ) (start contents : Option (List ℕ)) (pending : Pending)
     → (stands : StandsOwn t before now given [] start contents pending) → 0 < length stands.tail → lines_of_trace given ≡ stands.done ++ stands.tail ∷ []
 last_cut t before now given start contents pending stands some =
     ap lines_of_trace (stands.split ∙ append-nil _) ∙ lines_cut stands.done stands.tail stands.ended
     ∙ ap (λ more. stands.done ++ more) (one_line_cut stands.tail stands.unended some)
 
 -- what is held is the last line
-pub last_is_kept : (t : ℕ) (before now next : Parts) (given : List ℕ) (start old new : Option (List ℕ)) (failing : Bool) (pending : Pending)
+pub last_is_kept : (t : ℕ) (before now next : KernelContent) (given : List ℕ) (start old new : Option (List ℕ)) (failing : Bool) (pending : Pending)
     → (stands : StandsOwn t before now given [] start old pending) → 0 < length stands.tail → HasKept t stands.tail now next old new failing (Ok tt)
     → (taken : List ℕ) × Appends start new taken × StandsAfter before next (lines_of_trace given) × TellsOwn t before (lines_of_trace given) taken
 last_is_kept t before now next given start old new failing pending stands some kept =
@@ -314,7 +314,7 @@ last_is_kept t before now next given start old new failing pending stands some k
     (stands.taken ++ kept.taken, appends_more start old new stands.taken kept.taken stands.appended kept.appended, all.0, all.1)
 
 -- the drain failed in the last line
-pub stopped_at_last : (t : ℕ) (before now next : Parts) (given : List ℕ) (start old new : Option (List ℕ)) (failing : Bool) (pending : Pending) (result : Result (Unit {0}) Stopped)
+pub stopped_at_last : (t : ℕ) (before now next : KernelContent) (given : List ℕ) (start old new : Option (List ℕ)) (failing : Bool) (pending : Pending) (result : Result (Unit {0}) Stopped)
     → (stands : StandsOwn t before now given [] start old pending) → 0 < length stands.tail → HasKept t stands.tail now next old new failing result
     → (taken : List ℕ) × Appends start new taken × BeginsOwn t before (lines_of_trace given) taken
 stopped_at_last t before now next given start old new failing pending result stands some kept = (

@@ -2,7 +2,7 @@
 use Rattle.std.proofs.Common.{◌≡◌, ℕ, ◌+◌, ◌-◌, ◌<◌, ◌≤◌, Bool, List, [], ◌∷◌, ◌++◌, Option, Result, Ok, length, take, drop, ap, sym, subst, ◌∙◌, arith, length-append, length-take, length-drop}
 use Rattle.std.proofs.lemmas.List.{take_at}
 use Rattle.words_core.specs.declared.event.Command.{Command}
-use Rattle.parts_core.specs.Parts.{Parts}
+use Rattle.kernel_core.specs.Content.{KernelContent}
 use Rattle.quick_core.specs.Lines.{ReadsAs}
 use Rattle.ends.specs.declared.feed.Stopped.{Stopped}
 use Rattle.replay_core.specs.declared.pending.Pending.{Pending}
@@ -16,7 +16,7 @@ one_more : (bytes : List ℕ) (len : ℕ) → 0 < len → drop (len - 1 + 1) byt
 one_more bytes len some = ap (λ n. drop n bytes) (omega arith)
 
 -- a line at the front of the rest has been run and kept
-pub line_done : (t : ℕ) (before now next : Parts) (given rest : List ℕ) (start old new : Option (List ℕ)) (failing : Bool) (pending : Pending)
+pub line_done : (t : ℕ) (before now next : KernelContent) (given rest : List ℕ) (start old new : Option (List ℕ)) (failing : Bool) (pending : Pending)
     (tenant : ℕ) (command : Command) (len : ℕ) → ReadsAs rest tenant command len → HoldsNothing pending
     → StandsOwn t before now given rest start old pending
     → HasKept t (take (len - 1) rest) now next old new failing (Ok tt)
@@ -31,7 +31,7 @@ line_done t before now next given rest start old new failing pending tenant comm
     (subst (λ (tail : List ℕ). HasKept t (tail ++ take end rest) now next old new failing (Ok tt)) (sym none) kept))
 
 -- the drain failed within it
-pub line_stopped : (t : ℕ) (before now next : Parts) (given rest : List ℕ) (start old new : Option (List ℕ)) (failing : Bool) (pending : Pending) (result : Result (Unit {0}) Stopped)
+pub line_stopped : (t : ℕ) (before now next : KernelContent) (given rest : List ℕ) (start old new : Option (List ℕ)) (failing : Bool) (pending : Pending) (result : Result (Unit {0}) Stopped)
     (tenant : ℕ) (command : Command) (len : ℕ) → ReadsAs rest tenant command len → HoldsNothing pending
     → StandsOwn t before now given rest start old pending
     → HasKept t (take (len - 1) rest) now next old new failing result

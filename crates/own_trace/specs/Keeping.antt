@@ -3,7 +3,7 @@ use Rattle.std.specs.Prelude.{◌≡◌, ℕ, Bool, true, false, List, [], ◌�
 use Rattle.std.specs.Io.KnownBytes.{Appends}
 use Rattle.words_core.specs.Cutting.{lines_of_trace}
 use Rattle.words_core.specs.Grammar.{reading_of}
-use Rattle.parts_core.specs.Parts.{Parts, SameSizes}
+use Rattle.kernel_core.specs.Content.{KernelContent, SameSizes}
 use Rattle.kernel_core.specs.Shows.{Shows}
 use Rattle.world_core.specs.Limits.{cache_limit}
 use Rattle.world_core.specs.World.{World, world_after}
@@ -18,15 +18,15 @@ use Rattle.own_trace.specs.declared.keeping.KeepError.TheVariants as Of
 use Rattle.own_trace.specs.Kept.{own_text}
 
 -- Of these lines, run from the world that the kernel showed, this is the text of the tenant's own list ..
-abbrev pub TellsOwn : ℕ → Parts → List (List ℕ) → List ℕ → Type 0
+abbrev pub TellsOwn : ℕ → KernelContent → List (List ℕ) → List ℕ → Type 0
 TellsOwn t before lines taken = (w : World) → Shows before w → taken ≡ own_text t cache_limit before.order lines w
 
 -- .. or a beginning of it.
-abbrev pub BeginsOwn : ℕ → Parts → List (List ℕ) → List ℕ → Type 0
+abbrev pub BeginsOwn : ℕ → KernelContent → List (List ℕ) → List ℕ → Type 0
 BeginsOwn t before lines taken = (w : World) → Shows before w → (rest : List ℕ) × (own_text t cache_limit before.order lines w ≡ taken ++ rest)
 
 -- what was given, what was taken, the kernel and the answer
-abbrev pub KeepsOwn : Bool → ℕ → Parts → Parts → List ℕ → List ℕ → Result (Unit {0}) KeepError → Type 0
+abbrev pub KeepsOwn : Bool → ℕ → KernelContent → KernelContent → List ℕ → List ℕ → Result (Unit {0}) KeepError → Type 0
 KeepsOwn ended t before after given taken (Ok done) =
     StandsAfter before after (lines_of_trace given) × TellsOwn t before (lines_of_trace given) taken
 KeepsOwn ended t before after given taken (Err Of.Feed) =
@@ -58,7 +58,7 @@ pub record IsTextTaken (old new : Option (List ℕ)) (failing : Bool) (text : Li
   pub failed : failing ≡ is_err result
 
 -- a line was run, and what it is of the tenant's own list was taken
-pub record HasKept (t : ℕ) (line : List ℕ) (before after : Parts) (old new : Option (List ℕ)) (failing : Bool)
+pub record HasKept (t : ℕ) (line : List ℕ) (before after : KernelContent) (old new : Option (List ℕ)) (failing : Bool)
     (result : Result (Unit {0}) Stopped) : Type 0 where
   pub taken : List ℕ
   pub rest : List ℕ
@@ -70,7 +70,7 @@ pub record HasKept (t : ℕ) (line : List ℕ) (before after : Parts) (old new :
   pub failed : failing ≡ is_err result
 
 -- Of what was given the lines that ended are done, the beginning of the next is held, and the rest is to come.
-pub record StandsOwn (t : ℕ) (before now : Parts) (given rest : List ℕ) (start contents : Option (List ℕ)) (pending : Pending) : Type 0 where
+pub record StandsOwn (t : ℕ) (before now : KernelContent) (given rest : List ℕ) (start contents : Option (List ℕ)) (pending : Pending) : Type 0 where
   pub done : List (List ℕ)
   pub tail : List ℕ
   pub taken : List ℕ
@@ -83,7 +83,7 @@ pub record StandsOwn (t : ℕ) (before now : Parts) (given rest : List ℕ) (sta
   pub appended : Appends start contents taken
 
 -- The drain failed in a line that ended.
-pub record HasStoppedOwn (t : ℕ) (before : Parts) (given : List ℕ) (start contents : Option (List ℕ)) : Type 0 where
+pub record HasStoppedOwn (t : ℕ) (before : KernelContent) (given : List ℕ) (start contents : Option (List ℕ)) : Type 0 where
   pub taken : List ℕ
   pub begins : BeginsOwn t before (ended_lines given) taken
   pub appended : Appends start contents taken

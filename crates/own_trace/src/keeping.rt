@@ -3,7 +3,7 @@
 ghost use Rattle.std.specs.Prelude.{◌≡◌, ℕ, ◌+◌, ◌^◌, ◌<◌, ◌≤◌, true, false, List, [], ◌++◌, Option, length, is_err, MatchResult, IfOk, OnOk};
 ghost use Rattle.std.specs.Io.KnownBytes.{Consumes, Appends, IsAtEnd};
 ghost use Rattle.words_core.specs.Grammar.{reading_of};
-ghost use Rattle.parts_core.specs.Parts.{Parts, SameSizes};
+ghost use Rattle.kernel_core.specs.Content.{KernelContent, SameSizes};
 ghost use Rattle.kernel_core.specs.Shows.{Shows};
 ghost use Rattle.world_core.specs.Limits.{cache_limit};
 ghost use Rattle.world_core.specs.World.{World, history, world_after};
@@ -93,7 +93,7 @@ fn keep_piece<D: Drain>(
 ) -> Result<(), Stopped>
     requires fits { length piece.now < 2 ^ 64 }
     requires fine { D.has_failed drain.old ≡ false }
-    ensures kept { (before : Parts) (given : List ℕ) (start : Option (List ℕ))
+    ensures kept { (before : KernelContent) (given : List ℕ) (start : Option (List ℕ))
         → StandsOwn tenant before kernel.old given piece.now start (D.contents drain.old) pending.old
         → MatchResult result
         (λ _. StandsOwn tenant before kernel.new given [] start (D.contents drain.new) pending.new)
@@ -120,7 +120,7 @@ fn begin_piece<'a, D: Drain>(
 ) -> Result<&'a [u8], Stopped>
     requires fits { length piece.now < 2 ^ 64 }
     requires fine { D.has_failed drain.old ≡ false }
-    ensures kept { (before : Parts) (given : List ℕ) (start : Option (List ℕ))
+    ensures kept { (before : KernelContent) (given : List ℕ) (start : Option (List ℕ))
         → StandsOwn tenant before kernel.old given piece.now start (D.contents drain.old) pending.now
         → MatchResult result
         (λ rest. StandsOwn tenant before kernel.new given rest.now start (D.contents drain.new) pending.now)

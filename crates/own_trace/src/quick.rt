@@ -4,7 +4,7 @@ ghost use Rattle.std.specs.Prelude.{◌≡◌, ℕ, ◌^◌, ◌<◌, ◌≤◌,
 ghost use Rattle.words_core.specs.Grammar.{reading_of};
 ghost use Rattle.words_core.specs.Requests.{command_of, IsAskable};
 ghost use Rattle.words_core.specs.declared.event.Event.TheVariants.{Tenant};
-ghost use Rattle.parts_core.specs.Parts.{Parts, SameSizes};
+ghost use Rattle.kernel_core.specs.Content.{KernelContent, SameSizes};
 ghost use Rattle.kernel_core.specs.Shows.{Shows};
 ghost use Rattle.world_core.specs.Limits.{cache_limit};
 ghost use Rattle.world_core.specs.World.{World, history, world_after};
@@ -32,7 +32,7 @@ pub(crate) fn keep_quick_lines<'a, D: Drain>(
 ) -> Result<&'a [u8], Stopped>
     requires fits { length piece.now < 2 ^ 64 }
     requires fine { D.has_failed drain.old ≡ false }
-    ensures kept { (before : Parts) (given : List ℕ) (start : Option (List ℕ)) (pending : Pending)
+    ensures kept { (before : KernelContent) (given : List ℕ) (start : Option (List ℕ)) (pending : Pending)
         → HoldsNothing pending → StandsOwn tenant before kernel.old given piece.now start (D.contents drain.old) pending
         → MatchResult result
         (λ rest. StandsOwn tenant before kernel.new given rest.now start (D.contents drain.new) pending)

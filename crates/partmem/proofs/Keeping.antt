@@ -7,7 +7,7 @@ use Rattle.world_core.specs.Limits.{cache_limit}
 use Rattle.world_core.specs.Output.{ended_lines, events_of}
 use Rattle.world_core.specs.Laws.{EndedLinesStay}
 use Rattle.world_core.specs.World.{World, opening_world, world_after}
-use Rattle.parts_core.specs.Parts.{Parts}
+use Rattle.kernel_core.specs.Content.{KernelContent}
 use Rattle.ends.specs.declared.tally.Tally.{Tally}
 use Rattle.ends.specs.declared.tally.ReplayError.{ReplayError}
 use Rattle.ends.specs.declared.tally.ReplayError.TheVariants as Failed
@@ -79,7 +79,7 @@ own_given kept unsent flushed ended given more done over =
     (given_so_far (as_replayed kept) unsent flushed ended given more (same_done kept ended done) over)
 
 -- in the kernel's words and in the machine's
-at_order : (m : Machine) (t : ℕ) (k : Parts) (lines : List (List ℕ)) → IsNew m k
+at_order : (m : Machine) (t : ℕ) (k : KernelContent) (lines : List (List ℕ)) → IsNew m k
     → own_text t cache_limit k.order lines (opening_world m.config.superblocks m.config.tenants) ≡ own_of m.config t lines
 at_order m t k lines new =
     ap (λ order. own_text t cache_limit order lines (opening_world m.config.superblocks m.config.tenants)) new.order
@@ -94,11 +94,11 @@ goes_on m t lines xs more taken split (rest, whole) =
       ap (own_of m.config t) split ∙ own_both t cache_limit m.config.order xs more w ∙ ap (λ text. text ++ later) whole ∙ append_assoc taken rest later,
     )
 
-whole_begins : (m : Machine) (t : ℕ) (k : Parts) (lines : List (List ℕ)) (taken : List ℕ) → IsNew m k
+whole_begins : (m : Machine) (t : ℕ) (k : KernelContent) (lines : List (List ℕ)) (taken : List ℕ) → IsNew m k
     → taken ≡ own_text t cache_limit k.order lines (opening_world m.config.superblocks m.config.tenants) → IsBeginning taken (own_of m.config t lines)
 whole_begins m t k lines taken new is = ([], sym (at_order m t k lines new) ∙ sym is ∙ sym (append-nil taken))
 
-part_begins : (m : Machine) (t : ℕ) (k : Parts) (lines : List (List ℕ)) (taken : List ℕ) → IsNew m k → BeginsOwn t k lines taken → IsBeginning taken (own_of m.config t lines)
+part_begins : (m : Machine) (t : ℕ) (k : KernelContent) (lines : List (List ℕ)) (taken : List ℕ) → IsNew m k → BeginsOwn t k lines taken → IsBeginning taken (own_of m.config t lines)
 part_begins m t k lines taken new begins =
     let part = begins _ new.shows in
     (part.0, sym (at_order m t k lines new) ∙ part.1)
@@ -117,7 +117,7 @@ cut_begins stays m t ended given more taken lines (inr (is_over, all)) begins ov
     all_came m t given more taken (over is_over) (subst (λ xs. IsBeginning taken (own_of m.config t xs)) (sym all) begins)
 
 -- Whatever the keeping answered, a trace goes on from what was given, unless the feed has ended.
-own_begins : EndedLinesStay → (m : Machine) (t : ℕ) (k k' : Parts) (ended : Bool) (given more taken : List ℕ) (kept : Result (Unit {0}) KeepError) → IsNew m k
+own_begins : EndedLinesStay → (m : Machine) (t : ℕ) (k k' : KernelContent) (ended : Bool) (given more taken : List ℕ) (kept : Result (Unit {0}) KeepError) → IsNew m k
     → KeepsOwn ended t k k' given taken kept → IsKeptToEnd kept ended → (ended ≡ true → more ≡ [])
     → IsBeginning taken (own_of m.config t (lines_of_trace (given ++ more)))
 own_begins stays m t k k' ended given more taken (Ok _) new ran done over =
@@ -129,14 +129,14 @@ own_begins stays m t k k' ended given more taken (Err Kept.Drain) new ran done o
     cut_begins stays m t ended given more taken ran.0 ran.1 (part_begins m t k ran.0 taken new ran.2) over
 
 -- where it could not be written, that is what was given
-own_unwritten : EndedLinesStay → (m : Machine) (t : ℕ) (k k' : Parts) (ended : Bool) (given taken : List ℕ) (kept : Result (Unit {0}) KeepError) → IsNew m k
+own_unwritten : EndedLinesStay → (m : Machine) (t : ℕ) (k k' : KernelContent) (ended : Bool) (given taken : List ℕ) (kept : Result (Unit {0}) KeepError) → IsNew m k
     → KeepsOwn ended t k k' given taken kept → IsKeptToEnd kept ended → WritesOwn m.config t Unwritable given taken
 own_unwritten stays m t k k' ended given taken kept new ran done =
     subst (λ trace. IsBeginning taken (own_of m.config t (lines_of_trace trace))) (append-nil given)
     (own_begins stays m t k k' ended given [] taken kept new ran done (λ _. refl))
 
 -- the outcome of the run
-pub own_written : EndedLinesStay → (m : Machine) (t : ℕ) (k k' : Parts) (ended : Bool) (given taken : List ℕ) (kept : Result (Unit {0}) KeepError) (unsent flushed : Bool)
+pub own_written : EndedLinesStay → (m : Machine) (t : ℕ) (k k' : KernelContent) (ended : Bool) (given taken : List ℕ) (kept : Result (Unit {0}) KeepError) (unsent flushed : Bool)
     → IsNew m k → KeepsOwn ended t k k' given taken kept → IsKeptToEnd kept ended → WritesOwn m.config t (kept_outcome kept unsent flushed) given taken
 own_written stays m t k k' ended given taken (Ok x) unsent true new ran done = ran.1 _ new.shows ∙ at_order m t k (lines_of_trace given) new
 own_written stays m t k k' ended given taken (Ok x) unsent false new ran done = own_unwritten stays m t k k' ended given taken (Ok x) new ran done
@@ -145,7 +145,7 @@ own_written stays m t k k' ended given taken (Err Kept.Feed) false flushed new r
 own_written stays m t k k' ended given taken (Err Kept.Drain) unsent flushed new ran done = own_unwritten stays m t k k' ended given taken (Err Kept.Drain) new ran done
 
 -- what the run was of the trace
-pub own_traced : EndedLinesStay → (m : Machine) (t : ℕ) (k k' : Parts) (ended : Bool) (given taken : List ℕ) (kept : Result (Unit {0}) KeepError) (unsent flushed : Bool)
+pub own_traced : EndedLinesStay → (m : Machine) (t : ℕ) (k k' : KernelContent) (ended : Bool) (given taken : List ℕ) (kept : Result (Unit {0}) KeepError) (unsent flushed : Bool)
     (known left : Option (List ℕ)) → IsNew m k → KeepsOwn ended t k k' given taken kept → IsKeptToEnd kept ended → Consumes known left given → (ended ≡ true → IsAtEnd left)
     → IfSome known (λ trace. IsOwnOfTrace m.config t (kept_outcome kept unsent flushed) trace given taken)
 own_traced stays m t k k' ended given taken kept unsent flushed known left new ran done consumed over =

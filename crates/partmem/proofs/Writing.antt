@@ -8,7 +8,7 @@ use Rattle.model_core.specs.declared.config.Config.{Config}
 use Rattle.world_core.specs.Limits.{cache_limit}
 use Rattle.world_core.specs.Output.{shown_lines, ended_lines, lines_for, with_line_feeds}
 use Rattle.world_core.specs.Laws.{private_lines, ShownStays}
-use Rattle.parts_core.specs.Parts.{Parts, opening_parts}
+use Rattle.kernel_core.specs.Content.{KernelContent, opening_content}
 use Rattle.kernel_core.specs.Shows.{Shows}
 use Rattle.world_core.specs.World.{World, opening_world}
 use Rattle.world_core.proofs.Showing.{shown_first}
@@ -29,22 +29,22 @@ abbrev pub run_outcome : Result Tally ReplayError → (unsent flushed : Bool) �
 run_outcome replayed unsent flushed = after_flush (outcome_of replayed) unsent flushed
 
 -- the kernel shows the machine's opening world
-pub record IsNew (m : Machine) (k : Parts) : Type 0 where
+pub record IsNew (m : Machine) (k : KernelContent) : Type 0 where
   pub order : k.order ≡ m.config.order
   pub shows : Shows k (opening_world m.config.superblocks m.config.tenants)
 
-pub booted : (m : Machine) (k : Parts) → k ≡ opening_parts m.config.order m.config.superblocks m.config.tenants
+pub booted : (m : Machine) (k : KernelContent) → k ≡ opening_content m.config.order m.config.superblocks m.config.tenants
     → Shows k (opening_world m.config.superblocks m.config.tenants) → IsNew m k
-unfolding opening_parts
+unfolding opening_content
 booted m k is shows = record { order = ap (λ parts. parts.order) is; shows = shows }
 
 -- in the kernel's words and in the machine's
-at_order : (m : Machine) (k : Parts) (lines : List (List ℕ)) → IsNew m k
+at_order : (m : Machine) (k : KernelContent) (lines : List (List ℕ)) → IsNew m k
     → shown_lines m.only cache_limit k.order lines (opening_world m.config.superblocks m.config.tenants) ≡ shown_replies m lines
 at_order m k lines new =
     ap (λ order. shown_lines m.only cache_limit order lines (opening_world m.config.superblocks m.config.tenants)) new.order
 
-private_at : (config : Config) (only : Option ℕ) (k : Parts) (given taken : List ℕ) → k.order ≡ config.order
+private_at : (config : Config) (only : Option ℕ) (k : KernelContent) (given taken : List ℕ) → k.order ≡ config.order
     → Shows k (opening_world config.superblocks config.tenants) → HasOwnLines only k given taken → IsPrivate only config given taken
 private_at config None k given taken order shows own = λ t tenant.
     subst (λ o. lines_for t taken ≡ private_lines cache_limit o config.superblocks config.tenants t given) order
@@ -54,7 +54,7 @@ private_at config (Some t) k given taken order shows own = λ tenant.
     (own config.superblocks config.tenants shows tenant)
 
 -- what was taken of lines that were cut short is a beginning of what they show, and further ones after them
-cut_first : (only : Option ℕ) (before after : Parts) (w : World) (lines done : List (List ℕ)) (line : List ℕ) (rest : List (List ℕ)) (taken : List ℕ) (tally : Tally)
+cut_first : (only : Option ℕ) (before after : KernelContent) (w : World) (lines done : List (List ℕ)) (line : List ℕ) (rest : List (List ℕ)) (taken : List ℕ) (tally : Tally)
     → Shows before w → lines ≡ (done ++ line ∷ []) ++ rest → IsCutShort only before after done line taken tally
     → IsBeginning taken (shown_lines only cache_limit before.order lines w)
 cut_first only before after w lines done line rest taken tally shows split cut =
@@ -73,7 +73,7 @@ cut_first only before after w lines done line rest taken tally shows split cut =
     regrouped a b c d = simp append_assoc
 
 -- a beginning of what the ended lines show is one of what any trace shows that goes on from them
-goes_on : ShownStays → (m : Machine) (k : Parts) (given more taken : List ℕ) → IsNew m k
+goes_on : ShownStays → (m : Machine) (k : KernelContent) (given more taken : List ℕ) → IsNew m k
     → IsBeginning taken (shown_lines m.only cache_limit k.order (ended_lines given) (opening_world m.config.superblocks m.config.tenants))
     → IsBeginning taken (shown_replies m (lines_of_trace (given ++ more)))
 goes_on stays m k given more taken new (rest, shown) =
@@ -88,7 +88,7 @@ all_came : (m : Machine) (given more taken : List ℕ) → more ≡ [] → IsBeg
 all_came m given more taken none begins =
     subst (λ trace. IsBeginning taken (shown_replies m (lines_of_trace trace))) (sym (ap (λ bytes. given ++ bytes) none ∙ append-nil given)) begins
 
-cut_begins : ShownStays → (m : Machine) (k k' : Parts) (ended : Bool) (given more taken : List ℕ) (done : List (List ℕ)) (line : List ℕ) (tally : Tally) → IsNew m k
+cut_begins : ShownStays → (m : Machine) (k k' : KernelContent) (ended : Bool) (given more taken : List ℕ) (done : List (List ℕ)) (line : List ℕ) (tally : Tally) → IsNew m k
     → HasCome ended given (done ++ line ∷ []) → IsCutShort m.only k k' done line taken tally → (ended ≡ true → more ≡ [])
     → IsBeginning taken (shown_replies m (lines_of_trace (given ++ more)))
 cut_begins stays m k k' ended given more taken done line tally new (inl (rest, split)) cut over =
@@ -100,7 +100,7 @@ cut_begins stays m k k' ended given more taken done line tally new (inr (is_over
     )
 
 -- Whatever the replay answered, a trace goes on from what was given, unless the feed has ended.
-pub begins : ShownStays → (m : Machine) (k k' : Parts) (ended : Bool) (given more taken : List ℕ) (replayed : Result Tally ReplayError) → IsNew m k
+pub begins : ShownStays → (m : Machine) (k k' : KernelContent) (ended : Bool) (given more taken : List ℕ) (replayed : Result Tally ReplayError) → IsNew m k
     → Replays ended m.only k k' given taken replayed → IsDone replayed ended → (ended ≡ true → more ≡ [])
     → IsBeginning taken (shown_replies m (lines_of_trace (given ++ more)))
 begins stays m k k' ended given more taken (Ok tally) new ran done over =
@@ -112,14 +112,14 @@ begins stays m k k' ended given more taken (Err (Failed.Drain tally)) new ran do
     cut_begins stays m k k' ended given more taken ran.0 ran.1 tally new ran.2 ran.3 over
 
 -- where it could not be written, that is what was given
-pub unwritten : ShownStays → (m : Machine) (k k' : Parts) (ended : Bool) (given taken : List ℕ) (replayed : Result Tally ReplayError) → IsNew m k
+pub unwritten : ShownStays → (m : Machine) (k k' : KernelContent) (ended : Bool) (given taken : List ℕ) (replayed : Result Tally ReplayError) → IsNew m k
     → Replays ended m.only k k' given taken replayed → IsDone replayed ended → Answers m Unwritable given taken
 unwritten stays m k k' ended given taken replayed new ran done =
     subst (λ trace. IsBeginning taken (shown_replies m (lines_of_trace trace))) (append-nil given)
     (begins stays m k k' ended given [] taken replayed new ran done (λ _. refl))
 
 -- the outcome of the run
-pub answers : ShownStays → (m : Machine) (k k' : Parts) (ended : Bool) (given taken : List ℕ) (replayed : Result Tally ReplayError) (unsent flushed : Bool) → IsNew m k
+pub answers : ShownStays → (m : Machine) (k k' : KernelContent) (ended : Bool) (given taken : List ℕ) (replayed : Result Tally ReplayError) (unsent flushed : Bool) → IsNew m k
     → Replays ended m.only k k' given taken replayed → IsDone replayed ended → OnOk replayed (HasOwnLines m.only k given taken)
     → Answers m (run_outcome replayed unsent flushed) given taken
 answers stays m k k' ended given taken (Ok tally) unsent true new ran done own = (
@@ -139,7 +139,7 @@ counted tally lines taken unwritten counts =
     record { lines = counts.lines; events = counts.events; faults = counts.faults; written = ap (λ n. n - unwritten) counts.written ∙ sym size }
 
 -- what the run counted, whatever its outcome
-pub tallied : (only : Option ℕ) (k k' : Parts) (ended : Bool) (given taken : List ℕ) (replayed : Result Tally ReplayError) (unsent flushed : Bool) (unwritten : ℕ)
+pub tallied : (only : Option ℕ) (k k' : KernelContent) (ended : Bool) (given taken : List ℕ) (replayed : Result Tally ReplayError) (unsent flushed : Bool) (unwritten : ℕ)
     → Replays ended only k k' given taken replayed → IsDone replayed ended
     → Tallies (run_outcome replayed unsent flushed) (without_unwritten (tally_of replayed) unwritten) ended given (take (length taken - unwritten) taken)
 tallied only k k' ended given taken (Ok tally) unsent true unwritten ran done = counted _ _ taken unwritten ran.counted
@@ -215,7 +215,7 @@ flushed (Some xs) (Some ys) None bytes appended kept = elim kept [ ]
 flushed (Some xs) (Some ys) (Some zs) bytes appended kept = kept ∙ appended
 
 -- what the run was of the trace, whatever its outcome
-pub traced : ShownStays → (m : Machine) (k k' : Parts) (ended : Bool) (given taken : List ℕ) (replayed : Result Tally ReplayError) (outcome : Outcome) (known left : Option (List ℕ))
+pub traced : ShownStays → (m : Machine) (k k' : KernelContent) (ended : Bool) (given taken : List ℕ) (replayed : Result Tally ReplayError) (outcome : Outcome) (known left : Option (List ℕ))
     → IsNew m k → Replays ended m.only k k' given taken replayed → IsDone replayed ended
     → ((more : List ℕ) → (ended ≡ true → more ≡ []) → IsGiven outcome (given ++ more) given)
     → Consumes known left given → (ended ≡ true → IsAtEnd left)

@@ -3,19 +3,19 @@ use Rattle.std.proofs.Common.{ℕ, List, [], ◌∷◌, ◌++◌, Option, Some, 
 use Rattle.words_core.specs.declared.event.Event as events
 use Rattle.words_core.specs.declared.event.LineFault.{LineFault}
 use Rattle.words_core.specs.Grammar.{reading_of}
-use Rattle.parts_core.specs.Parts.{Parts}
+use Rattle.kernel_core.specs.Content.{KernelContent}
 use Rattle.kernel_core.specs.Stores.{IsKernel}
 use Rattle.kernel_core.specs.Actions.{Action, Runs, AllAct, OwnSights}
 use Rattle.partmem_c.specs.Lines.{AnswersLine}
 use Rattle.partmem_c.specs.Actions.{Done, Line, Event, Direct, Did, AllDid, IsOfReading, IsOf, AreOf, OwnSightsOfCalls}
 
-line_is : (k k' : Parts) (reading : Result (Option events.Event) LineFault) (text : List ℕ) → AnswersLine k reading k' text → IsKernel k'
+line_is : (k k' : KernelContent) (reading : Result (Option events.Event) LineFault) (text : List ℕ) → AnswersLine k reading k' text → IsKernel k'
     → (actions : List Action) × IsOfReading reading text actions × AllAct k actions k'
 line_is k k' (Ok (Some event)) text did is = (Runs event did.0 ∷ [], (did.0, refl, did.2), (k', (did.1, is), refl))
 line_is k k' (Ok None) text did is = ([], (refl, did.1), did.0)
 line_is k k' (Err fault) text did is = ([], (refl, did.1), did.0)
 
-done_is : (k k' : Parts) (done : Done) → Did k done k' → (actions : List Action) × IsOf done actions × AllAct k actions k'
+done_is : (k k' : KernelContent) (done : Done) → Did k done k' → (actions : List Action) × IsOf done actions × AllAct k actions k'
 done_is k k' (Line line text) did = line_is k k' (reading_of line) text did.0 did.1
 done_is k k' (Event a bytes told room room') did =
     let (event, says, answers, is) = did in (
@@ -25,11 +25,11 @@ done_is k k' (Event a bytes told room room') did =
     )
 done_is k k' (Direct action) did = (action ∷ [], refl, (k', did, refl))
 
-both_act : (k m k' : Parts) (xs ys : List Action) → AllAct k xs m → AllAct m ys k' → AllAct k (xs ++ ys) k'
-both_act k m k' [] ys first rest = subst (λ (x : Parts). AllAct x ys k') first rest
+both_act : (k m k' : KernelContent) (xs ys : List Action) → AllAct k xs m → AllAct m ys k' → AllAct k (xs ++ ys) k'
+both_act k m k' [] ys first rest = subst (λ (x : KernelContent). AllAct x ys k') first rest
 both_act k m k' (x ∷ xs) ys first rest = (first.0, first.1, both_act first.0 m k' xs ys first.2 rest)
 
-all_are : (k k' : Parts) (all : List Done) → AllDid k all k' → (actions : List Action) × AreOf all actions × AllAct k actions k'
+all_are : (k k' : KernelContent) (all : List Done) → AllDid k all k' → (actions : List Action) × AreOf all actions × AllAct k actions k'
 all_are k k' [] did = ([], refl, did)
 all_are k k' (done ∷ all) did =
     let first = done_is k did.0 done did.1 in let rest = all_are did.0 k' all did.2 in (

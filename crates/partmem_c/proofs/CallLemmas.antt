@@ -12,7 +12,7 @@ use Rattle.world_core.specs.Output.{event_in, events_of, shown_reading, shown_li
 use Rattle.world_core.specs.Laws as world
 use Rattle.world_core.specs.Laws.{HaveSameOwnList}
 use Rattle.world_core.proofs.Worlds.{world_both, opening_tenants}
-use Rattle.parts_core.specs.Parts.{Parts}
+use Rattle.kernel_core.specs.Content.{KernelContent}
 use Rattle.kernel_core.specs.Shows.{Shows}
 use Rattle.replay_core.specs.Standing.{AreLines}
 use Rattle.replay_core.proofs.LineLemmas.{lines_cut}
@@ -20,12 +20,12 @@ use Rattle.partmem_c.specs.Lines.{AnswersLine}
 use Rattle.partmem_c.specs.Laws.{Call, lines_of_calls, texts_of, Ran, OwnLinesOfCalls, SameLinesOfCalls, StandsAfterCalls}
 
 -- what a line with this reading does to a world, and what it shows of it
-record Follows (k k' : Parts) (reading : Result (Option Event) LineFault) (text : List ℕ) (w : World) : Type 0 where
+record Follows (k k' : KernelContent) (reading : Result (Option Event) LineFault) (text : List ℕ) (w : World) : Type 0 where
   pub order : k'.order ≡ k.order
   pub shows : Shows k' (world_after cache_limit k.order w (event_in reading))
   pub shown : text ≡ shown_reading None cache_limit k.order reading w
 
-follows : (k k' : Parts) (reading : Result (Option Event) LineFault) (text : List ℕ) (w : World) → AnswersLine k reading k' text → Shows k w
+follows : (k k' : KernelContent) (reading : Result (Option Event) LineFault) (text : List ℕ) (w : World) → AnswersLine k reading k' text → Shows k w
     → Follows k k' reading text w
 follows k k' (Ok (Some event)) text w did shows = record {
   order = did.1.sizes.order;
@@ -33,23 +33,23 @@ follows k k' (Ok (Some event)) text w did shows = record {
   shown = did.2 ∙ ap text_of (did.1.answer w shows);
 }
 follows k k' (Ok None) text w did shows = record {
-  order = ap (λ (m : Parts). m.order) did.0;
-  shows = subst (λ (m : Parts). Shows m w) (sym did.0) shows;
+  order = ap (λ (m : KernelContent). m.order) did.0;
+  shows = subst (λ (m : KernelContent). Shows m w) (sym did.0) shows;
   shown = did.1;
 }
 follows k k' (Err fault) text w did shows = record {
-  order = ap (λ (m : Parts). m.order) did.0;
-  shows = subst (λ (m : Parts). Shows m w) (sym did.0) shows;
+  order = ap (λ (m : KernelContent). m.order) did.0;
+  shows = subst (λ (m : KernelContent). Shows m w) (sym did.0) shows;
   shown = did.1;
 }
 
 -- the same of a list of calls
-record AllFollow (k k' : Parts) (calls : List Call) (w : World) : Type 0 where
+record AllFollow (k k' : KernelContent) (calls : List Call) (w : World) : Type 0 where
   pub shows : Shows k' (world_after cache_limit k.order w (events_of (lines_of_calls calls)))
   pub shown : texts_of calls ≡ shown_lines None cache_limit k.order (lines_of_calls calls) w
 
-all_follow : (k k' : Parts) (calls : List Call) (w : World) → Ran k calls k' → Shows k w → AllFollow k k' calls w
-all_follow k k' [] w ran shows = record { shows = subst (λ (m : Parts). Shows m w) (sym ran) shows; shown = refl }
+all_follow : (k k' : KernelContent) (calls : List Call) (w : World) → Ran k calls k' → Shows k w → AllFollow k k' calls w
+all_follow k k' [] w ran shows = record { shows = subst (λ (m : KernelContent). Shows m w) (sym ran) shows; shown = refl }
 all_follow k k' (call ∷ calls) w ran shows =
     let reading = reading_of call.line in
     let one = follows k ran.0 reading call.text w ran.2 shows in
@@ -65,21 +65,21 @@ all_follow k k' (call ∷ calls) w ran shows =
 pub stands_after : StandsAfterCalls
 stands_after k k' calls ran w shows = (all_follow k k' calls w ran shows).shows
 
-are_lines : (k k' : Parts) (calls : List Call) → Ran k calls k' → AreLines (lines_of_calls calls)
+are_lines : (k k' : KernelContent) (calls : List Call) → Ran k calls k' → AreLines (lines_of_calls calls)
 are_lines k k' [] ran = tt
 are_lines k k' (call ∷ calls) ran = (ran.1, are_lines ran.0 k' calls ran.3)
 
 -- the lines are those of their trace
-cut_again : (k k' : Parts) (calls : List Call) → Ran k calls k' → lines_of_trace (with_line_feeds (lines_of_calls calls)) ≡ lines_of_calls calls
+cut_again : (k k' : KernelContent) (calls : List Call) → Ran k calls k' → lines_of_trace (with_line_feeds (lines_of_calls calls)) ≡ lines_of_calls calls
 cut_again k k' calls ran =
     ap lines_of_trace (sym (append-nil (with_line_feeds (lines_of_calls calls)))) ∙ lines_cut (lines_of_calls calls) [] (are_lines k k' calls ran)
     ∙ append-nil (lines_of_calls calls)
 
-few_tenants : (k : Parts) (superblocks tenants : ℕ) → Shows k (opening_world superblocks tenants) → tenants ≤ 64
+few_tenants : (k : KernelContent) (superblocks tenants : ℕ) → Shows k (opening_world superblocks tenants) → tenants ≤ 64
 few_tenants k superblocks tenants shows = omega (arith, shows.tenants, shows.agree.tenants, opening_tenants superblocks tenants)
 
 -- all that was written is the output of the trace
-output_is : (k k' : Parts) (superblocks tenants : ℕ) (calls : List Call) → Shows k (opening_world superblocks tenants) → Ran k calls k'
+output_is : (k k' : KernelContent) (superblocks tenants : ℕ) (calls : List Call) → Shows k (opening_world superblocks tenants) → Ran k calls k'
     → texts_of calls ≡ output_of cache_limit k.order (with_line_feeds (lines_of_calls calls)) (opening_world superblocks tenants)
 unfolding output_of
 output_is k k' superblocks tenants calls shows ran =

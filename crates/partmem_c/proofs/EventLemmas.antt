@@ -1,7 +1,7 @@
 -- An event that is run with the first bytes of a room.
 use Rattle.std.proofs.Common.{◌≡◌, ℕ, ◌≤◌, List, ◌++◌, Option, length, take, drop, sym, ap, ◌∙◌, arith, append_assoc, length-append}
 use Rattle.std.proofs.lemmas.List.{drop-append-le, take-append-drop, length-take-le, length-drop}
-use Rattle.parts_core.specs.Parts.{Parts}
+use Rattle.kernel_core.specs.Content.{KernelContent}
 use Rattle.partmem_c.specs.declared.events.Asked.{Asked}
 use Rattle.partmem_c.specs.declared.telling.Told.{Told}
 use Rattle.partmem_c.specs.Events.{answered_bytes, RunsEvent}
@@ -18,7 +18,7 @@ over_wider n told room first wide same over =
     ∙ ap (drop (length told)) (take-append-drop n room))
 
 -- the rest of the room stays as it was
-pub runs_wider : (n : ℕ) (old new : Option Parts) (a : Asked) (bytes : List ℕ) (told : Told) (room first : List ℕ)
+pub runs_wider : (n : ℕ) (old new : Option KernelContent) (a : Asked) (bytes : List ℕ) (told : Told) (room first : List ℕ)
     → n ≤ length room → length first ≡ length (take n room) → RunsEvent old new a bytes told (take n room) first
     → RunsEvent old new a bytes told room (first ++ drop n room)
 runs_wider n old new a bytes told room first wide same ran = record {

@@ -13,7 +13,7 @@ use denote.RawPtr.{Ptr, block_ptr, null_ptr, ptr_val}
 use denote.Steps.{nothing}
 use denote.Struct.Struct.{within}
 use denote.Struct.Owning.{shape}
-use Rattle.parts_core.specs.Parts.{Parts}
+use Rattle.kernel_core.specs.Content.{KernelContent}
 use Rattle.partmem_c.specs.Slots.{slot_owns}
 use Rattle.partmem_c.specs.contracts.slot.Slot as slot
 
@@ -21,7 +21,7 @@ abbrev pub word : Ptr → Val
 word p = vstruct (vcons (ptr_val p) vnil)
 
 -- which kernel is held, where one is
-pub holds : (held : Option Parts) → is_some held ≡ true → (k : Parts) × (held ≡ Some k)
+pub holds : (held : Option KernelContent) → is_some held ≡ true → (k : KernelContent) × (held ≡ Some k)
 holds (Some k) some = (k, refl)
 holds None some = cc
 
@@ -36,7 +36,7 @@ module _ {M : Type 1} {𝓤 : Ura M} {𝓛 : Logic 𝓤} {K : Type 0} {Γ : List
   slot_out t s vs k = fsplit t $ fpick t (λ vss. fsplit t $ feq_l t (λ whole. fsplit t $ feq_l t (λ part. drop t $
       k (subst (λ (ps : List Val). vs ≡ vstruct (of_list (ps ++ [])) ∷ []) part whole))))
 
-  pub slot_in : K → (p : Ptr) (held : Option Parts)
+  pub slot_in : K → (p : Ptr) (held : Option KernelContent)
       → Step K 𝓛 (‵ (slot.the_row.own_val (record { at = p; held = held }) (word p ∷ [])) ∷ Γ) G (‵ (slot_owns p held) ∷ Γ) G
   slot_in t p held = step (λ s. nothing t $ feq_i t (List Val) (ptr_val p ∷ []) (ptr_val p ∷ []) refl $ fjoin t $
       feq_i t (List Val) (word p ∷ []) (word p ∷ []) refl $ fjoin t $

@@ -8,7 +8,7 @@ use Rattle.words_core.specs.Grammar.{reading_of}
 use Rattle.words_core.specs.declared.event.Command.{Command}
 use Rattle.words_core.specs.declared.event.Event.TheVariants.{Tenant}
 use Rattle.quick_core.specs.Lines.{ReadsAs}
-use Rattle.parts_core.specs.Parts.{Parts}
+use Rattle.kernel_core.specs.Content.{KernelContent}
 use Rattle.replay_core.specs.Standing.{IsOneLine}
 use Rattle.partmem_c.specs.Lines.{has_line_feed, AnswersLine}
 
@@ -109,12 +109,12 @@ line_reads line rest bytes tenant command len none are read =
     ap reading_of (sym (ap (take (len - 1)) are ∙ ap (λ n. take n (line ++ 10 ∷ rest)) end ∙ take-front line (10 ∷ rest))) ∙ read.reading
 
 -- a line that was read so is answered so
-pub answered_as : (k k' : Parts) (line text : List ℕ) (tenant : ℕ) (command : Command) → reading_of line ≡ Ok (Some (Tenant tenant command))
+pub answered_as : (k k' : KernelContent) (line text : List ℕ) (tenant : ℕ) (command : Command) → reading_of line ≡ Ok (Some (Tenant tenant command))
     → AnswersLine k (Ok (Some (Tenant tenant command))) k' text → AnswersLine k (reading_of line) k' text
 answered_as k k' line text tenant command reads answers = rw reads answers
 
 -- so it is answered as that
-pub line_answered : (k k' : Parts) (line rest bytes text : List ℕ) (tenant : ℕ) (command : Command) (len : ℕ) → has_line_feed line ≡ false
+pub line_answered : (k k' : KernelContent) (line rest bytes text : List ℕ) (tenant : ℕ) (command : Command) (len : ℕ) → has_line_feed line ≡ false
     → bytes ≡ line ++ 10 ∷ rest → ReadsAs bytes tenant command len
     → AnswersLine k (Ok (Some (Tenant tenant command))) k' text → AnswersLine k (reading_of line) k' text
 line_answered k k' line rest bytes text tenant command len none are read answers =

@@ -19,18 +19,18 @@ use Rattle.world_core.specs.PrivateStep.{command_step}
 use Rattle.world_core.specs.World.{World, opening_world, answer, tenant_step, world_step, world_after}
 use Rattle.world_core.specs.Output.{events_of, lines_for}
 use Rattle.world_core.specs.Laws.{HaveSameOwnList, opening_history, private_lines}
-use Rattle.parts_core.specs.Parts.{Parts, opening_parts}
+use Rattle.kernel_core.specs.Content.{KernelContent, opening_content}
 use Rattle.kernel_core.specs.Shows.{Shows}
 use Rattle.kernel_core.specs.Steps.{Steps}
 use Rattle.kernel_core.proofs.Worlds.{steps_answered}
-use Rattle.kernel_core.proofs.OneWorld.{one_world}
+use Rattle.kernel_core.proofs.Worlds.{one_world}
 use Rattle.kernel_core.proofs.Witnesses.{opening_shown}
 use Rattle.replay_core.specs.Standing.{IsOneLine}
 use Rattle.partmem_c.specs.Lines.{AnswersLine}
 use Rattle.partmem_c.specs.Laws.{Call, lines_of_calls, texts_of, Ran, StandsAfterCalls, OwnLinesOfCalls, SameLinesOfCalls}
 
 -- an event that changes nothing in the world that is shown is a step to the same kernel
-stays : (k : Parts) (w : World) (event : Event) (to : Addressee) (body : Body) → Shows k w → world_step cache_limit k.order event w ≡ answer to body w
+stays : (k : KernelContent) (w : World) (event : Event) (to : Addressee) (body : Body) → Shows k w → world_step cache_limit k.order event w ≡ answer to body w
     → Steps k event k (record { addressee = to; body = body })
 stays k w event to body shown same =
     steps_answered k event to body (λ v there. subst (λ x. world_step cache_limit k.order event x ≡ answer to body x) (one_world k w v shown there) same)
@@ -50,14 +50,14 @@ one_line_1 = (refl, (refl, (refl, (refl, (refl, (refl, (refl, (refl, (refl, tt))
 
 -- the machine of 2 superblocks and 3 tenants
 
-abbrev small : Parts
-small = opening_parts 3 2 3
+abbrev small : KernelContent
+small = opening_content 3 2 3
 
 small_shown : Shows small (opening_world 2 3)
 small_shown = opening_shown 2 3 (omega arith) (omega arith)
 
 small_answers : AnswersLine small (reading_of by_0.line) small by_0.text
-unfolding reading_of words_of reading_of_words event_of opening_parts opening_world world_step tenant_step answer command_step alloc_step by_need reaped choice taken_blocks empty_machine digits
+unfolding reading_of words_of reading_of_words event_of opening_content opening_world world_step tenant_step answer command_step alloc_step by_need reaped choice taken_blocks empty_machine digits
 small_answers = (record { addressee = To.Tenant 0; body = Refused NoFrames }, stays small (opening_world 2 3) (Tenant 0 (Alloc 0)) (To.Tenant 0) (Refused NoFrames) small_shown refl, refl)
 
 small_ran : Ran small (by_0 ∷ []) small
@@ -65,18 +65,18 @@ small_ran = (small, one_line_0, small_answers, refl)
 
 -- the machine of 3 superblocks and 4 tenants
 
-abbrev great : Parts
-great = opening_parts 3 3 4
+abbrev great : KernelContent
+great = opening_content 3 3 4
 
 great_shown : Shows great (opening_world 3 4)
 great_shown = opening_shown 3 4 (omega arith) (omega arith)
 
 great_answers_0 : AnswersLine great (reading_of by_0.line) great by_0.text
-unfolding reading_of words_of reading_of_words event_of opening_parts opening_world world_step tenant_step answer command_step alloc_step by_need reaped choice taken_blocks empty_machine digits
+unfolding reading_of words_of reading_of_words event_of opening_content opening_world world_step tenant_step answer command_step alloc_step by_need reaped choice taken_blocks empty_machine digits
 great_answers_0 = (record { addressee = To.Tenant 0; body = Refused NoFrames }, stays great (opening_world 3 4) (Tenant 0 (Alloc 0)) (To.Tenant 0) (Refused NoFrames) great_shown refl, refl)
 
 great_answers_1 : AnswersLine great (reading_of by_1.line) great by_1.text
-unfolding reading_of words_of reading_of_words event_of opening_parts opening_world world_step tenant_step answer command_step alloc_step by_need reaped choice taken_blocks empty_machine digits
+unfolding reading_of words_of reading_of_words event_of opening_content opening_world world_step tenant_step answer command_step alloc_step by_need reaped choice taken_blocks empty_machine digits
 great_answers_1 = (record { addressee = To.Tenant 1; body = Refused NoFrames }, stays great (opening_world 3 4) (Tenant 1 (Alloc 0)) (To.Tenant 1) (Refused NoFrames) great_shown refl, refl)
 
 great_ran : Ran great (by_1 ∷ by_0 ∷ []) great
@@ -84,7 +84,7 @@ great_ran = (great, one_line_1, great_answers_1, (great, one_line_0, great_answe
 
 -- tenant 0's own lists are equal
 equal_lists : HaveSameOwnList cache_limit small.order 2 3 3 4 0 (events_of (lines_of_calls (by_0 ∷ []))) (events_of (lines_of_calls (by_1 ∷ by_0 ∷ [])))
-unfolding reading_of words_of reading_of_words event_of opening_parts opening_history opening_world world_step tenant_step answer command_step
+unfolding reading_of words_of reading_of_words event_of opening_content opening_history opening_world world_step tenant_step answer command_step
 equal_lists = record { tenant = omega arith; tenant' = omega arith; own = refl }
 
 StandsAfterCalls-met : StandsAfterCalls → Shows small (world_after cache_limit small.order (opening_world 2 3) (events_of (codes "0 alloc 0" ∷ [])))
@@ -95,7 +95,7 @@ unfolding digits
 OwnLinesOfCalls-met law = law small small 2 3 0 (by_0 ∷ []) small_shown (omega arith) small_ran
 
 same_order : great.order ≡ small.order
-unfolding opening_parts
+unfolding opening_content
 same_order = refl
 
 SameLinesOfCalls-met : SameLinesOfCalls → lines_for 0 (texts_of (by_0 ∷ [])) ≡ lines_for 0 (texts_of (by_1 ∷ by_0 ∷ []))

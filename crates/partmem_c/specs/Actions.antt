@@ -9,7 +9,7 @@ use Rattle.words_core.specs.declared.reply.Reply.{Reply}
 use Rattle.words_core.specs.Grammar.{reading_of}
 use Rattle.words_core.specs.Texts.{text_of}
 use Rattle.world_core.specs.Limits.{cache_limit}
-use Rattle.parts_core.specs.Parts.{Parts}
+use Rattle.kernel_core.specs.Content.{KernelContent}
 use Rattle.kernel_core.specs.Stores.{IsKernel}
 use Rattle.kernel_core.specs.Actions.{Action, Runs, Acts, AllAct, sights_of, own_actions, own_seen, IsBooted}
 use Rattle.partmem_c.specs.declared.events.Asked.{Asked}
@@ -26,15 +26,15 @@ pub data Done : Type 0 where
   Direct : Action → Done
 
 -- it led from one kernel to another, as the contract of the call says
-abbrev pub Did : Parts → Done → Parts → Type 0
+abbrev pub Did : KernelContent → Done → KernelContent → Type 0
 Did k (Line line text) k' = AnswersLine k (reading_of line) k' text × IsKernel k'
 Did k (Event a bytes told room room') k' =
     (event : events.Event) × (asked_event a bytes ≡ Some event) × AnswersEvent k event k' told room room' × IsKernel k'
 Did k (Direct action) k' = Acts k action k'
 
-abbrev pub AllDid : Parts → List Done → Parts → Type 0
+abbrev pub AllDid : KernelContent → List Done → KernelContent → Type 0
 AllDid k [] k' = k' ≡ k
-AllDid k (done ∷ all) k' = (next : Parts) × Did k done next × AllDid next all k'
+AllDid k (done ∷ all) k' = (next : KernelContent) × Did k done next × AllDid next all k'
 
 -- A line with this reading is the action of its event, and what was written is the reply's text. A line without event is none,
 -- and of it no tenant is told.
@@ -58,7 +58,7 @@ AreOf (done ∷ all) actions = (first rest : List Action) × IsOf done first × 
 -- Whatever the others do: all that is done with a machine from boot on, by lines, by events, in place and in any order, are actions
 -- of which a tenant sees what its private machine gives to its own list.
 abbrev pub OwnSightsOfCalls : Type 0
-OwnSightsOfCalls = (k k' : Parts) (superblocks tenants t : ℕ) (all : List Done) →
+OwnSightsOfCalls = (k k' : KernelContent) (superblocks tenants t : ℕ) (all : List Done) →
     IsBooted k superblocks tenants → t < tenants → AllDid k all k' →
     (actions : List Action) × AreOf all actions × AllAct k actions k'
     × (sights_of t actions ≡ (own_seen cache_limit k.order (own_actions t actions) empty_machine).sights)

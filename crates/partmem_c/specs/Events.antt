@@ -12,7 +12,7 @@ use Rattle.words_core.specs.declared.reply.Body.TheVariants.{Granted, TakenBack,
 use Rattle.words_core.specs.declared.reply.Reply.{Reply}
 use Rattle.words_core.specs.Texts.{number_of_refusal}
 use Rattle.model_core.specs.declared.limits.TheConstants.{MOST_BYTES, MOST_PATTERN}
-use Rattle.parts_core.specs.Parts.{Parts}
+use Rattle.kernel_core.specs.Content.{KernelContent}
 use Rattle.kernel_core.specs.Steps.{Steps}
 use Rattle.partmem_c.specs.declared.status.TheConstants.{DONE, NO_MACHINE, NOT_AN_EVENT, NO_ROOM}
 use Rattle.partmem_c.specs.declared.events.TheConstants as asked
@@ -105,31 +105,31 @@ answered_bytes (Refused refusal) = []
 answered_bytes (Fault fault) = []
 
 -- what a call answers that a machine is all there has to be for
-abbrev pub machine_status : Option Parts → ℕ
+abbrev pub machine_status : Option KernelContent → ℕ
 machine_status held = if is_some held then DONE else NO_MACHINE
 
 -- the same of a call that is passed an event, where there is one
-abbrev pub status_of_event : Option Parts → Asked → List ℕ → ℕ → ℕ
+abbrev pub status_of_event : Option KernelContent → Asked → List ℕ → ℕ → ℕ
 status_of_event held a bytes status =
     if is_some held then (if is_some (asked_event a bytes) then status else NOT_AN_EVENT) else NO_MACHINE
 
 -- What such a call answers: the first of the errors that there is.
-abbrev pub event_status : Option Parts → Asked → List ℕ → List ℕ → ℕ
+abbrev pub event_status : Option KernelContent → Asked → List ℕ → List ℕ → ℕ
 event_status held a bytes room =
     if not (is_some held) then NO_MACHINE
     else (if is_none (asked_event a bytes) then NOT_AN_EVENT else (if nat_lt (length room) MOST_BYTES then NO_ROOM else DONE))
 
 -- the event was a step of the kernel, and was answered by these numbers and bytes
-pub record AnswersEvent (old : Parts) (event : Event) (new : Parts) (told : Told) (room room' : List ℕ) : Type 0 where
+pub record AnswersEvent (old : KernelContent) (event : Event) (new : KernelContent) (told : Told) (room room' : List ℕ) : Type 0 where
   pub reply : Reply
   pub steps : Steps old event new reply
   pub numbers_told : told ≡ told_of reply.body
   pub over : room' ≡ answered_bytes reply.body ++ drop (length (answered_bytes reply.body)) room
 
 -- the numbers and bytes say an event, which was run on the kernel that was held
-pub record RunsEvent (old new : Option Parts) (a : Asked) (bytes : List ℕ) (told : Told) (room room' : List ℕ) : Type 0 where
-  pub before : Parts
-  pub after : Parts
+pub record RunsEvent (old new : Option KernelContent) (a : Asked) (bytes : List ℕ) (told : Told) (room room' : List ℕ) : Type 0 where
+  pub before : KernelContent
+  pub after : KernelContent
   pub event : Event
   pub was : old ≡ Some before
   pub is : new ≡ Some after
@@ -137,13 +137,13 @@ pub record RunsEvent (old new : Option Parts) (a : Asked) (bytes : List ℕ) (to
   pub answers : AnswersEvent before event after told room room'
 
 -- the same of an event that neither takes bytes nor tells some, whatever bytes and room there are
-abbrev pub RunsApart : Option Parts → Option Parts → Asked → Told → Type 0
+abbrev pub RunsApart : Option KernelContent → Option KernelContent → Asked → Told → Type 0
 RunsApart old new a told = (bytes room : List ℕ) → RunsEvent old new a bytes told room room
 
 -- nothing was done, and nothing is told
-abbrev pub TellsNothing : Option Parts → Option Parts → Told → Told → Type 0
+abbrev pub TellsNothing : Option KernelContent → Option KernelContent → Told → Told → Type 0
 TellsNothing old new told told' = (new ≡ old) × (told' ≡ told)
 
 -- the same, and no byte of the room was written
-abbrev pub ChangesNothing : Option Parts → Option Parts → Told → Told → List ℕ → List ℕ → Type 0
+abbrev pub ChangesNothing : Option KernelContent → Option KernelContent → Told → Told → List ℕ → List ℕ → Type 0
 ChangesNothing old new told told' room room' = (new ≡ old) × (told' ≡ told) × (room' ≡ room)

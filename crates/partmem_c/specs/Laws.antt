@@ -6,7 +6,7 @@ use Rattle.world_core.specs.Limits.{cache_limit}
 use Rattle.world_core.specs.World.{World, opening_world, world_after}
 use Rattle.world_core.specs.Output.{events_of, lines_for, with_line_feeds}
 use Rattle.world_core.specs.Laws.{HaveSameOwnList, private_lines}
-use Rattle.parts_core.specs.Parts.{Parts}
+use Rattle.kernel_core.specs.Content.{KernelContent}
 use Rattle.kernel_core.specs.Shows.{Shows}
 use Rattle.replay_core.specs.Standing.{IsOneLine}
 use Rattle.partmem_c.specs.Lines.{AnswersLine}
@@ -23,20 +23,20 @@ abbrev pub texts_of : List Call → List ℕ
 texts_of calls = concat (map (λ call. call.text) calls)
 
 -- the calls lead from one kernel to another, each as the contract of `partmem_line` says
-abbrev pub Ran : Parts → List Call → Parts → Type 0
+abbrev pub Ran : KernelContent → List Call → KernelContent → Type 0
 Ran k [] k' = k' ≡ k
 Ran k (call ∷ calls) k' =
-    (next : Parts) × IsOneLine call.line × AnswersLine k (reading_of call.line) next call.text × Ran next calls k'
+    (next : KernelContent) × IsOneLine call.line × AnswersLine k (reading_of call.line) next call.text × Ran next calls k'
 
 -- In every world that the first kernel shows, the last one shows what the lines make of it.
 abbrev pub StandsAfterCalls : Type 0
-StandsAfterCalls = (k k' : Parts) (calls : List Call) → Ran k calls k' → (w : World) → Shows k w →
+StandsAfterCalls = (k k' : KernelContent) (calls : List Call) → Ran k calls k' → (w : World) → Shows k w →
     Shows k' (world_after cache_limit k.order w (events_of (lines_of_calls calls)))
 
 -- From boot on, whatever the others do: of all that was written, the lines for a tenant are those of its private machine on
 -- its own list of the trace that the lines are.
 abbrev pub OwnLinesOfCalls : Type 0
-OwnLinesOfCalls = (k k' : Parts) (superblocks tenants t : ℕ) (calls : List Call) →
+OwnLinesOfCalls = (k k' : KernelContent) (superblocks tenants t : ℕ) (calls : List Call) →
     Shows k (opening_world superblocks tenants) → t < tenants → Ran k calls k' →
     lines_for t (texts_of calls)
     ≡ private_lines cache_limit k.order superblocks tenants t (with_line_feeds (lines_of_calls calls))
@@ -44,7 +44,7 @@ OwnLinesOfCalls = (k k' : Parts) (superblocks tenants t : ℕ) (calls : List Cal
 -- So two machines of one order, with any numbers of superblocks and tenants, write the same lines for a tenant whose own lists
 -- are equal.
 abbrev pub SameLinesOfCalls : Type 0
-SameLinesOfCalls = (k k' m m' : Parts) (superblocks tenants superblocks' tenants' t : ℕ) (calls calls' : List Call) →
+SameLinesOfCalls = (k k' m m' : KernelContent) (superblocks tenants superblocks' tenants' t : ℕ) (calls calls' : List Call) →
     Shows k (opening_world superblocks tenants) → Shows m (opening_world superblocks' tenants') → m.order ≡ k.order →
     HaveSameOwnList cache_limit k.order superblocks tenants superblocks' tenants' t
     (events_of (lines_of_calls calls)) (events_of (lines_of_calls calls')) →

@@ -9,7 +9,7 @@ use Rattle.words_core.specs.declared.reply.Reply.{Reply}
 use Rattle.words_core.specs.Grammar.{reading_of}
 use Rattle.words_core.specs.Texts.{text_of}
 use Rattle.world_core.specs.Output.{line_feed}
-use Rattle.parts_core.specs.Parts.{Parts}
+use Rattle.kernel_core.specs.Content.{KernelContent}
 use Rattle.kernel_core.specs.Steps.{Steps}
 use Rattle.replay_core.specs.Pushes.{most_reply_bytes}
 use Rattle.replay_core.specs.Standing.{IsOneLine}
@@ -19,14 +19,14 @@ abbrev pub has_line_feed : List ℕ → Bool
 has_line_feed bytes = list_any (λ b. b == line_feed) bytes
 
 -- What such a call answers: the first of the errors that there is.
-abbrev pub line_status : Option Parts → List ℕ → List ℕ → ℕ
+abbrev pub line_status : Option KernelContent → List ℕ → List ℕ → ℕ
 line_status held line room =
     if not (is_some held) then NO_MACHINE
     else (if has_line_feed line then NOT_A_LINE else (if nat_lt (length room) most_reply_bytes then NO_ROOM else DONE))
 
 -- A line with this reading was run, and answered by this text: an event is a step of the kernel's, a faulty line is told to
 -- nobody, and a blank line or a comment is answered nothing.
-abbrev pub AnswersLine : Parts → Result (Option Event) LineFault → Parts → List ℕ → Type 0
+abbrev pub AnswersLine : KernelContent → Result (Option Event) LineFault → KernelContent → List ℕ → Type 0
 AnswersLine old (Ok (Some event)) new text = (reply : Reply) × Steps old event new reply × (text ≡ text_of reply)
 AnswersLine old (Ok None) new text = (new ≡ old) × (text ≡ [])
 AnswersLine old (Err fault) new text = (new ≡ old) × (text ≡ text_of (record { addressee = Nobody; body = Fault fault }))
@@ -41,32 +41,32 @@ pub record IsTextWritten (text room room' : List ℕ) (written : ℕ) : Type 0 w
   pub over : room' ≡ text ++ drop (length text) room
 
 -- the line with this reading was answered, and the answer was written
-abbrev pub PutsAnswer : Parts → Result (Option Event) LineFault → Parts → List ℕ → List ℕ → ℕ → Type 0
+abbrev pub PutsAnswer : KernelContent → Result (Option Event) LineFault → KernelContent → List ℕ → List ℕ → ℕ → Type 0
 PutsAnswer old reading new room room' written =
     (text : List ℕ) × AnswersLine old reading new text × IsTextWritten text room room' written
 
 -- it has no line feed, was run on the kernel, and was answered in full
-pub record AnswersWhole (old : Parts) (line room : List ℕ) (new : Parts) (room' : List ℕ) (written : ℕ) : Type 0 where
+pub record AnswersWhole (old : KernelContent) (line room : List ℕ) (new : KernelContent) (room' : List ℕ) (written : ℕ) : Type 0 where
   pub text : List ℕ
   pub one : has_line_feed line ≡ false
   pub answers : AnswersLine old (reading_of line) new text
   pub puts : IsTextWritten text room room' written
 
 -- it has a line feed, and nothing was done
-pub record IsNoLine (old : Parts) (line room : List ℕ) (new : Parts) (room' : List ℕ) : Type 0 where
+pub record IsNoLine (old : KernelContent) (line room : List ℕ) (new : KernelContent) (room' : List ℕ) : Type 0 where
   pub several : has_line_feed line ≡ true
   pub kernel : new ≡ old
   pub same_room : room' ≡ room
 
 -- one of the two, by whether there is a count
-abbrev pub AnswersOrNot : Parts → List ℕ → List ℕ → Parts → List ℕ → Option ℕ → Type 0
+abbrev pub AnswersOrNot : KernelContent → List ℕ → List ℕ → KernelContent → List ℕ → Option ℕ → Type 0
 AnswersOrNot old line room new room' counted =
     MatchOption counted (IsNoLine old line room new room') (λ written. AnswersWhole old line room new room' written)
 
 -- the line was run on the kernel that was held, and answered in full
-pub record RunsLine (old new : Option Parts) (line room room' : List ℕ) (written : ℕ) : Type 0 where
-  pub before : Parts
-  pub after : Parts
+pub record RunsLine (old new : Option KernelContent) (line room room' : List ℕ) (written : ℕ) : Type 0 where
+  pub before : KernelContent
+  pub after : KernelContent
   pub text : List ℕ
   pub was : old ≡ Some before
   pub is : new ≡ Some after

@@ -2,12 +2,12 @@
 use Rattle.std.specs.Prelude.{ℕ, nat_lt, true, false, not, if◌then◌else◌, List, [], length, Option, Some, None, is_some}
 use Rattle.model_core.specs.declared.owner.Owner as model
 use Rattle.space_core.specs.Content.{owner_at}
-use Rattle.parts_core.specs.Parts.{Parts}
+use Rattle.kernel_core.specs.Content.{KernelContent}
 use Rattle.partmem_c.specs.declared.owners.Owner.{Owner}
 use Rattle.partmem_c.specs.declared.status.TheConstants.{DONE, NO_MACHINE, NO_SUPERBLOCK}
 
 -- the owners of the superblocks of the machine that is held
-abbrev pub owners_held : Option Parts → List (Option model.Owner)
+abbrev pub owners_held : Option KernelContent → List (Option model.Owner)
 owners_held None = []
 owners_held (Some k) = k.space.owners
 
@@ -16,7 +16,7 @@ owner_numbers None = record { is_owned = false; tenant = 0; slot = 0 }
 owner_numbers (Some owner) = record { is_owned = true; tenant = owner.tenant; slot = owner.slot }
 
 -- What such a call answers.
-abbrev pub owner_status : Option Parts → ℕ → ℕ
+abbrev pub owner_status : Option KernelContent → ℕ → ℕ
 owner_status held superblock =
     if not (is_some held) then NO_MACHINE
     else (if nat_lt superblock (length (owners_held held)) then DONE else NO_SUPERBLOCK)

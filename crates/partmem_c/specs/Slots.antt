@@ -5,10 +5,10 @@ use denote.RawPtr.{Ptr}
 use Rattle.std.specs.declared.alloc.Global.{Global}
 use Rattle.std.specs.contracts.impls.GlobalAllocator.TheImpl.{ghosts}
 use Rattle.std_alloc.specs.Box.Ownership.{box_owns}
-use Rattle.parts_core.specs.Parts.{Parts}
+use Rattle.kernel_core.specs.Content.{KernelContent}
 use Rattle.kernel_core.specs.contracts.kernel.Kernel.{the_row}
 
 -- nothing, or the kernel at the pointer and the right to free its block
-abbrev pub slot_owns : Ptr → Option Parts → Fml
+abbrev pub slot_owns : Ptr → Option KernelContent → Fml
 slot_owns p None = ftrue
 slot_owns p (Some k) = fex Global (λ heap. box_owns (ghosts.dealloc_token heap) the_row p k)

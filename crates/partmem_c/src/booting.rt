@@ -2,7 +2,7 @@
 
 ghost use Rattle.std.specs.Prelude.{◌≡◌, ◌≢◌, ◌↔◌, false, IsSome, IfSome, Some, None};
 ghost use Rattle.model_core.specs.Booting.{is_bootable};
-ghost use Rattle.parts_core.specs.Parts.{opening_parts};
+ghost use Rattle.kernel_core.specs.Content.{opening_content};
 ghost use Rattle.kernel_core.specs.Shows.{Shows};
 ghost use Rattle.world_core.specs.World.{opening_world};
 ghost use Rattle.partmem_c.specs.Events.{machine_status};
@@ -28,7 +28,7 @@ pub extern "C" fn partmem_boot(
     ensures bad_sizes { (result ≡ BAD_SIZES) ↔ ((machine.old.slot.held ≡ None)
         × (is_bootable (record { order = order; superblocks = superblocks; tenants = tenants }) ≡ false)) }
     ensures no_memory { result ≢ DONE → result ≢ HAS_MACHINE → result ≢ BAD_SIZES → result ≡ NO_MEMORY }
-    ensures done { result ≡ DONE → machine.new.slot.held ≡ Some (opening_parts order superblocks tenants) }
+    ensures done { result ≡ DONE → machine.new.slot.held ≡ Some (opening_content order superblocks tenants) }
     ensures shows { result ≡ DONE → IfSome machine.new.slot.held (λ k. Shows k (opening_world superblocks tenants)) }
     ensures not_done { result ≢ DONE → machine.new.slot.held ≡ machine.old.slot.held }
 {

@@ -2,7 +2,7 @@
 
 ghost use Rattle.std.specs.Prelude.{◌≡◌, IsSome, Option, Some, None};
 ghost use Rattle.std.specs.Coded.{coded_option};
-ghost use Rattle.parts_core.specs.Parts.{Parts};
+ghost use Rattle.kernel_core.specs.Content.{KernelContent};
 ghost use Rattle.kernel_core.specs.contracts.kernel.Kernel.{the_row};
 ghost use Rattle.partmem_c.specs.Slots.{slot_owns};
 
@@ -19,7 +19,7 @@ use std::ptr::null_mut;
 #[repr(C)]
 pub struct Slot {
     at: *mut u8,
-    pub ghost held: { Option Parts } by { coded_option the_row.coded },
+    pub ghost held: { Option KernelContent } by { coded_option the_row.coded },
 }
 
 impl Model for Slot {

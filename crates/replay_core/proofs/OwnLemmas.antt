@@ -6,11 +6,11 @@ use Rattle.world_core.specs.World.{World, opening_world}
 use Rattle.world_core.specs.Output.{output_of, lines_for, with_line_feeds}
 use Rattle.world_core.specs.Laws.{OwnLines, OwnShown}
 use Rattle.world_core.proofs.Worlds.{opening_tenants}
-use Rattle.parts_core.specs.Parts.{Parts}
+use Rattle.kernel_core.specs.Content.{KernelContent}
 use Rattle.ends.specs.declared.tally.Tally.{Tally}
 use Rattle.replay_core.specs.Runs.{HasRun, HasOwnLines}
 
-pub own_lines_taken : OwnLines → OwnShown → (only : Option ℕ) (before now : Parts) (given taken : List ℕ) (tally : Tally) → before.tenants < 4294967296
+pub own_lines_taken : OwnLines → OwnShown → (only : Option ℕ) (before now : KernelContent) (given taken : List ℕ) (tally : Tally) → before.tenants < 4294967296
     → HasRun only before now (lines_of_trace given) taken tally → HasOwnLines only before given taken
 unfolding output_of
 own_lines_taken own shown None before now given taken tally few ran = λ superblocks tenants t shows here.

@@ -7,7 +7,7 @@ use Rattle.world_core.specs.World.{World, opening_world}
 use Rattle.world_core.specs.Output.{shown_lines}
 use Rattle.promise_kept.specs.Written.{IsAllowedText}
 use Rattle.promise_kept.proofs.Written.{ram_is_small, shown_is_allowed}
-use Rattle.parts_core.specs.Parts.{Parts}
+use Rattle.kernel_core.specs.Content.{KernelContent}
 use Rattle.kernel_core.specs.Shows.{Shows}
 use Rattle.ends.specs.declared.tally.Tally.{Tally}
 use Rattle.ends.specs.declared.tally.ReplayError.TheVariants as Of
@@ -16,24 +16,24 @@ use Rattle.replay_core.specs.Promised.{TellsAllowed, BeginsAllowed, TakesAllowed
 use Rattle.replay_core.proofs.RunLemmas.{shown_more}
 
 -- a kernel's limits are those of the opening world that it shows
-ram_shown : (k : Parts) (superblocks tenants : ℕ) → Shows k (opening_world superblocks tenants) → superblocks * 2 ^ k.order * 4096 ≤ 2 ^ 32
+ram_shown : (k : KernelContent) (superblocks tenants : ℕ) → Shows k (opening_world superblocks tenants) → superblocks * 2 ^ k.order * 4096 ≤ 2 ^ 32
 unfolding opening_world
 ram_shown k superblocks tenants shows =
     ram_is_small k.order superblocks shows.agree.order
     (subst (λ n. n ≤ MOST_SUPERBLOCKS) (sym (ap length shows.owners) ∙ length-replicate superblocks None) shows.agree.space.few)
 
-shown_allowed : (only : Option ℕ) (before : Parts) (lines : List (List ℕ)) (superblocks tenants : ℕ) → Shows before (opening_world superblocks tenants) → 3 ≤ before.order
+shown_allowed : (only : Option ℕ) (before : KernelContent) (lines : List (List ℕ)) (superblocks tenants : ℕ) → Shows before (opening_world superblocks tenants) → 3 ≤ before.order
     → IsAllowedText only cache_limit before.order superblocks tenants lines (shown_lines only cache_limit before.order lines (opening_world superblocks tenants))
 shown_allowed only before lines superblocks tenants shows least =
     shown_is_allowed only cache_limit before.order superblocks tenants lines least (ram_shown before superblocks tenants shows)
 
-answered_in_full : (only : Option ℕ) (before : Parts) (lines : List (List ℕ)) (taken : List ℕ)
+answered_in_full : (only : Option ℕ) (before : KernelContent) (lines : List (List ℕ)) (taken : List ℕ)
     → ((w : World) → Shows before w → taken ≡ shown_lines only cache_limit before.order lines w) → TellsAllowed only before lines taken
 answered_in_full only before lines taken shown = λ superblocks tenants shows least.
     subst (IsAllowedText only cache_limit before.order superblocks tenants lines) (sym (shown (opening_world superblocks tenants) shows))
     (shown_allowed only before lines superblocks tenants shows least)
 
-answered_in_part : (only : Option ℕ) (before after : Parts) (lines : List (List ℕ)) (line taken : List ℕ) (tally : Tally)
+answered_in_part : (only : Option ℕ) (before after : KernelContent) (lines : List (List ℕ)) (line taken : List ℕ) (tally : Tally)
     → IsCutShort only before after lines line taken tally → BeginsAllowed only before (lines ++ line ∷ []) taken
 answered_in_part only before after lines line taken tally cut = λ superblocks tenants shows least.
     let w : World = opening_world superblocks tenants in
@@ -48,12 +48,12 @@ answered_in_part only before after lines line taken tally cut = λ superblocks t
     )
 
 -- where all was answered
-pub all_promised : (only : Option ℕ) (before after : Parts) (lines : List (List ℕ)) (taken : List ℕ) (tally : Tally) → HasRun only before after lines taken tally
+pub all_promised : (only : Option ℕ) (before after : KernelContent) (lines : List (List ℕ)) (taken : List ℕ) (tally : Tally) → HasRun only before after lines taken tally
     → Counts tally lines taken × TellsAllowed only before lines taken
 all_promised only before after lines taken tally ran = (ran.counted, answered_in_full only before lines taken ran.shown)
 
 -- where the drain failed
-pub part_promised : (ended : Bool) (only : Option ℕ) (before after : Parts) (given taken : List ℕ) (tally : Tally)
+pub part_promised : (ended : Bool) (only : Option ℕ) (before after : KernelContent) (given taken : List ℕ) (tally : Tally)
     → Replays ended only before after given taken (Err (Of.Drain tally)) → TakesAllowed ended only before given taken (Err (Of.Drain tally))
 part_promised ended only before after given taken tally (done, line, come, cut) =
     (done ++ line ∷ [], come, cut.counted, answered_in_part only before after done line taken tally cut)

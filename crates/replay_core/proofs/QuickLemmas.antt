@@ -6,7 +6,7 @@ use Rattle.words_core.specs.declared.event.Event.TheVariants.{Tenant}
 use Rattle.words_core.specs.declared.event.LineFault.{LineFault}
 use Rattle.words_core.specs.Grammar.{reading_of}
 use Rattle.words_core.specs.declared.event.Command.{Command}
-use Rattle.parts_core.specs.Parts.{Parts}
+use Rattle.kernel_core.specs.Content.{KernelContent}
 use Rattle.quick_core.specs.Lines.{ReadsAs}
 use Rattle.ends.specs.declared.feed.Stopped.{Stopped}
 use Rattle.replay_core.specs.declared.pending.Pending.{Pending}
@@ -32,7 +32,7 @@ one_more : (bytes : List ℕ) (len : ℕ) → 0 < len → drop (len - 1 + 1) byt
 one_more bytes len some = ap (λ n. drop n bytes) (omega arith)
 
 -- a line at the front of the rest has been run and answered
-pub line_done : (only : Option ℕ) (before now next : Parts) (given rest : List ℕ) (start old new : Option (List ℕ)) (failing : Bool) (pending : Pending) (run run' : Run)
+pub line_done : (only : Option ℕ) (before now next : KernelContent) (given rest : List ℕ) (start old new : Option (List ℕ)) (failing : Bool) (pending : Pending) (run run' : Run)
     (tenant : ℕ) (command : Command) (len : ℕ) → ReadsAs rest tenant command len → HoldsNothing pending
     → Stands only before now given rest start old pending run
     → HasAnswered (Ok (Some (Tenant tenant command))) now next old new failing run run' (Ok tt)
@@ -47,7 +47,7 @@ line_done only before now next given rest start old new failing pending run run'
     (whole_line stands.tail (take end rest) _ none read.reading) answered)
 
 -- the drain failed within its answer
-pub line_stopped : (only : Option ℕ) (before now next : Parts) (given rest : List ℕ) (start old new : Option (List ℕ)) (failing : Bool) (pending : Pending) (run run' : Run)
+pub line_stopped : (only : Option ℕ) (before now next : KernelContent) (given rest : List ℕ) (start old new : Option (List ℕ)) (failing : Bool) (pending : Pending) (run run' : Run)
     (stopped : Stopped) (tenant : ℕ) (command : Command) (len : ℕ) → ReadsAs rest tenant command len → HoldsNothing pending
     → Stands only before now given rest start old pending run
     → HasAnswered (Ok (Some (Tenant tenant command))) now next old new failing run run' (Err stopped)

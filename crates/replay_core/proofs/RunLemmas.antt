@@ -12,7 +12,7 @@ use Rattle.world_core.specs.Limits.{cache_limit}
 use Rattle.world_core.specs.World.{World, world_after}
 use Rattle.world_core.specs.Output.{event_in, events_of, shown_reading, shown_line, shown_lines, with_line_feeds, ended_lines}
 use Rattle.world_core.proofs.Worlds.{world_both}
-use Rattle.parts_core.specs.Parts.{Parts, SameSizes}
+use Rattle.kernel_core.specs.Content.{KernelContent, SameSizes}
 use Rattle.kernel_core.specs.Shows.{Shows}
 use Rattle.ends.specs.declared.feed.Stopped.{Stopped}
 use Rattle.replay_core.specs.declared.pending.Pending.{Pending}
@@ -61,10 +61,10 @@ counts_more tally tally' xs line taken more counts lines events faults written =
   written = omega (arith, written, counts.written, length-append taken more);
 }
 
-same_sizes : (k : Parts) → SameSizes k k
+same_sizes : (k : KernelContent) → SameSizes k k
 same_sizes k = record { order = refl; superblocks = refl; tenants = refl }
 
-stands_more : (before now next : Parts) (xs : List (List ℕ)) (line : List ℕ) → StandsAfter before now xs → SameSizes now next
+stands_more : (before now next : KernelContent) (xs : List (List ℕ)) (line : List ℕ) → StandsAfter before now xs → SameSizes now next
     → ((w : World) → Shows now w → Shows next (world_after cache_limit now.order w (event_in (reading_of line))))
     → StandsAfter before next (xs ++ line ∷ [])
 stands_more before now next xs line stands same shows = record {
@@ -80,7 +80,7 @@ stands_more before now next xs line stands same shows = record {
 }
 
 -- what the line shows in the world that the lines before it left
-shown_here : (only : Option ℕ) (before now : Parts) (xs : List (List ℕ)) (line text : List ℕ) → StandsAfter before now xs
+shown_here : (only : Option ℕ) (before now : KernelContent) (xs : List (List ℕ)) (line text : List ℕ) → StandsAfter before now xs
     → ((w : World) → Shows now w → shown_line only cache_limit now.order line w ≡ text)
     → (w : World) → Shows before w → shown_line only cache_limit before.order line (world_after cache_limit before.order w (events_of xs)) ≡ text
 shown_here only before now xs line text stands shown w before_shows =
@@ -88,12 +88,12 @@ shown_here only before now xs line text stands shown w before_shows =
     ∙ shown (world_after cache_limit before.order w (events_of xs)) (stands.shows w before_shows)
 
 -- what is shown is what the run shows
-shown_to : (only : Option ℕ) (now : Parts) (reading : Result (Option Event) LineFault) (w : World) (run : Run) (text : List ℕ) → run.replies.only ≡ only
+shown_to : (only : Option ℕ) (now : KernelContent) (reading : Result (Option Event) LineFault) (w : World) (run : Run) (text : List ℕ) → run.replies.only ≡ only
     → shown_reading run.replies.only cache_limit now.order reading w ≡ text → shown_reading only cache_limit now.order reading w ≡ text
 shown_to only now reading w run text same shown = ap (λ o. shown_reading o cache_limit now.order reading w) (sym same) ∙ shown
 
 -- the line is answered in full
-run_more : (only : Option ℕ) (before now next : Parts) (xs : List (List ℕ)) (line taken : List ℕ) (old new : Option (List ℕ)) (failing : Bool) (run run' : Run)
+run_more : (only : Option ℕ) (before now next : KernelContent) (xs : List (List ℕ)) (line taken : List ℕ) (old new : Option (List ℕ)) (failing : Bool) (run run' : Run)
     → HasRun only before now xs taken (tally_of_run run) → run.replies.only ≡ only
     → (answered : HasAnswered (reading_of line) now next old new failing run run' (Ok tt))
     → HasRun only before next (xs ++ line ∷ []) (taken ++ answered.taken) (tally_of_run run')
@@ -108,7 +108,7 @@ run_more only before now next xs line taken old new failing run run' ran same an
 }
 
 -- the drain failed within its answer
-cut_short : (only : Option ℕ) (before now next : Parts) (xs : List (List ℕ)) (line taken : List ℕ) (old new : Option (List ℕ)) (failing : Bool) (run run' : Run) (stopped : Stopped)
+cut_short : (only : Option ℕ) (before now next : KernelContent) (xs : List (List ℕ)) (line taken : List ℕ) (old new : Option (List ℕ)) (failing : Bool) (run run' : Run) (stopped : Stopped)
     → HasRun only before now xs taken (tally_of_run run) → run.replies.only ≡ only
     → (answered : HasAnswered (reading_of line) now next old new failing run run' (Err stopped))
     → IsCutShort only before next xs line (taken ++ answered.taken) (tally_of_run run')
@@ -125,7 +125,7 @@ cut_short only before now next xs line taken old new failing run run' stopped ra
 }
 
 -- before the first pull
-pub stands_first : (only : Option ℕ) (k : Parts) (known : Option (List ℕ)) (pending : Pending) (run : Run)
+pub stands_first : (only : Option ℕ) (k : KernelContent) (known : Option (List ℕ)) (pending : Pending) (run : Run)
     → HoldsLine [] pending → run.replies.only ≡ only → tally_of_run run ≡ record { lines = 0; events = 0; faults = 0; written = 0 }
     → Stands only k k [] [] known known pending run
 stands_first only k known pending run holds same none = record {
@@ -151,7 +151,7 @@ stands_first only k known pending run holds same none = record {
 }
 
 -- the drain has sent what it had taken
-pub stands_sent : (only : Option ℕ) (before now : Parts) (given rest : List ℕ) (start old new : Option (List ℕ)) (pending : Pending) (run : Run)
+pub stands_sent : (only : Option ℕ) (before now : KernelContent) (given rest : List ℕ) (start old new : Option (List ℕ)) (pending : Pending) (run : Run)
     → Stands only before now given rest start old pending run → Keeps old new → Stands only before now given rest start new pending run
 stands_sent only before now given rest start old new pending run stands kept = record {
   done = stands.done;
@@ -167,7 +167,7 @@ stands_sent only before now given rest start old new pending run stands kept = r
 }
 
 -- a pull gave more
-pub stands_given : (only : Option ℕ) (before now : Parts) (given more : List ℕ) (start contents : Option (List ℕ)) (pending : Pending) (run : Run)
+pub stands_given : (only : Option ℕ) (before now : KernelContent) (given more : List ℕ) (start contents : Option (List ℕ)) (pending : Pending) (run : Run)
     → Stands only before now given [] start contents pending run → Stands only before now (given ++ more) more start contents pending run
 stands_given only before now given more start contents pending run stands = record {
   done = stands.done;
@@ -183,7 +183,7 @@ stands_given only before now given more start contents pending run stands = reco
 }
 
 -- the lines done are fewer than the bytes given
-pub stands_few : (only : Option ℕ) (before now : Parts) (given rest : List ℕ) (start contents : Option (List ℕ)) (pending : Pending) (run : Run)
+pub stands_few : (only : Option ℕ) (before now : KernelContent) (given rest : List ℕ) (start contents : Option (List ℕ)) (pending : Pending) (run : Run)
     → (stands : Stands only before now given rest start contents pending run) → run.lines + length stands.tail + length rest ≤ length given
 stands_few only before now given rest start contents pending run stands =
     omega (
@@ -207,7 +207,7 @@ split_more done tail given rest part after split cut =
     ∙ sym (with_line_feeds_append done (tail ++ part)))
 
 -- the line that ends with `part` is answered in full
-pub stands_more_lines : (only : Option ℕ) (before now next : Parts) (given rest part after : List ℕ) (start old new : Option (List ℕ)) (failing : Bool) (pending pending' : Pending) (run run' : Run)
+pub stands_more_lines : (only : Option ℕ) (before now next : KernelContent) (given rest part after : List ℕ) (start old new : Option (List ℕ)) (failing : Bool) (pending pending' : Pending) (run run' : Run)
     → (stands : Stands only before now given rest start old pending run)
     (reading : Result (Option Event) LineFault) → IsOneLine part → rest ≡ (part ++ 10 ∷ []) ++ after → HoldsLine [] pending' → reading ≡ reading_of (stands.tail ++ part)
     → HasAnswered reading now next old new failing run run' (Ok tt)
@@ -227,7 +227,7 @@ stands_more_lines only before now next given rest part after start old new faili
     }
 
 -- the drain failed within its answer
-pub stopped_within : (only : Option ℕ) (before now next : Parts) (given rest part after : List ℕ) (start old new : Option (List ℕ)) (failing : Bool) (pending : Pending) (run run' : Run) (stopped : Stopped)
+pub stopped_within : (only : Option ℕ) (before now next : KernelContent) (given rest part after : List ℕ) (start old new : Option (List ℕ)) (failing : Bool) (pending : Pending) (run run' : Run) (stopped : Stopped)
     → (stands : Stands only before now given rest start old pending run)
     (reading : Result (Option Event) LineFault) → IsOneLine part → rest ≡ (part ++ 10 ∷ []) ++ after → reading ≡ reading_of (stands.tail ++ part)
     → HasAnswered reading now next old new failing run run' (Err stopped)
@@ -246,7 +246,7 @@ stopped_within only before now next given rest part after start old new failing 
     }
 
 -- the rest has no LF, and is held
-pub stands_held : (only : Option ℕ) (before now : Parts) (given rest : List ℕ) (start contents : Option (List ℕ)) (pending pending' : Pending) (run : Run)
+pub stands_held : (only : Option ℕ) (before now : KernelContent) (given rest : List ℕ) (start contents : Option (List ℕ)) (pending pending' : Pending) (run : Run)
     → (stands : Stands only before now given rest start contents pending run) → IsOneLine rest → HoldsLine (stands.tail ++ rest) pending'
     → Stands only before now given [] start contents pending' run
 stands_held only before now given rest start contents pending pending' run stands one holds = record {
@@ -263,7 +263,7 @@ stands_held only before now given rest start contents pending pending' run stand
 }
 
 -- all lines that ended are done
-pub ended_are_done : (only : Option ℕ) (before now : Parts) (given : List ℕ) (start contents : Option (List ℕ)) (pending : Pending) (run : Run) (tally : Tally)
+pub ended_are_done : (only : Option ℕ) (before now : KernelContent) (given : List ℕ) (start contents : Option (List ℕ)) (pending : Pending) (run : Run) (tally : Tally)
     → (stands : Stands only before now given [] start contents pending run) → tally ≡ tally_of_run run → HasRun only before now (ended_lines given) stands.taken tally
 ended_are_done only before now given start contents pending run tally stands told =
     subst (λ lines. HasRun only before now lines stands.taken tally)
@@ -272,7 +272,7 @@ ended_are_done only before now given start contents pending run tally stands tol
     (subst (λ (t : Tally). HasRun only before now stands.done stands.taken t) (sym told) stands.ran)
 
 -- with nothing held all lines are done
-pub all_are_done : (only : Option ℕ) (before now : Parts) (given : List ℕ) (start contents : Option (List ℕ)) (pending : Pending) (run : Run) (tally : Tally)
+pub all_are_done : (only : Option ℕ) (before now : KernelContent) (given : List ℕ) (start contents : Option (List ℕ)) (pending : Pending) (run : Run) (tally : Tally)
     → (stands : Stands only before now given [] start contents pending run) → length stands.tail ≡ 0 → tally ≡ tally_of_run run
     → HasRun only before now (lines_of_trace given) stands.taken tally
 all_are_done only before now given start contents pending run tally stands none told =
@@ -281,7 +281,7 @@ all_are_done only before now given start contents pending run tally stands none 
     ∙ ap (λ tail. stands.done ++ lines_of_trace tail) (nil_from_length stands.tail none) ∙ append-nil stands.done))
     (subst (λ (t : Tally). HasRun only before now stands.done stands.taken t) (sym told) stands.ran)
 
-last_cut : (only : Option ℕ) (before now : Parts) (given : List ℕ) (start contents : Option (List ℕ)) (pending : Pending) (run : Run)
+last_cut : (only : Option ℕ) (before now : KernelContent) (given : List ℕ) (start contents : Option (List ℕ)) (pending : Pending) (run : Run)
     → (stands : Stands only before now given [] start contents pending run) → 0 < length stands.tail
     → lines_of_trace given ≡ stands.done ++ stands.tail ∷ []
 last_cut only before now given start contents pending run stands some =
@@ -289,7 +289,7 @@ last_cut only before now given start contents pending run stands some =
     ∙ ap (λ more. stands.done ++ more) (one_line_cut stands.tail stands.unended some)
 
 -- what is held is the last line, and is answered in full
-pub last_is_done : (only : Option ℕ) (before now next : Parts) (given : List ℕ) (start old new : Option (List ℕ)) (failing : Bool) (pending : Pending) (run run' : Run) (tally : Tally)
+pub last_is_done : (only : Option ℕ) (before now next : KernelContent) (given : List ℕ) (start old new : Option (List ℕ)) (failing : Bool) (pending : Pending) (run run' : Run) (tally : Tally)
     → (stands : Stands only before now given [] start old pending run) (reading : Result (Option Event) LineFault) → 0 < length stands.tail → reading ≡ reading_of stands.tail
     → HasAnswered reading now next old new failing run run' (Ok tt) → tally ≡ tally_of_run run'
     → (taken : List ℕ) × Appends start new taken × HasRun only before next (lines_of_trace given) taken tally
@@ -302,12 +302,12 @@ last_is_done only before now next given start old new failing pending run run' t
           (run_more only before now next stands.done stands.tail stands.taken old new failing run run' stands.ran stands.same answered)),
     )
 
-told_cut : (only : Option ℕ) (before now : Parts) (lines : List (List ℕ)) (line taken : List ℕ) (counted tally : Tally) → tally ≡ counted
+told_cut : (only : Option ℕ) (before now : KernelContent) (lines : List (List ℕ)) (line taken : List ℕ) (counted tally : Tally) → tally ≡ counted
     → IsCutShort only before now lines line taken counted → IsCutShort only before now lines line taken tally
 told_cut only before now lines line taken counted tally told cut = subst (λ (t : Tally). IsCutShort only before now lines line taken t) (sym told) cut
 
 -- the drain failed within the answer to a line that ended
-pub stopped_before : (ended : Bool) (only : Option ℕ) (before now : Parts) (given : List ℕ) (start contents : Option (List ℕ)) (run : Run) (tally : Tally)
+pub stopped_before : (ended : Bool) (only : Option ℕ) (before now : KernelContent) (given : List ℕ) (start contents : Option (List ℕ)) (run : Run) (tally : Tally)
     → HasStopped only before now given start contents run → tally ≡ tally_of_run run
     → (taken : List ℕ) × Appends start contents taken × Replays ended only before now given taken (Err (Of.Drain tally))
 stopped_before ended only before now given start contents run tally stopped told = (
@@ -322,7 +322,7 @@ stopped_before ended only before now given start contents run tally stopped told
 )
 
 -- .. or to the last one
-pub stopped_at_last : (ended : Bool) (only : Option ℕ) (before now next : Parts) (given : List ℕ) (start old new : Option (List ℕ)) (failing : Bool) (pending : Pending) (run run' : Run) (tally : Tally) (stopped : Stopped)
+pub stopped_at_last : (ended : Bool) (only : Option ℕ) (before now next : KernelContent) (given : List ℕ) (start old new : Option (List ℕ)) (failing : Bool) (pending : Pending) (run run' : Run) (tally : Tally) (stopped : Stopped)
     → (stands : Stands only before now given [] start old pending run) (reading : Result (Option Event) LineFault) → 0 < length stands.tail → reading ≡ reading_of stands.tail
     → HasAnswered reading now next old new failing run run' (Err stopped) → ended ≡ true → tally ≡ tally_of_run run'
     → (taken : List ℕ) × Appends start new taken × Replays ended only before next given taken (Err (Of.Drain tally))
@@ -344,7 +344,7 @@ pub ended_at : (ended : Bool) (count : ℕ) → ended ≡ nat_eq count 0 → cou
 ended_at ended count is none = is ∙ ap (λ n. nat_eq n 0) none
 
 -- a blank line or a comment shows nothing
-pub answered_nothing : (k : Parts) (known : Option (List ℕ)) (failing : Bool) (run run' : Run) → failing ≡ false
+pub answered_nothing : (k : KernelContent) (known : Option (List ℕ)) (failing : Bool) (run run' : Run) → failing ≡ false
     → run'.lines ≡ run.lines + 1 → run'.events ≡ run.events → run'.faults ≡ run.faults → run'.replies ≡ run.replies
     → HasAnswered (Ok None) k k known known failing run run' (Ok tt)
 answered_nothing k known failing run run' fine lines events faults replies = record {

@@ -2,7 +2,7 @@
 -- object, which frames are given back.
 use Rattle.std.specs.Prelude.{ℕ, ◌≤◌, Bool, List, ◌++◌, Option, Result, Ok, Err}
 use Rattle.words_core.specs.Cutting.{lines_of_trace}
-use Rattle.parts_core.specs.Parts.{Parts}
+use Rattle.kernel_core.specs.Content.{KernelContent}
 use Rattle.kernel_core.specs.Shows.{Shows}
 use Rattle.world_core.specs.Limits.{cache_limit}
 use Rattle.world_core.specs.World.{opening_world}
@@ -14,18 +14,18 @@ use Rattle.ends.specs.declared.tally.ReplayError.TheVariants as Of
 use Rattle.replay_core.specs.Runs.{Counts, HasCome}
 
 -- From an opening world, whose slots have at least 8 frames, the text is that of allowed replies to these lines ..
-abbrev pub TellsAllowed : Option ℕ → Parts → List (List ℕ) → List ℕ → Type 0
+abbrev pub TellsAllowed : Option ℕ → KernelContent → List (List ℕ) → List ℕ → Type 0
 TellsAllowed only before lines text = (superblocks tenants : ℕ) → Shows before (opening_world superblocks tenants) → 3 ≤ before.order
     → IsAllowedText only cache_limit before.order superblocks tenants lines text
 
 -- .. or a beginning of it.
-abbrev pub BeginsAllowed : Option ℕ → Parts → List (List ℕ) → List ℕ → Type 0
+abbrev pub BeginsAllowed : Option ℕ → KernelContent → List (List ℕ) → List ℕ → Type 0
 BeginsAllowed only before lines part = (superblocks tenants : ℕ) → Shows before (opening_world superblocks tenants) → 3 ≤ before.order
     → (rest : List ℕ) × IsAllowedText only cache_limit before.order superblocks tenants lines (part ++ rest)
 
 -- Of what was given these lines were run and counted, and what was taken is the text of allowed replies; a beginning of it where
 -- the drain failed.
-abbrev pub TakesAllowed : Bool → Option ℕ → Parts → List ℕ → List ℕ → Result Tally ReplayError → Type 0
+abbrev pub TakesAllowed : Bool → Option ℕ → KernelContent → List ℕ → List ℕ → Result Tally ReplayError → Type 0
 TakesAllowed ended only before given taken (Ok tally) =
     Counts tally (lines_of_trace given) taken × TellsAllowed only before (lines_of_trace given) taken
 TakesAllowed ended only before given taken (Err (Of.Feed tally)) =

@@ -4,7 +4,7 @@ use Rattle.words_core.specs.declared.event.Event.{Event}
 use Rattle.words_core.specs.declared.event.LineFault.{LineFault}
 use Rattle.words_core.specs.Cutting.{lines_of_trace}
 use Rattle.words_core.specs.Grammar.{reading_of}
-use Rattle.parts_core.specs.Parts.{Parts, SameSizes}
+use Rattle.kernel_core.specs.Content.{KernelContent, SameSizes}
 use Rattle.kernel_core.specs.Shows.{Shows}
 use Rattle.world_core.specs.Limits.{cache_limit}
 use Rattle.world_core.specs.World.{World, opening_world, world_after}
@@ -31,18 +31,18 @@ pub record Counts (tally : Tally) (done : List (List ℕ)) (taken : List ℕ) : 
   pub written : tally.written ≡ length taken
 
 -- the kernel stands after these lines
-pub record StandsAfter (before after : Parts) (lines : List (List ℕ)) : Type 0 where
+pub record StandsAfter (before after : KernelContent) (lines : List (List ℕ)) : Type 0 where
   pub sizes : SameSizes before after
   pub shows : (w : World) → Shows before w → Shows after (world_after cache_limit before.order w (events_of lines))
 
 -- these lines have been run and answered in full
-pub record HasRun (only : Option ℕ) (before after : Parts) (lines : List (List ℕ)) (taken : List ℕ) (tally : Tally) : Type 0 where
+pub record HasRun (only : Option ℕ) (before after : KernelContent) (lines : List (List ℕ)) (taken : List ℕ) (tally : Tally) : Type 0 where
   pub stands : StandsAfter before after lines
   pub shown : (w : World) → Shows before w → taken ≡ shown_lines only cache_limit before.order lines w
   pub counted : Counts tally lines taken
 
 -- these lines have been run; of what the last one shows a beginning was taken, and not the whole
-pub record IsCutShort (only : Option ℕ) (before after : Parts) (lines : List (List ℕ)) (line taken : List ℕ) (tally : Tally) : Type 0 where
+pub record IsCutShort (only : Option ℕ) (before after : KernelContent) (lines : List (List ℕ)) (line taken : List ℕ) (tally : Tally) : Type 0 where
   pub stands : StandsAfter before after (lines ++ line ∷ [])
   pub shown : (w : World) → Shows before w → (part rest : List ℕ) × (0 < length rest)
       × (shown_line only cache_limit before.order line (world_after cache_limit before.order w (events_of lines)) ≡ part ++ rest)
@@ -54,7 +54,7 @@ abbrev pub HasCome : Bool → List ℕ → List (List ℕ) → Type 0
 HasCome ended given lines = ((rest : List (List ℕ)) × (ended_lines given ≡ lines ++ rest)) ⊎ ((ended ≡ Bool.true) × (lines_of_trace given ≡ lines))
 
 -- how what was given, what was taken, the kernel and the answer hang together
-abbrev pub Replays : Bool → Option ℕ → Parts → Parts → List ℕ → List ℕ → Result Tally ReplayError → Type 0
+abbrev pub Replays : Bool → Option ℕ → KernelContent → KernelContent → List ℕ → List ℕ → Result Tally ReplayError → Type 0
 Replays ended only before after given taken (Ok tally) = HasRun only before after (lines_of_trace given) taken tally
 Replays ended only before after given taken (Err (Of.Feed tally)) = HasRun only before after (ended_lines given) taken tally
 Replays ended only before after given taken (Err (Of.Drain tally)) =
@@ -73,7 +73,7 @@ NamesFailed (Err (Of.Drain tally)) feed drain = (feed ≡ Bool.false) × (drain 
 
 -- From an opening world, whatever the others do, a tenant's lines are those of its private machine on its own list of
 -- the trace; with `only` nothing else is taken.
-abbrev pub HasOwnLines : Option ℕ → Parts → List ℕ → List ℕ → Type 0
+abbrev pub HasOwnLines : Option ℕ → KernelContent → List ℕ → List ℕ → Type 0
 HasOwnLines None before given taken = (superblocks tenants t : ℕ) → Shows before (opening_world superblocks tenants) → t < tenants →
     lines_for t taken ≡ private_lines cache_limit before.order superblocks tenants t given
 HasOwnLines (Some t) before given taken = (superblocks tenants : ℕ) → Shows before (opening_world superblocks tenants) → t < tenants →

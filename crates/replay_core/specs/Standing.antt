@@ -7,7 +7,7 @@ use Rattle.words_core.specs.declared.event.Event.TheVariants.{Tenant}
 use Rattle.words_core.specs.declared.event.Command.{Command}
 use Rattle.words_core.specs.declared.event.LineFault.{LineFault}
 use Rattle.quick_core.specs.Lines.{ReadsAs}
-use Rattle.parts_core.specs.Parts.{Parts, SameSizes}
+use Rattle.kernel_core.specs.Content.{KernelContent, SameSizes}
 use Rattle.kernel_core.specs.Shows.{Shows}
 use Rattle.kernel_core.specs.Steps.{HasPattern}
 use Rattle.world_core.specs.Limits.{cache_limit}
@@ -46,7 +46,7 @@ pub record IsReady (failed : Bool) (run : Run) (lines : ℕ) : Type 0 where
   pub more : run.lines + lines < 2 ^ 64
 
 -- a line with this reading has been run; what it shows was taken, or a beginning, and the drain has then failed
-pub record HasAnswered (reading : Result (Option Event) LineFault) (before after : Parts) (old new : Option (List ℕ))
+pub record HasAnswered (reading : Result (Option Event) LineFault) (before after : KernelContent) (old new : Option (List ℕ))
     (failing : Bool) (run run' : Run) (result : Result (Unit {0}) Stopped) : Type 0 where
   pub taken : List ℕ
   pub rest : List ℕ
@@ -63,7 +63,7 @@ pub record HasAnswered (reading : Result (Option Event) LineFault) (before after
   pub same : run'.replies.only ≡ run.replies.only
 
 -- nothing was done, or the line of so many bytes at the front was a command of a tenant, which was run and answered in full
-abbrev pub HasAnsweredLine : List ℕ → Parts → Parts → Option (List ℕ) → Option (List ℕ) → Bool → Run → Run → Option ℕ → Type 0
+abbrev pub HasAnsweredLine : List ℕ → KernelContent → KernelContent → Option (List ℕ) → Option (List ℕ) → Bool → Run → Run → Option ℕ → Type 0
 HasAnsweredLine bytes before after old new failing run run' None =
     (after ≡ before) × (new ≡ old) × (failing ≡ false) × (run' ≡ run)
 HasAnsweredLine bytes before after old new failing run run' (Some len) = (tenant : ℕ) × (command : Command)
@@ -71,7 +71,7 @@ HasAnsweredLine bytes before after old new failing run run' (Some len) = (tenant
     × HasAnswered (Ok (Some (Tenant tenant command))) before after old new failing run run' (Ok tt)
 
 -- Of what was given the lines that ended are done, the beginning of the next is held, and the rest is to come.
-pub record Stands (only : Option ℕ) (before now : Parts) (given rest : List ℕ) (start contents : Option (List ℕ))
+pub record Stands (only : Option ℕ) (before now : KernelContent) (given rest : List ℕ) (start contents : Option (List ℕ))
     (pending : Pending) (run : Run) : Type 0 where
   pub done : List (List ℕ)
   pub tail : List ℕ
@@ -85,7 +85,7 @@ pub record Stands (only : Option ℕ) (before now : Parts) (given rest : List �
   pub appended : Appends start contents taken
 
 -- The drain failed in the reply to a line that ended.
-pub record HasStopped (only : Option ℕ) (before now : Parts) (given : List ℕ) (start contents : Option (List ℕ))
+pub record HasStopped (only : Option ℕ) (before now : KernelContent) (given : List ℕ) (start contents : Option (List ℕ))
     (run : Run) : Type 0 where
   pub done : List (List ℕ)
   pub line : List ℕ

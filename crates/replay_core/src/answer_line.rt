@@ -5,7 +5,7 @@ ghost use Rattle.words_core.specs.Requests.{command_of, IsAskable};
 ghost use Rattle.words_core.specs.declared.event.Event.TheVariants.{Tenant};
 ghost use Rattle.words_core.specs.declared.reply.Addressee.TheVariants as Addressee;
 ghost use Rattle.world_core.specs.Output.{is_shown};
-ghost use Rattle.parts_core.specs.Parts.{Parts};
+ghost use Rattle.kernel_core.specs.Content.{KernelContent};
 ghost use Rattle.replay_core.specs.declared.pending.Pending.{Pending};
 ghost use Rattle.replay_core.specs.Pending.{HoldsNothing};
 ghost use Rattle.replay_core.specs.Standing.{IsReady, HasAnswered, HasAnsweredLine, Stands};
@@ -46,7 +46,7 @@ impl Run {
         notes: &mut N,
     ) -> &'a [u8]
         requires { IsReady (D.has_failed drain.old) self.old (length piece.now) }
-        ensures ran { (only : Option ℕ) (before : Parts) (given : List ℕ) (start : Option (List ℕ)) (pending : Pending)
+        ensures ran { (only : Option ℕ) (before : KernelContent) (given : List ℕ) (start : Option (List ℕ)) (pending : Pending)
             → HoldsNothing pending → Stands only before kernel.old given piece.now start (D.contents drain.old) pending self.old
             → Stands only before kernel.new given result.now start (D.contents drain.new) pending self.new }
         ensures left { self.new.lines + length result.now < 2 ^ 64 }

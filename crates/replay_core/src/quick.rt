@@ -6,7 +6,7 @@ ghost use Rattle.quick_core.specs.Lines.{ReadsAs};
 ghost use Rattle.words_core.specs.Grammar.{reading_of};
 ghost use Rattle.words_core.specs.Requests.{command_of, IsAskable};
 ghost use Rattle.words_core.specs.declared.event.Event.TheVariants.{Tenant};
-ghost use Rattle.parts_core.specs.Parts.{Parts};
+ghost use Rattle.kernel_core.specs.Content.{KernelContent};
 ghost use Rattle.replay_core.specs.declared.pending.Pending.{Pending};
 ghost use Rattle.replay_core.specs.Pending.{HoldsNothing};
 ghost use Rattle.replay_core.specs.Standing.{IsReady, HasAnswered, Stands, HasStopped};
@@ -31,7 +31,7 @@ impl Run {
         notes: &mut N,
     ) -> Result<&'a [u8], Stopped>
         requires { IsReady (D.has_failed drain.old) self.old (length piece.now) }
-        ensures ran { (only : Option ℕ) (before : Parts) (given : List ℕ) (start : Option (List ℕ)) (pending : Pending)
+        ensures ran { (only : Option ℕ) (before : KernelContent) (given : List ℕ) (start : Option (List ℕ)) (pending : Pending)
             → HoldsNothing pending → Stands only before kernel.old given piece.now start (D.contents drain.old) pending self.old
             → MatchResult result
             (λ rest. Stands only before kernel.new given rest.now start (D.contents drain.new) pending self.new)
@@ -84,7 +84,7 @@ impl Run {
         notes: &mut N,
     ) -> Result<&'a [u8], Stopped>
         requires { IsReady (D.has_failed drain.old) self.old (length piece.now) }
-        ensures ran { (only : Option ℕ) (before : Parts) (given : List ℕ) (start : Option (List ℕ)) (pending : Pending)
+        ensures ran { (only : Option ℕ) (before : KernelContent) (given : List ℕ) (start : Option (List ℕ)) (pending : Pending)
             → HoldsNothing pending → Stands only before kernel.old given piece.now start (D.contents drain.old) pending self.old
             → MatchResult result
             (λ rest. Stands only before kernel.new given rest.now start (D.contents drain.new) pending self.new)

@@ -3,7 +3,7 @@
 ghost use Rattle.std.specs.Prelude.{◌≡◌, ℕ, ◌+◌, ◌^◌, ◌<◌, List, [], ◌++◌, Option, length, is_err, IfOk, MatchResult};
 ghost use Rattle.words_core.specs.Grammar.{reading_of};
 ghost use Rattle.replay_core.specs.Pending.{HoldsLine, HoldsNothing};
-ghost use Rattle.parts_core.specs.Parts.{Parts};
+ghost use Rattle.kernel_core.specs.Content.{KernelContent};
 ghost use Rattle.replay_core.specs.Bounds.{IsBounded};
 
 use crate::notes::Notes;
@@ -61,7 +61,7 @@ impl Run {
         notes: &mut N,
     ) -> Result<(), Stopped>
         requires { IsReady (D.has_failed drain.old) self.old (length piece.now) }
-        ensures ran { (only : Option ℕ) (before : Parts) (given : List ℕ) (start : Option (List ℕ))
+        ensures ran { (only : Option ℕ) (before : KernelContent) (given : List ℕ) (start : Option (List ℕ))
             → Stands only before kernel.old given piece.now start (D.contents drain.old) pending.old self.old
             → MatchResult result
             (λ _. Stands only before kernel.new given [] start (D.contents drain.new) pending.new self.new)
@@ -88,7 +88,7 @@ impl Run {
         notes: &mut N,
     ) -> Result<&'a [u8], Stopped>
         requires { IsReady (D.has_failed drain.old) self.old (length piece.now) }
-        ensures ran { (only : Option ℕ) (before : Parts) (given : List ℕ) (start : Option (List ℕ))
+        ensures ran { (only : Option ℕ) (before : KernelContent) (given : List ℕ) (start : Option (List ℕ))
             → Stands only before kernel.old given piece.now start (D.contents drain.old) pending.now self.old
             → MatchResult result
             (λ rest. Stands only before kernel.new given rest.now start (D.contents drain.new) pending.now self.new)

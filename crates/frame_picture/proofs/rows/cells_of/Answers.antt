@@ -1,7 +1,7 @@
 use Rattle.std.proofs.Common.{◌≡◌, ℕ, ◌-◌, ◌*◌, ◌%◌, ◌^◌, ◌<◌, ◌≤◌, min, length, ap, sym, ◌∙◌, arith, slice_range, List}
 use Rattle.std.proofs.Math.Nat.{mul-le-mul_right}
 use Rattle.std.proofs.Math.Pow.{pow_mono}
-use Rattle.parts_core.specs.declared.frames.FrameKind.{FrameKind}
+use Rattle.kernel_core.specs.declared.frames.FrameKind.{FrameKind}
 use Rattle.frame_picture.specs.Rows.{cells_between, owned_cells}
 use Rattle.frame_picture.proofs.RowLemmas.{owned}
 use Rattle.frame_picture.proofs.rows.cells_of.Goals as goal

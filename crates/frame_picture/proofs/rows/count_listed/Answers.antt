@@ -1,5 +1,5 @@
 use Rattle.std.proofs.Common.{◌≡◌, ℕ, ◌+◌, ◌++◌, List, take, ap, sym, ◌∙◌, arith}
-use Rattle.parts_core.specs.declared.frames.FrameKind.{FrameKind}
+use Rattle.kernel_core.specs.declared.frames.FrameKind.{FrameKind}
 use Rattle.frame_picture.specs.Owned.{listed_cells}
 use Rattle.frame_picture.proofs.OwnedLemmas.{listed_more, counts_more, shown_more}
 use Rattle.frame_picture.proofs.rows.count_listed.Goals as goal

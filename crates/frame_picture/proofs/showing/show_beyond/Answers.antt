@@ -1,7 +1,7 @@
 use Rattle.std.proofs.Common.{◌≡◌, ◌≢◌, ℕ, ◌+◌, ◌*◌, ◌%◌, ◌^◌, ◌<◌, ◌≤◌, subst, ◌∙◌, arith}
 use Rattle.std.proofs.lemmas.Nat.{shl_whole}
 use Rattle.std.proofs.lemmas.Option.{slice_get_within}
-use Rattle.parts_core.specs.Frames.{IsFrame}
+use Rattle.kernel_core.specs.Frames.{IsFrame}
 use Rattle.world_core.proofs.MachineLists.{slice_get-set_other}
 use Rattle.frame_picture.proofs.Filling.{more_filled}
 use Rattle.frame_picture.proofs.showing.show_beyond.Goals as goal

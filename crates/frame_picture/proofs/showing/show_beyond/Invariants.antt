@@ -1,8 +1,8 @@
 use Rattle.std.proofs.Common.{◌≡◌, ℕ, ◌+◌, ◌*◌, ◌^◌, ◌<◌, ◌≤◌, Some, slice_get}
 use Rattle.model_core.specs.Machine.{Machine}
-use Rattle.parts_core.specs.Frames.{IsFrame}
-use Rattle.parts_core.specs.Shows.{ShowsMachine}
-use Rattle.parts_core.specs.declared.frames.FrameKind.{FrameKind}
+use Rattle.kernel_core.specs.Frames.{IsFrame}
+use Rattle.kernel_core.specs.Shows.{ShowsMachine}
+use Rattle.kernel_core.specs.declared.frames.FrameKind.{FrameKind}
 use Rattle.frame_picture.proofs.showing.show_beyond.Given as goal
 
 -- the cells so far

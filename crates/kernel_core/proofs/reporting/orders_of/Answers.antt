@@ -1,6 +1,6 @@
 use Rattle.std.proofs.Common.{◌+◌, ◌<◌, ℕ, sym, subst, ◌∙◌, IfSome, Option, arith}
 use Rattle.model_core.specs.Reports.{free_count}
-use Rattle.kernel_core.proofs.ReportOrders.{rows_more, greatest_some, greatest_none, live_more, row_is, below_more}
+use Rattle.kernel_core.proofs.ReportFigures.{rows_more, greatest_some, greatest_none, live_more, row_is, below_more}
 use Rattle.kernel_core.proofs.reporting.orders_of.Goals as goal
 use Rattle.kernel_core.proofs.reporting.orders_of.Goals.{then-row-ne0, else-row-ne0}
 

@@ -1,6 +1,6 @@
 use Rattle.std.proofs.Common.{rules, subst}
 use Rattle.words_core.specs.Grammar.{reading_of}
-use Rattle.parts_core.specs.Parts.{Parts}
+use Rattle.kernel_core.specs.Content.{KernelContent}
 use Rattle.partmem_c.specs.Lines.{AnswersLine}
 use Rattle.partmem_c.proofs.TextLemmas.{one_line}
 use Rattle.partmem_c.proofs.lines.partmem_line.Goals as goal
@@ -14,7 +14,7 @@ returns-clause-done c = λ done.
       was = c.take_out-kernel.ensures.held;
       is = search rules;
       one = one_line c.args.line.now answered.one;
-      answers = subst (λ (k : Parts). AnswersLine k (reading_of c.args.line.now) c.run_line-answered.new.kernel answered.text)
+      answers = subst (λ (k : KernelContent). AnswersLine k (reading_of c.args.line.now) c.run_line-answered.new.kernel answered.text)
           c.deref_mut.ensures.value answered.answers;
       puts = answered.puts;
     }

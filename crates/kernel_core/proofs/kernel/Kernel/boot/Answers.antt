@@ -1,5 +1,5 @@
 use Rattle.std.proofs.Common.{subst}
-use Rattle.parts_core.specs.Parts.{PartsAgree}
+use Rattle.kernel_core.specs.Content.{PartsAgree}
 use Rattle.kernel_core.proofs.Opening.{opening_world_shown}
 use Rattle.kernel_core.proofs.kernel.Kernel.boot.Goals as goal
 

@@ -1,19 +1,25 @@
-use Rattle.std.proofs.Common.{◌≡◌, refl, sym, ap, ◌∙◌}
+use Rattle.std.proofs.Common.{refl, sym, ap, ◌∙◌}
 use Rattle.model_core.specs.CacheOperations.{destroy_step}
+use Rattle.words_core.specs.Refusals.{destroy_refusal}
 use Rattle.words_core.specs.declared.event.Command.TheVariants as Asked
 use Rattle.words_core.specs.declared.reply.Body.TheVariants.{Destroyed}
 use Rattle.world_core.specs.PrivateStep.{command_step, destroy_body}
-use Rattle.kernel_core.specs.Steps.{body_of}
-use Rattle.kernel_core.proofs.Commanding.{commanded, by_err}
+use Rattle.kernel_core.specs.Content.{content_of}
+use Rattle.kernel_core.specs.Steps.{StepsMachine}
+use Rattle.kernel_core.proofs.Commanding.{called, by_err, passed}
 use Rattle.kernel_core.proofs.kernel.Kernel.destroy.Goals as goal
-use Rattle.kernel_core.proofs.kernel.Kernel.destroy.Goals.{in-Ok, in-Err}
+use Rattle.kernel_core.proofs.kernel.Kernel.destroy.Goals.{After-destroy}
+
+tried : (c : After-destroy) → StepsMachine (content_of c.self.inside.space c.self.inside.buddy c.self.inside.slabs) c.args.t (Asked.Destroy c.args.cache)
+    (content_of c.destroy.new.space c.destroy.new.buddy c.destroy.new.self) (destroy_body c.destroy.result)
+unfolding command_step
+tried c =
+    called _ _ _ _ _ _ c.args.t c.destroy.ensures.spares (Asked.Destroy c.args.cache) destroy_body (destroy_step c.args.cache) c.destroy.result (λ m. refl)
+    c.destroy.ensures.answer c.destroy.ensures.shows (by_err destroy_body c.destroy.result (λ done. refl) c.destroy.ensures.refused)
+
+pub returns-in_err-destroy : goal.returns-in_err-destroy
+returns-in_err-destroy c = rw (passed Destroyed destroy_refusal _ _ c.from_residual.ensures.1 ∙ sym (ap destroy_body c.in_err-destroy.was), ← c.self.view_is)
+    (tried (goal.at.returns-in_err-destroy c).After-destroy)
 
 pub returns : goal.returns
-unfolding command_step
-returns c =
-    let told : destroy_body c.destroy.result ≡ body_of Destroyed c.match-destroy.result = elim c.match-destroy.branch [
-      | in-Ok w ↦ ap destroy_body w.in-Ok.is ∙ sym (ap (body_of Destroyed) w.result-is)
-      | in-Err w ↦ ap destroy_body w.in-Err.is ∙ sym w.of_destroy.ensures ∙ sym (ap (body_of Destroyed) w.result-is)
-    ] in
-    rw (← told, ← c.self.view_is) (commanded _ _ c.args.t (Asked.Destroy c.args.cache) destroy_body (destroy_step c.args.cache) c.destroy.result (λ m. refl) c.destroy.ensures.does
-    (by_err destroy_body c.destroy.result (λ done. refl) c.destroy.ensures.refused))
+returns c = rw (← ap destroy_body c.in_ok-destroy.was, ← c.self.view_is) (tried (goal.at.returns c).After-destroy)

@@ -6,37 +6,31 @@ use Rattle.machine_changes.specs.Figures.{HasFigures, AreWithin}
 use Rattle.machine_changes.specs.Shows as showing
 use Rattle.machine_changes.specs.Steady.{IsSteady}
 use Rattle.world_core.specs.PrivateStep.{figures_of}
-use Rattle.parts_core.specs.Parts.{Parts}
-use Rattle.parts_core.proofs.Changing.{steady}
+use Rattle.kernel_core.proofs.Changing.{steady}
 use Rattle.kernel_core.proofs.ReportFigures.{within, meet, live_below, frames_read, top_none, top_some, figures_are}
 use Rattle.kernel_core.proofs.kernel.Kernel.figures.Goals as goal
 use Rattle.kernel_core.proofs.kernel.Kernel.figures.Goals.{then-free-eq0, else-free-eq0}
 
 pub orders_of-blocks-requires-clause-fit : goal.orders_of-blocks-requires-clause-fit
-orders_of-blocks-requires-clause-fit c =
-    let known : c.args.t < c.self.inside.parts.tenants = subst (λ (k : Parts). c.args.t < k.tenants) (sym c.self.view_is) c.requires in
-    rw c.buddy-buddy.ensures (within c.self.inside.parts c.args.t c.laws.ensures.agree c.laws.ensures.together known)
+orders_of-blocks-requires-clause-fit c = rw c.buddy-buddy.ensures (within c.args.self.now c.args.t c.laws.ensures.agree c.laws.ensures.together c.requires)
 
 pub overflow_sub-free : goal.overflow_sub-free
 overflow_sub-free c =
-    let known : c.args.t < c.self.inside.parts.tenants = subst (λ (k : Parts). c.args.t < k.tenants) (sym c.self.view_is) c.requires in
     let small : AreWithin c.buddy-buddy.result.now c.args.t
-    = rw c.buddy-buddy.ensures (within c.self.inside.parts c.args.t c.laws.ensures.agree c.laws.ensures.together known) in
+    = rw c.buddy-buddy.ensures (within c.args.self.now c.args.t c.laws.ensures.agree c.laws.ensures.together c.requires) in
     live_below c.buddy-buddy.result.now c.args.t c.slots.result c.order.result c.orders_of-blocks.result.live small
     c.slots.ensures c.order.ensures c.orders_of-blocks.ensures.live
 
 pub returns : goal.returns
-returns c =
-    let k = c.self.inside.parts in
+returns c = λ m shown.
+    let k = c.args.self.now in
     let b = c.buddy-buddy.result.now in
     let t = c.args.t in
     let agree = c.laws.ensures.agree in
     let holds = c.laws.ensures.together in
-    let known : t < k.tenants = subst (λ (x : Parts). t < x.tenants) (sym c.self.view_is) c.requires in
-    let small : AreWithin b t = rw c.buddy-buddy.ensures (within k t agree holds known) in
-    let inside : t < length k.buddy.tenants = omega (arith, agree.holdings) in
-    rw (← c.self.view_is) (λ m shown.
-    let has : HasFigures b t m = subst (λ (x : buddies.Content). HasFigures x t m) (sym c.buddy-buddy.ensures) (meet k t m agree holds known shown) in
+    let small : AreWithin b t = rw c.buddy-buddy.ensures (within k t agree holds c.requires) in
+    let inside : t < length k.buddy.tenants = omega (arith, agree.holdings, c.requires) in
+    let has : HasFigures b t m = rw c.buddy-buddy.ensures (meet k t m agree holds c.requires shown) in
     let frames_is : c.slots.result * 2 ^ c.order.result % 4294967296 ≡ frames_held b.top m
     = frames_read b t m c.slots.result c.order.result has small c.slots.ensures c.order.ensures in
     let live_is : c.orders_of-blocks.result.live ≡ frames_taken m = c.orders_of-blocks.ensures.live ∙ sym has.frames in
@@ -51,4 +45,4 @@ returns c =
     holds.agree (steady k.space k.buddy k.slabs t holds inside) shown in
     figures_are b.top m _ c.orders_of-blocks.result.live _ c.if-free-eq0.top c.split_share.result c.orders_of-blocks.result.orders.items c.rows.result.items
     frames_is live_is free_is top_is c.split_share.ensures (c.orders_of-blocks.ensures.orders m has) rows
-    ∙ ap (λ order. figures_of order m) (ap (λ (x : buddies.Content). x.top) c.buddy-buddy.ensures ∙ agree.top))
+    ∙ ap (λ order. figures_of order m) (ap (λ (x : buddies.Content). x.top) c.buddy-buddy.ensures ∙ agree.top)

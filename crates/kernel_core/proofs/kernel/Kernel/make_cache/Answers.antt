@@ -1,29 +1,44 @@
-use Rattle.std.proofs.Common.{◌≡◌, Ok, Err, refl, sym, ap}
-use Rattle.std.proofs.lemmas.Bool.{false≢true}
-use Rattle.model_core.specs.declared.limits.TheConstants.{MOST_CACHES}
-use Rattle.model_core.specs.CacheOperations.{cache_step}
+use Rattle.std.proofs.Common.{◌≡◌, Err, ok_or, refl, sym, ap, ◌∙◌}
+use Rattle.model_core.specs.declared.refusals.CacheRefusal.{CacheRefusal}
 use Rattle.words_core.specs.declared.event.Command.TheVariants as Asked
-use Rattle.world_core.specs.PrivateStep.{command_step, told_by, cache_body}
-use Rattle.kernel_core.proofs.Commanding.{commanded, made}
+use Rattle.world_core.specs.PrivateStep.{cache_body}
+use Rattle.kernel_core.specs.Content.{content_of}
+use Rattle.kernel_core.specs.Steps.{StepsMachine}
+use Rattle.kernel_core.proofs.CacheCalls.{cut_is, cache_refused, created}
+use Rattle.kernel_core.proofs.Commanding.{made}
 use Rattle.kernel_core.proofs.kernel.Kernel.make_cache.Goals as goal
+use Rattle.kernel_core.proofs.kernel.Kernel.make_cache.Goals.{After-create}
 
-pub returns-in-Err-clause-steps : goal.returns-in-Err-clause-steps
-unfolding command_step
-returns-in-Err-clause-steps c =
+pub returns-in-Err-BadSize-clause-steps : goal.returns-in-Err-BadSize-clause-steps
+returns-in-Err-BadSize-clause-steps c =
+    cache_refused c.args.self.now c.args.t c.args.size c.args.align c.args.pattern.now _ CacheRefusal.BadSize
+    (sym (ap (λ x. Err x) c.in-Err-BadSize.field-0-is) ∙ c.in-Err-BadSize.ensures) (λ m. refl)
+
+pub returns-in-Err-BadAlign-clause-steps : goal.returns-in-Err-BadAlign-clause-steps
+returns-in-Err-BadAlign-clause-steps c =
+    cache_refused c.args.self.now c.args.t c.args.size c.args.align c.args.pattern.now _ CacheRefusal.BadAlign
+    (sym (ap (λ x. Err x) c.in-Err-BadAlign.field-0-is) ∙ c.in-Err-BadAlign.ensures) (λ m. refl)
+
+-- the cache, or the lack of a number for it
+tried : (c : After-create) → StepsMachine (content_of c.self.inside.space c.self.inside.buddy c.self.inside.slabs) c.args.t
+    (Asked.Cache c.args.size c.args.align (record { items = c.args.pattern.now })) (content_of c.self.inside.space c.self.inside.buddy c.create.new.self)
+    (cache_body c.args.size c.args.align (ok_or c.create.result CacheRefusal.NoCacheSlot))
+tried c =
     let held : c.unwrap-pattern.result ≡ c.args.pattern.now = rw c.unwrap-pattern.ensures at c.new.ensures.value in
-    rw (c.of_cache.ensures c.args.size c.args.align, c.in-Err.ensures.refused, ← c.self.view_is)
-    (commanded _ _ c.args.t (Asked.Cache c.args.size c.args.align (record { items = c.args.pattern.now })) (cache_body c.args.size c.args.align)
-    (cache_step MOST_CACHES c.args.size c.args.align c.unwrap-pattern.result) (Err c.in-Err.refusal)
-    (λ m. ap (λ xs. told_by (cache_body c.args.size c.args.align) (cache_step MOST_CACHES c.args.size c.args.align xs m)) (sym held))
-    c.in-Err.ensures.why (λ _. refl))
+    rw (← held) (created _ _ _ _ c.args.t (c.create.ensures.others _ _) c.args.size c.args.align c.unwrap-pattern.result c.in-Ok.layout c.create.result c.in-Ok.ensures
+    (c.create.ensures.answer _ _) (c.create.ensures.shows _ _) c.create.ensures.refused)
+
+pub returns-in_default-clause-steps : goal.returns-in_default-clause-steps
+returns-in_default-clause-steps c =
+    let told = ap (λ o. cache_body c.args.size c.args.align (ok_or o CacheRefusal.NoCacheSlot)) c.in_default.is in
+    rw (← told, ← c.self.view_is) (tried (goal.at.returns-in_default-clause-steps c).After-create)
+
+pub invariant_of-self-2 : goal.invariant_of-self-2
+invariant_of-self-2 c = c.create.ensures.agree _ _ c.self.invariant
 
 pub returns-clause-steps : goal.returns-clause-steps
-unfolding command_step
 returns-clause-steps c =
-    let held : c.unwrap-pattern.result ≡ c.args.pattern.now = rw c.unwrap-pattern.ensures at c.new.ensures.value in
-    let told = made c.args.size c.args.align c.in-Ok.made.0 c.chunk.result c.order.result c.count.result c.colours.result c.in-Ok.made.1 c.in-Ok.ensures.layout
-    c.chunk.ensures c.order.ensures c.count.ensures c.colours.ensures in
-    rw (← told, ← c.self.view_is) (commanded _ _ c.args.t (Asked.Cache c.args.size c.args.align (record { items = c.args.pattern.now })) (cache_body c.args.size c.args.align)
-    (cache_step MOST_CACHES c.args.size c.args.align c.unwrap-pattern.result) (Ok c.in-Ok.made.0)
-    (λ m. ap (λ xs. told_by (cache_body c.args.size c.args.align) (cache_step MOST_CACHES c.args.size c.args.align xs m)) (sym held))
-    c.in-Ok.ensures.does (λ is. absurd (false≢true is)))
+    let told = ap (λ o. cache_body c.args.size c.args.align (ok_or o CacheRefusal.NoCacheSlot)) c.in-Some.is
+    ∙ made c.args.size c.args.align c.in-Some.cache c.chunk.result c.order.result c.count.result c.colours.result c.in-Ok.layout
+    (cut_is c.args.size c.args.align c.in-Ok.layout c.in-Ok.ensures) c.chunk.ensures c.order.ensures c.count.ensures c.colours.ensures in
+    rw (← told, ← c.self.view_is) (tried (goal.at.returns-clause-steps c).After-create)

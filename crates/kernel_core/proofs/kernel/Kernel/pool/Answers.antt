@@ -4,5 +4,4 @@ use Rattle.kernel_core.proofs.Resetting.{steps_told}
 use Rattle.kernel_core.proofs.kernel.Kernel.pool.Goals as goal
 
 pub returns : goal.returns
-returns c = rw (← c.self.view_is)
-    (steps_told _ c.owners.result.items (c.owners.ensures ∙ ap (λ (s : spaces.Content). s.owners) c.space.ensures))
+returns c = steps_told _ c.owners.result.items (c.owners.ensures ∙ ap (λ (s : spaces.Content). s.owners) c.space.ensures)

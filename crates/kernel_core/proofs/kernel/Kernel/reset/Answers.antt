@@ -1,13 +1,23 @@
-use Rattle.std.proofs.Common.{◌<◌, sym, subst}
-use Rattle.parts_core.specs.Parts.{Parts}
-use Rattle.kernel_core.proofs.Resetting.{steps_reset, reset_without_tenant}
+use Rattle.kernel_core.proofs.Changing.{opened, known}
+use Rattle.kernel_core.proofs.Resetting.{IsEmptying, changes, does_reset, steps_reset, reset_without_tenant}
 use Rattle.kernel_core.proofs.kernel.Kernel.reset.Goals as goal
 
 pub returns-in_default-clause-steps : goal.returns-in_default-clause-steps
 returns-in_default-clause-steps c = λ agree. reset_without_tenant _ c.args.tenant c.in_default.ensures
 
+emptying : (c : goal.After-give_up-superblocks) → IsEmptying c.self.inside.space c.give_up-superblocks.new.space c.self.inside.buddy c.self.inside.slabs c.reset-2.new.self c.in-Some.t
+    c.give_up-superblocks.result
+emptying c = record {
+  together = opened _ _ _ _ c.self.view_is c.laws.ensures.together;
+  tenant = known _ _ _ _ c.in-Some.t c.self.view_is c.in-Some.ensures.1;
+  gives = c.give_up-superblocks.ensures;
+  caches = c.reset-2.ensures.reset;
+}
+
+pub invariant_of-self : goal.invariant_of-self
+invariant_of-self c = rw c.reset.ensures (changes _ _ _ _ _ c.in-Some.t _ (emptying c)).agree
+
 pub returns-clause-steps : goal.returns-clause-steps
-returns-clause-steps c = λ agree.
-    let known : c.in-Some.t < c.self.inside.parts.tenants = subst (λ (k : Parts). c.in-Some.t < k.tenants) (sym c.self.view_is) c.in-Some.ensures.1 in
-    rw (← c.self.view_is)
-    (steps_reset _ _ c.in-Some.t c.args.tenant c.reset-superblocks.result c.in-Some.ensures.0 known agree c.reset-superblocks.ensures.count c.reset-superblocks.ensures.does)
+returns-clause-steps c = rw (c.reset.ensures, ← c.self.view_is) (λ agree.
+    steps_reset _ _ c.in-Some.t c.args.tenant c.give_up-superblocks.result c.in-Some.ensures.0 (emptying c).tenant agree c.give_up-superblocks.ensures.count
+    (does_reset _ _ _ _ _ c.in-Some.t _ (emptying c)))

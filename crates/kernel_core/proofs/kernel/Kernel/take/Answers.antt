@@ -1,19 +1,23 @@
-use Rattle.std.proofs.Common.{◌≡◌, refl, sym, ap, ◌∙◌}
-use Rattle.model_core.specs.CacheOperations.{take_step}
+use Rattle.std.proofs.Common.{sym, ap, ◌∙◌}
+use Rattle.words_core.specs.Refusals.{take_refusal}
 use Rattle.words_core.specs.declared.event.Command.TheVariants as Asked
 use Rattle.words_core.specs.declared.reply.Body.TheVariants.{Object}
-use Rattle.world_core.specs.PrivateStep.{command_step, take_body}
-use Rattle.kernel_core.specs.Steps.{body_of}
-use Rattle.kernel_core.proofs.Commanding.{commanded, by_err}
+use Rattle.world_core.specs.PrivateStep.{take_body}
+use Rattle.kernel_core.specs.Content.{content_of}
+use Rattle.kernel_core.specs.Steps.{StepsMachine}
+use Rattle.kernel_core.proofs.CacheCalls.{taken}
+use Rattle.kernel_core.proofs.Commanding.{passed}
 use Rattle.kernel_core.proofs.kernel.Kernel.take.Goals as goal
-use Rattle.kernel_core.proofs.kernel.Kernel.take.Goals.{in-Ok, in-Err}
+use Rattle.kernel_core.proofs.kernel.Kernel.take.Goals.{After-take}
+
+tried : (c : After-take) → StepsMachine (content_of c.self.inside.space c.self.inside.buddy c.self.inside.slabs) c.args.t (Asked.Take c.args.cache)
+    (content_of c.take.new.space c.take.new.buddy c.take.new.self) (take_body c.take.result)
+tried c =
+    taken _ _ _ _ _ _ c.args.t c.self.invariant c.take.ensures.spares c.args.cache c.take.result c.take.ensures.answer c.take.ensures.shows c.take.ensures.refused
+
+pub returns-in_err-take : goal.returns-in_err-take
+returns-in_err-take c = rw (passed Object take_refusal _ _ c.from_residual.ensures.1 ∙ sym (ap take_body c.in_err-take.was), ← c.self.view_is)
+    (tried (goal.at.returns-in_err-take c).After-take)
 
 pub returns : goal.returns
-unfolding command_step
-returns c =
-    let told : take_body c.take.result ≡ body_of Object c.match-take.result = elim c.match-take.branch [
-      | in-Ok w ↦ ap take_body w.in-Ok.is ∙ sym (ap (body_of Object) w.result-is)
-      | in-Err w ↦ ap take_body w.in-Err.is ∙ sym w.of_take.ensures ∙ sym (ap (body_of Object) w.result-is)
-    ] in
-    rw (← told, ← c.self.view_is) (commanded _ _ c.args.t (Asked.Take c.args.cache) take_body (take_step c.self.inside.parts.order c.args.cache) c.take.result (λ m. refl) c.take.ensures.does
-    (by_err take_body c.take.result (λ done. refl) c.take.ensures.refused))
+returns c = rw (← ap take_body c.in_ok-take.was, ← c.self.view_is) (tried (goal.at.returns c).After-take)

@@ -1,15 +1,20 @@
-use Rattle.std.proofs.Common.{refl, ap, ◌∙◌}
-use Rattle.model_core.specs.Operations.{write_step}
-use Rattle.words_core.specs.declared.event.Command.TheVariants as Asked
-use Rattle.words_core.specs.declared.reply.Body.TheVariants.{Written}
-use Rattle.world_core.specs.PrivateStep.{command_step, write_body}
-use Rattle.kernel_core.specs.Steps.{body_of}
-use Rattle.kernel_core.proofs.Commanding.{commanded, by_none, written}
+use Rattle.std.proofs.Common.{length}
+use Rattle.kernel_core.proofs.PageCalls.{write_beyond, write_agrees, write_done, asked_opened, reach_opened}
 use Rattle.kernel_core.proofs.kernel.Kernel.write.Goals as goal
 
+pub returns-in_default-clause-steps : goal.returns-in_default-clause-steps
+returns-in_default-clause-steps c =
+    write_beyond _ c.args.t c.args.place c.args.bytes.now (record { together = c.in_default.ensures.together; tenant = c.in_default.ensures.known })
+    c.in_default.ensures.reach
+
+pub invariant_of-self : goal.invariant_of-self
+invariant_of-self c =
+    rw c.store.ensures (write_agrees _ _ _ c.args.t c.args.place c.args.bytes.now
+    (asked_opened _ _ _ _ c.args.t c.self.view_is (record { together = c.in-Some.ensures.together; tenant = c.in-Some.ensures.known }))
+    (reach_opened _ _ _ _ c.args.t c.args.place (length c.args.bytes.now) c.self.view_is c.in-Some.ensures.reach.0)).agree
+
 pub returns-clause-steps : goal.returns-clause-steps
-unfolding command_step
 returns-clause-steps c =
-    rw (ap (body_of Written) c.ok_or.ensures.value ∙ written c.write.result, ← c.self.view_is)
-    (commanded _ _ c.args.t (Asked.Write c.args.place (record { items = c.args.bytes.now })) write_body (write_step c.args.place c.args.bytes.now) c.write.result
-    (λ m. refl) c.write.ensures.does (by_none write_body c.write.result (λ count. refl) c.write.ensures.refused))
+    rw (c.store.ensures, ← c.self.view_is) (write_done _ _ _ c.args.t c.args.place c.args.bytes.now
+    (asked_opened _ _ _ _ c.args.t c.self.view_is (record { together = c.in-Some.ensures.together; tenant = c.in-Some.ensures.known }))
+    (reach_opened _ _ _ _ c.args.t c.args.place (length c.args.bytes.now) c.self.view_is c.in-Some.ensures.reach.0))

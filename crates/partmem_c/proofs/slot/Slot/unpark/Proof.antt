@@ -28,7 +28,7 @@ use Rattle.std.specs.contracts.impls.GlobalAllocator.TheImpl.{ghosts}
 use Rattle.std_alloc.specs.Box.Ownership.{box_owns}
 use Rattle.partmem_c.proofs.RawBoxValues.{both, raw_good, raw_in}
 use Rattle.kernel_core.specs.contracts.kernel.Kernel.{the_row}
-use Rattle.parts_core.specs.Parts.{Parts}
+use Rattle.kernel_core.specs.Content.{KernelContent}
 use Rattle.partmem_c.specs.Slots.{slot_owns}
 use Rattle.partmem_c.specs.contracts.slot.Slot as slot
 use Rattle.partmem_c.proofs.SlotSteps.{word, holds, slot_out}
@@ -48,7 +48,7 @@ unpark_spec 𝓤 𝓛 𝓜 𝓡 wired =
     let h = one (layout Z) z.0.4.1.0 ((LZ.lawful 𝓛).typed a z.0.4.1.0 are.1.0) in
     qed 𝓛 ((raw (alive 𝓛 f.signature κs qs) ⊛ ‵ (owns (types_at f.signature.params κs) z.0.3 z.0.4)) ∷ raw (fact 𝓤 (is_some s.held ≡ true)) ∷ []) ∵
     move ! (1 ∷ []) $ heard ! (is_some s.held ≡ true) (λ some. let held = holds s.held some in split ! $ move ! (1 ∷ []) $ fsplit ! $ slot_out ! s z.0.4.0 (λ ws.
-    rewrite ! 0 (λ (o : Option Parts). ‵ (slot_owns s.at o)) held.1 refl $ fpick ! (λ from.
+    rewrite ! 0 (λ (o : Option KernelContent). ‵ (slot_owns s.at o)) held.1 refl $ fpick ! (λ from.
     in_a_block ! s.at (λ p. box_owns (ghosts.dealloc_token from) the_row p held.0) (fst∗ 𝓤 (never 𝓤) (sem 𝓛 (ghosts.dealloc_token from (bare (lone the_row.mir)) null_ptr))) (λ b o e.
     let p = block_ptr b o in let made : Val = both (vptr b o) h.0 in let typed = raw_good the_row Z LZ ghosts b o h.0 h.2 in
     move ! (1 ∷ []) $ fsplit ! $ rewrite ! 0 (λ (us : List Val). ‵ (Z.own_val a us)) h.1 refl $ move ! (2 ∷ 0 ∷ []) $ raw_in the_row Z LZ ghosts ! b o h.0 a held.0 $

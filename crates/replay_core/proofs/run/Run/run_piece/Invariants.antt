@@ -1,11 +1,11 @@
 use Rattle.std.proofs.Common.{◌≡◌, ℕ, ◌+◌, ◌^◌, ◌<◌, false, List, Option, length}
-use Rattle.parts_core.specs.Parts.{Parts}
+use Rattle.kernel_core.specs.Content.{KernelContent}
 use Rattle.replay_core.specs.Standing.{Stands}
 use Rattle.replay_core.proofs.run.Run.run_piece.Given as goal
 
 abbrev pub invariant-lines : goal.invariant-lines
 invariant-lines g l =
-    ((only : Option ℕ) (before : Parts) (given : List ℕ) (start : Option (List ℕ))
+    ((only : Option ℕ) (before : KernelContent) (given : List ℕ) (start : Option (List ℕ))
     → Stands only before l.fn.kernel given l.piece start (g.D.Drain.contents l.fn.drain) l.fn.pending l.fn.self
     → Stands only before l.kernel given l.rest start (g.D.Drain.contents l.drain) l.pending l.self)
     × (l.self.lines + length l.rest < 2 ^ 64) × (g.D.Drain.has_failed l.drain ≡ false)

@@ -1,0 +1,6 @@
+use Rattle.kernel_core.proofs.Resetting.{IsGivingUp}
+use Rattle.kernel_core.proofs.slots.give_up.Given as goal
+
+-- the superblocks so far are given up
+abbrev pub invariant-loop-m : goal.invariant-loop-m
+invariant-loop-m l = IsGivingUp l.fn.space l.space l.t l.m l.count

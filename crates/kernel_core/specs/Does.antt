@@ -1,0 +1,40 @@
+-- What a call for one tenant does to the parts.
+use Rattle.std.specs.Prelude.{◌≡◌, ◌≢◌, ℕ, List, Option, Some, None, slice_set}
+use Rattle.model_core.specs.declared.owner.Owner.{Owner}
+use Rattle.model_core.specs.Machine.{Machine, empty_machine}
+use Rattle.model_core.specs.Operations.{Step, next_slot, after_grant}
+use Rattle.model_core.specs.Owners.{owned_by}
+use Rattle.space_core.specs.Laws.{SpareStays}
+use Rattle.kernel_core.specs.Content.{KernelContent, SameSizes, MarksFollow, Keeps, superblock_at}
+use Rattle.kernel_core.specs.Shows.{ShowsMachine}
+
+-- The call answers, and makes of whichever machine the parts show for tenant t, what this step of a private machine does. All
+-- other tenants keep everything. Afterwards these are the owners of the superblocks; a superblock is marked where it lost its
+-- owner, unmarked where it got one, and keeps its bytes where it has none.
+pub record Does {A : Type 0} (old : KernelContent) (t : ℕ) (step : Machine → Step A) (owned : List (Option Owner)) (new : KernelContent) (told : A) : Type 0 where
+  pub sizes : SameSizes old new
+  pub shows : (m : Machine) → ShowsMachine old t m → ShowsMachine new t (step m).machine
+  pub answer : (m : Machine) → ShowsMachine old t m → told ≡ (step m).answer
+  pub others : (u : ℕ) → u ≢ t → Keeps old new u
+  pub owners : new.space.owners ≡ owned
+  pub marks : MarksFollow old.space new.space
+  pub spare : SpareStays old.space new.space
+
+-- The steps of the administrator's calls that no command of the tenant's own has
+
+-- a superblock granted, under the least slot that is not held
+abbrev pub slot_grant_step : ℕ → Machine → Step ℕ
+slot_grant_step order m = record { answer = next_slot m; machine = after_grant order m }
+
+-- everything taken
+abbrev pub machine_reset_step : Machine → Step (Unit {0})
+machine_reset_step m = record { answer = tt; machine = empty_machine }
+
+abbrev pub no_step : Machine → Step (Unit {0})
+no_step m = record { answer = tt; machine = m }
+
+-- slot u of tenant t stands over superblock `to` in place of the one that was under it, which has no owner any more
+pub record Moves (old : KernelContent) (t u to : ℕ) (new : KernelContent) : Type 0 where
+  pub from : ℕ
+  pub under : superblock_at old t u ≡ Some from
+  pub does : Does old t no_step (slice_set (slice_set old.space.owners from None) to (Some (owned_by t u))) new tt

@@ -1,0 +1,85 @@
+//! Caches and objects of a tenant.
+
+ghost use Rattle.std.specs.Prelude.{◌≡◌, ◌<◌, IfOk, true, false};
+ghost use Rattle.model_core.specs.Layouts.{is_pattern};
+ghost use Rattle.words_core.specs.Requests.{body_of_answer, HasFewBytes, tells_bytes};
+ghost use Rattle.words_core.specs.declared.event.Command.TheVariants as Command;
+ghost use Rattle.words_core.specs.declared.reply.Body.TheVariants.{Destroyed, Object, Given, Reaped};
+ghost use Rattle.kernel_core.specs.Steps.{StepsMachine, body_of};
+
+use crate::Kernel;
+use layout_core::{Layout, LayoutRefusal, Pattern};
+use words_core::{Answer, Refusal};
+
+impl Kernel {
+    /// Makes a cache for objects of `size` bytes at multiples of `align`, which hold the pattern when they are constructed.
+    pub(crate) fn make_cache(
+        &mut self,
+        t: u8,
+        size: u32,
+        align: u32,
+        pattern: &[u8],
+    ) -> Result<Answer<'static>, Refusal>
+        requires tenant { t < self.old.tenants }
+        requires pattern { is_pattern pattern.now ≡ true }
+        ensures steps { StepsMachine self.old t (Command.Cache size align (record { items = pattern.now })) self.new
+            (body_of body_of_answer result) }
+        ensures few { IfOk result (λ answer. HasFewBytes answer) }
+        ensures bytes { IfOk result (λ answer. tells_bytes answer ≡ false) }
+    {
+        let pattern = Pattern::new(pattern).unwrap();
+        let layout = match Layout::of(size, align) {
+            Ok(layout) => layout,
+            Err(LayoutRefusal::BadSize) => return Err(Refusal::BadSize),
+            Err(LayoutRefusal::BadAlign) => return Err(Refusal::BadAlign),
+        };
+        let Some(cache) = self.slabs.create(t, layout, pattern) else {
+            return Err(Refusal::NoCacheSlot);
+        };
+        Ok(Answer::Cache {
+            cache,
+            chunk: layout.chunk(),
+            order: layout.order(),
+            objects: layout.count(),
+            colours: layout.colours(),
+        })
+    }
+
+    /// Destroys a cache and returns how many frames its slabs had.
+    pub(crate) fn destroy(&mut self, t: u8, cache: u32) -> Result<u32, Refusal>
+        requires { t < self.old.tenants }
+        ensures { StepsMachine self.old t (Command.Destroy cache) self.new (body_of Destroyed result) }
+    {
+        Ok(
+            self.slabs
+                .destroy(&mut self.space, &mut self.buddy, t, cache)?,
+        )
+    }
+
+    /// Takes an object of a cache and returns its first place.
+    pub(crate) fn take(&mut self, t: u8, cache: u32) -> Result<u32, Refusal>
+        requires { t < self.old.tenants }
+        ensures { StepsMachine self.old t (Command.Take cache) self.new (body_of Object result) }
+    {
+        Ok(self.slabs.take(&mut self.space, &mut self.buddy, t, cache)?)
+    }
+
+    /// Gives an object of a cache back.
+    pub(crate) fn give(&mut self, t: u8, cache: u32, place: u32) -> Result<(), Refusal>
+        requires { t < self.old.tenants }
+        ensures { StepsMachine self.old t (Command.Give cache place) self.new (body_of (λ done. Given) result) }
+    {
+        Ok(
+            self.slabs
+                .give(&mut self.space, &self.buddy, t, cache, place)?,
+        )
+    }
+
+    /// Gives all empty slabs back and returns how many frames they had.
+    pub(crate) fn reap(&mut self, t: u8) -> u32
+        requires { t < self.old.tenants }
+        ensures { StepsMachine self.old t Command.Reap self.new (Reaped result) }
+    {
+        self.slabs.reap(&mut self.space, &mut self.buddy, t)
+    }
+}

@@ -1,0 +1,243 @@
+//! What a frame of a tenant is.
+
+ghost use Rattle.std.specs.Prelude.{◌≡◌, ℕ, ◌<◌, ◌≤◌, ◌+◌, ◌*◌, ◌/◌, ◌%◌, ◌^◌, false, is_some, MatchOption, IfSome, Some, length, slice_get};
+ghost use Rattle.model_core.specs.Blocks.{block, HasFrame};
+ghost use Rattle.buddy_core.specs.Content.{holding_of, taken_of};
+ghost use Rattle.model_core.specs.Machine.{Machine};
+ghost use Rattle.klist_core.specs.Places.{place_at};
+ghost use Rattle.machine_changes.specs.Shows.{node_of, has_slab};
+ghost use Rattle.kernel_core.specs.Content.{superblock_at};
+ghost use Rattle.kernel_core.specs.Shows.{ShowsMachine};
+ghost use Rattle.kernel_core.specs.Frames.{IsFrame, IsInSlab, AreEndedBefore};
+ghost use Rattle.kernel_core.specs.declared.frames.FrameKind.TheVariants.{Free};
+ghost use Rattle.machine_changes.specs.Laws.{is_kind};
+
+use crate::Kernel;
+use slab_tables::{Kind, ListId};
+
+/// What a frame of a tenant is.
+#[derive(Clone, Copy, Debug, PartialEq, Eq)]
+pub enum FrameKind {
+    /// The tenant does not hold its slot.
+    NotHeld,
+    /// It lies in a held slot and in no taken block.
+    Free,
+    /// It lies in a page block.
+    Page,
+    /// It lies in a slab of which all objects are live.
+    Full,
+    /// It lies in a slab of which some objects are live, and not all.
+    Partial,
+    /// It lies in a slab of which no object is live.
+    Empty,
+}
+
+impl Kernel {
+    /// What frame `frame` of tenant `t` is.
+    pub fn frame_at(&self, t: u8, frame: u32) -> FrameKind
+        requires { t < self.now.tenants }
+        ensures { (m : Machine) → ShowsMachine self.now t m → IsFrame self.now.order m frame result }
+    {
+        self.laws();
+        if !self.is_held(t, frame) {
+            return FrameKind::NotHeld;
+        }
+        let Some((first, _)) = self.buddy.block_of(t, frame) else {
+            return FrameKind::Free;
+        };
+        match self.list_at(t, first) {
+            Some(list) => kind_in(list),
+            None => FrameKind::Page,
+        }
+    }
+
+    /// What the frames of a slot of tenant `t` are, from its first one on, as many as there are cells: [`Kernel::frame_at`] of each, a
+    /// block at a time. Cells behind those of the slot may be set to anything.
+    pub fn show_frames(&self, t: u8, slot: u16, cells: &mut [FrameKind])
+        requires { t < self.now.tenants }
+        ensures { (m : Machine) (k : ℕ) (cell : FrameKind) → ShowsMachine self.now t m → k < 2 ^ self.now.order
+            → slice_get cells.new k ≡ Some cell → IsFrame self.now.order m (slot * 2 ^ self.now.order + k) cell }
+    {
+        match self.superblock_of(t, u32::from(slot)) {
+            Some(superblock) => self.show_held(superblock, t, slot, cells),
+            None => {
+                for cell in cells.iter_mut() {
+                    *cell = FrameKind::NotHeld;
+                }
+            }
+        }
+    }
+
+    /// [`Kernel::show_frames`] of a slot that this superblock is under.
+    fn show_held(&self, superblock: u16, t: u8, slot: u16, cells: &mut [FrameKind])
+        requires tenant { t < self.now.tenants }
+        requires held { superblock_at self.now t slot ≡ Some superblock }
+        ensures { (m : Machine) (k : ℕ) (cell : FrameKind) → ShowsMachine self.now t m → k < 2 ^ self.now.order
+            → slice_get cells.new k ≡ Some cell → IsFrame self.now.order m (slot * 2 ^ self.now.order + k) cell }
+    {
+        self.laws();
+        let base = self.slot_start(slot);
+        let orders = self.buddy().orders_under(t, u32::from(slot));
+        let most = cells.len().min(orders.len());
+        set_more_cells(cells, 0, most, FrameKind::Free);
+        let mut at = 0usize;
+        'runs: while at < most {
+            let (kind, frames) = self.run_at(superblock, t, base + at as u32, orders[at]);
+            let end = at + frames;
+            set_cells(cells, at, end.min(most), kind);
+            at = end;
+        }
+    }
+
+    /// The first frame of a slot.
+    fn slot_start(&self, slot: u16) -> u32
+        ensures { result ≡ slot * 2 ^ self.now.order }
+    {
+        self.laws();
+        u32::from(slot) << self.order()
+    }
+
+    /// What a frame of tenant `t` is before which all blocks end that begin before it, and how many frames from there on are the same:
+    /// those of the block that begins there, or one where none does. The order is that of such a block.
+    fn run_at(&self, superblock: u16, t: u8, first: u32, order: Option<u8>) -> (FrameKind, usize)
+        requires tenant { t < self.now.tenants }
+        requires held { superblock_at self.now t (first / 2 ^ self.now.order) ≡ Some superblock }
+        requires taken { order ≡ taken_of (holding_of t self.now.buddy) first }
+        ensures some { 0 < result.1 }
+        ensures few { result.1 ≤ 256 }
+        ensures kinds { (m : Machine) (frame : ℕ) → ShowsMachine self.now t m → AreEndedBefore (taken_of (holding_of t self.now.buddy)) first
+            → first ≤ frame → frame < first + result.1 → IsFrame self.now.order m frame result.0 }
+        ensures next { AreEndedBefore (taken_of (holding_of t self.now.buddy)) first
+            → AreEndedBefore (taken_of (holding_of t self.now.buddy)) (first + result.1) }
+    {
+        self.laws();
+        match order {
+            None => (FrameKind::Free, 1),
+            Some(order) => (self.kind_of_block(superblock, t, first), 1usize << order),
+        }
+    }
+
+    /// The kind of the frames of a taken block that begins at this frame of tenant `t`, in a slot that this superblock is under.
+    fn kind_of_block(&self, superblock: u16, t: u8, first: u32) -> FrameKind
+        requires tenant { t < self.now.tenants }
+        requires held { superblock_at self.now t (first / 2 ^ self.now.order) ≡ Some superblock }
+        ensures { (m : Machine) (order frame : ℕ) → ShowsMachine self.now t m → taken_of (holding_of t self.now.buddy) first ≡ Some order
+            → HasFrame (block first order) frame → IsFrame self.now.order m frame result }
+    {
+        self.laws();
+        match self.list_in(superblock, t, first) {
+            Some(list) => kind_in(list),
+            None => FrameKind::Page,
+        }
+    }
+
+    /// Whether tenant `t` holds the slot of a frame.
+    fn is_held(&self, t: u8, frame: u32) -> bool
+        ensures { result ≡ is_some (superblock_at self.now t (frame / 2 ^ self.now.order)) }
+    {
+        self.laws();
+        self.superblock_of(t, frame >> self.order()).is_some()
+    }
+
+    /// The list that has the slab that begins at a frame of tenant `t`, if one does.
+    fn list_at(&self, t: u8, first: u32) -> Option<ListId>
+        requires { t < self.now.tenants }
+        ensures { MatchOption result (has_slab self.now.slabs (node_of self.now.slabs.top self.now.space.slots t first) ≡ false)
+            (λ list. (node key : ℕ) × (node_of self.now.slabs.top self.now.space.slots t first ≡ Some node)
+            × (place_at self.now.slabs.lists.places node ≡ Some (list.number, key))) }
+    {
+        let node = self.node_of(t, first)?;
+        let (number, _) = self.slabs.lists().place_of(node)?;
+        Some(ListId { number })
+    }
+
+    /// As `list_at`, for a caller who knows that this superblock is under the slot.
+    fn list_in(&self, superblock: u16, t: u8, first: u32) -> Option<ListId>
+        requires tenant { t < self.now.tenants }
+        requires held { superblock_at self.now t (first / 2 ^ self.now.order) ≡ Some superblock }
+        ensures { MatchOption result (has_slab self.now.slabs (node_of self.now.slabs.top self.now.space.slots t first) ≡ false)
+            (λ list. (node key : ℕ) × (node_of self.now.slabs.top self.now.space.slots t first ≡ Some node)
+            × (place_at self.now.slabs.lists.places node ≡ Some (list.number, key))) }
+    {
+        let node = self.node_in(superblock, t, first);
+        let (number, _) = self.slabs.lists().place_of(node)?;
+        Some(ListId { number })
+    }
+
+    /// The number among all frames of the machine of a frame of tenant `t`, if it holds the slot.
+    fn node_of(&self, t: u8, frame: u32) -> Option<u32>
+        requires { t < self.now.tenants }
+        ensures value { result ≡ node_of self.now.slabs.top self.now.space.slots t frame }
+        ensures below { IfSome result (λ node. node < length self.now.slabs.lists.places) }
+    {
+        self.laws();
+        let superblock = self.space.machine_of(t, frame >> self.order())?;
+        Some(self.node_in(superblock, t, frame))
+    }
+
+    /// As `node_of`, where the caller knows that this superblock stands under the slot; `t` is named for the contract alone.
+    #[inline(always)]
+    pub(crate) fn node_in(&self, superblock: u16, t: u8, frame: u32) -> u32
+        requires { superblock_at self.now t (frame / 2 ^ self.now.order) ≡ Some superblock }
+        ensures value { node_of self.now.slabs.top self.now.space.slots t frame ≡ Some result }
+        ensures below { result < length self.now.slabs.lists.places }
+    {
+        let _ = t;
+        self.laws();
+        let order = self.order();
+        (u32::from(superblock) << order) + frame % (1 << order)
+    }
+}
+
+/// The kind of the frames of a slab in the list.
+fn kind_in(list: ListId) -> FrameKind
+    ensures { (order : ℕ) (m : Machine) (frame : ℕ) → IsInSlab m frame (is_kind (list.number % 3)) → IsFrame order m frame result }
+{
+    match list.kind() {
+        Kind::Full => FrameKind::Full,
+        Kind::Partial => FrameKind::Partial,
+        Kind::Empty => FrameKind::Empty,
+    }
+}
+
+/// Sets the cells from `begin` on and below `end`, which are free so far. Most blocks have one frame: its cell is set without the loop
+/// for more, which becomes a call of `memset`.
+fn set_cells(cells: &mut [FrameKind], begin: usize, end: usize, kind: FrameKind)
+    requires inside { end ≤ length cells.old }
+    requires free { (k : ℕ) (cell : FrameKind) → begin ≤ k → k < end → slice_get cells.old k ≡ Some cell → cell ≡ Free }
+    ensures set { (k : ℕ) (cell : FrameKind) → begin ≤ k → k < end → slice_get cells.new k ≡ Some cell → cell ≡ kind }
+    ensures before { (k : ℕ) → k < begin → slice_get cells.new k ≡ slice_get cells.old k }
+    ensures behind { (k : ℕ) → end ≤ k → slice_get cells.new k ≡ slice_get cells.old k }
+{
+    if matches!(kind, FrameKind::Free) {
+        return;
+    }
+    if end.saturating_sub(begin) == 1 {
+        set_cell(cells, begin, kind);
+    } else {
+        set_more_cells(cells, begin, end, kind);
+    }
+}
+
+/// Sets one cell.
+#[inline(always)]
+fn set_cell(cells: &mut [FrameKind], at: usize, kind: FrameKind)
+    requires { at < length cells.old }
+    ensures set { (cell : FrameKind) → slice_get cells.new at ≡ Some cell → cell ≡ kind }
+    ensures before { (k : ℕ) → k < at → slice_get cells.new k ≡ slice_get cells.old k }
+    ensures behind { (k : ℕ) → at < k → slice_get cells.new k ≡ slice_get cells.old k }
+{
+    cells[at] = kind;
+}
+
+/// Sets any number of cells.
+fn set_more_cells(cells: &mut [FrameKind], begin: usize, end: usize, kind: FrameKind)
+    requires { end ≤ length cells.old }
+    ensures set { (k : ℕ) (cell : FrameKind) → begin ≤ k → k < end → slice_get cells.new k ≡ Some cell → cell ≡ kind }
+    ensures before { (k : ℕ) → k < begin → slice_get cells.new k ≡ slice_get cells.old k }
+    ensures behind { (k : ℕ) → end ≤ k → slice_get cells.new k ≡ slice_get cells.old k }
+{
+    for k in begin..end {
+        cells[k] = kind;
+    }
+}

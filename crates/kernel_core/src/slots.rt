@@ -1,0 +1,163 @@
+//! The commands of the administrator: superblocks granted, taken back and moved, and who owns them.
+
+ghost use Rattle.std.specs.Prelude.{◌≡◌, ◌<◌, false, length, IfOk};
+ghost use Rattle.words_core.specs.Requests.{body_of_answer, HasFewBytes, tells_bytes};
+ghost use Rattle.words_core.specs.declared.event.Event.TheVariants as Event;
+ghost use Rattle.words_core.specs.declared.event.AdminCommand.TheVariants as AdminCommand;
+ghost use Rattle.words_core.specs.declared.reply.Addressee.TheVariants.{Admin};
+ghost use Rattle.kernel_core.specs.Content.{PartsAgree};
+ghost use Rattle.kernel_core.specs.GivenUp.{GivesUp};
+ghost use Rattle.kernel_core.specs.Steps.{Steps, to_admin};
+
+use crate::Kernel;
+use arrayvec::ArrayVec;
+use model_core::owner::Owner;
+use space_core::{MoveRefusal, PoolEmpty, Space};
+use words_core::{Addressee, Answer, Body, OWNERS, Refusal, Reply};
+
+impl Kernel {
+    /// Gives the tenant the least superblock without owner, under the least slot that it does not hold.
+    ///
+    /// Refuses with `NoTenant`, then with `PoolEmpty` if each superblock has an owner.
+    pub(crate) fn grant(&mut self, tenant: u32) -> Result<Answer<'static>, Refusal>
+        ensures steps { PartsAgree self.new
+            → Steps self.old (Event.Admin (AdminCommand.Grant tenant)) self.new (to_admin result) }
+        ensures few { IfOk result (λ answer. HasFewBytes answer) }
+        ensures bytes { IfOk result (λ answer. tells_bytes answer ≡ false) }
+    {
+        let Some(t) = self.tenant(tenant) else {
+            return Err(Refusal::NoTenant);
+        };
+        self.laws();
+        let Ok((slot, superblock)) = self.space.grant(t) else {
+            return Err(Refusal::PoolEmpty);
+        };
+        self.buddy.add_slot(t, slot, superblock);
+        Ok(Answer::Granted {
+            tenant: t,
+            slot,
+            superblock,
+        })
+    }
+
+    /// Takes the superblock under a slot back from the tenant.
+    ///
+    /// Refuses with `NoTenant`, then with `NoSlot` if the tenant does not hold the slot, then with `SlotBusy` if a frame of it is
+    /// taken by a page block or a slab, even an empty one.
+    pub(crate) fn take_back(&mut self, tenant: u32, slot: u32) -> Result<Answer<'static>, Refusal>
+        ensures steps { PartsAgree self.new
+            → Steps self.old (Event.Admin (AdminCommand.TakeBack tenant slot)) self.new (to_admin result) }
+        ensures few { IfOk result (λ answer. HasFewBytes answer) }
+        ensures bytes { IfOk result (λ answer. tells_bytes answer ≡ false) }
+    {
+        let Some(t) = self.tenant(tenant) else {
+            return Err(Refusal::NoTenant);
+        };
+        self.laws();
+        let Some(superblock) = self.space.machine_of(t, slot) else {
+            return Err(Refusal::NoSlot);
+        };
+        let Ok(()) = self.buddy.drop_slot(t, slot as u16) else {
+            return Err(Refusal::SlotBusy);
+        };
+        let Ok(_) = self.space.take_back(t, slot) else {
+            unreachable!()
+        };
+        Ok(Answer::TakenBack(superblock))
+    }
+
+    /// Takes all that the tenant has, caches too, and returns how many superblocks that are. Refuses with `NoTenant` alone.
+    pub(crate) fn reset(&mut self, tenant: u32) -> Result<Answer<'static>, Refusal>
+        ensures steps { PartsAgree self.new
+            → Steps self.old (Event.Admin (AdminCommand.Reset tenant)) self.new (to_admin result) }
+        ensures few { IfOk result (λ answer. HasFewBytes answer) }
+        ensures bytes { IfOk result (λ answer. tells_bytes answer ≡ false) }
+    {
+        let Some(t) = self.tenant(tenant) else {
+            return Err(Refusal::NoTenant);
+        };
+        self.laws();
+        self.buddy.reset(t);
+        self.slabs.reset(t);
+        let superblocks = give_up(&mut self.space, self.buddy.superblocks(), t);
+        Ok(Answer::WasReset {
+            tenant: t,
+            superblocks,
+        })
+    }
+
+    /// Replaces the superblock under a slot by the least one without owner, with all its bytes. Nothing changes for the tenant.
+    ///
+    /// Refuses with `NoTenant`, then with `NoSlot`, then with `PoolEmpty`.
+    pub(crate) fn move_slot(&mut self, tenant: u32, slot: u32) -> Result<Answer<'static>, Refusal>
+        ensures steps { PartsAgree self.new
+            → Steps self.old (Event.Admin (AdminCommand.Move tenant slot)) self.new (to_admin result) }
+        ensures few { IfOk result (λ answer. HasFewBytes answer) }
+        ensures bytes { IfOk result (λ answer. tells_bytes answer ≡ false) }
+    {
+        let Some(t) = self.tenant(tenant) else {
+            return Err(Refusal::NoTenant);
+        };
+        self.laws();
+        let (from, to) = match self.space.move_slot(t, slot) {
+            Ok(moved) => moved,
+            Err(MoveRefusal::NoSlot) => return Err(Refusal::NoSlot),
+            Err(MoveRefusal::PoolEmpty) => return Err(Refusal::PoolEmpty),
+        };
+        self.buddy.move_slot(t, slot as u16, to);
+        self.slabs.move_slot(t, from, to);
+        Ok(Answer::Moved {
+            tenant: t,
+            slot: slot as u16,
+            superblock: to,
+        })
+    }
+
+    /// Tells who owns each superblock: [`Kernel::step`] of the event that asks for it.
+    #[cold]
+    #[inline(never)]
+    pub fn pool(&self) -> Reply
+        ensures { Steps self.now (Event.Admin AdminCommand.Pool) self.now result }
+    {
+        Reply {
+            addressee: Addressee::Admin,
+            body: Body::Owners(owners(self.space())),
+        }
+    }
+}
+
+/// The owner of each superblock.
+fn owners(space: &Space) -> ArrayVec<Option<Owner>, OWNERS>
+    ensures { result.items ≡ space.now.owners }
+{
+    space.laws();
+    let mut owners = ArrayVec::new();
+    for owner in space.owners() {
+        owners.push(*owner);
+    }
+    owners
+}
+
+/// Takes back every superblock of tenant `t` and returns how many there were.
+fn give_up(space: &mut Space, superblocks: u16, t: u8) -> u16
+    requires tenant { t < length space.old.slots }
+    requires all { superblocks ≡ length space.old.owners }
+    ensures { GivesUp space.old space.new t result }
+{
+    let mut count = 0;
+    for m in 0..superblocks {
+        let Some(owner) = space.owner_of(m) else {
+            continue;
+        };
+        if owner.tenant != t {
+            continue;
+        }
+        space.laws();
+        let Ok(_) = space.take_back(t, u32::from(owner.slot)) else {
+            unreachable!()
+        };
+        count += 1;
+    }
+    space.laws();
+    count
+}

@@ -1,9 +1,0 @@
-use Rattle.std.proofs.Common.{◌/◌}
-use Rattle.parts_core.proofs.Changing.{superblock_there}
-use Rattle.parts_core.proofs.PageBytes.{under_home}
-use Rattle.parts_core.proofs.pages.lent.Goals as goal
-
-pub machine_bytes-requires : goal.machine_bytes-requires
-machine_bytes-requires c =
-    superblock_there c.args.space.now c.laws.ensures.facts c.args.t (c.args.place / c.args.space.now.unit) c.args.superblock
-    (under_home c.args.space.now c.args.t c.args.place c.args.len c.args.superblock c.requires.home)

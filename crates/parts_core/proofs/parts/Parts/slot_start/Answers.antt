@@ -1,7 +1,0 @@
-use Rattle.std.proofs.Common.{arith}
-use Rattle.parts_core.proofs.Runs.{slot_first}
-use Rattle.parts_core.proofs.parts.Parts.slot_start.Goals as goal
-
-pub returns : goal.returns
-returns c =
-    rw c.from.ensures (rw c.order.ensures (slot_first c.args.slot c.args.self.now.order (omega (arith, c.ranges.slot)) (omega (arith, c.laws.ensures.agree.order))))

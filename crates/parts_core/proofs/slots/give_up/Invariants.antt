@@ -1,6 +1,0 @@
-use Rattle.parts_core.proofs.GivingUp.{IsGivingUp}
-use Rattle.parts_core.proofs.slots.give_up.Given as goal
-
--- the superblocks so far are given up
-abbrev pub invariant-loop-m : goal.invariant-loop-m
-invariant-loop-m l = IsGivingUp l.fn.space l.space l.t l.m l.count
