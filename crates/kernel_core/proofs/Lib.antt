@@ -9,6 +9,9 @@ pub mod Moving
 pub mod Opening
 pub mod Records
 pub mod PageCalls
+pub mod Fitting
+pub mod LendBytes
+pub mod LendSpans
 pub mod CacheCalls
 pub mod FrameKinds
 pub mod Stores

@@ -1,5 +1,5 @@
 -- Page blocks taken and released, bytes read and written.
-use Rattle.std.proofs.Common.{◌≡◌, ℕ, ◌/◌, ◌^◌, ◌≤◌, nat_lt, true, false, if◌then◌else◌, Option, Some, None, IfNone, OnSome, Err, ok_or, refl, sym, ap, ◌∙◌, subst, ◌<◌, ◌&&◌, nat_le, Bool, Ok, IsSome, List, length, filter_map}
+use Rattle.std.proofs.Common.{◌≡◌, ℕ, ◌/◌, ◌^◌, ◌≤◌, nat_lt, true, false, if◌then◌else◌, Option, Some, None, IfNone, OnSome, Err, ok_or, refl, sym, ap, ◌∙◌, subst, ◌<◌, ◌&&◌, nat_le, Bool, Ok, IsSome, List, length, filter_map, IfSome, IfOk}
 use Rattle.model_core.specs.Blocks.{block, HasFrame}
 use Rattle.model_core.proofs.BlocksByNumber.{number_of_frame, same_slot}
 use Rattle.model_core.specs.Machine.{Machine, order_in}
@@ -76,6 +76,11 @@ alloc_done r r' b b' s s' t o x takes =
     (λ m shown. alloc_told b.top o m x (subst (λ n. o ≤ n) top takes.order) (subst (λ n. x ≡ choice_by_need n o m) top (takes.answer m shown)))
     (λ m shown. subst (λ n. ShowsMachine (content_of r' b' s') t (alloc_step n o m).machine) top (takes.shows m shown))
     (by_none (λ o. alloc_body (ok_or o AllocRefusal.NoFrames)) x (λ first. refl) takes.refused)
+
+-- what holds of a block that is found holds of the answer
+pub ok_told : (P : ℕ → Type 0) (o : Option ℕ) → IfSome o P → IfOk (ok_or o Refusal.NoFrames) P
+ok_told P None p = tt
+ok_told P (Some first) p = p
 
 -- as the tenant is told
 pub allocated : (o : Option ℕ) → body_of Frame (ok_or o Refusal.NoFrames) ≡ alloc_body (ok_or o AllocRefusal.NoFrames)
@@ -167,10 +172,10 @@ module _ (r : spaces.Content) (b : buddies.Content) (s : tables.Content) (t plac
   lent : IsSteady r b s t
   lent = steady r b s t asked.together asked.tenant
 
-  out_of_reach : (m : Machine) → ShowsMachine (content_of r b s) t m → (IsInReach r b s t place len → ⊥) → in_reach m place len ≡ false
+  pub out_of_reach : (m : Machine) → ShowsMachine (content_of r b s) t m → (IsInReach r b s t place len → ⊥) → in_reach m place len ≡ false
   out_of_reach m shown beyond = false_from_ne_true (in_reach m place len) (λ found. beyond ((reach_meets r b s t place len m lent shown).0 found))
 
-  within_reach : (m : Machine) → ShowsMachine (content_of r b s) t m → IsInReach r b s t place len → in_reach m place len ≡ true
+  pub within_reach : (m : Machine) → ShowsMachine (content_of r b s) t m → IsInReach r b s t place len → in_reach m place len ≡ true
   within_reach m shown reach = (reach_meets r b s t place len m lent shown).1 reach
 
   -- a range in reach lies in one held slot

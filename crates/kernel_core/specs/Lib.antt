@@ -8,3 +8,4 @@ pub mod Steps
 pub mod Asking
 pub mod Stores
 pub mod Actions
+pub mod Lending

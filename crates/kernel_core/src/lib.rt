@@ -27,6 +27,7 @@ mod caches;
 mod frames;
 mod kernel;
 pub mod laws;
+mod lending;
 mod lookups;
 mod pages;
 mod reporting;
@@ -34,5 +35,6 @@ mod slots;
 
 pub use frames::FrameKind;
 pub use kernel::{BootError, Kernel};
+pub use lending::Span;
 pub use model_core::config::Config;
 pub use reporting::BlockFigures;

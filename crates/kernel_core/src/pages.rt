@@ -5,6 +5,7 @@ ghost use Rattle.model_core.specs.declared.limits.TheConstants.{MOST_ORDER};
 ghost use Rattle.space_core.specs.Windows.{home_of, window_of, with_window};
 ghost use Rattle.machine_changes.specs.Pages.{IsInReach};
 ghost use Rattle.machine_changes.specs.Slots.{HoldTogether};
+ghost use Rattle.slab_core.specs.Lending.{IsPageAt};
 ghost use Rattle.words_core.specs.declared.event.Command.TheVariants as Command;
 ghost use Rattle.words_core.specs.declared.reply.Body.TheVariants.{Frame, Freed, Bytes, Written};
 ghost use Rattle.kernel_core.specs.Content.{superblock_at};
@@ -21,7 +22,8 @@ impl Kernel {
     #[inline(always)]
     pub(crate) fn alloc(&mut self, t: u8, order: u32) -> Result<u32, Refusal>
         requires { t < self.old.tenants }
-        ensures { StepsMachine self.old t (Command.Alloc order) self.new (body_of Frame result) }
+        ensures steps { StepsMachine self.old t (Command.Alloc order) self.new (body_of Frame result) }
+        ensures page { IfOk result (λ frame. IsPageAt self.new.space self.new.buddy self.new.slabs t frame order) }
     {
         if order > u32::from(self.buddy.order()) {
             return Err(Refusal::BadOrder);
@@ -94,7 +96,7 @@ impl Kernel {
     /// Returns the superblock that has a range of tenant `t`; None if the range has no byte, or does not lie inside one live page
     /// block or inside one live object.
     #[inline(always)]
-    fn reached(&self, t: u8, place: u32, len: u32) -> Option<u16>
+    pub(crate) fn reached(&self, t: u8, place: u32, len: u32) -> Option<u16>
         requires { t < self.now.tenants }
         ensures reach { MatchOption result (IsInReach self.now.space self.now.buddy self.now.slabs t place len → ⊥)
             (λ m. IsInReach self.now.space self.now.buddy self.now.slabs t place len × (home_of self.now.space t place len ≡ Some m)) }

@@ -13,6 +13,7 @@ pub mod ObjectPlaces
 pub mod ObjectSlabs
 pub mod ObjectFinding
 pub mod ObjectGiven
+pub mod ObjectBytes
 pub mod MarkBits
 pub mod MarkTurned
 pub mod MarkAgreed
@@ -21,6 +22,7 @@ pub mod TakeBits
 pub mod TakeNext
 pub mod TakeSlab
 pub mod TakeHand
+pub mod ObjectTaken
 pub mod TakeStep
 pub mod ObjectReach
 pub mod ObjectTotals

@@ -1,7 +1,7 @@
 -- A page block reserved beside slabs.
-use Rattle.std.proofs.Common.{◌≡◌, ◌≢◌, ◌↔◌, ℕ, ◌+◌, ◌*◌, ◌/◌, ◌^◌, ◌<◌, Bool, true, cond, length, Some, None, IsSome, IfSome, IfNone, refl, sym, ap, ◌∙◌, subst, ⊎_elim, arith}
+use Rattle.std.proofs.Common.{◌≡◌, ◌≢◌, ◌↔◌, ℕ, ◌+◌, ◌*◌, ◌/◌, ◌^◌, ◌<◌, Bool, true, false, cond, length, Some, None, IsSome, IfSome, IfNone, refl, sym, ap, ◌∙◌, subst, ⊎_elim, arith}
 use Rattle.std.specs.Prelude.{Option, is_some, MatchOption}
-use Rattle.std.proofs.lemmas.Bool.{cases_eq, false≢true, ne_eqb}
+use Rattle.std.proofs.lemmas.Bool.{cases_eq, eq-eqb, false≢true, ne_eqb}
 use Rattle.std.proofs.lemmas.List.{length-set}
 use Rattle.std.proofs.lemmas.Nat.{pow_pos}
 use Rattle.std.proofs.Math.Nat.{mul-le-mul_right, lt-div-mul-add}
@@ -15,8 +15,9 @@ use Rattle.model_core.proofs.Choosing.{choice_is_found}
 use Rattle.space_core.specs.Content as spaces
 use Rattle.buddy_core.specs.Content as buddies
 use Rattle.buddy_core.proofs.Holdings.{own_holding, other_holding, taken-with_block}
+use Rattle.klist_core.specs.Places.{place_at}
 use Rattle.slab_tables.specs.Content.{Content, layout_numbers}
-use Rattle.machine_changes.specs.Shows.{ShowsMachine, IsAgreed, Agree}
+use Rattle.machine_changes.specs.Shows.{node_of, has_slab, ShowsMachine, IsAgreed, Agree}
 use Rattle.machine_changes.specs.Keeps.{Spares}
 use Rattle.machine_changes.specs.Steady.{IsSteady}
 use Rattle.machine_changes.proofs.Lookups.{some_none}
@@ -25,6 +26,7 @@ use Rattle.machine_changes.proofs.Steady.{within}
 use Rattle.model_core.proofs.FreeBlocks.{reserved_is_untaken}
 use Rattle.machine_changes.proofs.Reserved.{reserved_shows}
 use Rattle.slab_core.specs.Room.{HasFreeBlock}
+use Rattle.slab_core.specs.Lending.{IsPageAt}
 use Rattle.slab_core.proofs.Building.{same_here}
 use Rattle.slab_core.proofs.GrowOne.{something, choice_some, choice_none}
 use Rattle.slab_core.proofs.ReturnMany.{spares_none}
@@ -137,13 +139,29 @@ module _ (r : spaces.Content) (b : buddies.Content) (s : Content) (t k : ℕ) (a
       spare = λ m none. refl;
     }
 
+    -- no slab begins where no block is taken
+    no_slab : IsSteady r b s t → has_slab s (node_of s.top r.slots t f) ≡ false
+    no_slab st = under (node_of s.top r.slots t f) refl
+      where
+        placed : (n : ℕ) → node_of s.top r.slots t f ≡ Some n → (p : Option (ℕ × ℕ)) → place_at s.lists.places n ≡ p → is_some p ≡ false
+        placed n at None here = refl
+        placed n at (Some p) here =
+            let slab = st.listed f n p.0 p.1 at here in
+            absurd (some_none (sym (st.stands slab.0 f n slab.1 slab.2).taken ∙ not_first))
+
+        under : (o : Option ℕ) → node_of s.top r.slots t f ≡ o → has_slab s o ≡ false
+        under None at = refl
+        under (Some n) at = placed n at (place_at s.lists.places n) refl
+
     pub record IsReserved (b' : buddies.Content) : Type 0 where
+      pub page : IsPageAt r b' s t f k
       pub shows : (m : Machine) → ShowsMachine r b s t m → ShowsMachine r b' s t (with_block (block f k) m)
       pub spares : Spares t r r b b' s s
       pub agree : Agree r b' s
 
     pub is_reserved : IsSteady r b s t → (b' : buddies.Content) → b' ≡ reserved → IsReserved b'
     is_reserved st b' e = subst IsReserved (sym e) (record {
+      page = record { taken = taken_now f ∙ ap (λ v. cond v (Some k) (taken b t f)) (eq-eqb f f refl); page = no_slab st };
       shows = λ m h. reserved_shows r b reserved s t f k m st not_first taken_now h;
       spares = one_spares;
       agree = one_agrees;
@@ -153,6 +171,7 @@ module _ (r : spaces.Content) (b : buddies.Content) (s : Content) (t k : ℕ) (a
   pub record IsServed (b' : buddies.Content) (o : Option ℕ) : Type 0 where
     pub answer : (m : Machine) → ShowsMachine r b s t m → o ≡ choice s.top m k
     pub shows : IfSome o (λ f. (m : Machine) → ShowsMachine r b s t m → ShowsMachine r b' s t (with_block (block f k) m))
+    pub page : IfSome o (λ f. IsPageAt r b' s t f k)
     pub free : IsSome o ↔ HasFreeBlock b t k
     pub spares : Spares t r r b b' s s
     pub agree : Agree r b' s
@@ -165,6 +184,7 @@ module _ (r : spaces.Content) (b : buddies.Content) (s : Content) (t k : ℕ) (a
   is_served st b' None none some = record {
     answer = λ m h. sym (choice_none r b s t k a st m h none.0);
     shows = tt;
+    page = tt;
     free = (λ e. absurd (false≢true e), λ h. absurd (none.0 h.found h.free h.enough));
     spares = subst (λ x. Spares t r r b x s s) (sym none.1) (spares_none r b s t);
     agree = subst (λ x. Agree r x s) (sym none.1) a;
@@ -174,6 +194,7 @@ module _ (r : spaces.Content) (b : buddies.Content) (s : Content) (t k : ℕ) (a
       record {
         answer = λ m h. sym (choice_some r b s t k a st m h f some.0 some.1.0);
         shows = is.shows;
+        page = is.page;
         free = (λ e. record { found = block f some.0; free = some.1.0.0; enough = some.1.0.1 }, λ h. refl);
         spares = is.spares;
         agree = is.agree;

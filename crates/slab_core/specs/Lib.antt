@@ -1,3 +1,4 @@
 pub mod Calls
 pub mod Objects
 pub mod Room
+pub mod Lending

@@ -19,6 +19,7 @@ mod creating;
 mod giving;
 mod growing;
 mod laws;
+mod lending;
 mod moving;
 mod objects;
 mod reaching;

@@ -135,7 +135,9 @@ impl Slabs {
         }
     }
 
-    /// The live object of cache `c` of tenant `t` that begins at a place, if one does.
+    /// The live object of cache `c` of tenant `t` that begins at a place, if one does. Inlined, since a give takes a third more
+    /// instructions if it is a call.
+    #[inline(always)]
     pub(crate) fn find(
         &self,
         space: &Space,

@@ -9,6 +9,7 @@ ghost use Rattle.machine_changes.specs.Shows.{ShowsMachine, Agree};
 ghost use Rattle.machine_changes.specs.Keeps.{Spares};
 ghost use Rattle.machine_changes.specs.Room.{HasRoom};
 ghost use Rattle.slab_core.specs.Room.{HasFreeBlock};
+ghost use Rattle.slab_core.specs.Lending.{IsPageAt};
 
 use crate::Slabs;
 use buddy_core::Buddy;
@@ -33,6 +34,7 @@ impl Slabs {
         ensures answer { (m : Machine) → ShowsMachine space.old buddy.old self.old t m → result ≡ choice_by_need self.old.top k m }
         ensures shows { (m : Machine) → ShowsMachine space.old buddy.old self.old t m
             → ShowsMachine space.new buddy.new self.new t (alloc_step self.old.top k m).machine }
+        ensures page { IfSome result (λ f. IsPageAt space.new buddy.new self.new t f k) }
         ensures room { IsSome result ↔ HasRoom space.old buddy.old self.old t k }
         ensures spares { Spares t space.old space.new buddy.old buddy.new self.old self.new }
         ensures agree { Agree space.new buddy.new self.new }
@@ -58,6 +60,7 @@ impl Slabs {
         ensures answer { (m : Machine) → ShowsMachine space.now buddy.old self.now t m → result ≡ choice self.now.top m k }
         ensures shows { IfSome result (λ f. (m : Machine) → ShowsMachine space.now buddy.old self.now t m
             → ShowsMachine space.now buddy.new self.now t (with_block (block f k) m)) }
+        ensures page { IfSome result (λ f. IsPageAt space.now buddy.new self.now t f k) }
         ensures free { IsSome result ↔ HasFreeBlock buddy.old t k }
         ensures spares { Spares t space.now space.now buddy.old buddy.new self.now self.now }
         ensures agree { Agree space.now buddy.new self.now }

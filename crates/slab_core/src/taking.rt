@@ -1,6 +1,6 @@
 //! Taking an object.
 
-ghost use Rattle.std.specs.Prelude.{◌≡◌, ℕ, ◌+◌, ◌*◌, ◌/◌, ◌%◌, ◌^◌, ◌<◌, ◌≤◌, not, true, false, List, Some, Ok, length, slice_index, IsSome, IfSome, OnErr, MatchOption};
+ghost use Rattle.std.specs.Prelude.{◌≡◌, ℕ, ◌+◌, ◌*◌, ◌/◌, ◌%◌, ◌^◌, ◌<◌, ◌≤◌, not, true, false, List, Some, Ok, length, slice_index, IsSome, IfSome, IfOk, OnErr, MatchOption};
 ghost use Rattle.std.specs.List.{position_or_len, slice_range};
 ghost use Rattle.std.specs.Int.{w64, to_le_bytes};
 ghost use Rattle.model_core.specs.declared.limits.TheConstants.{FRAME_BYTES};
@@ -13,8 +13,8 @@ ghost use Rattle.model_core.specs.Machine as machines;
 ghost use Rattle.model_core.specs.Machine.{Machine};
 ghost use Rattle.model_core.specs.Slabs.{cache_of, slab_of};
 ghost use Rattle.model_core.specs.CacheOperations.{hand_out, take_step};
-ghost use Rattle.machine_changes.specs.Objects.{IsToUse, IsAllFull};
-ghost use Rattle.machine_changes.specs.Changes.{found};
+ghost use Rattle.machine_changes.specs.Objects.{IsObject, IsToUse, IsAllFull};
+ghost use Rattle.machine_changes.specs.Changes.{Found, found};
 ghost use Rattle.space_core.specs.Laws.{SpaceLaws};
 ghost use Rattle.space_core.specs.Windows.{home_of, window_of};
 ghost use Rattle.slab_core.specs.Objects.{standing, HasClear, IsRaised, IsRecordRaised, IsTurned};
@@ -104,6 +104,7 @@ impl Slabs {
         ensures answer { (m : Machine) → ShowsMachine space.old buddy.old self.old t m → result ≡ (take_step self.old.top c m).answer }
         ensures shows { (m : Machine) → ShowsMachine space.old buddy.old self.old t m
             → ShowsMachine space.new buddy.new self.new t (take_step self.old.top c m).machine }
+        ensures object { IfOk result (λ place. (o : Found) × IsObject space.new self.new t c place o) }
         ensures spares { Spares t space.old space.new buddy.old buddy.new self.old self.new }
         ensures agree { Agree space.new buddy.new self.new }
         ensures refused { OnErr result ((space.new ≡ space.old) × ((buddy.new ≡ buddy.old) × (self.new ≡ self.old))) }
@@ -134,6 +135,7 @@ impl Slabs {
         ensures answer { (m : Machine) → ShowsMachine space.old buddy.old self.old t m → result ≡ (take_step self.old.top c m).answer }
         ensures shows { (m : Machine) → ShowsMachine space.old buddy.old self.old t m
             → ShowsMachine space.new buddy.new self.new t (take_step self.old.top c m).machine }
+        ensures object { IfOk result (λ place. (o : Found) × IsObject space.new self.new t c place o) }
         ensures spares { Spares t space.old space.new buddy.old buddy.new self.old self.new }
         ensures agree { Agree space.new buddy.new self.new }
         ensures refused { OnErr result ((space.new ≡ space.old) × ((buddy.new ≡ buddy.old) × (self.new ≡ self.old))) }
@@ -219,6 +221,7 @@ impl Slabs {
             → cache_of m c ≡ Some x → slab_of x first ≡ Some y → Ok result ≡ (hand_out x y m).answer }
         ensures shows { (m : Machine) (x : machines.Cache) (y : machines.Slab) → ShowsMachine space.old buddy.now self.old t m
             → cache_of m c ≡ Some x → slab_of x first ≡ Some y → ShowsMachine space.new buddy.now self.new t (hand_out x y m).machine }
+        ensures object { (o : Found) × IsObject space.new self.new t c result o }
         ensures spares { Spares t space.old space.new buddy.now buddy.now self.old self.new }
         ensures agree { Agree space.new buddy.now self.new }
     {

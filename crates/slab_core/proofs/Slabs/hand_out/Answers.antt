@@ -9,6 +9,7 @@ use Rattle.machine_changes.specs.Changes.{found}
 use Rattle.slab_core.specs.Objects.{IsToCount}
 use Rattle.slab_core.proofs.TakeHand.{object_below, not_live, first_few, offset_few, next_is, answered}
 use Rattle.machine_changes.proofs.Marked.{marked_shows}
+use Rattle.slab_core.proofs.ObjectTaken.{marked_object}
 use Rattle.slab_core.proofs.Slabs.hand_out.Goals as goal
 use Rattle.slab_core.proofs.Slabs.hand_out.Goals.{After-mark_least_free-index, After-offset}
 
@@ -104,3 +105,14 @@ returns-clause-shows c = λ m y z h ey ez.
     subst (λ (j : ℕ). ShowsMachine c.mark_least_free-index.new.space x.buddy.now c.recount.new.self x.t (with_cache (with_slab (with_live j true z) y) m)) (sym same)
     (marked_shows x.space.now c.mark_least_free-index.new.space x.buddy.now x.self.now c.recount.new.self x.t x.c (found x.cache.now x.first x.node i) true m y z
     (c.recount.ensures.marked x.space.now x.self.now (to_count a)) c.laws_with.ensures.steady c.requires.slab (below a) ey ez h)
+
+pub returns-clause-object : goal.returns-clause-object
+returns-clause-object c =
+    let x = c.args in
+    let i = c.mark_least_free-index.result in
+    let a = (goal.at.returns-clause-object c).After-mark_least_free-index in (
+      found x.cache.now x.first x.node i,
+      marked_object x.space.now c.mark_least_free-index.new.space x.buddy.now x.self.now c.recount.new.self x.t x.c x.first x.node i _ x.cache.now
+          (c.recount.ensures.marked x.space.now x.self.now (to_count a)) c.laws_with.ensures.steady c.requires.slab (below a)
+          (sym (ap (λ (n : ℕ). 4096 * x.first + n) (offset_is (goal.at.returns-clause-object c).After-offset))),
+    )

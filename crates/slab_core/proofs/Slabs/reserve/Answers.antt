@@ -14,6 +14,9 @@ returns-clause-answer c = (served c).answer
 pub returns-clause-shows : goal.returns-clause-shows
 returns-clause-shows c = (served c).shows
 
+pub returns-clause-page : goal.returns-clause-page
+returns-clause-page c = (served c).page
+
 pub returns-clause-free : goal.returns-clause-free
 returns-clause-free c = (served c).free
 

@@ -15,8 +15,8 @@ IsRun k t request k' answer =
 pub returns : goal.returns
 returns c =
     let run : IsRun c.args.self.now c.args.t c.args.request c.match-request.self c.match-request.answer = elim c.match-request.branch [
-      | in-Alloc+in-Ok w ↦ rw (w.in-Alloc.is, w.answer-is, w.self-is) (w.in-Ok.ensures, (tt, λ _. refl))
-      | in-Alloc+in-Err w ↦ rw (w.in-Alloc.is, w.answer-is, w.self-is) (w.in-Err.ensures, (tt, λ _. refl))
+      | in-Alloc+in-Ok w ↦ rw (w.in-Alloc.is, w.answer-is, w.self-is) (w.in-Ok.ensures.steps, (tt, λ _. refl))
+      | in-Alloc+in-Err w ↦ rw (w.in-Alloc.is, w.answer-is, w.self-is) (w.in-Err.ensures.steps, (tt, λ _. refl))
       | in-Free+in-Ok-free w ↦ rw (w.in-Free.is, w.answer-is, w.self-is) (w.in-Ok-free.ensures, (tt, λ _. refl))
       | in-Free+in-Err-free w ↦ rw (w.in-Free.is, w.answer-is, w.self-is) (w.in-Err-free.ensures, (tt, λ _. refl))
       | in-Write+in-Ok-write w ↦ rw (w.in-Write.is, w.answer-is, w.self-is) (w.in-Ok-write.ensures.steps, (tt, λ _. refl))
@@ -25,8 +25,8 @@ returns c =
       | in-Cache+in-Err-make_cache w ↦ rw (w.in-Cache.is, w.answer-is, w.self-is) (w.in-Err-make_cache.ensures.steps, (tt, λ _. refl))
       | in-Destroy+in-Ok-destroy w ↦ rw (w.in-Destroy.is, w.answer-is, w.self-is) (w.in-Ok-destroy.ensures, (tt, λ _. refl))
       | in-Destroy+in-Err-destroy w ↦ rw (w.in-Destroy.is, w.answer-is, w.self-is) (w.in-Err-destroy.ensures, (tt, λ _. refl))
-      | in-Take+in-Ok-take w ↦ rw (w.in-Take.is, w.answer-is, w.self-is) (w.in-Ok-take.ensures, (tt, λ _. refl))
-      | in-Take+in-Err-take w ↦ rw (w.in-Take.is, w.answer-is, w.self-is) (w.in-Err-take.ensures, (tt, λ _. refl))
+      | in-Take+in-Ok-take w ↦ rw (w.in-Take.is, w.answer-is, w.self-is) (w.in-Ok-take.ensures.steps, (tt, λ _. refl))
+      | in-Take+in-Err-take w ↦ rw (w.in-Take.is, w.answer-is, w.self-is) (w.in-Err-take.ensures.steps, (tt, λ _. refl))
       | in-Give+in-Ok-give w ↦ rw (w.in-Give.is, w.answer-is, w.self-is) (w.in-Ok-give.ensures, (tt, λ _. refl))
       | in-Give+in-Err-give w ↦ rw (w.in-Give.is, w.answer-is, w.self-is) (w.in-Err-give.ensures, (tt, λ _. refl))
       | in-Reap w ↦ rw (w.in-Reap.is, w.answer-is, w.self-is) (w.reap.ensures, (tt, λ _. refl))

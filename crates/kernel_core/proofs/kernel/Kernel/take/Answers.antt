@@ -15,9 +15,9 @@ tried : (c : After-take) → StepsMachine (content_of c.self.inside.space c.self
 tried c =
     taken _ _ _ _ _ _ c.args.t c.self.invariant c.take.ensures.spares c.args.cache c.take.result c.take.ensures.answer c.take.ensures.shows c.take.ensures.refused
 
-pub returns-in_err-take : goal.returns-in_err-take
-returns-in_err-take c = rw (passed Object take_refusal _ _ c.from_residual.ensures.1 ∙ sym (ap take_body c.in_err-take.was), ← c.self.view_is)
-    (tried (goal.at.returns-in_err-take c).After-take)
+pub returns-in_err-take-clause-steps : goal.returns-in_err-take-clause-steps
+returns-in_err-take-clause-steps c = rw (passed Object take_refusal _ _ c.from_residual.ensures.1 ∙ sym (ap take_body c.in_err-take.was), ← c.self.view_is)
+    (tried (goal.at.returns-in_err-take-clause-steps c).After-take)
 
-pub returns : goal.returns
-returns c = rw (← ap take_body c.in_ok-take.was, ← c.self.view_is) (tried (goal.at.returns c).After-take)
+pub returns-clause-steps : goal.returns-clause-steps
+returns-clause-steps c = rw (← ap take_body c.in_ok-take.was, ← c.self.view_is) (tried (goal.at.returns-clause-steps c).After-take)

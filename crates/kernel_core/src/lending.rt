@@ -1,0 +1,202 @@
+//! Bytes of a tenant lent where they lie, to be read and written.
+
+ghost use Rattle.std.specs.Prelude.{◌≡◌, ◌/◌, false, Some, IfOk, IfErr};
+ghost use Rattle.std.specs.Borrow.{sem};
+ghost use Rattle.model_core.specs.declared.limits.TheConstants.{FRAME_BYTES};
+ghost use Rattle.model_core.specs.Blocks.{IsTaken};
+ghost use Rattle.model_core.specs.Machine.{Machine, order_in};
+ghost use Rattle.model_core.specs.Reach.{in_reach};
+ghost use Rattle.model_core.specs.CacheOperations.{give_step};
+ghost use Rattle.space_core.specs.Windows.{home_of, window_of};
+ghost use Rattle.slab_core.specs.Lending.{HasObject};
+ghost use Rattle.words_core.specs.declared.event.Event.TheVariants as Event;
+ghost use Rattle.words_core.specs.declared.event.Command.TheVariants as Command;
+ghost use Rattle.words_core.specs.declared.reply.Body.TheVariants.{Frame, Object, Refused};
+ghost use Rattle.words_core.specs.declared.reply.Refusal.TheVariants.{OutOfReach};
+ghost use Rattle.world_core.specs.PrivateStep.{give_body};
+ghost use Rattle.kernel_core.specs.Lending.{LendsWithin};
+
+use crate::Kernel;
+use model_core::limits::FRAME_BYTES;
+use space_core::Space;
+use words_core::Refusal;
+
+/// Bytes of a tenant that lie inside one live page block or one live object. They can be lent until that is released.
+#[derive(Clone, Copy, Debug, PartialEq, Eq)]
+pub struct Span {
+    pub tenant: u8,
+    /// The first place.
+    pub place: u32,
+    /// How many bytes they are.
+    pub bytes: u32,
+    /// The superblock that they lie in.
+    pub superblock: u16,
+}
+
+impl Kernel {
+    ghost use Rattle.kernel_core.specs.Shows.{ShowsMachine};
+    ghost use Rattle.kernel_core.specs.Steps.{Steps, body_of};
+    ghost use Rattle.kernel_core.specs.Lending.{LendsSpan, IsLive, IsLent, HasBlock, IsBlockSpan, IsNotLent, reply_for};
+
+    /// Lends the bytes of a span, to be read and written where they lie. When the borrow ends they are what was left there, and all
+    /// else is as before.
+    pub fn lend(&mut self, span: Span) -> &mut [u8]
+        requires { IsLive self.old span }
+        ensures* writes_back { sem 𝓛 (LendsSpan self.entry span result) }
+        ensures lent { IsLent self.old span.tenant span.place span.bytes result.now }
+    {
+        self.laws();
+        lend_within(
+            &mut self.space,
+            span.superblock,
+            span.tenant,
+            span.place,
+            span.bytes,
+        )
+    }
+
+    /// Returns the span of the `len` bytes of a tenant from `place` on.
+    ///
+    /// Refuses with `NoTenant`, and with `OutOfReach` if `len` is 0 or the bytes do not lie inside one live page block or one live
+    /// object.
+    pub fn span(&self, tenant: u32, place: u32, len: u32) -> Result<Span, Refusal>
+        ensures live { IfOk result (λ span. IsLive self.now span) }
+        ensures asked { IfOk result (λ span. (span.tenant ≡ tenant) × ((span.place ≡ place) × (span.bytes ≡ len))) }
+        ensures refused { IfErr result (IsNotLent self.now tenant (λ refusal. (refusal ≡ OutOfReach)
+            × ((m : Machine) → ShowsMachine self.now tenant m → in_reach m place len ≡ false))) }
+    {
+        let Some(t) = self.tenant(tenant) else {
+            return Err(Refusal::NoTenant);
+        };
+        let Some(superblock) = self.reached(t, place, len) else {
+            return Err(Refusal::OutOfReach);
+        };
+        Ok(Span {
+            tenant: t,
+            place,
+            bytes: len,
+            superblock,
+        })
+    }
+
+    /// Returns the span of the live page block of a tenant around `place`, with all its bytes.
+    ///
+    /// Refuses with `NoTenant`, and with `OutOfReach` if `place` is in no live page block: the frames of a slab are in none.
+    pub fn block_span(&self, tenant: u32, place: u32) -> Result<Span, Refusal>
+        ensures live { IfOk result (λ span. IsLive self.now span) }
+        ensures block { IfOk result (λ span. (span.tenant ≡ tenant)
+            × ((m : Machine) → ShowsMachine self.now tenant m → HasBlock m place span.place span.bytes)) }
+        ensures refused { IfErr result (IsNotLent self.now tenant (λ refusal. (refusal ≡ OutOfReach)
+            × ((m : Machine) → ShowsMachine self.now tenant m → IsTaken (order_in m.blocks) (place / FRAME_BYTES) → ⊥))) }
+    {
+        let Some(t) = self.tenant(tenant) else {
+            return Err(Refusal::NoTenant);
+        };
+        self.laws();
+        let frame = place / FRAME_BYTES;
+        let Some(superblock) = self.space.machine_of(t, frame >> self.order()) else {
+            return Err(Refusal::OutOfReach);
+        };
+        let Some((first, order)) = self.buddy.block_in(superblock, t, frame) else {
+            return Err(Refusal::OutOfReach);
+        };
+        let node = self.node_in(superblock, t, first);
+        if self.slabs.is_slab_in(node) {
+            return Err(Refusal::OutOfReach);
+        }
+        Ok(Span {
+            tenant: t,
+            place: FRAME_BYTES * first,
+            bytes: FRAME_BYTES << order,
+            superblock,
+        })
+    }
+
+    /// Returns the span of the live object of a cache that begins at a place, with all its bytes.
+    ///
+    /// Refuses with `NoTenant`, and as a `give` of the object does: with `NoCache`, then with `NotAnObject`.
+    pub fn object_span(&self, tenant: u32, cache: u32, place: u32) -> Result<Span, Refusal>
+        ensures live { IfOk result (λ span. IsLive self.now span) }
+        ensures object { IfOk result (λ span. (span.tenant ≡ tenant) × ((span.place ≡ place)
+            × ((m : Machine) → ShowsMachine self.now tenant m → HasObject m cache place span.bytes))) }
+        ensures refused { IfErr result (IsNotLent self.now tenant (λ refusal.
+            (m : Machine) → ShowsMachine self.now tenant m → give_body (give_step cache place m).answer ≡ Refused refusal)) }
+    {
+        let Some(t) = self.tenant(tenant) else {
+            return Err(Refusal::NoTenant);
+        };
+        self.laws();
+        let bytes = self
+            .slabs
+            .object_bytes(&self.space, &self.buddy, t, cache, place)?;
+        let slot = place / FRAME_BYTES >> self.order();
+        let superblock = self.space.machine_of(t, slot).unwrap();
+        Ok(Span {
+            tenant: t,
+            place,
+            bytes,
+            superblock,
+        })
+    }
+
+    /// Takes a page block of `2^order` frames for a tenant, and returns the span of all its bytes.
+    ///
+    /// Refuses with `NoTenant`, and as an `alloc` does.
+    pub fn alloc_span(&mut self, tenant: u32, order: u32) -> Result<Span, Refusal>
+        ensures steps { Steps self.old (Event.Tenant tenant (Command.Alloc order)) self.new
+            (reply_for self.old tenant (body_of (λ span. Frame (span.place / FRAME_BYTES)) result)) }
+        ensures block { IfOk result (λ span. IsBlockSpan span tenant (span.place / FRAME_BYTES) order) }
+        ensures live { IfOk result (λ span. IsLive self.new span) }
+    {
+        let Some(t) = self.tenant(tenant) else {
+            return Err(Refusal::NoTenant);
+        };
+        self.laws();
+        let first = self.alloc(t, order)?;
+        self.laws();
+        let superblock = self.space.machine_of(t, first >> self.order()).unwrap();
+        Ok(Span {
+            tenant: t,
+            place: FRAME_BYTES * first,
+            bytes: FRAME_BYTES << order,
+            superblock,
+        })
+    }
+
+    /// Takes an object of a cache for a tenant, and returns the span of all its bytes.
+    ///
+    /// Refuses with `NoTenant`, and as a `take` does.
+    pub fn take_span(&mut self, tenant: u32, cache: u32) -> Result<Span, Refusal>
+        ensures steps { Steps self.old (Event.Tenant tenant (Command.Take cache)) self.new
+            (reply_for self.old tenant (body_of (λ span. Object span.place) result)) }
+        ensures object { IfOk result (λ span. (span.tenant ≡ tenant)
+            × ((m : Machine) → ShowsMachine self.new tenant m → HasObject m cache span.place span.bytes)) }
+        ensures live { IfOk result (λ span. IsLive self.new span) }
+    {
+        let Some(t) = self.tenant(tenant) else {
+            return Err(Refusal::NoTenant);
+        };
+        self.laws();
+        let place = self.take(t, cache)?;
+        self.laws();
+        let slot = place / FRAME_BYTES >> self.order();
+        let superblock = self.space.machine_of(t, slot).unwrap();
+        let bytes = self.slabs.object_size(t, cache);
+        Ok(Span {
+            tenant: t,
+            place,
+            bytes,
+            superblock,
+        })
+    }
+}
+
+/// Lends the bytes of a range of tenant `t` that lies in this superblock. What is left there has as many bytes as before.
+#[inline(always)]
+fn lend_within(space: &mut Space, superblock: u16, t: u8, place: u32, len: u32) -> &mut [u8]
+    requires { home_of space.old t place len ≡ Some superblock }
+    ensures* writes_back { sem 𝓛 (LendsWithin space.entry t place len result) }
+    ensures value { window_of space.old t place len ≡ Some result.now }
+{
+    space.window_in(superblock, t, place, len)
+}

@@ -1,0 +1,21 @@
+-- What a caller knows of an object whose bytes it lends.
+use Rattle.std.specs.Prelude.{◌≡◌, ℕ, false, Some, Ok}
+use Rattle.model_core.specs.Machine.{Cache, Machine}
+use Rattle.model_core.specs.Slabs.{cache_of}
+use Rattle.model_core.specs.CacheOperations.{give_step}
+use Rattle.space_core.specs.Content as spaces
+use Rattle.buddy_core.specs.Content as buddies
+use Rattle.slab_tables.specs.Content.{Content}
+use Rattle.machine_changes.specs.Shows.{node_of, has_slab}
+
+-- a live object of cache c begins at the place, and has this many bytes
+pub record HasObject (m : Machine) (c place bytes : ℕ) : Type 0 where
+  pub cache : Cache
+  pub cached : cache_of m c ≡ Some cache
+  pub size : cache.size ≡ bytes
+  pub given : (give_step c place m).answer ≡ Ok tt
+
+-- a page block of 2 ^ k frames of tenant t begins at frame f
+pub record IsPageAt (r : spaces.Content) (b : buddies.Content) (s : Content) (t f k : ℕ) : Type 0 where
+  pub taken : buddies.taken_of (buddies.holding_of t b) f ≡ Some k
+  pub page : has_slab s (node_of s.top r.slots t f) ≡ false
