@@ -1,10 +1,12 @@
 -- Lines that end, and what is left behind the last of them.
-use Rattle.std.proofs.Common.{◌≡◌, ℕ, cond, zero, suc, ◌+◌, ◌<◌, ◌≤◌, ◌==◌, Bool, true, false, List, [], ◌∷◌, ◌++◌, Option, Some, None, length, take, drop, get_or, position, refl, ap, sym, ◌∙◌, arith, add-one, append_assoc, length-append}
+use Rattle.std.proofs.Common.{◌≡◌, ℕ, cond, zero, suc, ◌+◌, ◌<◌, ◌≤◌, ◌==◌, Bool, true, false, not, nat_lt, if◌then◌else◌, List, [], ◌∷◌, ◌++◌, Option, Some, None, length, take, drop, get_or, position, refl, ap, sym, ◌∙◌, arith, add-one, append_assoc, length-append}
 use Rattle.std.specs.List.{onto_first, position_from}
-use Rattle.std.proofs.lemmas.Bool.{eqb-true}
+use Rattle.std.proofs.lemmas.Bool.{eqb-true, lt-ltb, le-ltb}
 use Rattle.std.proofs.lemmas.List.Quantifiers.{position-Some}
+use Rattle.std.proofs.lemmas.List.Sums.{prefix_len_is}
 use Rattle.std.proofs.lemmas.Iterator.Adapters.{position_from-zero}
 use Rattle.std.proofs.lemmas.List.{append-nil}
+use Rattle.memchr.specs.Find.{IsFirstByte}
 use Rattle.words_core.specs.Cutting.{lines_of_trace}
 use Rattle.world_core.specs.Output.{line_feed, onto_ended, ended_lines, with_line_feeds}
 use Rattle.replay_core.specs.Standing.{IsOneLine, AreLines}
@@ -93,3 +95,23 @@ none_from n (b ∷ bytes) h =
 -- without LF all is one line
 pub none_cut : (bytes : List ℕ) → position is_line_feed bytes ≡ None → IsOneLine bytes
 none_cut bytes none = none_from 0 bytes (sym (position_from-zero is_line_feed bytes) ∙ none)
+
+fails : (test : Bool) → ¬ (test ≡ true) → not test ≡ true
+fails true none = absurd (none refl)
+fails false none = refl
+
+-- no byte before this index passes, and the one there does
+first_at : (p : ℕ → Bool) (bytes : List ℕ) (n : ℕ) → n ≤ length bytes → ((k : ℕ) → k < n → ¬ (p (get_or bytes k 0) ≡ true))
+    → (n < length bytes → p (get_or bytes n 0) ≡ true) → position p bytes ≡ (if nat_lt n (length bytes) then Some n else None)
+first_at p bytes n within before at =
+    ap (λ m. if nat_lt m (length bytes) then Some m else None)
+    (prefix_len_is (λ b. not (p b)) bytes n 0 within (λ k below. fails (p (get_or bytes k 0)) (before k below)) (λ some. ap not (at some)))
+
+-- the first byte that passes a test
+pub first_byte : (p : ℕ → Bool) (bytes : List ℕ) (found : Option ℕ) → IsFirstByte p bytes found → found ≡ position p bytes
+first_byte p bytes (Some n) is =
+    sym (first_at p bytes n (omega (arith, is.0.high)) (λ k below. is.0.before k (omega arith) below) (λ _. is.1)
+    ∙ ap (λ test. if test then Some n else None) (lt-ltb n (length bytes) is.0.high))
+first_byte p bytes None is =
+    sym (first_at p bytes (length bytes) (omega arith) (λ k below. is k (omega arith) below) (λ some. absurd (omega arith))
+    ∙ ap (λ test. if test then Some (length bytes) else None) (le-ltb (length bytes) (length bytes) (omega arith)))

@@ -5,6 +5,7 @@ ghost use Rattle.replay_core.specs.Pending.{HoldsLine, HoldsNothing};
 ghost use Rattle.replay_core.specs.Standing.{IsRunnable};
 
 use arrayvec::ArrayVec;
+use memchr::memchr;
 use words_core::{Event, LineFault, read_line};
 
 /// The beginning of a line whose end has not come: its first 256 bytes, and whether it has more.
@@ -90,5 +91,5 @@ pub fn line_end(bytes: &[u8]) -> Option<usize>
     ensures at { result ≡ position (λ b. b == line_feed) bytes.now }
     ensures within { IfSome result (λ end. end < length bytes.now) }
 {
-    bytes.iter().position(|byte| *byte == b'\n')
+    memchr(b'\n', bytes)
 }
