@@ -14,7 +14,7 @@ use frame_picture::history::History;
 use kernel_core::Kernel;
 use model_core::limits::MOST_BYTES;
 use picture_svg::picture::Picture;
-use quick_core::read_request;
+use quick_core::{CR_LF, LF, may_begin_request, read_ended_request};
 use replay_core::{Feed, Pending, Stopped, line_end};
 use std::alloc::Global;
 use std::io::Write;
@@ -127,12 +127,20 @@ pub(crate) fn watch_piece(
     let mut events = 0u64;
     let mut rest = piece;
     if pending.is_empty() {
-        rest = watch_requests(piece, &mut room, &mut events, kernel, history);
+        rest = watch_requests(piece, false, &mut room, &mut events, kernel, history);
     }
     'lines: while let Some(end) = line_end(rest) {
         let more = watch_line(pending.end_with(&rest[..end]), kernel, history);
         events = events.saturating_add(more);
-        rest = watch_requests(&rest[end + 1..], &mut room, &mut events, kernel, history);
+        let returned = rest[..end].ends_with(b"\r");
+        rest = watch_requests(
+            &rest[end + 1..],
+            returned,
+            &mut room,
+            &mut events,
+            kernel,
+            history,
+        );
     }
     pending.add(rest);
     events
@@ -140,8 +148,35 @@ pub(crate) fn watch_piece(
 
 /// Runs the requests at the front of a piece that are read in place, counts them as events, and returns the rest of the piece. No
 /// beginning of a line may be pending.
+///
+/// Lines that end in CR LF are tried only behind one that did, as `returned` says.
 #[inline(always)]
 fn watch_requests<'a>(
+    piece: &'a [u8],
+    returned: bool,
+    room: &mut [u8; MOST_BYTES],
+    events: &mut u64,
+    kernel: &mut Kernel,
+    history: &mut History,
+) -> &'a [u8]
+    requires { events.old + length piece.now < 2 ^ 64 }
+    ensures watched { (given : List ℕ) (pending : Pending) (n : ℕ) → HoldsNothing pending → IsWatched given piece.now pending (n + events.old)
+        → IsWatched given result.now pending (n + events.new) }
+    ensures more { events.old ≤ events.new }
+    ensures fewer { events.new + length result.now ≤ events.old + length piece.now }
+{
+    if !may_begin_request(piece) {
+        return piece;
+    }
+    let rest = watch_ended_requests::<LF>(piece, room, events, kernel, history);
+    if !returned {
+        return rest;
+    }
+    watch_ended_requests::<CR_LF>(rest, room, events, kernel, history)
+}
+
+/// [`watch_requests`] of lines that end in LF, or in CR LF if `RETURNS`.
+fn watch_ended_requests<'a, const RETURNS: bool>(
     piece: &'a [u8],
     room: &mut [u8; MOST_BYTES],
     events: &mut u64,
@@ -155,7 +190,7 @@ fn watch_requests<'a>(
     ensures fewer { events.new + length result.now ≤ events.old + length piece.now }
 {
     let mut rest = piece;
-    'lines: while let Some(line) = read_request(rest, room) {
+    'lines: while let Some(line) = read_ended_request::<RETURNS>(rest, room) {
         let len = line.len;
         note_refusal(kernel.ask(line.tenant, line.request), history);
         history.add_line(kernel);

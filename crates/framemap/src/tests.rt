@@ -13,7 +13,7 @@ use std::process::Abort;
 use std::test::Fail;
 
 /// What a text is made of. The last three make lines of about 255 bytes.
-const PARTS: [&[u8]; 22] = [
+const PARTS: [&[u8]; 24] = [
     b"admin grant 0\n",
     b"admin grant 1\nadmin grant 2\r\n",
     b"0 cache 600 8 a5\n",
@@ -21,6 +21,8 @@ const PARTS: [&[u8]; 22] = [
     b"0 alloc 0\n1 alloc 2\n",
     b"2 alloc 3\n",
     b"0 free 2\n1 free 0\n",
+    b"0 free 2\r\n0 take 0\r\n1 alloc 0\n0 read 4096 8\r\n",
+    b"0 write 0 00ff\r\n0 give 0 0\r\n",
     b"0 take 0\n",
     b"0 take 0\n0 take 0\n",
     b"0 give 0 0\n0 give 0 4096\n",
@@ -41,6 +43,10 @@ const PARTS: [&[u8]; 22] = [
 /// Requests behind the beginnings of other lines, which a cut parts from them.
 const BEGINNINGS: &[u8] = b"\
 admin grant 0\nadmin grant 0\n    frob0 alloc 1\n10 alloc 1\n0 alloc 1\n0 alloc 1\n0 free 2\n0 alloc 0\n0 alloc 1\n0 alloc 1\n";
+
+/// Some of these lines, which end in CR LF.
+const RETURNING: &[u8] = b"\
+admin grant 0\r\n0 alloc 1\r\n10 alloc 1\r\nfrob\r\n0 alloc 0\r\n0 free 2\n0 alloc 0\r\n0 write 0 00ff\r\n0 free 0\r\n0 alloc 1\r\n";
 
 /// A machine that is watched.
 #[derive(Drop)]
@@ -151,8 +157,10 @@ fn pictures_are_as_before(rt: HostRuntime) -> Result<(), Fail> {
 
 #[test]
 fn a_cut_in_a_line_changes_nothing(rt: HostRuntime) -> Result<(), Fail> {
-    for piece in 1..BEGINNINGS.len() {
-        compare(&rt, BEGINNINGS, piece)?;
+    for text in [BEGINNINGS, RETURNING] {
+        for piece in 1..text.len() {
+            compare(&rt, text, piece)?;
+        }
     }
     Ok(())
 }

@@ -1,6 +1,5 @@
 -- A line at the front of a piece, read the short way.
-use Rattle.std.proofs.Common.{◌≡◌, ℕ, ◌+◌, ◌-◌, ◌<◌, ◌≤◌, Bool, List, [], ◌∷◌, ◌++◌, Option, Result, Ok, length, take, drop, ap, sym, subst, ◌∙◌, arith, length-append, length-take, length-drop}
-use Rattle.std.proofs.lemmas.List.{take_at}
+use Rattle.std.proofs.Common.{◌≡◌, ℕ, ◌+◌, ◌-◌, ◌<◌, ◌≤◌, Bool, List, [], ◌++◌, Option, Result, Ok, length, take, drop, ap, sym, subst, arith, length-drop}
 use Rattle.words_core.specs.declared.event.Command.{Command}
 use Rattle.kernel_core.specs.Content.{KernelContent}
 use Rattle.quick_core.specs.Lines.{ReadsAs}

@@ -103,7 +103,8 @@ fn keep_piece<D: Drain>(
     let mut rest = begin_piece(piece, pending, kernel, drain, tenant)?;
     'lines: while let Some(end) = line_end(rest) {
         end_line(&rest[..end], pending, kernel, drain, tenant)?;
-        rest = keep_quick_lines(&rest[end + 1..], kernel, drain, tenant)?;
+        let returned = rest[..end].ends_with(b"\r");
+        rest = keep_quick_lines(&rest[end + 1..], returned, kernel, drain, tenant)?;
     }
     pending.add(rest);
     Ok(())
@@ -129,7 +130,7 @@ fn begin_piece<'a, D: Drain>(
     ensures failed { D.has_failed drain.new ≡ is_err result }
 {
     if pending.is_empty() {
-        keep_quick_lines(piece, kernel, drain, tenant)
+        keep_quick_lines(piece, false, kernel, drain, tenant)
     } else {
         Ok(piece)
     }

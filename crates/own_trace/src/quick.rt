@@ -18,13 +18,44 @@ ghost use Rattle.own_trace.specs.Keeping.{HasKept, StandsOwn, HasStoppedOwn};
 use crate::keeping::push_all;
 use kernel_core::Kernel;
 use model_core::limits::MOST_BYTES;
-use quick_core::read_request;
+use quick_core::{CR_LF, LF, may_begin_request, read_ended_request};
 use replay_core::{Drain, Stopped};
 use words_core::Request;
 
 /// Runs the lines at the front of a piece as long as they are read the short way, pushes the tenant's own, and returns the rest of the
 /// piece. No beginning of a line may be pending.
+///
+/// Lines that end in CR LF are tried only behind one that did, as `returned` says.
+#[inline(always)]
 pub(crate) fn keep_quick_lines<'a, D: Drain>(
+    piece: &'a [u8],
+    returned: bool,
+    kernel: &mut Kernel,
+    drain: &mut D,
+    tenant: u8,
+) -> Result<&'a [u8], Stopped>
+    requires fits { length piece.now < 2 ^ 64 }
+    requires fine { D.has_failed drain.old ≡ false }
+    ensures kept { (before : KernelContent) (given : List ℕ) (start : Option (List ℕ)) (pending : Pending)
+        → HoldsNothing pending → StandsOwn tenant before kernel.old given piece.now start (D.contents drain.old) pending
+        → MatchResult result
+        (λ rest. StandsOwn tenant before kernel.new given rest.now start (D.contents drain.new) pending)
+        (λ _. HasStoppedOwn tenant before given start (D.contents drain.new)) }
+    ensures left { IfOk result (λ rest. length rest.now ≤ length piece.now) }
+    ensures failed { D.has_failed drain.new ≡ is_err result }
+{
+    if !may_begin_request(piece) {
+        return Ok(piece);
+    }
+    let rest = keep_ended_lines::<LF, D>(piece, kernel, drain, tenant)?;
+    if !returned {
+        return Ok(rest);
+    }
+    keep_ended_lines::<CR_LF, D>(rest, kernel, drain, tenant)
+}
+
+/// [`keep_quick_lines`] of lines that end in LF, or in CR LF if `RETURNS`.
+fn keep_ended_lines<'a, const RETURNS: bool, D: Drain>(
     piece: &'a [u8],
     kernel: &mut Kernel,
     drain: &mut D,
@@ -43,9 +74,9 @@ pub(crate) fn keep_quick_lines<'a, D: Drain>(
     // The bytes of a write: one buffer for all lines.
     let mut room = [0; MOST_BYTES];
     let mut rest = piece;
-    'lines: while let Some(line) = read_request(rest, &mut room) {
+    'lines: while let Some(line) = read_ended_request::<RETURNS>(rest, &mut room) {
         let len = line.len;
-        keep_request(
+        keep_request::<RETURNS, D>(
             &rest[..len - 1],
             line.tenant,
             line.request,
@@ -58,8 +89,11 @@ pub(crate) fn keep_quick_lines<'a, D: Drain>(
     Ok(rest)
 }
 
-/// Runs the request of a line. If the line is the tenant's own, pushes it and its line feed.
-fn keep_request<D: Drain>(
+/// Runs the request of a line. If the line is the tenant's own, pushes it and a line feed.
+///
+/// This function and [`run_request`] take `RETURNS`, which they do not use, to have one caller each: the compiler then makes them a
+/// part of it.
+fn keep_request<const RETURNS: bool, D: Drain>(
     line: &[u8],
     asked: u32,
     request: Request<'_>,
@@ -73,7 +107,7 @@ fn keep_request<D: Drain>(
         → HasKept tenant line.now kernel.old kernel.new (D.contents drain.old) (D.contents drain.new) (D.has_failed drain.new) result }
     ensures failed { D.has_failed drain.new ≡ is_err result }
 {
-    if !run_request(asked, request, kernel, tenant) {
+    if !run_request::<RETURNS>(asked, request, kernel, tenant) {
         return Ok(());
     }
     push_all(line, drain)?;
@@ -81,7 +115,12 @@ fn keep_request<D: Drain>(
 }
 
 /// Runs a request, and returns whether it is in the tenant's own list. It is if the tenant made it, with any answer.
-fn run_request(asked: u32, request: Request<'_>, kernel: &mut Kernel, tenant: u8) -> bool
+fn run_request<const RETURNS: bool>(
+    asked: u32,
+    request: Request<'_>,
+    kernel: &mut Kernel,
+    tenant: u8,
+) -> bool
     requires { IsAskable request }
     ensures sizes { SameSizes kernel.old kernel.new }
     ensures shows { (w : World) → Shows kernel.old w

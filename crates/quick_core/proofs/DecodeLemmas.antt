@@ -13,7 +13,7 @@ use Rattle.words_core.specs.Commands.{or_fault, bytes_or_fault, bytes_argument, 
 use Rattle.words_core.specs.Numbers.{number_of}
 use Rattle.words_core.specs.declared.event.Command.TheVariants.{Write}
 use Rattle.words_core.specs.declared.event.LineFault.TheVariants.{Number, Hex}
-use Rattle.quick_core.specs.Lines.{ReadsAs}
+use Rattle.quick_core.specs.Lines.{EndsLine, ReadsAs}
 use Rattle.quick_core.specs.declared.decode.TheConstants.{HIGH_VALUES, LOW_VALUES}
 use Rattle.quick_core.proofs.LineLemmas.{IsPlain, IsPlainWord, SomeCase, OneCase, spaced, is_read, three_words, plain_number}
 use Rattle.quick_core.specs.Pairs.{Decodes}
@@ -142,18 +142,18 @@ hex_argument word bytes is twice some few =
     ap (λ t. if t then bytes_or_fault (decode_of word) else Err Hex) test
     ∙ ap bytes_or_fault (decode_of-even word (omega arith) ∙ is)
 
-pub is_read_hex : SomeCase → OneCase → (rest : List ℕ) (a i b j d k e t n : ℕ) (bytes : List ℕ)
-    → i ≡ a + 1 → i < b → j ≡ b + 1 → j < d → k ≡ d + 1 → k < e → e ≤ k + 128 → e < length rest → e ≤ 255
+pub is_read_hex : SomeCase → OneCase → (rest : List ℕ) (a i b j d k e len t n : ℕ) (bytes : List ℕ)
+    → i ≡ a + 1 → i < b → j ≡ b + 1 → j < d → k ≡ d + 1 → k < e → e ≤ k + 128 → e ≤ length rest → e ≤ 255
     → number_of (slice_range rest 0 a) ≡ Some t → get_or rest a 0 ≡ 32 → slice_range rest i b ≡ codes "write" → get_or rest b 0 ≡ 32
-    → number_of (slice_range rest j d) ≡ Some n → get_or rest d 0 ≡ 32 → decode_pairs 0 (slice_range rest k e) ≡ Ok bytes → get_or rest e 0 ≡ 10
-    → ReadsAs rest t (Write n (record { items = bytes })) (e + 1)
-is_read_hex some only rest a i b j d k e t n bytes i_is ib j_is jd k_is ke most within few first_is blank_a word_is blank_b n_is blank_d bytes_are at =
+    → number_of (slice_range rest j d) ≡ Some n → get_or rest d 0 ≡ 32 → decode_pairs 0 (slice_range rest k e) ≡ Ok bytes → EndsLine rest e len
+    → ReadsAs rest t (Write n (record { items = bytes })) len
+is_read_hex some only rest a i b j d k e len t n bytes i_is ib j_is jd k_is ke most fits few first_is blank_a word_is blank_b n_is blank_d bytes_are ends =
     let word = slice_range rest k e in
     let (digits, twice, _) = decode_pairs-ok 0 word bytes bytes_are in
     let size : length word ≡ e - k = length-between rest k e (omega arith) in
     let plain : IsPlainWord word = (omega arith, All-weaker (λ x. is_hex_digit x ≡ true) IsPlain hex_plain word digits) in
-    is_read some only rest (slice_range rest 0 a) (slice_range rest j d ∷ word ∷ []) e t write_row (Write n (record { items = bytes })) within few at
-    (three_words rest a i b j d k e i_is ib j_is jd k_is ke (omega arith) blank_a blank_b blank_d
+    is_read some only rest (slice_range rest 0 a) (slice_range rest j d ∷ word ∷ []) e len t write_row (Write n (record { items = bytes })) fits few ends
+    (three_words rest a i b j d k e i_is ib j_is jd k_is ke fits blank_a blank_b blank_d
     ∙ ap (λ name. slice_range rest 0 a ++ spaced (name ∷ slice_range rest j d ∷ word ∷ [])) word_is)
     first_is (3, omega arith, refl) write_plain
     (All-cons IsPlainWord (slice_range rest j d) (word ∷ []) (plain_number (slice_range rest j d) n n_is)

@@ -1,8 +1,10 @@
 -- A line of words that one blank parts: what it says, and where it ends.
-use Rattle.std.proofs.Common.{◌≡◌, ℕ, ◌+◌, ◌-◌, ◌^◌, ◌<◌, ◌≤◌, Bool, true, false, ◌&&◌, nat_lt, nat_le, ◌==◌, if◌then◌else◌, List, [], ◌∷◌, ◌++◌, codes, length, get_or, take, Option, Some, None, Result, Ok, refl, sym, ◌∙◌, ap, subst, arith, append-nil}
+use Rattle.std.proofs.Common.{◌≡◌, inl, inr, not, position, length-append, ℕ, ◌+◌, ◌-◌, ◌^◌, ◌<◌, ◌≤◌, Bool, true, false, ◌&&◌, nat_lt, nat_le, ◌==◌, if◌then◌else◌, List, [], ◌∷◌, ◌++◌, codes, length, get_or, take, Option, Some, None, Result, Ok, refl, sym, ◌∙◌, ap, subst, arith, append-nil}
 use Rattle.std.specs.List.{All, Contains, list_all, slice_range}
 use Rattle.std.specs.Char.{is_ascii_digit}
 use Rattle.std.specs.Str.Lines.{strip_carriage_return}
+use Rattle.std.proofs.Math.Seq.{get_or-append_seam, take-append_seam}
+use Rattle.std.proofs.lemmas.Bool.{cases_lt}
 use Rattle.std.proofs.lemmas.Bool.Decides.{nat_tests}
 use Rattle.std.proofs.lemmas.List.Elements.{All-nil, All-cons, All-head, All-tail, All-append, All-weaker, All-from_recursion}
 use Rattle.std.proofs.lemmas.List.{get_or-take, length-take-le}
@@ -17,8 +19,8 @@ use Rattle.words_core.specs.declared.event.Event.{Event}
 use Rattle.words_core.specs.declared.event.Event.TheVariants.{Tenant}
 use Rattle.words_core.specs.declared.event.LineFault.{LineFault}
 use Rattle.words_core.specs.declared.event.LineFault.TheVariants.{Number}
-use Rattle.quick_core.specs.Lines.{ReadsAs}
-use Rattle.quick_core.proofs.WindowLemmas.{cut, front, first_line_feed}
+use Rattle.quick_core.specs.Lines.{EndsLine, ReadsAs}
+use Rattle.quick_core.proofs.WindowLemmas.{cut, front, one_more, first_line_feed}
 
 -- ---- bytes
 
@@ -131,6 +133,58 @@ no_carriage_return (b ∷ bytes) all =
     let test : (get_or (b ∷ bytes) (length (b ∷ bytes) - 1) 0 == 13) ≡ false = grind (arith, nat_tests) in
     ap (λ t. if t then take (length (b ∷ bytes) - 1) (b ∷ bytes) else (b ∷ bytes)) test
 
+-- a carriage return behind it is not part of it
+carriage_return : (line : List ℕ) → strip_carriage_return (line ++ 13 ∷ []) ≡ line
+carriage_return line =
+    let size : length (line ++ 13 ∷ []) - 1 ≡ length line = omega (arith, length-append line (13 ∷ [])) in
+    ap (λ n. if get_or (line ++ 13 ∷ []) n 0 == 13 then take n (line ++ 13 ∷ []) else (line ++ 13 ∷ [])) size
+    ∙ ap (λ b. if b == 13 then take (length line) (line ++ 13 ∷ []) else (line ++ 13 ∷ [])) (get_or-append_seam line 13 [] 0)
+    ∙ take-append_seam line (13 ∷ [])
+
+-- ---- the end of a line
+
+not_line_feed : (b : ℕ) → 31 < b → not (b == 10) ≡ true
+not_line_feed b above = grind (arith, nat_tests)
+
+-- where the line ends, and its text
+ended_line : (window : List ℕ) (e len : ℕ) → EndsLine window e len → All IsInLine (take e window)
+    → (0 < len) × (position (λ b. b == 10) window ≡ Some (len - 1)) × (strip_carriage_return (take (len - 1) window) ≡ take e window)
+ended_line window e len ends all = elim ends.ended [
+  | inl found ↦
+      let end : e ≡ len - 1 = omega (arith, found.0) in (
+        omega (arith, found.0),
+        first_line_feed window e (omega (arith, found.0, ends.within)) before found.1 ∙ ap Some end,
+        ap (λ n. strip_carriage_return (take n window)) (sym end) ∙ no_carriage_return (take e window) all,
+      )
+  | inr found ↦
+      let end : e + 1 ≡ len - 1 = omega (arith, found.0) in
+      let within : e + 1 < length window = omega (arith, found.0, ends.within) in (
+        omega (arith, found.0),
+        first_line_feed window (e + 1) within (before_or_at found.1) found.2 ∙ ap Some end,
+        ap (λ n. strip_carriage_return (take n window)) (sym end)
+            ∙ ap strip_carriage_return
+            (sym (between_from_start window (e + 1))
+            ∙ one_more window 0 e 13 (take e window) (omega arith) (omega arith) (between_from_start window e) found.1)
+            ∙ carriage_return (take e window),
+      )
+] where
+  end_within : e < length window
+  end_within = elim ends.ended [
+    | inl found ↦ omega (arith, found.0, ends.within)
+    | inr found ↦ omega (arith, found.0, ends.within)
+  ]
+
+  before : (k : ℕ) → k < e → not (get_or window k 0 == 10) ≡ true
+  before k below =
+      let there : k < length (take e window) = omega (arith, length-take-le e window (omega (arith, end_within))) in
+      not_line_feed (get_or window k 0) (subst IsInLine (get_or-take e window k 0 below) (all k 0 there))
+
+  before_or_at : get_or window e 0 ≡ 13 → (k : ℕ) → k < e + 1 → not (get_or window k 0 == 10) ≡ true
+  before_or_at at k below = elim (cases_lt k e) [
+    | inl first ↦ before k first
+    | inr last ↦ ap (λ n. not (get_or window n 0 == 10)) (omega arith) ∙ ap (λ b. not (b == 10)) at
+  ]
+
 -- ---- what such a line says
 
 -- each line is in exactly one case
@@ -142,18 +196,17 @@ OneCase = (line : List ℕ) (number other : ℕ) (reading second : Result (Optio
     → Case number line reading → Case other line second → (other ≡ number) × (second ≡ reading)
 
 -- a command's word and its arguments behind the number of a tenant
-pub event_said : SomeCase → OneCase → (first : List ℕ) (arguments : List (List ℕ)) (t : ℕ) (row : CommandRow Command) (command : Command)
+pub event_said : SomeCase → OneCase → (line first : List ℕ) (arguments : List (List ℕ)) (t : ℕ) (row : CommandRow Command) (command : Command)
+    → strip_carriage_return line ≡ first ++ spaced (row.word ∷ arguments)
     → number_of first ≡ Some t → Contains tenant_rows row → IsPlainWord row.word → All IsPlainWord arguments
     → length (first ++ spaced (row.word ∷ arguments)) ≤ 255
     → AllMake row.forms row.makes arguments command
-    → reading_of (first ++ spaced (row.word ∷ arguments)) ≡ Ok (Some (Tenant t command))
-event_said some only first arguments t row command first_is has plain_word plain short make =
-    let line = first ++ spaced (row.word ∷ arguments) in
+    → reading_of line ≡ Ok (Some (Tenant t command))
+event_said some only line first arguments t row command text first_is has plain_word plain short make =
     let all : All IsPlainWord (row.word ∷ arguments) = All-cons IsPlainWord row.word arguments plain_word plain in
     let first_plain : IsPlainWord first = plain_number first t first_is in
-    let same : strip_carriage_return line ≡ line = no_carriage_return line (in_line first (row.word ∷ arguments) first_plain all) in
     let case : Case 8 line (Ok (Some (Tenant t command))) =
-    subst (λ bytes. CaseOfBytes 8 bytes (Ok (Some (Tenant t command)))) (sym same)
+    subst (λ bytes. CaseOfBytes 8 bytes (Ok (Some (Tenant t command)))) (sym text)
     (of_words short (first ∷ row.word ∷ arguments) (line_has first (row.word ∷ arguments) first_plain all)
     (event (tenant t) first_is row (has, refl) command make)) in
     (only line 8 (some line).0 (Ok (Some (Tenant t command))) (reading_of line) case (some line).1).1
@@ -161,35 +214,23 @@ event_said some only first arguments t row command first_is has plain_word plain
 -- ---- such a line in a window
 
 -- the first line of the window, cut into its words
-pub is_read : SomeCase → OneCase → (window first : List ℕ) (arguments : List (List ℕ)) (e t : ℕ) (row : CommandRow Command) (command : Command)
-    → e < length window → e ≤ 255 → get_or window e 0 ≡ 10 → take e window ≡ first ++ spaced (row.word ∷ arguments)
+pub is_read : SomeCase → OneCase → (window first : List ℕ) (arguments : List (List ℕ)) (e len t : ℕ) (row : CommandRow Command) (command : Command)
+    → e ≤ length window → e ≤ 255 → EndsLine window e len → take e window ≡ first ++ spaced (row.word ∷ arguments)
     → number_of first ≡ Some t → Contains tenant_rows row → IsPlainWord row.word → All IsPlainWord arguments
     → AllMake row.forms row.makes arguments command
-    → ReadsAs window t command (e + 1)
-is_read some only window first arguments e t row command within few at cuts first_is has plain_word plain make = record {
-  some = omega arith;
-  within = omega arith;
-  ended = first_line_feed window e (omega arith) before at ∙ ap Some end;
-  reading = ap (λ n. reading_of (take n window)) (sym end) ∙ ap reading_of cuts
-      ∙ event_said some only first arguments t row command first_is has plain_word plain short make;
-} where
-  end : e ≡ e + 1 - 1
-  end = omega arith
-
-  first_plain : IsPlainWord first
-  first_plain = plain_number first t first_is
-
-  all : All IsInLine (take e window)
-  all = subst (All IsInLine) (sym cuts)
-      (in_line first (row.word ∷ arguments) first_plain (All-cons IsPlainWord row.word arguments plain_word plain))
-
-  before : (k : ℕ) → k < e → 31 < get_or window k 0
-  before k below =
-      let there : k < length (take e window) = omega (arith, length-take-le e window (omega arith)) in
-      subst IsInLine (get_or-take e window k 0 below) (all k 0 there)
-
-  short : length (first ++ spaced (row.word ∷ arguments)) ≤ 255
-  short = omega (arith, ap length cuts, length-take-le e window (omega arith))
+    → ReadsAs window t command len
+is_read some only window first arguments e len t row command fits few ends cuts first_is has plain_word plain make =
+    let all : All IsInLine (take e window) =
+    subst (All IsInLine) (sym cuts)
+    (in_line first (row.word ∷ arguments) (plain_number first t first_is) (All-cons IsPlainWord row.word arguments plain_word plain)) in
+    let line = ended_line window e len ends all in
+    let short : length (first ++ spaced (row.word ∷ arguments)) ≤ 255 = omega (arith, ap length cuts, length-take-le e window fits) in
+    record {
+      some = line.0;
+      within = ends.within;
+      ended = line.1;
+      reading = event_said some only (take (len - 1) window) first arguments t row command (line.2 ∙ cuts) first_is has plain_word plain short make;
+    }
 
 blank_first : (window : List ℕ) (i next e : ℕ) → next ≡ i + 1 → i < e → e ≤ length window → get_or window i 0 ≡ 32
     → slice_range window i e ≡ 32 ∷ slice_range window next e
@@ -225,31 +266,31 @@ three_words window a i b j d k e i_is ib j_is jd k_is ke fits blank_a blank_b bl
     ∙ ap (λ rest. 32 ∷ rest) (sym (append-nil (slice_range window k e))))))))
 
 -- a command with one number
-pub is_read_one : SomeCase → OneCase → (window : List ℕ) (a i b j e t n : ℕ) (row : CommandRow Command) (command : Command)
-    → i ≡ a + 1 → i < b → j ≡ b + 1 → j < e → e < length window → e ≤ 255
+pub is_read_one : SomeCase → OneCase → (window : List ℕ) (a i b j e len t n : ℕ) (row : CommandRow Command) (command : Command)
+    → i ≡ a + 1 → i < b → j ≡ b + 1 → j < e → e ≤ length window → e ≤ 255
     → number_of (slice_range window 0 a) ≡ Some t → get_or window a 0 ≡ 32 → slice_range window i b ≡ row.word → get_or window b 0 ≡ 32
-    → number_of (slice_range window j e) ≡ Some n → get_or window e 0 ≡ 10
+    → number_of (slice_range window j e) ≡ Some n → EndsLine window e len
     → Contains tenant_rows row → IsPlainWord row.word → AllMake row.forms row.makes (slice_range window j e ∷ []) command
-    → ReadsAs window t command (e + 1)
-is_read_one some only window a i b j e t n row command i_is ib j_is je within few first_is blank_a word_is blank_b number_is at has plain make =
-    is_read some only window (slice_range window 0 a) (slice_range window j e ∷ []) e t row command within few at
-    (two_words window a i b j e i_is ib j_is je (omega arith) blank_a blank_b
+    → ReadsAs window t command len
+is_read_one some only window a i b j e len t n row command i_is ib j_is je fits few first_is blank_a word_is blank_b number_is ends has plain make =
+    is_read some only window (slice_range window 0 a) (slice_range window j e ∷ []) e len t row command fits few ends
+    (two_words window a i b j e i_is ib j_is je fits blank_a blank_b
     ∙ ap (λ word. slice_range window 0 a ++ spaced (word ∷ slice_range window j e ∷ [])) word_is)
     first_is has plain
     (All-cons IsPlainWord (slice_range window j e) [] (plain_number (slice_range window j e) n number_is) (All-nil IsPlainWord))
     make
 
 -- a command with two numbers
-pub is_read_two : SomeCase → OneCase → (window : List ℕ) (a i b j d k e t m n : ℕ) (row : CommandRow Command) (command : Command)
-    → i ≡ a + 1 → i < b → j ≡ b + 1 → j < d → k ≡ d + 1 → k < e → e < length window → e ≤ 255
+pub is_read_two : SomeCase → OneCase → (window : List ℕ) (a i b j d k e len t m n : ℕ) (row : CommandRow Command) (command : Command)
+    → i ≡ a + 1 → i < b → j ≡ b + 1 → j < d → k ≡ d + 1 → k < e → e ≤ length window → e ≤ 255
     → number_of (slice_range window 0 a) ≡ Some t → get_or window a 0 ≡ 32 → slice_range window i b ≡ row.word → get_or window b 0 ≡ 32
-    → number_of (slice_range window j d) ≡ Some m → get_or window d 0 ≡ 32 → number_of (slice_range window k e) ≡ Some n → get_or window e 0 ≡ 10
+    → number_of (slice_range window j d) ≡ Some m → get_or window d 0 ≡ 32 → number_of (slice_range window k e) ≡ Some n → EndsLine window e len
     → Contains tenant_rows row → IsPlainWord row.word
     → AllMake row.forms row.makes (slice_range window j d ∷ slice_range window k e ∷ []) command
-    → ReadsAs window t command (e + 1)
-is_read_two some only window a i b j d k e t m n row command i_is ib j_is jd k_is ke within few first_is blank_a word_is blank_b m_is blank_d n_is at has plain make =
-    is_read some only window (slice_range window 0 a) (slice_range window j d ∷ slice_range window k e ∷ []) e t row command within few at
-    (three_words window a i b j d k e i_is ib j_is jd k_is ke (omega arith) blank_a blank_b blank_d
+    → ReadsAs window t command len
+is_read_two some only window a i b j d k e len t m n row command i_is ib j_is jd k_is ke fits few first_is blank_a word_is blank_b m_is blank_d n_is ends has plain make =
+    is_read some only window (slice_range window 0 a) (slice_range window j d ∷ slice_range window k e ∷ []) e len t row command fits few ends
+    (three_words window a i b j d k e i_is ib j_is jd k_is ke fits blank_a blank_b blank_d
     ∙ ap (λ word. slice_range window 0 a ++ spaced (word ∷ slice_range window j d ∷ slice_range window k e ∷ [])) word_is)
     first_is has plain
     (All-cons IsPlainWord (slice_range window j d) (slice_range window k e ∷ []) (plain_number (slice_range window j d) m m_is)

@@ -31,15 +31,11 @@ pub one_more : (xs : List ℕ) (i e b : ℕ) (part : List ℕ) → i ≤ e → e
 one_more xs i e b part low within part_is is = between_more xs i e 0 low within ∙ (λ t. part_is t ++ is t ∷ [])
 
 -- the first line feed stands there
-pub first_line_feed : (bytes : List ℕ) (e : ℕ) → e < length bytes → ((k : ℕ) → k < e → 31 < get_or bytes k 0) → get_or bytes e 0 ≡ 10
-    → position (λ b. b == 10) bytes ≡ Some e
+pub first_line_feed : (bytes : List ℕ) (e : ℕ) → e < length bytes → ((k : ℕ) → k < e → not (get_or bytes k 0 == 10) ≡ true)
+    → get_or bytes e 0 ≡ 10 → position (λ b. b == 10) bytes ≡ Some e
 first_line_feed bytes e within before at =
     ap (λ n. if nat_lt n (length bytes) then Some n else None)
-    (prefix_len_is (λ b. not (b == 10)) bytes e 0 (omega arith) (λ k below. other (get_or bytes k 0) (before k below))
-    (λ _. ap (λ b. not (b == 10)) at))
+    (prefix_len_is (λ b. not (b == 10)) bytes e 0 (omega arith) before (λ _. ap (λ b. not (b == 10)) at))
     ∙ found where
-      other : (b : ℕ) → 31 < b → not (b == 10) ≡ true
-      other b above = grind (arith, nat_tests)
-
       found : (if nat_lt e (length bytes) then Some e else None) ≡ Some e
       found = grind (arith, nat_tests)

@@ -5,8 +5,13 @@
 #![tactic(auto)]
 
 mod decode;
+mod line_end;
 mod number;
 mod request;
 
+pub use line_end::{CR_LF, LF};
 pub use number::Number;
-pub use request::{RequestLine, WINDOW, read_known_request, read_request, read_tenant};
+pub use request::{
+    RequestLine, WINDOW, may_begin_request, read_ended_request, read_known_request, read_request,
+    read_tenant,
+};

@@ -3,6 +3,9 @@
 ghost use Rattle.std.specs.Prelude.{◌≡◌, true, ◌+◌, ◌-◌, ◌<◌, ◌≤◌, Some, IfSome, length, slice_range};
 ghost use Rattle.std.specs.Char.{is_ascii_digit};
 ghost use Rattle.words_core.specs.Numbers.{number_of};
+ghost use Rattle.quick_core.specs.Lines.{IsLastNumber};
+
+use crate::line_end::line_len;
 
 /// No number that is read has more digits: its value then fits a `u32`.
 pub const MOST_READ_DIGITS: usize = 9;
@@ -41,6 +44,27 @@ pub fn number_at(bytes: &[u8], from: usize, most: usize) -> Option<Number>
     Some(Number {
         value,
         end: from + most,
+    })
+}
+
+/// The last number of a line, and the length of the line with its end.
+#[derive(Clone, Copy)]
+pub struct LastNumber {
+    pub value: u32,
+    pub len: usize,
+}
+
+/// The number from index `from` on that the end of its line follows: LF, or CR LF if `RETURNS`.
+#[inline(always)]
+pub fn last_number<const RETURNS: bool>(bytes: &[u8], from: usize) -> Option<LastNumber>
+    requires { from + MOST_READ_DIGITS + 1 < length bytes.now }
+    ensures { IfSome result (λ number. IsLastNumber bytes.now from number.value number.len) }
+{
+    let number = number_at(bytes, from, MOST_READ_DIGITS)?;
+    let len = line_len::<RETURNS>(bytes, number.end)?;
+    Some(LastNumber {
+        value: number.value,
+        len,
     })
 }
 

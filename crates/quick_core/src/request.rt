@@ -10,11 +10,12 @@ ghost use Rattle.words_core.specs.declared.event.Event.TheVariants.{Tenant};
 ghost use Rattle.quick_core.specs.Lines.{BeginsLine, NamesTenant, ReadsAs};
 
 use crate::decode::decode_at;
-use crate::number::{MOST_READ_DIGITS, Number, number_at};
+use crate::line_end::{LF, line_len};
+use crate::number::{MOST_READ_DIGITS, Number, last_number, number_at};
 use model_core::limits::MOST_BYTES;
 use words_core::{Request, one_case};
 
-/// A line that was read: whose it is, what it asks for, and its length with its line feed.
+/// A line that was read: whose it is, what it asks for, and its length with its line end.
 #[derive(Clone, Copy)]
 pub struct RequestLine<'a> {
     pub tenant: u32,
@@ -22,7 +23,7 @@ pub struct RequestLine<'a> {
     pub len: usize,
 }
 
-/// So many bytes have to be there: a line has no more before the bytes that it writes, or before its line feed.
+/// So many bytes have to be there: a line has no more before the bytes that it writes, or with its line end.
 pub const WINDOW: usize = 32;
 
 /// The number of a tenant has at most so many digits here.
@@ -48,8 +49,26 @@ pub fn read_request<'a>(bytes: &[u8], room: &'a mut [u8; MOST_BYTES]) -> Option<
     ensures reads { IfSome result (λ line. ReadsAs bytes.now line.tenant (command_of line.request) line.len) }
     ensures askable { IfSome result (λ line. IsAskable line.request) }
 {
+    read_ended_request::<LF>(bytes, room)
+}
+
+/// [`read_request`] of a line that ends in LF, or in CR LF if `RETURNS`.
+#[inline(always)]
+pub fn read_ended_request<'a, const RETURNS: bool>(
+    bytes: &[u8],
+    room: &'a mut [u8; MOST_BYTES],
+) -> Option<RequestLine<'a>>
+    ensures reads { IfSome result (λ line. ReadsAs bytes.now line.tenant (command_of line.request) line.len) }
+    ensures askable { IfSome result (λ line. IsAskable line.request) }
+{
     let tenant = read_tenant(bytes)?;
-    read_known_request(bytes, tenant, room)
+    read_known_request::<RETURNS>(bytes, tenant, room)
+}
+
+/// Returns false if no request stands at the front of these bytes, as their first byte says: it is the number of a tenant.
+#[inline(always)]
+pub fn may_begin_request(bytes: &[u8]) -> bool {
+    matches!(bytes, [b'0'..=b'9', ..])
 }
 
 /// The number of the tenant that a line at the front of these bytes names, with a blank behind it.
@@ -65,9 +84,9 @@ pub fn read_tenant(bytes: &[u8]) -> Option<Number>
     (bytes[tenant.end] == b' ').then_some(tenant)
 }
 
-/// [`read_request`] of a line whose tenant is known: what stands behind that number.
+/// [`read_ended_request`] of a line whose tenant is known: what stands behind that number.
 #[inline(always)]
-pub fn read_known_request<'a>(
+pub fn read_known_request<'a, const RETURNS: bool>(
     bytes: &[u8],
     tenant: Number,
     room: &'a mut [u8; MOST_BYTES],
@@ -79,12 +98,12 @@ pub fn read_known_request<'a>(
     ensures askable { IfSome result (λ line. IsAskable line.request) }
 {
     match four_at(bytes, tenant.end + 1) {
-        ALLO => alloc_line(bytes, tenant),
-        FREE => free_line(bytes, tenant),
-        TAKE => take_line(bytes, tenant),
-        GIVE => give_line(bytes, tenant),
-        READ => read_line(bytes, tenant),
-        WRIT => write_line(bytes, tenant, room),
+        ALLO => alloc_line::<RETURNS>(bytes, tenant),
+        FREE => free_line::<RETURNS>(bytes, tenant),
+        TAKE => take_line::<RETURNS>(bytes, tenant),
+        GIVE => give_line::<RETURNS>(bytes, tenant),
+        READ => read_line::<RETURNS>(bytes, tenant),
+        WRIT => write_line::<RETURNS>(bytes, tenant, room),
         _ => None,
     }
 }
@@ -98,21 +117,8 @@ fn four_at(bytes: &[u8], at: usize) -> u32
     u32::from_le_bytes([bytes[at], bytes[at + 1], bytes[at + 2], bytes[at + 3]])
 }
 
-/// A number that the line feed of the line ends.
 #[inline(always)]
-fn last_number(bytes: &[u8], from: usize) -> Option<Number>
-    requires { from + MOST_READ_DIGITS < length bytes.now }
-    ensures value { IfSome result (λ number. number_of (slice_range bytes.now from number.end) ≡ Some number.value) }
-    ensures some { IfSome result (λ number. from < number.end) }
-    ensures within { IfSome result (λ number. number.end ≤ from + MOST_READ_DIGITS) }
-    ensures ended { IfSome result (λ number. slice_index bytes.now number.end ≡ 10) }
-{
-    let number = number_at(bytes, from, MOST_READ_DIGITS)?;
-    (bytes[number.end] == b'\n').then_some(number)
-}
-
-#[inline(always)]
-fn alloc_line(bytes: &[u8], tenant: Number) -> Option<RequestLine<'static>>
+fn alloc_line<const RETURNS: bool>(bytes: &[u8], tenant: Number) -> Option<RequestLine<'static>>
     requires size { WINDOW ≤ length bytes.now }
     requires begins { BeginsLine bytes.now tenant (codes "allo") }
     ensures reads { IfSome result (λ line. ReadsAs bytes.now line.tenant (command_of line.request) line.len) }
@@ -124,16 +130,16 @@ fn alloc_line(bytes: &[u8], tenant: Number) -> Option<RequestLine<'static>>
     if bytes[at] != b'c' || bytes[at + 1] != b' ' {
         return None;
     }
-    let order = last_number(bytes, at + 2)?;
+    let order = last_number::<RETURNS>(bytes, at + 2)?;
     Some(RequestLine {
         tenant: tenant.value,
         request: Request::Alloc { order: order.value },
-        len: order.end + 1,
+        len: order.len,
     })
 }
 
 #[inline(always)]
-fn free_line(bytes: &[u8], tenant: Number) -> Option<RequestLine<'static>>
+fn free_line<const RETURNS: bool>(bytes: &[u8], tenant: Number) -> Option<RequestLine<'static>>
     requires size { WINDOW ≤ length bytes.now }
     requires begins { BeginsLine bytes.now tenant (codes "free") }
     ensures reads { IfSome result (λ line. ReadsAs bytes.now line.tenant (command_of line.request) line.len) }
@@ -145,16 +151,16 @@ fn free_line(bytes: &[u8], tenant: Number) -> Option<RequestLine<'static>>
     if bytes[at] != b' ' {
         return None;
     }
-    let frame = last_number(bytes, at + 1)?;
+    let frame = last_number::<RETURNS>(bytes, at + 1)?;
     Some(RequestLine {
         tenant: tenant.value,
         request: Request::Free { frame: frame.value },
-        len: frame.end + 1,
+        len: frame.len,
     })
 }
 
 #[inline(always)]
-fn take_line(bytes: &[u8], tenant: Number) -> Option<RequestLine<'static>>
+fn take_line<const RETURNS: bool>(bytes: &[u8], tenant: Number) -> Option<RequestLine<'static>>
     requires size { WINDOW ≤ length bytes.now }
     requires begins { BeginsLine bytes.now tenant (codes "take") }
     ensures reads { IfSome result (λ line. ReadsAs bytes.now line.tenant (command_of line.request) line.len) }
@@ -166,16 +172,16 @@ fn take_line(bytes: &[u8], tenant: Number) -> Option<RequestLine<'static>>
     if bytes[at] != b' ' {
         return None;
     }
-    let cache = last_number(bytes, at + 1)?;
+    let cache = last_number::<RETURNS>(bytes, at + 1)?;
     Some(RequestLine {
         tenant: tenant.value,
         request: Request::Take { cache: cache.value },
-        len: cache.end + 1,
+        len: cache.len,
     })
 }
 
 #[inline(always)]
-fn give_line(bytes: &[u8], tenant: Number) -> Option<RequestLine<'static>>
+fn give_line<const RETURNS: bool>(bytes: &[u8], tenant: Number) -> Option<RequestLine<'static>>
     requires size { WINDOW ≤ length bytes.now }
     requires begins { BeginsLine bytes.now tenant (codes "give") }
     ensures reads { IfSome result (λ line. ReadsAs bytes.now line.tenant (command_of line.request) line.len) }
@@ -191,19 +197,19 @@ fn give_line(bytes: &[u8], tenant: Number) -> Option<RequestLine<'static>>
     if bytes[cache.end] != b' ' {
         return None;
     }
-    let place = last_number(bytes, cache.end + 1)?;
+    let place = last_number::<RETURNS>(bytes, cache.end + 1)?;
     Some(RequestLine {
         tenant: tenant.value,
         request: Request::Give {
             cache: cache.value,
             place: place.value,
         },
-        len: place.end + 1,
+        len: place.len,
     })
 }
 
 #[inline(always)]
-fn read_line(bytes: &[u8], tenant: Number) -> Option<RequestLine<'static>>
+fn read_line<const RETURNS: bool>(bytes: &[u8], tenant: Number) -> Option<RequestLine<'static>>
     requires size { WINDOW ≤ length bytes.now }
     requires begins { BeginsLine bytes.now tenant (codes "read") }
     ensures reads { IfSome result (λ line. ReadsAs bytes.now line.tenant (command_of line.request) line.len) }
@@ -219,20 +225,20 @@ fn read_line(bytes: &[u8], tenant: Number) -> Option<RequestLine<'static>>
     if bytes[place.end] != b' ' {
         return None;
     }
-    let len = last_number(bytes, place.end + 1)?;
+    let len = last_number::<RETURNS>(bytes, place.end + 1)?;
     Some(RequestLine {
         tenant: tenant.value,
         request: Request::Read {
             place: place.value,
             len: len.value,
         },
-        len: len.end + 1,
+        len: len.len,
     })
 }
 
 /// A line that writes bytes, which lie in `room` then.
 #[inline(always)]
-fn write_line<'a>(
+fn write_line<'a, const RETURNS: bool>(
     bytes: &[u8],
     tenant: Number,
     room: &'a mut [u8; MOST_BYTES],
@@ -255,15 +261,16 @@ fn write_line<'a>(
     let from = place.end + 1;
     let count = decode_at(bytes, from, room);
     let end = from + 2 * count;
-    if count == 0 || end >= bytes.len() || bytes[end] != b'\n' {
+    if count == 0 || end + usize::from(RETURNS) >= bytes.len() {
         return None;
     }
+    let len = line_len::<RETURNS>(bytes, end)?;
     Some(RequestLine {
         tenant: tenant.value,
         request: Request::Write {
             place: place.value,
             bytes: &room[..count],
         },
-        len: end + 1,
+        len,
     })
 }

@@ -15,7 +15,7 @@ use crate::run::Run;
 use ends::Drain;
 use kernel_core::Kernel;
 use model_core::limits::MOST_BYTES;
-use quick_core::{read_known_request, read_tenant};
+use quick_core::{LF, read_known_request, read_tenant};
 use words_core::{Addressee, Request};
 
 /// The commands that make up a load, by number, and all others.
@@ -35,10 +35,10 @@ const RARE: usize = 6;
 
 impl Run {
     /// Runs the lines at the front of a piece as long as they are requests that are read the short way, of tenants that there are and
-    /// whose replies are shown, and the drain has space for an answer; answers the rest of the piece. By itself, so that its loop has
-    /// all registers.
+    /// whose replies are shown, and the drain has space for an answer; answers the rest of the piece. The lines end in LF, or in CR LF
+    /// if `RETURNS`. By itself, so that its loop has all registers.
     #[inline(never)]
-    pub fn run_in_place<'a, D: Drain, N: Notes>(
+    pub fn run_in_place<'a, const RETURNS: bool, D: Drain, N: Notes>(
         &mut self,
         piece: &'a [u8],
         kernel: &mut Kernel,
@@ -57,7 +57,8 @@ impl Run {
         let mut room = [0; MOST_BYTES];
         let mut rest = piece;
         'lines: while drain.has_space() {
-            let Some(len) = self.answer_line(rest, &mut room, kernel, drain, notes) else {
+            let Some(len) = self.answer_line::<RETURNS, D, N>(rest, &mut room, kernel, drain, notes)
+            else {
                 return rest;
             };
             rest = &rest[len..];
@@ -68,7 +69,7 @@ impl Run {
     /// Runs and answers the line at the front of these bytes, and answers how long it is; None, and nothing is done, where it is no
     /// request that is read the short way, or of no tenant that there is and is shown.
     #[inline(always)]
-    fn answer_line<D: Drain, N: Notes>(
+    fn answer_line<const RETURNS: bool, D: Drain, N: Notes>(
         &mut self,
         bytes: &[u8],
         room: &mut [u8; MOST_BYTES],
@@ -86,14 +87,14 @@ impl Run {
         if !self.replies.is_shown(Addressee::Tenant(tenant)) {
             return None;
         }
-        let line = read_known_request(bytes, number, room)?;
-        self.answer_request(tenant, line.request, kernel, drain, notes);
+        let line = read_known_request::<RETURNS>(bytes, number, room)?;
+        self.answer_request::<RETURNS, D, N>(tenant, line.request, kernel, drain, notes);
         Some(line.len)
     }
 
     /// Runs a request of a tenant that there is and is shown, counts its line, and writes what it is answered where it stays.
     #[inline(always)]
-    fn answer_request<D: Drain, N: Notes>(
+    fn answer_request<const RETURNS: bool, D: Drain, N: Notes>(
         &mut self,
         tenant: u8,
         request: Request<'_>,
@@ -111,7 +112,7 @@ impl Run {
     {
         match request {
             Request::Alloc { order } => {
-                self.answer_as::<ALLOC, D, N>(
+                self.answer_as::<ALLOC, RETURNS, D, N>(
                     tenant,
                     Request::Alloc { order },
                     kernel,
@@ -120,13 +121,25 @@ impl Run {
                 )
             }
             Request::Free { frame } => {
-                self.answer_as::<FREE, D, N>(tenant, Request::Free { frame }, kernel, drain, notes)
+                self.answer_as::<FREE, RETURNS, D, N>(
+                    tenant,
+                    Request::Free { frame },
+                    kernel,
+                    drain,
+                    notes,
+                )
             }
             Request::Take { cache } => {
-                self.answer_as::<TAKE, D, N>(tenant, Request::Take { cache }, kernel, drain, notes)
+                self.answer_as::<TAKE, RETURNS, D, N>(
+                    tenant,
+                    Request::Take { cache },
+                    kernel,
+                    drain,
+                    notes,
+                )
             }
             Request::Give { cache, place } => {
-                self.answer_as::<GIVE, D, N>(
+                self.answer_as::<GIVE, RETURNS, D, N>(
                     tenant,
                     Request::Give { cache, place },
                     kernel,
@@ -135,7 +148,7 @@ impl Run {
                 )
             }
             Request::Read { place, len } => {
-                self.answer_as::<READ, D, N>(
+                self.answer_as::<READ, RETURNS, D, N>(
                     tenant,
                     Request::Read { place, len },
                     kernel,
@@ -144,7 +157,7 @@ impl Run {
                 )
             }
             Request::Write { place, bytes } => {
-                self.answer_as::<WRITE, D, N>(
+                self.answer_as::<WRITE, RETURNS, D, N>(
                     tenant,
                     Request::Write { place, bytes },
                     kernel,
@@ -156,11 +169,11 @@ impl Run {
         }
     }
 
-    /// [`Run::answer_request`] of one command, which `COMMAND` numbers. Each has a function of its own with one caller: of such a
-    /// function the compiler makes a part of its caller, however long it is, and what the command may be answered is then known where
-    /// that is written.
+    /// [`Run::answer_request`] of one command, which `COMMAND` numbers. Each has a function of its own with one caller, and so for each
+    /// line end: of such a function the compiler makes a part of its caller, however long it is, and what the command may be answered
+    /// is then known where that is written.
     #[inline]
-    fn answer_as<const COMMAND: usize, D: Drain, N: Notes>(
+    fn answer_as<const COMMAND: usize, const RETURNS: bool, D: Drain, N: Notes>(
         &mut self,
         tenant: u8,
         request: Request<'_>,
@@ -202,6 +215,6 @@ impl Run {
         ensures { HasAnswered (Ok (Some (Tenant tenant (command_of request.entry)))) kernel.old kernel.new
             (D.contents drain.old) (D.contents drain.new) (D.has_failed drain.new) self.old self.new (Ok tt) }
     {
-        self.answer_as::<RARE, D, N>(tenant, request, kernel, drain, notes);
+        self.answer_as::<RARE, LF, D, N>(tenant, request, kernel, drain, notes);
     }
 }

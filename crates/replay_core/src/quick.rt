@@ -17,13 +17,47 @@ use crate::run::Run;
 use ends::{Drain, Stopped};
 use kernel_core::Kernel;
 use model_core::limits::MOST_BYTES;
-use quick_core::{RequestLine, WINDOW, read_known_request, read_request, read_tenant};
+use quick_core::{
+    CR_LF, LF, RequestLine, WINDOW, may_begin_request, read_ended_request, read_known_request,
+    read_request, read_tenant,
+};
 use words_core::{Addressee, Request};
 
 impl Run {
     /// Runs the lines at the front of a piece as long as they are read the short way, and returns the rest of the piece. No
     /// beginning of a line may be pending.
+    ///
+    /// Lines that end in CR LF are tried only behind one that did, as `returned` says.
+    #[inline(always)]
     pub fn run_quick_lines<'a, D: Drain, N: Notes>(
+        &mut self,
+        piece: &'a [u8],
+        returned: bool,
+        kernel: &mut Kernel,
+        drain: &mut D,
+        notes: &mut N,
+    ) -> Result<&'a [u8], Stopped>
+        requires { IsReady (D.has_failed drain.old) self.old (length piece.now) }
+        ensures ran { (only : Option ℕ) (before : KernelContent) (given : List ℕ) (start : Option (List ℕ)) (pending : Pending)
+            → HoldsNothing pending → Stands only before kernel.old given piece.now start (D.contents drain.old) pending self.old
+            → MatchResult result
+            (λ rest. Stands only before kernel.new given rest.now start (D.contents drain.new) pending self.new)
+            (λ _. HasStopped only before kernel.new given start (D.contents drain.new) self.new) }
+        ensures left { IfOk result (λ rest. (self.new.lines + length rest.now < 2 ^ 64) × (length rest.now ≤ length piece.now)) }
+        ensures failed { D.has_failed drain.new ≡ is_err result }
+    {
+        if !may_begin_request(piece) {
+            return Ok(piece);
+        }
+        let rest = self.run_ended_lines::<LF, D, N>(piece, kernel, drain, notes)?;
+        if !returned {
+            return Ok(rest);
+        }
+        self.run_ended_lines::<CR_LF, D, N>(rest, kernel, drain, notes)
+    }
+
+    /// [`Run::run_quick_lines`] of lines that end in LF, or in CR LF if `RETURNS`.
+    fn run_ended_lines<'a, const RETURNS: bool, D: Drain, N: Notes>(
         &mut self,
         piece: &'a [u8],
         kernel: &mut Kernel,
@@ -41,11 +75,13 @@ impl Run {
     {
         // What a write stores: one room for all lines, filled anew by each.
         let mut room = [0; MOST_BYTES];
-        let mut rest = self.run_in_place(piece, kernel, drain, notes);
-        'lines: while let Some(line) = self.read_left(rest, &mut room, kernel, drain) {
+        let mut rest = self.run_in_place::<RETURNS, D, N>(piece, kernel, drain, notes);
+        'lines: while let Some(line) = self.read_left::<RETURNS, D>(
+            rest, &mut room, kernel, drain,
+        ) {
             let len = line.len;
             self.answer_apart(line.tenant, line.request, kernel, drain, notes)?;
-            rest = self.run_in_place(&rest[len..], kernel, drain, notes);
+            rest = self.run_in_place::<RETURNS, D, N>(&rest[len..], kernel, drain, notes);
         }
         if rest.len() < WINDOW {
             return self.run_last_lines(rest, kernel, drain, notes);
@@ -55,7 +91,7 @@ impl Run {
 
     /// Reads the line at the front of what [`Run::run_in_place`] left, the short way. A line that was read in vain is not read again.
     #[inline(always)]
-    fn read_left<'a, D: Drain>(
+    fn read_left<'a, const RETURNS: bool, D: Drain>(
         &self,
         bytes: &[u8],
         room: &'a mut [u8; MOST_BYTES],
@@ -68,7 +104,7 @@ impl Run {
         let number = read_tenant(bytes)?;
         match kernel.tenant(number.value) {
             Some(t) if self.replies.is_shown(Addressee::Tenant(t)) && drain.has_space() => None,
-            _ => read_known_request(bytes, number, room),
+            _ => read_known_request::<RETURNS>(bytes, number, room),
         }
     }
 
@@ -134,13 +170,28 @@ fn read_alone<'a>(line: &[u8], room: &'a mut [u8; MOST_BYTES]) -> Option<Request
     ensures reads { IfSome result (λ read. reading_of line.now ≡ Ok (Some (Tenant read.tenant (command_of read.request)))) }
     ensures askable { IfSome result (λ read. IsAskable read.request) }
 {
+    if line.ends_with(b"\r") {
+        read_in_window::<CR_LF>(line, room)
+    } else {
+        read_in_window::<LF>(line, room)
+    }
+}
+
+/// [`read_alone`] of a line that ends in LF, or in CR LF if `RETURNS`: it is read with other bytes behind it.
+fn read_in_window<'a, const RETURNS: bool>(
+    line: &[u8],
+    room: &'a mut [u8; MOST_BYTES],
+) -> Option<RequestLine<'a>>
+    ensures reads { IfSome result (λ read. reading_of line.now ≡ Ok (Some (Tenant read.tenant (command_of read.request)))) }
+    ensures askable { IfSome result (λ read. IsAskable read.request) }
+{
     if line.len() >= WINDOW {
         return None;
     }
     let mut window = [0; WINDOW];
     window[..line.len()].copy_from_slice(line);
     window[line.len()] = b'\n';
-    let read = read_request(&window, room)?;
+    let read = read_ended_request::<RETURNS>(&window, room)?;
     if read.len != line.len() + 1 {
         return None;
     }

@@ -71,7 +71,8 @@ impl Run {
         let mut rest = self.begin_piece(piece, pending, kernel, drain, notes)?;
         'lines: while let Some(end) = line_end(rest) {
             self.end_line(&rest[..end], pending, kernel, drain, notes)?;
-            rest = self.run_quick_lines(&rest[end + 1..], kernel, drain, notes)?;
+            let returned = rest[..end].ends_with(b"\r");
+            rest = self.run_quick_lines(&rest[end + 1..], returned, kernel, drain, notes)?;
         }
         pending.add(rest);
         Ok(())
@@ -97,7 +98,7 @@ impl Run {
         ensures failed { D.has_failed drain.new ≡ is_err result }
     {
         if pending.is_empty() {
-            self.run_quick_lines(piece, kernel, drain, notes)
+            self.run_quick_lines(piece, false, kernel, drain, notes)
         } else {
             Ok(piece)
         }

@@ -1,25 +1,47 @@
-//! What worked traces write and count, whatever the pieces are.
+//! What worked traces write and count, whatever the pieces are and whatever ends the lines.
 
 use crate::running::{PIECES, replayed};
 use crate::tables::{MACHINE, tables};
+use std::alloc::Global;
 use std::test::Fail;
+
+/// What ends the first line and every second one behind it, and what ends the others.
+const ENDS: [[&[u8]; 2]; 3] = [[b"\n", b"\n"], [b"\r\n", b"\r\n"], [b"\n", b"\r\n"]];
 
 #[test]
 fn traces_write_their_rows(rt: HostRuntime) -> Result<(), Fail> {
     for table in &tables() {
         for (number, row) in table.rows.iter().enumerate() {
-            for piece in PIECES {
-                let (drain, _) = replayed(rt.alloc(), table.config, row.trace, piece, table.only)?;
-                assert_eq!(rt;
-                    drain.taken(),
-                    row.output,
-                    "{} {number} in pieces of {piece}",
-                    table.name
-                );
+            for ends in ENDS {
+                let trace = ended_by(rt.alloc(), row.trace, ends)?;
+                for piece in PIECES {
+                    let (drain, _) = replayed(rt.alloc(), table.config, &trace, piece, table.only)?;
+                    assert_eq!(rt;
+                        drain.taken(),
+                        row.output,
+                        "{} {number} in pieces of {piece}, with {ends:?}",
+                        table.name
+                    );
+                }
             }
         }
     }
     Ok(())
+}
+
+/// The trace with these ends of lines, but for lines that end in CR LF as they are.
+fn ended_by(alloc: Global, trace: &[u8], ends: [&[u8]; 2]) -> Result<Vec<u8>, Fail> {
+    let mut ended = Vec::new(alloc);
+    for (number, line) in trace.split_inclusive(|byte| *byte == b'\n').enumerate() {
+        match line {
+            [text @ .., b'\n'] if !text.ends_with(b"\r") => {
+                ended.extend_from_slice(text)?;
+                ended.extend_from_slice(ends[number % 2])?;
+            }
+            _ => ended.extend_from_slice(line)?,
+        }
+    }
+    Ok(ended)
 }
 
 /// What is counted does not depend on the pieces; `only` hides the lines of others.

@@ -5,15 +5,16 @@ use Rattle.quick_core.proofs.LineLemmas.{is_read_one, one_number, free_plain}
 use Rattle.quick_core.proofs.request.free_line.Goals as goal
 
 pub returns-clause-reads : goal.returns-clause-reads
-returns-clause-reads c =
+returns-clause-reads g c =
     let window = c.args.bytes.now in
     let a = c.args.tenant.end in
-    let within = c.in_ok-frame.ensures.within in
+    let number = c.in_ok-frame.ensures in
+    let short = number.short in
     let last = c.in_ok-frame.frame in
     let blank : get_or window (a + 5) 0 ≡ 32 = omega arith in
-    is_read_one c.one_case.ensures.some c.one_case.ensures.only window a (a + 1) (a + 5) (a + 5 + 1) last.end c.args.tenant.value last.value
+    is_read_one c.one_case.ensures.some c.one_case.ensures.only window a (a + 1) (a + 5) (a + 5 + 1) number.end last.len c.args.tenant.value last.value
     free_row (Whole.Free last.value)
-    refl (omega arith) refl c.in_ok-frame.ensures.some (omega arith) (omega arith)
-    c.requires.begins.names.number c.requires.begins.names.blank c.requires.begins.letters blank c.in_ok-frame.ensures.value c.in_ok-frame.ensures.ended
+    refl (omega arith) refl number.some (omega arith) (omega arith)
+    c.requires.begins.names.number c.requires.begins.names.blank c.requires.begins.letters blank number.number number.ended
     (1, omega arith, refl) free_plain
-    (one_number Whole.Free (slice_range window (a + 5 + 1) last.end) last.value c.in_ok-frame.ensures.value)
+    (one_number Whole.Free (slice_range window (a + 5 + 1) number.end) last.value number.number)

@@ -3,7 +3,7 @@ use Rattle.kernel_core.specs.Content.{KernelContent}
 use Rattle.replay_core.specs.declared.pending.Pending.{Pending}
 use Rattle.replay_core.specs.Pending.{HoldsNothing}
 use Rattle.own_trace.specs.Keeping.{StandsOwn}
-use Rattle.own_trace.proofs.quick.keep_quick_lines.Given as goal
+use Rattle.own_trace.proofs.quick.keep_ended_lines.Given as goal
 
 abbrev pub invariant-lines : goal.invariant-lines
 invariant-lines g l =

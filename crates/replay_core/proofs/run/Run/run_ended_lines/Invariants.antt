@@ -3,7 +3,7 @@ use Rattle.kernel_core.specs.Content.{KernelContent}
 use Rattle.replay_core.specs.declared.pending.Pending.{Pending}
 use Rattle.replay_core.specs.Pending.{HoldsNothing}
 use Rattle.replay_core.specs.Standing.{Stands}
-use Rattle.replay_core.proofs.run.Run.run_quick_lines.Given as goal
+use Rattle.replay_core.proofs.run.Run.run_ended_lines.Given as goal
 
 abbrev pub invariant-lines : goal.invariant-lines
 invariant-lines g l =

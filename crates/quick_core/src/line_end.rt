@@ -1,0 +1,23 @@
+//! The end of a line: LF (byte 10), or CR LF (bytes 13 and 10).
+
+ghost use Rattle.std.specs.Prelude.{◌+◌, ◌<◌, IfSome, length, if◌then◌else◌};
+ghost use Rattle.quick_core.specs.Lines.{EndsLine};
+
+/// Lines that end in LF alone.
+pub const LF: bool = false;
+
+/// Lines that end in CR LF.
+pub const CR_LF: bool = true;
+
+/// The length of a line whose end begins at this index: LF, or CR LF if `RETURNS`. `None` if something else stands there.
+#[inline(always)]
+pub fn line_len<const RETURNS: bool>(bytes: &[u8], end: usize) -> Option<usize>
+    requires { end + (if RETURNS then 1 else 0) < length bytes.now }
+    ensures { IfSome result (λ len. EndsLine bytes.now end len) }
+{
+    if RETURNS && bytes[end] != b'\r' {
+        return None;
+    }
+    let line_feed = end + usize::from(RETURNS);
+    (bytes[line_feed] == b'\n').then_some(line_feed + 1)
+}
