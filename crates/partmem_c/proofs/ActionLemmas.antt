@@ -7,7 +7,7 @@ use Rattle.kernel_core.specs.Content.{KernelContent}
 use Rattle.kernel_core.specs.Stores.{IsKernel}
 use Rattle.kernel_core.specs.Actions.{Action, Runs, AllAct, OwnSights}
 use Rattle.partmem_c.specs.Lines.{AnswersLine}
-use Rattle.partmem_c.specs.Actions.{Done, Line, Event, Direct, Did, AllDid, IsOfReading, IsOf, AreOf, OwnSightsOfCalls}
+use Rattle.partmem_c.specs.Actions.{Done, Line, Event, Call, Direct, Did, AllDid, IsOfReading, IsOf, AreOf, OwnSightsOfCalls}
 
 line_is : (k k' : KernelContent) (reading : Result (Option events.Event) LineFault) (text : List ℕ) → AnswersLine k reading k' text → IsKernel k'
     → (actions : List Action) × IsOfReading reading text actions × AllAct k actions k'
@@ -17,12 +17,13 @@ line_is k k' (Err fault) text did is = ([], (refl, did.1), did.0)
 
 done_is : (k k' : KernelContent) (done : Done) → Did k done k' → (actions : List Action) × IsOf done actions × AllAct k actions k'
 done_is k k' (Line line text) did = line_is k k' (reading_of line) text did.0 did.1
-done_is k k' (Event a bytes told room room') did =
+done_is k k' (Event a bytes numbers buffer buffer') did =
     let (event, says, answers, is) = did in (
       Runs event answers.reply ∷ [],
-      (event, answers.reply, says, refl, answers.numbers_told, answers.over),
+      (event, answers.reply, says, refl, answers.are, answers.over),
       (k', (answers.steps, is), refl),
     )
+done_is k k' (Call event reply status) did = (Runs event reply ∷ [], (refl, did.1), (k', did.0, refl))
 done_is k k' (Direct action) did = (action ∷ [], refl, (k', did, refl))
 
 both_act : (k m k' : KernelContent) (xs ys : List Action) → AllAct k xs m → AllAct m ys k' → AllAct k (xs ++ ys) k'

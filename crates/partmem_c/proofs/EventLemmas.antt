@@ -1,27 +1,27 @@
--- An event that is run with the first bytes of a room.
+-- An event that is run with the first bytes of a buffer.
 use Rattle.std.proofs.Common.{◌≡◌, ℕ, ◌≤◌, List, ◌++◌, Option, length, take, drop, sym, ap, ◌∙◌, arith, append_assoc, length-append}
 use Rattle.std.proofs.lemmas.List.{drop-append-le, take-append-drop, length-take-le, length-drop}
 use Rattle.kernel_core.specs.Content.{KernelContent}
-use Rattle.partmem_c.specs.declared.events.Asked.{Asked}
-use Rattle.partmem_c.specs.declared.telling.Told.{Told}
+use Rattle.partmem_c.specs.declared.events.RequestNumbers.{RequestNumbers}
+use Rattle.partmem_c.specs.declared.telling.ReplyNumbers.{ReplyNumbers}
 use Rattle.partmem_c.specs.Events.{answered_bytes, RunsEvent}
 
-over_wider : (n : ℕ) (told room first : List ℕ) → n ≤ length room → length first ≡ length (take n room)
-    → first ≡ told ++ drop (length told) (take n room) → first ++ drop n room ≡ told ++ drop (length told) room
-over_wider n told room first wide same over =
-    let front = length-take-le n room wide in
-    let whole = ap length over ∙ length-append told (drop (length told) (take n room)) in
-    let few : length told ≤ length (take n room) = omega (arith, same, whole, length-drop (length told) (take n room)) in
-    ap (λ xs. xs ++ drop n room) over
-    ∙ append_assoc told (drop (length told) (take n room)) (drop n room)
-    ∙ ap (λ xs. told ++ xs) (sym (drop-append-le (length told) (take n room) (drop n room) few)
-    ∙ ap (drop (length told)) (take-append-drop n room))
+over_wider : (n : ℕ) (read buffer first : List ℕ) → n ≤ length buffer → length first ≡ length (take n buffer)
+    → first ≡ read ++ drop (length read) (take n buffer) → first ++ drop n buffer ≡ read ++ drop (length read) buffer
+over_wider n read buffer first wide same over =
+    let front = length-take-le n buffer wide in
+    let whole = ap length over ∙ length-append read (drop (length read) (take n buffer)) in
+    let few : length read ≤ length (take n buffer) = omega (arith, same, whole, length-drop (length read) (take n buffer)) in
+    ap (λ xs. xs ++ drop n buffer) over
+    ∙ append_assoc read (drop (length read) (take n buffer)) (drop n buffer)
+    ∙ ap (λ xs. read ++ xs) (sym (drop-append-le (length read) (take n buffer) (drop n buffer) few)
+    ∙ ap (drop (length read)) (take-append-drop n buffer))
 
--- the rest of the room stays as it was
-pub runs_wider : (n : ℕ) (old new : Option KernelContent) (a : Asked) (bytes : List ℕ) (told : Told) (room first : List ℕ)
-    → n ≤ length room → length first ≡ length (take n room) → RunsEvent old new a bytes told (take n room) first
-    → RunsEvent old new a bytes told room (first ++ drop n room)
-runs_wider n old new a bytes told room first wide same ran = record {
+-- the rest of the buffer stays as it was
+pub runs_wider : (n : ℕ) (old new : Option KernelContent) (a : RequestNumbers) (bytes : List ℕ) (numbers : ReplyNumbers) (buffer first : List ℕ)
+    → n ≤ length buffer → length first ≡ length (take n buffer) → RunsEvent old new a bytes numbers (take n buffer) first
+    → RunsEvent old new a bytes numbers buffer (first ++ drop n buffer)
+runs_wider n old new a bytes numbers buffer first wide same ran = record {
   before = ran.before;
   after = ran.after;
   event = ran.event;
@@ -31,7 +31,7 @@ runs_wider n old new a bytes told room first wide same ran = record {
   answers = record {
     reply = ran.answers.reply;
     steps = ran.answers.steps;
-    numbers_told = ran.answers.numbers_told;
-    over = over_wider n (answered_bytes ran.answers.reply.body) room first wide same ran.answers.over;
+    are = ran.answers.are;
+    over = over_wider n (answered_bytes ran.answers.reply.body) buffer first wide same ran.answers.over;
   };
 }

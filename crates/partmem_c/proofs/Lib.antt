@@ -1,3 +1,6 @@
+mod FigureLemmas
+mod FreeLemmas
+mod LendLemmas
 mod RawBoxValues
 mod SlotSteps
 pub mod TextLemmas

@@ -21,21 +21,21 @@ one_line [] none = tt
 one_line (b ∷ bytes) none = let facts = neither (b == 10) (has_line_feed bytes) none in (facts.0, one_line bytes facts.1)
 
 -- of the text all but the rest is written
-pub record IsPart (text rest room room' : List ℕ) (written : ℕ) : Type 0 where
+pub record IsPart (text rest buffer buffer' : List ℕ) (written : ℕ) : Type 0 where
   pub front : List ℕ
   pub split : text ≡ front ++ rest
   pub counted : written ≡ length front
-  pub over : room' ≡ front ++ drop (length front) room
+  pub over : buffer' ≡ front ++ drop (length front) buffer
 
 take-front : (xs ys : List ℕ) → take (length xs) (xs ++ ys) ≡ xs
 take-front [] ys = refl
 take-front (x ∷ xs) ys = ap (λ zs. x ∷ zs) (take-front xs ys)
 
 -- the next part was put behind what is written
-pub written_more : (text rest line after room now then : List ℕ) (written written' : ℕ) → IsPart text rest room now written → rest ≡ line ++ after
+pub written_more : (text rest line after buffer now then : List ℕ) (written written' : ℕ) → IsPart text rest buffer now written → rest ≡ line ++ after
     → then ≡ take written now ++ (line ++ drop (written + length line) now) → written' ≡ written + length line
-    → IsPart text after room then written'
-written_more text rest line after room now then written written' had cut put counted =
+    → IsPart text after buffer then written'
+written_more text rest line after buffer now then written written' had cut put counted =
     let both = length-append had.front line in record {
       front = had.front ++ line;
       split = had.split ∙ ap (λ xs. had.front ++ xs) cut ∙ sym (append_assoc had.front line after);
@@ -44,11 +44,11 @@ written_more text rest line after room now then written written' had cut put cou
         put,
         had.counted,
         had.over,
-        take-front had.front (drop (length had.front) room),
-        drop-append-drop (length had.front) room had.front (length had.front + length line) (omega arith) refl,
+        take-front had.front (drop (length had.front) buffer),
+        drop-append-drop (length had.front) buffer had.front (length had.front + length line) (omega arith) refl,
         both,
       )
-          (sym (append_assoc had.front line (drop (length had.front + length line) room)));
+          (sym (append_assoc had.front line (drop (length had.front + length line) buffer)));
     }
 
 -- the last n bytes, from where they begin on to the end

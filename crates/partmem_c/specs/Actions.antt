@@ -12,24 +12,28 @@ use Rattle.world_core.specs.Limits.{cache_limit}
 use Rattle.kernel_core.specs.Content.{KernelContent}
 use Rattle.kernel_core.specs.Stores.{IsKernel}
 use Rattle.kernel_core.specs.Actions.{Action, Runs, Acts, AllAct, sights_of, own_actions, own_seen, IsBooted}
-use Rattle.partmem_c.specs.declared.events.Asked.{Asked}
-use Rattle.partmem_c.specs.declared.telling.Told.{Told}
+use Rattle.partmem_c.specs.declared.events.RequestNumbers.{RequestNumbers}
+use Rattle.partmem_c.specs.declared.telling.ReplyNumbers.{ReplyNumbers}
 use Rattle.partmem_c.specs.Lines.{AnswersLine}
-use Rattle.partmem_c.specs.Events.{asked_event, told_of, answered_bytes, AnswersEvent}
+use Rattle.partmem_c.specs.Events.{requested_event, numbers_of_body, answered_bytes, AnswersEvent}
+use Rattle.partmem_c.specs.Calls.{numbers_in_reply, call_status}
 
 pub data Done : Type 0 where
   -- a line was run by `partmem_line`: it, and what was written
   Line : List ℕ → List ℕ → Done
-  -- an event was run by `partmem_event`: its numbers and bytes, the numbers told, and the room before and after
-  Event : Asked → List ℕ → Told → List ℕ → List ℕ → Done
+  -- an event was run by `partmem_event`: its numbers and bytes, the numbers of its reply, and the buffer before and after
+  Event : RequestNumbers → List ℕ → ReplyNumbers → List ℕ → List ℕ → Done
+  -- a direct call ran an event: the reply, from which all that the call returned follows, and its status
+  Call : events.Event → Reply → ℕ → Done
   -- a call of the kernel itself, a store or a load
   Direct : Action → Done
 
 -- it led from one kernel to another, as the contract of the call says
 abbrev pub Did : KernelContent → Done → KernelContent → Type 0
 Did k (Line line text) k' = AnswersLine k (reading_of line) k' text × IsKernel k'
-Did k (Event a bytes told room room') k' =
-    (event : events.Event) × (asked_event a bytes ≡ Some event) × AnswersEvent k event k' told room room' × IsKernel k'
+Did k (Event a bytes numbers buffer buffer') k' =
+    (event : events.Event) × (requested_event a bytes ≡ Some event) × AnswersEvent k event k' numbers buffer buffer' × IsKernel k'
+Did k (Call event reply status) k' = Acts k (Runs event reply) k' × (status ≡ call_status (numbers_in_reply (Some reply)))
 Did k (Direct action) k' = Acts k action k'
 
 abbrev pub AllDid : KernelContent → List Done → KernelContent → Type 0
@@ -46,17 +50,18 @@ IsOfReading (Err fault) text actions = (actions ≡ []) × (text ≡ text_of (re
 -- the actions that one thing done is
 abbrev pub IsOf : Done → List Action → Type 0
 IsOf (Line line text) actions = IsOfReading (reading_of line) text actions
-IsOf (Event a bytes told room room') actions = (event : events.Event) × (reply : Reply) × (asked_event a bytes ≡ Some event)
-    × (actions ≡ Runs event reply ∷ []) × (told ≡ told_of reply.body)
-    × (room' ≡ answered_bytes reply.body ++ drop (length (answered_bytes reply.body)) room)
+IsOf (Event a bytes numbers buffer buffer') actions = (event : events.Event) × (reply : Reply)
+    × (requested_event a bytes ≡ Some event) × (actions ≡ Runs event reply ∷ []) × (numbers ≡ numbers_of_body reply.body)
+    × (buffer' ≡ answered_bytes reply.body ++ drop (length (answered_bytes reply.body)) buffer)
+IsOf (Call event reply status) actions = (actions ≡ Runs event reply ∷ []) × (status ≡ call_status (numbers_in_reply (Some reply)))
 IsOf (Direct action) actions = actions ≡ action ∷ []
 
 abbrev pub AreOf : List Done → List Action → Type 0
 AreOf [] actions = actions ≡ []
 AreOf (done ∷ all) actions = (first rest : List Action) × IsOf done first × AreOf all rest × (actions ≡ first ++ rest)
 
--- Whatever the others do: all that is done with a machine from boot on, by lines, by events, in place and in any order, are actions
--- of which a tenant sees what its private machine gives to its own list.
+-- Whatever the others do: all that is done with a machine from boot on, by lines, events, calls, in place and in any order, are
+-- actions of which a tenant sees what its private machine gives to its own list.
 abbrev pub OwnSightsOfCalls : Type 0
 OwnSightsOfCalls = (k k' : KernelContent) (superblocks tenants t : ℕ) (all : List Done) →
     IsBooted k superblocks tenants → t < tenants → AllDid k all k' →

@@ -14,11 +14,11 @@ use Rattle.words_core.specs.Texts.{number_of_refusal}
 use Rattle.model_core.specs.declared.limits.TheConstants.{MOST_BYTES, MOST_PATTERN}
 use Rattle.kernel_core.specs.Content.{KernelContent}
 use Rattle.kernel_core.specs.Steps.{Steps}
-use Rattle.partmem_c.specs.declared.status.TheConstants.{DONE, NO_MACHINE, NOT_AN_EVENT, NO_ROOM}
-use Rattle.partmem_c.specs.declared.events.TheConstants as asked
+use Rattle.partmem_c.specs.declared.status.TheConstants.{DONE, NO_MACHINE, NOT_AN_EVENT, BUFFER_TOO_SMALL}
+use Rattle.partmem_c.specs.declared.events.TheConstants as request
 use Rattle.partmem_c.specs.declared.kinds.TheConstants as kind
-use Rattle.partmem_c.specs.declared.events.Asked.{Asked}
-use Rattle.partmem_c.specs.declared.telling.Told.{Told}
+use Rattle.partmem_c.specs.declared.events.RequestNumbers.{RequestNumbers}
+use Rattle.partmem_c.specs.declared.telling.ReplyNumbers.{ReplyNumbers}
 
 -- these bytes, where there are any and no more than so many
 abbrev pub some_bytes : ℕ → List ℕ → Option (ArrayVec ℕ)
@@ -26,38 +26,38 @@ some_bytes most bytes =
     if nat_le 1 (length bytes) && nat_le (length bytes) most then Some (record { items = bytes }) else None
 
 -- the commands of the administrator, by their kinds
-abbrev pub admin_command_of : Asked → Option AdminCommand
+abbrev pub admin_command_of : RequestNumbers → Option AdminCommand
 admin_command_of a =
-    if a.kind == asked.GRANT then Some (Do.Grant a.tenant)
-    else (if a.kind == asked.TAKE_BACK then Some (Do.TakeBack a.tenant a.first)
-    else (if a.kind == asked.RESET then Some (Do.Reset a.tenant)
-    else (if a.kind == asked.MOVE then Some (Do.Move a.tenant a.first)
-    else (if a.kind == asked.POOL then Some Do.Pool
+    if a.kind == request.GRANT then Some (Do.Grant a.tenant)
+    else (if a.kind == request.TAKE_BACK then Some (Do.TakeBack a.tenant a.first)
+    else (if a.kind == request.RESET then Some (Do.Reset a.tenant)
+    else (if a.kind == request.MOVE then Some (Do.Move a.tenant a.first)
+    else (if a.kind == request.POOL then Some Do.Pool
     else None))))
 
 -- the commands of a tenant
-abbrev pub asked_command : Asked → List ℕ → Option Command
-asked_command a bytes =
-    if a.kind == asked.ALLOC then Some (Ask.Alloc a.first)
-    else (if a.kind == asked.FREE then Some (Ask.Free a.first)
-    else (if a.kind == asked.READ then Some (Ask.Read a.first a.second)
-    else (if a.kind == asked.WRITE then option_map (Ask.Write a.first) (some_bytes MOST_BYTES bytes)
-    else (if a.kind == asked.CACHE then option_map (Ask.Cache a.first a.second) (some_bytes MOST_PATTERN bytes)
-    else (if a.kind == asked.DESTROY then Some (Ask.Destroy a.first)
-    else (if a.kind == asked.TAKE then Some (Ask.Take a.first)
-    else (if a.kind == asked.GIVE then Some (Ask.Give a.first a.second)
-    else (if a.kind == asked.REAP then Some Ask.Reap
-    else (if a.kind == asked.REPORT then Some Ask.Report
+abbrev pub requested_command : RequestNumbers → List ℕ → Option Command
+requested_command a bytes =
+    if a.kind == request.ALLOC then Some (Ask.Alloc a.first)
+    else (if a.kind == request.FREE then Some (Ask.Free a.first)
+    else (if a.kind == request.READ then Some (Ask.Read a.first a.second)
+    else (if a.kind == request.WRITE then option_map (Ask.Write a.first) (some_bytes MOST_BYTES bytes)
+    else (if a.kind == request.CACHE then option_map (Ask.Cache a.first a.second) (some_bytes MOST_PATTERN bytes)
+    else (if a.kind == request.DESTROY then Some (Ask.Destroy a.first)
+    else (if a.kind == request.TAKE then Some (Ask.Take a.first)
+    else (if a.kind == request.GIVE then Some (Ask.Give a.first a.second)
+    else (if a.kind == request.REAP then Some Ask.Reap
+    else (if a.kind == request.REPORT then Some Ask.Report
     else None)))))))))
 
 -- the event that the numbers and bytes say, if they say one
-abbrev pub asked_event : Asked → List ℕ → Option Event
-asked_event a bytes =
-    if nat_le a.kind asked.POOL then option_map On.Admin (admin_command_of a)
-    else option_map (On.Tenant a.tenant) (asked_command a bytes)
+abbrev pub requested_event : RequestNumbers → List ℕ → Option Event
+requested_event a bytes =
+    if nat_le a.kind request.POOL then option_map On.Admin (admin_command_of a)
+    else option_map (On.Tenant a.tenant) (requested_command a bytes)
 
-abbrev pub told_of_numbers : ℕ → ℕ → ℕ → ℕ → ℕ → ℕ → Told
-told_of_numbers of a b c d e = record { kind = of; first = a; second = b; third = c; fourth = d; fifth = e }
+abbrev pub reply_numbers : ℕ → ℕ → ℕ → ℕ → ℕ → ℕ → ReplyNumbers
+reply_numbers of a b c d e = record { kind = of; first = a; second = b; third = c; fourth = d; fifth = e }
 
 -- the order of the greatest free block and one more, 0 where there is none
 abbrev pub top_number : Option ℕ → ℕ
@@ -65,24 +65,25 @@ top_number None = 0
 top_number (Some order) = order + 1
 
 -- a reply as numbers: of a report the figures, of the table of owners how many superblocks there are
-abbrev pub told_of : Body → Told
-told_of (Granted tenant slot superblock) = told_of_numbers kind.GRANTED tenant slot superblock 0 0
-told_of (TakenBack superblock) = told_of_numbers kind.TAKEN_BACK superblock 0 0 0 0
-told_of (WasReset tenant superblocks) = told_of_numbers kind.WAS_RESET tenant superblocks 0 0 0
-told_of (Moved tenant slot superblock) = told_of_numbers kind.MOVED tenant slot superblock 0 0
-told_of (Owners owners) = told_of_numbers kind.OWNERS (length owners.items) 0 0 0 0
-told_of (Frame frame) = told_of_numbers kind.FRAME frame 0 0 0 0
-told_of (Freed order) = told_of_numbers kind.FREED order 0 0 0 0
-told_of (Bytes bytes) = told_of_numbers kind.BYTES (length bytes.items) 0 0 0 0
-told_of (Written count) = told_of_numbers kind.WRITTEN count 0 0 0 0
-told_of (Cache cache chunk order objects colours) = told_of_numbers kind.MADE cache chunk order objects colours
-told_of (Destroyed frames) = told_of_numbers kind.DESTROYED frames 0 0 0 0
-told_of (Object place) = told_of_numbers kind.OBJECT place 0 0 0 0
-told_of Given = told_of_numbers kind.GIVEN 0 0 0 0 0
-told_of (Reaped frames) = told_of_numbers kind.REAPED frames 0 0 0 0
-told_of (Report report) = told_of_numbers kind.FIGURES report.frames report.live report.free (top_number report.top) report.split
-told_of (Refused refusal) = told_of_numbers kind.REFUSED (number_of_refusal refusal) 0 0 0 0
-told_of (Fault fault) = told_of_numbers kind.NOTHING 0 0 0 0 0
+abbrev pub numbers_of_body : Body → ReplyNumbers
+numbers_of_body (Granted tenant slot superblock) = reply_numbers kind.GRANTED tenant slot superblock 0 0
+numbers_of_body (TakenBack superblock) = reply_numbers kind.TAKEN_BACK superblock 0 0 0 0
+numbers_of_body (WasReset tenant superblocks) = reply_numbers kind.WAS_RESET tenant superblocks 0 0 0
+numbers_of_body (Moved tenant slot superblock) = reply_numbers kind.MOVED tenant slot superblock 0 0
+numbers_of_body (Owners owners) = reply_numbers kind.OWNERS (length owners.items) 0 0 0 0
+numbers_of_body (Frame frame) = reply_numbers kind.FRAME frame 0 0 0 0
+numbers_of_body (Freed order) = reply_numbers kind.FREED order 0 0 0 0
+numbers_of_body (Bytes bytes) = reply_numbers kind.BYTES (length bytes.items) 0 0 0 0
+numbers_of_body (Written count) = reply_numbers kind.WRITTEN count 0 0 0 0
+numbers_of_body (Cache cache chunk order objects colours) = reply_numbers kind.MADE cache chunk order objects colours
+numbers_of_body (Destroyed frames) = reply_numbers kind.DESTROYED frames 0 0 0 0
+numbers_of_body (Object place) = reply_numbers kind.OBJECT place 0 0 0 0
+numbers_of_body Given = reply_numbers kind.GIVEN 0 0 0 0 0
+numbers_of_body (Reaped frames) = reply_numbers kind.REAPED frames 0 0 0 0
+numbers_of_body (Report report) =
+    reply_numbers kind.FIGURES report.frames report.live report.free (top_number report.top) report.split
+numbers_of_body (Refused refusal) = reply_numbers kind.REFUSED (number_of_refusal refusal) 0 0 0 0
+numbers_of_body (Fault fault) = reply_numbers kind.NOTHING 0 0 0 0 0
 
 -- the bytes that a reply tells
 abbrev pub answered_bytes : Body → List ℕ
@@ -109,41 +110,44 @@ abbrev pub machine_status : Option KernelContent → ℕ
 machine_status held = if is_some held then DONE else NO_MACHINE
 
 -- the same of a call that is passed an event, where there is one
-abbrev pub status_of_event : Option KernelContent → Asked → List ℕ → ℕ → ℕ
+abbrev pub status_of_event : Option KernelContent → RequestNumbers → List ℕ → ℕ → ℕ
 status_of_event held a bytes status =
-    if is_some held then (if is_some (asked_event a bytes) then status else NOT_AN_EVENT) else NO_MACHINE
+    if is_some held then (if is_some (requested_event a bytes) then status else NOT_AN_EVENT) else NO_MACHINE
 
 -- What such a call answers: the first of the errors that there is.
-abbrev pub event_status : Option KernelContent → Asked → List ℕ → List ℕ → ℕ
-event_status held a bytes room =
+abbrev pub event_status : Option KernelContent → RequestNumbers → List ℕ → List ℕ → ℕ
+event_status held a bytes buffer =
     if not (is_some held) then NO_MACHINE
-    else (if is_none (asked_event a bytes) then NOT_AN_EVENT else (if nat_lt (length room) MOST_BYTES then NO_ROOM else DONE))
+    else (if is_none (requested_event a bytes) then NOT_AN_EVENT
+    else (if nat_lt (length buffer) MOST_BYTES then BUFFER_TOO_SMALL else DONE))
 
 -- the event was a step of the kernel, and was answered by these numbers and bytes
-pub record AnswersEvent (old : KernelContent) (event : Event) (new : KernelContent) (told : Told) (room room' : List ℕ) : Type 0 where
+pub record AnswersEvent (old : KernelContent) (event : Event) (new : KernelContent) (numbers : ReplyNumbers)
+    (buffer buffer' : List ℕ) : Type 0 where
   pub reply : Reply
   pub steps : Steps old event new reply
-  pub numbers_told : told ≡ told_of reply.body
-  pub over : room' ≡ answered_bytes reply.body ++ drop (length (answered_bytes reply.body)) room
+  pub are : numbers ≡ numbers_of_body reply.body
+  pub over : buffer' ≡ answered_bytes reply.body ++ drop (length (answered_bytes reply.body)) buffer
 
 -- the numbers and bytes say an event, which was run on the kernel that was held
-pub record RunsEvent (old new : Option KernelContent) (a : Asked) (bytes : List ℕ) (told : Told) (room room' : List ℕ) : Type 0 where
+pub record RunsEvent (old new : Option KernelContent) (a : RequestNumbers) (bytes : List ℕ) (numbers : ReplyNumbers)
+    (buffer buffer' : List ℕ) : Type 0 where
   pub before : KernelContent
   pub after : KernelContent
   pub event : Event
   pub was : old ≡ Some before
   pub is : new ≡ Some after
-  pub says : asked_event a bytes ≡ Some event
-  pub answers : AnswersEvent before event after told room room'
+  pub says : requested_event a bytes ≡ Some event
+  pub answers : AnswersEvent before event after numbers buffer buffer'
 
--- the same of an event that neither takes bytes nor tells some, whatever bytes and room there are
-abbrev pub RunsApart : Option KernelContent → Option KernelContent → Asked → Told → Type 0
-RunsApart old new a told = (bytes room : List ℕ) → RunsEvent old new a bytes told room room
+-- the same of an event that neither takes bytes nor tells some, whatever bytes and buffer there are
+abbrev pub RunsApart : Option KernelContent → Option KernelContent → RequestNumbers → ReplyNumbers → Type 0
+RunsApart old new a numbers = (bytes buffer : List ℕ) → RunsEvent old new a bytes numbers buffer buffer
 
--- nothing was done, and nothing is told
-abbrev pub TellsNothing : Option KernelContent → Option KernelContent → Told → Told → Type 0
-TellsNothing old new told told' = (new ≡ old) × (told' ≡ told)
+-- nothing was done, and the reply was not written
+abbrev pub TellsNothing : Option KernelContent → Option KernelContent → ReplyNumbers → ReplyNumbers → Type 0
+TellsNothing old new numbers numbers' = (new ≡ old) × (numbers' ≡ numbers)
 
--- the same, and no byte of the room was written
-abbrev pub ChangesNothing : Option KernelContent → Option KernelContent → Told → Told → List ℕ → List ℕ → Type 0
-ChangesNothing old new told told' room room' = (new ≡ old) × (told' ≡ told) × (room' ≡ room)
+-- the same, and no byte of the buffer was written
+abbrev pub ChangesNothing : Option KernelContent → Option KernelContent → ReplyNumbers → ReplyNumbers → List ℕ → List ℕ → Type 0
+ChangesNothing old new numbers numbers' buffer buffer' = (new ≡ old) × (numbers' ≡ numbers) × (buffer' ≡ buffer)

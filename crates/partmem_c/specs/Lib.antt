@@ -4,3 +4,8 @@ pub mod Events
 pub mod Owners
 pub mod Laws
 pub mod Actions
+pub mod Booting
+pub mod Calls
+pub mod Finding
+pub mod Figures
+pub mod Lends

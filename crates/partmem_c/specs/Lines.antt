@@ -13,16 +13,16 @@ use Rattle.kernel_core.specs.Content.{KernelContent}
 use Rattle.kernel_core.specs.Steps.{Steps}
 use Rattle.replay_core.specs.Pushes.{most_reply_bytes}
 use Rattle.replay_core.specs.Standing.{IsOneLine}
-use Rattle.partmem_c.specs.declared.status.TheConstants.{DONE, NO_MACHINE, NOT_A_LINE, NO_ROOM}
+use Rattle.partmem_c.specs.declared.status.TheConstants.{DONE, NO_MACHINE, NOT_A_LINE, BUFFER_TOO_SMALL}
 
 abbrev pub has_line_feed : List ℕ → Bool
 has_line_feed bytes = list_any (λ b. b == line_feed) bytes
 
 -- What such a call answers: the first of the errors that there is.
 abbrev pub line_status : Option KernelContent → List ℕ → List ℕ → ℕ
-line_status held line room =
+line_status held line buffer =
     if not (is_some held) then NO_MACHINE
-    else (if has_line_feed line then NOT_A_LINE else (if nat_lt (length room) most_reply_bytes then NO_ROOM else DONE))
+    else (if has_line_feed line then NOT_A_LINE else (if nat_lt (length buffer) most_reply_bytes then BUFFER_TOO_SMALL else DONE))
 
 -- A line with this reading was run, and answered by this text: an event is a step of the kernel's, a faulty line is told to
 -- nobody, and a blank line or a comment is answered nothing.
@@ -31,40 +31,41 @@ AnswersLine old (Ok (Some event)) new text = (reply : Reply) × Steps old event 
 AnswersLine old (Ok None) new text = (new ≡ old) × (text ≡ [])
 AnswersLine old (Err fault) new text = (new ≡ old) × (text ≡ text_of (record { addressee = Nobody; body = Fault fault }))
 
--- it has room for the longest reply
+-- it has buffer for the longest reply
 abbrev pub IsWide : List ℕ → Type 0
-IsWide room = most_reply_bytes ≤ length room
+IsWide buffer = most_reply_bytes ≤ length buffer
 
--- the text stands over the first bytes of the room, and is counted
-pub record IsTextWritten (text room room' : List ℕ) (written : ℕ) : Type 0 where
+-- the text stands over the first bytes of the buffer, and is counted
+pub record IsTextWritten (text buffer buffer' : List ℕ) (written : ℕ) : Type 0 where
   pub counted : written ≡ length text
-  pub over : room' ≡ text ++ drop (length text) room
+  pub over : buffer' ≡ text ++ drop (length text) buffer
 
 -- the line with this reading was answered, and the answer was written
 abbrev pub PutsAnswer : KernelContent → Result (Option Event) LineFault → KernelContent → List ℕ → List ℕ → ℕ → Type 0
-PutsAnswer old reading new room room' written =
-    (text : List ℕ) × AnswersLine old reading new text × IsTextWritten text room room' written
+PutsAnswer old reading new buffer buffer' written =
+    (text : List ℕ) × AnswersLine old reading new text × IsTextWritten text buffer buffer' written
 
 -- it has no line feed, was run on the kernel, and was answered in full
-pub record AnswersWhole (old : KernelContent) (line room : List ℕ) (new : KernelContent) (room' : List ℕ) (written : ℕ) : Type 0 where
+pub record AnswersWhole (old : KernelContent) (line buffer : List ℕ) (new : KernelContent) (buffer' : List ℕ) (written : ℕ)
+    : Type 0 where
   pub text : List ℕ
   pub one : has_line_feed line ≡ false
   pub answers : AnswersLine old (reading_of line) new text
-  pub puts : IsTextWritten text room room' written
+  pub puts : IsTextWritten text buffer buffer' written
 
 -- it has a line feed, and nothing was done
-pub record IsNoLine (old : KernelContent) (line room : List ℕ) (new : KernelContent) (room' : List ℕ) : Type 0 where
+pub record IsNoLine (old : KernelContent) (line buffer : List ℕ) (new : KernelContent) (buffer' : List ℕ) : Type 0 where
   pub several : has_line_feed line ≡ true
   pub kernel : new ≡ old
-  pub same_room : room' ≡ room
+  pub same_room : buffer' ≡ buffer
 
 -- one of the two, by whether there is a count
 abbrev pub AnswersOrNot : KernelContent → List ℕ → List ℕ → KernelContent → List ℕ → Option ℕ → Type 0
-AnswersOrNot old line room new room' counted =
-    MatchOption counted (IsNoLine old line room new room') (λ written. AnswersWhole old line room new room' written)
+AnswersOrNot old line buffer new buffer' counted =
+    MatchOption counted (IsNoLine old line buffer new buffer') (λ written. AnswersWhole old line buffer new buffer' written)
 
 -- the line was run on the kernel that was held, and answered in full
-pub record RunsLine (old new : Option KernelContent) (line room room' : List ℕ) (written : ℕ) : Type 0 where
+pub record RunsLine (old new : Option KernelContent) (line buffer buffer' : List ℕ) (written : ℕ) : Type 0 where
   pub before : KernelContent
   pub after : KernelContent
   pub text : List ℕ
@@ -72,4 +73,4 @@ pub record RunsLine (old new : Option KernelContent) (line room room' : List ℕ
   pub is : new ≡ Some after
   pub one : IsOneLine line
   pub answers : AnswersLine before (reading_of line) after text
-  pub puts : IsTextWritten text room room' written
+  pub puts : IsTextWritten text buffer buffer' written

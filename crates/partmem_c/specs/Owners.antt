@@ -1,5 +1,5 @@
 -- The owner of a superblock as numbers.
-use Rattle.std.specs.Prelude.{ℕ, nat_lt, true, false, not, if◌then◌else◌, List, [], length, Option, Some, None, is_some}
+use Rattle.std.specs.Prelude.{ℕ, nat_lt, not, if◌then◌else◌, List, [], length, Option, Some, None, is_some}
 use Rattle.model_core.specs.declared.owner.Owner as model
 use Rattle.space_core.specs.Content.{owner_at}
 use Rattle.kernel_core.specs.Content.{KernelContent}
@@ -12,8 +12,8 @@ owners_held None = []
 owners_held (Some k) = k.space.owners
 
 abbrev pub owner_numbers : Option model.Owner → Owner
-owner_numbers None = record { is_owned = false; tenant = 0; slot = 0 }
-owner_numbers (Some owner) = record { is_owned = true; tenant = owner.tenant; slot = owner.slot }
+owner_numbers None = record { is_owned = 0; tenant = 0; slot = 0 }
+owner_numbers (Some owner) = record { is_owned = 1; tenant = owner.tenant; slot = owner.slot }
 
 -- What such a call answers.
 abbrev pub owner_status : Option KernelContent → ℕ → ℕ

@@ -1,4 +1,4 @@
-//! A machine booted, and ended.
+//! Boots a machine, and ends it.
 
 ghost use Rattle.std.specs.Prelude.{◌≡◌, ◌≢◌, ◌↔◌, false, IsSome, IfSome, Some, None};
 ghost use Rattle.model_core.specs.Booting.{is_bootable};
@@ -6,43 +6,50 @@ ghost use Rattle.kernel_core.specs.Content.{opening_content};
 ghost use Rattle.kernel_core.specs.Shows.{Shows};
 ghost use Rattle.world_core.specs.World.{opening_world};
 ghost use Rattle.partmem_c.specs.Events.{machine_status};
+ghost use Rattle.partmem_c.specs.Booting.{config_of};
 
 use crate::machine::Machine;
-use crate::status::{BAD_SIZES, DONE, HAS_MACHINE, NO_MACHINE, NO_MEMORY};
+use crate::status::{BAD_CONFIG, DONE, HAS_MACHINE, NO_MACHINE, NO_MEMORY};
 use kernel_core::{BootError, Config, Kernel};
 use std::alloc::Global;
 
-/// Boots a machine in a place where there is none: all its memory is zero, and no superblock has an owner.
+/// The sizes of a machine, as C passes them.
+#[repr(C)]
+#[derive(Clone, Copy)]
+pub struct MachineConfig {
+    /// A superblock has `2^order` frames: 3 to 8.
+    pub order: u32,
+    /// How many superblocks the machine has: 1 to 256.
+    pub superblocks: u32,
+    /// How many tenants share it: 1 to 64.
+    pub tenants: u32,
+}
+
+/// Boots a machine in a place that holds none: all its memory is zero, and no superblock has an owner.
 ///
-/// A superblock has `2^order` frames: `order` is 3 to 8. There are 1 to 256 superblocks and 1 to 64 tenants. `NO_MEMORY` is
-/// answered only where an allocation was refused; no later call asks for memory.
+/// Returns `HAS_MACHINE`, `BAD_CONFIG`, or `NO_MEMORY` if an allocation was refused. No later call allocates.
 #[unsafe(no_mangle)]
-pub extern "C" fn partmem_boot(
-    alloc: Global,
-    machine: &mut Machine,
-    order: u32,
-    superblocks: u32,
-    tenants: u32,
-) -> u32
+pub extern "C" fn partmem_boot(alloc: Global, machine: &mut Machine, config: &MachineConfig) -> u32
     ensures has_machine { (result ≡ HAS_MACHINE) ↔ IsSome machine.old.slot.held }
-    ensures bad_sizes { (result ≡ BAD_SIZES) ↔ ((machine.old.slot.held ≡ None)
-        × (is_bootable (record { order = order; superblocks = superblocks; tenants = tenants }) ≡ false)) }
-    ensures no_memory { result ≢ DONE → result ≢ HAS_MACHINE → result ≢ BAD_SIZES → result ≡ NO_MEMORY }
-    ensures done { result ≡ DONE → machine.new.slot.held ≡ Some (opening_content order superblocks tenants) }
-    ensures shows { result ≡ DONE → IfSome machine.new.slot.held (λ k. Shows k (opening_world superblocks tenants)) }
+    ensures bad_config { (result ≡ BAD_CONFIG) ↔ ((machine.old.slot.held ≡ None) × (is_bootable (config_of config.now) ≡ false)) }
+    ensures no_memory { result ≢ DONE → result ≢ HAS_MACHINE → result ≢ BAD_CONFIG → result ≡ NO_MEMORY }
+    ensures done { result ≡ DONE
+        → machine.new.slot.held ≡ Some (opening_content config.now.order config.now.superblocks config.now.tenants) }
+    ensures shows { result ≡ DONE
+        → IfSome machine.new.slot.held (λ k. Shows k (opening_world config.now.superblocks config.now.tenants)) }
     ensures not_done { result ≢ DONE → machine.new.slot.held ≡ machine.old.slot.held }
 {
     if machine.is_booted() {
         return HAS_MACHINE;
     }
     let config = Config {
-        order,
-        superblocks,
-        tenants,
+        order: config.order,
+        superblocks: config.superblocks,
+        tenants: config.tenants,
     };
     let kernel = match Kernel::boot(alloc, config) {
         Ok(kernel) => kernel,
-        Err(BootError::BadConfig) => return BAD_SIZES,
+        Err(BootError::BadConfig) => return BAD_CONFIG,
         Err(BootError::Memory) => return NO_MEMORY,
     };
     let Ok(kernel) = Box::new(alloc, kernel) else {
@@ -52,7 +59,7 @@ pub extern "C" fn partmem_boot(
     DONE
 }
 
-/// Ends the machine, frees all its memory, and leaves the place as one without a machine.
+/// Ends the machine and frees all its memory: the place then holds none, and can be booted again. Returns `NO_MACHINE`.
 #[unsafe(no_mangle)]
 pub extern "C" fn partmem_end(alloc: Global, machine: &mut Machine) -> u32
     ensures status { result ≡ machine_status machine.old.slot.held }

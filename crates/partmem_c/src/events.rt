@@ -7,15 +7,17 @@ ghost use Rattle.words_core.specs.declared.event.Event.TheVariants.{Tenant};
 ghost use Rattle.words_core.specs.declared.event.Command.TheVariants.{Read, Report};
 ghost use Rattle.words_core.specs.declared.event.AdminCommand.TheVariants as AdminCommand;
 ghost use Rattle.kernel_core.specs.Steps.{HasPattern};
-ghost use Rattle.partmem_c.specs.Events.{asked_event, machine_status, status_of_event, event_status, AnswersEvent, RunsEvent};
+ghost use Rattle.partmem_c.specs.Events.{requested_event, machine_status, status_of_event, event_status, AnswersEvent, RunsEvent};
 ghost use Rattle.partmem_c.specs.Events.{RunsApart, TellsNothing, ChangesNothing};
-ghost use Rattle.partmem_c.specs.Events.{some_bytes, admin_command_of, asked_command};
+ghost use Rattle.partmem_c.specs.Events.{some_bytes, admin_command_of, requested_command};
 
 use crate::kinds::NOTHING;
 use crate::lines::put;
 use crate::machine::Machine;
-use crate::status::{DONE, NO_MACHINE, NO_ROOM, NOT_AN_EVENT};
-use crate::telling::{Told, bytes_of, bytes_of_body, told_of, told_of_answer};
+use crate::status::{BUFFER_TOO_SMALL, DONE, NO_MACHINE, NOT_AN_EVENT};
+use crate::telling::{
+    ReplyNumbers, bytes_in_reply, bytes_of_body, numbers_of_answer, numbers_of_body,
+};
 use arrayvec::ArrayVec;
 use kernel_core::Kernel;
 use model_core::limits::{MOST_BYTES, MOST_PATTERN};
@@ -30,7 +32,7 @@ pub const TAKE_BACK: u32 = 2;
 pub const RESET: u32 = 3;
 /// The administrator puts slot `first` of the tenant over another superblock.
 pub const MOVE: u32 = 4;
-/// The administrator asks for the table of owners, and is told how many superblocks there are.
+/// The administrator requests the table of owners. The reply has the number of superblocks.
 pub const POOL: u32 = 5;
 /// The tenant asks for a page block of order `first`.
 pub const ALLOC: u32 = 6;
@@ -53,12 +55,13 @@ pub const REAP: u32 = 14;
 /// The tenant asks for the figures of its memory.
 pub const REPORT: u32 = 15;
 
-/// An event as numbers: what is asked, which tenant asks it or is meant by it, and the command's numbers, as the constants say.
+/// An event as numbers: its kind, the tenant that requests it or is meant by it, and the numbers of the command, as the constants
+/// say.
 ///
-/// A number that the kind has no use for is not looked at.
+/// A number that the kind does not use is ignored.
 #[repr(C)]
 #[derive(Clone, Copy)]
-pub struct Asked {
+pub struct RequestNumbers {
     pub kind: u32,
     pub tenant: u32,
     pub first: u32,
@@ -67,10 +70,10 @@ pub struct Asked {
 
 /// Whether the numbers and bytes say an event.
 #[inline(always)]
-pub fn is_event(asked: &Asked, bytes: &[u8]) -> bool
-    ensures { result ≡ is_some (asked_event asked.now bytes.now) }
+pub fn is_event(request: &RequestNumbers, bytes: &[u8]) -> bool
+    ensures { result ≡ is_some (requested_event request.now bytes.now) }
 {
-    match asked.kind {
+    match request.kind {
         WRITE => (1..=MOST_BYTES).contains(&bytes.len()),
         CACHE => (1..=MOST_PATTERN).contains(&bytes.len()),
         kind => (GRANT..=REPORT).contains(&kind),
@@ -78,25 +81,25 @@ pub fn is_event(asked: &Asked, bytes: &[u8]) -> bool
 }
 
 /// The event that the numbers and bytes say; None, where they say none.
-pub fn event_of(asked: &Asked, bytes: &[u8]) -> Option<Event>
-    ensures says { result ≡ asked_event asked.now bytes.now }
+pub fn event_of(request: &RequestNumbers, bytes: &[u8]) -> Option<Event>
+    ensures says { result ≡ requested_event request.now bytes.now }
     ensures pattern { IfSome result (λ event. HasPattern event) }
 {
-    if asked.kind <= POOL {
-        let command = admin_command_of(asked)?;
+    if request.kind <= POOL {
+        let command = admin_command_of(request)?;
         Some(Event::Admin(command))
     } else {
-        let command = command_of(asked, bytes)?;
-        Some(Event::Tenant(asked.tenant, command))
+        let command = command_of(request, bytes)?;
+        Some(Event::Tenant(request.tenant, command))
     }
 }
 
-fn admin_command_of(asked: &Asked) -> Option<AdminCommand>
-    ensures { result ≡ admin_command_of asked.now }
+fn admin_command_of(request: &RequestNumbers) -> Option<AdminCommand>
+    ensures { result ≡ admin_command_of request.now }
 {
-    let tenant = asked.tenant;
-    let slot = asked.first;
-    match asked.kind {
+    let tenant = request.tenant;
+    let slot = request.first;
+    match request.kind {
         GRANT => Some(AdminCommand::Grant { tenant }),
         TAKE_BACK => Some(AdminCommand::TakeBack { tenant, slot }),
         RESET => Some(AdminCommand::Reset { tenant }),
@@ -106,13 +109,13 @@ fn admin_command_of(asked: &Asked) -> Option<AdminCommand>
     }
 }
 
-fn command_of(asked: &Asked, bytes: &[u8]) -> Option<Command>
-    ensures says { result ≡ asked_command asked.now bytes.now }
-    ensures pattern { IfSome result (λ command. HasPattern (Event.Tenant asked.now.tenant command)) }
+fn command_of(request: &RequestNumbers, bytes: &[u8]) -> Option<Command>
+    ensures says { result ≡ requested_command request.now bytes.now }
+    ensures pattern { IfSome result (λ command. HasPattern (Event.Tenant request.now.tenant command)) }
 {
-    let first = asked.first;
-    let second = asked.second;
-    match asked.kind {
+    let first = request.first;
+    let second = request.second;
+    match request.kind {
         ALLOC => Some(Command::Alloc { order: first }),
         FREE => Some(Command::Free { frame: first }),
         READ => Some(Command::Read {
@@ -160,59 +163,61 @@ fn some_bytes<const N: usize>(bytes: &[u8]) -> Option<ArrayVec<u8, N>>
     Some(held)
 }
 
-/// Runs an event that numbers say, with the bytes that it writes or constructs objects of, and tells its answer.
+/// Runs the event that the numbers say, with the bytes that it writes or constructs objects of, and returns its reply as numbers.
 ///
-/// The bytes that a read tells stand over the first bytes of `room`, which has to have `MOST_BYTES` bytes, whatever the event
-/// is. A refused event is done, and told as refused. Only a write and a new cache look at `bytes`.
+/// The bytes of a read are put over the first bytes of `buffer`, which needs `MOST_BYTES` bytes for any event. A refused event is
+/// done, and its reply says so. Only a write and a new cache use `bytes`.
+///
+/// Returns `NO_MACHINE`, `NOT_AN_EVENT` or `BUFFER_TOO_SMALL`; then the reply and the buffer are as before.
 #[unsafe(no_mangle)]
 pub extern "C" fn partmem_event(
     alloc: Global,
     machine: &mut Machine,
-    asked: &Asked,
+    request: &RequestNumbers,
     bytes: &[u8],
-    told: &mut Told,
-    room: &mut [u8],
+    reply: &mut ReplyNumbers,
+    buffer: &mut [u8],
 ) -> u32
-    ensures status { result ≡ event_status machine.old.slot.held asked.now bytes.now room.old }
+    ensures status { result ≡ event_status machine.old.slot.held request.now bytes.now buffer.old }
     ensures done { result ≡ DONE
-        → RunsEvent machine.old.slot.held machine.new.slot.held asked.now bytes.now told.new room.old room.new }
+        → RunsEvent machine.old.slot.held machine.new.slot.held request.now bytes.now reply.new buffer.old buffer.new }
     ensures not_done { result ≢ DONE
-        → ChangesNothing machine.old.slot.held machine.new.slot.held told.old told.new room.old room.new }
+        → ChangesNothing machine.old.slot.held machine.new.slot.held reply.old reply.new buffer.old buffer.new }
 {
-    match kind_with_room(asked.kind, room.len()) {
-        NOTHING => status_without_room(machine, asked, bytes),
-        ALLOC => alloc_event(alloc, machine, asked, told),
-        FREE => free_event(alloc, machine, asked, told),
-        TAKE => take_event(alloc, machine, asked, told),
-        GIVE => give_event(alloc, machine, asked, told),
-        _ => event_in_first(alloc, machine, asked, bytes, told, room),
+    match kind_with_buffer(request.kind, buffer.len()) {
+        NOTHING => status_without_buffer(machine, request, bytes),
+        ALLOC => alloc_event(alloc, machine, request, reply),
+        FREE => free_event(alloc, machine, request, reply),
+        TAKE => take_event(alloc, machine, request, reply),
+        GIVE => give_event(alloc, machine, request, reply),
+        _ => event_in_first(alloc, machine, request, bytes, reply, buffer),
     }
 }
 
-/// The kind, or `NOTHING`, which is no event's, where the room is too short.
+/// The kind, or `NOTHING`, which is no event's, if the buffer is too small.
 ///
-/// So that one test tells the four kinds of a load, which look neither at the bytes nor at the room, from all else: what C passes
-/// for these is made into slices past that test.
+/// So that one test tells the four kinds of a load, which look neither at the bytes nor at the buffer, from all else: what C
+/// passes for these is made into slices past that test.
 #[inline(always)]
-fn kind_with_room(kind: u32, room: usize) -> u32
+fn kind_with_buffer(kind: u32, buffer: usize) -> u32
     ensures same { result ≢ NOTHING → result ≡ kind }
-    ensures wide { result ≢ NOTHING → MOST_BYTES ≤ room }
-    ensures short { result ≡ NOTHING → kind ≢ NOTHING → room < MOST_BYTES }
+    ensures wide { result ≢ NOTHING → MOST_BYTES ≤ buffer }
+    ensures short { result ≡ NOTHING → kind ≢ NOTHING → buffer < MOST_BYTES }
 {
-    if room < MOST_BYTES { NOTHING } else { kind }
+    if buffer < MOST_BYTES { NOTHING } else { kind }
 }
 
-/// What a call answers whose room is too short, or whose kind is `NOTHING`.
+/// The status of a call whose buffer is too small, or whose kind is `NOTHING`.
 #[cold]
 #[inline(never)]
-fn status_without_room(machine: &Machine, asked: &Asked, bytes: &[u8]) -> u32
-    ensures { result ≡ status_of_event machine.now.slot.held asked.now bytes.now NO_ROOM }
+fn status_without_buffer(machine: &Machine, request: &RequestNumbers, bytes: &[u8]) -> u32
+    ensures { result ≡ status_of_event machine.now.slot.held request.now bytes.now BUFFER_TOO_SMALL }
 {
     if !machine.is_booted() {
         return NO_MACHINE;
     }
-    if is_event(asked, bytes) {
-        NO_ROOM
+    if is_event(request, bytes) {
+        BUFFER_TOO_SMALL
     } else {
         NOT_AN_EVENT
     }
@@ -221,53 +226,91 @@ fn status_without_room(machine: &Machine, asked: &Asked, bytes: &[u8]) -> u32
 /// [`partmem_event`] of one kind; out of line, as each kind is, so that it saves only the registers that it needs. Each tests for
 /// itself that there is a machine: a call whose answer is not always the same can be the last thing that is done.
 #[inline(never)]
-fn alloc_event(alloc: Global, machine: &mut Machine, asked: &Asked, told: &mut Told) -> u32
-    requires kind { asked.now.kind ≡ ALLOC }
+fn alloc_event(
+    alloc: Global,
+    machine: &mut Machine,
+    request: &RequestNumbers,
+    reply: &mut ReplyNumbers,
+) -> u32
+    requires kind { request.now.kind ≡ ALLOC }
     ensures status { result ≡ machine_status machine.old.slot.held }
-    ensures done { result ≡ DONE → RunsApart machine.old.slot.held machine.new.slot.held asked.now told.new }
-    ensures not_done { result ≢ DONE → TellsNothing machine.old.slot.held machine.new.slot.held told.old told.new }
+    ensures done { result ≡ DONE → RunsApart machine.old.slot.held machine.new.slot.held request.now reply.new }
+    ensures not_done { result ≢ DONE → TellsNothing machine.old.slot.held machine.new.slot.held reply.old reply.new }
 {
-    let order = asked.first;
-    ask(alloc, machine, asked.tenant, Request::Alloc { order }, told)
-}
-
-#[inline(never)]
-fn free_event(alloc: Global, machine: &mut Machine, asked: &Asked, told: &mut Told) -> u32
-    requires kind { asked.now.kind ≡ FREE }
-    ensures status { result ≡ machine_status machine.old.slot.held }
-    ensures done { result ≡ DONE → RunsApart machine.old.slot.held machine.new.slot.held asked.now told.new }
-    ensures not_done { result ≢ DONE → TellsNothing machine.old.slot.held machine.new.slot.held told.old told.new }
-{
-    let frame = asked.first;
-    ask(alloc, machine, asked.tenant, Request::Free { frame }, told)
-}
-
-#[inline(never)]
-fn take_event(alloc: Global, machine: &mut Machine, asked: &Asked, told: &mut Told) -> u32
-    requires kind { asked.now.kind ≡ TAKE }
-    ensures status { result ≡ machine_status machine.old.slot.held }
-    ensures done { result ≡ DONE → RunsApart machine.old.slot.held machine.new.slot.held asked.now told.new }
-    ensures not_done { result ≢ DONE → TellsNothing machine.old.slot.held machine.new.slot.held told.old told.new }
-{
-    let cache = asked.first;
-    ask(alloc, machine, asked.tenant, Request::Take { cache }, told)
-}
-
-#[inline(never)]
-fn give_event(alloc: Global, machine: &mut Machine, asked: &Asked, told: &mut Told) -> u32
-    requires kind { asked.now.kind ≡ GIVE }
-    ensures status { result ≡ machine_status machine.old.slot.held }
-    ensures done { result ≡ DONE → RunsApart machine.old.slot.held machine.new.slot.held asked.now told.new }
-    ensures not_done { result ≢ DONE → TellsNothing machine.old.slot.held machine.new.slot.held told.old told.new }
-{
-    let cache = asked.first;
-    let place = asked.second;
+    let order = request.first;
     ask(
         alloc,
         machine,
-        asked.tenant,
+        request.tenant,
+        Request::Alloc { order },
+        reply,
+    )
+}
+
+#[inline(never)]
+fn free_event(
+    alloc: Global,
+    machine: &mut Machine,
+    request: &RequestNumbers,
+    reply: &mut ReplyNumbers,
+) -> u32
+    requires kind { request.now.kind ≡ FREE }
+    ensures status { result ≡ machine_status machine.old.slot.held }
+    ensures done { result ≡ DONE → RunsApart machine.old.slot.held machine.new.slot.held request.now reply.new }
+    ensures not_done { result ≢ DONE → TellsNothing machine.old.slot.held machine.new.slot.held reply.old reply.new }
+{
+    let frame = request.first;
+    ask(
+        alloc,
+        machine,
+        request.tenant,
+        Request::Free { frame },
+        reply,
+    )
+}
+
+#[inline(never)]
+fn take_event(
+    alloc: Global,
+    machine: &mut Machine,
+    request: &RequestNumbers,
+    reply: &mut ReplyNumbers,
+) -> u32
+    requires kind { request.now.kind ≡ TAKE }
+    ensures status { result ≡ machine_status machine.old.slot.held }
+    ensures done { result ≡ DONE → RunsApart machine.old.slot.held machine.new.slot.held request.now reply.new }
+    ensures not_done { result ≢ DONE → TellsNothing machine.old.slot.held machine.new.slot.held reply.old reply.new }
+{
+    let cache = request.first;
+    ask(
+        alloc,
+        machine,
+        request.tenant,
+        Request::Take { cache },
+        reply,
+    )
+}
+
+#[inline(never)]
+fn give_event(
+    alloc: Global,
+    machine: &mut Machine,
+    request: &RequestNumbers,
+    reply: &mut ReplyNumbers,
+) -> u32
+    requires kind { request.now.kind ≡ GIVE }
+    ensures status { result ≡ machine_status machine.old.slot.held }
+    ensures done { result ≡ DONE → RunsApart machine.old.slot.held machine.new.slot.held request.now reply.new }
+    ensures not_done { result ≢ DONE → TellsNothing machine.old.slot.held machine.new.slot.held reply.old reply.new }
+{
+    let cache = request.first;
+    let place = request.second;
+    ask(
+        alloc,
+        machine,
+        request.tenant,
         Request::Give { cache, place },
-        told,
+        reply,
     )
 }
 
@@ -276,70 +319,77 @@ fn ask(
     alloc: Global,
     machine: &mut Machine,
     tenant: u32,
-    request: Request<'_>,
-    told: &mut Told,
+    command: Request<'_>,
+    reply: &mut ReplyNumbers,
 ) -> u32
-    requires askable { IsAskable request }
-    requires apart { asks_bytes request ≡ false }
+    requires askable { IsAskable command }
+    requires apart { asks_bytes command ≡ false }
     ensures status { result ≡ machine_status machine.old.slot.held }
-    ensures done { result ≡ DONE → (asked : Asked) (bytes room : List ℕ)
-        → asked_event asked bytes ≡ Some (Tenant tenant (command_of request.entry))
-        → RunsEvent machine.old.slot.held machine.new.slot.held asked bytes told.new room room }
-    ensures not_done { result ≢ DONE → TellsNothing machine.old.slot.held machine.new.slot.held told.old told.new }
+    ensures done { result ≡ DONE → (request : RequestNumbers) (bytes buffer : List ℕ)
+        → requested_event request bytes ≡ Some (Tenant tenant (command_of command.entry))
+        → RunsEvent machine.old.slot.held machine.new.slot.held request bytes reply.new buffer buffer }
+    ensures not_done { result ≢ DONE → TellsNothing machine.old.slot.held machine.new.slot.held reply.old reply.new }
 {
     if !machine.is_booted() {
         return NO_MACHINE;
     }
     let mut kernel = machine.take_out(alloc);
-    *told = run(&mut kernel, tenant, request);
+    *reply = run(&mut kernel, tenant, command);
     machine.put_in(kernel);
     DONE
 }
 
-/// [`other_event`] with no more of the room than it writes into, so that its length is none of what is handed on.
+/// [`other_event`] with no more of the buffer than it writes into, so that its length is none of what is handed on.
 #[inline(always)]
 fn event_in_first(
     alloc: Global,
     machine: &mut Machine,
-    asked: &Asked,
+    request: &RequestNumbers,
     bytes: &[u8],
-    told: &mut Told,
-    room: &mut [u8],
+    reply: &mut ReplyNumbers,
+    buffer: &mut [u8],
 ) -> u32
-    requires room { MOST_BYTES ≤ length room.old }
-    ensures status { result ≡ status_of_event machine.old.slot.held asked.now bytes.now DONE }
+    requires buffer { MOST_BYTES ≤ length buffer.old }
+    ensures status { result ≡ status_of_event machine.old.slot.held request.now bytes.now DONE }
     ensures done { result ≡ DONE
-        → RunsEvent machine.old.slot.held machine.new.slot.held asked.now bytes.now told.new room.old room.new }
+        → RunsEvent machine.old.slot.held machine.new.slot.held request.now bytes.now reply.new buffer.old buffer.new }
     ensures not_done { result ≢ DONE
-        → ChangesNothing machine.old.slot.held machine.new.slot.held told.old told.new room.old room.new }
+        → ChangesNothing machine.old.slot.held machine.new.slot.held reply.old reply.new buffer.old buffer.new }
 {
-    other_event(alloc, machine, asked, bytes, told, &mut room[..MOST_BYTES])
+    other_event(
+        alloc,
+        machine,
+        request,
+        bytes,
+        reply,
+        &mut buffer[..MOST_BYTES],
+    )
 }
 
-/// [`partmem_event`] of the kinds that look at the bytes or the room, and of the rare ones.
+/// [`partmem_event`] of the kinds that look at the bytes or the buffer, and of the rare ones.
 #[inline(never)]
 fn other_event(
     alloc: Global,
     machine: &mut Machine,
-    asked: &Asked,
+    request: &RequestNumbers,
     bytes: &[u8],
-    told: &mut Told,
-    room: &mut [u8],
+    reply: &mut ReplyNumbers,
+    buffer: &mut [u8],
 ) -> u32
-    requires room { MOST_BYTES ≤ length room.old }
-    ensures status { result ≡ status_of_event machine.old.slot.held asked.now bytes.now DONE }
+    requires buffer { MOST_BYTES ≤ length buffer.old }
+    ensures status { result ≡ status_of_event machine.old.slot.held request.now bytes.now DONE }
     ensures done { result ≡ DONE
-        → RunsEvent machine.old.slot.held machine.new.slot.held asked.now bytes.now told.new room.old room.new }
+        → RunsEvent machine.old.slot.held machine.new.slot.held request.now bytes.now reply.new buffer.old buffer.new }
     ensures not_done { result ≢ DONE
-        → ChangesNothing machine.old.slot.held machine.new.slot.held told.old told.new room.old room.new }
+        → ChangesNothing machine.old.slot.held machine.new.slot.held reply.old reply.new buffer.old buffer.new }
 {
-    match asked.kind {
-        READ => read_event(alloc, machine, asked, told, room),
-        WRITE => write_event(alloc, machine, asked, bytes, told),
-        CACHE => cache_event(alloc, machine, asked, bytes, told),
-        DESTROY => destroy_event(alloc, machine, asked, told),
-        REAP => reap_event(alloc, machine, asked, told),
-        _ => rare_event(alloc, machine, asked, bytes, told, room),
+    match request.kind {
+        READ => read_event(alloc, machine, request, reply, buffer),
+        WRITE => write_event(alloc, machine, request, bytes, reply),
+        CACHE => cache_event(alloc, machine, request, bytes, reply),
+        DESTROY => destroy_event(alloc, machine, request, reply),
+        REAP => reap_event(alloc, machine, request, reply),
+        _ => rare_event(alloc, machine, request, bytes, reply, buffer),
     }
 }
 
@@ -347,23 +397,29 @@ fn other_event(
 fn read_event(
     alloc: Global,
     machine: &mut Machine,
-    asked: &Asked,
-    told: &mut Told,
-    room: &mut [u8],
+    request: &RequestNumbers,
+    reply: &mut ReplyNumbers,
+    buffer: &mut [u8],
 ) -> u32
-    requires kind { asked.now.kind ≡ READ }
-    requires room { MOST_BYTES ≤ length room.old }
+    requires kind { request.now.kind ≡ READ }
+    requires buffer { MOST_BYTES ≤ length buffer.old }
     ensures status { result ≡ machine_status machine.old.slot.held }
     ensures done { result ≡ DONE → (bytes : List ℕ)
-        → RunsEvent machine.old.slot.held machine.new.slot.held asked.now bytes told.new room.old room.new }
+        → RunsEvent machine.old.slot.held machine.new.slot.held request.now bytes reply.new buffer.old buffer.new }
     ensures not_done { result ≢ DONE
-        → ChangesNothing machine.old.slot.held machine.new.slot.held told.old told.new room.old room.new }
+        → ChangesNothing machine.old.slot.held machine.new.slot.held reply.old reply.new buffer.old buffer.new }
 {
     if !machine.is_booted() {
         return NO_MACHINE;
     }
     let mut kernel = machine.take_out(alloc);
-    *told = read(&mut kernel, asked.tenant, asked.first, asked.second, room);
+    *reply = read(
+        &mut kernel,
+        request.tenant,
+        request.first,
+        request.second,
+        buffer,
+    );
     machine.put_in(kernel);
     DONE
 }
@@ -372,26 +428,26 @@ fn read_event(
 fn write_event(
     alloc: Global,
     machine: &mut Machine,
-    asked: &Asked,
+    request: &RequestNumbers,
     bytes: &[u8],
-    told: &mut Told,
+    reply: &mut ReplyNumbers,
 ) -> u32
-    requires kind { asked.now.kind ≡ WRITE }
-    ensures status { result ≡ status_of_event machine.old.slot.held asked.now bytes.now DONE }
-    ensures done { result ≡ DONE → (room : List ℕ)
-        → RunsEvent machine.old.slot.held machine.new.slot.held asked.now bytes.now told.new room room }
-    ensures not_done { result ≢ DONE → TellsNothing machine.old.slot.held machine.new.slot.held told.old told.new }
+    requires kind { request.now.kind ≡ WRITE }
+    ensures status { result ≡ status_of_event machine.old.slot.held request.now bytes.now DONE }
+    ensures done { result ≡ DONE → (buffer : List ℕ)
+        → RunsEvent machine.old.slot.held machine.new.slot.held request.now bytes.now reply.new buffer buffer }
+    ensures not_done { result ≢ DONE → TellsNothing machine.old.slot.held machine.new.slot.held reply.old reply.new }
 {
     if !(1..=MOST_BYTES).contains(&bytes.len()) {
         return status_of_none(machine);
     }
-    let place = asked.first;
+    let place = request.first;
     ask(
         alloc,
         machine,
-        asked.tenant,
+        request.tenant,
         Request::Write { place, bytes },
-        told,
+        reply,
     )
 }
 
@@ -400,29 +456,29 @@ fn write_event(
 fn cache_event(
     alloc: Global,
     machine: &mut Machine,
-    asked: &Asked,
+    request: &RequestNumbers,
     bytes: &[u8],
-    told: &mut Told,
+    reply: &mut ReplyNumbers,
 ) -> u32
-    requires kind { asked.now.kind ≡ CACHE }
-    ensures status { result ≡ status_of_event machine.old.slot.held asked.now bytes.now DONE }
-    ensures done { result ≡ DONE → (room : List ℕ)
-        → RunsEvent machine.old.slot.held machine.new.slot.held asked.now bytes.now told.new room room }
-    ensures not_done { result ≢ DONE → TellsNothing machine.old.slot.held machine.new.slot.held told.old told.new }
+    requires kind { request.now.kind ≡ CACHE }
+    ensures status { result ≡ status_of_event machine.old.slot.held request.now bytes.now DONE }
+    ensures done { result ≡ DONE → (buffer : List ℕ)
+        → RunsEvent machine.old.slot.held machine.new.slot.held request.now bytes.now reply.new buffer buffer }
+    ensures not_done { result ≢ DONE → TellsNothing machine.old.slot.held machine.new.slot.held reply.old reply.new }
 {
     if !(1..=MOST_PATTERN).contains(&bytes.len()) {
         return status_of_none(machine);
     }
-    let request = Request::Cache {
-        size: asked.first,
-        align: asked.second,
+    let command = Request::Cache {
+        size: request.first,
+        align: request.second,
         pattern: bytes,
     };
-    ask(alloc, machine, asked.tenant, request, told)
+    ask(alloc, machine, request.tenant, command, reply)
 }
 
 /// What a call answers whose numbers and bytes say no event.
-fn status_of_none(machine: &Machine) -> u32
+pub(crate) fn status_of_none(machine: &Machine) -> u32
     ensures { result ≡ (if is_some machine.now.slot.held then NOT_AN_EVENT else NO_MACHINE) }
 {
     if machine.is_booted() {
@@ -434,31 +490,41 @@ fn status_of_none(machine: &Machine) -> u32
 
 #[cold]
 #[inline(never)]
-fn destroy_event(alloc: Global, machine: &mut Machine, asked: &Asked, told: &mut Told) -> u32
-    requires kind { asked.now.kind ≡ DESTROY }
+fn destroy_event(
+    alloc: Global,
+    machine: &mut Machine,
+    request: &RequestNumbers,
+    reply: &mut ReplyNumbers,
+) -> u32
+    requires kind { request.now.kind ≡ DESTROY }
     ensures status { result ≡ machine_status machine.old.slot.held }
-    ensures done { result ≡ DONE → RunsApart machine.old.slot.held machine.new.slot.held asked.now told.new }
-    ensures not_done { result ≢ DONE → TellsNothing machine.old.slot.held machine.new.slot.held told.old told.new }
+    ensures done { result ≡ DONE → RunsApart machine.old.slot.held machine.new.slot.held request.now reply.new }
+    ensures not_done { result ≢ DONE → TellsNothing machine.old.slot.held machine.new.slot.held reply.old reply.new }
 {
-    let cache = asked.first;
+    let cache = request.first;
     ask(
         alloc,
         machine,
-        asked.tenant,
+        request.tenant,
         Request::Destroy { cache },
-        told,
+        reply,
     )
 }
 
 #[cold]
 #[inline(never)]
-fn reap_event(alloc: Global, machine: &mut Machine, asked: &Asked, told: &mut Told) -> u32
-    requires kind { asked.now.kind ≡ REAP }
+fn reap_event(
+    alloc: Global,
+    machine: &mut Machine,
+    request: &RequestNumbers,
+    reply: &mut ReplyNumbers,
+) -> u32
+    requires kind { request.now.kind ≡ REAP }
     ensures status { result ≡ machine_status machine.old.slot.held }
-    ensures done { result ≡ DONE → RunsApart machine.old.slot.held machine.new.slot.held asked.now told.new }
-    ensures not_done { result ≢ DONE → TellsNothing machine.old.slot.held machine.new.slot.held told.old told.new }
+    ensures done { result ≡ DONE → RunsApart machine.old.slot.held machine.new.slot.held request.now reply.new }
+    ensures not_done { result ≢ DONE → TellsNothing machine.old.slot.held machine.new.slot.held reply.old reply.new }
 {
-    ask(alloc, machine, asked.tenant, Request::Reap, told)
+    ask(alloc, machine, request.tenant, Request::Reap, reply)
 }
 
 /// [`partmem_event`] of any event.
@@ -467,104 +533,106 @@ fn reap_event(alloc: Global, machine: &mut Machine, asked: &Asked, told: &mut To
 fn rare_event(
     alloc: Global,
     machine: &mut Machine,
-    asked: &Asked,
+    request: &RequestNumbers,
     bytes: &[u8],
-    told: &mut Told,
-    room: &mut [u8],
+    reply: &mut ReplyNumbers,
+    buffer: &mut [u8],
 ) -> u32
-    requires room { MOST_BYTES ≤ length room.old }
-    ensures status { result ≡ status_of_event machine.old.slot.held asked.now bytes.now DONE }
+    requires buffer { MOST_BYTES ≤ length buffer.old }
+    ensures status { result ≡ status_of_event machine.old.slot.held request.now bytes.now DONE }
     ensures done { result ≡ DONE
-        → RunsEvent machine.old.slot.held machine.new.slot.held asked.now bytes.now told.new room.old room.new }
+        → RunsEvent machine.old.slot.held machine.new.slot.held request.now bytes.now reply.new buffer.old buffer.new }
     ensures not_done { result ≢ DONE
-        → ChangesNothing machine.old.slot.held machine.new.slot.held told.old told.new room.old room.new }
+        → ChangesNothing machine.old.slot.held machine.new.slot.held reply.old reply.new buffer.old buffer.new }
 {
     if !machine.is_booted() {
         return NO_MACHINE;
     }
-    let Some(event) = event_of(asked, bytes) else {
+    let Some(event) = event_of(request, bytes) else {
         return NOT_AN_EVENT;
     };
     let mut kernel = machine.take_out(alloc);
-    *told = step(&mut kernel, &event, room);
+    *reply = step(&mut kernel, &event, buffer);
     machine.put_in(kernel);
     DONE
 }
 
-/// Runs an event, puts the bytes that it tells over the first of `room`, and answers it in numbers.
-fn step(kernel: &mut Kernel, event: &Event, room: &mut [u8]) -> Told
+/// Runs an event, puts the bytes that it tells over the first of `buffer`, and answers it in numbers.
+fn step(kernel: &mut Kernel, event: &Event, buffer: &mut [u8]) -> ReplyNumbers
     requires pattern { HasPattern event.now }
-    requires room { MOST_BYTES ≤ length room.old }
-    ensures { AnswersEvent kernel.old event.now kernel.new result room.old room.new }
+    requires buffer { MOST_BYTES ≤ length buffer.old }
+    ensures { AnswersEvent kernel.old event.now kernel.new result buffer.old buffer.new }
 {
     match event {
         Event::Admin(command) => match kernel.administer(command) {
-            Some(answer) => told_of_answer(answer),
-            None => pool(kernel, room),
+            Some(answer) => numbers_of_answer(answer),
+            None => pool(kernel, buffer),
         },
-        Event::Tenant(tenant, Command::Report) => report(kernel, *tenant, room),
-        _ => step_whole(kernel, event, room),
+        Event::Tenant(tenant, Command::Report) => report(kernel, *tenant, buffer),
+        _ => step_whole(kernel, event, buffer),
     }
 }
 
-/// Answers who owns each superblock. It is out of line, as all that makes a reply: that has room for the owners of all superblocks.
+/// Answers who owns each superblock. It is out of line, as all that makes a reply, which is as large as the owners of all
+/// superblocks.
 #[inline(never)]
-fn pool(kernel: &Kernel, room: &mut [u8]) -> Told
-    requires { MOST_BYTES ≤ length room.old }
-    ensures { AnswersEvent kernel.now (Event.Admin AdminCommand.Pool) kernel.now result room.old room.new }
+fn pool(kernel: &Kernel, buffer: &mut [u8]) -> ReplyNumbers
+    requires { MOST_BYTES ≤ length buffer.old }
+    ensures { AnswersEvent kernel.now (Event.Admin AdminCommand.Pool) kernel.now result buffer.old buffer.new }
 {
     let reply = kernel.pool();
-    put(bytes_of_body(&reply.body), room, 0);
-    told_of(&reply.body)
+    put(bytes_of_body(&reply.body), buffer, 0);
+    numbers_of_body(&reply.body)
 }
 
 /// Answers the report of a tenant.
 #[inline(never)]
-fn report(kernel: &Kernel, tenant: u32, room: &mut [u8]) -> Told
-    requires { MOST_BYTES ≤ length room.old }
-    ensures { AnswersEvent kernel.now (Tenant tenant Report) kernel.now result room.old room.new }
+fn report(kernel: &Kernel, tenant: u32, buffer: &mut [u8]) -> ReplyNumbers
+    requires { MOST_BYTES ≤ length buffer.old }
+    ensures { AnswersEvent kernel.now (Tenant tenant Report) kernel.now result buffer.old buffer.new }
 {
     let reply = kernel.report(tenant);
-    put(bytes_of_body(&reply.body), room, 0);
-    told_of(&reply.body)
+    put(bytes_of_body(&reply.body), buffer, 0);
+    numbers_of_body(&reply.body)
 }
 
 /// [`step`] of any event.
 #[inline(never)]
-fn step_whole(kernel: &mut Kernel, event: &Event, room: &mut [u8]) -> Told
+fn step_whole(kernel: &mut Kernel, event: &Event, buffer: &mut [u8]) -> ReplyNumbers
     requires pattern { HasPattern event.now }
-    requires room { MOST_BYTES ≤ length room.old }
-    ensures { AnswersEvent kernel.old event.now kernel.new result room.old room.new }
+    requires buffer { MOST_BYTES ≤ length buffer.old }
+    ensures { AnswersEvent kernel.old event.now kernel.new result buffer.old buffer.new }
 {
     let reply = kernel.step(event);
-    put(bytes_of_body(&reply.body), room, 0);
-    told_of(&reply.body)
+    put(bytes_of_body(&reply.body), buffer, 0);
+    numbers_of_body(&reply.body)
 }
 
-/// Runs a request that asks for no bytes, and answers it in numbers.
+/// Runs a command that asks for no bytes, and answers it in numbers.
 #[inline(always)]
-fn run(kernel: &mut Kernel, tenant: u32, request: Request<'_>) -> Told
-    requires askable { IsAskable request }
-    requires apart { asks_bytes request ≡ false }
-    ensures { (room : List ℕ) → AnswersEvent kernel.old (Tenant tenant (command_of request.entry)) kernel.new result room room }
+pub(crate) fn run(kernel: &mut Kernel, tenant: u32, command: Request<'_>) -> ReplyNumbers
+    requires askable { IsAskable command }
+    requires apart { asks_bytes command ≡ false }
+    ensures { (buffer : List ℕ)
+        → AnswersEvent kernel.old (Tenant tenant (command_of command.entry)) kernel.new result buffer buffer }
 {
-    match kernel.ask(tenant, request) {
-        Some((_, answer)) => told_of_answer(answer),
-        None => told_of_answer(Answer::Refused(Refusal::NoTenant)),
+    match kernel.ask(tenant, command) {
+        Some((_, answer)) => numbers_of_answer(answer),
+        None => numbers_of_answer(Answer::Refused(Refusal::NoTenant)),
     }
 }
 
-/// Runs a read, puts its bytes over the first of `room`, and answers it in numbers.
+/// Runs a read, puts its bytes over the first of `buffer`, and answers it in numbers.
 #[inline(always)]
-fn read(kernel: &mut Kernel, tenant: u32, place: u32, len: u32, room: &mut [u8]) -> Told
-    requires { MOST_BYTES ≤ length room.old }
-    ensures { AnswersEvent kernel.old (Tenant tenant (Read place len)) kernel.new result room.old room.new }
+fn read(kernel: &mut Kernel, tenant: u32, place: u32, len: u32, buffer: &mut [u8]) -> ReplyNumbers
+    requires { MOST_BYTES ≤ length buffer.old }
+    ensures { AnswersEvent kernel.old (Tenant tenant (Read place len)) kernel.new result buffer.old buffer.new }
 {
     match kernel.ask(tenant, Request::Read { place, len }) {
         Some((_, answer)) => {
-            put(bytes_of(answer), room, 0);
-            told_of_answer(answer)
+            put(bytes_in_reply(answer), buffer, 0);
+            numbers_of_answer(answer)
         }
-        None => told_of_answer(Answer::Refused(Refusal::NoTenant)),
+        None => numbers_of_answer(Answer::Refused(Refusal::NoTenant)),
     }
 }

@@ -18,7 +18,7 @@ pub const OWNERS: u32 = 6;
 pub const FRAME: u32 = 7;
 /// The order of the page block that was given back.
 pub const FREED: u32 = 8;
-/// How many bytes were read: they stand over the first bytes of the room.
+/// How many bytes were read: they stand over the first bytes of the buffer.
 pub const BYTES: u32 = 9;
 /// How many bytes were written.
 pub const WRITTEN: u32 = 10;

@@ -3,6 +3,7 @@
 ghost use Rattle.std.specs.Prelude.{◌≡◌, IfSome};
 ghost use Rattle.kernel_core.specs.Stores.{IsKernel};
 ghost use Rattle.partmem_c.specs.Actions.{OwnSightsOfCalls};
+ghost use Rattle.partmem_c.specs.Calls.{OffsetsAreRefused};
 ghost use Rattle.partmem_c.specs.Laws.{StandsAfterCalls, OwnLinesOfCalls, SameLinesOfCalls};
 
 use crate::machine::Machine;
@@ -20,13 +21,18 @@ pub fn own_lines()
     laws::non_interference();
 }
 
-/// All that is done with a machine from boot on, by lines and by events, by calls of its kernel, and by stores and loads in place,
-/// are actions of which a tenant sees what its private machine gives to its own list, whatever the others do.
+/// All that is done with a machine from boot on, by lines, events and direct calls, by calls of its kernel, and by stores and
+/// loads in place, are actions of which a tenant sees what its private machine gives to its own list, whatever the others do.
 pub fn own_sights()
     ensures { OwnSightsOfCalls }
 {
     kernel_core::laws::own_sights();
 }
+
+/// A [`crate::pages::partmem_free`] at a place that is no multiple of 4096 is refused with `NOT_A_BLOCK`.
+pub fn offsets_are_refused()
+    ensures { OffsetsAreRefused }
+{}
 
 /// What C holds between two calls is a kernel. The call changes nothing.
 pub fn is_kernel(alloc: Global, machine: &mut Machine)

@@ -16,7 +16,7 @@ ghost use Rattle.partmem_c.specs.Lines.{has_line_feed, line_status, IsWide, IsTe
 ghost use Rattle.partmem_c.specs.Lines.{AnswersWhole, AnswersOrNot, RunsLine};
 
 use crate::machine::Machine;
-use crate::status::{DONE, NO_MACHINE, NO_ROOM, NOT_A_LINE};
+use crate::status::{BUFFER_TOO_SMALL, DONE, NO_MACHINE, NOT_A_LINE};
 use kernel_core::Kernel;
 use model_core::limits::MOST_BYTES;
 use quick_core::{WINDOW, read_request};
@@ -30,33 +30,36 @@ use words_core::{
 /// No line is answered by more bytes than these: the owners of all superblocks, with a line in front of them.
 pub const MOST_TEXT_BYTES: usize = MOST_ROWS * MOST_REPLY_BYTES;
 
-/// Runs a line of a trace, and writes what it is answered over the first bytes of `room`; `written` says how many, and is 0
-/// where the call isn't done.
+/// Runs a line of a trace, and writes its reply lines over the first bytes of `buffer`; `written` is how many bytes, 0 if the
+/// call is not done.
 ///
-/// The line comes without its line feed. One that is a fault is answered by the line that says so. The room has to have
-/// `MOST_TEXT_BYTES` bytes, whatever the line is.
+/// The line comes without its line feed. The reply to a faulty line is the line that says so. Any line needs a buffer of
+/// `MOST_TEXT_BYTES` bytes.
+///
+/// Returns `NO_MACHINE`, `NOT_A_LINE` or `BUFFER_TOO_SMALL`; then the buffer is as before.
 #[unsafe(no_mangle)]
 pub extern "C" fn partmem_line(
     alloc: Global,
     machine: &mut Machine,
     line: &[u8],
-    room: &mut [u8],
+    buffer: &mut [u8],
     written: &mut usize,
 ) -> u32
-    ensures status { result ≡ line_status machine.old.slot.held line.now room.old }
-    ensures done { result ≡ DONE → RunsLine machine.old.slot.held machine.new.slot.held line.now room.old room.new written.new }
+    ensures status { result ≡ line_status machine.old.slot.held line.now buffer.old }
+    ensures done { result ≡ DONE
+        → RunsLine machine.old.slot.held machine.new.slot.held line.now buffer.old buffer.new written.new }
     ensures not_done { result ≢ DONE
-        → (machine.new.slot.held ≡ machine.old.slot.held) × (room.new ≡ room.old) × (written.new ≡ 0) }
+        → (machine.new.slot.held ≡ machine.old.slot.held) × (buffer.new ≡ buffer.old) × (written.new ≡ 0) }
 {
     *written = 0;
     if !machine.is_booted() {
         return NO_MACHINE;
     }
-    if room.len() < MOST_TEXT_BYTES {
-        return status_without_room(line);
+    if buffer.len() < MOST_TEXT_BYTES {
+        return status_without_buffer(line);
     }
     let mut kernel = machine.take_out(alloc);
-    let answered = run_line(&mut kernel, line, room);
+    let answered = run_line(&mut kernel, line, buffer);
     machine.put_in(kernel);
     let Some(count) = answered else {
         return NOT_A_LINE;
@@ -65,64 +68,64 @@ pub extern "C" fn partmem_line(
     DONE
 }
 
-/// What a call answers whose room is too short.
+/// The status of a call whose buffer is too small.
 #[cold]
 #[inline(never)]
-fn status_without_room(line: &[u8]) -> u32
-    ensures { result ≡ (if has_line_feed line.now then NOT_A_LINE else NO_ROOM) }
+fn status_without_buffer(line: &[u8]) -> u32
+    ensures { result ≡ (if has_line_feed line.now then NOT_A_LINE else BUFFER_TOO_SMALL) }
 {
     if line.contains(&b'\n') {
         NOT_A_LINE
     } else {
-        NO_ROOM
+        BUFFER_TOO_SMALL
     }
 }
 
 /// Room for a line that makes up a load with its line feed: a tenant, a word, a place, and bytes in hex.
 const MOST_SHORT_LINE: usize = 160;
 
-/// Runs a line on the kernel, writes what it is answered over the first bytes of `room`, and answers how many; None, and nothing
-/// is done, where it has a line feed.
+/// Runs a line on the kernel, writes what it is answered over the first bytes of `buffer`, and answers how many; None, and
+/// nothing is done, where it has a line feed.
 ///
 /// A line that was read the short way as a whole has none, and is not searched for one.
 #[inline(always)]
-fn run_line(kernel: &mut Kernel, line: &[u8], room: &mut [u8]) -> Option<usize>
-    requires { IsWide room.old }
-    ensures { AnswersOrNot kernel.old line.now room.old kernel.new room.new result }
+fn run_line(kernel: &mut Kernel, line: &[u8], buffer: &mut [u8]) -> Option<usize>
+    requires { IsWide buffer.old }
+    ensures { AnswersOrNot kernel.old line.now buffer.old kernel.new buffer.new result }
 {
     if line.len() >= WINDOW {
-        return run_other(kernel, line, room);
+        return run_other(kernel, line, buffer);
     }
     let mut ended = [0; WINDOW];
     put_ended(line, &mut ended);
     let mut bytes = [0; MOST_BYTES];
     if let Some(read) = read_request(&ended, &mut bytes) {
         if read.len == line.len() + 1 {
-            return Some(answer_request(read.tenant, read.request, kernel, room));
+            return Some(answer_request(read.tenant, read.request, kernel, buffer));
         }
     }
-    run_any(kernel, line, room)
+    run_any(kernel, line, buffer)
 }
 
-/// [`run_line`] of a longer line; out of line, since it needs more room than most lines of a load.
+/// [`run_line`] of a longer line; out of line, since it needs more stack than most lines of a load.
 #[inline(never)]
-fn run_other(kernel: &mut Kernel, line: &[u8], room: &mut [u8]) -> Option<usize>
-    requires { IsWide room.old }
-    ensures { AnswersOrNot kernel.old line.now room.old kernel.new room.new result }
+fn run_other(kernel: &mut Kernel, line: &[u8], buffer: &mut [u8]) -> Option<usize>
+    requires { IsWide buffer.old }
+    ensures { AnswersOrNot kernel.old line.now buffer.old kernel.new buffer.new result }
 {
-    if let Some(written) = run_long(kernel, line, room) {
+    if let Some(written) = run_long(kernel, line, buffer) {
         return Some(written);
     }
-    run_any(kernel, line, room)
+    run_any(kernel, line, buffer)
 }
 
-/// [`run_line`] of a longer line that makes up a load, as a write; None, and nothing is done, where it isn't one, or where that is
-/// not sure.
+/// [`run_line`] of a longer line that makes up a load, as a write; None, and nothing is done, where it isn't one, or where that
+/// is not sure.
 #[inline(always)]
-fn run_long(kernel: &mut Kernel, line: &[u8], room: &mut [u8]) -> Option<usize>
-    requires { IsWide room.old }
-    ensures { MatchOption result ((kernel.new ≡ kernel.old) × (room.new ≡ room.old))
-        (λ written. AnswersWhole kernel.old line.now room.old kernel.new room.new written) }
+fn run_long(kernel: &mut Kernel, line: &[u8], buffer: &mut [u8]) -> Option<usize>
+    requires { IsWide buffer.old }
+    ensures { MatchOption result ((kernel.new ≡ kernel.old) × (buffer.new ≡ buffer.old))
+        (λ written. AnswersWhole kernel.old line.now buffer.old kernel.new buffer.new written) }
 {
     if line.len() >= MOST_SHORT_LINE {
         return None;
@@ -134,20 +137,20 @@ fn run_long(kernel: &mut Kernel, line: &[u8], room: &mut [u8]) -> Option<usize>
     if read.len != line.len() + 1 {
         return None;
     }
-    Some(answer_apart(read.tenant, read.request, kernel, room))
+    Some(answer_apart(read.tenant, read.request, kernel, buffer))
 }
 
-/// [`run_line`] by way of the event that it reads as; out of line, since all the room of an event is cleared.
+/// [`run_line`] by way of the event that it reads as; out of line, since it clears the memory of an event.
 #[cold]
 #[inline(never)]
-fn run_any(kernel: &mut Kernel, line: &[u8], room: &mut [u8]) -> Option<usize>
-    requires { IsWide room.old }
-    ensures { AnswersOrNot kernel.old line.now room.old kernel.new room.new result }
+fn run_any(kernel: &mut Kernel, line: &[u8], buffer: &mut [u8]) -> Option<usize>
+    requires { IsWide buffer.old }
+    ensures { AnswersOrNot kernel.old line.now buffer.old kernel.new buffer.new result }
 {
     if line.contains(&b'\n') {
         return None;
     }
-    Some(answer(read_line(line), kernel, room))
+    Some(answer(read_line(line), kernel, buffer))
 }
 
 /// Puts a line over the first bytes, and a line feed behind it.
@@ -173,215 +176,228 @@ const READ: usize = 4;
 
 const WRITE: usize = 5;
 
-/// Runs a request, and writes what it is answered over the first bytes of `room`; answers how many they are.
+/// Runs a request, and writes what it is answered over the first bytes of `buffer`; answers how many they are.
 #[inline(always)]
-fn answer_request(tenant: u32, request: Request<'_>, kernel: &mut Kernel, room: &mut [u8]) -> usize
+fn answer_request(
+    tenant: u32,
+    request: Request<'_>,
+    kernel: &mut Kernel,
+    buffer: &mut [u8],
+) -> usize
     requires askable { IsAskable request }
-    requires room { IsWide room.old }
-    ensures { PutsAnswer kernel.old (Ok (Some (Tenant tenant (command_of request.entry)))) kernel.new room.old room.new result }
+    requires buffer { IsWide buffer.old }
+    ensures { PutsAnswer kernel.old (Ok (Some (Tenant tenant (command_of request.entry)))) kernel.new
+        buffer.old buffer.new result }
 {
     match request {
         Request::Alloc { order } => {
-            answer_as::<ALLOC>(tenant, Request::Alloc { order }, kernel, room)
+            answer_as::<ALLOC>(tenant, Request::Alloc { order }, kernel, buffer)
         }
         Request::Free { frame } => {
-            answer_as::<FREE>(tenant, Request::Free { frame }, kernel, room)
+            answer_as::<FREE>(tenant, Request::Free { frame }, kernel, buffer)
         }
         Request::Take { cache } => {
-            answer_as::<TAKE>(tenant, Request::Take { cache }, kernel, room)
+            answer_as::<TAKE>(tenant, Request::Take { cache }, kernel, buffer)
         }
         Request::Give { cache, place } => {
-            answer_as::<GIVE>(tenant, Request::Give { cache, place }, kernel, room)
+            answer_as::<GIVE>(tenant, Request::Give { cache, place }, kernel, buffer)
         }
         Request::Read { place, len } => {
-            answer_as::<READ>(tenant, Request::Read { place, len }, kernel, room)
+            answer_as::<READ>(tenant, Request::Read { place, len }, kernel, buffer)
         }
         Request::Write { place, bytes } => {
-            answer_as::<WRITE>(tenant, Request::Write { place, bytes }, kernel, room)
+            answer_as::<WRITE>(tenant, Request::Write { place, bytes }, kernel, buffer)
         }
-        rare => answer_apart(tenant, rare, kernel, room),
+        rare => answer_apart(tenant, rare, kernel, buffer),
     }
 }
 
-/// [`answer_request`] of one command, which `COMMAND` numbers. Each has a function of its own with one caller: of such a function the
-/// compiler makes a part of its caller, however long it is, and what the command may be answered is then known where that is written.
+/// [`answer_request`] of one command, which `COMMAND` numbers. Each has a function of its own with one caller: of such a function
+/// the compiler makes a part of its caller, however long it is, and what the command may be answered is then known where that is
+/// written.
 #[inline]
 fn answer_as<const COMMAND: usize>(
     tenant: u32,
     request: Request<'_>,
     kernel: &mut Kernel,
-    room: &mut [u8],
+    buffer: &mut [u8],
 ) -> usize
     requires askable { IsAskable request }
-    requires room { IsWide room.old }
-    ensures { PutsAnswer kernel.old (Ok (Some (Tenant tenant (command_of request.entry)))) kernel.new room.old room.new result }
+    requires buffer { IsWide buffer.old }
+    ensures { PutsAnswer kernel.old (Ok (Some (Tenant tenant (command_of request.entry)))) kernel.new
+        buffer.old buffer.new result }
 {
     match kernel.ask(tenant, request) {
-        Some((t, answer)) => put_answer(t, answer, room),
-        None => put_no_tenant(room),
+        Some((t, answer)) => put_answer(t, answer, buffer),
+        None => put_no_tenant(buffer),
     }
 }
 
 /// [`answer_request`] for all others.
 #[inline(never)]
-fn answer_apart(tenant: u32, request: Request<'_>, kernel: &mut Kernel, room: &mut [u8]) -> usize
+fn answer_apart(tenant: u32, request: Request<'_>, kernel: &mut Kernel, buffer: &mut [u8]) -> usize
     requires askable { IsAskable request }
-    requires room { IsWide room.old }
-    ensures { PutsAnswer kernel.old (Ok (Some (Tenant tenant (command_of request.entry)))) kernel.new room.old room.new result }
+    requires buffer { IsWide buffer.old }
+    ensures { PutsAnswer kernel.old (Ok (Some (Tenant tenant (command_of request.entry)))) kernel.new
+        buffer.old buffer.new result }
 {
     match kernel.ask(tenant, request) {
-        Some((t, answer)) => put_answer(t, answer, room),
-        None => put_no_tenant(room),
+        Some((t, answer)) => put_answer(t, answer, buffer),
+        None => put_no_tenant(buffer),
     }
 }
 
-/// Writes what a tenant is answered over the first bytes of `room`, and answers how many they are; so do the others.
+/// Writes what a tenant is answered over the first bytes of `buffer`, and answers how many they are; so do the others.
 #[inline(always)]
-fn put_answer(tenant: u8, answer: Answer<'_>, room: &mut [u8]) -> usize
+fn put_answer(tenant: u8, answer: Answer<'_>, buffer: &mut [u8]) -> usize
     requires few { HasFewBytes answer }
-    requires room { IsWide room.old }
-    ensures { IsTextWritten (text_of (reply_of_answer tenant answer.entry)) room.old room.new result }
+    requires buffer { IsWide buffer.old }
+    ensures { IsTextWritten (text_of (reply_of_answer tenant answer.entry)) buffer.old buffer.new result }
 {
     if answer.is_long() {
-        return put_long_answer(Addressee::Tenant(tenant), answer, room);
+        return put_long_answer(Addressee::Tenant(tenant), answer, buffer);
     }
     let mut text = [0; SHORT_ANSWER_BYTES];
     let len = write_answer(tenant, answer, &mut text);
-    put_short(&text[..len], room);
+    put_short(&text[..len], buffer);
     len
 }
 
-/// [`put_answer`] of a longer text, or to anyone; out of line, so that only it pays for its room.
+/// [`put_answer`] of a longer text, or to anyone; out of line, so that only it pays for its buffer.
 #[inline(never)]
-fn put_long_answer(addressee: Addressee, answer: Answer<'_>, room: &mut [u8]) -> usize
+fn put_long_answer(addressee: Addressee, answer: Answer<'_>, buffer: &mut [u8]) -> usize
     requires few { HasFewBytes answer }
-    requires room { IsWide room.old }
-    ensures { IsTextWritten (text_of (reply_to addressee answer.entry)) room.old room.new result }
+    requires buffer { IsWide buffer.old }
+    ensures { IsTextWritten (text_of (reply_to addressee answer.entry)) buffer.old buffer.new result }
 {
     let mut text = [0; MOST_ANSWER_BYTES];
     let len = write_answer_to(addressee, answer, &mut text);
-    put(&text[..len], room, 0);
+    put(&text[..len], buffer, 0);
     len
 }
 
 #[cold]
 #[inline(never)]
-fn put_no_tenant(room: &mut [u8]) -> usize
-    requires { IsWide room.old }
+fn put_no_tenant(buffer: &mut [u8]) -> usize
+    requires { IsWide buffer.old }
     ensures { IsTextWritten (text_of (record { addressee = Addressee.Nobody; body = Body.Refused NoTenant }))
-        room.old room.new result }
+        buffer.old buffer.new result }
 {
     let answer = Answer::Refused(Refusal::NoTenant);
-    put_long_answer(Addressee::Nobody, answer, room)
+    put_long_answer(Addressee::Nobody, answer, buffer)
 }
 
 /// Runs a line that was read so, and writes what it is answered.
 #[cold]
 #[inline(never)]
-fn answer(reading: Result<Option<Event>, LineFault>, kernel: &mut Kernel, room: &mut [u8]) -> usize
+fn answer(
+    reading: Result<Option<Event>, LineFault>,
+    kernel: &mut Kernel,
+    buffer: &mut [u8],
+) -> usize
     requires runnable { IsRunnable reading }
-    requires room { IsWide room.old }
-    ensures { PutsAnswer kernel.old reading kernel.new room.old room.new result }
+    requires buffer { IsWide buffer.old }
+    ensures { PutsAnswer kernel.old reading kernel.new buffer.old buffer.new result }
 {
     match reading {
         Ok(None) => 0,
         Ok(Some(Event::Tenant(tenant, command))) => match command.request() {
-            Some(request) => answer_apart(tenant, request, kernel, room),
-            None => put_report(tenant, kernel, room),
+            Some(request) => answer_apart(tenant, request, kernel, buffer),
+            None => put_report(tenant, kernel, buffer),
         },
-        Ok(Some(Event::Admin(command))) => administer(&command, kernel, room),
-        Err(fault) => put_fault(fault, room),
+        Ok(Some(Event::Admin(command))) => administer(&command, kernel, buffer),
+        Err(fault) => put_fault(fault, buffer),
     }
 }
 
-/// By itself, as all that takes room for a reply, which no other line pays for.
+/// By itself, as all that needs the memory of a reply, which no other line pays for.
 #[cold]
 #[inline(never)]
-fn put_report(tenant: u32, kernel: &Kernel, room: &mut [u8]) -> usize
-    requires { IsWide room.old }
-    ensures { PutsAnswer kernel.now (Ok (Some (Tenant tenant Report))) kernel.now room.old room.new result }
+fn put_report(tenant: u32, kernel: &Kernel, buffer: &mut [u8]) -> usize
+    requires { IsWide buffer.old }
+    ensures { PutsAnswer kernel.now (Ok (Some (Tenant tenant Report))) kernel.now buffer.old buffer.new result }
 {
-    put_reply(&kernel.report(tenant), room)
+    put_reply(&kernel.report(tenant), buffer)
 }
 
 #[cold]
 #[inline(never)]
-fn administer(command: &AdminCommand, kernel: &mut Kernel, room: &mut [u8]) -> usize
-    requires { IsWide room.old }
-    ensures { PutsAnswer kernel.old (Ok (Some (Admin command.now))) kernel.new room.old room.new result }
+fn administer(command: &AdminCommand, kernel: &mut Kernel, buffer: &mut [u8]) -> usize
+    requires { IsWide buffer.old }
+    ensures { PutsAnswer kernel.old (Ok (Some (Admin command.now))) kernel.new buffer.old buffer.new result }
 {
     match kernel.administer(command) {
-        Some(answer) => put_long_answer(Addressee::Admin, answer, room),
-        None => put_pool(kernel, room),
+        Some(answer) => put_long_answer(Addressee::Admin, answer, buffer),
+        None => put_pool(kernel, buffer),
     }
 }
 
 #[cold]
 #[inline(never)]
-fn put_pool(kernel: &Kernel, room: &mut [u8]) -> usize
-    requires { IsWide room.old }
-    ensures { PutsAnswer kernel.now (Ok (Some (Admin Pool))) kernel.now room.old room.new result }
+fn put_pool(kernel: &Kernel, buffer: &mut [u8]) -> usize
+    requires { IsWide buffer.old }
+    ensures { PutsAnswer kernel.now (Ok (Some (Admin Pool))) kernel.now buffer.old buffer.new result }
 {
-    put_reply(&kernel.pool(), room)
+    put_reply(&kernel.pool(), buffer)
 }
 
 #[cold]
 #[inline(never)]
-fn put_fault(fault: LineFault, room: &mut [u8]) -> usize
-    requires { IsWide room.old }
+fn put_fault(fault: LineFault, buffer: &mut [u8]) -> usize
+    requires { IsWide buffer.old }
     ensures { IsTextWritten (text_of (record { addressee = Addressee.Nobody; body = Body.Fault fault }))
-        room.old room.new result }
+        buffer.old buffer.new result }
 {
-    put_long_answer(Addressee::Nobody, Answer::Fault(fault), room)
+    put_long_answer(Addressee::Nobody, Answer::Fault(fault), buffer)
 }
 
 /// Writes the text of a reply, line by line.
-fn put_reply(reply: &Reply, room: &mut [u8]) -> usize
-    requires { IsWide room.old }
-    ensures { IsTextWritten (text_of reply.now) room.old room.new result }
+fn put_reply(reply: &Reply, buffer: &mut [u8]) -> usize
+    requires { IsWide buffer.old }
+    ensures { IsTextWritten (text_of reply.now) buffer.old buffer.new result }
 {
     let mut line = [0; MOST_REPLY_BYTES];
     let mut written = 0;
     for row in 0..rows(reply) {
         let len = write_row(reply, row, &mut line);
-        put(&line[..len], room, written);
+        put(&line[..len], buffer, written);
         written += len;
     }
     written
 }
 
-/// Puts bytes into the room, from number `at` on.
+/// Puts bytes into the buffer, from number `at` on.
 #[inline(always)]
-pub(crate) fn put(bytes: &[u8], room: &mut [u8], at: usize)
-    requires { at + length bytes.now ≤ length room.old }
-    ensures { room.new ≡ take at room.old ++ (bytes.now ++ drop (at + length bytes.now) room.old) }
+pub(crate) fn put(bytes: &[u8], buffer: &mut [u8], at: usize)
+    requires { at + length bytes.now ≤ length buffer.old }
+    ensures { buffer.new ≡ take at buffer.old ++ (bytes.now ++ drop (at + length bytes.now) buffer.old) }
 {
-    room[at..at + bytes.len()].copy_from_slice(bytes);
+    buffer[at..at + bytes.len()].copy_from_slice(bytes);
 }
 
-/// Puts bytes over the first of the room: from 8 to 32 of them by two copies of one size, which share what lies between, since a
-/// copy of a size that is not known is a call.
+/// Puts bytes over the first of the buffer: from 8 to 32 of them by two copies of one size, which share what lies between, since
+/// a copy of a size that is not known is a call.
 #[inline(always)]
-fn put_short(bytes: &[u8], room: &mut [u8])
-    requires { length bytes.now ≤ length room.old }
-    ensures { room.new ≡ bytes.now ++ drop (length bytes.now) room.old }
+fn put_short(bytes: &[u8], buffer: &mut [u8])
+    requires { length bytes.now ≤ length buffer.old }
+    ensures { buffer.new ≡ bytes.now ++ drop (length bytes.now) buffer.old }
 {
     match bytes.len() {
-        8..=16 => put_ends::<8>(bytes, room),
-        17..=32 => put_ends::<16>(bytes, room),
-        _ => put(bytes, room, 0),
+        8..=16 => put_ends::<8>(bytes, buffer),
+        17..=32 => put_ends::<16>(bytes, buffer),
+        _ => put(bytes, buffer, 0),
     }
 }
 
 /// Puts the first `N` bytes and the last `N` where they belong.
 #[inline(always)]
-fn put_ends<const N: usize>(bytes: &[u8], room: &mut [u8])
+fn put_ends<const N: usize>(bytes: &[u8], buffer: &mut [u8])
     requires long { N ≤ length bytes.now }
     requires short { length bytes.now ≤ 2 * N }
-    requires room { length bytes.now ≤ length room.old }
-    ensures { room.new ≡ bytes.now ++ drop (length bytes.now) room.old }
+    requires buffer { length bytes.now ≤ length buffer.old }
+    ensures { buffer.new ≡ bytes.now ++ drop (length bytes.now) buffer.old }
 {
     let rest = bytes.len() - N;
-    put(&bytes[..N], room, 0);
-    put(&bytes[rest..], room, rest);
+    put(&bytes[..N], buffer, 0);
+    put(&bytes[rest..], buffer, rest);
 }

@@ -1,6 +1,6 @@
 //! Who owns which superblock.
 
-ghost use Rattle.std.specs.Prelude.{◌≡◌, ◌≢◌, IfSome};
+ghost use Rattle.std.specs.Prelude.{◌≡◌, ◌≢◌, IfSome, None};
 ghost use Rattle.space_core.specs.Content.{owner_at};
 ghost use Rattle.partmem_c.specs.Owners.{owner_numbers, owner_status, owner_told};
 
@@ -9,18 +9,26 @@ use crate::status::{DONE, NO_MACHINE, NO_SUPERBLOCK};
 use kernel_core::Kernel;
 use std::alloc::Global;
 
-/// Whether a superblock has an owner, and which slot of which tenant it stands under; both are 0 where it has none.
+/// The owner of a superblock: a slot of a tenant. All is 0 if the superblock has no owner, and `is_owned` is 1 if it has one.
 #[repr(C)]
 #[derive(Clone, Copy)]
 pub struct Owner {
-    pub is_owned: bool,
+    pub is_owned: u32,
     pub tenant: u32,
     pub slot: u32,
 }
 
-/// Tells the owner of a superblock, of those numbered from 0.
+const NO_OWNER: Owner = Owner {
+    is_owned: 0,
+    tenant: 0,
+    slot: 0,
+};
+
+/// Finds the owner of a superblock.
+///
+/// Returns `NO_MACHINE` or `NO_SUPERBLOCK`.
 #[unsafe(no_mangle)]
-pub extern "C" fn partmem_owner(
+pub extern "C" fn partmem_find_superblock(
     alloc: Global,
     machine: &mut Machine,
     superblock: u32,
@@ -29,19 +37,20 @@ pub extern "C" fn partmem_owner(
     ensures status { result ≡ owner_status machine.old.slot.held superblock }
     ensures done { result ≡ DONE
         → IfSome machine.old.slot.held (λ k. owner.new ≡ owner_numbers (owner_at k.space.owners superblock)) }
-    ensures not_done { result ≢ DONE → owner.new ≡ owner.old }
+    ensures not_done { result ≢ DONE → owner.new ≡ owner_numbers None }
     ensures kept { machine.new.slot.held ≡ machine.old.slot.held }
 {
+    *owner = NO_OWNER;
     if !machine.is_booted() {
         return NO_MACHINE;
     }
     let kernel = machine.take_out(alloc);
-    let told = owner_told(&kernel, superblock);
+    let found = owner_told(&kernel, superblock);
     machine.put_in(kernel);
-    let Some(told) = told else {
+    let Some(found) = found else {
         return NO_SUPERBLOCK;
     };
-    *owner = told;
+    *owner = found;
     DONE
 }
 
@@ -53,13 +62,9 @@ fn owner_told(kernel: &Kernel, superblock: u32) -> Option<Owner>
         return None;
     }
     Some(match space.owner_of(superblock as u16) {
-        None => Owner {
-            is_owned: false,
-            tenant: 0,
-            slot: 0,
-        },
+        None => NO_OWNER,
         Some(owner) => Owner {
-            is_owned: true,
+            is_owned: 1,
             tenant: u32::from(owner.tenant),
             slot: u32::from(owner.slot),
         },

@@ -1,28 +1,29 @@
-//! What an export answers.
+//! The status that a function for C returns. The refusals have their numbers of the trace format, 1 to 15; errors of the caller
+//! follow from 32 on.
 
 /// The call was done.
 pub const DONE: u32 = 0;
 
-/// The place holds no machine: none was booted there, or it has ended.
-pub const NO_MACHINE: u32 = 1;
+/// The place holds no machine: it was not booted, or it has ended.
+pub const NO_MACHINE: u32 = 32;
 
 /// The place holds a machine already, which stays.
-pub const HAS_MACHINE: u32 = 2;
+pub const HAS_MACHINE: u32 = 33;
 
-/// A size of the machine is out of its range.
-pub const BAD_SIZES: u32 = 3;
+/// A number of the configuration is out of its range.
+pub const BAD_CONFIG: u32 = 34;
 
 /// An allocation was refused.
-pub const NO_MEMORY: u32 = 4;
-
-/// The room is smaller than the call asks for, whatever it would be answered.
-pub const NO_ROOM: u32 = 5;
-
-/// There is a line feed among the bytes of a line.
-pub const NOT_A_LINE: u32 = 6;
+pub const NO_MEMORY: u32 = 36;
 
 /// The machine has no superblock of that number.
-pub const NO_SUPERBLOCK: u32 = 7;
+pub const NO_SUPERBLOCK: u32 = 37;
+
+/// There is a line feed among the bytes of a line.
+pub const NOT_A_LINE: u32 = 39;
 
 /// The kind is no event's, or the bytes are too few or too many for it.
-pub const NOT_AN_EVENT: u32 = 8;
+pub const NOT_AN_EVENT: u32 = 40;
+
+/// The buffer is smaller than the function requires.
+pub const BUFFER_TOO_SMALL: u32 = 41;

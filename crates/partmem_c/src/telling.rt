@@ -2,7 +2,7 @@
 
 ghost use Rattle.std.specs.Prelude.{◌≡◌, ◌≤◌, length};
 ghost use Rattle.words_core.specs.Requests.{body_of_answer, HasFewBytes};
-ghost use Rattle.partmem_c.specs.Events.{told_of, answered_bytes, told_of_numbers, top_number};
+ghost use Rattle.partmem_c.specs.Events.{numbers_of_body, answered_bytes, reply_numbers, top_number};
 
 use crate::kinds::{
     BYTES, DESTROYED, FIGURES, FRAME, FREED, GIVEN, GRANTED, MADE, MOVED, NOTHING, OBJECT, OWNERS,
@@ -14,7 +14,7 @@ use words_core::{Answer, Body};
 /// What an event is answered, as numbers in the order that [`crate::kinds`] says of each kind; all others are 0.
 #[repr(C)]
 #[derive(Clone, Copy)]
-pub struct Told {
+pub struct ReplyNumbers {
     pub kind: u32,
     pub first: u32,
     pub second: u32,
@@ -24,12 +24,12 @@ pub struct Told {
 }
 
 /// A reply as numbers.
-pub fn told_of(body: &Body) -> Told
-    ensures { result ≡ told_of body.now }
+pub fn numbers_of_body(body: &Body) -> ReplyNumbers
+    ensures { result ≡ numbers_of_body body.now }
 {
     match body {
         Body::Owners(owners) => one(OWNERS, owners.len() as u32),
-        Body::Report(report) => Told {
+        Body::Report(report) => ReplyNumbers {
             kind: FIGURES,
             first: report.frames,
             second: report.live,
@@ -37,15 +37,15 @@ pub fn told_of(body: &Body) -> Told
             fourth: top_number(report.top),
             fifth: report.split,
         },
-        _ => told_of_answer(body.answer().unwrap()),
+        _ => numbers_of_answer(body.answer().unwrap()),
     }
 }
 
 /// An answer as numbers.
 #[inline(always)]
-pub fn told_of_answer(answer: Answer<'_>) -> Told
+pub fn numbers_of_answer(answer: Answer<'_>) -> ReplyNumbers
     requires { HasFewBytes answer }
-    ensures { result ≡ told_of (body_of_answer answer.entry) }
+    ensures { result ≡ numbers_of_body (body_of_answer answer.entry) }
 {
     match answer {
         Answer::Frame(frame) => one(FRAME, frame),
@@ -58,7 +58,7 @@ pub fn told_of_answer(answer: Answer<'_>) -> Told
             order,
             objects,
             colours,
-        } => Told {
+        } => ReplyNumbers {
             kind: MADE,
             first: u32::from(cache),
             second: chunk,
@@ -101,17 +101,17 @@ pub fn told_of_answer(answer: Answer<'_>) -> Told
 }
 
 #[inline(always)]
-fn one(kind: u32, first: u32) -> Told
-    ensures { result ≡ told_of_numbers kind first 0 0 0 0 }
+fn one(kind: u32, first: u32) -> ReplyNumbers
+    ensures { result ≡ reply_numbers kind first 0 0 0 0 }
 {
     three(kind, first, 0, 0)
 }
 
 #[inline(always)]
-fn three(kind: u32, first: u32, second: u32, third: u32) -> Told
-    ensures { result ≡ told_of_numbers kind first second third 0 0 }
+fn three(kind: u32, first: u32, second: u32, third: u32) -> ReplyNumbers
+    ensures { result ≡ reply_numbers kind first second third 0 0 }
 {
-    Told {
+    ReplyNumbers {
         kind,
         first,
         second,
@@ -132,7 +132,7 @@ fn top_number(top: Option<u8>) -> u32
 
 /// The bytes that an answer tells.
 #[inline(always)]
-pub fn bytes_of(answer: Answer<'_>) -> &[u8]
+pub fn bytes_in_reply(answer: Answer<'_>) -> &[u8]
     requires { HasFewBytes answer }
     ensures value { result.now ≡ answered_bytes (body_of_answer answer.entry) }
     ensures few { length result.now ≤ MOST_BYTES }

@@ -14,6 +14,6 @@ returns c =
         marks = said.marks;
         spare = said.spare;
       };
-      numbers_told = c.told_of.ensures;
+      are = c.numbers_of_body.ensures;
       over = search rules;
     }

@@ -10,7 +10,7 @@ loop-row-preserved c =
     let len = c.write_row-len.result in
     let line = take len c.write_row-len.new.out in
     let counted : length line ≡ len = length-take-le len c.write_row-len.new.out (omega (arith, c.write_row-len.ensures.short, c.write_row-len.auto.out)) in (
-      written_more (text_of c.args.reply.now) _ line _ c.args.room.now c.loop-row.room c.put.new.room _ _ c.loop-row.invariant.0
+      written_more (text_of c.args.reply.now) _ line _ c.args.buffer.now c.loop-row.buffer c.put.new.buffer _ _ c.loop-row.invariant.0
           (row_next (lines_of c.args.reply.now) c.loop-row.row _ c.write_row-len.ensures.text)
           c.put.ensures (ap (λ n. c.loop-row.written + n) (sym counted)),
       omega (arith, c.loop-row.invariant.1, c.write_row-len.ensures.short),

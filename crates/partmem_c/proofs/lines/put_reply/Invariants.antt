@@ -6,4 +6,4 @@ use Rattle.partmem_c.proofs.lines.put_reply.Given as goal
 
 abbrev pub invariant-loop-row : goal.invariant-loop-row
 invariant-loop-row l =
-    IsPart (text_of l.reply) (concat (drop l.row (lines_of l.reply))) l.fn.room l.room l.written × (l.written ≤ 256 * l.row)
+    IsPart (text_of l.reply) (concat (drop l.row (lines_of l.reply))) l.fn.buffer l.buffer l.written × (l.written ≤ 256 * l.row)

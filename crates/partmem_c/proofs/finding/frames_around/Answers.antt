@@ -1,0 +1,10 @@
+use Rattle.std.proofs.Common.{◌<◌, length, ap, arith}
+use Rattle.partmem_c.proofs.finding.frames_around.Goals as goal
+
+pub returns-in-Some-clause-order : goal.returns-in-Some-clause-order
+returns-in-Some-clause-order c =
+    let laws = c.laws.ensures in
+    let same = ap (λ b. length b.tenants) c.buddy-buddy.ensures in
+    let here : c.args.t < length c.buddy-buddy.result.now.tenants = omega (arith, c.requires, same, c.parts_agree.ensures.holdings) in
+    let placed = (laws.sound c.args.t here).placed c.in-Some.first c.in-Some.order c.in-Some.ensures.0 in
+    omega (arith, c.from.ensures, placed.0.0, laws.sizes.small)

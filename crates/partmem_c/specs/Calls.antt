@@ -1,0 +1,121 @@
+-- Direct calls: each is an event, and what it returns follows from the numbers of the reply.
+use Rattle.std.specs.Prelude.{◌≡◌, ◌<◌, ℕ, ◌+◌, ◌-◌, ◌*◌, ◌/◌, ◌%◌, ◌^◌, ◌==◌, nat_le, min, ◌&&◌, Bool, if◌then◌else◌, List, [], ◌++◌, length, take, drop, replicate, Option, Some, None, is_some}
+use Rattle.model_core.specs.declared.limits.TheConstants.{FRAME_BYTES, MOST_ORDER, MOST_BYTES}
+use Rattle.words_core.specs.declared.event.Event.{Event}
+use Rattle.words_core.specs.declared.event.Event.TheVariants.{Tenant}
+use Rattle.words_core.specs.declared.event.Command.TheVariants.{Free}
+use Rattle.words_core.specs.declared.reply.Addressee.TheVariants as To
+use Rattle.words_core.specs.declared.reply.Body.TheVariants.{Refused}
+use Rattle.words_core.specs.declared.reply.Refusal.TheVariants.{NotABlock}
+use Rattle.words_core.specs.declared.reply.Reply.{Reply}
+use Rattle.kernel_core.specs.Content.{KernelContent}
+use Rattle.kernel_core.specs.Shows.{Shows}
+use Rattle.kernel_core.specs.Steps.{Steps}
+use Rattle.kernel_core.specs.Stores.{IsKernel}
+use Rattle.world_core.specs.Limits.{cache_limit}
+use Rattle.world_core.specs.World.{World, world_step}
+use Rattle.partmem_c.specs.declared.status.TheConstants.{DONE, NO_MACHINE, NOT_AN_EVENT}
+use Rattle.partmem_c.specs.declared.kinds.TheConstants.{REFUSED, MADE, REAPED}
+use Rattle.partmem_c.specs.declared.telling.ReplyNumbers.{ReplyNumbers}
+use Rattle.partmem_c.specs.declared.granting.HeldSlot.{HeldSlot}
+use Rattle.partmem_c.specs.declared.pages.TheConstants.{NO_FRAME}
+use Rattle.partmem_c.specs.declared.objects.MadeCache.{MadeCache}
+use Rattle.partmem_c.specs.Events.{numbers_of_body, answered_bytes}
+
+-- the event was a step of the kernel that was held, with this reply
+pub record IsRun (old : Option KernelContent) (event : Event) (new : Option KernelContent) (reply : Reply) : Type 0 where
+  pub before : KernelContent
+  pub after : KernelContent
+  pub was : old ≡ Some before
+  pub is : new ≡ Some after
+  pub steps : Steps before event after reply
+
+-- The reply to the event of a call. Without a machine there is none, and nothing changes.
+abbrev pub Replies : Option KernelContent → Event → Option KernelContent → Option Reply → Type 0
+Replies old event new None = (old ≡ None) × (new ≡ None)
+Replies old event new (Some reply) = IsRun old event new reply
+
+-- The call is this event, and `Returns` holds of what it returns with this reply.
+pub record RunsCall (old : Option KernelContent) (event : Event) (new : Option KernelContent) (Returns : Option Reply → Type 0)
+    : Type 0 where
+  pub reply : Option Reply
+  pub replies : Replies old event new reply
+  pub returns : Returns reply
+
+-- the numbers of the reply
+abbrev pub numbers_in_reply : Option Reply → Option ReplyNumbers
+numbers_in_reply None = None
+numbers_in_reply (Some reply) = Some (numbers_of_body reply.body)
+
+-- the bytes of the reply
+abbrev pub bytes_in_reply : Option Reply → List ℕ
+bytes_in_reply None = []
+bytes_in_reply (Some reply) = answered_bytes reply.body
+
+-- what is passed is no event of the call, and nothing changes
+abbrev pub IsNoEvent : Option KernelContent → Option KernelContent → ℕ → Type 0
+IsNoEvent old new status = (new ≡ old) × (status ≡ (if is_some old then NOT_AN_EVENT else NO_MACHINE))
+
+-- the status of a call with this reply
+abbrev pub call_status : Option ReplyNumbers → ℕ
+call_status None = NO_MACHINE
+call_status (Some numbers) = if numbers.kind == REFUSED then numbers.first else DONE
+
+-- The results of calls: all zeroes if there is no machine, or if the command is refused.
+
+abbrev pub returned_slot : ℕ → Option ReplyNumbers → HeldSlot
+returned_slot kind None = record { slot = 0; superblock = 0 }
+returned_slot kind (Some numbers) =
+    if numbers.kind == kind then record { slot = numbers.second; superblock = numbers.third }
+    else record { slot = 0; superblock = 0 }
+
+-- the bytes of a block of this order, which is at most a superblock's
+abbrev pub block_bytes : ℕ → ℕ
+block_bytes order = FRAME_BYTES * 2 ^ min order MOST_ORDER
+
+abbrev pub made_cache : Option ReplyNumbers → MadeCache
+made_cache None = record { cache = 0; chunk = 0; slab_bytes = 0; objects = 0; colours = 0 }
+made_cache (Some numbers) =
+    if numbers.kind == MADE then record {
+      cache = numbers.first;
+      chunk = numbers.second;
+      slab_bytes = block_bytes numbers.third;
+      objects = numbers.fourth;
+      colours = numbers.fifth;
+    }
+    else record { cache = 0; chunk = 0; slab_bytes = 0; objects = 0; colours = 0 }
+
+abbrev pub reaped_frames : Option ReplyNumbers → ℕ
+reaped_frames None = 0
+reaped_frames (Some numbers) = if numbers.kind == REAPED then numbers.first else 0
+
+-- so many zeroes, with the bytes over the first of them, as far as there are places
+abbrev pub filled : ℕ → List ℕ → List ℕ
+filled len bytes = take (min (length bytes) len) bytes ++ drop (min (length bytes) len) (replicate len 0)
+
+-- the event was a step of the kernel, and these are the numbers of its reply, and its bytes over so many places
+pub record ReadsInto (old : KernelContent) (event : Event) (new : KernelContent) (numbers : ReplyNumbers) (len : ℕ) (to : List ℕ)
+    : Type 0 where
+  pub reply : Reply
+  pub steps : Steps old event new reply
+  pub are : numbers ≡ numbers_of_body reply.body
+  pub fills : to ≡ filled len (answered_bytes reply.body)
+
+-- how many bytes a read of so many asks for
+abbrev pub read_length : ℕ → ℕ
+read_length len = min len (2 ^ 32 - 1)
+
+-- a write has 1 to 64 bytes
+abbrev pub is_writable : List ℕ → Bool
+is_writable bytes = nat_le 1 (length bytes) && nat_le (length bytes) MOST_BYTES
+
+-- The frame that begins at a place. If none does, it is a number above those of all frames.
+abbrev pub frame_at_place : ℕ → ℕ
+frame_at_place place = place / FRAME_BYTES + place % FRAME_BYTES * NO_FRAME
+
+-- A free at a place at which no frame begins is refused: no page block begins there.
+abbrev pub OffsetsAreRefused : Type 0
+OffsetsAreRefused = (k : KernelContent) (w : World) (t place : ℕ) →
+    IsKernel k → Shows k w → t < k.tenants → 0 < place % FRAME_BYTES →
+    (world_step cache_limit k.order (Tenant t (Free (frame_at_place place))) w).reply
+    ≡ record { addressee = To.Tenant t; body = Refused NotABlock }

@@ -1,0 +1,70 @@
+-- A report as figures.
+use Rattle.std.specs.Prelude.{ℕ, List, ◌++◌, length, map, drop, replicate, Option, Some, None}
+use Rattle.model_core.specs.declared.report.OrderRow.{OrderRow}
+use Rattle.model_core.specs.declared.report.CacheRow.{CacheRow}
+use Rattle.words_core.specs.declared.report.Report as words
+use Rattle.words_core.specs.declared.report.TheConstants.{ORDERS, CACHES}
+use Rattle.words_core.specs.declared.reply.Body.{Body}
+use Rattle.words_core.specs.declared.reply.Body.TheVariants.{Report}
+use Rattle.words_core.specs.declared.reply.Reply.{Reply}
+use Rattle.partmem_c.specs.Calls.{block_bytes}
+use Rattle.partmem_c.specs.declared.figures.OrderFigures.{OrderFigures}
+use Rattle.partmem_c.specs.declared.figures.CacheFigures.{CacheFigures}
+use Rattle.partmem_c.specs.declared.figures.Figures.{Figures}
+
+abbrev pub order_figures : OrderRow → OrderFigures
+order_figures row = record { free = row.free; taken = row.taken }
+
+abbrev pub cache_figures : CacheRow → CacheFigures
+cache_figures row = record { cache = row.cache; full = row.full; partial = row.partial; empty = row.empty; live = row.live }
+
+abbrev pub no_order : OrderFigures
+no_order = record { free = 0; taken = 0 }
+
+abbrev pub no_cache : CacheFigures
+no_cache = record { cache = 0; full = 0; partial = 0; empty = 0; live = 0 }
+
+abbrev pub no_figures : Figures
+no_figures = record {
+  frames = 0;
+  live = 0;
+  free = 0;
+  greatest = 0;
+  split = 0;
+  orders = 0;
+  caches = 0;
+  order = replicate ORDERS no_order;
+  cache = replicate CACHES no_cache;
+}
+
+-- the bytes of a greatest free block, 0 if there is none
+abbrev pub greatest_bytes : Option ℕ → ℕ
+greatest_bytes None = 0
+greatest_bytes (Some order) = block_bytes order
+
+-- the rows, and behind them what was there
+abbrev pub over : {A : Type 0} → List A → List A → List A
+over rows before = rows ++ drop (length rows) before
+
+-- a report, its rows filled up with zeroes
+abbrev pub figures_of_report : words.Report → Figures
+figures_of_report report = record {
+  frames = report.frames;
+  live = report.live;
+  free = report.free;
+  greatest = greatest_bytes report.top;
+  split = report.split;
+  orders = length report.orders.items;
+  caches = length report.caches.items;
+  order = over (map order_figures report.orders.items) (replicate ORDERS no_order);
+  cache = over (map cache_figures report.caches.items) (replicate CACHES no_cache);
+}
+
+abbrev pub figures_of_body : Body → Figures
+figures_of_body (Report report) = figures_of_report report
+figures_of_body other = no_figures
+
+-- the figures of the reply to a report, all zeroes if there is none
+abbrev pub reported_figures : Option Reply → Figures
+reported_figures None = no_figures
+reported_figures (Some reply) = figures_of_body reply.body

@@ -1,0 +1,79 @@
+-- What lies under a slot, and at a place.
+use Rattle.std.specs.Prelude.{◌≡◌, ℕ, ◌*◌, ◌/◌, ◌^◌, ◌<◌, ◌≤◌, nat_lt, if◌then◌else◌, Option, Some, None, Result, Ok, Err, MatchOption, unwrap_or}
+use Rattle.model_core.specs.declared.limits.TheConstants.{FRAME_BYTES}
+use Rattle.model_core.specs.Blocks.{block, HasFrame, IsTaken}
+use Rattle.model_core.specs.Machine.{Machine}
+use Rattle.buddy_core.specs.Content.{holding_of, taken_of}
+use Rattle.words_core.specs.declared.reply.Refusal.{Refusal}
+use Rattle.words_core.specs.declared.reply.Refusal.TheVariants.{NoTenant, NoSlot}
+use Rattle.words_core.specs.Texts.{number_of_refusal}
+use Rattle.kernel_core.specs.Content.{KernelContent, superblock_at}
+use Rattle.kernel_core.specs.Shows.{ShowsMachine}
+use Rattle.kernel_core.specs.Frames.{IsFrame}
+use Rattle.kernel_core.specs.declared.frames.FrameKind.{FrameKind}
+use Rattle.kernel_core.specs.declared.frames.FrameKind.TheVariants.{NotHeld, Free, Page, Full, Partial, Empty}
+use Rattle.partmem_c.specs.declared.status.TheConstants.{DONE, NO_MACHINE}
+use Rattle.partmem_c.specs.declared.finding.TheConstants.{NO_SUCH_SLOT, FREE_FRAME, PAGE_BLOCK, SLAB}
+use Rattle.partmem_c.specs.declared.finding.Block.{Block}
+use Rattle.partmem_c.specs.declared.granting.HeldSlot.{HeldSlot}
+
+-- what a lookup found is returned with DONE; a refusal as its status, with nothing found
+abbrev pub Returns : {A : Type 0} → A → Result A Refusal → ℕ → A → Type 0
+Returns nothing (Ok there) status found = (status ≡ DONE) × (found ≡ there)
+Returns nothing (Err refusal) status found = (status ≡ number_of_refusal refusal) × (found ≡ nothing)
+
+-- The call returns what `Finds` says of the kernel that is held. Without a machine nothing is found.
+abbrev pub LooksUp : {A : Type 0} → A → Option KernelContent → (KernelContent → Result A Refusal → Type 0) → ℕ → A → Type 0
+LooksUp nothing None Finds status found = (status ≡ NO_MACHINE) × (found ≡ nothing)
+LooksUp {A} nothing (Some k) Finds status found =
+    (outcome : Result A Refusal) × Finds k outcome × Returns nothing outcome status found
+
+abbrev pub no_slot : HeldSlot
+no_slot = record { slot = 0; superblock = 0 }
+
+abbrev pub slot_over : ℕ → Option ℕ → Result HeldSlot Refusal
+slot_over slot None = Err NoSlot
+slot_over slot (Some superblock) = Ok (record { slot = slot; superblock = superblock })
+
+-- the superblock under a slot of a tenant, or why there is none
+abbrev pub slot_at : KernelContent → ℕ → ℕ → Result HeldSlot Refusal
+slot_at k t slot = if nat_lt t k.tenants then slot_over slot (superblock_at k t slot) else Err NoTenant
+
+abbrev pub no_block : Block
+no_block = record { usage = NO_SUCH_SLOT; place = 0; bytes = 0 }
+
+abbrev pub use_of : FrameKind → ℕ
+use_of NotHeld = NO_SUCH_SLOT
+use_of Free = FREE_FRAME
+use_of Page = PAGE_BLOCK
+use_of Full = SLAB
+use_of Partial = SLAB
+use_of Empty = SLAB
+
+-- the first frame and the order of what has a frame that is not taken: of the slot if it is not held, else of the frame alone
+abbrev pub untaken : FrameKind → ℕ → ℕ → ℕ × ℕ
+untaken NotHeld frame order = (frame / 2 ^ order * 2 ^ order, order)
+untaken other frame order = (frame, 0)
+
+-- These are the first frame and the order of the taken block that has a frame. If none has it, `untaken` says them.
+pub record AreAround (k : KernelContent) (t frame : ℕ) (kind : FrameKind) (around : ℕ × ℕ) : Type 0 where
+  pub taken : Option (ℕ × ℕ)
+  pub block : MatchOption taken (IsTaken (taken_of (holding_of t k.buddy)) frame → ⊥)
+      (λ b. (taken_of (holding_of t k.buddy) b.0 ≡ Some b.1) × HasFrame (block b.0 b.1) frame)
+  pub is : around ≡ unwrap_or taken (untaken kind frame k.order)
+
+-- a frame of a tenant is of this kind in its private machine, and these are the place and the bytes of what it lies in
+pub record IsBlockAt (k : KernelContent) (t frame : ℕ) (found : Block) : Type 0 where
+  pub kind : FrameKind
+  pub is : (m : Machine) → ShowsMachine k t m → IsFrame k.order m frame kind
+  pub uses : found.usage ≡ use_of kind
+  pub first : ℕ
+  pub order : ℕ
+  pub around : AreAround k t frame kind (first, order)
+  pub begins : found.place ≡ first * FRAME_BYTES
+  pub counted : found.bytes ≡ FRAME_BYTES * 2 ^ order
+
+-- what a tenant's place lies in, or that there is no such tenant
+abbrev pub FindsBlock : KernelContent → ℕ → ℕ → Result Block Refusal → Type 0
+FindsBlock k t place (Ok found) = (t < k.tenants) × IsBlockAt k t (place / FRAME_BYTES) found
+FindsBlock k t place (Err refusal) = (k.tenants ≤ t) × (refusal ≡ NoTenant)

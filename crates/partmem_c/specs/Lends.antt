@@ -1,0 +1,95 @@
+-- Lends as direct calls.
+use Rattle.std.specs.Prelude.{◌≡◌, ◌≢◌, ℕ, ◌*◌, ◌/◌, ◌^◌, ◌<◌, ◌==◌, Bool, true, false, Option, Some, None, Result, Ok, Err, IfOk}
+use denote.RawPtr.{null_ptr}
+use Rattle.model_core.specs.declared.limits.TheConstants.{FRAME_BYTES}
+use Rattle.model_core.specs.Blocks.{IsTaken}
+use Rattle.model_core.specs.CacheOperations.{give_step}
+use Rattle.model_core.specs.Machine.{Machine, order_in}
+use Rattle.model_core.specs.Reach.{in_reach}
+use Rattle.machine_changes.specs.Pages.{IsInReach}
+use Rattle.slab_core.specs.Lending.{HasObject}
+use Rattle.words_core.specs.declared.event.Command.TheVariants.{Alloc, Take}
+use Rattle.words_core.specs.declared.event.Event.TheVariants.{Tenant}
+use Rattle.words_core.specs.declared.reply.Body.TheVariants.{Frame, Object, Refused}
+use Rattle.words_core.specs.declared.reply.Refusal.{Refusal}
+use Rattle.words_core.specs.declared.reply.Reply.{Reply}
+use Rattle.words_core.specs.declared.reply.Refusal.TheVariants.{OutOfReach}
+use Rattle.world_core.specs.PrivateStep.{give_body}
+use Rattle.kernel_core.specs.Content.{KernelContent}
+use Rattle.kernel_core.specs.Shows.{ShowsMachine}
+use Rattle.kernel_core.specs.Steps.{Steps, body_of}
+use Rattle.kernel_core.specs.Lending.{HasBlock, IsNotLent, reply_for}
+use Rattle.partmem_c.specs.declared.kinds.TheConstants.{FRAME, OBJECT}
+use Rattle.partmem_c.specs.declared.lends.Lent.{Lent}
+use Rattle.partmem_c.specs.declared.telling.ReplyNumbers.{ReplyNumbers}
+
+abbrev pub no_lent : Lent
+no_lent = record { at = null_ptr; place = 0; bytes = 0 }
+
+-- these are the place and the number of the bytes lent, and their address is not null
+pub record IsLentAt (place bytes : ℕ) (lent : Lent) : Type 0 where
+  pub begins : lent.place ≡ place
+  pub counted : lent.bytes ≡ bytes
+  pub somewhere : lent.at ≢ null_ptr
+
+-- Lookups of bytes to lend: in each, the tenant's, or why nothing is lent.
+
+-- so many bytes from a place on, inside one live page block or one live object
+abbrev pub FindsRange : KernelContent → ℕ → ℕ → ℕ → Result Lent Refusal → Type 0
+FindsRange k t place len (Ok lent) = (t < k.tenants) × IsInReach k.space k.buddy k.slabs t place len × IsLentAt place len lent
+FindsRange k t place len (Err refusal) =
+    IsNotLent k t (λ why. (why ≡ OutOfReach) × ((m : Machine) → ShowsMachine k t m → in_reach m place len ≡ false)) refusal
+
+-- the whole live page block in which a place lies
+abbrev pub FindsWholeBlock : KernelContent → ℕ → ℕ → Result Lent Refusal → Type 0
+FindsWholeBlock k t place (Ok lent) = (t < k.tenants)
+    × ((m : Machine) → ShowsMachine k t m → HasBlock m place lent.place lent.bytes) × IsLentAt lent.place lent.bytes lent
+FindsWholeBlock k t place (Err refusal) =
+    IsNotLent k t (λ why. (why ≡ OutOfReach)
+    × ((m : Machine) → ShowsMachine k t m → IsTaken (order_in m.blocks) (place / FRAME_BYTES) → ⊥)) refusal
+
+-- the live object of a cache that begins at a place
+abbrev pub FindsObject : KernelContent → ℕ → ℕ → ℕ → Result Lent Refusal → Type 0
+FindsObject k t cache place (Ok lent) = (t < k.tenants)
+    × ((m : Machine) → ShowsMachine k t m → HasObject m cache place lent.bytes) × IsLentAt place lent.bytes lent
+FindsObject k t cache place (Err refusal) =
+    IsNotLent k t (λ why. (m : Machine) → ShowsMachine k t m → give_body (give_step cache place m).answer ≡ Refused why) refusal
+
+-- Commands that lend what they take: the reply follows from the outcome.
+
+abbrev pub alloc_reply : KernelContent → ℕ → Result Lent Refusal → Reply
+alloc_reply k t outcome = reply_for k t (body_of (λ lent. Frame (lent.place / FRAME_BYTES)) outcome)
+
+-- the step of an alloc, and the block is lent
+pub record AllocLends (old : KernelContent) (t order : ℕ) (new : KernelContent) (outcome : Result Lent Refusal) : Type 0 where
+  pub steps : Steps old (Tenant t (Alloc order)) new (alloc_reply old t outcome)
+  pub block : IfOk outcome (λ lent. IsLentAt (FRAME_BYTES * (lent.place / FRAME_BYTES)) (FRAME_BYTES * 2 ^ order) lent)
+
+abbrev pub take_reply : KernelContent → ℕ → Result Lent Refusal → Reply
+take_reply k t outcome = reply_for k t (body_of (λ lent. Object lent.place) outcome)
+
+-- what is lent, if something is, are the bytes of a live object of the cache
+abbrev pub IsObjectOf : KernelContent → ℕ → ℕ → Lent → Type 0
+IsObjectOf k t cache lent = lent.at ≢ null_ptr → (m : Machine) → ShowsMachine k t m → HasObject m cache lent.place lent.bytes
+
+-- the step of a take, and the object is lent
+pub record TakeLends (old : KernelContent) (t cache : ℕ) (new : KernelContent) (outcome : Result Lent Refusal) : Type 0 where
+  pub steps : Steps old (Tenant t (Take cache)) new (take_reply old t outcome)
+  pub lent : IfOk outcome (λ lent. IsLentAt lent.place lent.bytes lent)
+  pub object : IfOk outcome (IsObjectOf new t cache)
+
+-- so many bytes at a place are lent, or nothing is
+abbrev pub IsLentIf : Bool → ℕ → ℕ → Lent → Type 0
+IsLentIf true place bytes lent = IsLentAt place bytes lent
+IsLentIf false place bytes lent = lent ≡ no_lent
+
+-- what an alloc returns by the numbers of its reply: the block that it says, if it is one
+abbrev pub IsBlockLent : ℕ → Option ReplyNumbers → Lent → Type 0
+IsBlockLent order None lent = lent ≡ no_lent
+IsBlockLent order (Some numbers) lent =
+    IsLentIf (numbers.kind == FRAME) (FRAME_BYTES * numbers.first) (FRAME_BYTES * 2 ^ order) lent
+
+-- what a take returns: the object that it says, if it is one
+abbrev pub IsObjectLent : Option ReplyNumbers → Lent → Type 0
+IsObjectLent None lent = lent ≡ no_lent
+IsObjectLent (Some numbers) lent = IsLentIf (numbers.kind == OBJECT) numbers.first lent.bytes lent

@@ -1,0 +1,76 @@
+//! What the direct calls share: each runs the event of its command, and returns the status of the reply.
+
+ghost use Rattle.std.specs.Prelude.{◌≡◌, ◌≢◌, false};
+ghost use Rattle.words_core.specs.Requests.{command_of, IsAskable, asks_bytes};
+ghost use Rattle.words_core.specs.declared.event.Event.TheVariants.{Tenant, Admin};
+ghost use Rattle.words_core.specs.declared.event.AdminCommand.TheVariants.{Pool};
+ghost use Rattle.partmem_c.specs.Calls.{RunsCall, numbers_in_reply, call_status, block_bytes};
+
+use crate::events::run;
+use crate::kinds::REFUSED;
+use crate::machine::Machine;
+use crate::status::{DONE, NO_MACHINE};
+use crate::telling::{ReplyNumbers, numbers_of_answer};
+use model_core::limits::{FRAME_BYTES, MOST_ORDER};
+use std::alloc::Global;
+use words_core::{AdminCommand, Request};
+
+/// Runs a command of a tenant that reads no bytes, and returns the numbers of its reply; None, if no machine is held.
+#[inline(always)]
+pub(crate) fn run_command(
+    alloc: Global,
+    machine: &mut Machine,
+    tenant: u32,
+    request: Request<'_>,
+) -> Option<ReplyNumbers>
+    requires askable { IsAskable request }
+    requires apart { asks_bytes request ≡ false }
+    ensures { RunsCall machine.old.slot.held (Tenant tenant (command_of request.entry)) machine.new.slot.held
+        (λ reply. result ≡ numbers_in_reply reply) }
+{
+    if !machine.is_booted() {
+        return None;
+    }
+    let mut kernel = machine.take_out(alloc);
+    let numbers = run(&mut kernel, tenant, request);
+    machine.put_in(kernel);
+    Some(numbers)
+}
+
+/// Runs a command of the administrator but for `pool`, and returns the numbers of its reply; None, if no machine is held.
+pub(crate) fn run_admin_command(
+    alloc: Global,
+    machine: &mut Machine,
+    command: AdminCommand,
+) -> Option<ReplyNumbers>
+    requires { command ≢ Pool }
+    ensures { RunsCall machine.old.slot.held (Admin command) machine.new.slot.held (λ reply. result ≡ numbers_in_reply reply) }
+{
+    if !machine.is_booted() {
+        return None;
+    }
+    let mut kernel = machine.take_out(alloc);
+    let numbers = numbers_of_answer(kernel.administer(&command).unwrap());
+    machine.put_in(kernel);
+    Some(numbers)
+}
+
+/// The status of a call with this reply: that of the refusal, if it is one.
+#[inline(always)]
+pub(crate) fn call_status(reply: Option<ReplyNumbers>) -> u32
+    ensures { result ≡ call_status reply }
+{
+    match reply {
+        None => NO_MACHINE,
+        Some(numbers) if numbers.kind == REFUSED => numbers.first,
+        Some(_) => DONE,
+    }
+}
+
+/// How many bytes a block of this order has, which is at most a superblock's.
+#[inline(always)]
+pub(crate) fn block_bytes(order: u32) -> u32
+    ensures { result ≡ block_bytes order }
+{
+    FRAME_BYTES << order.min(u32::from(MOST_ORDER))
+}

@@ -1,0 +1,162 @@
+//! The report of a tenant, as one struct.
+
+ghost use Rattle.std.specs.Prelude.{◌≡◌, ◌≤◌, length, map};
+ghost use Rattle.words_core.specs.declared.event.Event.TheVariants.{Tenant};
+ghost use Rattle.words_core.specs.declared.event.Command.TheVariants as Command;
+ghost use Rattle.partmem_c.specs.Calls.{RunsCall, numbers_in_reply, call_status};
+ghost use Rattle.partmem_c.specs.Figures.{order_figures, cache_figures, no_figures, over};
+ghost use Rattle.partmem_c.specs.Figures.{reported_figures, figures_of_body, figures_of_report};
+
+use crate::calls::{block_bytes, call_status};
+use crate::machine::Machine;
+use crate::status::NO_MACHINE;
+use crate::telling::numbers_of_body;
+use model_core::report::{CacheRow, OrderRow};
+use std::alloc::Global;
+use words_core::{Body, CACHES, ORDERS, Report};
+
+/// The blocks of one order: how many are free, and how many are taken.
+#[repr(C)]
+#[derive(Clone, Copy)]
+pub struct OrderFigures {
+    pub free: u32,
+    pub taken: u32,
+}
+
+/// A cache: its number, its slabs of each kind, and its live objects.
+#[repr(C)]
+#[derive(Clone, Copy)]
+pub struct CacheFigures {
+    pub cache: u32,
+    pub full: u32,
+    pub partial: u32,
+    pub empty: u32,
+    pub live: u32,
+}
+
+/// The figures of a tenant's memory. The rows behind those that `orders` and `caches` count are zeroes.
+#[repr(C)]
+#[derive(Clone, Copy)]
+pub struct Figures {
+    /// How many frames the tenant's slots have.
+    pub frames: u32,
+    /// How many of them lie in page blocks and slabs.
+    pub live: u32,
+    /// How many of them are free.
+    pub free: u32,
+    /// How many bytes a largest free block has; 0 if no frame is free.
+    pub greatest: u32,
+    /// The share of the free frames that lie outside one largest free block, in thousandths.
+    pub split: u32,
+    /// How many rows `order` has, from order 0 on.
+    pub orders: u32,
+    /// How many rows `cache` has, by rising number.
+    pub caches: u32,
+    pub order: [OrderFigures; ORDERS],
+    pub cache: [CacheFigures; CACHES],
+}
+
+impl Figures {
+    /// Figures that are all zeroes.
+    pub fn zeroes() -> Figures
+        ensures { result ≡ no_figures }
+    {
+        Figures {
+            frames: 0,
+            live: 0,
+            free: 0,
+            greatest: 0,
+            split: 0,
+            orders: 0,
+            caches: 0,
+            order: [OrderFigures { free: 0, taken: 0 }; ORDERS],
+            cache: [CacheFigures {
+                cache: 0,
+                full: 0,
+                partial: 0,
+                empty: 0,
+                live: 0,
+            }; CACHES],
+        }
+    }
+}
+
+/// Reports the figures of a tenant's memory.
+///
+/// Returns `NO_MACHINE` or `NO_TENANT`.
+#[unsafe(no_mangle)]
+pub extern "C" fn partmem_report(
+    alloc: Global,
+    machine: &mut Machine,
+    tenant: u32,
+    figures: &mut Figures,
+) -> u32
+    ensures { RunsCall machine.old.slot.held (Tenant tenant Command.Report) machine.new.slot.held
+        (λ reply. (result ≡ call_status (numbers_in_reply reply)) × (figures.new ≡ reported_figures reply)) }
+{
+    *figures = Figures::zeroes();
+    if !machine.is_booted() {
+        return NO_MACHINE;
+    }
+    let kernel = machine.take_out(alloc);
+    let reply = kernel.report(tenant);
+    machine.put_in(kernel);
+    put_body(&reply.body, figures);
+    call_status(Some(numbers_of_body(&reply.body)))
+}
+
+/// Puts the report that a reply is, if it is one, over figures that are all zeroes.
+fn put_body(body: &Body, figures: &mut Figures)
+    requires { figures.old ≡ no_figures }
+    ensures { figures.new ≡ figures_of_body body.now }
+{
+    if let Body::Report(report) = body {
+        put_report(report, figures);
+    }
+}
+
+/// Puts a report over figures that are all zeroes.
+fn put_report(report: &Report, figures: &mut Figures)
+    requires { figures.old ≡ no_figures }
+    ensures { figures.new ≡ figures_of_report report.now }
+{
+    figures.frames = report.frames;
+    figures.live = report.live;
+    figures.free = report.free;
+    figures.greatest = match report.top {
+        None => 0,
+        Some(order) => block_bytes(u32::from(order)),
+    };
+    figures.split = report.split;
+    figures.orders = report.orders.len() as u32;
+    figures.caches = report.caches.len() as u32;
+    put_orders(report.orders.as_slice(), &mut figures.order);
+    put_caches(report.caches.as_slice(), &mut figures.cache);
+}
+
+fn put_orders(rows: &[OrderRow], to: &mut [OrderFigures])
+    requires { length rows.now ≤ length to.old }
+    ensures { to.new ≡ over (map order_figures rows.now) to.old }
+{
+    for at in 0..rows.len() {
+        to[at] = OrderFigures {
+            free: rows[at].free,
+            taken: rows[at].taken,
+        };
+    }
+}
+
+fn put_caches(rows: &[CacheRow], to: &mut [CacheFigures])
+    requires { length rows.now ≤ length to.old }
+    ensures { to.new ≡ over (map cache_figures rows.now) to.old }
+{
+    for at in 0..rows.len() {
+        to[at] = CacheFigures {
+            cache: u32::from(rows[at].cache),
+            full: rows[at].full,
+            partial: rows[at].partial,
+            empty: rows[at].empty,
+            live: rows[at].live,
+        };
+    }
+}

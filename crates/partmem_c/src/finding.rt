@@ -1,0 +1,185 @@
+//! What lies under a slot, and at a place.
+
+ghost use Rattle.std.specs.Prelude.{◌≡◌, ◌/◌, ◌^◌, ◌<◌, ◌≤◌};
+ghost use Rattle.model_core.specs.declared.limits.TheConstants.{FRAME_BYTES, MOST_ORDER};
+ghost use Rattle.partmem_c.specs.Finding.{LooksUp, Returns, slot_at, no_slot, FindsBlock, no_block};
+ghost use Rattle.partmem_c.specs.Finding.{use_of, untaken, AreAround, IsBlockAt};
+
+use crate::calls::block_bytes;
+use crate::granting::HeldSlot;
+use crate::machine::Machine;
+use crate::status::{DONE, NO_MACHINE};
+use kernel_core::{FrameKind, Kernel};
+use model_core::limits::FRAME_BYTES;
+use std::alloc::Global;
+use words_core::Refusal;
+
+/// The tenant does not hold the slot of the place.
+pub const NO_SUCH_SLOT: u32 = 0;
+/// The frame of the place is free.
+pub const FREE_FRAME: u32 = 1;
+/// The place lies in a page block.
+pub const PAGE_BLOCK: u32 = 2;
+/// The place lies in a slab.
+pub const SLAB: u32 = 3;
+
+/// What a place lies in: how it is used, the place of its first byte, and how many bytes it has.
+#[repr(C)]
+#[derive(Clone, Copy)]
+pub struct Block {
+    pub usage: u32,
+    pub place: u32,
+    pub bytes: u32,
+}
+
+const NO_SLOT: HeldSlot = HeldSlot {
+    slot: 0,
+    superblock: 0,
+};
+
+const NO_BLOCK: Block = Block {
+    usage: NO_SUCH_SLOT,
+    place: 0,
+    bytes: 0,
+};
+
+/// Finds the superblock under a slot of a tenant.
+///
+/// Returns `NO_MACHINE`, `NO_TENANT` or `NO_SLOT`.
+#[unsafe(no_mangle)]
+pub extern "C" fn partmem_find_slot(
+    alloc: Global,
+    machine: &mut Machine,
+    tenant: u32,
+    slot: u32,
+    found: &mut HeldSlot,
+) -> u32
+    ensures finds { LooksUp no_slot machine.old.slot.held (λ k outcome. outcome ≡ slot_at k tenant slot) result found.new }
+    ensures kept { machine.new.slot.held ≡ machine.old.slot.held }
+{
+    *found = NO_SLOT;
+    if !machine.is_booted() {
+        return NO_MACHINE;
+    }
+    let kernel = machine.take_out(alloc);
+    let outcome = slot_at(&kernel, tenant, slot);
+    machine.put_in(kernel);
+    put(outcome, found)
+}
+
+fn slot_at(kernel: &Kernel, tenant: u32, slot: u32) -> Result<HeldSlot, Refusal>
+    ensures { result ≡ slot_at kernel.now tenant slot }
+{
+    let Some(t) = kernel.tenant(tenant) else {
+        return Err(Refusal::NoTenant);
+    };
+    let Some(superblock) = kernel.superblock_of(t, slot) else {
+        return Err(Refusal::NoSlot);
+    };
+    Ok(HeldSlot {
+        slot,
+        superblock: u32::from(superblock),
+    })
+}
+
+/// Finds the page block, slab or free frame of a tenant in which a place lies, or the slot if the tenant does not hold it.
+///
+/// Returns `NO_MACHINE` or `NO_TENANT`.
+#[unsafe(no_mangle)]
+pub extern "C" fn partmem_find_block(
+    alloc: Global,
+    machine: &mut Machine,
+    tenant: u32,
+    place: u32,
+    found: &mut Block,
+) -> u32
+    ensures finds { LooksUp no_block machine.old.slot.held (λ k outcome. FindsBlock k tenant place outcome) result found.new }
+    ensures kept { machine.new.slot.held ≡ machine.old.slot.held }
+{
+    *found = NO_BLOCK;
+    if !machine.is_booted() {
+        return NO_MACHINE;
+    }
+    let kernel = machine.take_out(alloc);
+    let outcome = block_at(&kernel, tenant, place);
+    machine.put_in(kernel);
+    put(outcome, found)
+}
+
+fn block_at(kernel: &Kernel, tenant: u32, place: u32) -> Result<Block, Refusal>
+    ensures { FindsBlock kernel.now tenant place result }
+{
+    let t = kernel.tenant(tenant).ok_or(Refusal::NoTenant)?;
+    Ok(block_around(kernel, t, place / FRAME_BYTES))
+}
+
+/// What a frame of a tenant that there is lies in.
+fn block_around(kernel: &Kernel, t: u8, frame: u32) -> Block
+    requires tenant { t < kernel.now.tenants }
+    requires frame { frame < 2 ^ 20 }
+    ensures { IsBlockAt kernel.now t frame result }
+{
+    let kind = kernel.frame_at(t, frame);
+    let (first, order) = frames_around(kernel, t, frame, kind);
+    Block {
+        usage: use_of(kind),
+        place: first * FRAME_BYTES,
+        bytes: block_bytes(order),
+    }
+}
+
+/// The first frame and the order of the taken block that has a frame of this kind. If none has it, those of the frame alone, or
+/// of the slot that is not held.
+fn frames_around(kernel: &Kernel, t: u8, frame: u32, kind: FrameKind) -> (u32, u32)
+    requires { t < kernel.now.tenants }
+    ensures around { AreAround kernel.now t frame kind result }
+    ensures first { result.0 ≤ frame }
+    ensures order { result.1 ≤ MOST_ORDER }
+{
+    kernel.parts_agree();
+    let buddy = kernel.buddy();
+    buddy.laws();
+    match buddy.block_of(t, frame) {
+        Some((first, order)) => (first, u32::from(order)),
+        None => untaken(kind, frame, kernel.order()),
+    }
+}
+
+/// The first frame and the order of the slot of a frame if it is not held, or else of the frame alone.
+fn untaken(kind: FrameKind, frame: u32, order: u32) -> (u32, u32)
+    requires { order ≤ MOST_ORDER }
+    ensures value { result ≡ untaken kind frame order }
+    ensures first { result.0 ≤ frame }
+    ensures order { result.1 ≤ MOST_ORDER }
+{
+    match kind {
+        FrameKind::NotHeld => (frame >> order << order, order),
+        _ => (frame, 0),
+    }
+}
+
+/// How a frame of this kind is used.
+fn use_of(kind: FrameKind) -> u32
+    ensures { result ≡ use_of kind }
+{
+    match kind {
+        FrameKind::NotHeld => NO_SUCH_SLOT,
+        FrameKind::Free => FREE_FRAME,
+        FrameKind::Page => PAGE_BLOCK,
+        FrameKind::Full | FrameKind::Partial | FrameKind::Empty => SLAB,
+    }
+}
+
+/// Puts what was found over `to`, which stays if the lookup is refused, and returns the status.
+#[inline(always)]
+pub(crate) fn put<T: Drop>(outcome: Result<T, Refusal>, to: &mut T) -> u32
+    ensures { Returns to.old outcome result to.new }
+{
+    match outcome {
+        Ok(found) => {
+            *to = found;
+            DONE
+        }
+        Err(refusal) => u32::from(refusal.number()),
+    }
+}

@@ -1,0 +1,101 @@
+//! The administrator's commands as direct calls: superblocks granted to tenants, moved, and taken back.
+
+ghost use Rattle.std.specs.Prelude.{◌≡◌, ℕ};
+ghost use Rattle.words_core.specs.declared.event.Event.TheVariants.{Admin};
+ghost use Rattle.words_core.specs.declared.event.AdminCommand.TheVariants.{Grant, TakeBack, Reset, Move};
+ghost use Rattle.partmem_c.specs.Calls.{RunsCall, numbers_in_reply, call_status, returned_slot};
+
+use crate::calls::{call_status, run_admin_command};
+use crate::kinds::{GRANTED, MOVED};
+use crate::machine::Machine;
+use crate::telling::ReplyNumbers;
+use std::alloc::Global;
+use words_core::AdminCommand;
+
+/// A slot of a tenant, and the superblock under it.
+#[repr(C)]
+#[derive(Clone, Copy)]
+pub struct HeldSlot {
+    pub slot: u32,
+    pub superblock: u32,
+}
+
+/// Grants the tenant the superblock of the lowest number that has no owner, under the lowest slot that it does not hold.
+///
+/// Returns `NO_MACHINE`, `NO_TENANT` or `POOL_EMPTY`.
+#[unsafe(no_mangle)]
+pub extern "C" fn partmem_grant(
+    alloc: Global,
+    machine: &mut Machine,
+    tenant: u32,
+    granted: &mut HeldSlot,
+) -> u32
+    ensures { RunsCall machine.old.slot.held (Admin (Grant tenant)) machine.new.slot.held
+        (λ reply. (result ≡ call_status (numbers_in_reply reply)) × (granted.new ≡ returned_slot GRANTED (numbers_in_reply reply))) }
+{
+    let reply = run_admin_command(alloc, machine, AdminCommand::Grant { tenant });
+    *granted = returned_slot(GRANTED, reply);
+    call_status(reply)
+}
+
+/// Takes back the superblock under a slot of which no frame is taken, by a page block or a slab.
+///
+/// Returns `NO_MACHINE`, `NO_TENANT`, `NO_SLOT` or `SLOT_BUSY`.
+#[unsafe(no_mangle)]
+pub extern "C" fn partmem_take_back(
+    alloc: Global,
+    machine: &mut Machine,
+    tenant: u32,
+    slot: u32,
+) -> u32
+    ensures { RunsCall machine.old.slot.held (Admin (TakeBack tenant slot)) machine.new.slot.held
+        (λ reply. result ≡ call_status (numbers_in_reply reply)) }
+{
+    call_status(run_admin_command(alloc, machine, AdminCommand::TakeBack { tenant, slot }))
+}
+
+/// Replaces the superblock under a slot by the one of the lowest number that has no owner, which gets all its bytes.
+///
+/// Returns `NO_MACHINE`, `NO_TENANT`, `NO_SLOT` or `POOL_EMPTY`.
+#[unsafe(no_mangle)]
+pub extern "C" fn partmem_move(
+    alloc: Global,
+    machine: &mut Machine,
+    tenant: u32,
+    slot: u32,
+    moved: &mut HeldSlot,
+) -> u32
+    ensures { RunsCall machine.old.slot.held (Admin (Move tenant slot)) machine.new.slot.held
+        (λ reply. (result ≡ call_status (numbers_in_reply reply)) × (moved.new ≡ returned_slot MOVED (numbers_in_reply reply))) }
+{
+    let reply = run_admin_command(alloc, machine, AdminCommand::Move { tenant, slot });
+    *moved = returned_slot(MOVED, reply);
+    call_status(reply)
+}
+
+/// Takes all that the tenant has: its page blocks, caches and slots.
+///
+/// Returns `NO_MACHINE` or `NO_TENANT`.
+#[unsafe(no_mangle)]
+pub extern "C" fn partmem_reset(alloc: Global, machine: &mut Machine, tenant: u32) -> u32
+    ensures { RunsCall machine.old.slot.held (Admin (Reset tenant)) machine.new.slot.held
+        (λ reply. result ≡ call_status (numbers_in_reply reply)) }
+{
+    call_status(run_admin_command(alloc, machine, AdminCommand::Reset { tenant }))
+}
+
+/// The slot and superblock that a reply of this kind has.
+fn returned_slot(kind: u32, reply: Option<ReplyNumbers>) -> HeldSlot
+    ensures { result ≡ returned_slot kind reply }
+{
+    match reply {
+        Some(numbers) if numbers.kind == kind => HeldSlot {
+            slot: numbers.second,
+            superblock: numbers.third,
+        },
+        _ => HeldSlot {
+            slot: 0,
+            superblock: 0,
+        },
+    }
+}

@@ -1,0 +1,154 @@
+//! Bytes lent where they lie, by their addresses. A lend changes nothing, and is no event.
+
+ghost use Rattle.std.specs.Prelude.{◌≡◌};
+ghost use Rattle.kernel_core.specs.Lending.{IsLive};
+ghost use Rattle.partmem_c.specs.Finding.{LooksUp};
+ghost use Rattle.partmem_c.specs.Lends.{no_lent, IsLentAt, FindsRange, FindsWholeBlock, FindsObject};
+
+use crate::finding::put;
+use crate::machine::Machine;
+use crate::status::NO_MACHINE;
+use kernel_core::{Kernel, Span};
+use std::alloc::Global;
+use std::ptr::{from_mut, null_mut};
+use words_core::Refusal;
+
+/// Bytes that are lent: the address and the place of the first, and how many there are. All is zero if nothing is lent.
+#[repr(C)]
+#[derive(Clone, Copy)]
+pub struct Lent {
+    pub at: *mut u8,
+    pub place: u32,
+    pub bytes: u32,
+}
+
+impl Lent {
+    /// No bytes.
+    #[inline(always)]
+    pub fn none() -> Lent
+        ensures { result ≡ no_lent }
+    {
+        Lent {
+            at: null_mut(),
+            place: 0,
+            bytes: 0,
+        }
+    }
+}
+
+/// Lends the bytes of a span.
+#[inline(always)]
+pub(crate) fn lent_of(kernel: &mut Kernel, span: Span) -> Lent
+    requires { IsLive kernel.old span }
+    ensures lent { IsLentAt span.place span.bytes result }
+    ensures kept { kernel.new ≡ kernel.old }
+{
+    let bytes = kernel.lend(span);
+    Lent {
+        at: from_mut(&mut bytes[0]),
+        place: span.place,
+        bytes: span.bytes,
+    }
+}
+
+/// Lends bytes that lie inside one live page block or one live object: one or more, from `place` on.
+///
+/// Returns `NO_MACHINE`, `NO_TENANT` or `OUT_OF_REACH`.
+#[unsafe(no_mangle)]
+pub extern "C" fn partmem_lend(
+    alloc: Global,
+    machine: &mut Machine,
+    tenant: u32,
+    place: u32,
+    bytes: u32,
+    lent: &mut Lent,
+) -> u32
+    ensures lends { LooksUp no_lent machine.old.slot.held (λ k outcome. FindsRange k tenant place bytes outcome) result lent.new }
+    ensures kept { machine.new.slot.held ≡ machine.old.slot.held }
+{
+    *lent = Lent::none();
+    if !machine.is_booted() {
+        return NO_MACHINE;
+    }
+    let mut kernel = machine.take_out(alloc);
+    let outcome = lend(&mut kernel, tenant, place, bytes);
+    machine.put_in(kernel);
+    put(outcome, lent)
+}
+
+#[inline(always)]
+fn lend(kernel: &mut Kernel, tenant: u32, place: u32, bytes: u32) -> Result<Lent, Refusal>
+    ensures finds { FindsRange kernel.old tenant place bytes result }
+    ensures kept { kernel.new ≡ kernel.old }
+{
+    let span = kernel.span(tenant, place, bytes)?;
+    Ok(lent_of(kernel, span))
+}
+
+/// Lends the whole live page block in which a place lies.
+///
+/// Returns `NO_MACHINE`, `NO_TENANT` or `OUT_OF_REACH`.
+#[unsafe(no_mangle)]
+pub extern "C" fn partmem_lend_block(
+    alloc: Global,
+    machine: &mut Machine,
+    tenant: u32,
+    place: u32,
+    block: &mut Lent,
+) -> u32
+    ensures lends { LooksUp no_lent machine.old.slot.held (λ k outcome. FindsWholeBlock k tenant place outcome) result block.new }
+    ensures kept { machine.new.slot.held ≡ machine.old.slot.held }
+{
+    *block = Lent::none();
+    if !machine.is_booted() {
+        return NO_MACHINE;
+    }
+    let mut kernel = machine.take_out(alloc);
+    let outcome = lend_block(&mut kernel, tenant, place);
+    machine.put_in(kernel);
+    put(outcome, block)
+}
+
+#[inline(always)]
+fn lend_block(kernel: &mut Kernel, tenant: u32, place: u32) -> Result<Lent, Refusal>
+    ensures finds { FindsWholeBlock kernel.old tenant place result }
+    ensures kept { kernel.new ≡ kernel.old }
+{
+    let span = kernel.block_span(tenant, place)?;
+    Ok(lent_of(kernel, span))
+}
+
+/// Lends the live object of a cache that begins at a place.
+///
+/// Returns `NO_MACHINE`, `NO_TENANT`, `NO_CACHE` or `NOT_AN_OBJECT`.
+#[unsafe(no_mangle)]
+pub extern "C" fn partmem_lend_object(
+    alloc: Global,
+    machine: &mut Machine,
+    tenant: u32,
+    cache: u32,
+    place: u32,
+    object: &mut Lent,
+) -> u32
+    ensures lends { LooksUp no_lent machine.old.slot.held (λ k outcome. FindsObject k tenant cache place outcome)
+        result object.new }
+    ensures kept { machine.new.slot.held ≡ machine.old.slot.held }
+{
+    *object = Lent::none();
+    if !machine.is_booted() {
+        return NO_MACHINE;
+    }
+    let mut kernel = machine.take_out(alloc);
+    let outcome = lend_object(&mut kernel, tenant, cache, place);
+    machine.put_in(kernel);
+    put(outcome, object)
+}
+
+#[inline(always)]
+fn lend_object(kernel: &mut Kernel, tenant: u32, cache: u32, place: u32) -> Result<Lent, Refusal>
+    ensures finds { FindsObject kernel.old tenant cache place result }
+    ensures kept { kernel.new ≡ kernel.old }
+{
+    let span = kernel.object_span(tenant, cache, place)?;
+    Ok(lent_of(kernel, span))
+}

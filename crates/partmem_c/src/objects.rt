@@ -1,0 +1,184 @@
+//! The commands of caches and objects as direct calls.
+
+ghost use Rattle.std.specs.Prelude.{◌≡◌, true, false, None, IfSome};
+ghost use Rattle.model_core.specs.Layouts.{is_pattern};
+ghost use Rattle.words_core.specs.declared.event.Event.TheVariants.{Tenant};
+ghost use Rattle.words_core.specs.declared.event.Command.TheVariants.{Cache, Destroy, Take, Give, Reap};
+ghost use Rattle.partmem_c.specs.Calls.{RunsCall, IsNoEvent, numbers_in_reply, call_status, made_cache, reaped_frames};
+ghost use Rattle.partmem_c.specs.Lends.{IsObjectLent, IsObjectOf, TakeLends};
+
+use crate::calls::{block_bytes, call_status, run_command};
+use crate::events::status_of_none;
+use crate::finding::put;
+use crate::kinds::{MADE, REAPED};
+use crate::lends::{Lent, lent_of};
+use crate::machine::Machine;
+use crate::status::NO_MACHINE;
+use crate::telling::ReplyNumbers;
+use kernel_core::Kernel;
+use model_core::limits::MOST_PATTERN;
+use std::alloc::Global;
+use words_core::{Refusal, Request};
+
+/// A new cache: its number, the bytes from one object to the next, the bytes of a slab, and the objects and colours of a slab.
+#[repr(C)]
+#[derive(Clone, Copy)]
+pub struct MadeCache {
+    pub cache: u32,
+    pub chunk: u32,
+    pub slab_bytes: u32,
+    pub objects: u32,
+    pub colours: u32,
+}
+
+const NO_CACHE: MadeCache = MadeCache {
+    cache: 0,
+    chunk: 0,
+    slab_bytes: 0,
+    objects: 0,
+    colours: 0,
+};
+
+/// Makes a cache of objects of `size` bytes at multiples of `align`. The pattern, 1 to 16 bytes, fills each object of a new slab.
+///
+/// Returns `NO_MACHINE`, `NOT_AN_EVENT` if the pattern has 0 bytes or more than 16, `NO_TENANT`, `BAD_SIZE`, `BAD_ALIGN` or
+/// `NO_CACHE_SLOT`.
+#[unsafe(no_mangle)]
+pub extern "C" fn partmem_make_cache(
+    alloc: Global,
+    machine: &mut Machine,
+    tenant: u32,
+    size: u32,
+    align: u32,
+    pattern: &[u8],
+    made: &mut MadeCache,
+) -> u32
+    ensures made { is_pattern pattern.now ≡ true
+        → RunsCall machine.old.slot.held (Tenant tenant (Cache size align (record { items = pattern.now }))) machine.new.slot.held
+        (λ reply. (result ≡ call_status (numbers_in_reply reply)) × (made.new ≡ made_cache (numbers_in_reply reply))) }
+    ensures bad_pattern { is_pattern pattern.now ≡ false
+        → IsNoEvent machine.old.slot.held machine.new.slot.held result × (made.new ≡ made_cache None) }
+{
+    if !(1..=MOST_PATTERN).contains(&pattern.len()) {
+        *made = NO_CACHE;
+        return status_of_none(machine);
+    }
+    let request = Request::Cache {
+        size,
+        align,
+        pattern,
+    };
+    let reply = run_command(alloc, machine, tenant, request);
+    *made = made_cache(reply);
+    call_status(reply)
+}
+
+/// Destroys a cache without live objects, and gives back its slabs.
+///
+/// Returns `NO_MACHINE`, `NO_TENANT`, `NO_CACHE` or `CACHE_IN_USE`.
+#[unsafe(no_mangle)]
+pub extern "C" fn partmem_destroy_cache(
+    alloc: Global,
+    machine: &mut Machine,
+    tenant: u32,
+    cache: u32,
+) -> u32
+    ensures { RunsCall machine.old.slot.held (Tenant tenant (Destroy cache)) machine.new.slot.held
+        (λ reply. result ≡ call_status (numbers_in_reply reply)) }
+{
+    call_status(run_command(alloc, machine, tenant, Request::Destroy { cache }))
+}
+
+/// Takes an object of a cache, and lends it.
+///
+/// Returns `NO_MACHINE`, `NO_TENANT`, `NO_CACHE` or `NO_FRAMES`.
+#[unsafe(no_mangle)]
+pub extern "C" fn partmem_take(
+    alloc: Global,
+    machine: &mut Machine,
+    tenant: u32,
+    cache: u32,
+    object: &mut Lent,
+) -> u32
+    ensures runs { RunsCall machine.old.slot.held (Tenant tenant (Take cache)) machine.new.slot.held
+        (λ reply. (result ≡ call_status (numbers_in_reply reply)) × IsObjectLent (numbers_in_reply reply) object.new) }
+    ensures object { IfSome machine.new.slot.held (λ k. IsObjectOf k tenant cache object.new) }
+{
+    *object = Lent::none();
+    if !machine.is_booted() {
+        return NO_MACHINE;
+    }
+    let mut kernel = machine.take_out(alloc);
+    let outcome = take_object(&mut kernel, tenant, cache);
+    machine.put_in(kernel);
+    put(outcome, object)
+}
+
+#[inline(always)]
+fn take_object(kernel: &mut Kernel, tenant: u32, cache: u32) -> Result<Lent, Refusal>
+    ensures { TakeLends kernel.old tenant cache kernel.new result }
+{
+    let span = kernel.take_span(tenant, cache)?;
+    Ok(lent_of(kernel, span))
+}
+
+/// Gives back the object of the cache that begins at a place.
+///
+/// Returns `NO_MACHINE`, `NO_TENANT`, `NO_CACHE` or `NOT_AN_OBJECT`.
+#[unsafe(no_mangle)]
+pub extern "C" fn partmem_give(
+    alloc: Global,
+    machine: &mut Machine,
+    tenant: u32,
+    cache: u32,
+    place: u32,
+) -> u32
+    ensures { RunsCall machine.old.slot.held (Tenant tenant (Give cache place)) machine.new.slot.held
+        (λ reply. result ≡ call_status (numbers_in_reply reply)) }
+{
+    call_status(run_command(alloc, machine, tenant, Request::Give { cache, place }))
+}
+
+/// Gives back the empty slabs of all caches of the tenant, and returns how many frames they had.
+///
+/// Returns `NO_MACHINE` or `NO_TENANT`.
+#[unsafe(no_mangle)]
+pub extern "C" fn partmem_reap(
+    alloc: Global,
+    machine: &mut Machine,
+    tenant: u32,
+    frames: &mut u32,
+) -> u32
+    ensures { RunsCall machine.old.slot.held (Tenant tenant Reap) machine.new.slot.held
+        (λ reply. (result ≡ call_status (numbers_in_reply reply)) × (frames.new ≡ reaped_frames (numbers_in_reply reply))) }
+{
+    let reply = run_command(alloc, machine, tenant, Request::Reap);
+    *frames = reaped_frames(reply);
+    call_status(reply)
+}
+
+/// The cache that a reply tells.
+fn made_cache(reply: Option<ReplyNumbers>) -> MadeCache
+    ensures { result ≡ made_cache reply }
+{
+    match reply {
+        Some(numbers) if numbers.kind == MADE => MadeCache {
+            cache: numbers.first,
+            chunk: numbers.second,
+            slab_bytes: block_bytes(numbers.third),
+            objects: numbers.fourth,
+            colours: numbers.fifth,
+        },
+        _ => NO_CACHE,
+    }
+}
+
+/// How many frames a reply says that were given back.
+fn reaped_frames(reply: Option<ReplyNumbers>) -> u32
+    ensures { result ≡ reaped_frames reply }
+{
+    match reply {
+        Some(numbers) if numbers.kind == REAPED => numbers.first,
+        _ => 0,
+    }
+}

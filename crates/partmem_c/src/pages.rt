@@ -1,0 +1,72 @@
+//! The commands of page blocks as direct calls.
+
+ghost use Rattle.std.specs.Prelude.{◌≡◌, ℕ};
+ghost use Rattle.words_core.specs.declared.event.Event.TheVariants.{Tenant};
+ghost use Rattle.words_core.specs.declared.event.Command.TheVariants.{Alloc, Free};
+ghost use Rattle.partmem_c.specs.Calls.{RunsCall, numbers_in_reply, call_status, frame_at_place};
+ghost use Rattle.partmem_c.specs.Lends.{IsBlockLent, AllocLends};
+
+use crate::calls::{call_status, run_command};
+use crate::finding::put;
+use crate::lends::{Lent, lent_of};
+use crate::machine::Machine;
+use crate::status::NO_MACHINE;
+use kernel_core::Kernel;
+use model_core::limits::FRAME_BYTES;
+use std::alloc::Global;
+use words_core::{Refusal, Request};
+
+/// No machine has a frame of this number, or of a larger one.
+const NO_FRAME: u32 = 1 << 20;
+
+/// Allocates a page block of `2^order` frames, and lends it.
+///
+/// Returns `NO_MACHINE`, `NO_TENANT`, `BAD_ORDER` or `NO_FRAMES`.
+#[unsafe(no_mangle)]
+pub extern "C" fn partmem_alloc(
+    alloc: Global,
+    machine: &mut Machine,
+    tenant: u32,
+    order: u32,
+    block: &mut Lent,
+) -> u32
+    ensures { RunsCall machine.old.slot.held (Tenant tenant (Alloc order)) machine.new.slot.held
+        (λ reply. (result ≡ call_status (numbers_in_reply reply)) × IsBlockLent order (numbers_in_reply reply) block.new) }
+{
+    *block = Lent::none();
+    if !machine.is_booted() {
+        return NO_MACHINE;
+    }
+    let mut kernel = machine.take_out(alloc);
+    let outcome = alloc_block(&mut kernel, tenant, order);
+    machine.put_in(kernel);
+    put(outcome, block)
+}
+
+#[inline(always)]
+fn alloc_block(kernel: &mut Kernel, tenant: u32, order: u32) -> Result<Lent, Refusal>
+    ensures { AllocLends kernel.old tenant order kernel.new result }
+{
+    let span = kernel.alloc_span(tenant, order)?;
+    Ok(lent_of(kernel, span))
+}
+
+/// Frees the page block that begins at a place.
+///
+/// Returns `NO_MACHINE`, `NO_TENANT` or `NOT_A_BLOCK`.
+#[unsafe(no_mangle)]
+pub extern "C" fn partmem_free(alloc: Global, machine: &mut Machine, tenant: u32, place: u32) -> u32
+    ensures { RunsCall machine.old.slot.held (Tenant tenant (Free (frame_at_place place))) machine.new.slot.held
+        (λ reply. result ≡ call_status (numbers_in_reply reply)) }
+{
+    let frame = frame_at_place(place);
+    call_status(run_command(alloc, machine, tenant, Request::Free { frame }))
+}
+
+/// The frame that begins at a place. If none does, it is a number above those of all frames.
+#[inline(always)]
+fn frame_at_place(place: u32) -> u32
+    ensures { result ≡ frame_at_place place }
+{
+    place / FRAME_BYTES + place % FRAME_BYTES * NO_FRAME
+}
