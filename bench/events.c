@@ -1,13 +1,14 @@
-/* Runs one kind of event again and again by the static library, for bench/run --events and --first-write.
+/* Runs one command again and again by the static library, for bench/run --events and --first-write.
  *
- *     events COMMAND ROUNDS [ORDER]
+ *     events event|call COMMAND ROUNDS
  *
- * COMMAND is alloc, free, take, give, read, write, cache, destroy, reap, report, grant, take_back or move. Only its events go
- * through `measured`, so that callgrind counts these alone; what undoes them does not. The machine has 32 superblocks of order 6
- * and 8 tenants. Tenant 0 has half of the superblocks, some page blocks in each and two caches with live objects.
+ * COMMAND is alloc, free, take, give, read, write, cache, destroy, reap, report, grant, take_back or move; or, of calls alone,
+ * lend, lend_object or lend_block. Only its events or direct calls go through `measured`, so that callgrind counts these alone;
+ * what undoes them does not. The machine has 32 superblocks of order 6 and 8 tenants. Tenant 0 has half of the superblocks, some
+ * page blocks in each and two caches with live objects.
  *
- *     events new 0 ORDER         the first write into each superblock, whose memory was never touched
- *     events again ROUNDS ORDER  the first write after a grant, into memory that was touched before
+ *     events new ORDER           the first write into each superblock, whose memory was never touched
+ *     events again ORDER ROUNDS  the first write after a grant, into memory that was touched before
  *
  * These print the page faults and the nanoseconds of such a write. The machine has 32 superblocks of that order.
  */
@@ -20,6 +21,7 @@
 
 #include "partmem.h"
 
+enum { LEND = 100, LEND_OBJECT, LEND_BLOCK }; /* direct calls that are no events */
 enum { SUPERBLOCKS = 32, TENANTS = 8, SLOTS = SUPERBLOCKS / 2, SMALL = 96, LARGE = 2048, FRAME_BYTES = 4096 };
 
 static partmem_machine machine;
@@ -33,22 +35,61 @@ static void fail(const char *what) {
 
 /* Runs an event of tenant 0, and returns its first number, or the slot that a grant gave. */
 static uint32_t event(uint32_t kind, uint32_t first, uint32_t second) {
-    partmem_asked asked = {kind, 0, first, second};
-    partmem_told told;
+    partmem_request request = {kind, 0, first, second};
+    partmem_reply reply;
     size_t len = kind == PARTMEM_WRITE ? PARTMEM_MOST_BYTES : 1;
-    if (partmem_event(&machine, &asked, bytes, len, &told, buffer, sizeof buffer) != PARTMEM_DONE || told.kind == PARTMEM_REFUSED) {
+    partmem_status status = partmem_event(&machine, &request, bytes, len, &reply, buffer, sizeof buffer);
+    if (status != PARTMEM_DONE || reply.kind == PARTMEM_REFUSED) {
         fail("an event was refused");
     }
-    return told.kind == PARTMEM_GRANTED ? told.second : told.first;
+    return reply.kind == PARTMEM_GRANTED ? reply.second : reply.first;
 }
 
-/* The same, counted. */
+static void done(partmem_status status) {
+    if (status != PARTMEM_DONE) {
+        fail(partmem_strerror(status));
+    }
+}
+
+/* The same by a direct call. */
+static uint32_t call(uint32_t kind, uint32_t first, uint32_t second) {
+    const partmem_tenant me = {&machine, 0};
+    partmem_lent lent = {0};
+    partmem_slot slot;
+    partmem_cache cache;
+    partmem_figures figures;
+    uint32_t frames;
+    switch (kind) {
+    case PARTMEM_ALLOC: done(partmem_alloc(me, first, &lent)); return lent.place / FRAME_BYTES;
+    case PARTMEM_FREE: done(partmem_free(me, first * FRAME_BYTES)); break;
+    case PARTMEM_READ: done(partmem_read(me, first, buffer, second)); break;
+    case PARTMEM_WRITE: done(partmem_write(me, first, bytes, sizeof bytes)); break;
+    case PARTMEM_CACHE: done(partmem_make_cache(me, first, second, bytes, 1, &cache)); return cache.cache;
+    case PARTMEM_DESTROY: done(partmem_destroy_cache(me, first)); break;
+    case PARTMEM_TAKE: done(partmem_take(me, first, &lent)); return lent.place;
+    case PARTMEM_GIVE: done(partmem_give(me, first, second)); break;
+    case PARTMEM_REAP: done(partmem_reap(me, &frames)); break;
+    case PARTMEM_REPORT: done(partmem_report(me, &figures)); break;
+    case PARTMEM_GRANT: done(partmem_grant(me, &slot)); return slot.slot;
+    case PARTMEM_TAKE_BACK: done(partmem_take_back(me, first)); break;
+    case PARTMEM_MOVE: done(partmem_move(me, first, &slot)); break;
+    case LEND: done(partmem_lend(me, first, second, &lent)); break;
+    case LEND_OBJECT: done(partmem_lend_object(me, first, second, &lent)); break;
+    case LEND_BLOCK: done(partmem_lend_block(me, first, &lent)); break;
+    }
+    return 0;
+}
+
+static int is_direct;
+
+/* The same by an event or a direct call, counted. */
 __attribute__((noinline)) uint32_t measured(uint32_t kind, uint32_t first, uint32_t second) {
-    return event(kind, first, second);
+    return is_direct ? call(kind, first, second) : event(kind, first, second);
 }
 
 static void boot(int order) {
-    if (partmem_boot(&machine, (uint32_t)order, SUPERBLOCKS, TENANTS) != PARTMEM_DONE) {
+    const partmem_config config = {(uint32_t)order, SUPERBLOCKS, TENANTS};
+    if (partmem_boot(&machine, &config) != PARTMEM_DONE) {
         fail("the machine did not boot");
     }
 }
@@ -98,6 +139,14 @@ static void run_round(const char *command, uint32_t frame) {
         measured(PARTMEM_TAKE_BACK, event(PARTMEM_GRANT, 0, 0), 0);
     } else if (!strcmp(command, "move")) {
         measured(PARTMEM_MOVE, 0, 0);
+    } else if (is_direct && !strcmp(command, "lend")) {
+        measured(LEND, FRAME_BYTES * frame, PARTMEM_MOST_BYTES);
+    } else if (is_direct && !strcmp(command, "lend_object")) {
+        uint32_t place = event(PARTMEM_TAKE, 0, 0);
+        measured(LEND_OBJECT, 0, place);
+        event(PARTMEM_GIVE, 0, place);
+    } else if (is_direct && !strcmp(command, "lend_block")) {
+        measured(LEND_BLOCK, FRAME_BYTES * frame, 0);
     } else {
         fail("there is no such command");
     }
@@ -137,16 +186,18 @@ static void first_writes(int is_new, int rounds, int order) {
 }
 
 int main(int argc, char **argv) {
-    if (argc < 3) {
-        fail("usage: events COMMAND ROUNDS [ORDER]");
+    int is_new = argc > 1 && !strcmp(argv[1], "new");
+    if (argc < 3 || (argc < 4 && !is_new)) {
+        fail("usage: events event|call COMMAND ROUNDS, or events new ORDER, or events again ORDER ROUNDS");
     }
-    if (argc == 4) {
-        first_writes(!strcmp(argv[1], "new"), atoi(argv[2]), atoi(argv[3]));
+    if (is_new || !strcmp(argv[1], "again")) {
+        first_writes(is_new, is_new ? 0 : atoi(argv[3]), atoi(argv[2]));
         return 0;
     }
+    is_direct = !strcmp(argv[1], "call");
     uint32_t frame = set_up();
-    for (int i = 0; i < atoi(argv[2]); i++) {
-        run_round(argv[1], frame);
+    for (int i = 0; i < atoi(argv[3]); i++) {
+        run_round(argv[2], frame);
     }
     return 0;
 }

@@ -21,7 +21,7 @@ enum { MOST_CACHES = 32, MOST_TENANTS = 64, FRAME_BYTES = 4096 };
 enum deed { NOTHING, TAKE, GIVE };
 
 struct call {
-    partmem_asked asked;
+    partmem_request request;
     const char *line;
     size_t line_len;
     uint8_t bytes[PARTMEM_MOST_BYTES];
@@ -34,7 +34,7 @@ struct call {
 static struct call *calls;
 static size_t call_count, block_count;
 static partmem_machine machine;
-static uint8_t room[PARTMEM_MOST_TEXT_BYTES];
+static char buffer[PARTMEM_MOST_TEXT_BYTES];
 
 static void check(int holds, const char *what) {
     if (!holds) {
@@ -69,20 +69,20 @@ static void understand(struct call *call) {
     char first[16], word[16], numbers[3][140] = {"", "", ""};
     int found = sscanf(call->line, "%15s %15s %139s %139s %139s", first, word, numbers[0], numbers[1], numbers[2]);
     check(found >= 2, "a line has too few words");
-    partmem_asked *asked = &call->asked;
+    partmem_request *request = &call->request;
     if (strcmp(first, "admin") == 0) {
         check(strcmp(word, "grant") == 0, "of the administrator a load has grants alone");
-        *asked = (partmem_asked){PARTMEM_GRANT, (uint32_t)atol(numbers[0]), 0, 0};
+        *request = (partmem_request){PARTMEM_GRANT, (uint32_t)atol(numbers[0]), 0, 0};
         return;
     }
-    *asked = (partmem_asked){0, (uint32_t)atol(first), (uint32_t)atol(numbers[0]), (uint32_t)atol(numbers[1])};
+    *request = (partmem_request){0, (uint32_t)atol(first), (uint32_t)atol(numbers[0]), (uint32_t)atol(numbers[1])};
     for (size_t i = 0; i < sizeof kinds / sizeof *kinds; i++) {
         if (strcmp(word, kinds[i].word) == 0) {
-            asked->kind = kinds[i].kind;
+            request->kind = kinds[i].kind;
         }
     }
-    if (asked->kind == PARTMEM_WRITE || asked->kind == PARTMEM_CACHE) {
-        call->bytes_len = from_hex(numbers[asked->kind == PARTMEM_WRITE ? 1 : 2], call->bytes);
+    if (request->kind == PARTMEM_WRITE || request->kind == PARTMEM_CACHE) {
+        call->bytes_len = from_hex(numbers[request->kind == PARTMEM_WRITE ? 1 : 2], call->bytes);
     }
 }
 
@@ -109,14 +109,16 @@ static void read_trace(const char *path) {
 }
 
 static void boot(char **sizes) {
-    uint32_t order = (uint32_t)atol(sizes[0]), superblocks = (uint32_t)atol(sizes[1]), tenants = (uint32_t)atol(sizes[2]);
-    check(partmem_boot(&machine, order, superblocks, tenants) == PARTMEM_DONE, "boot");
+    const partmem_config config = {(uint32_t)atol(sizes[0]), (uint32_t)atol(sizes[1]), (uint32_t)atol(sizes[2])};
+    check(partmem_boot(&machine, &config) == PARTMEM_DONE, "boot");
 }
 
-static partmem_told run(const struct call *call) {
-    partmem_told told;
-    check(partmem_event(&machine, &call->asked, call->bytes, call->bytes_len, &told, room, sizeof room) == PARTMEM_DONE, "event");
-    return told;
+static partmem_reply run(const struct call *call) {
+    partmem_reply reply;
+    partmem_status status =
+        partmem_event(&machine, &call->request, call->bytes, call->bytes_len, &reply, buffer, sizeof buffer);
+    check(status == PARTMEM_DONE, "event");
+    return reply;
 }
 
 /* What malloc has to do for each line, by what the library answers it: a frame or a place says which block is given back. */
@@ -131,27 +133,27 @@ static void plan(char **sizes) {
     boot(sizes);
     for (size_t i = 0; i < call_count; i++) {
         struct call *call = &calls[i];
-        const partmem_asked *asked = &call->asked;
-        partmem_told told = run(call);
-        check(asked->tenant < MOST_TENANTS, "a load has no such tenant");
-        uint32_t *frame = of_frame[asked->tenant], *place = of_place[asked->tenant];
-        switch (told.kind) {
+        const partmem_request *request = &call->request;
+        partmem_reply reply = run(call);
+        check(request->tenant < MOST_TENANTS, "a load has no such tenant");
+        uint32_t *frame = of_frame[request->tenant], *place = of_place[request->tenant];
+        switch (reply.kind) {
         case PARTMEM_FRAME:
-            frame[told.first] = (uint32_t)block_count;
-            call->deed = TAKE, call->block = block_count++, call->size = (size_t)FRAME_BYTES << asked->first;
+            frame[reply.first] = (uint32_t)block_count;
+            call->deed = TAKE, call->block = block_count++, call->size = (size_t)FRAME_BYTES << request->first;
             break;
         case PARTMEM_MADE:
-            chunk[asked->tenant][told.first] = asked->first;
+            chunk[request->tenant][reply.first] = request->first;
             break;
         case PARTMEM_OBJECT:
-            place[told.first / 8] = (uint32_t)block_count;
-            call->deed = TAKE, call->block = block_count++, call->size = chunk[asked->tenant][asked->first];
+            place[reply.first / 8] = (uint32_t)block_count;
+            call->deed = TAKE, call->block = block_count++, call->size = chunk[request->tenant][request->first];
             break;
         case PARTMEM_FREED:
-            call->deed = GIVE, call->block = frame[asked->first];
+            call->deed = GIVE, call->block = frame[request->first];
             break;
         case PARTMEM_GIVEN:
-            call->deed = GIVE, call->block = place[asked->second / 8];
+            call->deed = GIVE, call->block = place[request->second / 8];
             break;
         default:
             break;
@@ -173,7 +175,7 @@ __attribute__((noinline)) static void run_events(void) {
 __attribute__((noinline)) static void run_lines(void) {
     for (size_t i = 0; i < call_count; i++) {
         size_t written;
-        uint32_t status = partmem_line(&machine, (const uint8_t *)calls[i].line, calls[i].line_len, room, sizeof room, &written);
+        partmem_status status = partmem_line(&machine, calls[i].line, calls[i].line_len, buffer, sizeof buffer, &written);
         check(status == PARTMEM_DONE, "line");
     }
 }

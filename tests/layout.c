@@ -6,42 +6,94 @@
 #define FIELD(name, field, type, at)                                                                                            \
     IS(&((name *)0)->field, type *);                                                                                            \
     _Static_assert(offsetof(name, field) == (at), #name "." #field " does not lie at " #at)
+#define ARRAY(name, field, type, length, at)                                                                                    \
+    IS(&((name *)0)->field, type(*)[length]);                                                                                   \
+    _Static_assert(offsetof(name, field) == (at), #name "." #field " does not lie at " #at)
 #define STRUCT(name, size, alignment)                                                                                           \
     _Static_assert(sizeof(name) == (size), #name " has not " #size " bytes");                                                  \
     _Static_assert(_Alignof(name) == (alignment), #name " is not aligned to " #alignment)
 
-STRUCT(partmem_slot, 8, 8);
-FIELD(partmem_slot, at, void *, 0);
-
 STRUCT(partmem_machine, 16, 8);
-FIELD(partmem_machine, is_booted, bool, 0);
-FIELD(partmem_machine, slot, partmem_slot, 8);
+ARRAY(partmem_machine, held, void *, 2, 0);
 
-STRUCT(partmem_asked, 16, 4);
-FIELD(partmem_asked, kind, uint32_t, 0);
-FIELD(partmem_asked, tenant, uint32_t, 4);
-FIELD(partmem_asked, first, uint32_t, 8);
-FIELD(partmem_asked, second, uint32_t, 12);
+STRUCT(partmem_tenant, 16, 8);
+FIELD(partmem_tenant, machine, partmem_machine *, 0);
+FIELD(partmem_tenant, number, uint32_t, 8);
 
-STRUCT(partmem_told, 24, 4);
-FIELD(partmem_told, kind, uint32_t, 0);
-FIELD(partmem_told, first, uint32_t, 4);
-FIELD(partmem_told, second, uint32_t, 8);
-FIELD(partmem_told, third, uint32_t, 12);
-FIELD(partmem_told, fourth, uint32_t, 16);
-FIELD(partmem_told, fifth, uint32_t, 20);
+STRUCT(partmem_lent, 16, 8);
+FIELD(partmem_lent, at, void *, 0);
+FIELD(partmem_lent, place, uint32_t, 8);
+FIELD(partmem_lent, bytes, uint32_t, 12);
 
-STRUCT(partmem_owned, 12, 4);
-FIELD(partmem_owned, is_owned, bool, 0);
-FIELD(partmem_owned, tenant, uint32_t, 4);
-FIELD(partmem_owned, slot, uint32_t, 8);
+STRUCT(partmem_config, 12, 4);
+FIELD(partmem_config, order, uint32_t, 0);
+FIELD(partmem_config, superblocks, uint32_t, 4);
+FIELD(partmem_config, tenants, uint32_t, 8);
 
-IS(&partmem_boot, uint32_t (*)(partmem_machine *, uint32_t, uint32_t, uint32_t));
-IS(&partmem_line, uint32_t (*)(partmem_machine *, const uint8_t *, size_t, uint8_t *, size_t, size_t *));
+STRUCT(partmem_slot, 8, 4);
+FIELD(partmem_slot, slot, uint32_t, 0);
+FIELD(partmem_slot, superblock, uint32_t, 4);
+
+STRUCT(partmem_owner, 12, 4);
+FIELD(partmem_owner, is_owned, uint32_t, 0);
+FIELD(partmem_owner, tenant, uint32_t, 4);
+FIELD(partmem_owner, slot, uint32_t, 8);
+
+STRUCT(partmem_cache, 20, 4);
+FIELD(partmem_cache, cache, uint32_t, 0);
+FIELD(partmem_cache, chunk, uint32_t, 4);
+FIELD(partmem_cache, slab_bytes, uint32_t, 8);
+FIELD(partmem_cache, objects, uint32_t, 12);
+FIELD(partmem_cache, colours, uint32_t, 16);
+
+STRUCT(partmem_block, 12, 4);
+FIELD(partmem_block, use, partmem_use, 0);
+FIELD(partmem_block, place, uint32_t, 4);
+FIELD(partmem_block, bytes, uint32_t, 8);
+
+STRUCT(partmem_order_row, 8, 4);
+FIELD(partmem_order_row, free, uint32_t, 0);
+FIELD(partmem_order_row, taken, uint32_t, 4);
+
+STRUCT(partmem_cache_row, 20, 4);
+FIELD(partmem_cache_row, cache, uint32_t, 0);
+FIELD(partmem_cache_row, full, uint32_t, 4);
+FIELD(partmem_cache_row, partial, uint32_t, 8);
+FIELD(partmem_cache_row, empty, uint32_t, 12);
+FIELD(partmem_cache_row, live, uint32_t, 16);
+
+STRUCT(partmem_figures, 740, 4);
+FIELD(partmem_figures, frames, uint32_t, 0);
+FIELD(partmem_figures, live, uint32_t, 4);
+FIELD(partmem_figures, free, uint32_t, 8);
+FIELD(partmem_figures, greatest, uint32_t, 12);
+FIELD(partmem_figures, split, uint32_t, 16);
+FIELD(partmem_figures, orders, uint32_t, 20);
+FIELD(partmem_figures, caches, uint32_t, 24);
+ARRAY(partmem_figures, order, partmem_order_row, 9, 28);
+ARRAY(partmem_figures, cache, partmem_cache_row, 32, 100);
+
+STRUCT(partmem_request, 16, 4);
+FIELD(partmem_request, kind, uint32_t, 0);
+FIELD(partmem_request, tenant, uint32_t, 4);
+FIELD(partmem_request, first, uint32_t, 8);
+FIELD(partmem_request, second, uint32_t, 12);
+
+STRUCT(partmem_reply, 24, 4);
+FIELD(partmem_reply, kind, uint32_t, 0);
+FIELD(partmem_reply, first, uint32_t, 4);
+FIELD(partmem_reply, second, uint32_t, 8);
+FIELD(partmem_reply, third, uint32_t, 12);
+FIELD(partmem_reply, fourth, uint32_t, 16);
+FIELD(partmem_reply, fifth, uint32_t, 20);
+IS(&partmem_boot, partmem_status (*)(partmem_machine *, const partmem_config *));
+IS(&partmem_move, partmem_status (*)(partmem_tenant, uint32_t, partmem_slot *));
+IS(&partmem_make_cache, partmem_status (*)(partmem_tenant, uint32_t, uint32_t, const void *, size_t, partmem_cache *));
+IS(&partmem_lend, partmem_status (*)(partmem_tenant, uint32_t, uint32_t, partmem_lent *));
 IS(&partmem_event,
-   uint32_t (*)(partmem_machine *, const partmem_asked *, const uint8_t *, size_t, partmem_told *, uint8_t *, size_t));
-IS(&partmem_owner, uint32_t (*)(partmem_machine *, uint32_t, partmem_owned *));
-IS(&partmem_end, uint32_t (*)(partmem_machine *));
+   partmem_status (*)(partmem_machine *, const partmem_request *, const void *, size_t, partmem_reply *, void *, size_t));
+IS(&partmem_line, partmem_status (*)(partmem_machine *, const char *, size_t, char *, size_t, size_t *));
 
-/* a row for each of 256 superblocks and one in front of them, and the most that a read tells */
-_Static_assert(PARTMEM_MOST_TEXT_BYTES == 257 * 256 && PARTMEM_MOST_BYTES == 64, "another room");
+/* enums have 32 bits; a row for each of 256 superblocks and one in front of them, and the most that a read returns */
+_Static_assert(sizeof(partmem_status) == 4 && sizeof(partmem_use) == 4, "another enum");
+_Static_assert(PARTMEM_MOST_TEXT_BYTES == 257 * 256 && PARTMEM_MOST_BYTES == 64, "another buffer");

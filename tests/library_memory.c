@@ -1,5 +1,5 @@
 /* What the library for C does with memory. To be linked with a program and the library, and with the linker's --wrap for each
- * function __wrap_NAME below, so that NAME goes through it.
+ * function __wrap_NAME and OTHER(NAME, ..) below, so that NAME goes through it.
  *
  * It ends the process with status 70 where
  * - the library asks for memory, or gives some back, in a call other than partmem_boot and partmem_end;
@@ -8,6 +8,7 @@
  * - a block is held when the program ends.
  * Else it tells on standard error how many calls there were. What the program itself does with memory is not counted.
  */
+#include <stdbool.h>
 #include <stdint.h>
 #include <stdio.h>
 #include <stdlib.h>
@@ -83,13 +84,13 @@ void __wrap_free(void *block)
     __real_free(block);
 }
 
-uint32_t __real_partmem_boot(partmem_machine *machine, uint32_t order, uint32_t superblocks, uint32_t tenants);
-uint32_t __wrap_partmem_boot(partmem_machine *machine, uint32_t order, uint32_t superblocks, uint32_t tenants)
+partmem_status __real_partmem_boot(partmem_machine *machine, const partmem_config *config);
+partmem_status __wrap_partmem_boot(partmem_machine *machine, const partmem_config *config)
 {
     long before = blocks_held;
     place = IN_BOOT;
     was_refused = false;
-    uint32_t status = __real_partmem_boot(machine, order, superblocks, tenants);
+    partmem_status status = __real_partmem_boot(machine, config);
     place = OUTSIDE;
     if (status == PARTMEM_DONE) {
         hold(blocks_held > before, "a boot that takes no memory");
@@ -97,17 +98,17 @@ uint32_t __wrap_partmem_boot(partmem_machine *machine, uint32_t order, uint32_t 
     } else {
         hold(blocks_held == before, "kept by a boot that was not done");
     }
-    hold((status == PARTMEM_NO_MEMORY) == was_refused, "want of memory told where none was refused, or not told");
+    hold((status == PARTMEM_NO_MEMORY) == was_refused, "want of memory returned where none was refused, or not returned");
     boots++;
     return status;
 }
 
-uint32_t __real_partmem_end(partmem_machine *machine);
-uint32_t __wrap_partmem_end(partmem_machine *machine)
+partmem_status __real_partmem_end(partmem_machine *machine);
+partmem_status __wrap_partmem_end(partmem_machine *machine)
 {
     long before = blocks_held;
     place = IN_END;
-    uint32_t status = __real_partmem_end(machine);
+    partmem_status status = __real_partmem_end(machine);
     place = OUTSIDE;
     long given = before - blocks_held;
     hold(given == (status == PARTMEM_DONE ? *blocks_of(machine, NULL) : 0), "an end gives back other blocks than its boot took");
@@ -115,39 +116,51 @@ uint32_t __wrap_partmem_end(partmem_machine *machine)
     return status;
 }
 
-uint32_t __real_partmem_line(partmem_machine *machine, const uint8_t *line, size_t line_len, uint8_t *room, size_t room_len,
-                             size_t *written);
-uint32_t __wrap_partmem_line(partmem_machine *machine, const uint8_t *line, size_t line_len, uint8_t *room, size_t room_len,
-                             size_t *written)
-{
-    place = IN_OTHER;
-    uint32_t status = __real_partmem_line(machine, line, line_len, room, room_len, written);
-    place = OUTSIDE;
-    others++;
-    return status;
-}
+/* All other functions. */
+#define OTHER(name, parameters, arguments)               \
+    partmem_status __real_##name parameters;             \
+    partmem_status __wrap_##name parameters              \
+    {                                                    \
+        place = IN_OTHER;                                \
+        partmem_status status = __real_##name arguments; \
+        place = OUTSIDE;                                 \
+        others++;                                        \
+        return status;                                   \
+    }
 
-uint32_t __real_partmem_event(partmem_machine *machine, const partmem_asked *asked, const uint8_t *bytes, size_t bytes_len,
-                              partmem_told *told, uint8_t *room, size_t room_len);
-uint32_t __wrap_partmem_event(partmem_machine *machine, const partmem_asked *asked, const uint8_t *bytes, size_t bytes_len,
-                              partmem_told *told, uint8_t *room, size_t room_len)
-{
-    place = IN_OTHER;
-    uint32_t status = __real_partmem_event(machine, asked, bytes, bytes_len, told, room, room_len);
-    place = OUTSIDE;
-    others++;
-    return status;
-}
-
-uint32_t __real_partmem_owner(partmem_machine *machine, uint32_t superblock, partmem_owned *owner);
-uint32_t __wrap_partmem_owner(partmem_machine *machine, uint32_t superblock, partmem_owned *owner)
-{
-    place = IN_OTHER;
-    uint32_t status = __real_partmem_owner(machine, superblock, owner);
-    place = OUTSIDE;
-    others++;
-    return status;
-}
+OTHER(partmem_grant, (partmem_tenant tenant, partmem_slot *granted), (tenant, granted))
+OTHER(partmem_take_back, (partmem_tenant tenant, uint32_t slot), (tenant, slot))
+OTHER(partmem_move, (partmem_tenant tenant, uint32_t slot, partmem_slot *moved), (tenant, slot, moved))
+OTHER(partmem_reset, (partmem_tenant tenant), (tenant))
+OTHER(partmem_find_slot, (partmem_tenant tenant, uint32_t slot, partmem_slot *found), (tenant, slot, found))
+OTHER(partmem_find_superblock,
+      (partmem_machine *machine, uint32_t superblock, partmem_owner *owner),
+      (machine, superblock, owner))
+OTHER(partmem_alloc, (partmem_tenant tenant, uint32_t order, partmem_lent *block), (tenant, order, block))
+OTHER(partmem_free, (partmem_tenant tenant, uint32_t from), (tenant, from))
+OTHER(partmem_make_cache,
+      (partmem_tenant tenant, uint32_t size, uint32_t align, const void *pattern, size_t pattern_bytes, partmem_cache *made),
+      (tenant, size, align, pattern, pattern_bytes, made))
+OTHER(partmem_destroy_cache, (partmem_tenant tenant, uint32_t cache), (tenant, cache))
+OTHER(partmem_take, (partmem_tenant tenant, uint32_t cache, partmem_lent *object), (tenant, cache, object))
+OTHER(partmem_give, (partmem_tenant tenant, uint32_t cache, uint32_t from), (tenant, cache, from))
+OTHER(partmem_reap, (partmem_tenant tenant, uint32_t *frames), (tenant, frames))
+OTHER(partmem_lend, (partmem_tenant tenant, uint32_t from, uint32_t bytes, partmem_lent *lent), (tenant, from, bytes, lent))
+OTHER(partmem_lend_object,
+      (partmem_tenant tenant, uint32_t cache, uint32_t from, partmem_lent *object),
+      (tenant, cache, from, object))
+OTHER(partmem_lend_block, (partmem_tenant tenant, uint32_t from, partmem_lent *block), (tenant, from, block))
+OTHER(partmem_read, (partmem_tenant tenant, uint32_t from, void *to, size_t bytes), (tenant, from, to, bytes))
+OTHER(partmem_write, (partmem_tenant tenant, uint32_t to, const void *from, size_t bytes), (tenant, to, from, bytes))
+OTHER(partmem_find_block, (partmem_tenant tenant, uint32_t from, partmem_block *found), (tenant, from, found))
+OTHER(partmem_report, (partmem_tenant tenant, partmem_figures *figures), (tenant, figures))
+OTHER(partmem_event,
+      (partmem_machine *machine, const partmem_request *request, const void *bytes, size_t bytes_len, partmem_reply *reply,
+       void *buffer, size_t buffer_len),
+      (machine, request, bytes, bytes_len, reply, buffer, buffer_len))
+OTHER(partmem_line,
+      (partmem_machine *machine, const char *line, size_t line_len, char *buffer, size_t buffer_len, size_t *written),
+      (machine, line, line_len, buffer, buffer_len, written))
 
 __attribute__((destructor)) static void tell(void)
 {

@@ -5,9 +5,9 @@
  *                                                  steps of marked command N
  *
  * A row of a trace begins with '.' for a line that is run at full speed, '+' for one that is followed, and '=' for an event that
- * is followed: its kind, tenant, first and second number and the hex of its bytes. With '*' and '#' in their place the command is
- * followed into the C library too. A row of the output has how many steps a command took, a hash of the addresses of its
- * instructions, one of what they read and wrote, and one of what was answered.
+ * is followed: its kind, tenant, first and second number and the hex of its bytes. '@' is the same as a direct call, with a lend
+ * before it. With '*', '#' and '&' in their place the command is followed into the C library too. A row of the output has how
+ * many steps a command took, a hash of the addresses of its instructions, one of what they read and wrote, and one of results.
  *
  * The processor traps after each instruction while its trap flag is set, and the handler of that signal sees all registers.
  * So nothing of another process is read, which takes a fourth of the time of ptrace and no permission. The program runs with
@@ -22,6 +22,7 @@
 #define _GNU_SOURCE /* registers by name */
 #include <fcntl.h>
 #include <signal.h>
+#include <stdbool.h>
 #include <stdio.h>
 #include <stdlib.h>
 #include <string.h>
@@ -86,7 +87,8 @@ static int by_start(const void *first, const void *second)
 static void boot(partmem_machine *machine, uint32_t order, uint32_t superblocks, uint32_t tenants)
 {
     in_boot = true;
-    hold(partmem_boot(machine, order, superblocks, tenants) == PARTMEM_DONE, "boot");
+    const partmem_config config = {order, superblocks, tenants};
+    hold(partmem_boot(machine, &config) == PARTMEM_DONE, "boot");
     in_boot = false;
     qsort(blocks, block_count, sizeof blocks[0], by_start);
     uint32_t parts = 0, room = 1;
@@ -244,16 +246,17 @@ void *__wrap_memset(void *to, int byte, size_t count)
 
 static partmem_machine machine;
 static char row[MOST_ROW];
-static uint8_t line[MOST_ROW], bytes[MOST_ROW], room[PARTMEM_MOST_TEXT_BYTES];
+static char line[MOST_ROW], buffer[PARTMEM_MOST_TEXT_BYTES];
+static uint8_t bytes[MOST_ROW];
 static size_t line_len, bytes_len, written;
-static partmem_asked asked;
-static partmem_told told;
+static partmem_request request;
+static partmem_reply reply;
 
 /* Each command is run from the same place, with all that is passed in places that stay. */
 __attribute__((noinline)) static uint32_t follow_line(void)
 {
     FOLLOW();
-    uint32_t status = partmem_line(&machine, line, line_len, room, sizeof room, &written);
+    uint32_t status = partmem_line(&machine, line, line_len, buffer, sizeof buffer, &written);
     LET_GO();
     return status;
 }
@@ -261,9 +264,55 @@ __attribute__((noinline)) static uint32_t follow_line(void)
 __attribute__((noinline)) static uint32_t follow_event(void)
 {
     FOLLOW();
-    uint32_t status = partmem_event(&machine, &asked, bytes, bytes_len, &told, room, sizeof room);
+    uint32_t status = partmem_event(&machine, &request, bytes, bytes_len, &reply, buffer, sizeof buffer);
     LET_GO();
     return status;
+}
+
+/* The results of direct calls. Where bytes are is not compared: that is another superblock in another world. */
+static struct {
+    partmem_status lent_as, status;
+    partmem_lent lent, made;
+    partmem_cache cache;
+    partmem_figures figures;
+    uint32_t frames;
+} results;
+
+/* Lends what the call is about, and makes the call. */
+static void call(partmem_tenant tenant, uint32_t first, uint32_t second)
+{
+    switch (request.kind) {
+    case PARTMEM_ALLOC: results.status = partmem_alloc(tenant, first, &results.made); break;
+    case PARTMEM_FREE:
+        results.lent_as = partmem_lend_block(tenant, first * PARTMEM_FRAME_BYTES, &results.lent);
+        results.status = partmem_free(tenant, first * PARTMEM_FRAME_BYTES);
+        break;
+    case PARTMEM_READ:
+        results.lent_as = partmem_lend(tenant, first, second, &results.lent);
+        results.status = partmem_read(tenant, first, buffer, second > PARTMEM_MOST_BYTES ? PARTMEM_MOST_BYTES + 1 : second);
+        break;
+    case PARTMEM_WRITE: results.status = partmem_write(tenant, first, bytes, bytes_len); break;
+    case PARTMEM_CACHE: results.status = partmem_make_cache(tenant, first, second, bytes, bytes_len, &results.cache); break;
+    case PARTMEM_DESTROY: results.status = partmem_destroy_cache(tenant, first); break;
+    case PARTMEM_TAKE: results.status = partmem_take(tenant, first, &results.made); break;
+    case PARTMEM_GIVE:
+        results.lent_as = partmem_lend_object(tenant, first, second, &results.lent);
+        results.status = partmem_give(tenant, first, second);
+        break;
+    case PARTMEM_REAP: results.status = partmem_reap(tenant, &results.frames); break;
+    case PARTMEM_REPORT: results.status = partmem_report(tenant, &results.figures); break;
+    }
+}
+
+__attribute__((noinline)) static uint32_t follow_call(void)
+{
+    const partmem_tenant tenant = {&machine, request.tenant};
+    FOLLOW();
+    call(tenant, request.first, request.second);
+    LET_GO();
+    hold(!results.lent.at == !results.lent.bytes && !results.made.at == !results.made.bytes, "what is lent");
+    results.lent.at = results.made.at = NULL;
+    return PARTMEM_DONE;
 }
 
 static uint64_t hash_of(const void *some, size_t count)
@@ -276,7 +325,8 @@ static uint64_t hash_of(const void *some, size_t count)
 static void read_event(const char *text)
 {
     char hex[MOST_ROW] = "";
-    hold(sscanf(text, "%u %u %u %u %1000s", &asked.kind, &asked.tenant, &asked.first, &asked.second, hex) >= 4, "an event");
+    int read = sscanf(text, "%u %u %u %u %1000s", &request.kind, &request.tenant, &request.first, &request.second, hex);
+    hold(read >= 4, "an event");
     bytes_len = strlen(hex) / 2;
     for (size_t i = 0; i < bytes_len; i++) hold(sscanf(hex + 2 * i, "%2hhx", &bytes[i]) == 1, "the bytes of an event");
 }
@@ -284,25 +334,28 @@ static void read_event(const char *text)
 static void run_row(void)
 {
     static uint32_t commands;
-    bool is_event = row[0] == '=' || row[0] == '#', is_followed = row[0] != '.', is_whole = row[0] == '*' || row[0] == '#';
+    bool is_call = row[0] == '@' || row[0] == '&', is_event = row[0] == '=' || row[0] == '#';
+    bool is_followed = row[0] != '.', is_whole = row[0] == '*' || row[0] == '#' || row[0] == '&';
     line_len = strlen(row) - 1;
     memcpy(line, row + 1, line_len);
     if (!is_followed) {
-        hold(partmem_line(&machine, line, line_len, room, sizeof room, &written) == PARTMEM_DONE, "a line");
+        hold(partmem_line(&machine, line, line_len, buffer, sizeof buffer, &written) == PARTMEM_DONE, "a line");
         return;
     }
     memset(&now, 0, sizeof now);
-    memset(&told, 0, sizeof told);
+    memset(&reply, 0, sizeof reply);
+    memset(&results, 0, sizeof results);
     now.command = ++commands;
     written = 0;
-    if (is_event) read_event(row + 1);
+    if (is_event || is_call) read_event(row + 1);
     is_apart = !is_whole;
-    uint32_t status = is_event ? follow_event() : follow_line();
+    uint32_t status = is_event ? follow_event() : is_call ? follow_call() : follow_line();
     is_apart = false;
     hold(status == PARTMEM_DONE, is_event ? "an event that is followed" : "a line that is followed");
     hold(now.steps > 0, "no step was trapped");
-    if (is_event) written = told.kind == PARTMEM_BYTES ? told.first : 0;
-    uint64_t answer = mix(hash_of(room, written), is_event ? hash_of(&told, sizeof told) : 0);
+    if (is_event) written = reply.kind == PARTMEM_BYTES ? reply.first : 0;
+    if (is_call) written = request.kind == PARTMEM_READ && results.status == PARTMEM_DONE ? request.second : 0;
+    uint64_t answer = mix(mix(hash_of(buffer, written), hash_of(&reply, sizeof reply)), hash_of(&results, sizeof results));
     if (!shown_command) printf("%lu %016lx %016lx %016lx\n", now.steps, now.path, now.data, answer);
     for (uint64_t i = 0; now.command == shown_command && i < now.steps && i < MOST_SHOWN; i++) {
         printf("%lx %lx\n", shown[i][0], shown[i][1]);
@@ -311,8 +364,8 @@ static void run_row(void)
 
 static void talk_line(void)
 {
-    hold(partmem_line(&machine, (const uint8_t *)row, strlen(row), room, sizeof room, &written) == PARTMEM_DONE, "a line");
-    fwrite(room, 1, written, stdout);
+    hold(partmem_line(&machine, row, strlen(row), buffer, sizeof buffer, &written) == PARTMEM_DONE, "a line");
+    fwrite(buffer, 1, written, stdout);
     puts(".");
     fflush(stdout);
 }

@@ -14,7 +14,8 @@ EMPTYING = FILLING | {"alloc": 4, "free": 20, "take": 8, "give": 34, "reap": .6}
 ADMIN = {"grant": 5, "takeback": 8, "reset": 4, "move": 12, "pool": 1, "broken": 4}
 BROKEN = ("0 alloc", "1 frob 2", "# nothing", "", "99 alloc 0", "0 alloc 4294967296", "0 write 0 abc", "admin grant", "0" * 300)
 FRAME_BYTES = 4096
-# The shares of a tenant's commands that are passed as events, and that are followed into the C library.
+# The shares of a tenant's commands that are passed as numbers, half of them as direct calls, and that are followed into the C
+# library.
 EVENTS, WHOLE = .7, .06
 
 
@@ -133,9 +134,10 @@ class Pair:
         is_whole, is_event = self.draw.random() < WHOLE, self.draw.random() < EVENTS
         row = ("*" if is_whole else "+") + line
         if is_event:
+            mark = ("#" if is_whole else "=") if len(self.followed) % 2 else ("&" if is_whole else "@")
             texts = [word for word in words[1:] if isinstance(word, str)]
             numbers = [word for word in words[1:] if not isinstance(word, str)] + [0, 0]
-            row = " ".join(map(str, [("#" if is_whole else "=") + str(KINDS[words[0]]), tenant.number, *numbers[:2], *texts]))
+            row = " ".join(map(str, [mark + str(KINDS[words[0]]), tenant.number, *numbers[:2], *texts]))
         self.mixed.append(row)
         self.alone[tenant.number].append(row)
         self.followed.append((tenant.number, line, reply))

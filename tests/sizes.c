@@ -2,6 +2,7 @@
  * superblocks together with every third number of tenants; asks for sizes beside these, which are refused. Checks what each
  * machine says of itself, and every byte that a call may write and those around it. The place of a machine is zeroes after its end.
  * Refuses each allocation of a boot in turn, too: to be linked with library_memory.c. */
+#include <stdbool.h>
 #include <stdio.h>
 #include <stdlib.h>
 #include <string.h>
@@ -18,14 +19,16 @@ static struct {
     uint8_t front[64];
     union {
         partmem_machine machine;
-        partmem_told told;
-        partmem_owned owned;
+        partmem_reply reply;
+        partmem_owner owner;
+        partmem_lent lent;
+        partmem_figures figures;
         size_t written;
         uint32_t words[6];
         uint8_t bytes[PARTMEM_MOST_TEXT_BYTES];
     } inside;
     uint8_t back[64];
-} place, fence, room;
+} place, fence, buffer;
 
 static void check(bool holds, const char *what, uint32_t order, uint32_t superblocks, uint32_t tenants)
 {
@@ -50,31 +53,38 @@ static partmem_machine *vacant_place(void)
     return &place.inside.machine;
 }
 
-/* the six numbers that an event is told as */
-static const uint32_t *told(partmem_machine *machine, uint32_t kind, uint32_t tenant, uint32_t first, uint32_t second)
+static partmem_status boot(partmem_machine *machine, uint32_t order, uint32_t superblocks, uint32_t tenants)
 {
-    partmem_asked asked = {kind, tenant, first, second};
+    const partmem_config config = {order, superblocks, tenants};
+    return partmem_boot(machine, &config);
+}
+
+/* the six numbers of the reply to an event */
+static const uint32_t *reply_to(partmem_machine *machine, uint32_t kind, uint32_t tenant, uint32_t first, uint32_t second)
+{
+    const partmem_request request = {kind, tenant, first, second};
     const uint8_t pattern = 0x3c;
     memset(&fence, UNTOUCHED, sizeof fence);
-    memset(&room, UNTOUCHED, sizeof room);
-    uint32_t status = partmem_event(machine, &asked, &pattern, 1, &fence.inside.told, room.inside.bytes, PARTMEM_MOST_BYTES);
+    memset(&buffer, UNTOUCHED, sizeof buffer);
+    uint8_t *few = buffer.inside.bytes;
+    partmem_status status = partmem_event(machine, &request, &pattern, 1, &fence.inside.reply, few, PARTMEM_MOST_BYTES);
     bool is_done = status == PARTMEM_DONE && is_kept_behind(&fence, 6 * sizeof(uint32_t)) && is_kept_behind(&place, 16);
     check(is_done, "an event", kind, tenant, first);
-    check(is_kept_behind(&room, kind == PARTMEM_READ ? second : 0), "the room of an event", kind, tenant, first);
+    check(is_kept_behind(&buffer, kind == PARTMEM_READ ? second : 0), "the buffer of an event", kind, tenant, first);
     return fence.inside.words;
 }
 
-static bool is_told(const uint32_t *words, uint32_t kind, uint32_t first, uint32_t second, uint32_t third)
+static bool is_reply(const uint32_t *words, uint32_t kind, uint32_t first, uint32_t second, uint32_t third)
 {
     return words[0] == kind && words[1] == first && words[2] == second && words[3] == third;
 }
 
-/* the call is done, and tells that the superblock has no owner, or is slot 0 of this tenant */
+/* the call is done, and returns that the superblock has no owner, or is slot 0 of this tenant */
 static bool is_owner(partmem_machine *machine, uint32_t superblock, bool is_owned, uint32_t tenant)
 {
     memset(&fence, UNTOUCHED, sizeof fence);
-    uint32_t status = partmem_owner(machine, superblock, &fence.inside.owned);
-    return status == PARTMEM_DONE && is_kept_behind(&fence, 12) && fence.inside.bytes[0] == is_owned &&
+    partmem_status status = partmem_find_superblock(machine, superblock, &fence.inside.owner);
+    return status == PARTMEM_DONE && is_kept_behind(&fence, 12) && fence.inside.words[0] == is_owned &&
            fence.inside.words[1] == tenant && fence.inside.words[2] == 0;
 }
 
@@ -82,45 +92,80 @@ static bool is_owner(partmem_machine *machine, uint32_t superblock, bool is_owne
 static void look_at(partmem_machine *machine, uint32_t order, uint32_t superblocks, uint32_t tenants)
 {
     uint32_t last = tenants - 1;
-    check(is_told(told(machine, PARTMEM_POOL, 0, 0, 0), PARTMEM_OWNERS, superblocks, 0, 0), "pool", order, superblocks, tenants);
+    bool is_pool = is_reply(reply_to(machine, PARTMEM_POOL, 0, 0, 0), PARTMEM_OWNERS, superblocks, 0, 0);
+    check(is_pool, "pool", order, superblocks, tenants);
     check(is_owner(machine, superblocks - 1, false, 0), "no owner", order, superblocks, tenants);
-    bool none = partmem_owner(machine, superblocks, &fence.inside.owned) == PARTMEM_NO_SUPERBLOCK && is_kept_behind(&fence, 12);
-    check(none, "a superblock too many", order, superblocks, tenants);
-    check(is_told(told(machine, PARTMEM_GRANT, last, 0, 0), PARTMEM_GRANTED, last, 0, 0), "grant", order, superblocks, tenants);
-    bool is_refused = is_told(told(machine, PARTMEM_GRANT, tenants, 0, 0), PARTMEM_REFUSED, 12, 0, 0);
+    partmem_status status = partmem_find_superblock(machine, superblocks, &fence.inside.owner);
+    bool is_none = status == PARTMEM_NO_SUPERBLOCK && is_kept_behind(&fence, sizeof(partmem_owner));
+    check(is_none, "a superblock too many", order, superblocks, tenants);
+    bool is_granted = is_reply(reply_to(machine, PARTMEM_GRANT, last, 0, 0), PARTMEM_GRANTED, last, 0, 0);
+    check(is_granted, "grant", order, superblocks, tenants);
+    bool is_refused = is_reply(reply_to(machine, PARTMEM_GRANT, tenants, 0, 0), PARTMEM_REFUSED, 12, 0, 0);
     check(is_refused, "a tenant too many", order, superblocks, tenants);
     check(is_owner(machine, 0, true, last), "owner", order, superblocks, tenants);
-    const uint32_t *figures = told(machine, PARTMEM_REPORT, last, 0, 0);
-    bool is_free = is_told(figures, PARTMEM_FIGURES, 1u << order, 0, 1u << order) && figures[4] == order + 1 && figures[5] == 0;
+    const uint32_t *figures = reply_to(machine, PARTMEM_REPORT, last, 0, 0);
+    bool is_free = is_reply(figures, PARTMEM_FIGURES, 1u << order, 0, 1u << order) && figures[4] == order + 1 && figures[5] == 0;
     check(is_free, "figures", order, superblocks, tenants);
-    const uint32_t *made = told(machine, PARTMEM_CACHE, last, 200, 8);
-    check(is_told(made, PARTMEM_MADE, 0, 200, 0) && made[4] == 20 && made[5] == 9, "cache", order, superblocks, tenants);
-    check(is_told(told(machine, PARTMEM_TAKE, last, 0, 0), PARTMEM_OBJECT, 0, 0, 0), "take", order, superblocks, tenants);
-    check(is_told(told(machine, PARTMEM_READ, last, 0, 64), PARTMEM_BYTES, 64, 0, 0), "read", order, superblocks, tenants);
-    check(room.inside.bytes[0] == 0x3c && room.inside.bytes[63] == 0x3c, "bytes", order, superblocks, tenants);
+    const uint32_t *made = reply_to(machine, PARTMEM_CACHE, last, 200, 8);
+    check(is_reply(made, PARTMEM_MADE, 0, 200, 0) && made[4] == 20 && made[5] == 9, "cache", order, superblocks, tenants);
+    check(is_reply(reply_to(machine, PARTMEM_TAKE, last, 0, 0), PARTMEM_OBJECT, 0, 0, 0), "take", order, superblocks, tenants);
+    check(is_reply(reply_to(machine, PARTMEM_READ, last, 0, 64), PARTMEM_BYTES, 64, 0, 0), "read", order, superblocks, tenants);
+    check(buffer.inside.bytes[0] == 0x3c && buffer.inside.bytes[63] == 0x3c, "bytes", order, superblocks, tenants);
 }
 
-/* the reply to `pool`: as many bytes as are told, and no more of the room */
+/* the last superblock as a page block, used in place up to its last byte; events, which lend nothing, allocate those before it */
+static void use_in_place(partmem_machine *machine, uint32_t order, uint32_t superblocks, uint32_t tenants)
+{
+    const partmem_tenant last = {machine, tenants - 1};
+    const partmem_request alloc = {PARTMEM_ALLOC, tenants - 1, order, 0};
+    const uint32_t bytes = PARTMEM_FRAME_BYTES << order, last_slot = superblocks - 1, last_place = last_slot * bytes;
+    partmem_slot slot;
+    partmem_reply reply;
+    uint8_t few[PARTMEM_MOST_BYTES];
+    if (superblocks < 2) return;
+    for (uint32_t i = 1; i <= last_slot; i++) {
+        bool is_next = partmem_grant(last, &slot) == PARTMEM_DONE && slot.slot == i && slot.superblock == i;
+        check(is_next, "a grant", order, superblocks, tenants);
+    }
+    for (uint32_t i = 1; i < last_slot; i++) {
+        partmem_status status = partmem_event(machine, &alloc, few, 0, &reply, few, sizeof few);
+        check(status == PARTMEM_DONE && reply.first == i << order, "a whole superblock", order, superblocks, tenants);
+    }
+    memset(&fence, UNTOUCHED, sizeof fence);
+    bool is_done = partmem_alloc(last, order, &fence.inside.lent) == PARTMEM_DONE && is_kept_behind(&fence, sizeof(partmem_lent));
+    bool is_whole = fence.inside.lent.place == last_place && fence.inside.lent.bytes == bytes;
+    check(is_done && is_whole, "the last superblock", order, superblocks, tenants);
+    uint8_t *at = fence.inside.lent.at;
+    check(at[0] == 0 && at[bytes - 1] == 0, "zeroes", order, superblocks, tenants);
+    at[0] = 1, at[bytes - 1] = 2;
+    check(partmem_at(last, last_place + bytes - 1, 1) == at + bytes - 1, "the last byte", order, superblocks, tenants);
+    memset(&fence, UNTOUCHED, sizeof fence);
+    is_done = partmem_report(last, &fence.inside.figures) == PARTMEM_DONE && is_kept_behind(&fence, sizeof(partmem_figures));
+    check(is_done && fence.inside.figures.frames == superblocks << order, "the figures of a tenant", order, superblocks, tenants);
+}
+
+/* the reply to `pool`: as many bytes as are returned, and no more of the buffer */
 static void look_at_text(partmem_machine *machine, uint32_t superblocks, uint32_t tenants)
 {
     memset(&fence, UNTOUCHED, sizeof fence);
-    memset(&room, UNTOUCHED, sizeof room);
-    const uint8_t *line = (const uint8_t *)"admin pool";
-    uint32_t status = partmem_line(machine, line, 10, room.inside.bytes, sizeof room.inside.bytes, &fence.inside.written);
+    memset(&buffer, UNTOUCHED, sizeof buffer);
+    char *text = (char *)buffer.inside.bytes;
+    partmem_status status = partmem_line(machine, "admin pool", 10, text, sizeof buffer.inside.bytes, &fence.inside.written);
     size_t written = fence.inside.written, lines = 0;
-    bool is_kept = is_kept_behind(&fence, sizeof(size_t)) && is_kept_behind(&room, written) && is_kept_behind(&place, 16);
-    for (size_t i = 0; i < written; i++) lines += room.inside.bytes[i] == '\n';
+    bool is_kept = is_kept_behind(&fence, sizeof(size_t)) && is_kept_behind(&buffer, written) && is_kept_behind(&place, 16);
+    for (size_t i = 0; i < written; i++) lines += buffer.inside.bytes[i] == '\n';
     check(status == PARTMEM_DONE && is_kept && lines == superblocks + 1, "the table of owners", 0, superblocks, tenants);
 }
 
 static void boot_and_end(uint32_t order, uint32_t superblocks, uint32_t tenants)
 {
     partmem_machine *machine = vacant_place();
-    check(partmem_boot(machine, order, superblocks, tenants) == PARTMEM_DONE, "boot", order, superblocks, tenants);
+    check(boot(machine, order, superblocks, tenants) == PARTMEM_DONE, "boot", order, superblocks, tenants);
     look_at(machine, order, superblocks, tenants);
     look_at_text(machine, superblocks, tenants);
+    use_in_place(machine, order, superblocks, tenants);
     check(partmem_end(machine) == PARTMEM_DONE, "end", order, superblocks, tenants);
-    partmem_machine zeroes = {0};
+    partmem_machine zeroes = {{0}};
     bool is_vacant = is_kept_behind(&place, 16) && !memcmp(machine, &zeroes, sizeof zeroes);
     check(is_vacant, "what end leaves", order, superblocks, tenants);
 }
@@ -128,9 +173,9 @@ static void boot_and_end(uint32_t order, uint32_t superblocks, uint32_t tenants)
 /* no allocation is asked for where a number is out of its range */
 static void refuse_sizes(uint32_t order, uint32_t superblocks, uint32_t tenants)
 {
-    partmem_machine *machine = vacant_place(), zeroes = {0};
+    partmem_machine *machine = vacant_place(), zeroes = {{0}};
     refused_allocation = 1;
-    check(partmem_boot(machine, order, superblocks, tenants) == PARTMEM_BAD_SIZES, "not refused", order, superblocks, tenants);
+    check(boot(machine, order, superblocks, tenants) == PARTMEM_BAD_CONFIG, "not refused", order, superblocks, tenants);
     bool is_kept = refused_allocation == 1 && is_kept_behind(&place, 16) && !memcmp(machine, &zeroes, sizeof zeroes);
     check(is_kept, "changed by refused sizes", order, superblocks, tenants);
     refused_allocation = 0;
@@ -158,9 +203,9 @@ static int try_edges(void)
 static long refuse_each(uint32_t order, uint32_t superblocks, uint32_t tenants)
 {
     for (long number = 1;; number++) {
-        partmem_machine *machine = vacant_place(), zeroes = {0};
+        partmem_machine *machine = vacant_place(), zeroes = {{0}};
         refused_allocation = number;
-        uint32_t status = partmem_boot(machine, order, superblocks, tenants);
+        partmem_status status = boot(machine, order, superblocks, tenants);
         bool was_refused = refused_allocation == 0;
         refused_allocation = 0;
         if (!was_refused) {

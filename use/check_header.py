@@ -5,20 +5,28 @@ import glob
 import re
 import sys
 
-C_TYPES = {"uint32_t": "u32", "bool": "bool", "void *": "*mut u8", "size_t": "usize"}
-STRUCTS = {"partmem_machine": "Machine", "partmem_slot": "Slot", "partmem_asked": "Asked", "partmem_told": "Told",
-           "partmem_owned": "Owner"}
-FOR_C_PLUS_PLUS = "#ifdef __cplusplus {} #endif"
-FRAME = ["#ifndef PARTMEM_H", "#define PARTMEM_H", "#include <stdbool.h>", "#include <stddef.h>", "#include <stdint.h>",
-         FOR_C_PLUS_PLUS.format('extern "C" {'), FOR_C_PLUS_PLUS.format("}"), "#endif"]
-DEFINE = re.compile(r"#define PARTMEM_(\w+) (\d+)u")
+LIMITS = "FRAME_BYTES LEAST_ORDER MOST_ORDER MOST_SUPERBLOCKS MOST_TENANTS MOST_CACHES MOST_PATTERN MOST_BYTES".split()
+# The types of C, by those of Rust.
+TYPES = {"u32": "uint32_t", "usize": "size_t", "bool": "uint32_t", "*mut u8": "void *"}
+# What Rust has no field of that name for.
+FIELDS = {"usage": "use"}
+# A partmem_tenant goes where a machine and a number go.
+TENANT = [("machine", "partmem_machine *"), ("tenant", "uint32_t")]
+IN_C = ["partmem_strerror", "partmem_version"]
+ENUM = re.compile(r"(?:typedef )?enum (?:\w+ )?\{([^{}]*)\}(?: (\w+))?;")
 STRUCT = re.compile(r"typedef struct (\w+) \{([^{}]*)\} (\w+);")
-FIELD = re.compile(r"(\w+(?: \*)?) ?(\w+)")
-FUNCTION = re.compile(r"(uint32_t) (\w+)\(([^()]*)\);")
-PARAMETER = re.compile(r"((?:const )?\w+(?: \*)?) ?(\w+)")
+FUNCTION = re.compile(r"(?:PARTMEM_CHECKED )?(partmem_status|uint32_t|const char \*) ?(\w+)\(([^()]*)\);")
+INLINE = re.compile(r"PARTMEM_INLINE [\w *]+\([^()]*\) \{[^{}]*\}")
+DECLARED = re.compile(r"((?:const )?\w+(?: \*)?) ?(\w+)(\[[\w +]+\])?")
 
-header = re.sub(r"/\*.*?\*/", " ", open("crates/partmem_c/partmem.h", encoding="utf-8").read(), flags=re.S)
-sources = {path: re.sub(r"//[^\n]*", "", open(path, encoding="utf-8").read()) for path in glob.glob("crates/partmem_c/src/*.rt")}
+
+def read(path, comments):
+    with open(path, encoding="utf-8") as file:
+        return re.sub(comments, " ", file.read(), flags=re.S)
+
+
+header = read("crates/partmem_c/partmem.h", r"/\*.*?\*/")
+sources = {path: read(path, r"//[^\n]*") for path in glob.glob("crates/partmem_c/src/*.rt")}
 source = "\n".join(sources.values())
 
 
@@ -26,102 +34,150 @@ def fail(text):
     sys.exit(f"partmem.h: {text}")
 
 
-def matched(pattern, text):
-    """What all of the text is by the pattern."""
-    found = pattern.fullmatch(" ".join(text.split()))
-    return found.groups() if found else fail(f"not read: {' '.join(text.split())!r}")
-
-
-def of_c(text):
-    """The Rust type of a C declaration's type."""
-    if text in C_TYPES:
-        return C_TYPES[text]
-    pointee = re.fullmatch(r"(const )?(\w+) \*", text)
-    if pointee and pointee[2] != "void":
-        name = {"uint8_t": "u8", "size_t": "usize"}.get(pointee[2]) or of_c(pointee[2])
-        return ("&" if pointee[1] else "&mut ") + name
-    return STRUCTS.get(text) or fail(f"no type of the library: {text}")
+def declared(text):
+    """The name and the type of what C declares."""
+    found = DECLARED.fullmatch(" ".join(text.split()))
+    return (found[2], found[1] + (found[3] or "")) if found else fail(f"not read: {text!r}")
 
 
 def parts_of_header():
-    """The numbers, structs and functions of the header; all else that stands in it is the frame of a header."""
-    lines = [" ".join(line.split()) for line in header.splitlines()]
-    numbers = [matched(DEFINE, line) for line in lines if line.startswith("#define PARTMEM_") and line not in FRAME]
-    text = " ".join(line for line in lines if line and (not line.startswith("#define PARTMEM_") or line in FRAME))
-    rest = " ".join(FUNCTION.sub("", STRUCT.sub("", text)).split())
-    if rest != " ".join(FRAME):
-        fail(f"beside numbers, structs and functions it has: {rest}")
-    return numbers, STRUCT.findall(text), FUNCTION.findall(text)
+    """The macros, enums, structs and functions of the header. All else in it is preprocessor lines and inline functions."""
+    macros = re.findall(r"^#define PARTMEM_(\w+) (\w+?)u\b", header, re.M)
+    text = " ".join(line for line in header.splitlines() if not line.startswith("#"))
+    text = INLINE.sub(" ", " ".join(text.split()))
+    rest = " ".join(FUNCTION.sub("", STRUCT.sub("", ENUM.sub("", text))).split())
+    if rest != 'extern "C" { }':
+        fail(f"beside what is compared it has: {rest}")
+    return macros, ENUM.findall(text), STRUCT.findall(text), FUNCTION.findall(text)
 
 
-def exports_of(functions):
+def constants(text):
+    return re.findall(r"PARTMEM_(\w+) = (\w+)", text)
+
+
+# What Rust calls a struct of the header: read off the exports, in which both ends name a parameter alike.
+names = {"Machine": "partmem_machine"}
+
+
+def of_rust(text):
+    """The type of C for one of Rust's."""
+    array = re.fullmatch(r"\[(\w+); (\w+)\]", text)
+    if array:
+        return f"{of_rust(array[1])}[{array[2]}]"
+    pointer = re.fullmatch(r"&(mut )?(\w+)", text)
+    if pointer:
+        return ("" if pointer[1] else "const ") + of_rust(pointer[2]) + " *"
+    return TYPES.get(text) or names.get(text) or fail(f"no type of the header: {text}")
+
+
+def exports_of_header(functions):
     for result, name, parameters in functions:
-        parts = [matched(PARAMETER, part) for part in parameters.split(",")]
-        yield name, ([(parameter, of_c(kind)) for kind, parameter in parts], of_c(result))
+        if name in IN_C:
+            continue
+        if result != "partmem_status":
+            fail(f"{name} returns {result}")
+        flat = []
+        for parameter, kind in map(declared, parameters.split(",")):
+            flat += TENANT if kind == "partmem_tenant" else [(parameter, kind)]
+        yield name, flat
 
 
-def exports_of_source():
-    exports = re.findall(r'#\[unsafe\(no_mangle\)\]\s*pub extern "C" fn (\w+)\((.*?)\)\s*->\s*(\w+)', source, re.S)
+def exports_of_source(in_header):
+    """The exports of the source, in the types of C: a slice is a pointer, to bytes or to text, and a length."""
+    exports = re.findall(r'#\[unsafe\(no_mangle\)\]\s*pub extern "C" fn (\w+)\((.*?)\)\s*->\s*u32', source, re.S)
     marks = len(re.findall(r"no_mangle|export_name", source))
     if not marks == source.count("extern") == len(exports):
         fail(f"not every export of the source was read: {len(exports)} of {marks}")
-    for name, parameters, result in exports:
-        flat = []
+    for name, parameters in exports:
+        theirs, flat = in_header.get(name, []), []
         for part in filter(None, (part.strip() for part in parameters.split(","))):
             parameter, kind = part.split(": ", 1)
             if kind == "Global":
                 continue
-            item = re.fullmatch(r"(&|&mut )\[(u8)\]", kind)
+            at = theirs[len(flat):len(flat) + 2]
+            item = re.fullmatch(r"&(mut )?\[u8\]", kind)
             if item:
-                flat += [(parameter, item[1] + item[2]), (parameter + "_len", "usize")]
-            else:
-                flat.append((parameter, kind))
-        yield name, (flat, result)
+                kinds = [("" if item[1] else "const ") + of + " *" for of in ("void", "char")]
+                flat.append((parameter, at[0][1] if at and at[0][1] in kinds else kinds[0]))
+                flat.append((at[1][0] if len(at) > 1 else "", "size_t"))
+                continue
+            struct = re.fullmatch(r"&(?:mut )?([A-Z]\w+)", kind)
+            if struct and at and struct[1] not in names:
+                names[struct[1]] = at[0][1].removeprefix("const ").removesuffix(" *")
+            flat.append((parameter, of_rust(kind)))
+        yield name, flat
 
 
-def structs_of(structs):
+def structs_of_header(structs):
     for tag, fields, name in structs:
         if tag != name:
             fail(f"struct {tag} is named {name}")
-        pairs = [matched(FIELD, field) for field in fields.split(";")[:-1]]
-        if fields.split(";")[-1].strip():
-            fail(f"not read: {fields}")
-        yield STRUCTS.get(name) or fail(f"no struct of the library: {name}"), [(field, of_c(kind)) for kind, field in pairs]
+        yield name, [declared(field) for field in fields.split(";")[:-1]]
 
 
-def structs_of_source():
-    structs = re.findall(r"#\[repr\(C\)\]\s*((?:#\[[^\]]*\]\s*)*)pub struct (\w+) \{(.*?)\n\}", source, re.S)
+def structs_of_source(in_header):
+    """The structs of the source. C does not see the two that hold a machine."""
+    structs = re.findall(r"#\[repr\(C\)\]\s*(?:#\[[^\]]*\]\s*)*pub struct (\w+) \{(.*?)\n\}", source, re.S)
     if len(structs) != source.count("repr("):
         fail(f"the source has {source.count('repr(')} structs for C, of which {len(structs)} were read")
-    for _, name, fields in structs:
-        plain = [line.strip().rstrip(",").removeprefix("pub ") for line in fields.splitlines()]
-        yield name, [tuple(line.split(": ", 1)) for line in plain if line and not line.startswith("ghost")]
+    read_of = {}
+    for name, fields in structs:
+        lines = [line.strip().rstrip(",").removeprefix("pub ") for line in fields.splitlines()]
+        pairs = [line.split(": ", 1) for line in lines if line and not line.startswith("ghost")]
+        read_of[name] = [(FIELDS.get(field, field), kind) for field, kind in pairs]
+    if [read_of.pop("Machine"), read_of.pop("Slot")] != [[("is_booted", "bool"), ("slot", "Slot")], [("at", "*mut u8")]]:
+        fail("a machine is held in another way")
+    # Rows have no parameter: their names are those of the fields that have them.
+    for name, fields in read_of.items():
+        for field, kind in fields:
+            row = re.fullmatch(r"\[([A-Z]\w+); \w+\]", kind)
+            if row:
+                names[row[1]] = dict(in_header.get(names[name], [])).get(field, "").split("[")[0]
+    for name, fields in read_of.items():
+        yield names.get(name) or fail(f"no struct of the header: {name}"), [(field, of_rust(kind)) for field, kind in fields]
+
+
+def plain(structs, limits):
+    """The structs with numbers as lengths of arrays, and enums as what carries them."""
+    for name, fields in structs.items():
+        kinds = [re.sub(r"\[(.*)\]", lambda found: f"[{length(found[1], limits)}]", kind) for _, kind in fields]
+        yield name, [(field, kind.replace("partmem_use", "uint32_t")) for (field, _), kind in zip(fields, kinds)]
+
+
+def length(text, limits):
+    """A length of an array, which is a limit, in C perhaps with 1 added, or a constant of the source that is made of limits."""
+    names = {"ORDERS": limits["MOST_ORDER"] + 1, "CACHES": limits["MOST_CACHES"], **limits}
+    return sum(int(names.get(part.removeprefix("PARTMEM_"), part)) for part in text.split(" + "))
+
+
+def snake(name):
+    return re.sub(r"(?<!^)([A-Z])", r"_\1", name).upper()
 
 
 def numbers_of_source():
+    """The numbers of the source: statuses, kinds and uses, and what bounds them."""
     for path, text in sources.items():
-        if path.endswith(("/status.rt", "/kinds.rt", "/events.rt")):
-            for name, number in re.findall(r"pub const (\w+): u32 = (\d+);", text):
-                yield name, int(number)
-
-    def limit(path, name):
-        return int(re.search(rf"const {name}: \w+ = (\d+);", open(path, encoding="utf-8").read())[1])
-
-    limits = "crates/model_core/src/limits.rt"
-    yield "MOST_BYTES", limit(limits, "MOST_BYTES")
-    yield "MOST_TEXT_BYTES", (1 + limit(limits, "MOST_SUPERBLOCKS")) * limit("crates/words_core/src/text.rt", "MOST_REPLY_BYTES")
+        for name, number in re.findall(r"pub const (\w+): u32 = (\d+);", text):
+            yield name, int(number)
+    refusals = re.search(r"pub enum Refusal \{(.*?)\n\}", read("crates/words_core/src/reply.rt", r"//[^\n]*"), re.S)[1]
+    for number, name in enumerate(re.findall(r"(\w+)(?: = 1)?,", refusals), 1):
+        yield snake(name), number
+    limits = dict(re.findall(r"pub const (\w+): \w+ = (\d+);", read("crates/model_core/src/limits.rt", r"//[^\n]*")))
+    row = re.search(r"const MOST_REPLY_BYTES: \w+ = (\d+);", read("crates/words_core/src/text.rt", r"//[^\n]*"))[1]
+    for name in LIMITS:
+        yield name, int(limits[name])
+    yield "MOST_TEXT_BYTES", (1 + int(limits["MOST_SUPERBLOCKS"])) * int(row)
 
 
 def by_name(what, pairs):
-    """The pairs by their names, each of which stands once."""
+    """The pairs by their names, each of which is there once."""
     pairs = list(pairs)
     if len(pairs) != len(dict(pairs)):
-        fail(f"a {what} stands twice")
+        fail(f"a {what} is there twice")
     return dict(pairs)
 
 
 def compare(what, in_header, in_source):
-    in_header, in_source = by_name(what, in_header), by_name(what, in_source)
     for name in sorted(in_header.keys() | in_source.keys()):
         if in_header.get(name) != in_source.get(name):
             fail(f"{what} {name}: {in_header.get(name)} in the header, {in_source.get(name)} in the source")
@@ -129,10 +185,24 @@ def compare(what, in_header, in_source):
     return len(in_header)
 
 
-numbers, structs, functions = parts_of_header()
-told = [
-    f"{compare('function', exports_of(functions), exports_of_source())} functions",
-    f"{compare('struct', structs_of(structs), structs_of_source())} structs",
-    f"{compare('number', [(name, int(number)) for name, number in numbers], numbers_of_source())} numbers",
+macros, enums, structs, functions = parts_of_header()
+numbers = macros + [pair for text, _ in enums for pair in constants(text)]
+numbers = by_name("number", [(name, int(number, 0)) for name, number in numbers])
+# Of C alone: the version, the place of no byte, and the width of the two enums.
+for name, number in {"VERSION": 20000, "NO_PLACE": 2 ** 32 - 1, "STATUS_BITS": 2 ** 31 - 1, "USE_BITS": 2 ** 31 - 1}.items():
+    if numbers.pop(name, None) != number:
+        fail(f"PARTMEM_{name} is not {number}")
+of_source = by_name("number", numbers_of_source())
+exports = by_name("function", exports_of_header(functions))
+exports_in_source = by_name("function", exports_of_source(exports))
+in_header = by_name("struct", structs_of_header(structs))
+if in_header.pop("partmem_machine", None) != [("held", "void *[2]")] or \
+        in_header.pop("partmem_tenant", None) != [("machine", "partmem_machine *"), ("number", "uint32_t")]:
+    fail("a machine or a tenant is another struct")
+in_source = by_name("struct", structs_of_source(in_header))
+found = [
+    f"{compare('function', exports, exports_in_source)} functions",
+    f"{compare('struct', dict(plain(in_header, of_source)), dict(plain(in_source, of_source)))} structs",
+    f"{compare('number', numbers, of_source)} numbers",
 ]
-print(f"partmem.h: {', '.join(told)} are those of the source")
+print(f"partmem.h: {', '.join(found)} are those of the source")

@@ -8,56 +8,69 @@
 
 #include "partmem.h"
 
-static void done(uint32_t status, const char *what) {
-    if (status != PARTMEM_DONE) throw std::runtime_error(what);
+static void must(partmem_status status) {
+    if (status != PARTMEM_DONE) throw std::runtime_error(partmem_strerror(status));
 }
 
 // A booted machine, which stays where it is.
 class Booted {
 public:
-    Booted(uint32_t order, uint32_t superblocks, uint32_t tenants) {
-        done(partmem_boot(&machine, order, superblocks, tenants), "boot");
-    }
+    explicit Booted(partmem_config config) { must(partmem_boot(&machine, &config)); }
     ~Booted() { partmem_end(&machine); }
     Booted(const Booted &) = delete;
     Booted &operator=(const Booted &) = delete;
 
+    partmem_tenant tenant(uint32_t number) { return {&machine, number}; }
+
     std::string line(const std::string &text) {
         std::size_t written = 0;
-        const uint8_t *bytes = reinterpret_cast<const uint8_t *>(text.data());
-        done(partmem_line(&machine, bytes, text.size(), room.data(), room.size(), &written), "line");
-        return std::string(room.begin(), room.begin() + static_cast<std::ptrdiff_t>(written));
-    }
-
-    partmem_told event(partmem_asked asked, const std::string &text = "") {
-        partmem_told told = {};
-        const uint8_t *bytes = reinterpret_cast<const uint8_t *>(text.data());
-        done(partmem_event(&machine, &asked, bytes, text.size(), &told, room.data(), room.size()), "event");
-        return told;
-    }
-
-    partmem_owned owner(uint32_t superblock) {
-        partmem_owned owner = {};
-        done(partmem_owner(&machine, superblock, &owner), "owner");
-        return owner;
+        must(partmem_line(&machine, text.data(), text.size(), buffer.data(), buffer.size(), &written));
+        return std::string(buffer.data(), written);
     }
 
 private:
     partmem_machine machine = {};
-    std::vector<uint8_t> room = std::vector<uint8_t>(PARTMEM_MOST_TEXT_BYTES);
+    std::vector<char> buffer = std::vector<char>(PARTMEM_MOST_TEXT_BYTES);
+};
+
+// An object of a cache, of type T, which is given back when this goes.
+template <typename T>
+class Object {
+public:
+    Object(partmem_tenant tenant, uint32_t cache) : tenant(tenant), cache(cache) { must(partmem_take(tenant, cache, &object)); }
+    ~Object() {
+        if (partmem_give(tenant, cache, object.place) != PARTMEM_DONE) std::terminate();
+    }
+    Object(const Object &) = delete;
+    Object &operator=(const Object &) = delete;
+
+    T *operator->() const { return static_cast<T *>(object.at); }
+
+private:
+    partmem_tenant tenant;
+    uint32_t cache;
+    partmem_lent object;
+};
+
+struct Message {
+    uint32_t number;
+    char text[60];
 };
 
 int main(int argc, char **argv) {
     std::ifstream trace(argc > 1 ? argv[1] : "", std::ios::binary);
     if (!trace) throw std::runtime_error("usage: two_machines TRACE");
-    Booted first(3, 2, 2), second(8, 256, 64);
-    second.event({PARTMEM_GRANT, 63, 0, 0});
-    if (second.event({PARTMEM_ALLOC, 63, 4, 0}).kind != PARTMEM_FRAME) throw std::runtime_error("alloc");
+    Booted first({3, 2, 2}), second({8, 256, 64});
+    partmem_slot slot;
+    partmem_cache messages;
+    must(partmem_grant(second.tenant(63), &slot));
+    must(partmem_make_cache(second.tenant(63), sizeof(Message), 8, "m", 1, &messages));
+    Object<Message> message(second.tenant(63), messages.cache);
+    if (message->text[59] != 'm') throw std::runtime_error("the pattern");
+    std::strcpy(message->text, "hello");
     for (std::string text; std::getline(trace, text);) {
         std::string replies = first.line(text);
         std::fwrite(replies.data(), 1, replies.size(), stdout);
     }
-    if (second.event({PARTMEM_WRITE, 63, 9, 0}, "held").first != 4) throw std::runtime_error("write");
-    partmem_owned owner = second.owner(0);
-    if (!owner.is_owned || owner.tenant != 63 || owner.slot != 0) throw std::runtime_error("owner");
+    if (std::strcmp(message->text, "hello") != 0) throw std::runtime_error("the message");
 }

@@ -1,65 +1,82 @@
 //! Two machines beside each other as in `two_machines.c`, in plain Rust, where dropping one ends it.
-use std::ffi::c_void;
+use std::ffi::{c_char, c_void};
 use std::io::{BufRead, BufReader, Write};
+use std::ptr;
 
 #[repr(C)]
-struct Machine {
-    is_booted: bool,
-    at: *mut c_void,
+struct Machine([*mut c_void; 2]);
+
+#[repr(C)]
+#[derive(Clone, Copy)]
+struct Tenant {
+    machine: *mut Machine,
+    number: u32,
 }
 
 #[repr(C)]
-struct Asked(u32, u32, u32, u32);
-
-#[repr(C)]
-#[derive(Default)]
-struct Told {
-    kind: u32,
-    numbers: [u32; 5],
+struct Config {
+    order: u32,
+    superblocks: u32,
+    tenants: u32,
 }
 
 #[repr(C)]
 #[derive(Default)]
-struct Owned {
-    is_owned: bool,
-    tenant: u32,
+struct Slot {
     slot: u32,
+    superblock: u32,
+}
+
+#[repr(C)]
+struct Lent {
+    at: *mut u8,
+    place: u32,
+    bytes: u32,
 }
 
 extern "C" {
-    fn partmem_boot(machine: *mut Machine, order: u32, superblocks: u32, tenants: u32) -> u32;
-    fn partmem_line(machine: *mut Machine, line: *const u8, line_len: usize, room: *mut u8, room_len: usize, written: *mut usize) -> u32;
-    fn partmem_event(machine: *mut Machine, asked: *const Asked, bytes: *const u8, bytes_len: usize, told: *mut Told, room: *mut u8, room_len: usize) -> u32;
-    fn partmem_owner(machine: *mut Machine, superblock: u32, owner: *mut Owned) -> u32;
+    fn partmem_boot(machine: *mut Machine, config: *const Config) -> u32;
     fn partmem_end(machine: *mut Machine) -> u32;
+    fn partmem_grant(tenant: Tenant, granted: *mut Slot) -> u32;
+    fn partmem_move(tenant: Tenant, slot: u32, moved: *mut Slot) -> u32;
+    fn partmem_alloc(tenant: Tenant, order: u32, block: *mut Lent) -> u32;
+    fn partmem_free(tenant: Tenant, place: u32) -> u32;
+    fn partmem_lend_block(tenant: Tenant, place: u32, block: *mut Lent) -> u32;
+    fn partmem_line(
+        machine: *mut Machine,
+        line: *const c_char,
+        line_len: usize,
+        buffer: *mut c_char,
+        buffer_len: usize,
+        written: *mut usize,
+    ) -> u32;
 }
 
 const DONE: u32 = 0;
-const HAS_MACHINE: u32 = 2;
+const NOT_A_BLOCK: u32 = 3;
+const HAS_MACHINE: u32 = 33;
 
 /// A booted machine, which ends when it is dropped.
 struct Booted(Box<Machine>);
 
 impl Booted {
     fn new(order: u32, superblocks: u32, tenants: u32) -> Booted {
-        let mut machine = Box::new(Machine { is_booted: false, at: std::ptr::null_mut() });
-        assert_eq!(unsafe { partmem_boot(&mut *machine, order, superblocks, tenants) }, DONE);
-        assert_eq!(unsafe { partmem_boot(&mut *machine, order, superblocks, tenants) }, HAS_MACHINE);
+        let mut machine = Box::new(Machine([ptr::null_mut(); 2]));
+        let config = Config { order, superblocks, tenants };
+        assert_eq!(unsafe { partmem_boot(&mut *machine, &config) }, DONE);
+        assert_eq!(unsafe { partmem_boot(&mut *machine, &config) }, HAS_MACHINE);
         Booted(machine)
     }
 
-    fn line<'a>(&mut self, line: &[u8], room: &'a mut [u8]) -> &'a [u8] {
-        let mut written = 0;
-        let status = unsafe { partmem_line(&mut *self.0, line.as_ptr(), line.len(), room.as_mut_ptr(), room.len(), &mut written) };
-        assert_eq!(status, DONE);
-        &room[..written]
+    fn tenant(&mut self, number: u32) -> Tenant {
+        Tenant { machine: &mut *self.0, number }
     }
 
-    fn event(&mut self, asked: Asked, bytes: &[u8], room: &mut [u8; 64]) -> Told {
-        let mut told = Told::default();
-        let status = unsafe { partmem_event(&mut *self.0, &asked, bytes.as_ptr(), bytes.len(), &mut told, room.as_mut_ptr(), room.len()) };
-        assert_eq!(status, DONE);
-        told
+    fn line<'a>(&mut self, line: &[u8], buffer: &'a mut [u8]) -> &'a [u8] {
+        let mut written = 0;
+        let (text, reply) = (line.as_ptr().cast(), buffer.as_mut_ptr().cast());
+        assert_eq!(unsafe { partmem_line(&mut *self.0, text, line.len(), reply, buffer.len(), &mut written) }, DONE);
+        &buffer[..written]
     }
 }
 
@@ -69,19 +86,29 @@ impl Drop for Booted {
     }
 }
 
+impl Lent {
+    /// The bytes, which nobody else uses.
+    fn bytes(&mut self) -> &mut [u8] {
+        unsafe { std::slice::from_raw_parts_mut(self.at, self.bytes as usize) }
+    }
+}
+
 fn main() {
     let path = std::env::args().nth(1).expect("two_machines TRACE");
     let (mut first, mut second) = (Booted::new(3, 2, 2), Booted::new(8, 256, 64));
-    let (mut room, mut bytes, mut out) = (vec![0; 65_792], [0; 64], std::io::stdout());
-    second.event(Asked(1, 63, 0, 0), b"", &mut bytes);
-    assert_eq!(second.event(Asked(6, 63, 4, 0), b"", &mut bytes).kind, 7);
+    let (mut buffer, mut out) = (vec![0; 65_792], std::io::stdout());
+    let (last, other) = (second.tenant(63), second.tenant(62));
+    let (mut slot, mut block) = (Slot::default(), Lent { at: ptr::null_mut(), place: 0, bytes: 0 });
+    assert_eq!(unsafe { partmem_grant(last, &mut slot) }, DONE);
+    assert_eq!(unsafe { partmem_alloc(last, 4, &mut block) }, DONE);
+    assert!(block.bytes().iter().all(|byte| *byte == 0));
+    block.bytes()[..4].copy_from_slice(b"held");
     for line in BufReader::new(std::fs::File::open(path).expect("a trace")).split(b'\n') {
-        out.write_all(first.line(&line.expect("a line"), &mut room)).expect("standard output");
+        out.write_all(first.line(&line.expect("a line"), &mut buffer)).expect("standard output");
     }
-    assert_eq!(second.event(Asked(9, 63, 9, 0), b"held", &mut bytes).numbers[0], 4);
-    second.event(Asked(8, 63, 9, 4), b"", &mut bytes);
-    assert_eq!(&bytes[..4], b"held");
-    let mut owner = Owned::default();
-    assert_eq!(unsafe { partmem_owner(&mut *second.0, 0, &mut owner) }, DONE);
-    assert!((owner.is_owned, owner.tenant, owner.slot) == (true, 63, 0));
+    assert_eq!(unsafe { partmem_move(last, slot.slot, &mut slot) }, DONE);
+    assert_eq!(unsafe { partmem_lend_block(last, block.place, &mut block) }, DONE);
+    assert_eq!((block.bytes().len(), &block.bytes()[..4]), (65_536, b"held".as_slice()));
+    assert_eq!(unsafe { partmem_free(other, block.place) }, NOT_A_BLOCK);
+    assert_eq!(unsafe { partmem_free(last, block.place) }, DONE);
 }

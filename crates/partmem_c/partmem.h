@@ -1,24 +1,50 @@
-/* partmem: the page and object allocator of a partitioning kernel, as a static library.
+/* partmem.h: page blocks and objects in partitions of memory, for C and C++.
  *
- * What the functions do is proved of their Rattle source. C has to uphold the following, and nothing tests it:
+ * A machine has RAM in superblocks. Its administrator grants them to tenants. A tenant allocates page blocks and takes objects
+ * from what it was granted, and uses them in place. Whatever the others do, a tenant gets the same results and finds the same
+ * bytes as if it were alone. That is proved of these calls and of loads and stores in lent bytes, for callers that keep the
+ * DUTIES at the end of this file.
  *
- * - A machine's place starts as zeroes, `partmem_machine m = {0};`, and C never writes its fields, nor copies or moves it. A place
- *   is left behind only while no machine is in it: before a boot that answered PARTMEM_DONE, or after partmem_end.
- * - Each pointer leads to a live object of its type, and each pair of pointer and length to that many bytes that may be read (and
- *   written, where they are not const), also for length 0: a pointer is never null. `bool`s are 0 or 1.
- * - The objects of one call don't overlap.
- * - malloc, realloc and free are one allocator; they align a block to each power of two up to 16 that divides its size.
- * - A machine stays on the thread that booted it, and none of these functions is called from a signal handler or from the forked
- *   child of a process with threads.
+ *     frame       4096 bytes
+ *     superblock  2^order frames of RAM: order 3 to 8, superblocks 1 to 256, tenants 1 to 64. Numbered from 0 in a machine.
+ *     slot        where a tenant holds a superblock. Numbered from 0 in a tenant, who cannot tell which superblock it is.
+ *     place       the number of a byte of a tenant. Slot s has the places from s * (4096 << order) on. Blocks and objects are
+ *                 named by the place of their first byte. A move changes addresses, and no place.
+ *     page block  2^k frames, k from 0 to order, at a place that is a multiple of its bytes
+ *     cache       objects of one size, in slabs of the tenant's frames. Numbered from 0 in a tenant, the least free number
+ *                 first. A new slab fills its objects with the cache's pattern. Later an object is as it was given back.
+ *     lent        what partmem_alloc, partmem_take and the lend functions return: bytes at an address that may be used
  *
- * All else that a caller can get wrong is tested: it is answered by its number, and changes nothing, but that partmem_line then
- * sets `*written` to 0. Several machines may be held at once. A machine takes memory in partmem_boot alone, and gives it back in
- * partmem_end.
+ * LIFETIME. Lent bytes stay at their address until their block is freed, their object given back, their slot moved, their
+ * tenant reset or their machine ended. No other call, of any tenant, moves, scrubs or writes them, except partmem_write, or a
+ * write by partmem_event or partmem_line, to these bytes. Lending again returns the same address. A lend is no event: it
+ * changes nothing that a tenant can see, it may be done any number of times, and nothing has to be returned. So a caller keeps
+ * addresses for speed, or only places, which stay through moves, and lends before each use.
+ *
+ *     partmem_machine machine = {{0}};
+ *     partmem_config config = {4, 16, 8};              16 superblocks of 64 KiB, 8 tenants
+ *     partmem_tenant client = {&machine, 3};
+ *     partmem_boot(&machine, &config)                  each returns PARTMEM_DONE, which is 0, or why not
+ *     partmem_grant(client, &slot)
+ *     partmem_make_cache(client, sizeof(struct session), 8, "", 1, &sessions)
+ *     partmem_take(client, sessions.cache, &object)
+ *     struct session *session = object.at;
+ *     partmem_give(client, sessions.cache, object.place)
+ *
+ * MEMORY. partmem_boot takes all memory of a machine from malloc, at most 256 MiB and its tables; no other call allocates. For
+ * more memory or more tenants boot several machines: client c is then the tenant {&machines[c / 64], c % 64}. Of the C library
+ * malloc, realloc, free, memcpy, memmove and memset are used, and nothing else: no system call, no thread, no clock.
+ *
+ * ALIGNMENT. An address has the alignment of its place up to 16 bytes, as malloc's memory has: an object of alignment 64 may
+ * lie at 16 more than a multiple of 64, and a frame need not begin on a page. Page tables require RAM on whole pages, which a
+ * later version gives.
+ *
+ * PROCESSOR. x86-64-v2, with the System V calling convention. On an older processor a call ends in an illegal instruction. With
+ * gcc and clang `__builtin_cpu_supports("sse4.2") && __builtin_cpu_supports("popcnt")` tests for it.
  */
 #ifndef PARTMEM_H
 #define PARTMEM_H
 
-#include <stdbool.h>
 #include <stddef.h>
 #include <stdint.h>
 
@@ -26,112 +52,393 @@
 extern "C" {
 #endif
 
-/* what a function answers */
-#define PARTMEM_DONE 0u
-#define PARTMEM_NO_MACHINE 1u    /* the place holds none: not booted, or ended */
-#define PARTMEM_HAS_MACHINE 2u   /* the place holds one already, which stays */
-#define PARTMEM_BAD_SIZES 3u     /* a size is out of its range */
-#define PARTMEM_NO_MEMORY 4u     /* an allocation was refused */
-#define PARTMEM_NO_ROOM 5u       /* the room is smaller than the function asks for */
-#define PARTMEM_NOT_A_LINE 6u    /* there is a line feed among the bytes */
-#define PARTMEM_NO_SUPERBLOCK 7u /* the machine has no superblock of that number */
-#define PARTMEM_NOT_AN_EVENT 8u  /* the kind is none, or the bytes are too few or too many for it */
+/* The version of this file: 10000 * major + 100 * minor + patch. partmem_version() returns the library's. */
+#define PARTMEM_VERSION 20000u
 
-/* room for what any line is answered, and for the bytes that any event tells */
-#define PARTMEM_MOST_TEXT_BYTES 65792u
-#define PARTMEM_MOST_BYTES 64u
+#if defined(__GNUC__)
+#define PARTMEM_CHECKED __attribute__((warn_unused_result))
+#else
+#define PARTMEM_CHECKED
+#endif
+#if defined(__cplusplus) || (defined(__STDC_VERSION__) && __STDC_VERSION__ >= 199901L)
+#define PARTMEM_INLINE static inline
+#else
+#define PARTMEM_INLINE static __inline__
+#endif
 
-/* the kinds of events, with what `first` and `second` are; all but PARTMEM_WRITE and PARTMEM_CACHE ignore the bytes passed */
-#define PARTMEM_GRANT 1u     /* by the administrator: a superblock for the tenant */
-#define PARTMEM_TAKE_BACK 2u /* by the administrator: slot */
-#define PARTMEM_RESET 3u     /* by the administrator: all that the tenant has */
-#define PARTMEM_MOVE 4u      /* by the administrator: slot */
-#define PARTMEM_POOL 5u      /* by the administrator, who is told the number of superblocks: partmem_owner tells their owners */
-#define PARTMEM_ALLOC 6u     /* order */
-#define PARTMEM_FREE 7u      /* frame */
-#define PARTMEM_READ 8u      /* place, how many bytes: 1 to 64, or it is refused */
-#define PARTMEM_WRITE 9u     /* place; with 1 to 64 bytes */
-#define PARTMEM_CACHE 10u    /* size, alignment; with a pattern of 1 to 16 bytes */
-#define PARTMEM_DESTROY 11u  /* cache */
-#define PARTMEM_TAKE 12u     /* cache */
-#define PARTMEM_GIVE 13u     /* cache, place */
-#define PARTMEM_REAP 14u
-#define PARTMEM_REPORT 15u
+#define PARTMEM_FRAME_BYTES 4096u
+#define PARTMEM_LEAST_ORDER 3u /* 32 KiB */
+#define PARTMEM_MOST_ORDER 8u  /* 1 MiB */
+#define PARTMEM_MOST_SUPERBLOCKS 256u
+#define PARTMEM_MOST_TENANTS 64u
+#define PARTMEM_MOST_CACHES 32u /* of a tenant */
+#define PARTMEM_MOST_PATTERN 16u
+#define PARTMEM_MOST_BYTES 64u         /* of a read or a write, and the least buffer of an event */
+#define PARTMEM_MOST_TEXT_BYTES 65792u /* the least buffer of a line */
+#define PARTMEM_NO_PLACE 0xffffffffu   /* the place of no byte, for links that lead nowhere */
 
-/* the kinds of answers, with what the numbers are in turn; the others are 0 */
-#define PARTMEM_NOTHING 0u     /* no event is answered so */
-#define PARTMEM_REFUSED 1u     /* the number of the refusal, 1 to 15, as a reply line writes it */
-#define PARTMEM_GRANTED 2u     /* tenant, slot, superblock */
-#define PARTMEM_TAKEN_BACK 3u  /* superblock */
-#define PARTMEM_WAS_RESET 4u   /* tenant, how many superblocks it had */
-#define PARTMEM_MOVED 5u       /* tenant, slot, superblock */
-#define PARTMEM_OWNERS 6u      /* how many superblocks there are */
-#define PARTMEM_FRAME 7u       /* the first frame of the block */
-#define PARTMEM_FREED 8u       /* the order of the block */
-#define PARTMEM_BYTES 9u       /* how many bytes: they stand over the first bytes of the room */
-#define PARTMEM_WRITTEN 10u    /* how many bytes */
-#define PARTMEM_MADE 11u       /* cache, chunk, order of its slabs, their objects, their colours */
-#define PARTMEM_DESTROYED 12u  /* how many frames came back */
-#define PARTMEM_OBJECT 13u     /* place */
-#define PARTMEM_GIVEN 14u
-#define PARTMEM_REAPED 15u     /* how many frames came back */
-#define PARTMEM_FIGURES 16u    /* frames, live, free, greatest order of a free block plus 1 (0: none), thousandths of free outside it */
+/* ---- Status -----------------------------------------------------------------------------------------------------------------
+ *
+ * A refusal answers a request: its number is that of traces, and except POOL_EMPTY it follows from what the tenant itself did
+ * and was granted. An error is a mistake of the caller. After either, nothing has changed and all results are zeroes, so `at`
+ * is NULL.
+ *
+ * Each function lists what it returns besides DONE, and returns the first that applies. All functions with a tenant return
+ * NO_MACHINE and NO_TENANT before what they list. */
+typedef enum partmem_status {
+    PARTMEM_DONE = 0,
 
-typedef struct partmem_slot {
-    void *at;
-} partmem_slot;
+    /* refusals */
+    PARTMEM_NO_FRAMES = 1,      /* no free block is large enough, even after empty slabs were given back */
+    PARTMEM_BAD_ORDER = 2,      /* the order is larger than a superblock's */
+    PARTMEM_NOT_A_BLOCK = 3,    /* no live page block begins at the place */
+    PARTMEM_OUT_OF_REACH = 4,   /* the bytes are none, or not inside one live page block or one live object */
+    PARTMEM_BAD_LENGTH = 5,     /* a read of 0 bytes, or of more than 64 */
+    PARTMEM_BAD_SIZE = 6,       /* the size of an object is 0, or larger than 4096 */
+    PARTMEM_BAD_ALIGN = 7,      /* the alignment is not 8, 16, 32, 64, 128 or 256 */
+    PARTMEM_NO_CACHE_SLOT = 8,  /* the tenant has 32 caches */
+    PARTMEM_NO_CACHE = 9,       /* the tenant has no cache of that number */
+    PARTMEM_CACHE_IN_USE = 10,  /* the cache has a live object */
+    PARTMEM_NOT_AN_OBJECT = 11, /* no live object of that cache begins at the place */
+    PARTMEM_NO_TENANT = 12,     /* the machine has no tenant of that number */
+    PARTMEM_POOL_EMPTY = 13,    /* every superblock has an owner */
+    PARTMEM_NO_SLOT = 14,       /* the tenant does not hold that slot */
+    PARTMEM_SLOT_BUSY = 15,     /* a page block or a slab, even an empty one, has frames of the slot */
 
-/* the place of a machine; only these functions read or write its fields */
+    /* errors of the caller */
+    PARTMEM_NO_MACHINE = 32,       /* no machine was booted here, or it has ended */
+    PARTMEM_HAS_MACHINE = 33,      /* there is a machine already, which stays */
+    PARTMEM_BAD_CONFIG = 34,       /* a number of the partmem_config is out of range */
+    PARTMEM_NO_MEMORY = 36,        /* malloc failed */
+    PARTMEM_NO_SUPERBLOCK = 37,    /* the machine has no superblock of that number */
+    PARTMEM_NOT_A_LINE = 39,       /* the text has a line feed */
+    PARTMEM_NOT_AN_EVENT = 40,     /* there is no such kind, or it has too few or too many bytes */
+    PARTMEM_BUFFER_TOO_SMALL = 41, /* the buffer is smaller than the function requires */
+
+    PARTMEM_STATUS_BITS = 0x7fffffff /* no status: it makes the type 32 bits wide */
+} partmem_status;
+
+/* Returns the name and the meaning of a status, "NoFrames: no free block .."; a refusal's name is that of traces. Any number is
+ * allowed, and the text is never freed. */
+const char *partmem_strerror(partmem_status status);
+
+/* Returns the library's version, in the form of PARTMEM_VERSION. */
+uint32_t partmem_version(void);
+
+/* ---- Machines and tenants ------------------------------------------------------------------------------------------------ */
+
+/* A machine, all zeroes while there is none: partmem_machine machine = {{0}}; */
 typedef struct partmem_machine {
-    bool is_booted;
-    partmem_slot slot;
+    void *held[2];
 } partmem_machine;
 
-/* an event: its kind, the tenant that asks it or (by the administrator) is meant, and its numbers */
-typedef struct partmem_asked {
+/* A tenant of a machine. The caller fills in both fields; nothing is opened or closed. */
+typedef struct partmem_tenant {
+    partmem_machine *machine;
+    uint32_t number; /* from 0 */
+} partmem_tenant;
+
+/* Lent bytes: their address, the place of the first, and how many there are. */
+typedef struct partmem_lent {
+    void *at;
+    uint32_t place;
+    uint32_t bytes;
+} partmem_lent;
+
+/* The sizes of a machine. */
+typedef struct partmem_config {
+    uint32_t order;       /* 3 to 8 */
+    uint32_t superblocks; /* 1 to 256 */
+    uint32_t tenants;     /* 1 to 64 */
+} partmem_config;
+
+/* Boots a machine in which no superblock has an owner. Returns HAS_MACHINE, BAD_CONFIG, NO_MEMORY. */
+PARTMEM_CHECKED partmem_status partmem_boot(partmem_machine *machine, const partmem_config *config);
+
+/* Ends the machine and frees its memory, with the tenants' bytes in it. It can be booted again. Returns NO_MACHINE. */
+partmem_status partmem_end(partmem_machine *machine);
+
+/* ---- For the administrator ----------------------------------------------------------------------------------------------- */
+
+/* A slot, and the superblock under it, which is the administrator's knowledge and not the tenant's. */
+typedef struct partmem_slot {
+    uint32_t slot;
+    uint32_t superblock;
+} partmem_slot;
+
+/* Grants the first superblock without an owner, under the first slot that the tenant does not hold. It reads as zero. Returns
+ * POOL_EMPTY. */
+PARTMEM_CHECKED partmem_status partmem_grant(partmem_tenant tenant, partmem_slot *granted);
+
+/* Takes back a slot whose frames are all free, so nothing in it is lent. Returns NO_SLOT, SLOT_BUSY. */
+PARTMEM_CHECKED partmem_status partmem_take_back(partmem_tenant tenant, uint32_t slot);
+
+/* Replaces the superblock of a slot by the first one without an owner, and copies all its bytes. The tenant is not notified;
+ * what was lent in the slot has to be lent again. Returns NO_SLOT, POOL_EMPTY. */
+PARTMEM_CHECKED partmem_status partmem_move(partmem_tenant tenant, uint32_t slot, partmem_slot *moved);
+
+/* Takes back all that the tenant has: page blocks, objects, caches and slots. */
+PARTMEM_CHECKED partmem_status partmem_reset(partmem_tenant tenant);
+
+/* Finds the superblock under a slot. Returns NO_SLOT. */
+PARTMEM_CHECKED partmem_status partmem_find_slot(partmem_tenant tenant, uint32_t slot, partmem_slot *found);
+
+/* Who owns a superblock, and the slot it is under; all 0 without an owner. */
+typedef struct partmem_owner {
+    uint32_t is_owned; /* 0 or 1 */
+    uint32_t tenant;
+    uint32_t slot;
+} partmem_owner;
+
+/* Finds the owner of a superblock. Returns NO_MACHINE, NO_SUPERBLOCK. */
+PARTMEM_CHECKED partmem_status partmem_find_superblock(partmem_machine *machine, uint32_t superblock, partmem_owner *owner);
+
+/* ---- Page blocks --------------------------------------------------------------------------------------------------------- */
+
+/* Allocates 2^order frames, and lends them. They have what the tenant left there in page blocks since the grant, and zeroes
+ * otherwise. The first lend or write in a superblock since its grant takes as long as to clear that superblock. Returns
+ * BAD_ORDER, NO_FRAMES. */
+PARTMEM_CHECKED partmem_status partmem_alloc(partmem_tenant tenant, uint32_t order, partmem_lent *block);
+
+/* Frees the page block that begins at the place. Returns NOT_A_BLOCK. */
+PARTMEM_CHECKED partmem_status partmem_free(partmem_tenant tenant, uint32_t place);
+
+/* Returns the place of a frame's first byte, for a number from anywhere: PARTMEM_NO_PLACE if it is too large for a frame. */
+PARTMEM_INLINE uint32_t partmem_place_of(uint32_t frame)
+{
+    return frame <= 0xfffffu ? frame * PARTMEM_FRAME_BYTES : PARTMEM_NO_PLACE;
+}
+
+/* ---- Objects ------------------------------------------------------------------------------------------------------------- */
+
+/* A cache and the form of its slabs. */
+typedef struct partmem_cache {
+    uint32_t cache;      /* its number */
+    uint32_t chunk;      /* bytes from one object to the next */
+    uint32_t slab_bytes; /* of each slab: 4096 to 32768 */
+    uint32_t objects;    /* of each slab */
+    uint32_t colours;    /* offsets of the first object, which slabs use in turn */
+} partmem_cache;
+
+/* Makes a cache of objects of `size` bytes, 1 to 4096, at multiples of `align`: 8, 16, 32, 64, 128 or 256. The pattern, of 1 to
+ * 16 bytes, is repeated in each new object; "", 1 is zeroes. Returns NOT_AN_EVENT for a pattern of another length (before
+ * NO_TENANT), BAD_SIZE, BAD_ALIGN, NO_CACHE_SLOT. */
+PARTMEM_CHECKED partmem_status partmem_make_cache(partmem_tenant tenant, uint32_t size, uint32_t align, const void *pattern,
+                                                  size_t pattern_bytes, partmem_cache *made);
+
+/* Destroys a cache without live objects, and frees its slabs. Returns NO_CACHE, CACHE_IN_USE. */
+PARTMEM_CHECKED partmem_status partmem_destroy_cache(partmem_tenant tenant, uint32_t cache);
+
+/* Takes an object of a cache, and lends it. Its bytes are the pattern's if it is new, else what was in it when it was given
+ * back. Returns NO_CACHE, NO_FRAMES. */
+PARTMEM_CHECKED partmem_status partmem_take(partmem_tenant tenant, uint32_t cache, partmem_lent *object);
+
+/* Gives back the object that begins at the place. Returns NO_CACHE, NOT_AN_OBJECT. */
+PARTMEM_CHECKED partmem_status partmem_give(partmem_tenant tenant, uint32_t cache, uint32_t place);
+
+/* Frees the empty slabs of all caches, as an alloc or a take does on demand. `*frames` is how many frames they had. */
+PARTMEM_CHECKED partmem_status partmem_reap(partmem_tenant tenant, uint32_t *frames);
+
+/* ---- Bytes --------------------------------------------------------------------------------------------------------------- */
+
+/* Lends 1 or more bytes inside one live page block or one live object. Returns OUT_OF_REACH. */
+PARTMEM_CHECKED partmem_status partmem_lend(partmem_tenant tenant, uint32_t place, uint32_t bytes, partmem_lent *lent);
+
+/* Lends the live object of a cache that begins at the place. Returns NO_CACHE, NOT_AN_OBJECT. */
+PARTMEM_CHECKED partmem_status partmem_lend_object(partmem_tenant tenant, uint32_t cache, uint32_t place, partmem_lent *object);
+
+/* Lends the whole live page block around a place: the only lend whose frames may be mapped (duty 11). Returns OUT_OF_REACH, of
+ * an object's place too. */
+PARTMEM_CHECKED partmem_status partmem_lend_block(partmem_tenant tenant, uint32_t place, partmem_lent *block);
+
+/* Returns the address of bytes that partmem_lend lends, or NULL. */
+PARTMEM_INLINE void *partmem_at(partmem_tenant tenant, uint32_t place, uint32_t bytes)
+{
+    partmem_lent lent;
+    return partmem_lend(tenant, place, bytes, &lent) == PARTMEM_DONE ? lent.at : NULL;
+}
+
+/* Returns the address of an object that partmem_lend_object lends, or NULL. */
+PARTMEM_INLINE void *partmem_object_at(partmem_tenant tenant, uint32_t cache, uint32_t place)
+{
+    partmem_lent object;
+    return partmem_lend_object(tenant, cache, place, &object) == PARTMEM_DONE ? object.at : NULL;
+}
+
+/* Copies out 1 to 64 bytes that partmem_lend could lend. Returns BAD_LENGTH, OUT_OF_REACH; `to` is then all zeroes. */
+PARTMEM_CHECKED partmem_status partmem_read(partmem_tenant tenant, uint32_t place, void *to, size_t bytes);
+
+/* Copies in 1 to 64 bytes, where partmem_lend could lend them. Returns NOT_AN_EVENT for another number of bytes (before
+ * NO_TENANT), OUT_OF_REACH. */
+PARTMEM_CHECKED partmem_status partmem_write(partmem_tenant tenant, uint32_t place, const void *from, size_t bytes);
+
+/* ---- What a tenant has --------------------------------------------------------------------------------------------------- */
+
+typedef enum partmem_use {
+    PARTMEM_NO_SUCH_SLOT = 0, /* the tenant does not hold the slot */
+    PARTMEM_FREE_FRAME = 1,
+    PARTMEM_PAGE_BLOCK = 2,
+    PARTMEM_SLAB = 3,
+
+    PARTMEM_USE_BITS = 0x7fffffff /* no use: it makes the type 32 bits wide */
+} partmem_use;
+
+/* A page block, a slab, a free frame or a whole slot that is not held: `bytes` bytes from `place` on. */
+typedef struct partmem_block {
+    partmem_use use;
+    uint32_t place;
+    uint32_t bytes;
+} partmem_block;
+
+/* Finds what a place lies in. The next begins at found->place + found->bytes. */
+PARTMEM_CHECKED partmem_status partmem_find_block(partmem_tenant tenant, uint32_t place, partmem_block *found);
+
+/* How many blocks of an order are free, and how many are page blocks or slabs. */
+typedef struct partmem_order_row {
+    uint32_t free;
+    uint32_t taken;
+} partmem_order_row;
+
+/* The slabs of a cache by how many of their objects are live, and its live objects. */
+typedef struct partmem_cache_row {
+    uint32_t cache; /* its number */
+    uint32_t full;
+    uint32_t partial;
+    uint32_t empty;
+    uint32_t live;
+} partmem_cache_row;
+
+/* The figures of a tenant's memory, in frames if nothing else is said. */
+typedef struct partmem_figures {
+    uint32_t frames;   /* of the slots that it holds */
+    uint32_t live;     /* of these, in page blocks and slabs */
+    uint32_t free;     /* of these, the others */
+    uint32_t greatest; /* bytes of a largest free block, 0 without one */
+    uint32_t split;    /* thousandths of the free frames that are outside one largest free block, rounded up */
+    uint32_t orders;   /* how many rows of order[] are used: the order of a superblock and 1 */
+    uint32_t caches;   /* how many rows of cache[] are used */
+    partmem_order_row order[PARTMEM_MOST_ORDER + 1];
+    partmem_cache_row cache[PARTMEM_MOST_CACHES];
+} partmem_figures;
+
+/* Reports the figures of a tenant. */
+PARTMEM_CHECKED partmem_status partmem_report(partmem_tenant tenant, partmem_figures *figures);
+
+/* ---- Commands as data: to log, to replay, to compare with the program `partmem` ---------------------------------------------
+ *
+ * Page blocks are named by frames here: frame f begins at place f * 4096. */
+
+/* The kinds of a partmem_request, with its numbers. */
+enum {
+    PARTMEM_GRANT = 1,     /* by the administrator, as the four that follow */
+    PARTMEM_TAKE_BACK = 2, /* slot */
+    PARTMEM_RESET = 3,
+    PARTMEM_MOVE = 4,     /* slot */
+    PARTMEM_POOL = 5,     /* of any tenant */
+    PARTMEM_ALLOC = 6,    /* order */
+    PARTMEM_FREE = 7,     /* frame */
+    PARTMEM_READ = 8,     /* place, how many bytes */
+    PARTMEM_WRITE = 9,    /* place; with 1 to 64 bytes */
+    PARTMEM_CACHE = 10,   /* size, alignment; with a pattern of 1 to 16 bytes */
+    PARTMEM_DESTROY = 11, /* cache */
+    PARTMEM_TAKE = 12,    /* cache */
+    PARTMEM_GIVE = 13,    /* cache, place */
+    PARTMEM_REAP = 14,
+    PARTMEM_REPORT = 15
+};
+
+/* The kinds of a partmem_reply, with its numbers in order; the others are 0. */
+enum {
+    PARTMEM_NOTHING = 0,    /* no reply has this kind */
+    PARTMEM_REFUSED = 1,    /* the refusal, a partmem_status */
+    PARTMEM_GRANTED = 2,    /* tenant, slot, superblock */
+    PARTMEM_TAKEN_BACK = 3, /* superblock */
+    PARTMEM_WAS_RESET = 4,  /* tenant, how many superblocks it had */
+    PARTMEM_MOVED = 5,      /* tenant, slot, superblock */
+    PARTMEM_OWNERS = 6,     /* how many superblocks there are */
+    PARTMEM_FRAME = 7,      /* the first frame of the block */
+    PARTMEM_FREED = 8,      /* the order of the block */
+    PARTMEM_BYTES = 9,      /* how many bytes; they are at the beginning of the buffer */
+    PARTMEM_WRITTEN = 10,   /* how many bytes */
+    PARTMEM_MADE = 11,      /* cache, chunk, order of its slabs, objects and colours of each */
+    PARTMEM_DESTROYED = 12, /* how many frames were freed */
+    PARTMEM_OBJECT = 13,    /* place */
+    PARTMEM_GIVEN = 14,
+    PARTMEM_REAPED = 15, /* how many frames were freed */
+    PARTMEM_FIGURES = 16 /* frames, live, free, order of a largest free block plus 1 (0 without one), split */
+};
+
+/* An event: its kind, the tenant that it is by or (of the administrator) about, and its numbers. */
+typedef struct partmem_request {
     uint32_t kind;
     uint32_t tenant;
     uint32_t first;
     uint32_t second;
-} partmem_asked;
+} partmem_request;
 
-/* an answer: its kind and its numbers */
-typedef struct partmem_told {
+/* The reply to an event: its kind and its numbers. */
+typedef struct partmem_reply {
     uint32_t kind;
     uint32_t first;
     uint32_t second;
     uint32_t third;
     uint32_t fourth;
     uint32_t fifth;
-} partmem_told;
+} partmem_reply;
 
-/* which slot of which tenant a superblock stands under; both are 0 where it has no owner */
-typedef struct partmem_owned {
-    bool is_owned;
-    uint32_t tenant;
-    uint32_t slot;
-} partmem_owned;
+/* Runs an event and returns its reply; a refusal is a reply. Only PARTMEM_WRITE and PARTMEM_CACHE use `bytes`. The buffer has
+ * at least PARTMEM_MOST_BYTES bytes. Returns NO_MACHINE, NOT_AN_EVENT, BUFFER_TOO_SMALL; reply and buffer are then unchanged. */
+PARTMEM_CHECKED partmem_status partmem_event(partmem_machine *machine, const partmem_request *request, const void *bytes,
+                                             size_t bytes_len, partmem_reply *reply, void *buffer, size_t buffer_len);
 
-/* Boots a machine of superblocks of 2^order frames: order 3 to 8, superblocks 1 to 256, tenants 1 to 64.
- * DONE, HAS_MACHINE, BAD_SIZES, NO_MEMORY. */
-uint32_t partmem_boot(partmem_machine *machine, uint32_t order, uint32_t superblocks, uint32_t tenants);
+/* Runs a line of a trace, without its line feed. Writes its reply lines, each with a line feed, to the beginning of the buffer,
+ * and their bytes to `*written`; the reply to a faulty line says what is wrong. The buffer has at least PARTMEM_MOST_TEXT_BYTES
+ * bytes. Returns NO_MACHINE, NOT_A_LINE, BUFFER_TOO_SMALL; `*written` is then 0, and the buffer unchanged. */
+PARTMEM_CHECKED partmem_status partmem_line(partmem_machine *machine, const char *line, size_t line_len, char *buffer,
+                                            size_t buffer_len, size_t *written);
 
-/* Runs a line without its line feed, and writes its replies, each line of them with its line feed, over the first bytes of the
- * room. A faulty line is answered by its fault, and a blank one or a comment by nothing.
- * DONE, NO_MACHINE, NOT_A_LINE, NO_ROOM (under PARTMEM_MOST_TEXT_BYTES). `*written` is how many bytes, 0 but after DONE. */
-uint32_t partmem_line(partmem_machine *machine, const uint8_t *line, size_t line_len, uint8_t *room, size_t room_len,
-                      size_t *written);
-
-/* Runs an event, and tells its answer; a refusal is an answer. What is read stands over the first bytes of the room.
- * DONE, NO_MACHINE, NOT_AN_EVENT, NO_ROOM (under PARTMEM_MOST_BYTES). */
-uint32_t partmem_event(partmem_machine *machine, const partmem_asked *asked, const uint8_t *bytes, size_t bytes_len,
-                       partmem_told *told, uint8_t *room, size_t room_len);
-
-/* Tells who owns a superblock, of those numbered from 0. DONE, NO_MACHINE, NO_SUPERBLOCK. */
-uint32_t partmem_owner(partmem_machine *machine, uint32_t superblock, partmem_owned *owner);
-
-/* Ends the machine and frees its memory: the place can be booted again. DONE, NO_MACHINE. */
-uint32_t partmem_end(partmem_machine *machine);
+/* ---- DUTIES of the caller, which nothing tests. In brackets: what goes wrong otherwise. -------------------------------------
+ *
+ *  1. Machine. A partmem_machine starts as zeroes. C never reads, writes, copies or moves it, and drops it only while there is
+ *     no machine in it. [Two copies use and free one machine.]
+ *  2. Arguments. Each pointer leads to a live object of its type, or to as many bytes as its length says. None is NULL, not
+ *     even for 0 bytes, and no tenant's machine is. The objects of one call do not overlap, and NONE LIES IN THE MACHINE'S
+ *     MEMORY, not even in lent bytes: copy them out first. [A result is written into memory that the call is changing, or has
+ *     just moved away.]
+ *  3. Memory. malloc, realloc and free are one allocator, and align a block to each power of two up to 16 that divides its
+ *     size. Nobody else touches the machine's memory: C uses lent bytes alone. [Anything.]
+ *  4. Bounds. A load or store stays inside the lent bytes. An object ends at its size, not where the next begins. [It hits
+ *     another object, or the record of which objects are live.]
+ *  5. Endings. Nobody uses lent bytes after the call that ends their lifetime; after a move they are lent again. [A tenant
+ *     stores into memory that belongs to another by now.]
+ *  6. Flows. What was loaded for one tenant is not stored for another, or shown to it. No address is stored in lent bytes or
+ *     shown to a tenant, since the others decide which it is: links are places. [Tenants learn of each other by the caller's
+ *     own doing.]
+ *  7. Users. Whoever keeps objects of its own in the caches of a tenant lets the tenant's user neither lend, read, write, give
+ *     nor destroy there. [The user changes the caller's own objects.]
+ *  8. Threads. One call at a time on a machine: from any thread, under a lock of the caller's. No call from a signal or
+ *     interrupt handler that may have interrupted one, nor from the forked child of a process with threads. [Anything.] Loads
+ *     and stores in lent bytes need no lock against calls, except a write to them, a read of them, and a call that ends their
+ *     lifetime.
+ *  9. Ring 0. SSE is enabled. A user's xmm registers are saved before the first call and restored after the last. The direction
+ *     flag is clear. There are 24 KiB of stack above a guard page, and no interrupt uses it: the library uses the 128 bytes
+ *     below its stack pointer. [Registers leak from tenant to tenant; the stack overflows.]
+ * 10. After the end. Whoever uses the memory after partmem_end, or after a crash, clears it first. [It reads the tenants'
+ *     bytes.]
+ * 11. Mapping. Page tables map page blocks alone, as partmem_alloc and partmem_lend_block return them. [An object of 4096 bytes
+ *     fills a frame. Nothing unmaps it at the give, and the user keeps a frame that later belongs to another tenant.]
+ * 12. Unmapping. Before a free, reset, move or end, not after it, pages are unmapped and flushed on every processor, and devices
+ *     stopped. [In between, the tenant uses memory of another.]
+ * 13. Reused numbers. A reset does not revoke the handles of a client. If a tenant number passes to a new client, handles carry
+ *     a generation, and old ones are refused. [The old client uses the new one's memory.]
+ * 14. Booting. One partmem_boot at a time in a program. [It gets memory through functions that cannot tell machines apart: an
+ *     allocator of your own that goes by the order of requests mixes two machines.]
+ *
+ * PROVED of the library's source: what each call returns and does, of the machine and of each tenant; that a store in lent
+ * bytes is the write of these bytes, and a load a read; that over any list of calls, lines, events, loads and stores since boot
+ * a tenant gets and loads what a private machine gives to it. TESTED: that the address is that of these bytes and stays; that
+ * partmem_boot alone allocates; loads and stores beside calls on other threads; this file against the library. NEITHER: the
+ * duties; hardware, page tables and devices; time and caches, and what they tell; the stack of duty 9. */
 
 #ifdef __cplusplus
 }

@@ -1,0 +1,156 @@
+/* What a caller can get wrong without breaking memory: each returns its status, the first that applies, and zeroes as results.
+ * Then what is right at the edges, and the functions that are written in C. */
+#include "trial.h"
+
+static partmem_machine machine, none;
+static const partmem_tenant first = {&machine, 0}, second = {&machine, 1}, nobody = {&machine, 2}, nowhere = {&none, 9};
+static uint8_t bytes[65];
+static partmem_slot slot;
+static partmem_owner owner;
+static partmem_lent lent;
+static partmem_cache cache;
+static partmem_block block;
+static partmem_figures figures;
+static uint32_t frames;
+
+static bool are_zeroes(const void *result, size_t size)
+{
+    const uint8_t *at = result;
+    while (size > 0 && *at == 0) at++, size--;
+    return size == 0;
+}
+
+/* A call returns a status, and leaves zeroes as its result. */
+#define ZEROED(call, status, result) \
+    (memset(&(result), 0xa5, sizeof(result)), (call) == (status) && are_zeroes(&(result), sizeof(result)))
+
+/* Every function with a tenant tests for a machine, and then for the tenant, before all else. */
+static void check_tenant(partmem_tenant tenant, partmem_status status)
+{
+    MUST(ZEROED(partmem_grant(tenant, &slot), status, slot) && ZEROED(partmem_move(tenant, 99, &slot), status, slot));
+    MUST(ZEROED(partmem_find_slot(tenant, 99, &slot), status, slot));
+    MUST(partmem_take_back(tenant, 99) == status && partmem_reset(tenant) == status);
+    MUST(ZEROED(partmem_alloc(tenant, 99, &lent), status, lent) && partmem_free(tenant, 1) == status);
+    MUST(ZEROED(partmem_make_cache(tenant, 0, 3, "", 1, &cache), status, cache) && partmem_destroy_cache(tenant, 99) == status);
+    MUST(ZEROED(partmem_take(tenant, 99, &lent), status, lent) && partmem_give(tenant, 99, 1) == status);
+    MUST(ZEROED(partmem_reap(tenant, &frames), status, frames) && ZEROED(partmem_report(tenant, &figures), status, figures));
+    MUST(ZEROED(partmem_lend(tenant, 0, 0, &lent), status, lent) && ZEROED(partmem_lend_block(tenant, 1, &lent), status, lent));
+    MUST(ZEROED(partmem_lend_object(tenant, 99, 1, &lent), status, lent));
+    MUST(!partmem_at(tenant, 0, 1) && !partmem_object_at(tenant, 0, 0));
+    MUST(ZEROED(partmem_read(tenant, 0, bytes, sizeof bytes), status, bytes) && partmem_write(tenant, 0, bytes, 1) == status);
+    MUST(ZEROED(partmem_find_block(tenant, 0, &block), status, block));
+}
+
+/* Lengths that no line can have come before the tenant, and after the machine. */
+static void check_lengths(void)
+{
+    MUST(partmem_write(nowhere, 0, bytes, 0) == PARTMEM_NO_MACHINE && partmem_write(nobody, 0, bytes, 0) == PARTMEM_NOT_AN_EVENT);
+    MUST(partmem_write(nobody, 0, bytes, 65) == PARTMEM_NOT_AN_EVENT);
+    MUST(partmem_write(first, 0, bytes, 64) == PARTMEM_OUT_OF_REACH);
+    MUST(ZEROED(partmem_make_cache(nowhere, 0, 3, bytes, 17, &cache), PARTMEM_NO_MACHINE, cache));
+    MUST(ZEROED(partmem_make_cache(nobody, 0, 3, bytes, 17, &cache), PARTMEM_NOT_AN_EVENT, cache));
+    MUST(ZEROED(partmem_make_cache(first, 0, 3, bytes, 0, &cache), PARTMEM_NOT_AN_EVENT, cache));
+    MUST(ZEROED(partmem_make_cache(first, 0, 3, bytes, 16, &cache), PARTMEM_BAD_SIZE, cache));
+    MUST(ZEROED(partmem_make_cache(first, 4097, 8, bytes, 16, &cache), PARTMEM_BAD_SIZE, cache));
+    MUST(ZEROED(partmem_make_cache(first, 4096, 4, bytes, 16, &cache), PARTMEM_BAD_ALIGN, cache));
+    MUST(ZEROED(partmem_read(first, 0, bytes, sizeof bytes), PARTMEM_BAD_LENGTH, bytes));
+    MUST(partmem_read(first, 0, bytes, 0) == PARTMEM_BAD_LENGTH && partmem_read(first, 0, bytes, 64) == PARTMEM_OUT_OF_REACH);
+}
+
+static void check_machines(void)
+{
+    static const partmem_config good = {3, 4, 2}, bad[] = {{2, 4, 2}, {9, 4, 2}, {3, 0, 2}, {3, 257, 2}, {3, 4, 0}, {3, 4, 65}};
+    for (size_t i = 0; i < LEN(bad); i++) {
+        MUST(partmem_boot(&none, &bad[i]) == PARTMEM_BAD_CONFIG && partmem_boot(&machine, &bad[i]) == PARTMEM_HAS_MACHINE);
+    }
+    MUST(partmem_boot(&machine, &good) == PARTMEM_HAS_MACHINE && partmem_end(&none) == PARTMEM_NO_MACHINE);
+    MUST(ZEROED(partmem_find_superblock(&none, 0, &owner), PARTMEM_NO_MACHINE, owner));
+    MUST(ZEROED(partmem_find_superblock(&machine, 4, &owner), PARTMEM_NO_SUPERBLOCK, owner));
+    MUST(ZEROED(partmem_find_superblock(&machine, 3, &owner), PARTMEM_DONE, owner));
+}
+
+/* Refusals of a tenant that has two slots, a cache with a live object, and a page block of two frames. */
+static void check_refusals(void)
+{
+    partmem_lent pages, object;
+    MUST(partmem_grant(first, &slot) == PARTMEM_DONE && slot.slot == 0 && slot.superblock == 0);
+    MUST(partmem_grant(first, &slot) == PARTMEM_DONE && slot.slot == 1 && slot.superblock == 1);
+    MUST(partmem_make_cache(first, 4096, 8, "", 1, &cache) == PARTMEM_DONE && cache.slab_bytes >= 4096);
+    MUST(partmem_take(first, cache.cache, &object) == PARTMEM_DONE && object.bytes == 4096);
+    MUST(partmem_alloc(first, 1, &pages) == PARTMEM_DONE && pages.bytes == 8192 && !((const uint8_t *)pages.at)[8191]);
+    MUST(ZEROED(partmem_alloc(first, 4, &lent), PARTMEM_BAD_ORDER, lent));
+    MUST(ZEROED(partmem_alloc(second, 0, &lent), PARTMEM_NO_FRAMES, lent));
+    MUST(partmem_free(first, pages.place + 1) == PARTMEM_NOT_A_BLOCK && partmem_free(second, pages.place) == PARTMEM_NOT_A_BLOCK);
+    MUST(partmem_free(first, pages.place + 4096) == PARTMEM_NOT_A_BLOCK);
+    MUST(partmem_free(first, object.place) == PARTMEM_NOT_A_BLOCK);
+    MUST(partmem_free(first, partmem_place_of(0x100000 + pages.place / 4096)) == PARTMEM_NOT_A_BLOCK);
+    MUST(partmem_destroy_cache(first, 0) == PARTMEM_CACHE_IN_USE && partmem_destroy_cache(first, 1) == PARTMEM_NO_CACHE);
+    MUST(ZEROED(partmem_take(first, 1, &lent), PARTMEM_NO_CACHE, lent));
+    MUST(partmem_give(first, cache.cache, object.place + 8) == PARTMEM_NOT_AN_OBJECT);
+    MUST(ZEROED(partmem_lend_object(first, cache.cache, pages.place, &lent), PARTMEM_NOT_AN_OBJECT, lent));
+    MUST(ZEROED(partmem_lend_object(first, 1, object.place, &lent), PARTMEM_NO_CACHE, lent));
+    MUST(ZEROED(partmem_lend_block(first, object.place, &lent), PARTMEM_OUT_OF_REACH, lent));
+    MUST(ZEROED(partmem_lend(first, pages.place, 8193, &lent), PARTMEM_OUT_OF_REACH, lent));
+    MUST(ZEROED(partmem_lend(first, pages.place + 1, UINT32_MAX, &lent), PARTMEM_OUT_OF_REACH, lent));
+    MUST(ZEROED(partmem_lend(first, UINT32_MAX, 1, &lent), PARTMEM_OUT_OF_REACH, lent));
+    MUST(ZEROED(partmem_lend(second, pages.place, 1, &lent), PARTMEM_OUT_OF_REACH, lent));
+    MUST(partmem_take_back(first, 0) == PARTMEM_SLOT_BUSY && partmem_take_back(first, 2) == PARTMEM_NO_SLOT);
+    MUST(ZEROED(partmem_find_slot(first, 2, &slot), PARTMEM_NO_SLOT, slot));
+    MUST(ZEROED(partmem_move(first, 2, &slot), PARTMEM_NO_SLOT, slot));
+    MUST(partmem_find_block(first, 2 * 32768 + 5, &block) == PARTMEM_DONE && block.use == PARTMEM_NO_SUCH_SLOT);
+    MUST(block.place == 2 * 32768 && block.bytes == 32768);
+    MUST(partmem_find_block(first, object.place + 5, &block) == PARTMEM_DONE && block.use == PARTMEM_SLAB);
+    MUST(partmem_find_block(first, pages.place + 8191, &block) == PARTMEM_DONE && block.use == PARTMEM_PAGE_BLOCK);
+    MUST(block.place == pages.place && block.bytes == 8192);
+    MUST(partmem_grant(second, &slot) == PARTMEM_DONE && partmem_grant(second, &slot) == PARTMEM_DONE && slot.superblock == 3);
+    MUST(ZEROED(partmem_grant(second, &slot), PARTMEM_POOL_EMPTY, slot));
+    MUST(ZEROED(partmem_move(first, 0, &slot), PARTMEM_POOL_EMPTY, slot));
+}
+
+static void check_events(void)
+{
+    static char text[PARTMEM_MOST_TEXT_BYTES];
+    partmem_request request = {PARTMEM_ALLOC, 0, 9, 0};
+    partmem_reply reply = {7, 7, 7, 7, 7, 7};
+    size_t written = 7;
+    MUST(partmem_event(&none, &request, "", 0, &reply, text, 64) == PARTMEM_NO_MACHINE && reply.kind == 7);
+    MUST(partmem_event(&machine, &request, "", 0, &reply, text, 63) == PARTMEM_BUFFER_TOO_SMALL && reply.kind == 7);
+    MUST(partmem_event(&machine, &request, "", 0, &reply, text, 64) == PARTMEM_DONE && reply.kind == PARTMEM_REFUSED);
+    MUST(reply.first == PARTMEM_BAD_ORDER);
+    request.kind = PARTMEM_REPORT + 1;
+    MUST(partmem_event(&machine, &request, "", 0, &reply, text, 63) == PARTMEM_NOT_AN_EVENT);
+    MUST(partmem_line(&none, "#\n", 2, text, 0, &written) == PARTMEM_NO_MACHINE && written == 0);
+    MUST(partmem_line(&machine, "#\n", 2, text, 0, &written) == PARTMEM_NOT_A_LINE && written == 0);
+    MUST(partmem_line(&machine, "", 0, text, sizeof text - 1, &written) == PARTMEM_BUFFER_TOO_SMALL);
+    MUST(partmem_line(&machine, "frob", 4, text, sizeof text, &written) == PARTMEM_DONE);
+    MUST(written == 17 && !memcmp(text, "!> fault Unknown\n", 17));
+}
+
+static bool is_unknown(uint32_t status) { return !strncmp(partmem_strerror((partmem_status)status), "Unknown: ", 9); }
+
+static void check_functions_in_c(void)
+{
+    int known = 0;
+    for (uint32_t status = 0; status < 100; status++) known += !is_unknown(status);
+    MUST(known == 16 + 8 && is_unknown(16) && is_unknown(31) && is_unknown(PARTMEM_BUFFER_TOO_SMALL + 1));
+    MUST(is_unknown(PARTMEM_STATUS_BITS) && is_unknown(UINT32_MAX) && partmem_version() == PARTMEM_VERSION);
+    MUST(!strncmp(partmem_strerror(PARTMEM_DONE), "Done: ", 6));
+    MUST(!strncmp(partmem_strerror(PARTMEM_SLOT_BUSY), "SlotBusy: ", 10));
+    MUST(partmem_place_of(0) == 0 && partmem_place_of(0xfffff) == 0xfffff000 && partmem_place_of(0x100000) == PARTMEM_NO_PLACE);
+}
+
+int main(void)
+{
+    boot(&machine, 3, 4, 2);
+    check_functions_in_c();
+    check_machines();
+    check_tenant(nowhere, PARTMEM_NO_MACHINE);
+    check_tenant(nobody, PARTMEM_NO_TENANT);
+    check_lengths();
+    check_refusals();
+    check_events();
+    MUST(partmem_end(&machine) == PARTMEM_DONE && partmem_end(&machine) == PARTMEM_NO_MACHINE);
+    check_tenant(first, PARTMEM_NO_MACHINE);
+    puts("each mistake of a caller returns its status");
+    return 0;
+}

@@ -1,0 +1,35 @@
+/* What the programs of this folder share: checks that end a program, and numbers that look random. */
+#ifndef TRIAL_H
+#define TRIAL_H
+
+#include <stdbool.h>
+#include <stdio.h>
+#include <stdlib.h>
+#include <string.h>
+
+#include "partmem.h"
+
+#define MUST(holds) ((holds) ? (void)0 : (fprintf(stderr, "%s:%d: not so: %s\n", __FILE__, __LINE__, #holds), exit(1)))
+#define LEN(array) (sizeof(array) / sizeof *(array))
+
+static uint64_t random_state;
+
+/* Returns a number below `below`. */
+static inline uint32_t any(uint32_t below)
+{
+    random_state = random_state * 6364136223846793005u + 1442695040888963407u;
+    return (uint32_t)(random_state >> 33) % below;
+}
+
+/* Returns true once in `times` calls. */
+static inline bool rarely(uint32_t times) { return any(times) == 0; }
+
+/* Boots a machine, on a processor that the library runs on. */
+static inline void boot(partmem_machine *machine, uint32_t order, uint32_t superblocks, uint32_t tenants)
+{
+    const partmem_config config = {order, superblocks, tenants};
+    MUST(__builtin_cpu_supports("sse4.2") && __builtin_cpu_supports("popcnt"));
+    MUST(partmem_boot(machine, &config) == PARTMEM_DONE);
+}
+
+#endif

@@ -1,0 +1,110 @@
+/* Libraries with one mistake each, which a program of this folder has to see: linked with it, with the linker's --wrap for each
+ * function __wrap_NAME below, and chosen by -DWRONG=NAME. */
+#include <stdlib.h>
+#include <string.h>
+
+#include "partmem.h"
+
+enum {
+    NO_MISTAKE,
+    NO_WRITE_OUT,      /* an alloc uses an address from an earlier owner, and lends nothing */
+    OTHER_SUPERBLOCK,  /* an alloc returns an address in the superblock beside */
+    STALE_AFTER_MOVE,  /* a lend returns the address that the slot had before a move */
+    LENDS_SLAB,        /* lend_block returns frames of a slab, too */
+    CLEARS_OBJECTS,    /* a take clears the object */
+    FREES_FROM_INSIDE, /* a free of any place in the first frame frees the block */
+    TOUCHES_ANOTHER    /* an alloc changes the bytes of tenant 0's first block, and puts them back */
+};
+
+static uint32_t superblock_bytes;
+static uint8_t *begins[PARTMEM_MOST_SUPERBLOCKS];                                /* of superblocks, as far as lends showed it */
+static uint8_t *begins_of_slots[PARTMEM_MOST_TENANTS][PARTMEM_MOST_SUPERBLOCKS]; /* of slots, at their first lend */
+static uint8_t *of_tenant_0;                                                     /* its first block */
+
+partmem_status __real_partmem_boot(partmem_machine *machine, const partmem_config *config);
+partmem_status __wrap_partmem_boot(partmem_machine *machine, const partmem_config *config)
+{
+    superblock_bytes = PARTMEM_FRAME_BYTES << config->order;
+    return __real_partmem_boot(machine, config);
+}
+
+partmem_status __real_partmem_lend(partmem_tenant tenant, uint32_t place, uint32_t bytes, partmem_lent *lent);
+partmem_status __wrap_partmem_lend(partmem_tenant tenant, uint32_t place, uint32_t bytes, partmem_lent *lent)
+{
+    partmem_status status = __real_partmem_lend(tenant, place, bytes, lent);
+    if (status != PARTMEM_DONE || WRONG != STALE_AFTER_MOVE) return status;
+    uint8_t **begin = &begins_of_slots[tenant.number][place / superblock_bytes];
+    if (!*begin) *begin = (uint8_t *)lent->at - place % superblock_bytes;
+    lent->at = *begin + place % superblock_bytes;
+    return status;
+}
+
+static uint32_t superblock_of(partmem_tenant tenant, uint32_t place)
+{
+    partmem_slot slot;
+    if (partmem_find_slot(tenant, place / superblock_bytes, &slot) != PARTMEM_DONE) abort();
+    return slot.superblock;
+}
+
+/* Allocates by an event, and lends only in a superblock that nobody has lent from yet. */
+static partmem_status alloc_by_event(partmem_tenant tenant, uint32_t order, partmem_lent *block)
+{
+    partmem_request request = {PARTMEM_ALLOC, tenant.number, order, 0};
+    partmem_reply reply;
+    uint8_t buffer[PARTMEM_MOST_BYTES];
+    partmem_status status = partmem_event(tenant.machine, &request, "", 0, &reply, buffer, sizeof buffer);
+    memset(block, 0, sizeof *block);
+    if (status != PARTMEM_DONE) return status;
+    if (reply.kind == PARTMEM_REFUSED) return (partmem_status)reply.first;
+    block->place = reply.first * PARTMEM_FRAME_BYTES;
+    block->bytes = PARTMEM_FRAME_BYTES << order;
+    uint8_t *begin = begins[superblock_of(tenant, block->place)];
+    if (!begin) return partmem_lend_block(tenant, block->place, block);
+    block->at = begin + block->place % superblock_bytes;
+    return PARTMEM_DONE;
+}
+
+static void flip_another(partmem_tenant tenant)
+{
+    if (WRONG != TOUCHES_ANOTHER || !tenant.number || !of_tenant_0) return;
+    for (uint32_t i = 0; i < PARTMEM_FRAME_BYTES; i++) ((volatile uint8_t *)of_tenant_0)[i] ^= 1;
+}
+
+partmem_status __real_partmem_alloc(partmem_tenant tenant, uint32_t order, partmem_lent *block);
+partmem_status __wrap_partmem_alloc(partmem_tenant tenant, uint32_t order, partmem_lent *block)
+{
+    partmem_status status;
+    flip_another(tenant);
+    if (WRONG == NO_WRITE_OUT) status = alloc_by_event(tenant, order, block);
+    else status = __real_partmem_alloc(tenant, order, block);
+    flip_another(tenant);
+    if (status != PARTMEM_DONE) return status;
+    if (!tenant.number && !of_tenant_0) of_tenant_0 = block->at;
+    uint32_t superblock = superblock_of(tenant, block->place);
+    begins[superblock] = (uint8_t *)block->at - block->place % superblock_bytes;
+    if (WRONG == OTHER_SUPERBLOCK && begins[superblock ^ 1]) block->at = begins[superblock ^ 1] + block->place % superblock_bytes;
+    return status;
+}
+
+partmem_status __real_partmem_lend_block(partmem_tenant tenant, uint32_t place, partmem_lent *block);
+partmem_status __wrap_partmem_lend_block(partmem_tenant tenant, uint32_t place, partmem_lent *block)
+{
+    partmem_status status = __real_partmem_lend_block(tenant, place, block);
+    if (WRONG != LENDS_SLAB || status == PARTMEM_DONE) return status;
+    return partmem_lend(tenant, place, 1, block);
+}
+
+partmem_status __real_partmem_take(partmem_tenant tenant, uint32_t cache, partmem_lent *object);
+partmem_status __wrap_partmem_take(partmem_tenant tenant, uint32_t cache, partmem_lent *object)
+{
+    partmem_status status = __real_partmem_take(tenant, cache, object);
+    if (WRONG == CLEARS_OBJECTS && status == PARTMEM_DONE) memset(object->at, 0, object->bytes);
+    return status;
+}
+
+partmem_status __real_partmem_free(partmem_tenant tenant, uint32_t place);
+partmem_status __wrap_partmem_free(partmem_tenant tenant, uint32_t place)
+{
+    if (WRONG == FREES_FROM_INSIDE) place -= place % PARTMEM_FRAME_BYTES;
+    return __real_partmem_free(tenant, place);
+}
