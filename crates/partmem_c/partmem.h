@@ -80,8 +80,8 @@ extern "C" {
 /* ---- Status -----------------------------------------------------------------------------------------------------------------
  *
  * A refusal answers a request: its number is that of traces, and except POOL_EMPTY it follows from what the tenant itself did
- * and was granted. An error is a mistake of the caller. After either, nothing has changed and all results are zeroes, so `at`
- * is NULL.
+ * and was granted. An error is a mistake of the caller. After either, nothing has changed and all results of a direct call are
+ * zeroes, so `at` is NULL. partmem_event and partmem_line say at their declarations what they do instead.
  *
  * Each function lists what it returns besides DONE, and returns the first that applies. All functions with a tenant return
  * NO_MACHINE and NO_TENANT before what they list. */
