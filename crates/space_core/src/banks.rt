@@ -87,11 +87,8 @@ pub(crate) fn set_byte_at(banks: &mut Vec<Vec<u8>>, m: usize, i: usize, byte: u8
     banks[m][i] = byte;
 }
 
-/// Room behind the bytes of each superblock, so that they take a whole number of pages with the 16 bytes that `malloc` keeps of a
-/// block: all superblocks then begin at the same offset in a page, and to clear and copy them takes the same path.
-const SPARE: usize = 4096 - 16;
-
-/// For each of `count` superblocks no bytes yet, and room for `unit` of them.
+/// For each of `count` superblocks no bytes yet, and space for exactly `unit` of them: by this size the allocator below knows
+/// a superblock.
 pub(crate) fn make_banks(
     alloc: Global,
     count: usize,
@@ -103,7 +100,7 @@ pub(crate) fn make_banks(
 {
     let mut banks = Vec::with_capacity(alloc, count)?;
     for _ in 0..count {
-        banks.push(Vec::with_capacity(alloc, unit + SPARE)?)?;
+        banks.push(Vec::with_capacity(alloc, unit)?)?;
     }
     Ok(banks)
 }
