@@ -1,7 +1,7 @@
 -- The small forms of commands and answers, as the values that they are.
 use Rattle.std.specs.Prelude.{◌≡◌, ℕ, ◌≤◌, Bool, true, false, if◌then◌else◌, length}
 use Rattle.model_core.specs.Layouts.{is_pattern}
-use Rattle.model_core.specs.declared.limits.TheConstants.{MOST_BYTES}
+use Rattle.model_core.specs.declared.limits.TheConstants.{MOST_BYTES, MOST_SUPERBLOCKS}
 use Rattle.words_core.specs.declared.answer.TheConstants.{MOST_ANSWER_BYTES, SHORT_ANSWER_BYTES}
 use Rattle.words_core.specs.declared.answer.Answer.{Answer}
 use Rattle.words_core.specs.declared.answer.Answer.TheVariants as Told
@@ -9,12 +9,14 @@ use Rattle.words_core.specs.declared.event.Command.{Command}
 use Rattle.words_core.specs.declared.event.Command.TheVariants.{Alloc, Free, Read, Write, Destroy, Take, Give, Reap}
 use Rattle.words_core.specs.declared.event.Command.TheVariants as Whole
 use Rattle.words_core.specs.declared.reply.Addressee.{Addressee}
-use Rattle.words_core.specs.declared.reply.Addressee.TheVariants.{Tenant}
+use Rattle.words_core.specs.declared.reply.Addressee.TheVariants.{Admin, Tenant}
 use Rattle.words_core.specs.declared.reply.Body.{Body}
 use Rattle.words_core.specs.declared.reply.Body.TheVariants.{Granted, TakenBack, WasReset, Moved, Owners, Frame, Freed, Bytes, Written, Cache, Destroyed, Object, Given, Reaped, Report, Refused, Fault}
 use Rattle.words_core.specs.declared.reply.Reply.{Reply}
 use Rattle.words_core.specs.declared.event.Request.{Request}
 use Rattle.words_core.specs.declared.event.Request.TheVariants as Asked
+use Rattle.words_core.specs.declared.text.Table.{Table}
+use Rattle.words_core.specs.declared.text.Table.TheVariants as Rows
 
 abbrev pub command_of : Request → Command
 command_of (Asked.Alloc order) = Alloc order
@@ -57,6 +59,16 @@ reply_to addressee answer = record { addressee = addressee; body = body_of_answe
 -- the reply to a tenant that is answered so
 abbrev pub reply_of_answer : ℕ → Answer → Reply
 reply_of_answer tenant answer = record { addressee = Tenant tenant; body = body_of_answer answer }
+
+-- the reply that a table is
+abbrev pub reply_of_table : Table → Reply
+reply_of_table (Rows.Owners owners) = record { addressee = Admin; body = Owners (record { items = owners.now }) }
+reply_of_table (Rows.Report tenant report) = record { addressee = Tenant tenant; body = Report report.now }
+
+-- no machine has more superblocks than its table has rows for
+abbrev pub HasFewRows : Table → Type 0
+HasFewRows (Rows.Owners owners) = length owners.now ≤ MOST_SUPERBLOCKS
+HasFewRows (Rows.Report tenant report) = Unit {0}
 
 -- the bytes that an answer tells are no more than a read may ask for
 abbrev pub HasFewBytes : Answer → Type 0

@@ -26,4 +26,4 @@ pub use laws::one_case;
 pub use line::{MOST_LINE_BYTES, read_line};
 pub use reply::{Addressee, Body, OWNERS, Refusal, Reply};
 pub use report::{CACHES, ORDERS, Report};
-pub use text::{MOST_REPLY_BYTES, MOST_ROWS, rows, write_line, write_row};
+pub use text::{MOST_REPLY_BYTES, MOST_ROWS, Table, rows, write_line, write_row};

@@ -2,10 +2,11 @@
 
 ghost use Rattle.std.specs.Prelude.{◌≡◌, ◌+◌, ◌<◌, ◌≤◌, length, slice_get, take, Some};
 ghost use Rattle.words_core.specs.Texts.{owner_text, pool_texts, body_texts, lines_of};
+ghost use Rattle.words_core.specs.Requests.{reply_of_table, HasFewRows};
 
 use crate::answer::{MOST_FRONT_BYTES, put_addressee, put_answer};
-use crate::reply::{Body, OWNERS, Reply};
-use crate::report::put_report;
+use crate::reply::{Addressee, Body, OWNERS, Reply};
+use crate::report::{Report, put_report};
 use crate::window::{put_labelled, put_text};
 use arrayvec::ArrayVec;
 use model_core::limits::MOST_SUPERBLOCKS;
@@ -52,6 +53,67 @@ pub fn write_row(reply: &Reply, row: usize, out: &mut [u8]) -> usize
     let at = put_addressee(reply.addressee, out);
     let at = put_body(&reply.body, row, at, out);
     put_text(b"\n", at, out)
+}
+
+/// A reply of several lines, with its rows where they lie.
+#[derive(Clone, Copy)]
+pub enum Table<'a> {
+    /// To the administrator: for each superblock, by rising number, its owner, if it has one.
+    Owners(&'a [Option<Owner>]),
+    /// To the tenant of this number: the figures of its memory.
+    Report(u8, &'a Report),
+}
+
+impl Table<'_> {
+    /// The number of its lines.
+    #[tactic(auto, using(crate::proofs::TextLemmas::table_rows))]
+    pub fn rows(self) -> usize
+        requires { HasFewRows self }
+        ensures count { result ≡ length (lines_of (reply_of_table self.entry)) }
+        ensures few { result ≤ MOST_ROWS }
+    {
+        match self {
+            Table::Owners(owners) => 1 + owners.len(),
+            Table::Report(_, report) => 1 + report.orders.len() + report.caches.len(),
+        }
+    }
+
+    /// [`write_row`] of the reply that it is.
+    pub fn write_row(self, row: usize, out: &mut [u8]) -> usize
+        requires rows { HasFewRows self }
+        requires row { row < length (lines_of (reply_of_table self)) }
+        requires room { MOST_REPLY_BYTES ≤ length out.old }
+        ensures text { slice_get (lines_of (reply_of_table self.entry)) row ≡ Some (take result out.new) }
+        ensures short { result ≤ MOST_REPLY_BYTES }
+    {
+        let at = put_addressee(self.addressee(), out);
+        let at = self.put_row(row, at, out);
+        put_text(b"\n", at, out)
+    }
+
+    fn addressee(self) -> Addressee
+        ensures { result ≡ (reply_of_table self.entry).addressee }
+    {
+        match self {
+            Table::Owners(_) => Addressee::Admin,
+            Table::Report(tenant, _) => Addressee::Tenant(tenant),
+        }
+    }
+
+    #[tactic(auto, using(crate::proofs::TextLemmas::table_rows))]
+    fn put_row(self, row: usize, at: usize, out: &mut [u8]) -> usize
+        requires rows { HasFewRows self }
+        requires row { row < length (body_texts (take at out.old) (reply_of_table self).body) }
+        requires front { at ≤ MOST_FRONT_BYTES }
+        requires room { MOST_REPLY_BYTES ≤ length out.old }
+        ensures text { slice_get (body_texts (take at out.old) (reply_of_table self.entry).body) row ≡ Some (take result out.new) }
+        ensures short { result < MOST_REPLY_BYTES }
+    {
+        match self {
+            Table::Owners(owners) => put_owners(owners, row, at, out),
+            Table::Report(_, report) => put_report(report, row, at, out),
+        }
+    }
 }
 
 /// Writes the line of this row of the body behind the first `at` bytes, and answers where it ends; so do the others.
