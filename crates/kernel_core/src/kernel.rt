@@ -212,7 +212,9 @@ impl Kernel {
         // Bytes are told to a read alone.
         ensures bytes { IfSome result (λ answer. asks_bytes request.entry ≡ false → tells_bytes answer.1 ≡ false) }
     {
-        let t = self.tenant(tenant)?;
+        let Some(t) = self.tenant(tenant) else {
+            return None;
+        };
         Some((t, self.ask_known(t, request)))
     }
 
@@ -283,7 +285,7 @@ impl Kernel {
         answer
     }
 
-    /// Tells the figures of a tenant, be there such a tenant or not: [`Kernel::step`] of the event that asks for a report.
+    /// The reply to a request for a report: [`Kernel::step`] of that event.
     #[cold]
     #[inline(never)]
     pub fn report(&self, tenant: u32) -> Reply

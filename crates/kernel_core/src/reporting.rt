@@ -7,6 +7,11 @@ ghost use Rattle.buddy_core.specs.Content.{holding_of};
 ghost use Rattle.machine_changes.specs.Figures.{HasFigures, AreWithin, frames_below};
 ghost use Rattle.world_core.specs.PrivateStep.{figures_of};
 ghost use Rattle.kernel_core.specs.Shows.{ShowsMachine};
+ghost use Rattle.kernel_core.specs.Steps.{Steps};
+ghost use Rattle.words_core.specs.declared.event.Event.TheVariants.{Tenant};
+ghost use Rattle.words_core.specs.declared.event.Command.TheVariants as Command;
+ghost use Rattle.words_core.specs.declared.reply.Addressee.TheVariants as To;
+ghost use Rattle.words_core.specs.declared.reply.Body.TheVariants as Body;
 
 use crate::Kernel;
 use arrayvec::ArrayVec;
@@ -55,10 +60,14 @@ impl Kernel {
         }
     }
 
-    /// The figures of tenant `t`'s memory: its frames, its blocks of each order, and its caches.
-    pub(crate) fn figures(&self, t: u8) -> Report
+    /// The figures of tenant `t`'s memory: its frames, its blocks of each order, and its caches. They are what [`Kernel::report`]
+    /// replies, in half of a reply's bytes.
+    #[cold]
+    #[inline(never)]
+    pub fn figures(&self, t: u8) -> Report
         requires { t < self.now.tenants }
-        ensures { (m : Machine) → ShowsMachine self.now t m → result ≡ figures_of self.now.order m }
+        ensures machine { (m : Machine) → ShowsMachine self.now t m → result ≡ figures_of self.now.order m }
+        ensures steps { Steps self.now (Tenant t Command.Report) self.now (record { addressee = To.Tenant t; body = Body.Report result }) }
     {
         self.laws();
         let buddy = self.buddy();

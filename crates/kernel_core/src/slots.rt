@@ -1,10 +1,12 @@
 //! The commands of the administrator: superblocks granted, taken back and moved, and who owns them.
 
-ghost use Rattle.std.specs.Prelude.{◌≡◌, ◌<◌, false, length, IfOk};
+ghost use Rattle.std.specs.Prelude.{◌≡◌, ◌<◌, ◌≤◌, false, length, IfOk};
 ghost use Rattle.words_core.specs.Requests.{body_of_answer, HasFewBytes, tells_bytes};
 ghost use Rattle.words_core.specs.declared.event.Event.TheVariants as Event;
 ghost use Rattle.words_core.specs.declared.event.AdminCommand.TheVariants as AdminCommand;
 ghost use Rattle.words_core.specs.declared.reply.Addressee.TheVariants.{Admin};
+ghost use Rattle.words_core.specs.declared.reply.Body.TheVariants as Body;
+ghost use Rattle.model_core.specs.declared.limits.TheConstants.{MOST_SUPERBLOCKS};
 ghost use Rattle.kernel_core.specs.Content.{PartsAgree};
 ghost use Rattle.kernel_core.specs.GivenUp.{GivesUp};
 ghost use Rattle.kernel_core.specs.Steps.{Steps, to_admin};
@@ -113,7 +115,7 @@ impl Kernel {
         })
     }
 
-    /// Tells who owns each superblock: [`Kernel::step`] of the event that asks for it.
+    /// The reply to a request for the table of owners: [`Kernel::step`] of that event.
     #[cold]
     #[inline(never)]
     pub fn pool(&self) -> Reply
@@ -121,21 +123,30 @@ impl Kernel {
     {
         Reply {
             addressee: Addressee::Admin,
-            body: Body::Owners(owners(self.space())),
+            body: Body::Owners(copied(self.owners())),
         }
+    }
+
+    /// The owner of each superblock, by rising number, where the kernel keeps them: what [`Kernel::pool`] replies.
+    pub fn owners(&self) -> &[Option<Owner>]
+        ensures steps { Steps self.now (Event.Admin AdminCommand.Pool) self.now
+            (record { addressee = Admin; body = Body.Owners (record { items = result.now }) }) }
+        ensures few { length result.now ≤ MOST_SUPERBLOCKS }
+    {
+        self.space.laws();
+        self.space.owners()
     }
 }
 
-/// The owner of each superblock.
-fn owners(space: &Space) -> ArrayVec<Option<Owner>, OWNERS>
-    ensures { result.items ≡ space.now.owners }
+/// These owners, as a value of their own.
+fn copied(owners: &[Option<Owner>]) -> ArrayVec<Option<Owner>, OWNERS>
+    requires { length owners.now ≤ MOST_SUPERBLOCKS }
+    ensures { result.items ≡ owners.now }
 {
-    space.laws();
-    let mut owners = ArrayVec::new();
-    for owner in space.owners() {
-        owners.push(*owner);
-    }
-    owners
+    let mut copied = ArrayVec::new();
+    let taken = copied.try_extend_from_slice(owners);
+    prove!(taken.is_ok());
+    copied
 }
 
 /// Takes back every superblock of tenant `t` and returns how many there were.

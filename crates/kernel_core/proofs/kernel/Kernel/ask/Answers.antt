@@ -5,10 +5,10 @@ use Rattle.kernel_core.specs.Steps.{Steps}
 use Rattle.kernel_core.proofs.Worlds.{unknown_tenant}
 use Rattle.kernel_core.proofs.kernel.Kernel.ask.Goals as goal
 
-pub returns-in_err-t : goal.returns-in_err-t
-returns-in_err-t c = (
-  (refl, λ _. tt, rw c.from_residual.ensures (unknown_tenant _ c.args.tenant (command_of c.args.request) c.in_err-t.ensures)),
-  record { asked = tt; few = rw c.from_residual.ensures tt; bytes = rw c.from_residual.ensures tt },
+pub returns-in_default : goal.returns-in_default
+returns-in_default c = (
+  (refl, λ _. tt, unknown_tenant _ c.args.tenant (command_of c.args.request) c.in_default.ensures),
+  record { asked = tt; few = tt; bytes = tt },
 )
 
 pub returns : goal.returns
@@ -18,9 +18,9 @@ returns c =
         refl,
         λ _. tt,
         (
-          c.in_ok-t.ensures.0,
+          c.in-Some.ensures.0,
           subst (λ u. Steps c.args.self.now (Tenant u (command_of c.args.request)) c.ask_known.follows.lender-at-none
-              (reply_of_answer u c.ask_known.result)) c.in_ok-t.ensures.0 done,
+              (reply_of_answer u c.ask_known.result)) c.in-Some.ensures.0 done,
         ),
       ),
       record { asked = tt; few = c.ask_known.ensures.few; bytes = c.ask_known.ensures.bytes },

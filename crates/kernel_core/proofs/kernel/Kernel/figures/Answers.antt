@@ -1,4 +1,4 @@
-use Rattle.std.proofs.Common.{◌≡◌, ◌*◌, ◌-◌, ◌%◌, ◌^◌, ◌<◌, length, ap, ap₂, sym, subst, ◌∙◌, arith}
+use Rattle.std.proofs.Common.{refl, ◌≡◌, ◌*◌, ◌-◌, ◌%◌, ◌^◌, ◌<◌, length, ap, ap₂, sym, subst, ◌∙◌, arith}
 use Rattle.model_core.specs.Reports.{frames_held, frames_taken, frames_free, greatest_free, rows_of_caches}
 use Rattle.buddy_core.specs.Content as buddies
 use Rattle.slab_tables.specs.Content as tables
@@ -8,6 +8,10 @@ use Rattle.machine_changes.specs.Steady.{IsSteady}
 use Rattle.world_core.specs.PrivateStep.{figures_of}
 use Rattle.kernel_core.proofs.Changing.{steady}
 use Rattle.kernel_core.proofs.ReportFigures.{within, meet, live_below, frames_read, top_none, top_some, figures_are}
+use Rattle.words_core.specs.declared.event.Command.TheVariants as Asked
+use Rattle.kernel_core.specs.Shows.{Shows}
+use Rattle.kernel_core.proofs.Commanding.{reported}
+use Rattle.kernel_core.proofs.Worlds.{steps_asked}
 use Rattle.kernel_core.proofs.kernel.Kernel.figures.Goals as goal
 use Rattle.kernel_core.proofs.kernel.Kernel.figures.Goals.{then-free-eq0, else-free-eq0}
 
@@ -21,8 +25,8 @@ overflow_sub-free c =
     live_below c.buddy-buddy.result.now c.args.t c.slots.result c.order.result c.orders_of-blocks.result.live small
     c.slots.ensures c.order.ensures c.orders_of-blocks.ensures.live
 
-pub returns : goal.returns
-returns c = λ m shown.
+pub returns-clause-machine : goal.returns-clause-machine
+returns-clause-machine c = λ m shown.
     let k = c.args.self.now in
     let b = c.buddy-buddy.result.now in
     let t = c.args.t in
@@ -46,3 +50,8 @@ returns c = λ m shown.
     figures_are b.top m _ c.orders_of-blocks.result.live _ c.if-free-eq0.top c.split_share.result c.orders_of-blocks.result.orders.items c.rows.result.items
     frames_is live_is free_is top_is c.split_share.ensures (c.orders_of-blocks.ensures.orders m has) rows
     ∙ ap (λ order. figures_of order m) (ap (λ (x : buddies.Content). x.top) c.buddy-buddy.ensures ∙ agree.top)
+
+pub returns-clause-steps : goal.returns-clause-steps
+returns-clause-steps c =
+    steps_asked _ _ c.args.t c.args.t Asked.Report _ refl c.requires (λ w (shown : Shows c.args.self.now w). shown.agree)
+    (reported _ c.args.t _ (returns-clause-machine c))

@@ -10,4 +10,4 @@ returns-in_default c = unknown_tenant _ c.args.tenant Asked.Report c.in_default.
 pub returns : goal.returns
 returns c =
     steps_asked _ _ c.in-Some.t c.args.tenant Asked.Report _ c.in-Some.ensures.0 c.in-Some.ensures.1 (λ w (shown : Shows c.args.self.now w). shown.agree)
-    (reported _ c.in-Some.t c.figures.result c.figures.ensures)
+    (reported _ c.in-Some.t c.figures.result c.figures.ensures.machine)
