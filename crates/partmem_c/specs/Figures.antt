@@ -1,5 +1,5 @@
 -- A report as figures.
-use Rattle.std.specs.Prelude.{ℕ, List, ◌++◌, length, map, drop, replicate, Option, Some, None}
+use Rattle.std.specs.Prelude.{◌≡◌, ℕ, List, ◌++◌, length, map, drop, replicate, Option, Some, None}
 use Rattle.model_core.specs.declared.report.OrderRow.{OrderRow}
 use Rattle.model_core.specs.declared.report.CacheRow.{CacheRow}
 use Rattle.words_core.specs.declared.report.Report as words
@@ -7,7 +7,12 @@ use Rattle.words_core.specs.declared.report.TheConstants.{ORDERS, CACHES}
 use Rattle.words_core.specs.declared.reply.Body.{Body}
 use Rattle.words_core.specs.declared.reply.Body.TheVariants.{Report}
 use Rattle.words_core.specs.declared.reply.Reply.{Reply}
-use Rattle.partmem_c.specs.Calls.{block_bytes}
+use Rattle.words_core.specs.declared.event.Event.TheVariants.{Tenant}
+use Rattle.words_core.specs.declared.event.Command.TheVariants as Command
+use Rattle.kernel_core.specs.Content.{KernelContent}
+use Rattle.kernel_core.specs.Steps.{Steps}
+use Rattle.partmem_c.specs.Events.{numbers_of_body}
+use Rattle.partmem_c.specs.Calls.{block_bytes, call_status}
 use Rattle.partmem_c.specs.declared.figures.OrderFigures.{OrderFigures}
 use Rattle.partmem_c.specs.declared.figures.CacheFigures.{CacheFigures}
 use Rattle.partmem_c.specs.declared.figures.Figures.{Figures}
@@ -63,6 +68,13 @@ figures_of_report report = record {
 abbrev pub figures_of_body : Body → Figures
 figures_of_body (Report report) = figures_of_report report
 figures_of_body other = no_figures
+
+-- the event was a step of the kernel, and these are the status and the figures of its reply
+pub record PutsFigures (k : KernelContent) (t status : ℕ) (figures : Figures) : Type 0 where
+  pub reply : Reply
+  pub steps : Steps k (Tenant t Command.Report) k reply
+  pub returns : status ≡ call_status (Some (numbers_of_body reply.body))
+  pub are : figures ≡ figures_of_body reply.body
 
 -- the figures of the reply to a report, all zeroes if there is none
 abbrev pub reported_figures : Option Reply → Figures

@@ -4,7 +4,7 @@ ghost use Rattle.std.specs.Prelude.{◌≡◌, ◌≢◌, ◌<◌, ◌≤◌, �
 ghost use Rattle.words_core.specs.Requests.{command_of, IsAskable, asks_bytes};
 ghost use Rattle.words_core.specs.declared.event.Event.TheVariants as Event;
 ghost use Rattle.words_core.specs.declared.event.Event.TheVariants.{Tenant};
-ghost use Rattle.words_core.specs.declared.event.Command.TheVariants.{Read, Report};
+ghost use Rattle.words_core.specs.declared.event.Command.TheVariants.{Report};
 ghost use Rattle.words_core.specs.declared.event.AdminCommand.TheVariants as AdminCommand;
 ghost use Rattle.kernel_core.specs.Steps.{HasPattern};
 ghost use Rattle.partmem_c.specs.Events.{requested_event, machine_status, status_of_event, event_status, AnswersEvent, RunsEvent};
@@ -16,7 +16,7 @@ use crate::lines::put;
 use crate::machine::Machine;
 use crate::status::{BUFFER_TOO_SMALL, DONE, NO_MACHINE, NOT_AN_EVENT};
 use crate::telling::{
-    ReplyNumbers, bytes_in_reply, bytes_of_body, numbers_of_answer, numbers_of_body,
+    ReplyNumbers, bytes_in_reply, numbers_of_answer, numbers_of_owners, numbers_of_report,
 };
 use arrayvec::ArrayVec;
 use kernel_core::Kernel;
@@ -413,13 +413,11 @@ fn read_event(
         return NO_MACHINE;
     }
     let mut kernel = machine.take_out(alloc);
-    *reply = read(
-        &mut kernel,
-        request.tenant,
-        request.first,
-        request.second,
-        buffer,
-    );
+    let command = Request::Read {
+        place: request.first,
+        len: request.second,
+    };
+    *reply = run_over(&mut kernel, request.tenant, command, buffer);
     machine.put_in(kernel);
     DONE
 }
@@ -566,46 +564,31 @@ fn step(kernel: &mut Kernel, event: &Event, buffer: &mut [u8]) -> ReplyNumbers
     match event {
         Event::Admin(command) => match kernel.administer(command) {
             Some(answer) => numbers_of_answer(answer),
-            None => pool(kernel, buffer),
+            None => pool(kernel),
         },
-        Event::Tenant(tenant, Command::Report) => report(kernel, *tenant, buffer),
-        _ => step_whole(kernel, event, buffer),
+        Event::Tenant(tenant, command) => match command.request() {
+            Some(request) => run_over(kernel, *tenant, request, buffer),
+            None => report(kernel, *tenant),
+        },
     }
 }
 
-/// Answers who owns each superblock. It is out of line, as all that makes a reply, which is as large as the owners of all
-/// superblocks.
-#[inline(never)]
-fn pool(kernel: &Kernel, buffer: &mut [u8]) -> ReplyNumbers
-    requires { MOST_BYTES ≤ length buffer.old }
-    ensures { AnswersEvent kernel.now (Event.Admin AdminCommand.Pool) kernel.now result buffer.old buffer.new }
+/// Counts the superblocks of the table of owners, which is written nowhere.
+fn pool(kernel: &Kernel) -> ReplyNumbers
+    ensures { (buffer : List ℕ) → AnswersEvent kernel.now (Event.Admin AdminCommand.Pool) kernel.now result buffer buffer }
 {
-    let reply = kernel.pool();
-    put(bytes_of_body(&reply.body), buffer, 0);
-    numbers_of_body(&reply.body)
+    numbers_of_owners(kernel.owners())
 }
 
 /// Answers the report of a tenant.
 #[inline(never)]
-fn report(kernel: &Kernel, tenant: u32, buffer: &mut [u8]) -> ReplyNumbers
-    requires { MOST_BYTES ≤ length buffer.old }
-    ensures { AnswersEvent kernel.now (Tenant tenant Report) kernel.now result buffer.old buffer.new }
+fn report(kernel: &Kernel, tenant: u32) -> ReplyNumbers
+    ensures { (buffer : List ℕ) → AnswersEvent kernel.now (Tenant tenant Report) kernel.now result buffer buffer }
 {
-    let reply = kernel.report(tenant);
-    put(bytes_of_body(&reply.body), buffer, 0);
-    numbers_of_body(&reply.body)
-}
-
-/// [`step`] of any event.
-#[inline(never)]
-fn step_whole(kernel: &mut Kernel, event: &Event, buffer: &mut [u8]) -> ReplyNumbers
-    requires pattern { HasPattern event.now }
-    requires buffer { MOST_BYTES ≤ length buffer.old }
-    ensures { AnswersEvent kernel.old event.now kernel.new result buffer.old buffer.new }
-{
-    let reply = kernel.step(event);
-    put(bytes_of_body(&reply.body), buffer, 0);
-    numbers_of_body(&reply.body)
+    match kernel.tenant(tenant) {
+        Some(t) => numbers_of_report(&kernel.figures(t)),
+        None => numbers_of_answer(Answer::Refused(Refusal::NoTenant)),
+    }
 }
 
 /// Runs a command that asks for no bytes, and answers it in numbers.
@@ -622,13 +605,19 @@ pub(crate) fn run(kernel: &mut Kernel, tenant: u32, command: Request<'_>) -> Rep
     }
 }
 
-/// Runs a read, puts its bytes over the first of `buffer`, and answers it in numbers.
+/// Runs a command, puts the bytes that it returns over the first of `buffer`, and answers it in numbers.
 #[inline(always)]
-fn read(kernel: &mut Kernel, tenant: u32, place: u32, len: u32, buffer: &mut [u8]) -> ReplyNumbers
-    requires { MOST_BYTES ≤ length buffer.old }
-    ensures { AnswersEvent kernel.old (Tenant tenant (Read place len)) kernel.new result buffer.old buffer.new }
+fn run_over(
+    kernel: &mut Kernel,
+    tenant: u32,
+    command: Request<'_>,
+    buffer: &mut [u8],
+) -> ReplyNumbers
+    requires askable { IsAskable command }
+    requires buffer { MOST_BYTES ≤ length buffer.old }
+    ensures { AnswersEvent kernel.old (Tenant tenant (command_of command.entry)) kernel.new result buffer.old buffer.new }
 {
-    match kernel.ask(tenant, Request::Read { place, len }) {
+    match kernel.ask(tenant, command) {
         Some((_, answer)) => {
             put(bytes_in_reply(answer), buffer, 0);
             numbers_of_answer(answer)

@@ -5,15 +5,15 @@ ghost use Rattle.words_core.specs.declared.event.Event.TheVariants.{Tenant};
 ghost use Rattle.words_core.specs.declared.event.Command.TheVariants as Command;
 ghost use Rattle.partmem_c.specs.Calls.{RunsCall, numbers_in_reply, call_status};
 ghost use Rattle.partmem_c.specs.Figures.{order_figures, cache_figures, no_figures, over};
-ghost use Rattle.partmem_c.specs.Figures.{reported_figures, figures_of_body, figures_of_report};
+ghost use Rattle.partmem_c.specs.Figures.{reported_figures, figures_of_report, PutsFigures};
 
-use crate::calls::{block_bytes, call_status};
+use crate::calls::block_bytes;
 use crate::machine::Machine;
-use crate::status::NO_MACHINE;
-use crate::telling::numbers_of_body;
+use crate::status::{DONE, NO_MACHINE};
+use kernel_core::Kernel;
 use model_core::report::{CacheRow, OrderRow};
 use std::alloc::Global;
-use words_core::{Body, CACHES, ORDERS, Report};
+use words_core::{CACHES, ORDERS, Refusal, Report};
 
 /// The blocks of one order: how many are free, and how many are taken.
 #[repr(C)]
@@ -99,20 +99,21 @@ pub extern "C" fn partmem_report(
         return NO_MACHINE;
     }
     let kernel = machine.take_out(alloc);
-    let reply = kernel.report(tenant);
+    let status = put_figures(&kernel, tenant, figures);
     machine.put_in(kernel);
-    put_body(&reply.body, figures);
-    call_status(Some(numbers_of_body(&reply.body)))
+    status
 }
 
-/// Puts the report that a reply is, if it is one, over figures that are all zeroes.
-fn put_body(body: &Body, figures: &mut Figures)
+/// Puts the figures of a tenant over figures that are all zeroes, which stay if there is no such tenant, and returns the status.
+fn put_figures(kernel: &Kernel, tenant: u32, figures: &mut Figures) -> u32
     requires { figures.old ≡ no_figures }
-    ensures { figures.new ≡ figures_of_body body.now }
+    ensures { PutsFigures kernel.now tenant result figures.new }
 {
-    if let Body::Report(report) = body {
-        put_report(report, figures);
-    }
+    let Some(t) = kernel.tenant(tenant) else {
+        return u32::from(Refusal::NoTenant.number());
+    };
+    put_report(&kernel.figures(t), figures);
+    DONE
 }
 
 /// Puts a report over figures that are all zeroes.

@@ -4,7 +4,7 @@ ghost use Rattle.std.specs.Prelude.{◌≡◌, ◌≢◌, ℕ, ◌+◌, ◌*◌,
 ghost use Rattle.std.specs.Prelude.{IfSome, MatchOption, if◌then◌else◌};
 ghost use Rattle.words_core.specs.Grammar.{reading_of};
 ghost use Rattle.words_core.specs.Texts.{text_of};
-ghost use Rattle.words_core.specs.Requests.{command_of, reply_of_answer, reply_to, HasFewBytes, IsAskable};
+ghost use Rattle.words_core.specs.Requests.{command_of, reply_of_answer, reply_of_table, reply_to, HasFewBytes, HasFewRows, IsAskable};
 ghost use Rattle.words_core.specs.declared.event.Event.TheVariants.{Tenant, Admin};
 ghost use Rattle.words_core.specs.declared.event.AdminCommand.TheVariants.{Pool};
 ghost use Rattle.words_core.specs.declared.event.Command.TheVariants.{Report};
@@ -23,8 +23,8 @@ use quick_core::{WINDOW, read_request};
 use std::alloc::Global;
 use words_core::{
     Addressee, AdminCommand, Answer, Event, LineFault, MOST_ANSWER_BYTES, MOST_REPLY_BYTES,
-    MOST_ROWS, Refusal, Reply, Request, SHORT_ANSWER_BYTES, read_line, rows, write_answer,
-    write_answer_to, write_row,
+    MOST_ROWS, Refusal, Request, SHORT_ANSWER_BYTES, Table, read_line, write_answer,
+    write_answer_to,
 };
 
 /// No line is answered by more bytes than these: the owners of all superblocks, with a line in front of them.
@@ -94,7 +94,10 @@ fn run_line(kernel: &mut Kernel, line: &[u8], buffer: &mut [u8]) -> Option<usize
     ensures { AnswersOrNot kernel.old line.now buffer.old kernel.new buffer.new result }
 {
     if line.len() >= WINDOW {
-        return run_other(kernel, line, buffer);
+        if let Some(written) = run_long(kernel, line, buffer) {
+            return Some(written);
+        }
+        return run_any(kernel, line, buffer);
     }
     let mut ended = [0; WINDOW];
     put_ended(line, &mut ended);
@@ -107,21 +110,9 @@ fn run_line(kernel: &mut Kernel, line: &[u8], buffer: &mut [u8]) -> Option<usize
     run_any(kernel, line, buffer)
 }
 
-/// [`run_line`] of a longer line; out of line, since it needs more stack than most lines of a load.
-#[inline(never)]
-fn run_other(kernel: &mut Kernel, line: &[u8], buffer: &mut [u8]) -> Option<usize>
-    requires { IsWide buffer.old }
-    ensures { AnswersOrNot kernel.old line.now buffer.old kernel.new buffer.new result }
-{
-    if let Some(written) = run_long(kernel, line, buffer) {
-        return Some(written);
-    }
-    run_any(kernel, line, buffer)
-}
-
 /// [`run_line`] of a longer line that makes up a load, as a write; None, and nothing is done, where it isn't one, or where that
-/// is not sure.
-#[inline(always)]
+/// is not sure. It is out of line, since it needs more stack than most lines of a load.
+#[inline(never)]
 fn run_long(kernel: &mut Kernel, line: &[u8], buffer: &mut [u8]) -> Option<usize>
     requires { IsWide buffer.old }
     ensures { MatchOption result ((kernel.new ≡ kernel.old) × (buffer.new ≡ buffer.old))
@@ -150,7 +141,16 @@ fn run_any(kernel: &mut Kernel, line: &[u8], buffer: &mut [u8]) -> Option<usize>
     if line.contains(&b'\n') {
         return None;
     }
-    Some(answer(read_line(line), kernel, buffer))
+    Some(answer(read(line), kernel, buffer))
+}
+
+/// What a line reads as; out of line, so that its stack is free again before the line is answered.
+#[inline(never)]
+fn read(line: &[u8]) -> Result<Option<Event>, LineFault>
+    ensures exact { result ≡ reading_of line.now }
+    ensures runnable { IsRunnable result }
+{
+    read_line(line)
 }
 
 /// Puts a line over the first bytes, and a line feed behind it.
@@ -310,14 +310,17 @@ fn answer(
     }
 }
 
-/// By itself, as all that needs the memory of a reply, which no other line pays for.
+/// By itself, since no other line pays for the memory of a report.
 #[cold]
 #[inline(never)]
 fn put_report(tenant: u32, kernel: &Kernel, buffer: &mut [u8]) -> usize
     requires { IsWide buffer.old }
     ensures { PutsAnswer kernel.now (Ok (Some (Tenant tenant Report))) kernel.now buffer.old buffer.new result }
 {
-    put_reply(&kernel.report(tenant), buffer)
+    match kernel.tenant(tenant) {
+        Some(t) => put_table(Table::Report(t, &kernel.figures(t)), buffer),
+        None => put_no_tenant(buffer),
+    }
 }
 
 #[cold]
@@ -338,7 +341,7 @@ fn put_pool(kernel: &Kernel, buffer: &mut [u8]) -> usize
     requires { IsWide buffer.old }
     ensures { PutsAnswer kernel.now (Ok (Some (Admin Pool))) kernel.now buffer.old buffer.new result }
 {
-    put_reply(&kernel.pool(), buffer)
+    put_table(Table::Owners(kernel.owners()), buffer)
 }
 
 #[cold]
@@ -351,15 +354,16 @@ fn put_fault(fault: LineFault, buffer: &mut [u8]) -> usize
     put_long_answer(Addressee::Nobody, Answer::Fault(fault), buffer)
 }
 
-/// Writes the text of a reply, line by line.
-fn put_reply(reply: &Reply, buffer: &mut [u8]) -> usize
-    requires { IsWide buffer.old }
-    ensures { IsTextWritten (text_of reply.now) buffer.old buffer.new result }
+/// Writes the text of a table, line by line.
+fn put_table(table: Table<'_>, buffer: &mut [u8]) -> usize
+    requires rows { HasFewRows table }
+    requires buffer { IsWide buffer.old }
+    ensures { IsTextWritten (text_of (reply_of_table table.entry)) buffer.old buffer.new result }
 {
     let mut line = [0; MOST_REPLY_BYTES];
     let mut written = 0;
-    for row in 0..rows(reply) {
-        let len = write_row(reply, row, &mut line);
+    for row in 0..table.rows() {
+        let len = table.write_row(row, &mut line);
         put(&line[..len], buffer, written);
         written += len;
     }

@@ -2,14 +2,16 @@
 
 ghost use Rattle.std.specs.Prelude.{◌≡◌, ◌≤◌, length};
 ghost use Rattle.words_core.specs.Requests.{body_of_answer, HasFewBytes};
+ghost use Rattle.words_core.specs.declared.reply.Body.TheVariants as Body;
 ghost use Rattle.partmem_c.specs.Events.{numbers_of_body, answered_bytes, reply_numbers, top_number};
 
 use crate::kinds::{
     BYTES, DESTROYED, FIGURES, FRAME, FREED, GIVEN, GRANTED, MADE, MOVED, NOTHING, OBJECT, OWNERS,
     REAPED, REFUSED, TAKEN_BACK, WAS_RESET, WRITTEN,
 };
-use model_core::limits::MOST_BYTES;
-use words_core::{Answer, Body};
+use model_core::limits::{MOST_BYTES, MOST_SUPERBLOCKS};
+use model_core::owner::Owner;
+use words_core::{Answer, Report};
 
 /// What an event is answered, as numbers in the order that [`crate::kinds`] says of each kind; all others are 0.
 #[repr(C)]
@@ -23,21 +25,25 @@ pub struct ReplyNumbers {
     pub fifth: u32,
 }
 
-/// A reply as numbers.
-pub fn numbers_of_body(body: &Body) -> ReplyNumbers
-    ensures { result ≡ numbers_of_body body.now }
+/// The table of owners as numbers.
+pub fn numbers_of_owners(owners: &[Option<Owner>]) -> ReplyNumbers
+    requires { length owners.now ≤ MOST_SUPERBLOCKS }
+    ensures { result ≡ numbers_of_body (Body.Owners (record { items = owners.now })) }
 {
-    match body {
-        Body::Owners(owners) => one(OWNERS, owners.len() as u32),
-        Body::Report(report) => ReplyNumbers {
-            kind: FIGURES,
-            first: report.frames,
-            second: report.live,
-            third: report.free,
-            fourth: top_number(report.top),
-            fifth: report.split,
-        },
-        _ => numbers_of_answer(body.answer().unwrap()),
+    one(OWNERS, owners.len() as u32)
+}
+
+/// A report as numbers.
+pub fn numbers_of_report(report: &Report) -> ReplyNumbers
+    ensures { result ≡ numbers_of_body (Body.Report report.now) }
+{
+    ReplyNumbers {
+        kind: FIGURES,
+        first: report.frames,
+        second: report.live,
+        third: report.free,
+        fourth: top_number(report.top),
+        fifth: report.split,
     }
 }
 
@@ -139,17 +145,6 @@ pub fn bytes_in_reply(answer: Answer<'_>) -> &[u8]
 {
     match answer {
         Answer::Bytes(bytes) => bytes,
-        _ => &[],
-    }
-}
-
-/// The bytes that a reply tells.
-pub fn bytes_of_body(body: &Body) -> &[u8]
-    ensures value { result.now ≡ answered_bytes body.now }
-    ensures few { length result.now ≤ MOST_BYTES }
-{
-    match body {
-        Body::Bytes(bytes) => bytes.as_slice(),
         _ => &[],
     }
 }

@@ -6,9 +6,9 @@ use Rattle.partmem_c.proofs.lines.run_line.Goals as goal
 pub returns-then-read-line : goal.returns-then-read-line
 returns-then-read-line c =
     let text = c.answer_request.ensures.0 in
-    let reads = c.in-Some.ensures.reads in
+    let reads = c.in-Some-read_request.ensures.reads in
     let one : has_line_feed c.args.line.now ≡ false =
-    line_ended c.args.line.now _ _ _ _ c.in-Some.read.len (omega arith) c.put_ended.ensures reads in record {
+    line_ended c.args.line.now _ _ _ _ c.in-Some-read_request.read.len (omega arith) c.put_ended.ensures reads in record {
       text = text;
       one = one;
       answers = line_answered _ _ c.args.line.now _ _ text _ _ _ one c.put_ended.ensures reads c.answer_request.ensures.1;

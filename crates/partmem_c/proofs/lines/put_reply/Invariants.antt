@@ -1,9 +1,0 @@
-use Rattle.std.proofs.Common.{◌≤◌, ◌*◌, drop}
-use Rattle.std.specs.List.{concat}
-use Rattle.words_core.specs.Texts.{lines_of, text_of}
-use Rattle.partmem_c.proofs.TextLemmas.{IsPart}
-use Rattle.partmem_c.proofs.lines.put_reply.Given as goal
-
-abbrev pub invariant-loop-row : goal.invariant-loop-row
-invariant-loop-row l =
-    IsPart (text_of l.reply) (concat (drop l.row (lines_of l.reply))) l.fn.buffer l.buffer l.written × (l.written ≤ 256 * l.row)
