@@ -13,8 +13,8 @@
     _Static_assert(sizeof(name) == (size), #name " has not " #size " bytes");                                                  \
     _Static_assert(_Alignof(name) == (alignment), #name " is not aligned to " #alignment)
 
-STRUCT(partmem_machine, 16, 8);
-ARRAY(partmem_machine, held, void *, 2, 0);
+STRUCT(partmem_machine, 24, 8);
+ARRAY(partmem_machine, held, void *, 3, 0);
 
 STRUCT(partmem_tenant, 16, 8);
 FIELD(partmem_tenant, machine, partmem_machine *, 0);
@@ -29,6 +29,10 @@ STRUCT(partmem_config, 12, 4);
 FIELD(partmem_config, order, uint32_t, 0);
 FIELD(partmem_config, superblocks, uint32_t, 4);
 FIELD(partmem_config, tenants, uint32_t, 8);
+
+STRUCT(partmem_memory, 16, 8);
+FIELD(partmem_memory, ram, void *, 0);
+FIELD(partmem_memory, tables, void *, 8);
 
 STRUCT(partmem_slot, 8, 4);
 FIELD(partmem_slot, slot, uint32_t, 0);
@@ -87,12 +91,20 @@ FIELD(partmem_reply, third, uint32_t, 12);
 FIELD(partmem_reply, fourth, uint32_t, 16);
 FIELD(partmem_reply, fifth, uint32_t, 20);
 IS(&partmem_boot, partmem_status (*)(partmem_machine *, const partmem_config *));
+IS(&partmem_boot_in, partmem_status (*)(partmem_machine *, const partmem_config *, const partmem_memory *));
+IS(&partmem_superblock_address, void *(*)(const partmem_machine *, uint32_t));
+IS(&partmem_find_place, partmem_status (*)(partmem_tenant, const void *, uint32_t *));
 IS(&partmem_move, partmem_status (*)(partmem_tenant, uint32_t, partmem_slot *));
 IS(&partmem_make_cache, partmem_status (*)(partmem_tenant, uint32_t, uint32_t, const void *, size_t, partmem_cache *));
 IS(&partmem_lend, partmem_status (*)(partmem_tenant, uint32_t, uint32_t, partmem_lent *));
 IS(&partmem_event,
    partmem_status (*)(partmem_machine *, const partmem_request *, const void *, size_t, partmem_reply *, void *, size_t));
 IS(&partmem_line, partmem_status (*)(partmem_machine *, const char *, size_t, char *, size_t, size_t *));
+
+/* sizes are constants of type size_t */
+IS(PARTMEM_RAM_BYTES(8u, 256u), size_t);
+IS(PARTMEM_TABLE_BYTES(8u, 256u, 64u), size_t);
+_Static_assert(PARTMEM_RAM_BYTES(8, 256) == 256 << 20 && PARTMEM_TABLE_BYTES(8, 256, 64) < 5 << 20, "another size");
 
 /* enums have 32 bits; a row for each of 256 superblocks and one in front of them, and the most that a read returns */
 _Static_assert(sizeof(partmem_status) == 4 && sizeof(partmem_use) == 4, "another enum");

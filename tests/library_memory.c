@@ -1,12 +1,13 @@
 /* What the library for C does with memory. To be linked with a program and the library, and with the linker's --wrap for each
- * function __wrap_NAME and OTHER(NAME, ..) below, so that NAME goes through it.
+ * function __wrap_NAME and OTHER(NAME, ..) below, so that NAME goes through it. A block is one of the C library, or one that the
+ * kernel allocates in the RAM or the tables.
  *
- * It ends the process with status 70 where
- * - the library asks for memory, or gives some back, in a call other than partmem_boot and partmem_end;
- * - a boot that is not done keeps a block, or says that memory is short where none was refused;
- * - an end gives back more blocks or fewer than the boot of that machine took, or asks for memory;
+ * It ends the process with status 70 if
+ * - the library allocates or frees a block in a call other than a boot or an end;
+ * - a boot that is not done keeps a block, or returns NO_MEMORY when none was refused;
+ * - an end frees more blocks or fewer than the boot of that machine took, or allocates one;
  * - a block is held when the program ends.
- * Else it tells on standard error how many calls there were. What the program itself does with memory is not counted.
+ * Else it prints on standard error how many calls there were. What the program itself does with memory is not counted.
  */
 #include <stdbool.h>
 #include <stdint.h>
@@ -21,7 +22,7 @@ enum { MOST_MACHINES = 8 };
 
 long refused_allocation, blocks_held;
 
-static enum { OUTSIDE, IN_BOOT, IN_END, IN_OTHER } place;
+static enum place { OUTSIDE, IN_BOOT, IN_END, IN_OTHER } place;
 static bool was_refused;
 static long boots, taken, others, ends;
 static struct {
@@ -49,48 +50,78 @@ static long *blocks_of(const partmem_machine *machine, const partmem_machine *fr
 /* an allocation of the library's, before it is made */
 static bool is_refused(void)
 {
-    hold(place == IN_BOOT, "asked for outside of boot");
-    was_refused = refused_allocation > 0 && --refused_allocation == 0;
-    return was_refused;
+    hold(place == IN_BOOT, "allocated outside of boot");
+    bool is_this = refused_allocation > 0 && --refused_allocation == 0;
+    was_refused |= is_this;
+    return is_this;
+}
+
+static void *counted(void *block)
+{
+    blocks_held += block != NULL;
+    taken += block != NULL;
+    return block;
+}
+
+static void count_free(void)
+{
+    hold(place == IN_BOOT || place == IN_END, "freed outside of boot and end");
+    blocks_held--;
 }
 
 void *__real_malloc(size_t size);
 void *__wrap_malloc(size_t size)
 {
     if (place == OUTSIDE) return __real_malloc(size);
-    void *block = is_refused() ? NULL : __real_malloc(size);
-    blocks_held += block != NULL;
-    taken += block != NULL;
-    return block;
+    return is_refused() ? NULL : counted(__real_malloc(size));
 }
 
-void *__real_realloc(void *old, size_t size);
-void *__wrap_realloc(void *old, size_t size)
+void *__real_aligned_alloc(size_t alignment, size_t size);
+void *__wrap_aligned_alloc(size_t alignment, size_t size)
 {
-    if (place == OUTSIDE) return __real_realloc(old, size);
-    void *block = is_refused() ? NULL : __real_realloc(old, size);
-    blocks_held += block != NULL && !old;
-    taken += block != NULL && !old;
-    return block;
+    if (place == OUTSIDE) return __real_aligned_alloc(alignment, size);
+    return is_refused() ? NULL : counted(__real_aligned_alloc(alignment, size));
 }
 
 void __real_free(void *block);
 void __wrap_free(void *block)
 {
-    if (place != OUTSIDE && block) {
-        hold(place != IN_OTHER, "given back outside of boot and end");
-        blocks_held--;
-    }
+    if (place != OUTSIDE && block) count_free();
     __real_free(block);
 }
 
-partmem_status __real_partmem_boot(partmem_machine *machine, const partmem_config *config);
-partmem_status __wrap_partmem_boot(partmem_machine *machine, const partmem_config *config)
+/* the functions that the kernel allocates by, in memory.c */
+struct allocation {
+    bool is_done;
+    void *at;
+};
+struct allocation __real_rattle_alloc(size_t bytes, size_t align);
+struct allocation __wrap_rattle_alloc(size_t bytes, size_t align)
 {
-    long before = blocks_held;
-    place = IN_BOOT;
-    was_refused = false;
-    partmem_status status = __real_partmem_boot(machine, config);
+    if (is_refused()) return (struct allocation){false, &taken};
+    struct allocation got = __real_rattle_alloc(bytes, align);
+    hold(got.is_done && counted(got.at), "no space in the RAM or in the tables");
+    return got;
+}
+
+struct allocation __real_rattle_realloc(void *old, size_t kept, size_t bytes, size_t align);
+struct allocation __wrap_rattle_realloc(void *old, size_t kept, size_t bytes, size_t align)
+{
+    if (is_refused()) return (struct allocation){false, &taken};
+    struct allocation got = __real_rattle_realloc(old, kept, bytes, align);
+    hold(got.is_done, "no space in the tables");
+    return got;
+}
+
+void __real_rattle_dealloc(void *block);
+void __wrap_rattle_dealloc(void *block)
+{
+    count_free();
+    __real_rattle_dealloc(block);
+}
+
+static partmem_status count_boot(partmem_machine *machine, partmem_status status, long before)
+{
     place = OUTSIDE;
     if (status == PARTMEM_DONE) {
         hold(blocks_held > before, "a boot that takes no memory");
@@ -103,6 +134,26 @@ partmem_status __wrap_partmem_boot(partmem_machine *machine, const partmem_confi
     return status;
 }
 
+/* partmem_boot calls it, too: that is part of its boot. */
+partmem_status __real_partmem_boot_in(partmem_machine *machine, const partmem_config *config, const partmem_memory *memory);
+partmem_status __wrap_partmem_boot_in(partmem_machine *machine, const partmem_config *config, const partmem_memory *memory)
+{
+    if (place == IN_BOOT) return __real_partmem_boot_in(machine, config, memory);
+    long before = blocks_held;
+    place = IN_BOOT;
+    was_refused = false;
+    return count_boot(machine, __real_partmem_boot_in(machine, config, memory), before);
+}
+
+partmem_status __real_partmem_boot(partmem_machine *machine, const partmem_config *config);
+partmem_status __wrap_partmem_boot(partmem_machine *machine, const partmem_config *config)
+{
+    long before = blocks_held;
+    place = IN_BOOT;
+    was_refused = false;
+    return count_boot(machine, __real_partmem_boot(machine, config), before);
+}
+
 partmem_status __real_partmem_end(partmem_machine *machine);
 partmem_status __wrap_partmem_end(partmem_machine *machine)
 {
@@ -111,19 +162,20 @@ partmem_status __wrap_partmem_end(partmem_machine *machine)
     partmem_status status = __real_partmem_end(machine);
     place = OUTSIDE;
     long given = before - blocks_held;
-    hold(given == (status == PARTMEM_DONE ? *blocks_of(machine, NULL) : 0), "an end gives back other blocks than its boot took");
+    hold(given == (status == PARTMEM_DONE ? *blocks_of(machine, NULL) : 0), "an end frees other blocks than its boot took");
     ends++;
     return status;
 }
 
-/* All other functions. */
+/* All other functions. One of them calls another. */
 #define OTHER(name, parameters, arguments)               \
     partmem_status __real_##name parameters;             \
     partmem_status __wrap_##name parameters              \
     {                                                    \
+        const enum place before = place;                 \
         place = IN_OTHER;                                \
         partmem_status status = __real_##name arguments; \
-        place = OUTSIDE;                                 \
+        place = before;                                  \
         others++;                                        \
         return status;                                   \
     }
@@ -153,6 +205,7 @@ OTHER(partmem_lend_block, (partmem_tenant tenant, uint32_t from, partmem_lent *b
 OTHER(partmem_read, (partmem_tenant tenant, uint32_t from, void *to, size_t bytes), (tenant, from, to, bytes))
 OTHER(partmem_write, (partmem_tenant tenant, uint32_t to, const void *from, size_t bytes), (tenant, to, from, bytes))
 OTHER(partmem_find_block, (partmem_tenant tenant, uint32_t from, partmem_block *found), (tenant, from, found))
+OTHER(partmem_find_place, (partmem_tenant tenant, const void *at, uint32_t *found), (tenant, at, found))
 OTHER(partmem_report, (partmem_tenant tenant, partmem_figures *figures), (tenant, figures))
 OTHER(partmem_event,
       (partmem_machine *machine, const partmem_request *request, const void *bytes, size_t bytes_len, partmem_reply *reply,

@@ -14,9 +14,9 @@
  * address randomisation off; it is to be linked statically, so that each instruction stands at the same address in every run.
  *
  * The file "operands", if there is one in the working folder, has the memory operand of each instruction (as tests/same-path reads
- * them from a disassembly). An access to a block that boot took is told by the block's size and the offset in it. Where the size
- * is a multiple of the number of superblocks (of a block that grew in boot, of the power of two from there on) it is told by the
- * offset in that part. Blocks and parts are numbered in each command as it meets them: so what is equal is equal but for the
+ * them from a disassembly). An access to a block that boot took is told by the block's size (one more for a superblock) and the
+ * offset in it. Where the size is a multiple of the number of superblocks (of a block that grew in boot, of the power of two from
+ * there on) it is told by the offset in that part. Blocks and parts are numbered in each command as it meets them: so what is equal is equal but for the
  * numbers of superblocks. Other accesses are told by their addresses.
  */
 #define _GNU_SOURCE /* registers by name */
@@ -47,35 +47,38 @@ static void hold(bool holds, const char *what)
 static struct block {
     uint64_t start, size, part_bytes;
     uint32_t first_part;
-    bool has_grown;
+    bool has_grown, is_superblock;
 } blocks[MOST_BLOCKS];
 static uint32_t block_count;
-static bool in_boot;
 
 static void add_block(void *start, size_t size, bool has_grown)
 {
-    if (!in_boot || !start) return;
     hold(block_count < MOST_BLOCKS, "too many blocks");
     blocks[block_count++] = (struct block){.start = (uint64_t)start, .size = size, .has_grown = has_grown};
 }
 
-void *__real_malloc(size_t size);
-void *__wrap_malloc(size_t size)
+/* the functions that the kernel allocates by, in memory.c */
+struct allocation {
+    bool is_done;
+    void *at;
+};
+struct allocation __real_rattle_alloc(size_t bytes, size_t align);
+struct allocation __wrap_rattle_alloc(size_t bytes, size_t align)
 {
-    void *block = __real_malloc(size);
-    add_block(block, size, false);
-    return block;
+    struct allocation got = __real_rattle_alloc(bytes, align);
+    add_block(got.at, bytes, false);
+    return got;
 }
 
-void *__real_realloc(void *old, size_t size);
-void *__wrap_realloc(void *old, size_t size)
+struct allocation __real_rattle_realloc(void *old, size_t kept, size_t bytes, size_t align);
+struct allocation __wrap_rattle_realloc(void *old, size_t kept, size_t bytes, size_t align)
 {
-    for (uint32_t i = 0; in_boot && i < block_count; i++) {
+    for (uint32_t i = 0; i < block_count; i++) {
         if (blocks[i].start == (uint64_t)old) blocks[i] = blocks[--block_count];
     }
-    void *block = __real_realloc(old, size);
-    add_block(block, size, true);
-    return block;
+    struct allocation got = __real_rattle_realloc(old, kept, bytes, align);
+    add_block(got.at, bytes, true);
+    return got;
 }
 
 static int by_start(const void *first, const void *second)
@@ -86,17 +89,17 @@ static int by_start(const void *first, const void *second)
 
 static void boot(partmem_machine *machine, uint32_t order, uint32_t superblocks, uint32_t tenants)
 {
-    in_boot = true;
     const partmem_config config = {order, superblocks, tenants};
     hold(partmem_boot(machine, &config) == PARTMEM_DONE, "boot");
-    in_boot = false;
     qsort(blocks, block_count, sizeof blocks[0], by_start);
+    const uint64_t ram = (uint64_t)partmem_superblock_address(machine, 0);
     uint32_t parts = 0, room = 1;
     while (room < superblocks) room *= 2;
     for (uint32_t i = 0; i < block_count; i++) {
         uint32_t count = blocks[i].has_grown ? room : superblocks;
         bool is_cut = blocks[i].size > 0 && blocks[i].size % count == 0;
         blocks[i].first_part = parts;
+        blocks[i].is_superblock = blocks[i].start - ram < PARTMEM_RAM_BYTES(order, superblocks);
         blocks[i].part_bytes = is_cut ? blocks[i].size / count : UINT64_MAX;
         parts += is_cut ? count : 1;
     }
@@ -163,7 +166,7 @@ static uint64_t told_of_address(uint64_t address)
         met[part].command = now.command;
         met[part].number = now.touched++;
     }
-    return mix(mix(block->size, met[part].number), offset % block->part_bytes);
+    return mix(mix(block->size + block->is_superblock, met[part].number), offset % block->part_bytes);
 }
 
 /* a step at an address, which read or wrote what is told so */

@@ -12,7 +12,7 @@
 
 #define LEN(array) (sizeof(array) / sizeof *(array))
 
-enum { UNTOUCHED = 0xa5 };
+enum { UNTOUCHED = 0xa5, MACHINE = sizeof(partmem_machine) };
 
 /* what a call writes, with bytes around it that it may not touch */
 static struct {
@@ -68,7 +68,7 @@ static const uint32_t *reply_to(partmem_machine *machine, uint32_t kind, uint32_
     memset(&buffer, UNTOUCHED, sizeof buffer);
     uint8_t *few = buffer.inside.bytes;
     partmem_status status = partmem_event(machine, &request, &pattern, 1, &fence.inside.reply, few, PARTMEM_MOST_BYTES);
-    bool is_done = status == PARTMEM_DONE && is_kept_behind(&fence, 6 * sizeof(uint32_t)) && is_kept_behind(&place, 16);
+    bool is_done = status == PARTMEM_DONE && is_kept_behind(&fence, 6 * sizeof(uint32_t)) && is_kept_behind(&place, MACHINE);
     check(is_done, "an event", kind, tenant, first);
     check(is_kept_behind(&buffer, kind == PARTMEM_READ ? second : 0), "the buffer of an event", kind, tenant, first);
     return fence.inside.words;
@@ -152,7 +152,7 @@ static void look_at_text(partmem_machine *machine, uint32_t superblocks, uint32_
     char *text = (char *)buffer.inside.bytes;
     partmem_status status = partmem_line(machine, "admin pool", 10, text, sizeof buffer.inside.bytes, &fence.inside.written);
     size_t written = fence.inside.written, lines = 0;
-    bool is_kept = is_kept_behind(&fence, sizeof(size_t)) && is_kept_behind(&buffer, written) && is_kept_behind(&place, 16);
+    bool is_kept = is_kept_behind(&fence, sizeof(size_t)) && is_kept_behind(&buffer, written) && is_kept_behind(&place, MACHINE);
     for (size_t i = 0; i < written; i++) lines += buffer.inside.bytes[i] == '\n';
     check(status == PARTMEM_DONE && is_kept && lines == superblocks + 1, "the table of owners", 0, superblocks, tenants);
 }
@@ -166,7 +166,7 @@ static void boot_and_end(uint32_t order, uint32_t superblocks, uint32_t tenants)
     use_in_place(machine, order, superblocks, tenants);
     check(partmem_end(machine) == PARTMEM_DONE, "end", order, superblocks, tenants);
     partmem_machine zeroes = {{0}};
-    bool is_vacant = is_kept_behind(&place, 16) && !memcmp(machine, &zeroes, sizeof zeroes);
+    bool is_vacant = is_kept_behind(&place, MACHINE) && !memcmp(machine, &zeroes, sizeof zeroes);
     check(is_vacant, "what end leaves", order, superblocks, tenants);
 }
 
@@ -176,7 +176,7 @@ static void refuse_sizes(uint32_t order, uint32_t superblocks, uint32_t tenants)
     partmem_machine *machine = vacant_place(), zeroes = {{0}};
     refused_allocation = 1;
     check(boot(machine, order, superblocks, tenants) == PARTMEM_BAD_CONFIG, "not refused", order, superblocks, tenants);
-    bool is_kept = refused_allocation == 1 && is_kept_behind(&place, 16) && !memcmp(machine, &zeroes, sizeof zeroes);
+    bool is_kept = refused_allocation == 1 && is_kept_behind(&place, MACHINE) && !memcmp(machine, &zeroes, sizeof zeroes);
     check(is_kept, "changed by refused sizes", order, superblocks, tenants);
     refused_allocation = 0;
 }
@@ -213,7 +213,7 @@ static long refuse_each(uint32_t order, uint32_t superblocks, uint32_t tenants)
             return number - 1;
         }
         check(status == PARTMEM_NO_MEMORY && blocks_held == 0, "an allocation refused", order, superblocks, tenants);
-        bool is_kept = is_kept_behind(&place, 16) && !memcmp(machine, &zeroes, sizeof zeroes);
+        bool is_kept = is_kept_behind(&place, MACHINE) && !memcmp(machine, &zeroes, sizeof zeroes);
         check(is_kept, "changed where memory is short", order, superblocks, tenants);
     }
 }

@@ -1,4 +1,5 @@
-"""Compares crates/partmem_c/partmem.h with the exports, structs and constants of the crate's source, all of both.
+"""Compares crates/partmem_c/partmem.h, with two functions that memory.c declares, with the exports, structs and constants of the
+crate's source, all of both.
 
 A word of the header that belongs to nothing that is compared is refused, and so is an export or a struct that was not read."""
 import glob
@@ -12,10 +13,10 @@ TYPES = {"u32": "uint32_t", "usize": "size_t", "bool": "uint32_t", "*mut u8": "v
 FIELDS = {"usage": "use"}
 # A partmem_tenant goes where a machine and a number go.
 TENANT = [("machine", "partmem_machine *"), ("tenant", "uint32_t")]
-IN_C = ["partmem_strerror", "partmem_version"]
+IN_C = ["partmem_" + name for name in "strerror version boot boot_in end superblock_address find_place".split()]
 ENUM = re.compile(r"(?:typedef )?enum (?:\w+ )?\{([^{}]*)\}(?: (\w+))?;")
 STRUCT = re.compile(r"typedef struct (\w+) \{([^{}]*)\} (\w+);")
-FUNCTION = re.compile(r"(?:PARTMEM_CHECKED )?(partmem_status|uint32_t|const char \*) ?(\w+)\(([^()]*)\);")
+FUNCTION = re.compile(r"(?:PARTMEM_CHECKED )?(partmem_status|uint32_t|void \*|const char \*) ?(\w+)\(([^()]*)\);")
 INLINE = re.compile(r"PARTMEM_INLINE [\w *]+\([^()]*\) \{[^{}]*\}")
 DECLARED = re.compile(r"((?:const )?\w+(?: \*)?) ?(\w+)(\[[\w +]+\])?")
 
@@ -26,6 +27,7 @@ def read(path, comments):
 
 
 header = read("crates/partmem_c/partmem.h", r"/\*.*?\*/")
+in_memory = " ".join(read("crates/partmem_c/memory.c", r"/\*.*?\*/").split())
 sources = {path: read(path, r"//[^\n]*") for path in glob.glob("crates/partmem_c/src/*.rt")}
 source = "\n".join(sources.values())
 
@@ -43,7 +45,7 @@ def declared(text):
 def parts_of_header():
     """The macros, enums, structs and functions of the header. All else in it is preprocessor lines and inline functions."""
     macros = re.findall(r"^#define PARTMEM_(\w+) (\w+?)u\b", header, re.M)
-    text = " ".join(line for line in header.splitlines() if not line.startswith("#"))
+    text = " ".join(line for line in header.replace("\\\n", " ").splitlines() if not line.startswith("#"))
     text = INLINE.sub(" ", " ".join(text.split()))
     rest = " ".join(FUNCTION.sub("", STRUCT.sub("", ENUM.sub("", text))).split())
     if rest != 'extern "C" { }':
@@ -188,17 +190,20 @@ def compare(what, in_header, in_source):
 macros, enums, structs, functions = parts_of_header()
 numbers = macros + [pair for text, _ in enums for pair in constants(text)]
 numbers = by_name("number", [(name, int(number, 0)) for name, number in numbers])
-# Of C alone: the version, the place of no byte, and the width of the two enums.
-for name, number in {"VERSION": 20000, "NO_PLACE": 2 ** 32 - 1, "STATUS_BITS": 2 ** 31 - 1, "USE_BITS": 2 ** 31 - 1}.items():
+# Of C alone: the version, the place of no byte, the width of the two enums, and statuses of functions in C.
+OF_C = {"VERSION": 20000, "NO_PLACE": 2 ** 32 - 1, "STATUS_BITS": 2 ** 31 - 1, "USE_BITS": 2 ** 31 - 1, "BAD_MEMORY": 35, "NOT_HELD": 38}
+for name, number in OF_C.items():
     if numbers.pop(name, None) != number:
         fail(f"PARTMEM_{name} is not {number}")
 of_source = by_name("number", numbers_of_source())
-exports = by_name("function", exports_of_header(functions))
+of_kernel = [it for it in FUNCTION.findall(in_memory) if it[1].endswith("_kernel")]
+exports = by_name("function", exports_of_header(functions + of_kernel))
 exports_in_source = by_name("function", exports_of_source(exports))
 in_header = by_name("struct", structs_of_header(structs))
-if in_header.pop("partmem_machine", None) != [("held", "void *[2]")] or \
-        in_header.pop("partmem_tenant", None) != [("machine", "partmem_machine *"), ("number", "uint32_t")]:
-    fail("a machine or a tenant is another struct")
+if in_header.pop("partmem_machine", None) != [("held", "void *[3]")] or \
+        in_header.pop("partmem_tenant", None) != [("machine", "partmem_machine *"), ("number", "uint32_t")] or \
+        in_header.pop("partmem_memory", None) != [("ram", "void *"), ("tables", "void *")]:
+    fail("a machine, a tenant or a memory is another struct")
 in_source = by_name("struct", structs_of_source(in_header))
 found = [
     f"{compare('function', exports, exports_in_source)} functions",

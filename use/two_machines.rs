@@ -1,10 +1,10 @@
 //! Two machines beside each other as in `two_machines.c`, in plain Rust, where dropping one ends it.
-use std::ffi::{c_char, c_void};
 use std::io::{BufRead, BufReader, Write};
+use std::os::raw::{c_char, c_void};
 use std::ptr;
 
 #[repr(C)]
-struct Machine([*mut c_void; 2]);
+struct Machine([*mut c_void; 3]);
 
 #[repr(C)]
 #[derive(Clone, Copy)]
@@ -61,7 +61,7 @@ struct Booted(Box<Machine>);
 
 impl Booted {
     fn new(order: u32, superblocks: u32, tenants: u32) -> Booted {
-        let mut machine = Box::new(Machine([ptr::null_mut(); 2]));
+        let mut machine = Box::new(Machine([ptr::null_mut(); 3]));
         let config = Config { order, superblocks, tenants };
         assert_eq!(unsafe { partmem_boot(&mut *machine, &config) }, DONE);
         assert_eq!(unsafe { partmem_boot(&mut *machine, &config) }, HAS_MACHINE);

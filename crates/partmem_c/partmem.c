@@ -1,4 +1,4 @@
-/* The functions of partmem.h that are written in C: the texts of statuses, and the version. They are in libpartmem.a. */
+/* The functions of partmem.h that are written in C: the texts of statuses, and the version. */
 #include "partmem.h"
 
 static const char *const texts[] = {
@@ -21,8 +21,10 @@ static const char *const texts[] = {
     [PARTMEM_NO_MACHINE] = "NoMachine: no machine was booted there, or it has ended",
     [PARTMEM_HAS_MACHINE] = "HasMachine: there is a machine already",
     [PARTMEM_BAD_CONFIG] = "BadConfig: a number of the partmem_config is out of range",
-    [PARTMEM_NO_MEMORY] = "NoMemory: malloc failed",
+    [PARTMEM_BAD_MEMORY] = "BadMemory: the RAM or the tables are NULL, or not aligned",
+    [PARTMEM_NO_MEMORY] = "NoMemory: an allocation failed",
     [PARTMEM_NO_SUPERBLOCK] = "NoSuperblock: the machine has no superblock of that number",
+    [PARTMEM_NOT_HELD] = "NotHeld: the address is not in a superblock of that tenant",
     [PARTMEM_NOT_A_LINE] = "NotALine: the text has a line feed",
     [PARTMEM_NOT_AN_EVENT] = "NotAnEvent: there is no such kind, or it has too few or too many bytes",
     [PARTMEM_BUFFER_TOO_SMALL] = "BufferTooSmall: the buffer is smaller than the function requires",

@@ -31,13 +31,19 @@
  *     struct session *session = object.at;
  *     partmem_give(client, sessions.cache, object.place)
  *
- * MEMORY. partmem_boot takes all memory of a machine from malloc, at most 256 MiB and its tables; no other call allocates. For
- * more memory or more tenants boot several machines: client c is then the tenant {&machines[c / 64], c % 64}. Of the C library
- * malloc, realloc, free, memcpy, memmove and memset are used, and nothing else: no system call, no thread, no clock.
+ * MEMORY. A machine uses the memory that partmem_boot_in is given: RAM, at most 256 MiB, and tables, whose sizes are constants. No
+ * other call allocates. For more memory or more tenants boot several machines: client c is then the tenant
+ * {&machines[c / 64], c % 64}. Of the C library memcpy, memmove and memset are used, and nothing else: no system call, no thread,
+ * no clock. partmem_boot gets the memory from aligned_alloc and malloc, and partmem_end frees it. A program that does not call
+ * partmem_boot is linked without these.
  *
- * ALIGNMENT. An address has the alignment of its place up to 16 bytes, as malloc's memory has: an object of alignment 64 may
- * lie at 16 more than a multiple of 64, and a frame need not begin on a page. Page tables require RAM on whole pages, which a
- * later version gives.
+ *     static _Alignas(4096) unsigned char ram[PARTMEM_RAM_BYTES(4, 16)];
+ *     static _Alignas(16) unsigned char tables[PARTMEM_TABLE_BYTES(4, 16, 8)];
+ *     partmem_memory memory = {ram, tables};
+ *     partmem_boot_in(&machine, &config, &memory)
+ *
+ * ALIGNMENT. RAM begins on a page, so an address has the alignment of its place up to 4096 bytes: page blocks and their frames
+ * begin on pages, and an object of alignment 64 lies at a multiple of 64.
  *
  * PROCESSOR. x86-64-v2, with the System V calling convention. On an older processor a call ends in an illegal instruction. With
  * gcc and clang `__builtin_cpu_supports("sse4.2") && __builtin_cpu_supports("popcnt")` tests for it.
@@ -109,8 +115,10 @@ typedef enum partmem_status {
     PARTMEM_NO_MACHINE = 32,       /* no machine was booted here, or it has ended */
     PARTMEM_HAS_MACHINE = 33,      /* there is a machine already, which stays */
     PARTMEM_BAD_CONFIG = 34,       /* a number of the partmem_config is out of range */
-    PARTMEM_NO_MEMORY = 36,        /* malloc failed */
+    PARTMEM_BAD_MEMORY = 35,       /* the RAM or the tables are NULL, or not aligned */
+    PARTMEM_NO_MEMORY = 36,        /* an allocation failed */
     PARTMEM_NO_SUPERBLOCK = 37,    /* the machine has no superblock of that number */
+    PARTMEM_NOT_HELD = 38,         /* the address is not in a superblock of that tenant */
     PARTMEM_NOT_A_LINE = 39,       /* the text has a line feed */
     PARTMEM_NOT_AN_EVENT = 40,     /* there is no such kind, or it has too few or too many bytes */
     PARTMEM_BUFFER_TOO_SMALL = 41, /* the buffer is smaller than the function requires */
@@ -129,7 +137,7 @@ uint32_t partmem_version(void);
 
 /* A machine, all zeroes while there is none: partmem_machine machine = {{0}}; */
 typedef struct partmem_machine {
-    void *held[2];
+    void *held[3];
 } partmem_machine;
 
 /* A tenant of a machine. The caller fills in both fields; nothing is opened or closed. */
@@ -152,10 +160,38 @@ typedef struct partmem_config {
     uint32_t tenants;     /* 1 to 64 */
 } partmem_config;
 
-/* Boots a machine in which no superblock has an owner. Returns HAS_MACHINE, BAD_CONFIG, NO_MEMORY. */
+/* The memory of a machine. Its bytes before boot do not matter. */
+typedef struct partmem_memory {
+    void *ram;    /* PARTMEM_RAM_BYTES, at a multiple of 4096 */
+    void *tables; /* PARTMEM_TABLE_BYTES, at a multiple of 16 */
+} partmem_memory;
+
+/* The bytes of the RAM and of the tables, of type size_t. They are constants if the arguments are. */
+#define PARTMEM_RAM_BYTES(order, superblocks) ((size_t)(superblocks) * PARTMEM_FRAME_BYTES << (order))
+#define PARTMEM_TABLE_BYTES(order, superblocks, tenants)                                                                        \
+    (((size_t)4096 << (order)) + 256 + 112 * PARTMEM_POWER_OF_2(superblocks) + 288 * PARTMEM_POWER_OF_2(tenants) +              \
+     (size_t)(superblocks) * (32 + ((size_t)225 << (order)) / 8) +                                                              \
+     (size_t)(tenants) * (4216 + 8 * (size_t)(superblocks) + 12 * PARTMEM_GROUPS(order, superblocks)))
+
+/* Parts of PARTMEM_TABLE_BYTES: the least power of 2 from 4 on that is not less than n, and the groups of frames. */
+#define PARTMEM_POWER_OF_2(n)                                                                                                   \
+    ((size_t)((n) <= 4 ? 4 : (n) <= 8 ? 8 : (n) <= 16 ? 16 : (n) <= 32 ? 32 : (n) <= 64 ? 64 : (n) <= 128 ? 128 : 256))
+#define PARTMEM_GROUPS(order, superblocks)                                                                                      \
+    ((PARTMEM_POWER_OF_2(superblocks) << ((order) > 5 ? (order) - 5 : 0)) > 64                                                  \
+         ? (PARTMEM_POWER_OF_2(superblocks) << ((order) > 5 ? (order) - 5 : 0))                                                 \
+         : 64)
+
+/* Boots a machine in which no superblock has an owner, in memory that is the library's until partmem_end. Superblock m lies at
+ * ram + m * PARTMEM_RAM_BYTES(order, 1). Superblocks that are never granted are never touched. Returns HAS_MACHINE, BAD_CONFIG,
+ * BAD_MEMORY, NO_MEMORY if the tables are too small, which cannot happen. */
+PARTMEM_CHECKED partmem_status partmem_boot_in(partmem_machine *machine, const partmem_config *config,
+                                               const partmem_memory *memory);
+
+/* Boots a machine in memory from aligned_alloc and malloc. Returns HAS_MACHINE, BAD_CONFIG, NO_MEMORY. */
 PARTMEM_CHECKED partmem_status partmem_boot(partmem_machine *machine, const partmem_config *config);
 
-/* Ends the machine and frees its memory, with the tenants' bytes in it. It can be booted again. Returns NO_MACHINE. */
+/* Ends the machine, which can be booted again. Memory of partmem_boot is freed, and memory of partmem_boot_in is the caller's again,
+ * with the tenants' bytes in it. Returns NO_MACHINE. */
 partmem_status partmem_end(partmem_machine *machine);
 
 /* ---- For the administrator ----------------------------------------------------------------------------------------------- */
@@ -192,6 +228,10 @@ typedef struct partmem_owner {
 
 /* Finds the owner of a superblock. Returns NO_MACHINE, NO_SUPERBLOCK. */
 PARTMEM_CHECKED partmem_status partmem_find_superblock(partmem_machine *machine, uint32_t superblock, partmem_owner *owner);
+
+/* Returns the address of a superblock, for devices and dumps: NULL without a machine or such a superblock. What lies there is NOT
+ * what its owner reads: only a lend has his bytes written there. */
+void *partmem_superblock_address(const partmem_machine *machine, uint32_t superblock);
 
 /* ---- Page blocks --------------------------------------------------------------------------------------------------------- */
 
@@ -271,6 +311,10 @@ PARTMEM_CHECKED partmem_status partmem_read(partmem_tenant tenant, uint32_t plac
 /* Copies in 1 to 64 bytes, where partmem_lend could lend them. Returns NOT_AN_EVENT for another number of bytes (before
  * NO_TENANT), OUT_OF_REACH. */
 PARTMEM_CHECKED partmem_status partmem_write(partmem_tenant tenant, uint32_t place, const void *from, size_t bytes);
+
+/* Finds the place of the byte at an address, any at all, that lies in a superblock of the tenant. It says nothing of what is live
+ * there. Returns NOT_HELD. */
+PARTMEM_CHECKED partmem_status partmem_find_place(partmem_tenant tenant, const void *at, uint32_t *place);
 
 /* ---- What a tenant has --------------------------------------------------------------------------------------------------- */
 
@@ -403,10 +447,11 @@ PARTMEM_CHECKED partmem_status partmem_line(partmem_machine *machine, const char
  *     no machine in it. [Two copies use and free one machine.]
  *  2. Arguments. Each pointer leads to a live object of its type, or to as many bytes as its length says. None is NULL, not
  *     even for 0 bytes, and no tenant's machine is. The objects of one call do not overlap, and NONE LIES IN THE MACHINE'S
- *     MEMORY, not even in lent bytes: copy them out first. [A result is written into memory that the call is changing, or has
- *     just moved away.]
- *  3. Memory. malloc, realloc and free are one allocator, and align a block to each power of two up to 16 that divides its
- *     size. Nobody else touches the machine's memory: C uses lent bytes alone. [Anything.]
+ *     MEMORY, not even in lent bytes: copy them out first. Only the address for partmem_find_place may be any. [A result is
+ *     written into memory that the call is changing, or has just moved away.]
+ *  3. Memory. RAM and tables have the sizes of their macros, can be loaded and stored, and do not overlap. From boot to end they
+ *     stay where they are, and nobody else touches them: C uses lent bytes alone. aligned_alloc, malloc and free are one
+ *     allocator. [Anything.]
  *  4. Bounds. A load or store stays inside the lent bytes. An object ends at its size, not where the next begins. [It hits
  *     another object, or the record of which objects are live.]
  *  5. Endings. Nobody uses lent bytes after the call that ends their lifetime; after a move they are lent again. [A tenant
@@ -421,8 +466,8 @@ PARTMEM_CHECKED partmem_status partmem_line(partmem_machine *machine, const char
  *     and stores in lent bytes need no lock against calls, except a write to them, a read of them, and a call that ends their
  *     lifetime.
  *  9. Ring 0. SSE is enabled. A user's xmm registers are saved before the first call and restored after the last. The direction
- *     flag is clear. There are 24 KiB of stack above a guard page, and no interrupt uses it: the library uses the 128 bytes
- *     below its stack pointer. [Registers leak from tenant to tenant; the stack overflows.]
+ *     flag is clear. There are 4096 bytes of stack above a guard page, and no interrupt uses them: the library also uses the 128
+ *     bytes below its stack pointer. [Registers leak from tenant to tenant; the stack overflows.]
  * 10. After the end. Whoever uses the memory after partmem_end, or after a crash, clears it first. [It reads the tenants'
  *     bytes.]
  * 11. Mapping. Page tables map page blocks alone, as partmem_alloc and partmem_lend_block return them. [An object of 4096 bytes
@@ -431,14 +476,15 @@ PARTMEM_CHECKED partmem_status partmem_line(partmem_machine *machine, const char
  *     stopped. [In between, the tenant uses memory of another.]
  * 13. Reused numbers. A reset does not revoke the handles of a client. If a tenant number passes to a new client, handles carry
  *     a generation, and old ones are refused. [The old client uses the new one's memory.]
- * 14. Booting. One partmem_boot at a time in a program. [It gets memory through functions that cannot tell machines apart: an
- *     allocator of your own that goes by the order of requests mixes two machines.]
+ * 14. Booting. One partmem_boot or partmem_boot_in at a time in a program, on any thread. [One variable of the library says which
+ *     machine boots: two machines get the same memory.]
  *
  * PROVED of the library's source: what each call returns and does, of the machine and of each tenant; that a store in lent
  * bytes is the write of these bytes, and a load a read; that over any list of calls, lines, events, loads and stores since boot
- * a tenant gets and loads what a private machine gives to it. TESTED: that the address is that of these bytes and stays; that
- * partmem_boot alone allocates; loads and stores beside calls on other threads; this file against the library. NEITHER: the
- * duties; hardware, page tables and devices; time and caches, and what they tell; the stack of duty 9. */
+ * a tenant gets and loads what a private machine gives to it. TESTED: that the address is that of these bytes and stays; where
+ * superblocks, blocks and objects lie; that only a boot allocates, and no more than the sizes of the macros;
+ * partmem_superblock_address and partmem_find_place; loads and stores beside calls on other threads; this file against the library.
+ * NEITHER: the duties; hardware, page tables and devices; time and caches, and what they tell; the stack of duty 9. */
 
 #ifdef __cplusplus
 }

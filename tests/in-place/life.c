@@ -1,5 +1,6 @@
 /* The lifetime rule: after each of many random calls, all that is lent and lives is lent again, and has to be at the same
- * address with the same bytes. After a move it is elsewhere, with the same bytes; what was not in that slot has not moved.
+ * address with the same bytes, and its address leads back to its place. After a move it is elsewhere, with the same bytes; what was
+ * not in that slot has not moved.
  *
  *     life CALLS SEED
  */
@@ -62,11 +63,13 @@ static void check(uint32_t t, const struct range *range)
 {
     partmem_tenant me = tenant_of(t);
     const partmem_lent *lent = &range->lent;
-    uint32_t from = any(lent->bytes);
+    uint32_t from = any(lent->bytes), place;
     MUST(partmem_at(me, lent->place, lent->bytes) == lent->at);
     MUST(partmem_at(me, lent->place + from, lent->bytes - from) == (uint8_t *)lent->at + from);
     MUST(!partmem_at(me, lent->place, lent->bytes + 1) && !partmem_at(me, lent->place, 0));
-    MUST(((uintptr_t)lent->at - lent->place) % 16 == 0);
+    MUST(((uintptr_t)lent->at - lent->place) % PARTMEM_FRAME_BYTES == 0);
+    MUST(partmem_find_place(me, (uint8_t *)lent->at + from, &place) == PARTMEM_DONE && place == lent->place + from);
+    MUST(partmem_find_place(tenant_of((t + 1) % TENANTS), lent->at, &place) == PARTMEM_NOT_HELD && place == 0);
     MUST(range->is_object ? is_lent_as_object(me, range) : is_lent_as_block(me, range));
     MUST(is_filled(range, 61));
     lent_again++;

@@ -39,6 +39,7 @@ static void check_tenant(partmem_tenant tenant, partmem_status status)
     MUST(!partmem_at(tenant, 0, 1) && !partmem_object_at(tenant, 0, 0));
     MUST(ZEROED(partmem_read(tenant, 0, bytes, sizeof bytes), status, bytes) && partmem_write(tenant, 0, bytes, 1) == status);
     MUST(ZEROED(partmem_find_block(tenant, 0, &block), status, block));
+    MUST(ZEROED(partmem_find_place(tenant, bytes, &frames), status, frames));
 }
 
 /* Lengths that no line can have come before the tenant, and after the machine. */
@@ -67,6 +68,7 @@ static void check_machines(void)
     MUST(ZEROED(partmem_find_superblock(&none, 0, &owner), PARTMEM_NO_MACHINE, owner));
     MUST(ZEROED(partmem_find_superblock(&machine, 4, &owner), PARTMEM_NO_SUPERBLOCK, owner));
     MUST(ZEROED(partmem_find_superblock(&machine, 3, &owner), PARTMEM_DONE, owner));
+    MUST(!partmem_superblock_address(&none, 0) && !partmem_superblock_address(&machine, 4));
 }
 
 /* Refusals of a tenant that has two slots, a cache with a live object, and a page block of two frames. */
@@ -132,7 +134,7 @@ static void check_functions_in_c(void)
 {
     int known = 0;
     for (uint32_t status = 0; status < 100; status++) known += !is_unknown(status);
-    MUST(known == 16 + 8 && is_unknown(16) && is_unknown(31) && is_unknown(PARTMEM_BUFFER_TOO_SMALL + 1));
+    MUST(known == 16 + 10 && is_unknown(16) && is_unknown(31) && is_unknown(PARTMEM_BUFFER_TOO_SMALL + 1));
     MUST(is_unknown(PARTMEM_STATUS_BITS) && is_unknown(UINT32_MAX) && partmem_version() == PARTMEM_VERSION);
     MUST(!strncmp(partmem_strerror(PARTMEM_DONE), "Done: ", 6));
     MUST(!strncmp(partmem_strerror(PARTMEM_SLOT_BUSY), "SlotBusy: ", 10));

@@ -1,10 +1,14 @@
-/* A page block and an object used in place, in what C89 and C++98 have in common. */
+/* A page block and an object used in place, in memory of the program's, in what C89 and C++98 have in common. */
 #include "partmem.h"
+
+static unsigned char ram[PARTMEM_RAM_BYTES(3, 2)] __attribute__((aligned(4096)));
+static unsigned char tables[PARTMEM_TABLE_BYTES(3, 2, 2)] __attribute__((aligned(16)));
 
 int main(void)
 {
-    partmem_machine machine = {{0, 0}};
+    partmem_machine machine = {{0, 0, 0}};
     partmem_config config = {3, 2, 2};
+    partmem_memory memory;
     partmem_tenant tenant;
     partmem_slot slot;
     partmem_cache cache;
@@ -12,7 +16,9 @@ int main(void)
     unsigned char *at;
     tenant.machine = &machine;
     tenant.number = 1;
-    if (partmem_boot(&machine, &config) || partmem_grant(tenant, &slot)) return 1;
+    memory.ram = ram;
+    memory.tables = tables;
+    if (partmem_boot_in(&machine, &config, &memory) || partmem_grant(tenant, &slot)) return 1;
     if (partmem_alloc(tenant, 0, &block) || partmem_make_cache(tenant, 24, 8, "ab", 2, &cache)) return 2;
     if (partmem_take(tenant, cache.cache, &object)) return 3;
     at = (unsigned char *)object.at;
@@ -20,5 +26,6 @@ int main(void)
     at[0] = 'c';
     if (partmem_at(tenant, object.place, 24) != at || partmem_object_at(tenant, cache.cache, object.place) != at) return 5;
     if (partmem_give(tenant, cache.cache, object.place) || partmem_free(tenant, block.place)) return 6;
+    if (partmem_end(&machine) || partmem_boot(&machine, &config)) return 7;
     return partmem_end(&machine) != PARTMEM_DONE;
 }

@@ -1,5 +1,6 @@
 /* Libraries with one mistake each, which a program of this folder has to see: linked with it, with the linker's --wrap for each
  * function __wrap_NAME below, and chosen by -DWRONG=NAME. */
+#include <stdbool.h>
 #include <stdlib.h>
 #include <string.h>
 
@@ -13,7 +14,10 @@ enum {
     LENDS_SLAB,        /* lend_block returns frames of a slab, too */
     CLEARS_OBJECTS,    /* a take clears the object */
     FREES_FROM_INSIDE, /* a free of any place in the first frame frees the block */
-    TOUCHES_ANOTHER    /* an alloc changes the bytes of tenant 0's first block, and puts them back */
+    TOUCHES_ANOTHER,   /* an alloc changes the bytes of tenant 0's first block, and puts them back */
+    BEGINS_OFF_PAGE,   /* superblocks begin 16 bytes after pages */
+    CLEARS_RAM,        /* boot clears the RAM */
+    FINDS_ANOTHER      /* find_place finds places in the superblocks of others */
 };
 
 static uint32_t superblock_bytes;
@@ -21,11 +25,34 @@ static uint8_t *begins[PARTMEM_MOST_SUPERBLOCKS];                               
 static uint8_t *begins_of_slots[PARTMEM_MOST_TENANTS][PARTMEM_MOST_SUPERBLOCKS]; /* of slots, at their first lend */
 static uint8_t *of_tenant_0;                                                     /* its first block */
 
-partmem_status __real_partmem_boot(partmem_machine *machine, const partmem_config *config);
-partmem_status __wrap_partmem_boot(partmem_machine *machine, const partmem_config *config)
+/* partmem_boot calls it, too. */
+partmem_status __real_partmem_boot_in(partmem_machine *machine, const partmem_config *config, const partmem_memory *memory);
+partmem_status __wrap_partmem_boot_in(partmem_machine *machine, const partmem_config *config, const partmem_memory *memory)
 {
     superblock_bytes = PARTMEM_FRAME_BYTES << config->order;
-    return __real_partmem_boot(machine, config);
+    return __real_partmem_boot_in(machine, config, memory);
+}
+
+/* The function that the kernel allocates by. */
+struct allocation {
+    bool is_done;
+    uint8_t *at;
+};
+struct allocation __real_rattle_alloc(size_t bytes, size_t align);
+struct allocation __wrap_rattle_alloc(size_t bytes, size_t align)
+{
+    struct allocation got = __real_rattle_alloc(bytes, align);
+    if (!got.is_done || bytes != superblock_bytes) return got;
+    if (WRONG == BEGINS_OFF_PAGE && (uintptr_t)got.at % PARTMEM_FRAME_BYTES == 0) got.at += 16;
+    if (WRONG == CLEARS_RAM) memset(got.at, 0, bytes);
+    return got;
+}
+
+partmem_status __real_partmem_find_place(partmem_tenant tenant, const void *at, uint32_t *place);
+partmem_status __wrap_partmem_find_place(partmem_tenant tenant, const void *at, uint32_t *place)
+{
+    partmem_status status = __real_partmem_find_place(tenant, at, place);
+    return WRONG == FINDS_ANOTHER && status == PARTMEM_NOT_HELD && at ? PARTMEM_DONE : status;
 }
 
 partmem_status __real_partmem_lend(partmem_tenant tenant, uint32_t place, uint32_t bytes, partmem_lent *lent);

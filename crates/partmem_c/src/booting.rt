@@ -29,7 +29,11 @@ pub struct MachineConfig {
 ///
 /// Returns `HAS_MACHINE`, `BAD_CONFIG`, or `NO_MEMORY` if an allocation was refused. No later call allocates.
 #[unsafe(no_mangle)]
-pub extern "C" fn partmem_boot(alloc: Global, machine: &mut Machine, config: &MachineConfig) -> u32
+pub extern "C" fn partmem_boot_kernel(
+    alloc: Global,
+    machine: &mut Machine,
+    config: &MachineConfig,
+) -> u32
     ensures has_machine { (result ≡ HAS_MACHINE) ↔ IsSome machine.old.slot.held }
     ensures bad_config { (result ≡ BAD_CONFIG) ↔ ((machine.old.slot.held ≡ None) × (is_bootable (config_of config.now) ≡ false)) }
     ensures no_memory { result ≢ DONE → result ≢ HAS_MACHINE → result ≢ BAD_CONFIG → result ≡ NO_MEMORY }
@@ -61,7 +65,7 @@ pub extern "C" fn partmem_boot(alloc: Global, machine: &mut Machine, config: &Ma
 
 /// Ends the machine and frees all its memory: the place then holds none, and can be booted again. Returns `NO_MACHINE`.
 #[unsafe(no_mangle)]
-pub extern "C" fn partmem_end(alloc: Global, machine: &mut Machine) -> u32
+pub extern "C" fn partmem_end_kernel(alloc: Global, machine: &mut Machine) -> u32
     ensures status { result ≡ machine_status machine.old.slot.held }
     ensures vacant { machine.new.slot.held ≡ None }
 {

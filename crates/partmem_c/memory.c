@@ -1,0 +1,139 @@
+/* The memory of a machine, which the caller provides. The kernel allocates while it boots, and never again. It does so by three
+ * functions that the Rattle toolchain names. Here they take the superblocks from the RAM, and all else from the tables. */
+#include <stdbool.h>
+#include <stdint.h>
+#include <string.h>
+
+#include "booting.h"
+
+#define PIECE_BYTES ((size_t)16) /* the sizes and the alignment of allocations in the tables */
+
+/* A machine's memory. It lies at the beginning of the tables, and held[2] of the machine is its address. */
+struct state {
+    uint8_t *ram;
+    uint8_t *next; /* the free bytes of the tables, and how many there are */
+    size_t left;
+    size_t unit; /* bytes of a superblock */
+    uint32_t superblocks, tenants;
+    uint32_t allocated; /* superblocks, up to now */
+    void (*release)(void *memory);
+};
+
+/* The kernel's own functions. */
+partmem_status partmem_boot_kernel(partmem_machine *machine, const partmem_config *config);
+partmem_status partmem_end_kernel(partmem_machine *machine);
+
+/* ---- The functions that the kernel allocates by ------------------------------------------------------------------------- */
+
+struct allocation {
+    bool is_done;
+    void *at; /* not NULL */
+};
+
+/* The machine that boots, or NULL: outside of boot every allocation is refused. */
+static struct state *booting;
+
+static struct allocation allocate_in_tables(size_t bytes)
+{
+    if (!bytes) bytes = 1;
+    if (!booting || bytes > booting->left) return (struct allocation){false, &booting};
+    struct allocation done = {true, booting->next};
+    bytes = (bytes + PIECE_BYTES - 1) / PIECE_BYTES * PIECE_BYTES;
+    booting->next += bytes;
+    booting->left -= bytes;
+    return done;
+}
+
+/* The first allocations of a superblock's size are the superblocks, in the order of their numbers. `align` is at most 16. */
+struct allocation rattle_alloc(size_t bytes, size_t align)
+{
+    (void)align;
+    if (!booting || bytes != booting->unit || booting->allocated == booting->superblocks) return allocate_in_tables(bytes);
+    return (struct allocation){true, booting->ram + booting->unit * booting->allocated++};
+}
+
+struct allocation rattle_realloc(void *old, size_t kept, size_t bytes, size_t align)
+{
+    struct allocation moved = allocate_in_tables(bytes);
+    (void)align;
+    if (moved.is_done) memcpy(moved.at, old, kept);
+    return moved;
+}
+
+/* All of the memory is freed at once, by partmem_end. */
+void rattle_dealloc(void *old)
+{
+    (void)old;
+}
+
+/* ---- Boot and end ------------------------------------------------------------------------------------------------------- */
+
+static bool is_bootable(const partmem_config *config)
+{
+    return config->order >= PARTMEM_LEAST_ORDER && config->order <= PARTMEM_MOST_ORDER && config->superblocks >= 1 &&
+           config->superblocks <= PARTMEM_MOST_SUPERBLOCKS && config->tenants >= 1 && config->tenants <= PARTMEM_MOST_TENANTS;
+}
+
+static bool is_aligned(const void *at, uintptr_t alignment)
+{
+    return at && (uintptr_t)at % alignment == 0;
+}
+
+partmem_status partmem_boot_with(partmem_machine *machine, const partmem_config *config, const partmem_memory *memory,
+                                 void (*release)(void *memory))
+{
+    if (machine->held[2]) return PARTMEM_HAS_MACHINE;
+    if (!is_bootable(config)) return PARTMEM_BAD_CONFIG;
+    if (!is_aligned(memory->ram, PARTMEM_FRAME_BYTES) || !is_aligned(memory->tables, PIECE_BYTES)) return PARTMEM_BAD_MEMORY;
+    const size_t table_bytes = PARTMEM_TABLE_BYTES(config->order, config->superblocks, config->tenants);
+    booting = memory->tables;
+    *booting = (struct state){memory->ram, memory->tables, table_bytes / PIECE_BYTES * PIECE_BYTES,
+                              PARTMEM_RAM_BYTES(config->order, 1), config->superblocks, config->tenants, 0, release};
+    (void)allocate_in_tables(sizeof *booting);
+    partmem_status status = partmem_boot_kernel(machine, config);
+    booting = NULL;
+    if (status == PARTMEM_DONE) machine->held[2] = memory->tables;
+    return status;
+}
+
+partmem_status partmem_boot_in(partmem_machine *machine, const partmem_config *config, const partmem_memory *memory)
+{
+    return partmem_boot_with(machine, config, memory, NULL);
+}
+
+partmem_status partmem_end(partmem_machine *machine)
+{
+    struct state *tables = machine->held[2];
+    partmem_status status = partmem_end_kernel(machine);
+    if (status != PARTMEM_DONE) return status;
+    machine->held[2] = NULL;
+    if (tables->release) {
+        void (*release)(void *) = tables->release;
+        release(tables->ram);
+        release(tables);
+    }
+    return PARTMEM_DONE;
+}
+
+/* ---- Addresses ---------------------------------------------------------------------------------------------------------- */
+
+void *partmem_superblock_address(const partmem_machine *machine, uint32_t superblock)
+{
+    const struct state *state = machine->held[2];
+    return state && superblock < state->superblocks ? state->ram + state->unit * superblock : NULL;
+}
+
+partmem_status partmem_find_place(partmem_tenant tenant, const void *at, uint32_t *place)
+{
+    const struct state *state = tenant.machine->held[2];
+    partmem_owner owner;
+    *place = 0;
+    if (!state) return PARTMEM_NO_MACHINE;
+    if (tenant.number >= state->tenants) return PARTMEM_NO_TENANT;
+    const size_t offset = (uintptr_t)at - (uintptr_t)state->ram, superblock = offset / state->unit;
+    if (superblock >= state->superblocks) return PARTMEM_NOT_HELD;
+    partmem_status status = partmem_find_superblock(tenant.machine, (uint32_t)superblock, &owner);
+    if (status != PARTMEM_DONE || !owner.is_owned || owner.tenant != tenant.number) return PARTMEM_NOT_HELD;
+    *place = (uint32_t)(owner.slot * state->unit + offset % state->unit);
+    return PARTMEM_DONE;
+}

@@ -1,0 +1,192 @@
+/* The memory of a machine by partmem_boot_in. For a grid of sizes: boot writes no more of the tables than PARTMEM_TABLE_BYTES and
+ * nothing of the RAM, and superblock m lies at ram + m * unit. For each order, in memory full of zeroes and of other bytes: where
+ * superblocks, blocks and objects lie, which place an address has, and that superblocks which were never granted are never touched. */
+#include <sys/mman.h>
+
+#include "trial.h"
+
+enum { FIRST_ORDER = 3, LAST_ORDER = 8, TENANTS = 2, OTHER = 0xee, GUARD = 4096, RAM = 8 << 20, WIDEST_RAM = 256 << 20 };
+
+static partmem_machine machine;
+static const partmem_tenant me = {&machine, 1}, another = {&machine, 0};
+static partmem_config sizes;
+static uint8_t *ram, *tables; /* of the machine; the tables are followed by GUARD bytes */
+static size_t unit, table_bytes;
+static uint64_t seen; /* a hash of all that was lent, and of its bytes */
+
+static bool are_all(const uint8_t *from, int byte, size_t bytes)
+{
+    return *from == byte && !memcmp(from, from + 1, bytes - 1);
+}
+
+static partmem_status boot_at(void *its_ram, void *its_tables)
+{
+    const partmem_memory memory = {its_ram, its_tables};
+    return partmem_boot_in(&machine, &sizes, &memory);
+}
+
+/* Boots in tables full of a byte. */
+static void boot_in(uint32_t order, uint32_t superblocks, uint32_t tenants, int before)
+{
+    sizes = (partmem_config){order, superblocks, tenants};
+    unit = PARTMEM_RAM_BYTES(order, 1);
+    table_bytes = PARTMEM_TABLE_BYTES(order, superblocks, tenants);
+    memset(tables, before, table_bytes);
+    memset(tables + table_bytes, OTHER, GUARD);
+    MUST(boot_at(ram, tables) == PARTMEM_DONE);
+    for (uint32_t m = 0; m < superblocks; m++) MUST(partmem_superblock_address(&machine, m) == ram + m * unit);
+    MUST(!partmem_superblock_address(&machine, superblocks) && !partmem_superblock_address(&machine, UINT32_MAX));
+}
+
+static void end(void)
+{
+    MUST(partmem_end(&machine) == PARTMEM_DONE && !partmem_superblock_address(&machine, 0));
+    MUST(are_all(tables + table_bytes, OTHER, GUARD));
+}
+
+/* Boots a grid of sizes, in RAM that nobody can load or store. */
+static void try_sizes(void)
+{
+    static const uint32_t superblocks[] = {1,  2,  3,  4,  5,  6,  7,  8,  9,   12,  15,  16,  17,  20,
+                                           31, 32, 33, 48, 63, 64, 65, 100, 127, 128, 129, 200, 255, 256};
+    static const uint32_t tenants[] = {1, 2, 3, 4, 5, 7, 8, 9, 15, 16, 17, 31, 32, 33, 48, 63, 64};
+    const uint32_t count = (LAST_ORDER - FIRST_ORDER + 1) * LEN(superblocks) * LEN(tenants);
+    double most = 0, least = 9, sum = 0;
+    for (uint32_t i = 0; i < count; i++) {
+        size_t written;
+        boot_in(FIRST_ORDER + i % 6, superblocks[i / 6 % LEN(superblocks)], tenants[i / 6 / LEN(superblocks)], OTHER);
+        for (written = table_bytes; tables[written - 1] == OTHER; written--) {}
+        double ratio = (double)table_bytes / (double)written;
+        most = ratio > most ? ratio : most;
+        least = ratio < least ? ratio : least;
+        sum += ratio;
+        end();
+    }
+    printf("%u sizes: the tables are %.4f to %.3f times what boot writes, %.4f in the mean\n", count, least, most, sum / count);
+}
+
+/* What is lent lies in its superblock, and its first and last byte have their places: for this tenant alone. */
+static void check(const partmem_lent *lent)
+{
+    uint8_t *at = lent->at;
+    uint32_t place, last = lent->bytes - 1;
+    partmem_slot slot;
+    MUST(partmem_find_slot(me, lent->place / (uint32_t)unit, &slot) == PARTMEM_DONE);
+    MUST(at == ram + slot.superblock * unit + lent->place % unit);
+    MUST(partmem_find_place(me, at, &place) == PARTMEM_DONE && place == lent->place);
+    MUST(partmem_find_place(me, at + last, &place) == PARTMEM_DONE && place == lent->place + last);
+    MUST(partmem_find_place(another, at, &place) == PARTMEM_NOT_HELD && place == 0);
+    for (uint32_t i = 0; i <= last; i++) seen = (seen ^ at[i]) * 0x100000001b3;
+    seen = (seen ^ lent->place ^ (uint64_t)slot.superblock << 32) * 0x100000001b3;
+    memset(at, 7, lent->bytes);
+}
+
+static void grant_half(void)
+{
+    partmem_slot slot;
+    MUST(partmem_reset(me) == PARTMEM_DONE);
+    for (uint32_t m = 0; m < sizes.superblocks / 2; m++) MUST(partmem_grant(me, &slot) == PARTMEM_DONE && slot.superblock == m);
+}
+
+/* Page blocks of an order until there is none: each begins on a page, and at a multiple of its size in the RAM. */
+static void try_blocks(uint32_t order)
+{
+    partmem_lent block;
+    uint32_t count = 0;
+    grant_half();
+    for (; partmem_alloc(me, order, &block) == PARTMEM_DONE; count++) {
+        MUST((uintptr_t)block.at % 4096 == 0 && (size_t)((uint8_t *)block.at - ram) % block.bytes == 0);
+        check(&block);
+    }
+    MUST(count == sizes.superblocks / 2 << (sizes.order - order));
+}
+
+/* Some objects of a cache, perhaps after a reset: each begins at a multiple of the alignment. */
+static void try_objects(uint32_t size, uint32_t align, bool is_reset)
+{
+    partmem_cache cache;
+    partmem_lent object;
+    if (is_reset) grant_half();
+    MUST(partmem_make_cache(me, size, align, "ab", 2, &cache) == PARTMEM_DONE);
+    for (uint32_t i = 0; i < 2 * cache.objects && i < 40; i++) {
+        MUST(partmem_take(me, cache.cache, &object) == PARTMEM_DONE && object.bytes == size);
+        MUST((uintptr_t)object.at % align == 0);
+        check(&object);
+    }
+}
+
+/* Addresses that no tenant holds, in a superblock without an owner too, and after a move those that the tenant held before. */
+static void try_addresses(void)
+{
+    partmem_lent block, moved;
+    partmem_slot slot;
+    uint32_t place;
+    const uint8_t *not_held[] = {NULL, ram - 1, ram + RAM, tables, (uint8_t *)&place, ram + sizes.superblocks / 2 * unit};
+    grant_half();
+    for (size_t i = 0; i < LEN(not_held); i++) {
+        MUST(partmem_find_place(me, not_held[i], &place) == PARTMEM_NOT_HELD && place == 0);
+        MUST(partmem_find_place(another, not_held[i], &place) == PARTMEM_NOT_HELD && place == 0);
+    }
+    MUST(partmem_alloc(me, 0, &block) == PARTMEM_DONE);
+    check(&block);
+    MUST(partmem_move(me, block.place / (uint32_t)unit, &slot) == PARTMEM_DONE);
+    MUST(partmem_find_place(me, block.at, &place) == PARTMEM_NOT_HELD && place == 0);
+    MUST(partmem_lend_block(me, block.place, &moved) == PARTMEM_DONE && moved.at != block.at);
+    check(&moved);
+}
+
+/* Returns the hash of what is seen of a machine that was booted in memory full of a byte. */
+static uint64_t seen_in(uint32_t order, int before)
+{
+    static const uint32_t object_sizes[] = {1, 24, 100, 320, 1000, 4096};
+    memset(ram, before, RAM);
+    boot_in(order, RAM / (PARTMEM_FRAME_BYTES << order), TENANTS, before);
+    seen = 0;
+    for (uint32_t k = 0; k <= order; k++) try_blocks(k);
+    for (uint32_t i = 0; i < 36; i++) try_objects(object_sizes[i % 6], 8 << i / 6, i % 6 == 0);
+    MUST(are_all(ram + RAM / 2, before, RAM / 2));
+    try_addresses();
+    end();
+    return seen;
+}
+
+/* Memory that is none, and what is tested before it; a machine of partmem_boot, beside one that was booted here. */
+static void try_boots(void)
+{
+    static const partmem_machine zeroes;
+    partmem_machine second = {{0}};
+    const partmem_config good = {3, 4, 2}, bad = {3, 4, 65};
+    sizes = good;
+    MUST(boot_at(NULL, tables) == PARTMEM_BAD_MEMORY && boot_at(ram, NULL) == PARTMEM_BAD_MEMORY);
+    MUST(boot_at(ram + 2048, tables) == PARTMEM_BAD_MEMORY && boot_at(ram + 16, tables) == PARTMEM_BAD_MEMORY);
+    MUST(boot_at(ram, tables + 8) == PARTMEM_BAD_MEMORY && !memcmp(&machine, &zeroes, sizeof zeroes));
+    sizes = bad;
+    MUST(boot_at(NULL, NULL) == PARTMEM_BAD_CONFIG && !memcmp(&machine, &zeroes, sizeof zeroes));
+    boot_in(3, 4, 2, OTHER);
+    MUST(partmem_boot(&second, &good) == PARTMEM_DONE);
+    sizes = bad;
+    MUST(boot_at(NULL, NULL) == PARTMEM_HAS_MACHINE);
+    MUST((uintptr_t)partmem_superblock_address(&second, 0) % 4096 == 0);
+    end();
+    MUST(!memcmp(&machine, &zeroes, sizeof zeroes));
+    MUST(partmem_end(&second) == PARTMEM_DONE && !memcmp(&second, &zeroes, sizeof zeroes));
+}
+
+/* Reserves memory between two pages that nobody can load or store. */
+static uint8_t *reserve(size_t bytes, int how)
+{
+    uint8_t *at = mmap(NULL, bytes + 8192, PROT_NONE, MAP_PRIVATE | MAP_ANONYMOUS | MAP_NORESERVE, -1, 0);
+    MUST(at != MAP_FAILED && mprotect(at + 4096, bytes, how) == 0);
+    return at + 4096;
+}
+
+int main(void)
+{
+    tables = reserve((PARTMEM_TABLE_BYTES(8, 256, 64) + GUARD + 4095) / 4096 * 4096, PROT_READ | PROT_WRITE);
+    ram = reserve(WIDEST_RAM, PROT_NONE);
+    try_sizes();
+    ram = reserve(RAM, PROT_READ | PROT_WRITE);
+    for (uint32_t order = FIRST_ORDER; order <= LAST_ORDER; order++) MUST(seen_in(order, OTHER) == seen_in(order, 0));
+    try_boots();
+    return 0;
+}
