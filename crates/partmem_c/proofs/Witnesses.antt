@@ -1,5 +1,7 @@
 -- For each law an instance of its premises: calls on machines of 2 and of 3 superblocks that nobody was granted.
-use Rattle.std.proofs.Common.{◌≡◌, [], ◌∷◌, codes, refl, subst, arith}
+use Rattle.std.proofs.Common.{◌≡◌, [], ◌∷◌, Some, true, codes, refl, subst, arith}
+use base.Shift.{Keyless}
+use denote.RawPtr.{block_ptr}
 use Rattle.std.specs.Fmt.{digits}
 use Rattle.model_core.specs.Machine.{empty_machine, taken_blocks, choice}
 use Rattle.model_core.specs.Slabs.{reaped, by_need}
@@ -27,7 +29,8 @@ use Rattle.kernel_core.proofs.Worlds.{one_world}
 use Rattle.kernel_core.proofs.Witnesses.{opening_shown}
 use Rattle.replay_core.specs.Standing.{IsOneLine}
 use Rattle.partmem_c.specs.Lines.{AnswersLine}
-use Rattle.partmem_c.specs.Laws.{Call, lines_of_calls, texts_of, Ran, StandsAfterCalls, OwnLinesOfCalls, SameLinesOfCalls}
+use Rattle.partmem_c.specs.Laws.{Call, lines_of_calls, texts_of, Ran, StandsAfterCalls, OwnLinesOfCalls, SameLinesOfCalls, MayChangeThreads}
+use Rattle.partmem_c.specs.contracts.machine.Machine.{the_row}
 
 -- an event that changes nothing in the world that is shown is a step to the same kernel
 stays : (k : KernelContent) (w : World) (event : Event) (to : Addressee) (body : Body) → Shows k w → world_step cache_limit k.order event w ≡ answer to body w
@@ -100,3 +103,10 @@ same_order = refl
 
 SameLinesOfCalls-met : SameLinesOfCalls → lines_for 0 (texts_of (by_0 ∷ [])) ≡ lines_for 0 (texts_of (by_1 ∷ by_0 ∷ []))
 SameLinesOfCalls-met law = law small small great great 2 3 3 4 0 (by_0 ∷ []) (by_1 ∷ by_0 ∷ []) small_shown great_shown same_order equal_lists small_ran great_ran
+
+-- a machine with a kernel in it
+abbrev booted : the_row.Denot
+booted = record { is_booted = true; slot = record { at = block_ptr 1 0; held = Some small }; agrees = refl }
+
+MayChangeThreads-met : MayChangeThreads → Keyless (the_row.own_val booted [])
+MayChangeThreads-met law = law.owned booted []

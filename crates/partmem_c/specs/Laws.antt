@@ -1,6 +1,7 @@
 -- Lists of calls of `partmem_line` on one machine, each done.
 use Rattle.std.specs.Prelude.{◌≡◌, ℕ, ◌<◌, List, [], ◌∷◌, map}
 use Rattle.std.specs.List.{concat}
+use Rattle.std.specs.Thread.{IsSend}
 use Rattle.words_core.specs.Grammar.{reading_of}
 use Rattle.world_core.specs.Limits.{cache_limit}
 use Rattle.world_core.specs.World.{World, opening_world, world_after}
@@ -10,6 +11,7 @@ use Rattle.kernel_core.specs.Content.{KernelContent}
 use Rattle.kernel_core.specs.Shows.{Shows}
 use Rattle.replay_core.specs.Standing.{IsOneLine}
 use Rattle.partmem_c.specs.Lines.{AnswersLine}
+use Rattle.partmem_c.specs.contracts.machine.Machine.{the_row}
 
 -- a call that was done: its line, and what it wrote
 pub record Call : Type 0 where
@@ -49,3 +51,7 @@ SameLinesOfCalls = (k k' m m' : KernelContent) (superblocks tenants superblocks'
     HaveSameOwnList cache_limit k.order superblocks tenants superblocks' tenants' t
     (events_of (lines_of_calls calls)) (events_of (lines_of_calls calls')) →
     Ran k calls k' → Ran m calls' m' → lines_for t (texts_of calls) ≡ lines_for t (texts_of calls')
+
+-- What C holds between two calls owns nothing of the thread that made it: it is the same in every thread.
+abbrev pub MayChangeThreads : Type 0
+MayChangeThreads = IsSend the_row

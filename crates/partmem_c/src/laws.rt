@@ -4,7 +4,7 @@ ghost use Rattle.std.specs.Prelude.{◌≡◌, IfSome};
 ghost use Rattle.kernel_core.specs.Stores.{IsKernel};
 ghost use Rattle.partmem_c.specs.Actions.{OwnSightsOfCalls};
 ghost use Rattle.partmem_c.specs.Calls.{OffsetsAreRefused};
-ghost use Rattle.partmem_c.specs.Laws.{StandsAfterCalls, OwnLinesOfCalls, SameLinesOfCalls};
+ghost use Rattle.partmem_c.specs.Laws.{StandsAfterCalls, OwnLinesOfCalls, SameLinesOfCalls, MayChangeThreads};
 
 use crate::machine::Machine;
 use std::alloc::Global;
@@ -46,3 +46,8 @@ pub fn is_kernel(alloc: Global, machine: &mut Machine)
     kernel_core::laws::is_kernel(&kernel);
     machine.put_in(kernel);
 }
+
+/// What C holds between two calls may pass to another thread, with the kernel in it. One call at a time is the caller's duty.
+pub fn may_change_threads()
+    ensures { MayChangeThreads }
+{}

@@ -26,6 +26,8 @@ impl Model for Slot {
     ghost also_owns = { λ s. slot_owns s.at s.held };
 }
 
+unsafe impl Send for Slot {}
+
 impl Slot {
     /// A place without a machine.
     pub fn vacant() -> Slot
