@@ -2,10 +2,11 @@
  *
  *     events event|call COMMAND ROUNDS
  *
- * COMMAND is alloc, free, take, give, read, write, cache, destroy, reap, report, grant, take_back or move; or, of calls alone,
- * lend, lend_object or lend_block. Only its events or direct calls go through `measured`, so that callgrind counts these alone;
- * what undoes them does not. The machine has 32 superblocks of order 6 and 8 tenants. Tenant 0 has half of the superblocks, some
- * page blocks in each and two caches with live objects.
+ * COMMAND is alloc, free, take, give, read, write, cache, destroy, reap, report, grant, take_back, move or reset; or, of calls
+ * alone, lend, lend_object or lend_block. Only its events or direct calls go through `measured`, so that callgrind counts these
+ * alone; what undoes them does not. The machine has 32 superblocks of order 6 and 8 tenants. Tenant 0 has half of the
+ * superblocks, a page block in each, which was written, and two caches with live objects. A reset is of tenant 1, who has a
+ * superblock with a page block and a slab.
  *
  *     events new ORDER           the first write into each superblock, whose memory was never touched
  *     events again ORDER ROUNDS  the first write after a grant, into memory that was touched before
@@ -25,6 +26,7 @@ enum { LEND = 100, LEND_OBJECT, LEND_BLOCK }; /* direct calls that are no events
 enum { SUPERBLOCKS = 32, TENANTS = 8, SLOTS = SUPERBLOCKS / 2, SMALL = 96, LARGE = 2048, FRAME_BYTES = 4096 };
 
 static partmem_machine machine;
+static uint32_t tenant; /* who makes the commands */
 static uint8_t buffer[PARTMEM_MOST_BYTES];
 static const uint8_t bytes[PARTMEM_MOST_BYTES];
 
@@ -33,9 +35,9 @@ static void fail(const char *what) {
     exit(1);
 }
 
-/* Runs an event of tenant 0, and returns its first number, or the slot that a grant gave. */
+/* Runs an event of the tenant, and returns its first number, or the slot that a grant gave. */
 static uint32_t event(uint32_t kind, uint32_t first, uint32_t second) {
-    partmem_request request = {kind, 0, first, second};
+    partmem_request request = {kind, tenant, first, second};
     partmem_reply reply;
     size_t len = kind == PARTMEM_WRITE ? PARTMEM_MOST_BYTES : 1;
     partmem_status status = partmem_event(&machine, &request, bytes, len, &reply, buffer, sizeof buffer);
@@ -53,7 +55,7 @@ static void done(partmem_status status) {
 
 /* The same by a direct call. */
 static uint32_t call(uint32_t kind, uint32_t first, uint32_t second) {
-    const partmem_tenant me = {&machine, 0};
+    const partmem_tenant me = {&machine, tenant};
     partmem_lent lent = {0};
     partmem_slot slot;
     partmem_cache cache;
@@ -73,6 +75,7 @@ static uint32_t call(uint32_t kind, uint32_t first, uint32_t second) {
     case PARTMEM_GRANT: done(partmem_grant(me, &slot)); return slot.slot;
     case PARTMEM_TAKE_BACK: done(partmem_take_back(me, first)); break;
     case PARTMEM_MOVE: done(partmem_move(me, first, &slot)); break;
+    case PARTMEM_RESET: done(partmem_reset(me)); break;
     case LEND: done(partmem_lend(me, first, second, &lent)); break;
     case LEND_OBJECT: done(partmem_lend_object(me, first, second, &lent)); break;
     case LEND_BLOCK: done(partmem_lend_block(me, first, &lent)); break;
@@ -111,6 +114,16 @@ static uint32_t set_up(void) {
     return frame;
 }
 
+/* Gives tenant 1 memory, and takes it back by a reset, which is counted. */
+static void reset_another(void) {
+    tenant = 1;
+    event(PARTMEM_GRANT, 0, 0);
+    event(PARTMEM_ALLOC, 0, 0);
+    event(PARTMEM_CACHE, SMALL, 8);
+    event(PARTMEM_TAKE, 0, 0);
+    measured(PARTMEM_RESET, 0, 0);
+}
+
 /* Runs a command once, counted, and what makes it possible or undoes it. */
 static void run_round(const char *command, uint32_t frame) {
     if (!strcmp(command, "alloc")) {
@@ -139,6 +152,8 @@ static void run_round(const char *command, uint32_t frame) {
         measured(PARTMEM_TAKE_BACK, event(PARTMEM_GRANT, 0, 0), 0);
     } else if (!strcmp(command, "move")) {
         measured(PARTMEM_MOVE, 0, 0);
+    } else if (!strcmp(command, "reset")) {
+        reset_another();
     } else if (is_direct && !strcmp(command, "lend")) {
         measured(LEND, FRAME_BYTES * frame, PARTMEM_MOST_BYTES);
     } else if (is_direct && !strcmp(command, "lend_object")) {

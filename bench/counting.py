@@ -1,0 +1,56 @@
+"""Counts instructions by callgrind, and keeps the numbers that they are compared with."""
+import os
+import re
+import subprocess
+
+COMMANDS = 'alloc free take give read write cache destroy reap report grant take_back move reset'.split()
+LENDS = 'lend lend_object lend_block'.split()
+ROUNDS = 100
+# The C library has a memcpy and a memset for each kind of processor. With these settings it takes the same ones on all.
+TUNABLES = "glibc.cpu.hwcaps=-ERMS,-FSRM,-AVX,-AVX2,-AVX512F,-AVX512VL,-AVX_Fast_Unaligned_Load"
+LIBRARY = "C library"
+
+
+def own_library():
+    """Returns the name and version of the C library."""
+    return os.confstr("CS_GNU_LIBC_VERSION")
+
+
+def read_ceilings(path):
+    """Returns the C library that the numbers of a file are for, or None, and what the file has for each name."""
+    with open(path, encoding="utf-8") as lines:
+        rows = [line.partition("#")[0].strip() for line in lines]
+    split = {name: value.strip() for name, _, value in (row.partition(":") for row in rows if row)}
+    return split.pop(LIBRARY, None), split
+
+
+def write_ceilings(path, values):
+    """Puts values into the file by their names, under the comment on top."""
+    with open(path, encoding="utf-8") as lines:
+        comment = [line for line in lines if line.startswith("#")]
+    rows = [f"{LIBRARY}: {own_library()}\n", *(f"{name}: {value}\n" for name, value in values.items())]
+    with open(path, "w", encoding="utf-8") as file:
+        file.writelines([*comment, *rows])
+
+
+def callgrind(command, *options, out="/dev/null", tunables=TUNABLES):
+    """Runs a command under callgrind, and returns how it ended, with what it wrote on standard error."""
+    tool = ["valgrind", "--tool=callgrind", f"--callgrind-out-file={out}", *options]
+    return subprocess.run([*tool, *command], stdin=subprocess.DEVNULL, stdout=subprocess.DEVNULL, stderr=subprocess.PIPE,
+                          text=True, errors="replace", check=False, env={**os.environ, "GLIBC_TUNABLES": tunables})
+
+
+def of_command(program, how, command, folder, tunables=TUNABLES):
+    """Returns the instructions of a command of bench/events.c, as an event or a direct call: the one of each round that its
+    `measured` makes, on average."""
+    out = f"{folder}/{how}-{command}"
+    options = ["--compress-strings=no", "--compress-pos=no", "--toggle-collect=measured"]
+    ran = callgrind([program, how, command, str(ROUNDS)], *options, out=out, tunables=tunables)
+    if ran.returncode:
+        raise OSError(f"{command} ended with status {ran.returncode} under valgrind: {ran.stderr[-500:]}")
+    with open(out, encoding="utf-8") as file:
+        functions = re.findall(r"^fn=(?:measured|event|call)$(.*?)(?=^fn=|\Z)", file.read(), re.M | re.S)
+    costs = re.findall(r"^cfn=partmem_\w+\ncalls=.*\n\S+ (\d+)$", "".join(functions), re.M)
+    if not costs:
+        raise OSError(f"callgrind counted no {how} of {command}")
+    return sum(map(int, costs)) / ROUNDS
