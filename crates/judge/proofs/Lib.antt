@@ -8,3 +8,6 @@ pub mod Bridging
 pub mod OwnersAfter
 pub mod Sizes
 pub mod Opening
+pub mod Sums
+pub mod Lists
+pub mod OnFigures

@@ -3,3 +3,4 @@ pub mod Inside
 pub mod Machine
 pub mod Adding
 pub mod Sizes
+pub mod Slabs

@@ -10,12 +10,13 @@ ghost use Rattle.judge.specs.Adding.{is_addition, IsKeptAddition};
 ghost use Rattle.judge.specs.Inside.{IsKeptReply, holder_asked};
 ghost use Rattle.judge.specs.Showing.{ShowsState, FitsKnown, Follows, IsJudged};
 
+use crate::coming::{judge_destroy, judge_reap};
+use crate::report::judge_report;
 use crate::tenant::Tenant;
 use judge_core::RangeHolder;
 use judge_replies::{
     Verdict, judge_alloc, judge_cache, judge_free, judge_give, judge_take, judge_write,
 };
-use judge_report::{judge_destroy, judge_reap, judge_report};
 use std::alloc::AllocError;
 use words_core::{Body, Command};
 

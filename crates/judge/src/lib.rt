@@ -4,8 +4,11 @@
 #![tactic(auto)]
 
 mod addressing;
+mod answer;
 mod bytes;
 mod caches;
+mod coming;
+mod counts;
 mod figures;
 mod judging;
 mod machine;
@@ -14,7 +17,10 @@ mod objects;
 mod owners;
 mod pages;
 mod replies;
+mod report;
+mod rows;
 mod slots;
+mod taken;
 mod tenant;
 
 pub use judge_replies::Verdict;

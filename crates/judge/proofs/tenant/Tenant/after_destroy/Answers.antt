@@ -3,7 +3,7 @@ use Rattle.words_core.specs.declared.event.Event.TheVariants as On
 use Rattle.words_core.specs.declared.event.Command.TheVariants as Asked
 use Rattle.words_core.specs.declared.reply.Body.TheVariants as Say
 use Rattle.judge.specs.Showing.{Seen}
-use Rattle.judge_report.proofs.OnFigures.{no_destroy}
+use Rattle.judge.proofs.OnFigures.{no_destroy}
 use Rattle.judge.proofs.Keeping.{asked, turned, unanswered, sound_after, same_slots}
 use Rattle.judge.proofs.Following.{destroyed}
 use Rattle.std.proofs.Common.{None}

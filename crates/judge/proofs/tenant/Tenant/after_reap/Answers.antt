@@ -4,7 +4,7 @@ use Rattle.words_core.specs.declared.event.Command.TheVariants as Asked
 use Rattle.words_core.specs.declared.reply.Body.TheVariants as Say
 use Rattle.judge.specs.Showing.{Seen}
 use Rattle.std.proofs.Common.{None}
-use Rattle.judge_report.proofs.OnFigures.{no_reap}
+use Rattle.judge.proofs.OnFigures.{no_reap}
 use Rattle.judge.proofs.Keeping.{asked, turned, unanswered, sound_after, same_slots}
 use Rattle.judge.proofs.Following.{reaped}
 use Rattle.judge.proofs.tenant.Tenant.after_reap.Goals as goal

@@ -4,7 +4,7 @@ use Rattle.words_core.specs.declared.event.Command.TheVariants as Asked
 use Rattle.words_core.specs.declared.reply.Body.TheVariants as Say
 use Rattle.judge.specs.Showing.{Seen, Follows}
 use Rattle.std.proofs.Common.{Some}
-use Rattle.judge_report.proofs.OnFigures.{no_report}
+use Rattle.judge.proofs.OnFigures.{no_report}
 use Rattle.judge.proofs.Keeping.{turned, unanswered}
 use Rattle.judge.proofs.Following.{reported}
 use Rattle.judge.proofs.tenant.Tenant.after_report.Goals as goal
