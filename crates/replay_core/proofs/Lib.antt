@@ -1,3 +1,4 @@
+pub mod DoingLemmas
 pub mod LineLemmas
 pub mod OwnLemmas
 pub mod PendingLemmas

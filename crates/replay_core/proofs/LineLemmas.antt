@@ -1,5 +1,5 @@
 -- Lines that end, and what is left behind the last of them.
-use Rattle.std.proofs.Common.{◌≡◌, ℕ, cond, zero, suc, ◌+◌, ◌<◌, ◌≤◌, ◌==◌, Bool, true, false, not, nat_lt, if◌then◌else◌, List, [], ◌∷◌, ◌++◌, Option, Some, None, length, take, drop, get_or, position, refl, ap, sym, ◌∙◌, arith, add-one, append_assoc, length-append}
+use Rattle.std.proofs.Common.{◌≡◌, ℕ, cond, zero, suc, ◌+◌, ◌<◌, ◌≤◌, ◌==◌, Bool, true, false, not, nat_lt, if◌then◌else◌, List, [], ◌∷◌, ◌++◌, Option, Some, None, length, take, drop, get_or, position, refl, ap, sym, ◌∙◌, arith, add-one, append_assoc}
 use Rattle.std.specs.List.{onto_first, position_from}
 use Rattle.std.proofs.lemmas.Bool.{eqb-true, lt-ltb, le-ltb}
 use Rattle.std.proofs.lemmas.List.Quantifiers.{position-Some}
@@ -27,17 +27,11 @@ with_line_feeds_append [] line = append-nil (line ++ 10 ∷ [])
 with_line_feeds_append (x ∷ xs) line =
     ap (λ more. (x ++ 10 ∷ []) ++ more) (with_line_feeds_append xs line) ∙ sym (append_assoc (x ++ 10 ∷ []) (with_line_feeds xs) (line ++ 10 ∷ []))
 
--- each has a byte at least
-pub with_line_feeds_long : (xs : List (List ℕ)) → length xs ≤ length (with_line_feeds xs)
-with_line_feeds_long [] = omega arith
-with_line_feeds_long (x ∷ xs) =
-    omega (arith, with_line_feeds_long xs, length-append (x ++ 10 ∷ []) (with_line_feeds xs), length-append x (10 ∷ []))
-
 line_cut : (line after : List ℕ) → IsOneLine line → lines_of_trace ((line ++ 10 ∷ []) ++ after) ≡ line ∷ lines_of_trace after
 line_cut [] after h = refl
 line_cut (b ∷ line) after h = rw h.0 (ap (onto_first b) (line_cut line after h.1))
 
-line_ended : (line after : List ℕ) → IsOneLine line → ended_lines ((line ++ 10 ∷ []) ++ after) ≡ line ∷ ended_lines after
+pub line_ended : (line after : List ℕ) → IsOneLine line → ended_lines ((line ++ 10 ∷ []) ++ after) ≡ line ∷ ended_lines after
 line_ended [] after h = refl
 line_ended (b ∷ line) after h = rw h.0 (ap (onto_ended b) (line_ended line after h.1))
 

@@ -1,7 +1,8 @@
 -- The first 256 bytes of a line tell all that is asked of it.
-use Rattle.std.proofs.Common.{◌≡◌, ℕ, ◌+◌, ◌-◌, ◌<◌, ◌≤◌, inl, inr, Bool, true, false, List, ◌++◌, Result, Ok, Err, OnOk, length, take, refl, sym, ap, ◌∙◌, arith}
+use Rattle.std.proofs.Common.{◌≡◌, ℕ, ◌+◌, ◌-◌, ◌<◌, ◌≤◌, inl, inr, Bool, true, false, List, ◌++◌, Some, Result, Ok, Err, OnOk, length, take, refl, sym, ap, ◌∙◌, arith}
 use Rattle.std.specs.Prelude.{nat_lt, nat_eq, slice_index, if◌then◌else◌}
 use Rattle.std.specs.Result.{is_ok}
+use Rattle.words_core.specs.declared.event.Event.{Event}
 use Rattle.words_core.specs.declared.event.LineFault.TheVariants.{Long}
 use Rattle.words_core.specs.Grammar.{reading_of}
 use Rattle.words_core.proofs.LineLemmas.{reading_of-long}
@@ -65,3 +66,13 @@ stripped false line h = omega arith
 -- a line of more than 256 bytes is too long, whatever its end is
 pub overlong : (line : List ℕ) → 256 < length line → reading_of line ≡ Err Long
 overlong line h = reading_of-long line (stripped (nat_eq (slice_index line (length line - 1)) 13) line h)
+
+-- so a line with an event has no more
+pub event_short : (line : List ℕ) (event : Event) → reading_of line ≡ Ok (Some event) → length line ≤ 256
+event_short line event read = elim (cases_lt 256 (length line)) [
+  | inl over ↦ absurd (no_fault (sym (overlong line over) ∙ read))
+  | inr within ↦ within
+]
+  where
+    no_fault : Err Long ≡ Ok (Some event) → ⊥
+    no_fault h = cc

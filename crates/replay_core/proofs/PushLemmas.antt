@@ -100,6 +100,29 @@ pushed_into old now new failing text rest line after written written' written'' 
   failed = more.failed ∙ sym failed;
 }
 
+-- of a text the drain failed within the first part ..
+pub pushed_begun : (old new : Option (List ℕ)) (failing : Bool) (line after : List ℕ) (written written' : ℕ) (stopped : Stopped)
+    (result : Result (Unit {0}) Stopped) → is_err result ≡ true → HasPushed old new failing line written written' (Err stopped)
+    → HasPushed old new failing (line ++ after) written written' result
+pushed_begun old new failing line after written written' stopped result failed part =
+    pushed_into old old new failing (line ++ after) (line ++ after) line after written written written' stopped result failed
+    (nothing_pushed old (line ++ after) written) refl part
+
+-- .. or took it, and of the second what could be taken
+pub pushed_both : (old now new : Option (List ℕ)) (failing failing' : Bool) (line after : List ℕ) (written written' written'' : ℕ)
+    (result : Result (Unit {0}) Stopped) → HasPushed old now failing line written written' (Ok tt) → HasPushed now new failing' after written' written'' result
+    → HasPushed old new failing' (line ++ after) written written'' result
+pushed_both old now new failing failing' line after written written' written'' result first second =
+    let had = pushed_part old old now failing (line ++ after) (line ++ after) line after written written written' (nothing_pushed old (line ++ after) written) refl first in record {
+      taken = had.taken ++ second.taken;
+      rest = second.rest;
+      split = had.split ∙ ap (λ xs. had.taken ++ xs) second.split ∙ sym (append_assoc had.taken second.taken second.rest);
+      appended = appends_more old now new had.taken second.taken had.appended second.appended;
+      counted = omega (arith, second.counted, had.counted, length-append had.taken second.taken);
+      whole = second.whole;
+      failed = second.failed;
+    }
+
 -- no more is counted than the text has
 pub pushed_few : (old new : Option (List ℕ)) (failing : Bool) (text : List ℕ) (written written' : ℕ) (result : Result (Unit {0}) Stopped)
     → HasPushed old new failing text written written' result → written' ≤ written + length text

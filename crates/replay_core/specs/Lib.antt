@@ -1,4 +1,7 @@
 pub mod Bounds
+pub mod Doing
+pub mod Ending
+pub mod Front
 pub mod Pending
 pub mod Promised
 pub mod Pushes

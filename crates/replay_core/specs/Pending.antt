@@ -1,5 +1,5 @@
 -- The beginning of a line whose end has not come.
-use Rattle.std.specs.Prelude.{◌≡◌, ℕ, nat_lt, List, [], length, take}
+use Rattle.std.specs.Prelude.{◌≡◌, ℕ, ◌≤◌, nat_lt, List, [], length, take}
 use Rattle.replay_core.specs.declared.pending.Pending.{Pending}
 
 -- 256 bytes of the line are enough to tell that it is too long
@@ -10,3 +10,7 @@ pub record HoldsLine (line : List ℕ) (pending : Pending) : Type 0 where
 -- no byte of a line is held
 abbrev pub HoldsNothing : Pending → Type 0
 HoldsNothing pending = (line : List ℕ) → HoldsLine line pending → line ≡ []
+
+-- all of the line, or the front of one that is too long
+abbrev pub IsFrontOf : List ℕ → List ℕ → Type 0
+IsFrontOf line front = length line ≤ 256 → front ≡ line

@@ -1,14 +1,13 @@
 //! Lines of a load whose answers are written where they stay, each with its command known from reading on.
 
-ghost use Rattle.std.specs.Prelude.{◌≡◌, ℕ, ◌+◌, ◌^◌, ◌<◌, ◌≤◌, false, true, List, Option, Some, Ok, length, MatchOption};
+ghost use Rattle.std.specs.Prelude.{◌≡◌, ◌+◌, ◌^◌, ◌<◌, ◌≤◌, false, true, Some, Ok, length};
 ghost use Rattle.words_core.specs.Requests.{command_of, IsAskable};
 ghost use Rattle.words_core.specs.declared.event.Event.TheVariants.{Tenant};
 ghost use Rattle.words_core.specs.declared.reply.Addressee.TheVariants as Addressee;
 ghost use Rattle.world_core.specs.Output.{is_shown};
-ghost use Rattle.kernel_core.specs.Content.{KernelContent};
-ghost use Rattle.replay_core.specs.declared.pending.Pending.{Pending};
-ghost use Rattle.replay_core.specs.Pending.{HoldsNothing};
-ghost use Rattle.replay_core.specs.Standing.{IsReady, HasAnswered, HasAnsweredLine, Stands};
+ghost use Rattle.replay_core.specs.Doing.{HasDone, HasGone};
+ghost use Rattle.replay_core.specs.Front.{HasAnsweredLine};
+ghost use Rattle.replay_core.specs.Standing.{IsReady, Answers, answers};
 
 use crate::notes::Notes;
 use crate::run::Run;
@@ -46,10 +45,8 @@ impl Run {
         notes: &mut N,
     ) -> &'a [u8]
         requires { IsReady (D.has_failed drain.old) self.old (length piece.now) }
-        ensures ran { (only : Option ℕ) (before : KernelContent) (given : List ℕ) (start : Option (List ℕ)) (pending : Pending)
-            → HoldsNothing pending → Stands only before kernel.old given piece.now start (D.contents drain.old) pending self.old
-            → Stands only before kernel.new given result.now start (D.contents drain.new) pending self.new }
-        ensures left { self.new.lines + length result.now < 2 ^ 64 }
+        ensures done { HasGone answers (self.old, kernel.old) piece.now result.now (D.contents drain.old) (D.contents drain.new) (self.new, kernel.new) }
+        ensures left { self.new.lines + length result.now ≤ self.old.lines + length piece.now }
         ensures within { length result.now ≤ length piece.now }
         ensures failed { D.has_failed drain.new ≡ false }
     {
@@ -107,8 +104,9 @@ impl Run {
         requires shown { is_shown self.old.replies.only (Addressee.Tenant tenant) ≡ true }
         requires ready { IsReady (D.has_failed drain.old) self.old 1 }
         requires space { D.is_roomy drain.old ≡ true }
-        ensures { HasAnswered (Ok (Some (Tenant tenant (command_of request.entry)))) kernel.old kernel.new
-            (D.contents drain.old) (D.contents drain.new) (D.has_failed drain.new) self.old self.new (Ok tt) }
+        ensures done { HasDone Answers (self.old, kernel.old) (Ok (Some (Tenant tenant (command_of request.entry))))
+            (D.contents drain.old) (D.contents drain.new) (Ok tt) (self.new, kernel.new) }
+        ensures failed { D.has_failed drain.new ≡ false }
     {
         match request {
             Request::Alloc { order } => {
@@ -186,8 +184,9 @@ impl Run {
         requires shown { is_shown self.old.replies.only (Addressee.Tenant tenant) ≡ true }
         requires ready { IsReady (D.has_failed drain.old) self.old 1 }
         requires space { D.is_roomy drain.old ≡ true }
-        ensures { HasAnswered (Ok (Some (Tenant tenant (command_of request.entry)))) kernel.old kernel.new
-            (D.contents drain.old) (D.contents drain.new) (D.has_failed drain.new) self.old self.new (Ok tt) }
+        ensures done { HasDone Answers (self.old, kernel.old) (Ok (Some (Tenant tenant (command_of request.entry))))
+            (D.contents drain.old) (D.contents drain.new) (Ok tt) (self.new, kernel.new) }
+        ensures failed { D.has_failed drain.new ≡ false }
     {
         self.lines += 1;
         self.events += 1;
@@ -212,8 +211,9 @@ impl Run {
         requires shown { is_shown self.old.replies.only (Addressee.Tenant tenant) ≡ true }
         requires ready { IsReady (D.has_failed drain.old) self.old 1 }
         requires space { D.is_roomy drain.old ≡ true }
-        ensures { HasAnswered (Ok (Some (Tenant tenant (command_of request.entry)))) kernel.old kernel.new
-            (D.contents drain.old) (D.contents drain.new) (D.has_failed drain.new) self.old self.new (Ok tt) }
+        ensures done { HasDone Answers (self.old, kernel.old) (Ok (Some (Tenant tenant (command_of request.entry))))
+            (D.contents drain.old) (D.contents drain.new) (Ok tt) (self.new, kernel.new) }
+        ensures failed { D.has_failed drain.new ≡ false }
     {
         self.answer_as::<RARE, LF, D, N>(tenant, request, kernel, drain, notes);
     }

@@ -3,14 +3,20 @@
 #![tactic(auto)]
 
 mod answer_line;
+mod answering;
+mod engine;
 mod notes;
 mod pending;
 mod quick;
 mod replaying;
 mod replies;
 mod run;
+mod sink;
 
 pub use ends::{Drain, Feed, ReaderFeed, ReplayError, Stopped, Tally, Text, WriterDrain};
+pub use engine::{EndFailed, do_lines};
 pub use notes::{NoNotes, Notes};
 pub use pending::{Pending, line_end};
 pub use replaying::{replay, replay_noted};
+pub use replies::push_all;
+pub use sink::Sink;

@@ -1,8 +1,8 @@
-ghost use Rattle.std.specs.Prelude.{◌≡◌, ℕ, ◌<◌, ◌++◌, List, [], length, position, ◌==◌, IfSome};
+ghost use Rattle.std.specs.Prelude.{◌≡◌, ℕ, ◌<◌, ◌++◌, List, [], ◌∷◌, length, position, ◌==◌, IfSome, MatchOption};
 ghost use Rattle.words_core.specs.Grammar.{reading_of};
 ghost use Rattle.world_core.specs.Output.{line_feed};
 ghost use Rattle.replay_core.specs.Pending.{HoldsLine, HoldsNothing};
-ghost use Rattle.replay_core.specs.Standing.{IsRunnable};
+ghost use Rattle.replay_core.specs.Standing.{IsOneLine, IsRunnable};
 
 use arrayvec::ArrayVec;
 use memchr::memchr;
@@ -84,6 +84,18 @@ impl Pending {
         self.held.clear();
         self.longer = false;
     }
+}
+
+/// The first line that ends in these bytes, and what follows its LF; `None` if none ends in them.
+#[inline(always)]
+pub(crate) fn split_line(bytes: &[u8]) -> Option<(&[u8], &[u8])>
+    ensures { MatchOption result (IsOneLine bytes.now)
+        (λ parts. IsOneLine parts.0.now × (bytes.now ≡ (parts.0.now ++ line_feed ∷ []) ++ parts.1.now)) }
+{
+    let Some(end) = line_end(bytes) else {
+        return None;
+    };
+    Some((&bytes[..end], &bytes[end + 1..]))
 }
 
 /// Where the first LF stands.

@@ -1,15 +1,13 @@
 //! The lines that make up a load, run one after the other, and requests that are not answered in place.
 
-ghost use Rattle.std.specs.Prelude.{◌≡◌, ℕ, ◌+◌, ◌^◌, ◌<◌, ◌≤◌, List, Option, Some, Ok, length, is_err};
+ghost use Rattle.std.specs.Prelude.{◌≡◌, ◌+◌, ◌^◌, ◌<◌, ◌≤◌, Some, Ok, length, is_err};
 ghost use Rattle.std.specs.Prelude.{IfOk, IfSome, MatchResult};
 ghost use Rattle.quick_core.specs.Lines.{ReadsAs};
 ghost use Rattle.words_core.specs.Grammar.{reading_of};
 ghost use Rattle.words_core.specs.Requests.{command_of, IsAskable};
 ghost use Rattle.words_core.specs.declared.event.Event.TheVariants.{Tenant};
-ghost use Rattle.kernel_core.specs.Content.{KernelContent};
-ghost use Rattle.replay_core.specs.declared.pending.Pending.{Pending};
-ghost use Rattle.replay_core.specs.Pending.{HoldsNothing};
-ghost use Rattle.replay_core.specs.Standing.{IsReady, HasAnswered, Stands, HasStopped};
+ghost use Rattle.replay_core.specs.Doing.{HasDone, HasGone, HasStopped};
+ghost use Rattle.replay_core.specs.Standing.{IsReady, Answers, answers};
 
 use crate::notes::Notes;
 use crate::pending::line_end;
@@ -18,46 +16,13 @@ use ends::{Drain, Stopped};
 use kernel_core::Kernel;
 use model_core::limits::MOST_BYTES;
 use quick_core::{
-    CR_LF, LF, RequestLine, WINDOW, may_begin_request, read_ended_request, read_known_request,
-    read_request, read_tenant,
+    CR_LF, LF, RequestLine, WINDOW, read_ended_request, read_known_request, read_tenant,
 };
-use words_core::{Addressee, Request};
+use words_core::{Addressee, Answer, Refusal, Request};
 
 impl Run {
-    /// Runs the lines at the front of a piece as long as they are read the short way, and returns the rest of the piece. No
-    /// beginning of a line may be pending.
-    ///
-    /// Lines that end in CR LF are tried only behind one that did, as `returned` says.
-    #[inline(always)]
-    pub fn run_quick_lines<'a, D: Drain, N: Notes>(
-        &mut self,
-        piece: &'a [u8],
-        returned: bool,
-        kernel: &mut Kernel,
-        drain: &mut D,
-        notes: &mut N,
-    ) -> Result<&'a [u8], Stopped>
-        requires { IsReady (D.has_failed drain.old) self.old (length piece.now) }
-        ensures ran { (only : Option ℕ) (before : KernelContent) (given : List ℕ) (start : Option (List ℕ)) (pending : Pending)
-            → HoldsNothing pending → Stands only before kernel.old given piece.now start (D.contents drain.old) pending self.old
-            → MatchResult result
-            (λ rest. Stands only before kernel.new given rest.now start (D.contents drain.new) pending self.new)
-            (λ _. HasStopped only before kernel.new given start (D.contents drain.new) self.new) }
-        ensures left { IfOk result (λ rest. (self.new.lines + length rest.now < 2 ^ 64) × (length rest.now ≤ length piece.now)) }
-        ensures failed { D.has_failed drain.new ≡ is_err result }
-    {
-        if !may_begin_request(piece) {
-            return Ok(piece);
-        }
-        let rest = self.run_ended_lines::<LF, D, N>(piece, kernel, drain, notes)?;
-        if !returned {
-            return Ok(rest);
-        }
-        self.run_ended_lines::<CR_LF, D, N>(rest, kernel, drain, notes)
-    }
-
-    /// [`Run::run_quick_lines`] of lines that end in LF, or in CR LF if `RETURNS`.
-    fn run_ended_lines<'a, const RETURNS: bool, D: Drain, N: Notes>(
+    /// The quick lines of a replay: those that are answered in place, and between them those that are not.
+    pub fn run_ended_lines<'a, const RETURNS: bool, D: Drain, N: Notes>(
         &mut self,
         piece: &'a [u8],
         kernel: &mut Kernel,
@@ -65,12 +30,10 @@ impl Run {
         notes: &mut N,
     ) -> Result<&'a [u8], Stopped>
         requires { IsReady (D.has_failed drain.old) self.old (length piece.now) }
-        ensures ran { (only : Option ℕ) (before : KernelContent) (given : List ℕ) (start : Option (List ℕ)) (pending : Pending)
-            → HoldsNothing pending → Stands only before kernel.old given piece.now start (D.contents drain.old) pending self.old
-            → MatchResult result
-            (λ rest. Stands only before kernel.new given rest.now start (D.contents drain.new) pending self.new)
-            (λ _. HasStopped only before kernel.new given start (D.contents drain.new) self.new) }
-        ensures left { IfOk result (λ rest. (self.new.lines + length rest.now < 2 ^ 64) × (length rest.now ≤ length piece.now)) }
+        ensures done { MatchResult result
+            (λ rest. HasGone answers (self.old, kernel.old) piece.now rest.now (D.contents drain.old) (D.contents drain.new) (self.new, kernel.new))
+            (λ _. HasStopped answers (self.old, kernel.old) piece.now (D.contents drain.old) (D.contents drain.new) (self.new, kernel.new)) }
+        ensures left { IfOk result (λ rest. self.new.lines + length rest.now ≤ self.old.lines + length piece.now) }
         ensures failed { D.has_failed drain.new ≡ is_err result }
     {
         // What a write stores: one room for all lines, filled anew by each.
@@ -120,12 +83,10 @@ impl Run {
         notes: &mut N,
     ) -> Result<&'a [u8], Stopped>
         requires { IsReady (D.has_failed drain.old) self.old (length piece.now) }
-        ensures ran { (only : Option ℕ) (before : KernelContent) (given : List ℕ) (start : Option (List ℕ)) (pending : Pending)
-            → HoldsNothing pending → Stands only before kernel.old given piece.now start (D.contents drain.old) pending self.old
-            → MatchResult result
-            (λ rest. Stands only before kernel.new given rest.now start (D.contents drain.new) pending self.new)
-            (λ _. HasStopped only before kernel.new given start (D.contents drain.new) self.new) }
-        ensures left { IfOk result (λ rest. (self.new.lines + length rest.now < 2 ^ 64) × (length rest.now ≤ length piece.now)) }
+        ensures done { MatchResult result
+            (λ rest. HasGone answers (self.old, kernel.old) piece.now rest.now (D.contents drain.old) (D.contents drain.new) (self.new, kernel.new))
+            (λ _. HasStopped answers (self.old, kernel.old) piece.now (D.contents drain.old) (D.contents drain.new) (self.new, kernel.new)) }
+        ensures left { IfOk result (λ rest. self.new.lines + length rest.now ≤ self.old.lines + length piece.now) }
         ensures failed { D.has_failed drain.new ≡ is_err result }
     {
         let mut room = [0; MOST_BYTES];
@@ -152,14 +113,22 @@ impl Run {
     ) -> Result<(), Stopped>
         requires askable { IsAskable request }
         requires ready { IsReady (D.has_failed drain.old) self.old 1 }
-        ensures { HasAnswered (Ok (Some (Tenant tenant (command_of request.entry)))) kernel.old kernel.new
-            (D.contents drain.old) (D.contents drain.new) (D.has_failed drain.new) self.old self.new result }
+        ensures done { HasDone Answers (self.old, kernel.old) (Ok (Some (Tenant tenant (command_of request.entry))))
+            (D.contents drain.old) (D.contents drain.new) result (self.new, kernel.new) }
+        ensures failed { D.has_failed drain.new ≡ is_err result }
     {
         self.lines += 1;
         self.events += 1;
         match kernel.ask(tenant, request) {
-            Some((t, told)) => self.replies.show_answer(t, told, drain, notes),
-            None => self.replies.show_no_tenant(drain, notes),
+            Some((t, answer)) => {
+                self.replies
+                    .show_to(Addressee::Tenant(t), answer, drain, notes)
+            }
+            None => {
+                let answer = Answer::Refused(Refusal::NoTenant);
+                self.replies
+                    .show_to(Addressee::Nobody, answer, drain, notes)
+            }
         }
     }
 }

@@ -5,14 +5,11 @@ ghost use Rattle.std.specs.Io.KnownBytes.{Consumes, Appends, IsAtEnd};
 ghost use Rattle.replay_core.specs.Runs.{Replays, HasOwnLines, IsDone, NamesFailed};
 ghost use Rattle.replay_core.specs.Promised.{TakesAllowed};
 
+use crate::engine::{EndFailed, do_lines};
 use crate::notes::{NoNotes, Notes};
-use crate::pending::Pending;
 use crate::run::Run;
 use ends::{Drain, Feed, ReplayError, Tally};
 use kernel_core::{Kernel, laws};
-
-/// How many bytes are asked for in one pull.
-const PIECE_BYTES: usize = 65_536;
 
 /// Runs the trace that the feed gives on the kernel, and pushes the replies into the drain: with `only` those to that
 /// tenant alone, else all.
@@ -82,42 +79,9 @@ pub fn replay_noted<F: Feed, D: Drain, N: Notes>(
     let _tenants = kernel.tenants();
     let _room = feed.room();
     let mut run = Run::new(only);
-    let mut pending = Pending::new();
-    let mut piece = [0; PIECE_BYTES];
-    'pulls: loop {
-        drain.send();
-        let Ok(count) = feed.pull(&mut piece) else {
-            note_unended(&pending, run.lines, notes);
-            return Err(ReplayError::Feed(run.tally()));
-        };
-        if count == 0 {
-            break;
-        }
-        let ran = run.run_piece(&piece[..count], &mut pending, kernel, drain, notes);
-        if ran.is_err() {
-            return Err(ReplayError::Drain(run.tally()));
-        }
-    }
-    if pending.is_empty() {
-        return Ok(run.tally());
-    }
-    let answered = run.answer(
-        pending.reading(),
-        pending.held.as_slice(),
-        kernel,
-        drain,
-        notes,
-    );
-    let tally = run.tally();
-    if answered.is_err() {
-        return Err(ReplayError::Drain(tally));
-    }
-    Ok(tally)
-}
-
-/// Notes the line behind the first `lines` if its end could not be read and it is faulty as far as it was read.
-fn note_unended<N: Notes>(pending: &Pending, lines: u64, notes: &mut N) {
-    if let Err(fault) = pending.reading() {
-        notes.faulty(lines.saturating_add(1), fault, pending.held.as_slice());
+    match do_lines(kernel, &mut run, feed, drain, notes) {
+        Ok(()) => Ok(run.tally()),
+        Err(EndFailed::Feed) => Err(ReplayError::Feed(run.tally())),
+        Err(EndFailed::Drain) => Err(ReplayError::Drain(run.tally())),
     }
 }

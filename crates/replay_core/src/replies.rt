@@ -1,27 +1,18 @@
 //! The replies of a replay, into a drain.
 
 ghost use Rattle.std.specs.Prelude.{◌≡◌, ◌+◌, ◌≤◌, true, Ok, length};
-ghost use Rattle.words_core.specs.declared.event.Event.TheVariants as Event;
-ghost use Rattle.words_core.specs.declared.event.AdminCommand.TheVariants as AdminCommand;
-ghost use Rattle.words_core.specs.declared.event.Command.TheVariants as Command;
-ghost use Rattle.words_core.specs.declared.reply.Reply.{Reply};
 ghost use Rattle.words_core.specs.declared.reply.Addressee.TheVariants as Addressee;
-ghost use Rattle.words_core.specs.declared.reply.Body.TheVariants as Body;
-ghost use Rattle.words_core.specs.declared.reply.Refusal.TheVariants.{NoTenant};
 ghost use Rattle.words_core.specs.Requests.{reply_of_answer, reply_to, HasFewBytes};
-ghost use Rattle.words_core.specs.Texts.{text_of};
-ghost use Rattle.kernel_core.specs.Steps.{Steps};
 ghost use Rattle.world_core.specs.Output.{is_shown, shown_text};
 ghost use Rattle.replay_core.specs.Pushes.{HasRoomToWrite, HasPushed, most_reply_bytes};
 ghost use Rattle.replay_core.specs.Shown.{HasShown};
 
 use crate::notes::Notes;
 use ends::{Drain, Stopped, TEXT_BYTES, Text};
-use kernel_core::Kernel;
 use std::marker::Model;
 use words_core::{
-    Addressee, AdminCommand, Answer, Body, LineFault, MOST_ANSWER_BYTES, MOST_REPLY_BYTES, Refusal,
-    Reply, rows, write_answer, write_answer_to, write_row,
+    Addressee, Answer, Body, MOST_ANSWER_BYTES, MOST_REPLY_BYTES, Reply, rows, write_answer,
+    write_answer_to, write_row,
 };
 
 /// The replies of a replay: those to one tenant alone are shown, or all, and the bytes that the drain took are counted.
@@ -66,26 +57,10 @@ impl Replies {
         self.written += len as u128;
     }
 
-    /// Pushes what a tenant is answered.
-    pub fn show_answer<D: Drain, N: Notes>(
-        &mut self,
-        tenant: u8,
-        answer: Answer<'_>,
-        drain: &mut D,
-        notes: &mut N,
-    ) -> Result<(), Stopped>
-        requires few { HasFewBytes answer }
-        requires room { HasRoomToWrite (D.has_failed drain.old) self.old.written most_reply_bytes }
-        ensures { HasShown (D.contents drain.old) (D.contents drain.new) (D.has_failed drain.new)
-            (shown_text self.old.only (reply_of_answer tenant answer.entry)) self.old self.new result }
-    {
-        self.show_to(Addressee::Tenant(tenant), answer, drain, notes)
-    }
-
     /// Pushes an answer to anyone, by way of the room that the longest takes.
     #[cold]
     #[inline(never)]
-    fn show_to<D: Drain, N: Notes>(
+    pub fn show_to<D: Drain, N: Notes>(
         &mut self,
         addressee: Addressee,
         answer: Answer<'_>,
@@ -106,10 +81,10 @@ impl Replies {
         push_all(&text[..len], drain, &mut self.written)
     }
 
-    /// Pushes a reply, line by line.
+    /// Pushes a reply, line by line; by itself, since its lines take space that no other answer needs.
     #[cold]
     #[inline(never)]
-    fn show<D: Drain, N: Notes>(
+    pub fn show<D: Drain, N: Notes>(
         &mut self,
         reply: &Reply,
         drain: &mut D,
@@ -131,102 +106,6 @@ impl Replies {
             push_all(&text[..len], drain, &mut self.written)?;
         }
         Ok(())
-    }
-
-    /// Pushes the report of a tenant; by itself, as each reply of several lines is, since it takes room that no other needs.
-    #[cold]
-    #[inline(never)]
-    pub fn report<D: Drain, N: Notes>(
-        &mut self,
-        tenant: u32,
-        kernel: &Kernel,
-        drain: &mut D,
-        notes: &mut N,
-    ) -> Result<(), Stopped>
-        requires { HasRoomToWrite (D.has_failed drain.old) self.old.written most_reply_bytes }
-        ensures { (reply : Reply) × Steps kernel.now (Event.Tenant tenant Command.Report) kernel.now reply
-            × HasShown (D.contents drain.old) (D.contents drain.new) (D.has_failed drain.new)
-            (shown_text self.old.only reply) self.old self.new result }
-    {
-        let reply = kernel.report(tenant);
-        self.show(&reply, drain, notes)
-    }
-
-    /// Runs a command of the administrator, and pushes what it shows.
-    #[cold]
-    #[inline(never)]
-    pub fn administer<D: Drain, N: Notes>(
-        &mut self,
-        command: &AdminCommand,
-        kernel: &mut Kernel,
-        drain: &mut D,
-        notes: &mut N,
-    ) -> Result<(), Stopped>
-        requires { HasRoomToWrite (D.has_failed drain.old) self.old.written most_reply_bytes }
-        ensures { (reply : Reply) × Steps kernel.old (Event.Admin command.now) kernel.new reply
-            × HasShown (D.contents drain.old) (D.contents drain.new) (D.has_failed drain.new)
-            (shown_text self.old.only reply) self.old self.new result }
-    {
-        match kernel.administer(command) {
-            Some(answer) => self.show_to(Addressee::Admin, answer, drain, notes),
-            None => self.show_pool(kernel, drain, notes),
-        }
-    }
-
-    /// Pushes who owns each superblock; by itself, as a report is.
-    #[cold]
-    #[inline(never)]
-    fn show_pool<D: Drain, N: Notes>(
-        &mut self,
-        kernel: &Kernel,
-        drain: &mut D,
-        notes: &mut N,
-    ) -> Result<(), Stopped>
-        requires { HasRoomToWrite (D.has_failed drain.old) self.old.written most_reply_bytes }
-        ensures { (reply : Reply) × Steps kernel.now (Event.Admin AdminCommand.Pool) kernel.now reply
-            × HasShown (D.contents drain.old) (D.contents drain.new) (D.has_failed drain.new)
-            (shown_text self.old.only reply) self.old self.new result }
-    {
-        let reply = kernel.pool();
-        self.show(&reply, drain, notes)
-    }
-
-    /// Pushes the answer to a faulty line, which is to nobody.
-    #[cold]
-    #[inline(never)]
-    pub fn show_fault<D: Drain, N: Notes>(
-        &mut self,
-        fault: LineFault,
-        drain: &mut D,
-        notes: &mut N,
-    ) -> Result<(), Stopped>
-        requires { HasRoomToWrite (D.has_failed drain.old) self.old.written most_reply_bytes }
-        ensures { HasShown (D.contents drain.old) (D.contents drain.new) (D.has_failed drain.new)
-            (shown_text self.old.only (record { addressee = Addressee.Nobody; body = Body.Fault fault }))
-            self.old self.new result }
-    {
-        self.show_to(Addressee::Nobody, Answer::Fault(fault), drain, notes)
-    }
-
-    /// Pushes the answer to a command of a number that is no tenant, which is to nobody.
-    #[cold]
-    #[inline(never)]
-    pub fn show_no_tenant<D: Drain, N: Notes>(
-        &mut self,
-        drain: &mut D,
-        notes: &mut N,
-    ) -> Result<(), Stopped>
-        requires { HasRoomToWrite (D.has_failed drain.old) self.old.written most_reply_bytes }
-        ensures { HasShown (D.contents drain.old) (D.contents drain.new) (D.has_failed drain.new)
-            (shown_text self.old.only (record { addressee = Addressee.Nobody; body = Body.Refused NoTenant }))
-            self.old self.new result }
-    {
-        self.show_to(
-            Addressee::Nobody,
-            Answer::Refused(Refusal::NoTenant),
-            drain,
-            notes,
-        )
     }
 }
 
@@ -259,7 +138,7 @@ impl Text for AnswerText<'_> {
 }
 
 /// Pushes all of the bytes, the rest again after a push that took less, and counts those that were taken.
-fn push_all<D: Drain>(bytes: &[u8], drain: &mut D, written: &mut u128) -> Result<(), Stopped>
+pub fn push_all<D: Drain>(bytes: &[u8], drain: &mut D, written: &mut u128) -> Result<(), Stopped>
     requires { HasRoomToWrite (D.has_failed drain.old) written.old (length bytes.now) }
     ensures { HasPushed (D.contents drain.old) (D.contents drain.new) (D.has_failed drain.new)
         bytes.now written.old written.new result }

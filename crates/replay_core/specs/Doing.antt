@@ -1,0 +1,57 @@
+-- Lines that are done one after the other. `does` is what one line does: it leads from a state to the next one. Of what comes of
+-- the line the first bytes are taken, and the others are left to a drain that failed.
+use Rattle.std.specs.Prelude.{◌≡◌, ℕ, ◌<◌, List, [], ◌∷◌, ◌++◌, length, Option, Result, Err}
+use Rattle.std.specs.Io.KnownBytes.{Appends}
+use Rattle.world_core.specs.Output.{with_line_feeds}
+use Rattle.ends.specs.declared.feed.Stopped.{Stopped}
+use Rattle.replay_core.specs.Standing.{IsOneLine, AreLines}
+use Rattle.replay_core.specs.Pushes.{IsWholeAtOk}
+
+-- each of the lines was done in full
+abbrev pub HaveRun : {S : Type 0} → (S → List ℕ → List ℕ → List ℕ → S → Type 0) → S → List (List ℕ) → List ℕ → S → Type 0
+HaveRun does s [] taken s' = (taken ≡ []) × (s' ≡ s)
+HaveRun {S} does s (line ∷ lines) taken s' =
+    (mid : S) × (here : List ℕ) × (later : List ℕ) × (taken ≡ here ++ later) × does s line here [] mid × HaveRun does mid lines later s'
+
+-- the lines were done in full, and one more in part
+pub record IsCut {S : Type 0} (does : S → List ℕ → List ℕ → List ℕ → S → Type 0) (s : S) (done : List (List ℕ)) (line taken : List ℕ)
+    (s' : S) : Type 0 where
+  pub mid : S
+  pub earlier : List ℕ
+  pub here : List ℕ
+  pub rest : List ℕ
+  pub split : taken ≡ earlier ++ here
+  pub some : 0 < length rest
+  pub ran : HaveRun does s done earlier mid
+  pub did : does mid line here rest s'
+
+-- one line was done, or what was read in it; in full at Ok
+pub record HasDone {S L : Type 0} (does : S → L → List ℕ → List ℕ → S → Type 0) (s : S) (line : L) (old new : Option (List ℕ))
+    (result : Result (Unit {0}) Stopped) (s' : S) : Type 0 where
+  pub taken : List ℕ
+  pub rest : List ℕ
+  pub did : does s line taken rest s'
+  pub appended : Appends old new taken
+  pub whole : IsWholeAtOk result rest
+
+-- of these bytes the lines before the rest were done
+pub record HasGone {S : Type 0} (does : S → List ℕ → List ℕ → List ℕ → S → Type 0) (s : S) (bytes rest : List ℕ) (old new : Option (List ℕ))
+    (s' : S) : Type 0 where
+  pub done : List (List ℕ)
+  pub taken : List ℕ
+  pub split : bytes ≡ with_line_feeds done ++ rest
+  pub ended : AreLines done
+  pub ran : HaveRun does s done taken s'
+  pub appended : Appends old new taken
+
+-- lines of these bytes were done, and in the next one the drain failed
+pub record HasStopped {S : Type 0} (does : S → List ℕ → List ℕ → List ℕ → S → Type 0) (s : S) (bytes : List ℕ) (old new : Option (List ℕ))
+    (s' : S) : Type 0 where
+  pub mid : S
+  pub now : Option (List ℕ)
+  pub line : List ℕ
+  pub after : List ℕ
+  pub stopped : Stopped
+  pub gone : HasGone does s bytes ((line ++ 10 ∷ []) ++ after) old now mid
+  pub one : IsOneLine line
+  pub done : HasDone does mid line now new (Err stopped) s'

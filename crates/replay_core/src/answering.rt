@@ -1,0 +1,129 @@
+//! A line, whatever it says: it is run, and handed on with its answer.
+
+ghost use Rattle.std.specs.Prelude.{◌≡◌, ℕ, ◌+◌, ◌<◌, ◌≤◌, false, List, Some, Ok, is_err};
+ghost use Rattle.words_core.specs.Grammar.{reading_of};
+ghost use Rattle.words_core.specs.Requests.{command_of, IsAskable};
+ghost use Rattle.words_core.specs.declared.event.Event.TheVariants.{Tenant};
+ghost use Rattle.kernel_core.specs.Steps.{HasPattern};
+ghost use Rattle.replay_core.specs.Doing.{HasDone};
+ghost use Rattle.replay_core.specs.Pending.{IsFrontOf};
+ghost use Rattle.replay_core.specs.Standing.{IsRunnable};
+
+use crate::notes::Notes;
+use crate::sink::Sink;
+use ends::{Drain, Stopped};
+use kernel_core::Kernel;
+use words_core::{Addressee, Answer, Event, LineFault, Refusal, Request};
+
+/// Runs a line that was read so, and hands it on. `front` is the line, or the beginning of one that is too long.
+pub fn answer<S: Sink, D: Drain, N: Notes>(
+    reading: Result<Option<Event>, LineFault>,
+    front: &[u8],
+    kernel: &mut Kernel,
+    sink: &mut S,
+    drain: &mut D,
+    notes: &mut N,
+) -> Result<(), Stopped>
+    requires runnable { IsRunnable reading }
+    requires more { 0 < S.lines_left sink.old }
+    requires fine { D.has_failed drain.old ≡ false }
+    ensures done { (line : List ℕ) → reading ≡ reading_of line → IsFrontOf line front.now
+        → HasDone S.does (sink.old, kernel.old) line (D.contents drain.old) (D.contents drain.new) result (sink.new, kernel.new) }
+    ensures left { S.lines_left sink.old ≤ S.lines_left sink.new + 1 }
+    ensures failed { D.has_failed drain.new ≡ is_err result }
+{
+    match reading {
+        Ok(Some(event)) => run_event(&event, front, kernel, sink, drain, notes),
+        Ok(None) => {
+            sink.blank();
+            Ok(())
+        }
+        Err(fault) => {
+            notes.faulty(sink.lines().saturating_add(1), fault, front);
+            sink.faulty(fault, drain, notes)
+        }
+    }
+}
+
+/// Runs the event of a line.
+fn run_event<S: Sink, D: Drain, N: Notes>(
+    event: &Event,
+    line: &[u8],
+    kernel: &mut Kernel,
+    sink: &mut S,
+    drain: &mut D,
+    notes: &mut N,
+) -> Result<(), Stopped>
+    requires pattern { HasPattern event.now }
+    requires more { 0 < S.lines_left sink.old }
+    requires fine { D.has_failed drain.old ≡ false }
+    ensures done { reading_of line.now ≡ Ok (Some event.now)
+        → HasDone S.does (sink.old, kernel.old) line.now (D.contents drain.old) (D.contents drain.new) result (sink.new, kernel.new) }
+    ensures left { S.lines_left sink.old ≤ S.lines_left sink.new + 1 }
+    ensures failed { D.has_failed drain.new ≡ is_err result }
+{
+    match event {
+        Event::Tenant(tenant, command) => match command.request() {
+            Some(request) => ask(event, *tenant, request, line, kernel, sink, drain, notes),
+            None => reply(event, line, kernel, sink, drain, notes),
+        },
+        Event::Admin(command) => match kernel.administer(command) {
+            Some(answer) => sink.answered(line, event, Addressee::Admin, answer, drain, notes),
+            None => reply(event, line, kernel, sink, drain, notes),
+        },
+    }
+}
+
+/// Runs the request that the event of a line is.
+fn ask<S: Sink, D: Drain, N: Notes>(
+    event: &Event,
+    tenant: u32,
+    request: Request<'_>,
+    line: &[u8],
+    kernel: &mut Kernel,
+    sink: &mut S,
+    drain: &mut D,
+    notes: &mut N,
+) -> Result<(), Stopped>
+    requires event { event.now ≡ Tenant tenant (command_of request) }
+    requires askable { IsAskable request }
+    requires more { 0 < S.lines_left sink.old }
+    requires fine { D.has_failed drain.old ≡ false }
+    ensures done { reading_of line.now ≡ Ok (Some event.now)
+        → HasDone S.does (sink.old, kernel.old) line.now (D.contents drain.old) (D.contents drain.new) result (sink.new, kernel.new) }
+    ensures left { S.lines_left sink.old ≤ S.lines_left sink.new + 1 }
+    ensures failed { D.has_failed drain.new ≡ is_err result }
+{
+    match kernel.ask(tenant, request) {
+        Some((t, answer)) => {
+            sink.answered(line, event, Addressee::Tenant(t), answer, drain, notes)
+        }
+        None => {
+            let answer = Answer::Refused(Refusal::NoTenant);
+            sink.answered(line, event, Addressee::Nobody, answer, drain, notes)
+        }
+    }
+}
+
+/// Runs an event whose reply has several lines; by itself, since such a reply is large.
+#[cold]
+#[inline(never)]
+fn reply<S: Sink, D: Drain, N: Notes>(
+    event: &Event,
+    line: &[u8],
+    kernel: &mut Kernel,
+    sink: &mut S,
+    drain: &mut D,
+    notes: &mut N,
+) -> Result<(), Stopped>
+    requires pattern { HasPattern event.now }
+    requires more { 0 < S.lines_left sink.old }
+    requires fine { D.has_failed drain.old ≡ false }
+    ensures done { reading_of line.now ≡ Ok (Some event.now)
+        → HasDone S.does (sink.old, kernel.old) line.now (D.contents drain.old) (D.contents drain.new) result (sink.new, kernel.new) }
+    ensures left { S.lines_left sink.old ≤ S.lines_left sink.new + 1 }
+    ensures failed { D.has_failed drain.new ≡ is_err result }
+{
+    let reply = kernel.step(event);
+    sink.replied(line, event, &reply, drain, notes)
+}

@@ -1,0 +1,198 @@
+//! The lines of a trace, out of the pieces that a feed gives.
+
+ghost use Rattle.std.specs.Prelude.{◌≡◌, ℕ, ◌+◌, ◌<◌, ◌≤◌, true, false, List, [], ◌++◌, length, IfOk, MatchResult, is_err};
+ghost use Rattle.std.specs.Io.KnownBytes.{Consumes, Appends, IsAtEnd};
+ghost use Rattle.replay_core.specs.Pending.{HoldsLine};
+ghost use Rattle.replay_core.specs.Standing.{IsOneLine};
+ghost use Rattle.replay_core.specs.Doing.{HasDone, HasGone, HasStopped};
+ghost use Rattle.replay_core.specs.Ending.{EndsAs, IsRunToEnd, NamesEnd};
+
+use crate::answering::answer;
+use crate::notes::Notes;
+use crate::pending::{Pending, split_line};
+use crate::sink::Sink;
+use ends::{Drain, Feed, Stopped};
+use kernel_core::Kernel;
+use quick_core::{CR_LF, LF, may_begin_request};
+
+/// How many bytes are asked for in one pull.
+const PIECE_BYTES: usize = 65_536;
+
+/// Which end failed.
+#[derive(Clone, Copy, Debug, PartialEq, Eq)]
+pub enum EndFailed {
+    /// The feed: all lines that ended in LF have been done, and the unfinished one has not.
+    Feed,
+    /// The drain: it took a beginning of what comes of the last line that was done.
+    Drain,
+}
+
+/// Runs the lines of what the feed gives on the kernel, and hands each with its answer to the sink.
+///
+/// Lines are cut at LF wherever the pieces end, and a last line needs none. Each is done as soon as it has come, and the drain
+/// sends what was pushed before the feed is asked for more. Allocates nothing.
+pub fn do_lines<S: Sink, F: Feed, D: Drain, N: Notes>(
+    kernel: &mut Kernel,
+    sink: &mut S,
+    feed: &mut F,
+    drain: &mut D,
+    notes: &mut N,
+) -> Result<(), EndFailed>
+    // Each line has a byte.
+    requires more { F.room_left feed.old ≤ S.lines_left sink.old }
+    requires feed_fine { F.has_failed feed.old ≡ false }
+    requires drain_fine { D.has_failed drain.old ≡ false }
+    // What was given and taken during the call. Where the feed does not tell its bytes, how many it gave is known.
+    ensures ran { (given : List ℕ) × (taken : List ℕ)
+        × Consumes (F.remaining feed.old) (F.remaining feed.new) given
+        × Appends (D.contents drain.old) (D.contents drain.new) taken
+        × EndsAs S.does (F.has_ended feed.new) (sink.old, kernel.old) given taken result (sink.new, kernel.new)
+        × (F.room_left feed.new + length given ≡ F.room_left feed.old) }
+    ensures ended { IsRunToEnd result (F.has_ended feed.new) }
+    // Then what was given is all that it had.
+    ensures whole { F.has_ended feed.new ≡ true → IsAtEnd (F.remaining feed.new) }
+    ensures failed { NamesEnd result (F.has_failed feed.new) (D.has_failed drain.new) }
+{
+    let mut pending = Pending::new();
+    let mut piece = [0; PIECE_BYTES];
+    'pulls: loop {
+        drain.send();
+        let Ok(count) = feed.pull(&mut piece) else {
+            note_unended(&pending, sink.lines(), notes);
+            return Err(EndFailed::Feed);
+        };
+        if count == 0 {
+            break;
+        }
+        let done = do_piece(&piece[..count], &mut pending, kernel, sink, drain, notes);
+        if done.is_err() {
+            return Err(EndFailed::Drain);
+        }
+    }
+    if pending.is_empty() {
+        return Ok(());
+    }
+    let front = pending.held.as_slice();
+    if answer(pending.reading(), front, kernel, sink, drain, notes).is_err() {
+        return Err(EndFailed::Drain);
+    }
+    Ok(())
+}
+
+/// Notes the line behind the first `lines` if its end could not be read and it is faulty as far as it was read.
+fn note_unended<N: Notes>(pending: &Pending, lines: u64, notes: &mut N) {
+    if let Err(fault) = pending.reading() {
+        notes.faulty(lines.saturating_add(1), fault, pending.held.as_slice());
+    }
+}
+
+/// Does the lines that end in a piece; what follows the last of them becomes pending.
+fn do_piece<S: Sink, D: Drain, N: Notes>(
+    piece: &[u8],
+    pending: &mut Pending,
+    kernel: &mut Kernel,
+    sink: &mut S,
+    drain: &mut D,
+    notes: &mut N,
+) -> Result<(), Stopped>
+    requires more { length piece.now ≤ S.lines_left sink.old }
+    requires fine { D.has_failed drain.old ≡ false }
+    ensures done { (tail : List ℕ) → HoldsLine tail pending.old → IsOneLine tail → MatchResult result
+        (λ _. (left : List ℕ) × HoldsLine left pending.new × IsOneLine left
+        × (S.lines_left sink.old + length left ≤ S.lines_left sink.new + length piece.now + length tail)
+        × HasGone S.does (sink.old, kernel.old) (tail ++ piece.now) left (D.contents drain.old) (D.contents drain.new) (sink.new, kernel.new))
+        (λ _. HasStopped S.does (sink.old, kernel.old) (tail ++ piece.now) (D.contents drain.old) (D.contents drain.new) (sink.new, kernel.new)) }
+    ensures failed { D.has_failed drain.new ≡ is_err result }
+{
+    let mut rest = begin_piece(piece, pending, kernel, sink, drain, notes)?;
+    'lines: while let Some((end, after)) = split_line(rest) {
+        end_line(end, pending, kernel, sink, drain, notes)?;
+        let returned = end.ends_with(b"\r");
+        rest = do_quick_lines(after, returned, kernel, sink, drain, notes)?;
+    }
+    pending.add(rest);
+    Ok(())
+}
+
+/// Does the lines at the front of a piece that are read the short way, where no beginning of a line is pending, and returns the rest
+/// of the piece.
+fn begin_piece<'a, S: Sink, D: Drain, N: Notes>(
+    piece: &'a [u8],
+    pending: &Pending,
+    kernel: &mut Kernel,
+    sink: &mut S,
+    drain: &mut D,
+    notes: &mut N,
+) -> Result<&'a [u8], Stopped>
+    requires more { length piece.now ≤ S.lines_left sink.old }
+    requires fine { D.has_failed drain.old ≡ false }
+    ensures done { (tail : List ℕ) → HoldsLine tail pending.now → MatchResult result
+        (λ rest. HasGone S.does (sink.old, kernel.old) (tail ++ piece.now) (tail ++ rest.now) (D.contents drain.old) (D.contents drain.new) (sink.new, kernel.new))
+        (λ _. HasStopped S.does (sink.old, kernel.old) (tail ++ piece.now) (D.contents drain.old) (D.contents drain.new) (sink.new, kernel.new)) }
+    ensures left { IfOk result (λ rest. S.lines_left sink.old + length rest.now ≤ S.lines_left sink.new + length piece.now) }
+    ensures failed { D.has_failed drain.new ≡ is_err result }
+{
+    if pending.is_empty() {
+        do_quick_lines(piece, false, kernel, sink, drain, notes)
+    } else {
+        Ok(piece)
+    }
+}
+
+/// Does the lines at the front of a piece as long as they are read the short way, and returns the rest of the piece. No beginning of a
+/// line may be pending.
+///
+/// Lines that end in CR LF are tried only behind one that did, as `returned` says.
+#[inline(always)]
+fn do_quick_lines<'a, S: Sink, D: Drain, N: Notes>(
+    piece: &'a [u8],
+    returned: bool,
+    kernel: &mut Kernel,
+    sink: &mut S,
+    drain: &mut D,
+    notes: &mut N,
+) -> Result<&'a [u8], Stopped>
+    requires more { length piece.now ≤ S.lines_left sink.old }
+    requires fine { D.has_failed drain.old ≡ false }
+    ensures done { MatchResult result
+        (λ rest. HasGone S.does (sink.old, kernel.old) piece.now rest.now (D.contents drain.old) (D.contents drain.new) (sink.new, kernel.new))
+        (λ _. HasStopped S.does (sink.old, kernel.old) piece.now (D.contents drain.old) (D.contents drain.new) (sink.new, kernel.new)) }
+    ensures left { IfOk result (λ rest. S.lines_left sink.old + length rest.now ≤ S.lines_left sink.new + length piece.now) }
+    ensures failed { D.has_failed drain.new ≡ is_err result }
+{
+    if !may_begin_request(piece) {
+        return Ok(piece);
+    }
+    let rest = sink.quick_lines(piece, LF, kernel, drain, notes)?;
+    if !returned {
+        return Ok(rest);
+    }
+    sink.quick_lines(rest, CR_LF, kernel, drain, notes)
+}
+
+/// Does the line that ends with these bytes. The next line begins.
+fn end_line<S: Sink, D: Drain, N: Notes>(
+    bytes: &[u8],
+    pending: &mut Pending,
+    kernel: &mut Kernel,
+    sink: &mut S,
+    drain: &mut D,
+    notes: &mut N,
+) -> Result<(), Stopped>
+    requires more { 0 < S.lines_left sink.old }
+    requires fine { D.has_failed drain.old ≡ false }
+    ensures done { (tail : List ℕ) → HoldsLine tail pending.old
+        → HasDone S.does (sink.old, kernel.old) (tail ++ bytes.now) (D.contents drain.old) (D.contents drain.new) result (sink.new, kernel.new) }
+    ensures cleared { (tail : List ℕ) → HoldsLine tail pending.old → HoldsLine [] pending.new }
+    ensures left { S.lines_left sink.old ≤ S.lines_left sink.new + 1 }
+    ensures failed { D.has_failed drain.new ≡ is_err result }
+{
+    if pending.is_empty() {
+        return answer(pending.end_with(bytes), bytes, kernel, sink, drain, notes);
+    }
+    pending.add(bytes);
+    let front = pending.held.as_slice();
+    let done = answer(pending.reading(), front, kernel, sink, drain, notes);
+    pending.clear();
+    done
+}

@@ -1,0 +1,101 @@
+//! What becomes of the lines of a trace.
+
+ghost use Rattle.std.specs.Prelude.{◌≡◌, ℕ, ◌+◌, ◌<◌, ◌≤◌, false, List, Option, Some, None, Ok, Err, length, is_err, IfOk, MatchResult};
+ghost use Rattle.words_core.specs.Grammar.{reading_of};
+ghost use Rattle.words_core.specs.Requests.{reply_to, HasFewBytes};
+ghost use Rattle.kernel_core.specs.Content.{KernelContent};
+ghost use Rattle.kernel_core.specs.Steps.{Steps};
+ghost use Rattle.replay_core.specs.Doing.{HasDone, HasGone, HasStopped};
+
+use crate::notes::Notes;
+use ends::{Drain, Stopped};
+use kernel_core::Kernel;
+use words_core::{Addressee, Answer, Event, LineFault, Reply};
+
+/// What becomes of the lines of a trace: of each with its answer, one after the other.
+pub trait Sink {
+    // What a line does: from one state, with the kernel's, to the next. Of what comes of it the first bytes were taken, and the
+    // others were not.
+    ghost does: { Self × KernelContent → List ℕ → List ℕ → List ℕ → Self × KernelContent → Type 0 };
+
+    // So many lines more can be done at least.
+    ghost lines_left: { Self → ℕ };
+
+    /// How many lines have been done, if they are counted.
+    fn lines(&self) -> u64;
+
+    /// Runs and does the lines at the front of a piece as long as they are read the short way, and returns the rest of the piece. The
+    /// lines end in LF, or in CR LF if `returns`.
+    fn quick_lines<'a, D: Drain, N: Notes>(
+        &mut self,
+        piece: &'a [u8],
+        returns: bool,
+        kernel: &mut Kernel,
+        drain: &mut D,
+        notes: &mut N,
+    ) -> Result<&'a [u8], Stopped>
+        requires more { length piece.now ≤ lines_left self.old }
+        requires fine { D.has_failed drain.old ≡ false }
+        ensures done { MatchResult result
+            (λ rest. HasGone does (self.old, kernel.old) piece.now rest.now (D.contents drain.old) (D.contents drain.new) (self.new, kernel.new))
+            (λ _. HasStopped does (self.old, kernel.old) piece.now (D.contents drain.old) (D.contents drain.new) (self.new, kernel.new)) }
+        ensures left { IfOk result (λ rest. lines_left self.old + length rest.now ≤ lines_left self.new + length piece.now) }
+        ensures failed { D.has_failed drain.new ≡ is_err result };
+
+    /// Does a line whose event was answered so.
+    fn answered<D: Drain, N: Notes>(
+        &mut self,
+        line: &[u8],
+        event: &Event,
+        addressee: Addressee,
+        answer: Answer<'_>,
+        drain: &mut D,
+        notes: &mut N,
+    ) -> Result<(), Stopped>
+        requires few { HasFewBytes answer }
+        requires more { 0 < lines_left self.old }
+        requires fine { D.has_failed drain.old ≡ false }
+        ensures done { (before : KernelContent) (after : KernelContent) → reading_of line.now ≡ Ok (Some event.now)
+            → Steps before event.now after (reply_to addressee answer.entry)
+            → HasDone does (self.old, before) line.now (D.contents drain.old) (D.contents drain.new) result (self.new, after) }
+        ensures left { lines_left self.old ≤ lines_left self.new + 1 }
+        ensures failed { D.has_failed drain.new ≡ is_err result };
+
+    /// Does a line whose event has a reply of several lines.
+    fn replied<D: Drain, N: Notes>(
+        &mut self,
+        line: &[u8],
+        event: &Event,
+        reply: &Reply,
+        drain: &mut D,
+        notes: &mut N,
+    ) -> Result<(), Stopped>
+        requires more { 0 < lines_left self.old }
+        requires fine { D.has_failed drain.old ≡ false }
+        ensures done { (before : KernelContent) (after : KernelContent) → reading_of line.now ≡ Ok (Some event.now)
+            → Steps before event.now after reply.now
+            → HasDone does (self.old, before) line.now (D.contents drain.old) (D.contents drain.new) result (self.new, after) }
+        ensures left { lines_left self.old ≤ lines_left self.new + 1 }
+        ensures failed { D.has_failed drain.new ≡ is_err result };
+
+    /// Does a faulty line.
+    fn faulty<D: Drain, N: Notes>(
+        &mut self,
+        fault: LineFault,
+        drain: &mut D,
+        notes: &mut N,
+    ) -> Result<(), Stopped>
+        requires more { 0 < lines_left self.old }
+        requires fine { D.has_failed drain.old ≡ false }
+        ensures done { (line : List ℕ) (kernel : KernelContent) → reading_of line ≡ Err fault
+            → HasDone does (self.old, kernel) line (D.contents drain.old) (D.contents drain.new) result (self.new, kernel) }
+        ensures left { lines_left self.old ≤ lines_left self.new + 1 }
+        ensures failed { D.has_failed drain.new ≡ is_err result };
+
+    /// Does a line that is blank, or a comment.
+    fn blank(&mut self)
+        requires more { 0 < lines_left self.old }
+        ensures done { (line : List ℕ) (kernel : KernelContent) (known : Option (List ℕ)) → reading_of line ≡ Ok None
+            → HasDone does (self.old, kernel) line known known (Ok tt) (self.new, kernel) }
+        ensures left { lines_left self.old ≤ lines_left self.new + 1 };
+}
