@@ -1,6 +1,5 @@
 pub mod Alone
 pub mod Kept
 pub mod Lines
-pub mod QuickLines
 pub mod Superblocks
 pub mod Witnesses

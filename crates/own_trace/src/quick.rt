@@ -1,80 +1,46 @@
 //! Requests of tenants, read the short way: the lines that make up a load.
 
-ghost use Rattle.std.specs.Prelude.{◌≡◌, ℕ, ◌^◌, ◌<◌, ◌≤◌, false, List, ◌∷◌, [], ◌++◌, Option, Some, Ok, length, is_err, IfOk, MatchResult};
+ghost use Rattle.std.specs.Prelude.{◌≡◌, ◌≤◌, false, Some, Ok, length, is_err, IfOk, MatchResult};
 ghost use Rattle.words_core.specs.Grammar.{reading_of};
 ghost use Rattle.words_core.specs.Requests.{command_of, IsAskable};
 ghost use Rattle.words_core.specs.declared.event.Event.TheVariants.{Tenant};
-ghost use Rattle.kernel_core.specs.Content.{KernelContent, SameSizes};
+ghost use Rattle.kernel_core.specs.Content.{SameSizes};
 ghost use Rattle.kernel_core.specs.Shows.{Shows};
 ghost use Rattle.world_core.specs.Limits.{cache_limit};
 ghost use Rattle.world_core.specs.World.{World, history, world_after};
 ghost use Rattle.world_core.specs.OwnList.{own_list};
 ghost use Rattle.world_core.specs.Output.{event_in};
-ghost use Rattle.replay_core.specs.declared.pending.Pending.{Pending};
-ghost use Rattle.replay_core.specs.Pending.{HoldsNothing};
+ghost use Rattle.replay_core.specs.Doing.{HasDone, HasGone, HasStopped};
+ghost use Rattle.own_trace.specs.declared.keeping.OwnLines.{OwnLines};
 ghost use Rattle.own_trace.specs.Kept.{has_entry};
-ghost use Rattle.own_trace.specs.Keeping.{HasKept, StandsOwn, HasStoppedOwn};
+ghost use Rattle.own_trace.specs.Keeping.{keeps};
 
-use crate::keeping::push_all;
+use crate::keeping::push_line;
 use kernel_core::Kernel;
 use model_core::limits::MOST_BYTES;
-use quick_core::{CR_LF, LF, may_begin_request, read_ended_request};
+use quick_core::read_ended_request;
 use replay_core::{Drain, Stopped};
 use words_core::Request;
 
 /// Runs the lines at the front of a piece as long as they are read the short way, pushes the tenant's own, and returns the rest of the
-/// piece. No beginning of a line may be pending.
-///
-/// Lines that end in CR LF are tried only behind one that did, as `returned` says.
-#[inline(always)]
-pub(crate) fn keep_quick_lines<'a, D: Drain>(
-    piece: &'a [u8],
-    returned: bool,
-    kernel: &mut Kernel,
-    drain: &mut D,
-    tenant: u8,
-) -> Result<&'a [u8], Stopped>
-    requires fits { length piece.now < 2 ^ 64 }
-    requires fine { D.has_failed drain.old ≡ false }
-    ensures kept { (before : KernelContent) (given : List ℕ) (start : Option (List ℕ)) (pending : Pending)
-        → HoldsNothing pending → StandsOwn tenant before kernel.old given piece.now start (D.contents drain.old) pending
-        → MatchResult result
-        (λ rest. StandsOwn tenant before kernel.new given rest.now start (D.contents drain.new) pending)
-        (λ _. HasStoppedOwn tenant before given start (D.contents drain.new)) }
-    ensures left { IfOk result (λ rest. length rest.now ≤ length piece.now) }
-    ensures failed { D.has_failed drain.new ≡ is_err result }
-{
-    if !may_begin_request(piece) {
-        return Ok(piece);
-    }
-    let rest = keep_ended_lines::<LF, D>(piece, kernel, drain, tenant)?;
-    if !returned {
-        return Ok(rest);
-    }
-    keep_ended_lines::<CR_LF, D>(rest, kernel, drain, tenant)
-}
-
-/// [`keep_quick_lines`] of lines that end in LF, or in CR LF if `RETURNS`.
-fn keep_ended_lines<'a, const RETURNS: bool, D: Drain>(
+/// piece. The lines end in LF, or in CR LF if `RETURNS`.
+pub(crate) fn keep_ended_lines<'a, const RETURNS: bool, D: Drain>(
     piece: &'a [u8],
     kernel: &mut Kernel,
     drain: &mut D,
     tenant: u8,
 ) -> Result<&'a [u8], Stopped>
-    requires fits { length piece.now < 2 ^ 64 }
-    requires fine { D.has_failed drain.old ≡ false }
-    ensures kept { (before : KernelContent) (given : List ℕ) (start : Option (List ℕ)) (pending : Pending)
-        → HoldsNothing pending → StandsOwn tenant before kernel.old given piece.now start (D.contents drain.old) pending
-        → MatchResult result
-        (λ rest. StandsOwn tenant before kernel.new given rest.now start (D.contents drain.new) pending)
-        (λ _. HasStoppedOwn tenant before given start (D.contents drain.new)) }
+    requires { D.has_failed drain.old ≡ false }
+    ensures done { (own : OwnLines) → own.tenant ≡ tenant → MatchResult result
+        (λ rest. HasGone keeps (own, kernel.old) piece.now rest.now (D.contents drain.old) (D.contents drain.new) (own, kernel.new))
+        (λ _. HasStopped keeps (own, kernel.old) piece.now (D.contents drain.old) (D.contents drain.new) (own, kernel.new)) }
     ensures left { IfOk result (λ rest. length rest.now ≤ length piece.now) }
     ensures failed { D.has_failed drain.new ≡ is_err result }
 {
     // The bytes of a write: one buffer for all lines.
-    let mut room = [0; MOST_BYTES];
+    let mut bytes = [0; MOST_BYTES];
     let mut rest = piece;
-    'lines: while let Some(line) = read_ended_request::<RETURNS>(rest, &mut room) {
+    'lines: while let Some(line) = read_ended_request::<RETURNS>(rest, &mut bytes) {
         let len = line.len;
         keep_request::<RETURNS, D>(
             &rest[..len - 1],
@@ -103,15 +69,14 @@ fn keep_request<const RETURNS: bool, D: Drain>(
 ) -> Result<(), Stopped>
     requires askable { IsAskable request }
     requires fine { D.has_failed drain.old ≡ false }
-    ensures kept { reading_of line.now ≡ Ok (Some (Tenant asked (command_of request.entry)))
-        → HasKept tenant line.now kernel.old kernel.new (D.contents drain.old) (D.contents drain.new) (D.has_failed drain.new) result }
+    ensures done { (own : OwnLines) → own.tenant ≡ tenant → reading_of line.now ≡ Ok (Some (Tenant asked (command_of request.entry)))
+        → HasDone keeps (own, kernel.old) line.now (D.contents drain.old) (D.contents drain.new) result (own, kernel.new) }
     ensures failed { D.has_failed drain.new ≡ is_err result }
 {
     if !run_request::<RETURNS>(asked, request, kernel, tenant) {
         return Ok(());
     }
-    push_all(line, drain)?;
-    push_all(b"\n", drain)
+    push_line(line, drain)
 }
 
 /// Runs a request, and returns whether it is in the tenant's own list. It is if the tenant made it, with any answer.
