@@ -5,14 +5,14 @@ use Rattle.world_core.specs.Output.{ended_lines}
 use Rattle.replay_core.specs.declared.engine.EndFailed.{EndFailed}
 use Rattle.replay_core.specs.declared.engine.EndFailed.TheVariants as Of
 use Rattle.replay_core.specs.Runs.{HasCome}
-use Rattle.replay_core.specs.Doing.{HaveRun, IsCut}
+use Rattle.replay_core.specs.Doing.{HaveRun, StopsWithin}
 
 -- At Ok all lines were done. If the feed failed, those that ended in LF; if the drain did, those before one that was cut short.
-abbrev pub EndsAs : {S : Type 0} → (S → List ℕ → List ℕ → List ℕ → S → Type 0) → Bool → S → List ℕ → List ℕ → Result (Unit {0}) EndFailed → S → Type 0
-EndsAs does ended s given taken (Ok done) s' = HaveRun does s (lines_of_trace given) taken s'
-EndsAs does ended s given taken (Err Of.Feed) s' = HaveRun does s (ended_lines given) taken s'
-EndsAs does ended s given taken (Err Of.Drain) s' =
-    (done : List (List ℕ)) × (line : List ℕ) × HasCome ended given (done ++ line ∷ []) × IsCut does s done line taken s'
+abbrev pub EndsRun : {S : Type 0} → (S → List ℕ → List ℕ → List ℕ → S → Type 0) → Bool → S → List ℕ → List ℕ → Result (Unit {0}) EndFailed → S → Type 0
+EndsRun does ended s given taken (Ok done) s' = HaveRun does s (lines_of_trace given) taken s'
+EndsRun does ended s given taken (Err Of.Feed) s' = HaveRun does s (ended_lines given) taken s'
+EndsRun does ended s given taken (Err Of.Drain) s' =
+    (done : List (List ℕ)) × (line : List ℕ) × HasCome ended given (done ++ line ∷ []) × StopsWithin does s done line taken s'
 
 -- the answer is Ok only where the feed has ended
 abbrev pub IsRunToEnd : Result (Unit {0}) EndFailed → Bool → Type 0
@@ -20,7 +20,7 @@ IsRunToEnd (Ok done) ended = ended ≡ true
 IsRunToEnd (Err error) ended = Unit {0}
 
 -- the end that failed is named, and none where neither did
-abbrev pub NamesEnd : Result (Unit {0}) EndFailed → Bool → Bool → Type 0
-NamesEnd (Ok done) feed drain = (feed ≡ false) × (drain ≡ false)
-NamesEnd (Err Of.Feed) feed drain = (feed ≡ true) × (drain ≡ false)
-NamesEnd (Err Of.Drain) feed drain = (feed ≡ false) × (drain ≡ true)
+abbrev pub SaysEnd : Result (Unit {0}) EndFailed → Bool → Bool → Type 0
+SaysEnd (Ok done) feed drain = (feed ≡ false) × (drain ≡ false)
+SaysEnd (Err Of.Feed) feed drain = (feed ≡ true) × (drain ≡ false)
+SaysEnd (Err Of.Drain) feed drain = (feed ≡ false) × (drain ≡ true)

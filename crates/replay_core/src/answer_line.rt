@@ -7,7 +7,7 @@ ghost use Rattle.words_core.specs.declared.reply.Addressee.TheVariants as Addres
 ghost use Rattle.world_core.specs.Output.{is_shown};
 ghost use Rattle.replay_core.specs.Doing.{HasDone, HasGone};
 ghost use Rattle.replay_core.specs.Front.{HasAnsweredLine};
-ghost use Rattle.replay_core.specs.Standing.{IsReady, Answers, answers};
+ghost use Rattle.replay_core.specs.Standing.{IsReady, AnswersReading, answers};
 
 use crate::notes::Notes;
 use crate::run::Run;
@@ -104,7 +104,7 @@ impl Run {
         requires shown { is_shown self.old.replies.only (Addressee.Tenant tenant) ≡ true }
         requires ready { IsReady (D.has_failed drain.old) self.old 1 }
         requires space { D.is_roomy drain.old ≡ true }
-        ensures done { HasDone Answers (self.old, kernel.old) (Ok (Some (Tenant tenant (command_of request.entry))))
+        ensures done { HasDone AnswersReading (self.old, kernel.old) (Ok (Some (Tenant tenant (command_of request.entry))))
             (D.contents drain.old) (D.contents drain.new) (Ok tt) (self.new, kernel.new) }
         ensures failed { D.has_failed drain.new ≡ false }
     {
@@ -184,7 +184,7 @@ impl Run {
         requires shown { is_shown self.old.replies.only (Addressee.Tenant tenant) ≡ true }
         requires ready { IsReady (D.has_failed drain.old) self.old 1 }
         requires space { D.is_roomy drain.old ≡ true }
-        ensures done { HasDone Answers (self.old, kernel.old) (Ok (Some (Tenant tenant (command_of request.entry))))
+        ensures done { HasDone AnswersReading (self.old, kernel.old) (Ok (Some (Tenant tenant (command_of request.entry))))
             (D.contents drain.old) (D.contents drain.new) (Ok tt) (self.new, kernel.new) }
         ensures failed { D.has_failed drain.new ≡ false }
     {
@@ -211,7 +211,7 @@ impl Run {
         requires shown { is_shown self.old.replies.only (Addressee.Tenant tenant) ≡ true }
         requires ready { IsReady (D.has_failed drain.old) self.old 1 }
         requires space { D.is_roomy drain.old ≡ true }
-        ensures done { HasDone Answers (self.old, kernel.old) (Ok (Some (Tenant tenant (command_of request.entry))))
+        ensures done { HasDone AnswersReading (self.old, kernel.old) (Ok (Some (Tenant tenant (command_of request.entry))))
             (D.contents drain.old) (D.contents drain.new) (Ok tt) (self.new, kernel.new) }
         ensures failed { D.has_failed drain.new ≡ false }
     {

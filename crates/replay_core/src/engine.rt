@@ -5,7 +5,7 @@ ghost use Rattle.std.specs.Io.KnownBytes.{Consumes, Appends, IsAtEnd};
 ghost use Rattle.replay_core.specs.Pending.{HoldsLine};
 ghost use Rattle.replay_core.specs.Standing.{IsOneLine};
 ghost use Rattle.replay_core.specs.Doing.{HasDone, HasGone, HasStopped};
-ghost use Rattle.replay_core.specs.Ending.{EndsAs, IsRunToEnd, NamesEnd};
+ghost use Rattle.replay_core.specs.Ending.{EndsRun, IsRunToEnd, SaysEnd};
 
 use crate::answering::answer;
 use crate::notes::Notes;
@@ -46,12 +46,12 @@ pub fn do_lines<S: Sink, F: Feed, D: Drain, N: Notes>(
     ensures ran { (given : List ℕ) × (taken : List ℕ)
         × Consumes (F.remaining feed.old) (F.remaining feed.new) given
         × Appends (D.contents drain.old) (D.contents drain.new) taken
-        × EndsAs S.does (F.has_ended feed.new) (sink.old, kernel.old) given taken result (sink.new, kernel.new)
+        × EndsRun S.does (F.has_ended feed.new) (sink.old, kernel.old) given taken result (sink.new, kernel.new)
         × (F.room_left feed.new + length given ≡ F.room_left feed.old) }
     ensures ended { IsRunToEnd result (F.has_ended feed.new) }
     // Then what was given is all that it had.
     ensures whole { F.has_ended feed.new ≡ true → IsAtEnd (F.remaining feed.new) }
-    ensures failed { NamesEnd result (F.has_failed feed.new) (D.has_failed drain.new) }
+    ensures failed { SaysEnd result (F.has_failed feed.new) (D.has_failed drain.new) }
 {
     let mut pending = Pending::new();
     let mut piece = [0; PIECE_BYTES];

@@ -7,7 +7,7 @@ ghost use Rattle.words_core.specs.Grammar.{reading_of};
 ghost use Rattle.words_core.specs.Requests.{command_of, IsAskable};
 ghost use Rattle.words_core.specs.declared.event.Event.TheVariants.{Tenant};
 ghost use Rattle.replay_core.specs.Doing.{HasDone, HasGone, HasStopped};
-ghost use Rattle.replay_core.specs.Standing.{IsReady, Answers, answers};
+ghost use Rattle.replay_core.specs.Standing.{IsReady, AnswersReading, answers};
 
 use crate::notes::Notes;
 use crate::pending::line_end;
@@ -113,7 +113,7 @@ impl Run {
     ) -> Result<(), Stopped>
         requires askable { IsAskable request }
         requires ready { IsReady (D.has_failed drain.old) self.old 1 }
-        ensures done { HasDone Answers (self.old, kernel.old) (Ok (Some (Tenant tenant (command_of request.entry))))
+        ensures done { HasDone AnswersReading (self.old, kernel.old) (Ok (Some (Tenant tenant (command_of request.entry))))
             (D.contents drain.old) (D.contents drain.new) result (self.new, kernel.new) }
         ensures failed { D.has_failed drain.new ≡ is_err result }
     {
