@@ -1,0 +1,128 @@
+/* A small partitioning kernel for x86-64 whose memory is partmem's.
+ *
+ * Each partition is a tenant. Its page blocks are mapped in user mode, on page tables of its own. Its threads and endpoints are
+ * objects of two caches of the tenant; they belong to the kernel and are never mapped.
+ *
+ * The duties of partmem.h, and the functions that keep them:
+ *
+ *      1 Machine         set_up_memory: the one machine is a static variable that only the library uses
+ *      2 Arguments       store_in_object: bytes are copied from the kernel's stack; no argument lies in lent bytes
+ *      3 Memory          set_up_memory: RAM and tables are two regions that nothing else uses
+ *      4 Bounds          store_in_object: a store ends where the object ends
+ *      5 Endings         move_slot, lent_object: after a move the blocks are mapped again; no address of an object is kept
+ *      6 Flows           say, fault: a partition learns its own results and places, and no address
+ *      7 Users           lent_object, drop_object: users name endpoints by calls of the kernel, and never a thread's object
+ *      8 Threads         set_up_gates: interrupts are off in the kernel, so one call runs at a time
+ *      9 Ring 0          save_vectors, load_vectors, guard_stack, enter_kernel: vector registers, the stack, the flags
+ *     10 After the end   end_memory: clears the RAM and the tables
+ *     11 Mapping         map_block: maps what partmem_alloc or partmem_lend_block returned, and nothing else
+ *     12 Unmapping       unmap: before each free, move and reset; there is one processor, and no device uses the RAM
+ *     13 Reused numbers  end_partition: no thread and no handle outlives a reset
+ *     14 Booting         set_up_memory: the one boot
+ */
+#ifndef KERNEL_H
+#define KERNEL_H
+
+#include <stdbool.h>
+#include <stddef.h>
+#include <stdint.h>
+
+#include "partmem.h"
+#include "sizes.h"
+
+enum {
+    FRAMES = SUPERBLOCKS << ORDER, /* of a tenant, at most */
+    PARTITIONS = 2,
+    RESERVE = PARTITIONS, /* a tenant without a program, for superblocks that the administrator keeps */
+    THREADS = 4,          /* of a partition, at most */
+};
+
+/* The RAM of partitions. */
+#define RAM ((uint8_t *)0x1000000)
+#define RAM_BYTES PARTMEM_RAM_BYTES(ORDER, SUPERBLOCKS)
+
+/* What a trap leaves on the kernel's stack (boot.S). */
+struct registers {
+    uint64_t gs, fs, es, ds, r15, r14, r13, r12, r11, r10, r9, r8, rbp, rdi, rsi, rdx, rcx, rbx, rax;
+    uint64_t vector, error, rip, cs, rflags, rsp, ss;
+};
+
+/* Mistakes that can be planted in the kernel by `fault=NAME` on the boot line, to see that they are detected. */
+enum planted { NO_FAULT, NO_WRITE_OUT, NO_FLUSH, NO_REMAP, NO_VECTORS, NO_SELECTORS, NO_FLAGS, SLAB_MAPPED, FREED_FIRST,
+               OTHER_ADDRESS };
+
+/* machine.c: the processor and the timer */
+void set_up_machine(unsigned ticks_per_second);
+void end_of_tick(void);
+uint64_t fault_address(void);
+_Noreturn void stop(int status);
+_Noreturn void panic(const char *why);
+
+static inline void out(uint16_t port, uint8_t value) { __asm__ volatile("outb %0, %1" : : "a"(value), "Nd"(port)); }
+
+/* Returns the time stamp. QEMU counts one for each instruction with `-icount shift=0`. */
+static inline uint64_t stamp(void)
+{
+    uint32_t low, high;
+    __asm__ volatile("rdtsc" : "=a"(low), "=d"(high));
+    return (uint64_t)high << 32 | low;
+}
+
+/* text.c: what the kernel prints, and memory functions for the compiler and the library */
+extern uint64_t printing; /* the instructions of print since it was last set to 0 */
+__attribute__((format(printf, 1, 2))) void print(const char *format, ...); /* %s, %u and %lu */
+void flush(void);
+void *memset(void *to, int byte, size_t bytes);
+void *memcpy(void *restrict to, const void *restrict from, size_t bytes);
+void *memmove(void *to, const void *from, size_t bytes);
+
+/* pages.c: page tables. Place p of a tenant lies at USER_PLACES + p; the programs of all partitions lie at USER_CODE. */
+#define USER_PLACES 0x8000000000ul
+#define USER_CODE 0x10000000000ul
+void set_up_pages(void);
+void map(unsigned t, uint32_t place, void *at, uint32_t bytes);
+void unmap(unsigned t, uint32_t place, uint32_t bytes);
+void enter_space(unsigned t);
+const char *program_text(uint64_t address);
+uint64_t stack_used(void);
+
+/* memory.c: the calls of partmem, each logged as the line of a trace and its reply */
+extern enum planted planted;
+void set_up_memory(void);
+void end_memory(void);
+void must(partmem_status status);
+partmem_status alloc_block(unsigned t, uint32_t order, uint32_t *frame);
+partmem_status free_block(unsigned t, uint32_t frame);
+void make_cache(unsigned t, uint32_t size, uint32_t align);
+partmem_status take_object(unsigned t, uint32_t cache, uint32_t *place);
+partmem_status drop_object(unsigned t, uint32_t cache, uint32_t place);
+const void *lent_object(unsigned t, uint32_t cache, uint32_t place);
+void store_in_object(unsigned t, uint32_t cache, uint32_t place, uint32_t offset, const void *from, uint32_t bytes);
+void reap(unsigned t);
+void report(unsigned t);
+bool grant(unsigned t, partmem_slot *granted);
+bool move_slot(unsigned t, uint32_t slot);
+bool take_back(unsigned t, uint32_t slot);
+void reset(unsigned t);
+bool is_free(uint32_t superblock);
+bool is_owned_by(unsigned t, uint32_t superblock);
+unsigned slots_of(unsigned t);
+uint64_t bytes_not_zero(uint32_t superblock);
+
+/* partition.c: partitions, their threads and endpoints, and system calls */
+enum program { STEADY, QUIET, NOISY };
+extern uint64_t ticks;
+bool is_running(unsigned t);
+uint32_t meeting_of(unsigned t);
+void go_on(unsigned t);
+void start_partition(unsigned t, enum program program, uint64_t argument);
+void end_partition(unsigned t);
+void print_counts(void);
+
+/* admin.c: the administrator, and the words of the boot line that say what it does */
+void read_words(const char *line);
+extern unsigned ticks_per_second, ticks_a_turn;
+void administer_at_start(void);
+void administer(void);
+
+#endif

@@ -1,0 +1,80 @@
+/* Page tables. The kernel's GiB is in all spaces. A tenant's page blocks are in its own space alone. */
+#include "kernel.h"
+
+enum { PRESENT = 1, WRITABLE = 2, USER = 4, TABLES = (FRAMES + 511) / 512 };
+#define NOT_EXECUTABLE (1ull << 63)
+
+typedef uint64_t table[512] __attribute__((aligned(FRAME)));
+
+extern table kernel_pointers, kernel_directory;
+extern uint8_t kernel_guard[], kernel_stack_top[];
+extern const char programs[], programs_bytes[];
+static table roots[PARTITIONS], pointers[PARTITIONS], directories[PARTITIONS], pages[PARTITIONS][TABLES];
+static table code_pointers, code_directory, code_pages, guard_pages;
+static unsigned entered = PARTITIONS; /* whose space is in use; PARTITIONS at boot */
+
+static uint64_t entry_of(const void *at, unsigned rights) { return (uint64_t)at | PRESENT | rights; }
+
+/* Unmaps the page below the kernel's stack: an overflow is a double fault, on a stack of its own (duty 9). Paints the stack, to
+ * see later how much of it was used. */
+static void guard_stack(void)
+{
+    for (volatile uint8_t *at = kernel_guard + FRAME; at < (uint8_t *)__builtin_frame_address(0) - 128; at++) *at = 0xcc;
+    uint64_t guard = (uint64_t)kernel_guard, region = guard >> 21 << 21;
+    for (unsigned i = 0; i < 512; i++) guard_pages[i] = (region + i * FRAME) | PRESENT | WRITABLE;
+    guard_pages[guard / FRAME % 512] = 0;
+    kernel_directory[guard >> 21] = entry_of(guard_pages, WRITABLE);
+}
+
+uint64_t stack_used(void)
+{
+    const uint8_t *at = kernel_guard + FRAME;
+    while (*at == 0xcc) at++;
+    return (uint64_t)(kernel_stack_top - at);
+}
+
+void set_up_pages(void)
+{
+    guard_stack();
+    for (size_t i = 0; i < (size_t)programs_bytes / FRAME; i++) code_pages[i] = entry_of(programs + i * FRAME, USER);
+    code_directory[0] = entry_of(code_pages, USER);
+    code_pointers[0] = entry_of(code_directory, USER);
+    for (unsigned t = 0; t < PARTITIONS; t++) {
+        roots[t][0] = entry_of(kernel_pointers, WRITABLE);
+        roots[t][USER_PLACES >> 39] = entry_of(pointers[t], WRITABLE | USER);
+        roots[t][USER_CODE >> 39] = entry_of(code_pointers, USER);
+        pointers[t][0] = entry_of(directories[t], WRITABLE | USER);
+        for (unsigned i = 0; i < TABLES; i++) directories[t][i] = entry_of(pages[t][i], WRITABLE | USER);
+    }
+}
+
+static uint64_t *page_of(unsigned t, uint32_t place) { return &pages[t][place / FRAME / 512][place / FRAME % 512]; }
+
+void map(unsigned t, uint32_t place, void *at, uint32_t bytes)
+{
+    for (uint32_t b = 0; b < bytes; b += FRAME)
+        *page_of(t, place + b) = entry_of((uint8_t *)at + b, WRITABLE | USER) | NOT_EXECUTABLE;
+}
+
+/* Unmaps a range, and flushes it. A space that is not in use is flushed when it is entered. */
+void unmap(unsigned t, uint32_t place, uint32_t bytes)
+{
+    for (uint32_t b = 0; b < bytes; b += FRAME) {
+        *page_of(t, place + b) = 0;
+        if (planted != NO_FLUSH) __asm__ volatile("invlpg (%0)" : : "r"(USER_PLACES + place + b) : "memory");
+    }
+}
+
+void enter_space(unsigned t)
+{
+    if (t == entered) return;
+    entered = t;
+    __asm__ volatile("mov %0, %%cr3" : : "r"(roots[t]) : "memory");
+}
+
+/* Returns where the kernel reads a text at an address of the programs, or NULL for any other address. */
+const char *program_text(uint64_t address)
+{
+    uint64_t offset = address - USER_CODE;
+    return offset < (uint64_t)programs_bytes ? programs + offset : NULL;
+}

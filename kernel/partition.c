@@ -1,0 +1,345 @@
+/* Partitions: traps, threads and endpoints, system calls, and whose turn it is. */
+#include "calls.h"
+#include "kernel.h"
+
+/* The objects of a partition, in two caches of its own. They hold what its own calls put there and nothing else. */
+struct thread {
+    uint64_t handler;   /* where it continues after a fault; 0: it ends */
+    uint64_t waits_for; /* 1 more than the place of the endpoint that it waits for, or 0 */
+};
+
+struct endpoint {
+    uint64_t count;
+    uint64_t words[7];
+};
+
+enum { THREAD_CACHE, ENDPOINT_CACHE, MOST_COUNTS = 1024 };
+
+/* Registers are saved at times that depend on other partitions. So they lie here, and not in the thread's object. */
+struct context {
+    struct registers registers;
+    uint8_t vectors[512] __attribute__((aligned(16))); /* the x87 and SSE state */
+    bool is_there;
+    uint32_t place; /* of the thread's object */
+};
+
+static struct context contexts[PARTITIONS][THREADS];
+static struct {
+    bool is_running;
+    unsigned thread; /* whose turn it is in the partition: it changes in system calls and faults alone */
+    uint32_t meeting;
+} partitions[PARTITIONS];
+static unsigned current;
+uint64_t ticks;
+
+/* The instructions of each call of partition 0, and those that are not for printing. */
+static struct {
+    const char *name;
+    uint64_t all, quiet;
+} counts[MOST_COUNTS];
+static unsigned count;
+
+extern const uint64_t user_entries[];
+_Noreturn void resume(struct registers *registers);
+
+bool is_running(unsigned t) { return partitions[t].is_running; }
+uint32_t meeting_of(unsigned t) { return partitions[t].meeting; }
+void go_on(unsigned t) { partitions[t].meeting = 0; }
+
+static struct context *turn_of(unsigned t) { return &contexts[t][partitions[t].thread]; }
+
+static void put_in_thread(unsigned t, const struct context *context, uint32_t offset, uint64_t word)
+{
+    store_in_object(t, THREAD_CACHE, context->place, offset, &word, sizeof word);
+}
+
+static const struct thread *thread_of(unsigned t, const struct context *context)
+{
+    const struct thread *thread = lent_object(t, THREAD_CACHE, context->place);
+    if (!thread) panic("a thread has no object");
+    return thread;
+}
+
+/* ---- Duty 9: a user's vector registers, before the first call of the library and after the last -------------------------- */
+
+static void save_vectors(struct context *context)
+{
+    if (planted != NO_VECTORS) __asm__ volatile("fxsave64 %0" : "=m"(context->vectors));
+}
+
+static void load_vectors(const struct context *context)
+{
+    if (planted != NO_VECTORS) __asm__ volatile("fxrstor64 %0" : : "m"(context->vectors));
+}
+
+/* ---- Threads ------------------------------------------------------------------------------------------------------------ */
+
+/* Whether user mode can continue there: iretq to an address that is not canonical is a fault of the kernel. */
+static bool is_of_user(uint64_t address) { return address < 1ul << 47; }
+
+static uint64_t start_thread(unsigned t, uint64_t address, uint64_t stack, uint64_t argument)
+{
+    static const struct thread empty;
+    unsigned number = 0;
+    while (number < THREADS && contexts[t][number].is_there) number++;
+    if (number == THREADS || !is_of_user(address) || !is_of_user(stack)) return REFUSED;
+    struct context *context = &contexts[t][number];
+    *context = (struct context){.registers = {.gs = 0x1b, .fs = 0x1b, .es = 0x1b, .ds = 0x1b, .rdi = argument, .rip = address,
+                                              .cs = 0x23, .rflags = 0x202, .rsp = stack - 8, .ss = 0x1b}};
+    context->vectors[0] = 0x7f, context->vectors[1] = 0x03;   /* the x87 control word */
+    context->vectors[24] = 0x80, context->vectors[25] = 0x1f; /* MXCSR */
+    if (take_object(t, THREAD_CACHE, &context->place) != PARTMEM_DONE) return REFUSED;
+    store_in_object(t, THREAD_CACHE, context->place, 0, &empty, sizeof empty);
+    context->is_there = true;
+    return number;
+}
+
+/* Gives the turn to a thread of the partition that can run. Without one the partition is done. */
+static void choose_thread(unsigned t)
+{
+    for (unsigned i = 1; i <= THREADS; i++) {
+        unsigned number = (partitions[t].thread + i) % THREADS;
+        const struct context *context = &contexts[t][number];
+        if (!context->is_there || thread_of(t, context)->waits_for) continue;
+        partitions[t].thread = number;
+        return;
+    }
+    partitions[t].is_running = false;
+}
+
+static void end_thread(unsigned t)
+{
+    struct context *context = turn_of(t);
+    context->is_there = false;
+    if (drop_object(t, THREAD_CACHE, context->place) != PARTMEM_DONE) panic("a thread has no object");
+    choose_thread(t);
+}
+
+void start_partition(unsigned t, enum program program, uint64_t argument)
+{
+    uint32_t stack;
+    make_cache(t, sizeof(struct thread), 16);
+    make_cache(t, sizeof(struct endpoint), 64);
+    must(alloc_block(t, 0, &stack));
+    start_thread(t, user_entries[program], USER_PLACES + (stack + 1) * (uint64_t)FRAME, argument);
+    partitions[t].is_running = true;
+    partitions[t].thread = 0;
+    partitions[t].meeting = 0;
+}
+
+/* Nothing of the partition is left, so its number can pass to another one (duty 13). */
+void end_partition(unsigned t)
+{
+    memset(contexts[t], 0, sizeof contexts[t]);
+    memset(&partitions[t], 0, sizeof partitions[t]);
+}
+
+/* ---- Endpoints ---------------------------------------------------------------------------------------------------------- */
+
+static uint64_t make_endpoint(unsigned t)
+{
+    static const struct endpoint empty;
+    uint32_t place;
+    if (take_object(t, ENDPOINT_CACHE, &place) != PARTMEM_DONE) return REFUSED;
+    store_in_object(t, ENDPOINT_CACHE, place, 0, &empty, sizeof empty);
+    return place;
+}
+
+static struct context *waiting_for(unsigned t, uint32_t place)
+{
+    for (unsigned i = 0; i < THREADS; i++) {
+        struct context *context = &contexts[t][i];
+        if (context->is_there && thread_of(t, context)->waits_for == place + 1ull) return context;
+    }
+    return NULL;
+}
+
+static uint64_t send(unsigned t, uint32_t place, uint64_t word)
+{
+    const struct endpoint *endpoint = lent_object(t, ENDPOINT_CACHE, place);
+    if (!endpoint || endpoint->count == sizeof endpoint->words / sizeof *endpoint->words) return REFUSED;
+    struct context *receiver = waiting_for(t, place);
+    if (receiver) {
+        receiver->registers.rax = word;
+        put_in_thread(t, receiver, offsetof(struct thread, waits_for), 0);
+        return 0;
+    }
+    uint64_t after = endpoint->count + 1;
+    store_in_object(t, ENDPOINT_CACHE, place, (uint32_t)(after * sizeof word), &word, sizeof word);
+    store_in_object(t, ENDPOINT_CACHE, place, 0, &after, sizeof after);
+    return 0;
+}
+
+/* Waits if the endpoint is empty and another thread of the partition can run. */
+static uint64_t receive(unsigned t, uint32_t place)
+{
+    const struct endpoint *endpoint = lent_object(t, ENDPOINT_CACHE, place);
+    struct endpoint after = {0};
+    if (!endpoint) return REFUSED;
+    if (endpoint->count) {
+        uint64_t word = endpoint->words[0];
+        after.count = endpoint->count - 1;
+        memcpy(after.words, endpoint->words + 1, sizeof after.words - sizeof word);
+        store_in_object(t, ENDPOINT_CACHE, place, 0, &after, sizeof after);
+        return word;
+    }
+    unsigned before = partitions[t].thread;
+    choose_thread(t);
+    if (partitions[t].thread != before) put_in_thread(t, &contexts[t][before], offsetof(struct thread, waits_for), place + 1ull);
+    return REFUSED;
+}
+
+/* A dropped endpoint must have no thread that waits for it. */
+static uint64_t drop(unsigned t, uint32_t place)
+{
+    if (waiting_for(t, place)) return REFUSED;
+    return drop_object(t, ENDPOINT_CACHE, place) == PARTMEM_DONE ? 0 : REFUSED;
+}
+
+/* ---- Traps -------------------------------------------------------------------------------------------------------------- */
+
+/* Prints a text of the program and a number. A partition says what it computed; the kernel adds nothing (duty 6). */
+static void say(unsigned t, uint64_t address, uint64_t number)
+{
+    char text[80];
+    const char *at;
+    unsigned length = 0;
+    while (length < sizeof text - 1 && (at = program_text(address + length)) && *at) text[length++] = *at;
+    text[length] = 0;
+    print("# %u: %s %lu\n", t, text, number);
+}
+
+static uint64_t catch_faults(unsigned t, uint64_t handler)
+{
+    if (!is_of_user(handler)) return REFUSED;
+    put_in_thread(t, turn_of(t), offsetof(struct thread, handler), handler);
+    return 0;
+}
+
+/* A number of a system call, made to fit the numbers of the library. Too large stays too large. */
+static uint32_t fit(uint64_t number) { return number > UINT32_MAX ? UINT32_MAX : (uint32_t)number; }
+
+static uint64_t answer(unsigned t, uint64_t call, uint64_t first, uint64_t second, uint64_t third)
+{
+    uint32_t frame;
+    switch (call) {
+    case CALL_SAY: return say(t, first, second), 0;
+    case CALL_ALLOC: return alloc_block(t, fit(first), &frame) == PARTMEM_DONE ? frame : REFUSED;
+    case CALL_FREE: return free_block(t, fit(first)) == PARTMEM_DONE ? 0 : REFUSED;
+    case CALL_MAKE: return make_endpoint(t);
+    case CALL_SEND: return send(t, fit(first), second);
+    case CALL_RECEIVE: return receive(t, fit(first));
+    case CALL_DROP: return drop(t, fit(first));
+    case CALL_START: return start_thread(t, first, second, third);
+    case CALL_CATCH: return catch_faults(t, first);
+    case CALL_REAP: return reap(t), 0;
+    case CALL_REPORT: return report(t), 0;
+    case CALL_MEET: return partitions[t].meeting = fit(first), 0;
+    case CALL_EXIT: return end_thread(t), 0;
+    default: return REFUSED;
+    }
+}
+
+static void system_call(struct context *context, uint64_t begin)
+{
+    static const char *const names[CALLS + 1] = {"say", "alloc", "free", "make", "send", "receive", "drop", "start", "catch",
+                                                 "reap", "report", "meet", "exit", "unknown"};
+    const struct registers *registers = &context->registers;
+    printing = 0;
+    uint64_t call = registers->rax < CALLS ? registers->rax : CALLS, first = registers->rdi;
+    uint64_t result = answer(current, call, first, registers->rsi, registers->rdx);
+    context->registers.rax = result;
+    if (call == CALL_RECEIVE && turn_of(current) != context) print("# %u: receive waits\n", current);
+    else if (result == REFUSED) print("# %u: %s refused\n", current, names[call]);
+    else if (call != CALL_SAY) print("# %u: %s returns %lu\n", current, names[call], result);
+    if (current || count == MOST_COUNTS) return;
+    uint64_t all = stamp() - begin;
+    counts[count].name = names[call];
+    counts[count].all = all;
+    counts[count++].quiet = all - printing;
+}
+
+/* A fault of a partition is reported, by its place and not by an address, and its thread continues at its handler (duty 6). */
+static void fault(unsigned t, struct context *context)
+{
+    const struct registers *registers = &context->registers;
+    uint64_t at = fault_address(), handler = thread_of(t, context)->handler;
+    const char *what = registers->error & 2 ? "write" : "read";
+    if (registers->vector != 14) print("# %u: fault %lu\n", t, registers->vector);
+    else if (at - USER_PLACES < 1ul << 32) print("# %u: fault 14 %s place %lu\n", t, what, at - USER_PLACES);
+    else print("# %u: fault 14 %s address %lu\n", t, what, at);
+    if (handler) context->registers.rip = handler;
+    else end_thread(t);
+}
+
+/* Chooses the next partition that can run, from the current one on or, at the end of its turn, from the next one on. */
+static void choose_partition(bool is_end_of_turn)
+{
+    for (unsigned i = is_end_of_turn; i <= PARTITIONS; i++) {
+        unsigned t = (current + i) % PARTITIONS;
+        if (!partitions[t].is_running || partitions[t].meeting) continue;
+        current = t;
+        return;
+    }
+    panic("no partition can run");
+}
+
+/* Puts the registers of the partition whose turn it is on the kernel's stack, from where they are loaded. */
+static void switch_to_current(struct registers *registers)
+{
+    const struct registers before = *registers;
+    const struct context *context = turn_of(current);
+    enter_space(current);
+    *registers = context->registers;
+    if (planted == NO_FLAGS) registers->rflags ^= (registers->rflags ^ before.rflags) & 0x244000;
+    if (planted == NO_SELECTORS) registers->gs = before.gs, registers->fs = before.fs, registers->es = before.es;
+    load_vectors(context);
+}
+
+void trap(struct registers *registers);
+void trap(struct registers *registers)
+{
+    uint64_t begin = stamp(), vector = registers->vector;
+    if (!(registers->cs & 3) || vector == 2 || vector == 8 || vector == 18) {
+        print("# kernel: trap %lu at %lu, of address %lu", vector, registers->rip, fault_address());
+        panic("a trap in the kernel");
+    }
+    struct context *context = turn_of(current);
+    save_vectors(context);
+    context->registers = *registers;
+    if (vector == 0x80) {
+        system_call(context, begin);
+    } else if (vector < 32) {
+        fault(current, context);
+    } else {
+        ticks++;
+        end_of_tick();
+    }
+    administer();
+    choose_partition(vector == 32 && ticks % ticks_a_turn == 0);
+    flush();
+    switch_to_current(registers);
+}
+
+void print_counts(void)
+{
+    for (unsigned i = 0; i < count; i++) {
+        print("# count %u %s %lu %lu\n", i, counts[i].name, counts[i].all, counts[i].quiet);
+        flush();
+    }
+}
+
+void kernel_main(const uint32_t *loaded);
+void kernel_main(const uint32_t *loaded)
+{
+    read_words(loaded[0] & 4 ? (const char *)(uint64_t)loaded[4] : "");
+    if (!(loaded[0] & 1) || (loaded[2] + 1024ull) << 10 < (uint64_t)RAM + RAM_BYTES) panic("too little memory");
+    set_up_machine(ticks_per_second);
+    set_up_pages();
+    set_up_memory();
+    administer_at_start();
+    flush();
+    static struct registers registers;
+    switch_to_current(&registers);
+    resume(&registers);
+}

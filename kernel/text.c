@@ -1,0 +1,90 @@
+/* What the kernel prints, and the memory functions that the compiler and the library call. */
+#include <stdarg.h>
+
+#include "kernel.h"
+
+/* Printed text waits here, so that it costs a system call the same at all times. QEMU takes it from port 0xe9. */
+static char waiting[1 << 16];
+static size_t length;
+uint64_t printing;
+
+static void print_char(char c)
+{
+    if (length < sizeof waiting) waiting[length++] = c;
+}
+
+static void print_text(const char *text)
+{
+    while (*text) print_char(*text++);
+}
+
+static void print_number(uint64_t number)
+{
+    char digits[20];
+    int n = 0;
+    do digits[n++] = (char)('0' + number % 10);
+    while (number /= 10);
+    while (n) print_char(digits[--n]);
+}
+
+void print(const char *format, ...)
+{
+    uint64_t begin = stamp();
+    va_list arguments;
+    va_start(arguments, format);
+    for (; *format; format++) {
+        if (*format != '%') {
+            print_char(*format);
+        } else if (*++format == 's') {
+            print_text(va_arg(arguments, const char *));
+        } else if (*format == 'u') {
+            print_number(va_arg(arguments, unsigned));
+        } else {
+            format++;
+            print_number(va_arg(arguments, unsigned long));
+        }
+    }
+    va_end(arguments);
+    printing += stamp() - begin;
+}
+
+void flush(void)
+{
+    const char *from = waiting;
+    __asm__ volatile("rep outsb" : "+S"(from), "+c"(length) : "d"((uint16_t)0xe9) : "memory");
+}
+
+void *memset(void *to, int byte, size_t bytes)
+{
+    void *at = to;
+    size_t words = bytes / 8, rest = bytes % 8;
+    uint64_t word = 0x0101010101010101u * (uint8_t)byte;
+    __asm__ volatile("rep stosq" : "+D"(at), "+c"(words) : "a"(word) : "memory");
+    __asm__ volatile("rep stosb" : "+D"(at), "+c"(rest) : "a"(word) : "memory");
+    return to;
+}
+
+void *memcpy(void *restrict to, const void *restrict from, size_t bytes)
+{
+    void *at = to;
+    size_t words = bytes / 8, rest = bytes % 8;
+    __asm__ volatile("rep movsq" : "+D"(at), "+S"(from), "+c"(words) : : "memory");
+    __asm__ volatile("rep movsb" : "+D"(at), "+S"(from), "+c"(rest) : : "memory");
+    return to;
+}
+
+void *memmove(void *to, const void *from, size_t bytes)
+{
+    if ((uintptr_t)to - (uintptr_t)from >= bytes) return memcpy(to, from, bytes);
+    for (size_t i = bytes; i--;) ((volatile uint8_t *)to)[i] = ((const uint8_t *)from)[i];
+    return to;
+}
+
+/* An unproved library writes here before it stops at a check that failed. */
+long write(int file, const void *text, size_t bytes);
+long write(int file, const void *text, size_t bytes)
+{
+    (void)file;
+    for (size_t i = 0; i < bytes; i++) print_char(((const char *)text)[i]);
+    panic("a check of the library failed");
+}
