@@ -183,7 +183,7 @@ typedef struct partmem_memory {
 
 /* Boots a machine in which no superblock has an owner, in memory that is the library's until partmem_end. Superblock m lies at
  * ram + m * PARTMEM_RAM_BYTES(order, 1). Superblocks that are never granted are never touched. Returns HAS_MACHINE, BAD_CONFIG,
- * BAD_MEMORY, NO_MEMORY if the tables are too small, which cannot happen. */
+ * BAD_MEMORY, and NO_MEMORY only if PARTMEM_TABLE_BYTES says too little, which tests exclude. */
 PARTMEM_CHECKED partmem_status partmem_boot_in(partmem_machine *machine, const partmem_config *config,
                                                const partmem_memory *memory);
 
@@ -206,7 +206,8 @@ typedef struct partmem_slot {
  * POOL_EMPTY. */
 PARTMEM_CHECKED partmem_status partmem_grant(partmem_tenant tenant, partmem_slot *granted);
 
-/* Takes back a slot whose frames are all free, so nothing in it is lent. Returns NO_SLOT, SLOT_BUSY. */
+/* Takes back a slot whose frames are all free, so nothing in it is lent. An empty slab has its frames until partmem_reap.
+ * Returns NO_SLOT, SLOT_BUSY. */
 PARTMEM_CHECKED partmem_status partmem_take_back(partmem_tenant tenant, uint32_t slot);
 
 /* Replaces the superblock of a slot by the first one without an owner, and copies all its bytes. The tenant is not notified;
@@ -235,8 +236,8 @@ void *partmem_superblock_address(const partmem_machine *machine, uint32_t superb
 
 /* ---- Page blocks --------------------------------------------------------------------------------------------------------- */
 
-/* Allocates 2^order frames, and lends them. They have what the tenant left there in page blocks since the grant, and zeroes
- * otherwise. The first lend or write in a superblock since its grant takes as long as to clear that superblock. Returns
+/* Allocates 2^order frames, and lends them. A frame has what the tenant left there in a page block since the grant, and zeroes
+ * if it was in none since then, or in a slab after that. The first lend or write in a superblock since its grant takes as long as to clear that superblock. Returns
  * BAD_ORDER, NO_FRAMES. */
 PARTMEM_CHECKED partmem_status partmem_alloc(partmem_tenant tenant, uint32_t order, partmem_lent *block);
 
@@ -443,22 +444,22 @@ PARTMEM_CHECKED partmem_status partmem_line(partmem_machine *machine, const char
 
 /* ---- DUTIES of the caller, which nothing tests. In brackets: what goes wrong otherwise. -------------------------------------
  *
- *  1. Machine. A partmem_machine starts as zeroes. C never reads, writes, copies or moves it, and drops it only while there is
- *     no machine in it. [Two copies use and free one machine.]
+ *  1. Machine. A partmem_machine starts as zeroes. The caller never reads, writes, copies or moves it, and its memory ends only
+ *     while there is no machine in it. [Two copies use and free one machine.]
  *  2. Arguments. Each pointer leads to a live object of its type, or to as many bytes as its length says. None is NULL, not
  *     even for 0 bytes, and no tenant's machine is. The objects of one call do not overlap, and NONE LIES IN THE MACHINE'S
  *     MEMORY, not even in lent bytes: copy them out first. Only the address for partmem_find_place may be any. [A result is
  *     written into memory that the call is changing, or has just moved away.]
  *  3. Memory. RAM and tables have the sizes of their macros, can be loaded and stored, and do not overlap. From boot to end they
- *     stay where they are, and nobody else touches them: C uses lent bytes alone. aligned_alloc, malloc and free are one
+ *     stay where they are, and nobody else touches them: the caller uses lent bytes alone. aligned_alloc, malloc and free are one
  *     allocator. [Anything.]
  *  4. Bounds. A load or store stays inside the lent bytes. An object ends at its size, not where the next begins. [It hits
  *     another object, or the record of which objects are live.]
  *  5. Endings. Nobody uses lent bytes after the call that ends their lifetime; after a move they are lent again. [A tenant
  *     stores into memory that belongs to another by now.]
  *  6. Flows. What was loaded for one tenant is not stored for another, or shown to it. No address is stored in lent bytes or
- *     shown to a tenant, since the others decide which it is: links are places. [Tenants learn of each other by the caller's
- *     own doing.]
+ *     shown to a tenant: a move changes it, and which it is says what the others did. Links are places. [Tenants learn of each
+ *     other by the caller's own doing. No memory is damaged.]
  *  7. Users. Whoever keeps objects of its own in the caches of a tenant lets the tenant's user neither lend, read, write, give
  *     nor destroy there. [The user changes the caller's own objects.]
  *  8. Threads. One call at a time on a machine: from any thread, under a lock of the caller's. No call from a signal or
