@@ -469,6 +469,7 @@ PARTMEM_CHECKED partmem_status partmem_line(partmem_machine *machine, const char
  *  9. Ring 0. SSE is enabled. A user's xmm registers are saved before the first call and restored after the last. The direction
  *     flag is clear. There are 4096 bytes of stack above a guard page, and no interrupt uses them: the library also uses the 128
  *     bytes below its stack pointer. [Registers leak from tenant to tenant; the stack overflows.]
+ *     libpartmem_kernel.a requires of this only the direction flag and the stack.
  * 10. After the end. Whoever uses the memory after partmem_end, or after a crash, clears it first. [It reads the tenants'
  *     bytes.]
  * 11. Mapping. Page tables map page blocks alone, as partmem_alloc and partmem_lend_block return them. [An object of 4096 bytes
