@@ -9,7 +9,8 @@ static uint64_t state;         /* of the numbers that look random */
 unsigned ticks_per_second, ticks_a_turn;
 
 static uint64_t acted_at;
-static unsigned moves; /* of slots of partition 0 */
+static unsigned moves;        /* of slots of partition 0 */
+static uint64_t longest_move; /* in instructions, without printing */
 
 /* Returns a number below `below`. */
 static unsigned draw(unsigned below)
@@ -103,6 +104,16 @@ static void serve_meeting(void)
     go_on(0);
 }
 
+static void move_0(uint32_t slot)
+{
+    printing = 0;
+    uint64_t begin = stamp();
+    bool is_moved = move_slot(0, slot);
+    uint64_t taken = stamp() - begin - printing;
+    moves += is_moved;
+    if (is_moved && taken > longest_move) longest_move = taken;
+}
+
 /* What partition 0 must not notice. */
 static void act(void)
 {
@@ -118,14 +129,15 @@ static void act(void)
         reset(1);
         start_1();
         break;
-    default: moves += move_slot(0, draw(slots_of(0)));
+    default: move_0(draw(slots_of(0)));
     }
     acted_at = ticks;
 }
 
 static _Noreturn void finish(void)
 {
-    print("# kernel: %u moves of slots of partition 0, %lu ticks, %lu bytes of stack\n", moves, ticks, stack_used());
+    print("# kernel: %u moves of slots of partition 0, of at most %lu instructions\n", moves, longest_move);
+    print("# kernel: %lu ticks, %lu bytes of stack\n", ticks, stack_used());
     print_counts();
     end_memory();
     print("# kernel: done\n");

@@ -68,7 +68,7 @@ task:   .long   0
         .quad   kernel_stack_top, 0, 0, 0
         .quad   fault_stack_top                 /* IST 1: NMI, double fault, machine check */
         .fill   6, 8, 0
-        .long   0, 0x00680000
+        .long   0, 0, 0x00680000                /* no table of ports: user mode can use none */
 
         .section .text
         .align  16

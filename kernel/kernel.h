@@ -69,8 +69,9 @@ static inline uint64_t stamp(void)
 }
 
 /* text.c: what the kernel prints, and memory functions for the compiler and the library */
-extern uint64_t printing; /* the instructions of print since it was last set to 0 */
+extern uint64_t printing; /* the instructions of print and print_bytes since it was last set to 0 */
 __attribute__((format(printf, 1, 2))) void print(const char *format, ...); /* %s, %u and %lu */
+void print_bytes(const void *from, size_t bytes);
 void flush(void);
 void *memset(void *to, int byte, size_t bytes);
 void *memcpy(void *restrict to, const void *restrict from, size_t bytes);

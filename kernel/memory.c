@@ -54,7 +54,7 @@ static bool is_refused(unsigned who, partmem_status status)
 static void map_block(unsigned t, partmem_lent block)
 {
     uint8_t *at = block.at;
-    if (planted == OTHER_ADDRESS) at = RAM + ((at - RAM) ^ SUPERBLOCK);
+    if (planted == OTHER_ADDRESS && t == 0 && block.place) at = RAM + ((at - RAM) ^ SUPERBLOCK); /* but for the first stack */
     map(t, block.place, at, block.bytes);
 }
 
@@ -143,14 +143,13 @@ const void *lent_object(unsigned t, uint32_t cache, uint32_t place) { return par
 /* Copies bytes of the kernel's stack into an object, not beyond its end (duties 2 and 4). */
 void store_in_object(unsigned t, uint32_t cache, uint32_t place, uint32_t offset, const void *from, uint32_t bytes)
 {
-    static char hex[2 * PARTMEM_MOST_BYTES + 1];
     partmem_lent object;
     must(partmem_lend_object(tenant_of(t), cache, place, &object));
     if (bytes > PARTMEM_MOST_BYTES || offset > object.bytes || bytes > object.bytes - offset) panic("a store beyond an object");
     memcpy((uint8_t *)object.at + offset, from, bytes);
-    for (uint32_t i = 0; i < 2 * bytes; i++) hex[i] = "0123456789abcdef"[((const uint8_t *)from)[i / 2] >> (i % 2 ? 0 : 4) & 15];
-    hex[2 * bytes] = 0;
-    print("%u write %u %s\n%u> written %u\n", t, place + offset, hex, t, bytes);
+    print("%u write %u ", t, place + offset);
+    print_bytes(from, bytes);
+    print("\n%u> written %u\n", t, bytes);
 }
 
 void reap(unsigned t)

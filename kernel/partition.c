@@ -199,14 +199,16 @@ static uint64_t drop(unsigned t, uint32_t place)
 /* ---- Traps -------------------------------------------------------------------------------------------------------------- */
 
 /* Prints a text of the program and a number. A partition says what it computed; the kernel adds nothing (duty 6). */
-static void say(unsigned t, uint64_t address, uint64_t number)
+static uint64_t say(unsigned t, uint64_t address, uint64_t number)
 {
     char text[80];
     const char *at;
     unsigned length = 0;
+    if (!program_text(address)) return REFUSED;
     while (length < sizeof text - 1 && (at = program_text(address + length)) && *at) text[length++] = *at;
     text[length] = 0;
     print("# %u: %s %lu\n", t, text, number);
+    return 0;
 }
 
 static uint64_t catch_faults(unsigned t, uint64_t handler)
@@ -223,7 +225,7 @@ static uint64_t answer(unsigned t, uint64_t call, uint64_t first, uint64_t secon
 {
     uint32_t frame;
     switch (call) {
-    case CALL_SAY: return say(t, first, second), 0;
+    case CALL_SAY: return say(t, first, second);
     case CALL_ALLOC: return alloc_block(t, fit(first), &frame) == PARTMEM_DONE ? frame : REFUSED;
     case CALL_FREE: return free_block(t, fit(first)) == PARTMEM_DONE ? 0 : REFUSED;
     case CALL_MAKE: return make_endpoint(t);

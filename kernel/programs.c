@@ -8,10 +8,11 @@
 #define CODE 0x10000000000ull
 enum { WORDS = FRAME / 8, SLOT = 1 << ORDER }; /* the words of a frame, the frames of a slot */
 
+/* A system call with the direction flag set, which the kernel has to clear. */
 static inline uint64_t call(uint64_t number, uint64_t first, uint64_t second, uint64_t third)
 {
     uint64_t result;
-    __asm__ volatile("int $0x80" : "=a"(result) : "a"(number), "D"(first), "S"(second), "d"(third) : "memory");
+    __asm__ volatile("std\n int $0x80\n cld" : "=a"(result) : "a"(number), "D"(first), "S"(second), "d"(third) : "memory");
     return result;
 }
 
@@ -20,17 +21,24 @@ static uint64_t alloc(uint64_t order) { return call(CALL_ALLOC, order, 0, 0); }
 static void free_frame(uint64_t frame) { call(CALL_FREE, frame, 0, 0); }
 static volatile uint64_t *words_of(uint64_t frame) { return (volatile uint64_t *)(PLACES + frame * FRAME); }
 
-/* Loads the byte at an address, or stores one. Returns REFUSED after a fault: `in_vain` is the handler. */
+/* Loads the byte at an address, stores one, or runs what is there. Returns REFUSED after a fault: `in_vain` is the handler. */
 uint64_t load_byte(uint64_t address);
 uint64_t store_byte(uint64_t address);
+uint64_t run_at(uint64_t address);
 uint64_t read_time(uint64_t unused);
-extern const char in_vain[];
+uint64_t read_port(uint64_t unused);
+extern const char in_vain[], new_thread[]; /* new_thread: serve, with the bits of all registers as its second argument */
 __asm__(".text\n"
-        ".globl load_byte, store_byte, read_time, in_vain\n"
+        ".globl load_byte, store_byte, run_at, read_time, read_port, in_vain, new_thread\n"
         "load_byte: movzbl (%rdi), %eax\n ret\n"
         "store_byte: movb $1, (%rdi)\n movl $1, %eax\n ret\n"
+        "run_at: movl $1, %eax\n jmp *%rdi\n"
         "read_time: rdtsc\n ret\n"
-        "in_vain: mov $-1, %rax\n ret\n");
+        "read_port: inb $0x61, %al\n ret\n"
+        "in_vain: mov $-1, %rax\n ret\n"
+        "new_thread: orq %rax, %rsi\n orq %rbx, %rsi\n orq %rcx, %rsi\n orq %rdx, %rsi\n orq %rbp, %rsi\n orq %r8, %rsi\n"
+        " orq %r9, %rsi\n orq %r10, %rsi\n orq %r11, %rsi\n orq %r12, %rsi\n orq %r13, %rsi\n orq %r14, %rsi\n orq %r15, %rsi\n"
+        " jmp serve\n");
 
 static uint64_t word_for(uint64_t seed, uint64_t i) { return seed * 0x9e3779b97f4a7c15u + i; }
 
@@ -55,18 +63,30 @@ static uint64_t words_not_zero(uint64_t frame, uint64_t frames)
 
 /* ---- Registers that another partition could change ----------------------------------------------------------------------- */
 
-/* The x87 and SSE state, as fxsave stores it: word 3 has MXCSR, and words 20 to 51 are the vector registers. */
+/* The x87 and SSE state, as fxsave stores it: word 3 has MXCSR, each second word from 4 on has the bits of an x87 register, and
+ * words 20 to 51 are the vector registers. */
 struct vectors {
     uint64_t words[64];
 } __attribute__((aligned(16)));
+
+static int after_word(int i) { return i < 20 ? i + 2 : i + 1; }
 
 static void load_vectors(uint64_t seed)
 {
     struct vectors state;
     __asm__ volatile("fxsave64 %0" : "=m"(state));
-    for (int i = 20; i < 52; i++) state.words[i] = word_for(seed, (uint64_t)i);
+    for (int i = 4; i < 52; i = after_word(i)) state.words[i] = word_for(seed, (uint64_t)i);
     state.words[3] = (state.words[3] & ~0x6000ull) | (seed & 3) << 13;
     __asm__ volatile("fxrstor64 %0" : : "m"(state));
+}
+
+static uint64_t vectors_not_zero(void)
+{
+    struct vectors state;
+    uint64_t found = 0;
+    __asm__ volatile("fxsave64 %0" : "=m"(state));
+    for (int i = 4; i < 52; i = after_word(i)) found += state.words[i] != 0;
+    return found;
 }
 
 static uint64_t wrong_vectors(uint64_t seed)
@@ -74,7 +94,7 @@ static uint64_t wrong_vectors(uint64_t seed)
     struct vectors state;
     uint64_t wrong = 0;
     __asm__ volatile("fxsave64 %0" : "=m"(state));
-    for (int i = 20; i < 52; i++) wrong += state.words[i] != word_for(seed, (uint64_t)i);
+    for (int i = 4; i < 52; i = after_word(i)) wrong += state.words[i] != word_for(seed, (uint64_t)i);
     return wrong + ((state.words[3] >> 13 & 3) != (seed & 3));
 }
 
@@ -126,6 +146,7 @@ static void use_pages(uint64_t kept)
     fill(kept, 2, 2);
     say("wrong words in pages:", wrong_words(page, 1, 1) + wrong_words(kept, 2, 2));
     say("byte 1 of a page:", load_byte(PLACES + page * FRAME + 1));
+    say("an instruction in a page:", run_at(PLACES + page * FRAME + 8 * (0xc3 - 0x15))); /* the word there begins with c3: ret */
     free_frame(page);
     say("byte 1 after the free:", load_byte(PLACES + page * FRAME + 1));
     say("a store there:", store_byte(PLACES + page * FRAME + 1));
@@ -147,13 +168,18 @@ static void touch_what_is_not_its_own(uint64_t slab)
     say("byte of the first superblock's address:", load_byte(0x1000000));
     say("a store in its program:", store_byte(CODE));
     say("the time:", read_time(0));
+    say("byte of a port:", read_port(0));
+    say("a text of the kernel:", call(CALL_SAY, 0x100000, 0, 0));
+    say("a thread at an address that is none:", call(CALL_START, 1ull << 47, 0, 0));
     call(CALLS, 0, 0, 0);
 }
 
 /* The other thread: returns each word doubled, until it is 0. */
-static void serve(uint64_t endpoints)
+void serve(uint64_t endpoints, uint64_t registers);
+void serve(uint64_t endpoints, uint64_t registers)
 {
     uint64_t from = endpoints >> 32, to = endpoints & UINT32_MAX, word;
+    say("registers not zero in a new thread:", vectors_not_zero() + (registers != 0));
     while ((word = call(CALL_RECEIVE, from, 0, 0)) != 0) call(CALL_SEND, to, 2 * word, 0);
     call(CALL_SEND, to, 0, 0);
     call(CALL_EXIT, 0, 0, 0);
@@ -169,7 +195,7 @@ static void use_endpoints(uint64_t first, uint64_t second)
     call(CALL_SEND, first + 8, 1, 0);
     call(CALL_DROP, first + 8, 0, 0);
     uint64_t stack = alloc(0);
-    call(CALL_START, (uint64_t)serve, PLACES + (stack + 1) * FRAME, first << 32 | second);
+    call(CALL_START, (uint64_t)new_thread, PLACES + (stack + 1) * FRAME, first << 32 | second);
     for (uint64_t i = 4; i-- > 0;) {
         call(CALL_SEND, first, i, 0);
         say("doubled:", call(CALL_RECEIVE, second, 0, 0));
@@ -297,13 +323,24 @@ static void call_any(struct load *load)
         load->made = call(CALL_MAKE, 0, 0, 0);
         call(CALL_SEND, load->made, load->state, 0);
     } else if (what == 6) {
+        uint64_t of_partition_0 = 4 * FRAME + (which & 1) * 64; /* if it is one of this partition, too, nothing is lost */
         call(CALL_DROP, load->made, 0, 0);
+        call(CALL_SEND, of_partition_0, load->state, 0);
+        call(CALL_RECEIVE, of_partition_0, 0, 0);
     } else {
         load_byte(PLACES + which);
     }
 }
 
-/* Frees all blocks. Its stack is in frame 0. */
+/* Counts the frames that it can load from. Its stack is in frame 0. */
+static uint64_t frames_reached(void)
+{
+    uint64_t found = 0;
+    for (uint64_t frame = 1; frame < 2 * SLOT; frame++) found += load_byte(PLACES + frame * FRAME) != REFUSED;
+    return found;
+}
+
+/* Frees all blocks but its stack. */
 static void free_all(void)
 {
     for (uint64_t frame = 1; frame < SUPERBLOCKS * SLOT; frame++) free_frame(frame);
@@ -314,6 +351,7 @@ void noisy(uint64_t seed);
 void noisy(uint64_t seed)
 {
     call(CALL_CATCH, (uint64_t)in_vain, 0, 0);
+    say("frames reached at its start:", frames_reached());
     struct load load = {.state = seed | 1u << 30};
     for (uint64_t call_number = 1;; call_number++) {
         call_any(&load);

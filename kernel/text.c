@@ -48,6 +48,15 @@ void print(const char *format, ...)
     printing += stamp() - begin;
 }
 
+/* Prints bytes in hexadecimal. */
+void print_bytes(const void *from, size_t bytes)
+{
+    uint64_t begin = stamp();
+    const uint8_t *at = from;
+    for (size_t i = 0; i < bytes; i++) print_char("0123456789abcdef"[at[i] >> 4]), print_char("0123456789abcdef"[at[i] & 15]);
+    printing += stamp() - begin;
+}
+
 void flush(void)
 {
     const char *from = waiting;
