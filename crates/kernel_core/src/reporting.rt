@@ -62,8 +62,6 @@ impl Kernel {
 
     /// The figures of tenant `t`'s memory: its frames, its blocks of each order, and its caches. They are what [`Kernel::report`]
     /// replies, in half of a reply's bytes.
-    #[cold]
-    #[inline(never)]
     pub fn figures(&self, t: u8) -> Report
         requires { t < self.now.tenants }
         ensures machine { (m : Machine) → ShowsMachine self.now t m → result ≡ figures_of self.now.order m }

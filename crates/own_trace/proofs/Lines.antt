@@ -14,7 +14,7 @@ use Rattle.kernel_core.specs.Shows.{Shows}
 use Rattle.kernel_core.specs.Steps.{Steps}
 use Rattle.ends.specs.declared.feed.Stopped.{Stopped}
 use Rattle.ends.proofs.MoveLemmas.{appends_nothing}
-use Rattle.replay_core.specs.Doing.{HaveRun, StopsWithin, HasDone}
+use Rattle.replay_core.specs.Doing.{HaveRun, IsCutOff, HasDone}
 use Rattle.replay_core.specs.Pushes.{HasPushed}
 use Rattle.replay_core.specs.Runs.{StandsAfter}
 use Rattle.replay_core.proofs.DoingLemmas.{run_keeps}
@@ -117,7 +117,7 @@ are_kept own before lines taken s ran =
     (refl, record { sizes = same_sizes before; shows = λ w shows. shows }, λ w shows. refl) ran
 
 -- of a line that was cut short a beginning is kept
-pub begin_kept : (own : OwnLines) (before : KernelContent) (done : List (List ℕ)) (line taken : List ℕ) (s : OwnLines × KernelContent) → StopsWithin keeps (own, before) done line taken s
+pub begin_kept : (own : OwnLines) (before : KernelContent) (done : List (List ℕ)) (line taken : List ℕ) (s : OwnLines × KernelContent) → IsCutOff keeps (own, before) done line taken s
     → BeginsOwn own.tenant before (done ++ line ∷ []) taken
 begin_kept own before done line taken s cut w shows =
     let sofar = are_kept own before done cut.earlier cut.mid cut.ran in (

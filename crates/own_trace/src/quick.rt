@@ -22,8 +22,8 @@ use quick_core::read_ended_request;
 use replay_core::{Drain, Stopped};
 use words_core::Request;
 
-/// Runs the lines at the front of a piece as long as they are read the short way, pushes the tenant's own, and returns the rest of the
-/// piece. The lines end in LF, or in CR LF if `RETURNS`.
+/// Runs the lines at the front of a piece as long as they are read the short way, pushes the tenant's own, and returns the rest of
+/// the piece. The lines end in LF, or in CR LF if `RETURNS`.
 pub(crate) fn keep_ended_lines<'a, const RETURNS: bool, D: Drain>(
     piece: &'a [u8],
     kernel: &mut Kernel,
@@ -32,7 +32,8 @@ pub(crate) fn keep_ended_lines<'a, const RETURNS: bool, D: Drain>(
 ) -> Result<&'a [u8], Stopped>
     requires { D.has_failed drain.old ≡ false }
     ensures done { (own : OwnLines) → own.tenant ≡ tenant → MatchResult result
-        (λ rest. HasGone keeps (own, kernel.old) piece.now rest.now (D.contents drain.old) (D.contents drain.new) (own, kernel.new))
+        (λ rest. HasGone keeps (own, kernel.old) piece.now rest.now
+        (D.contents drain.old) (D.contents drain.new) (own, kernel.new))
         (λ _. HasStopped keeps (own, kernel.old) piece.now (D.contents drain.old) (D.contents drain.new) (own, kernel.new)) }
     ensures left { IfOk result (λ rest. length rest.now ≤ length piece.now) }
     ensures failed { D.has_failed drain.new ≡ is_err result }
@@ -57,8 +58,8 @@ pub(crate) fn keep_ended_lines<'a, const RETURNS: bool, D: Drain>(
 
 /// Runs the request of a line. If the line is the tenant's own, pushes it and a line feed.
 ///
-/// This function and [`run_request`] take `RETURNS`, which they do not use, to have one caller each: the compiler then makes them a
-/// part of it.
+/// This function and [`run_request`] take `RETURNS`, which they do not use, to have one caller each: the compiler then makes them
+/// a part of it.
 fn keep_request<const RETURNS: bool, D: Drain>(
     line: &[u8],
     asked: u32,
@@ -69,7 +70,8 @@ fn keep_request<const RETURNS: bool, D: Drain>(
 ) -> Result<(), Stopped>
     requires askable { IsAskable request }
     requires fine { D.has_failed drain.old ≡ false }
-    ensures done { (own : OwnLines) → own.tenant ≡ tenant → reading_of line.now ≡ Ok (Some (Tenant asked (command_of request.entry)))
+    ensures done { (own : OwnLines) → own.tenant ≡ tenant
+        → reading_of line.now ≡ Ok (Some (Tenant asked (command_of request.entry)))
         → HasDone keeps (own, kernel.old) line.now (D.contents drain.old) (D.contents drain.new) result (own, kernel.new) }
     ensures failed { D.has_failed drain.new ≡ is_err result }
 {

@@ -11,8 +11,8 @@ use Rattle.ends.specs.declared.feed.Stopped.{Stopped}
 use Rattle.ends.proofs.MoveLemmas.{appends_nothing, appends_more, appends_kept}
 use Rattle.replay_core.specs.declared.engine.EndFailed.TheVariants as Of
 use Rattle.replay_core.specs.Standing.{IsOneLine, AreLines}
-use Rattle.replay_core.specs.Doing.{HaveRun, StopsWithin, HasDone, HasGone, HasStopped}
-use Rattle.replay_core.specs.Ending.{EndsRun}
+use Rattle.replay_core.specs.Doing.{HaveRun, IsCutOff, HasDone, HasGone, HasStopped}
+use Rattle.replay_core.specs.Ending.{RunsAs}
 use Rattle.replay_core.proofs.LineLemmas.{one_line_append, line_ended, lines_cut, lines_ended, one_line_cut, one_line_unended}
 
 lines_both : (xs ys : List (List ℕ)) → AreLines xs → AreLines ys → AreLines (xs ++ ys)
@@ -182,14 +182,14 @@ module _ {S : Type 0} (does : S → List ℕ → List ℕ → List ℕ → S →
   )
 
   cut_off : (s mid s' : S) (bytes rest line : List ℕ) (old now new : Option (List ℕ)) (stopped : Stopped) → (gone : HasGone does s bytes rest old now mid)
-      → (done : HasDone does mid line now new (Err stopped) s') → StopsWithin does s gone.done line (gone.taken ++ done.taken) s'
+      → (done : HasDone does mid line now new (Err stopped) s') → IsCutOff does s gone.done line (gone.taken ++ done.taken) s'
   cut_off s mid s' bytes rest line old now new stopped gone done =
       record { mid = mid; earlier = gone.taken; here = done.taken; rest = done.rest; split = refl; some = done.whole; ran = gone.ran; did = done.did }
 
   -- .. or the drain failed in it
   pub stopped_at_last : (ended : Bool) (s mid s' : S) (given tail : List ℕ) (old now new : Option (List ℕ)) (stopped : Stopped)
       → HasGone does s given tail old now mid → IsOneLine tail → 0 < length tail → HasDone does mid tail now new (Err stopped) s' → ended ≡ true
-      → (taken : List ℕ) × Appends old new taken × EndsRun does ended s given taken (Err Of.Drain) s'
+      → (taken : List ℕ) × Appends old new taken × RunsAs does ended s given taken (Err Of.Drain) s'
   stopped_at_last ended s mid s' given tail old now new stopped gone one some done over = (
     gone.taken ++ done.taken,
     appends_more old now new gone.taken done.taken gone.appended done.appended,
@@ -198,7 +198,7 @@ module _ {S : Type 0} (does : S → List ℕ → List ℕ → List ℕ → S →
 
   -- the drain failed in a line that ended
   pub stopped_before : (ended : Bool) (s s' : S) (given : List ℕ) (old new : Option (List ℕ)) → HasStopped does s given old new s'
-      → (taken : List ℕ) × Appends old new taken × EndsRun does ended s given taken (Err Of.Drain) s'
+      → (taken : List ℕ) × Appends old new taken × RunsAs does ended s given taken (Err Of.Drain) s'
   stopped_before ended s s' given old new last =
       let gone = last.gone in
       let all = append_assoc gone.done (last.line ∷ []) (ended_lines last.after) in (

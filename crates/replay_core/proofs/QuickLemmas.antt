@@ -9,7 +9,7 @@ use Rattle.quick_core.specs.Lines.{ReadsAs}
 use Rattle.ends.specs.declared.feed.Stopped.{Stopped}
 use Rattle.replay_core.specs.declared.run.Run.{Run}
 use Rattle.replay_core.specs.Doing.{HasDone, HasGone, HasStopped}
-use Rattle.replay_core.specs.Standing.{IsOneLine, AnswersReading, answers}
+use Rattle.replay_core.specs.Standing.{IsOneLine, AnswersRead, answers}
 use Rattle.replay_core.proofs.DoingLemmas.{gone_end, stopped_end}
 use Rattle.replay_core.proofs.LineLemmas.{found_cut}
 use Rattle.replay_core.proofs.RunLemmas.{done_of_reading}
@@ -32,7 +32,7 @@ front_cut rest tenant command len read =
 -- a line at the front of the rest has been run and answered ..
 pub line_done : (s mid s' : Run × KernelContent) (bytes rest : List ℕ) (old now new : Option (List ℕ)) (tenant : ℕ) (command : Command) (len : ℕ)
     → ReadsAs rest tenant command len → HasGone answers s bytes rest old now mid
-    → HasDone AnswersReading mid (Ok (Some (Tenant tenant command))) now new (Ok tt) s'
+    → HasDone AnswersRead mid (Ok (Some (Tenant tenant command))) now new (Ok tt) s'
     → HasGone answers s bytes (drop len rest) old new s'
 line_done s mid s' bytes rest old now new tenant command len read gone done =
     let cut = front_cut rest tenant command len read in
@@ -42,7 +42,7 @@ line_done s mid s' bytes rest old now new tenant command len read gone done =
 -- .. or the drain failed within its answer
 pub line_stopped : (s mid s' : Run × KernelContent) (bytes rest : List ℕ) (old now new : Option (List ℕ)) (stopped : Stopped) (tenant : ℕ) (command : Command) (len : ℕ)
     → ReadsAs rest tenant command len → HasGone answers s bytes rest old now mid
-    → HasDone AnswersReading mid (Ok (Some (Tenant tenant command))) now new (Err stopped) s'
+    → HasDone AnswersRead mid (Ok (Some (Tenant tenant command))) now new (Err stopped) s'
     → HasStopped answers s bytes old new s'
 line_stopped s mid s' bytes rest old now new stopped tenant command len read gone done =
     let cut = front_cut rest tenant command len read in

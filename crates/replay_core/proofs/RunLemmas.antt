@@ -18,10 +18,10 @@ use Rattle.ends.specs.declared.feed.Stopped.{Stopped}
 use Rattle.ends.specs.declared.tally.Tally.{Tally}
 use Rattle.ends.proofs.MoveLemmas.{appends_nothing}
 use Rattle.replay_core.specs.declared.run.Run.{Run}
-use Rattle.replay_core.specs.Doing.{HaveRun, StopsWithin, HasDone}
+use Rattle.replay_core.specs.Doing.{HaveRun, IsCutOff, HasDone}
 use Rattle.replay_core.specs.Runs.{fault_in, faults_of, Counts, StandsAfter, HasRun, IsCutShort}
 use Rattle.replay_core.specs.Shown.{HasShown}
-use Rattle.replay_core.specs.Standing.{AnswersReading, answers, tally_of_run}
+use Rattle.replay_core.specs.Standing.{AnswersRead, answers, tally_of_run}
 use Rattle.replay_core.proofs.DoingLemmas.{run_keeps}
 
 pub events_more : (xs : List (List ℕ)) (line : List ℕ) → events_of (xs ++ line ∷ []) ≡ events_of xs ++ event_in (reading_of line)
@@ -97,7 +97,7 @@ AreRun only before lines taken s = (s.0.replies.only ≡ only) × HasRun only be
 
 -- what a line shows, as the replay would show it from its beginning on
 shown_now : (only : Option ℕ) (before : KernelContent) (xs : List (List ℕ)) (line sofar taken rest : List ℕ) (s s' : Run × KernelContent)
-    → AreRun only before xs sofar s → AnswersReading s (reading_of line) taken rest s'
+    → AreRun only before xs sofar s → AnswersRead s (reading_of line) taken rest s'
     → (w : World) → Shows before w → shown_line only cache_limit before.order line (world_after cache_limit before.order w (events_of xs)) ≡ taken ++ rest
 shown_now only before xs line sofar taken rest s s' ran answered =
     shown_here only before s.1 xs line (taken ++ rest) ran.1.stands (λ v shows. shown_to only s.1 (reading_of line) v s.0 _ ran.0 (answered.shown v shows))
@@ -138,7 +138,7 @@ are_run only run before lines taken s same none ran =
 
 -- the drain failed within the answer to one
 pub run_cut : (only : Option ℕ) (run : Run) (before : KernelContent) (done : List (List ℕ)) (line taken : List ℕ) (s : Run × KernelContent) → run.replies.only ≡ only
-    → tally_of_run run ≡ record { lines = 0; events = 0; faults = 0; written = 0 } → StopsWithin answers (run, before) done line taken s
+    → tally_of_run run ≡ record { lines = 0; events = 0; faults = 0; written = 0 } → IsCutOff answers (run, before) done line taken s
     → IsCutShort only before s.1 done line taken (tally_of_run s.0)
 run_cut only run before done line taken s same none cut =
     let ran = are_run only run before done cut.earlier cut.mid same none cut.ran in
@@ -157,11 +157,11 @@ run_cut only run before done line taken s same none cut =
 
 -- a line is done if its reading is
 pub done_of_reading : (s s' : Run × KernelContent) (line : List ℕ) (reading : Result (Option Event) LineFault) (old new : Option (List ℕ)) (result : Result (Unit {0}) Stopped)
-    → reading_of line ≡ reading → HasDone AnswersReading s reading old new result s' → HasDone answers s line old new result s'
+    → reading_of line ≡ reading → HasDone AnswersRead s reading old new result s' → HasDone answers s line old new result s'
 done_of_reading s s' line reading old new result is done = record {
   taken = done.taken;
   rest = done.rest;
-  did = subst (λ r. AnswersReading s r done.taken done.rest s') (sym is) done.did;
+  did = subst (λ r. AnswersRead s r done.taken done.rest s') (sym is) done.did;
   appended = done.appended;
   whole = done.whole;
 }

@@ -14,7 +14,7 @@ HaveRun {S} does s (line ∷ lines) taken s' =
     (mid : S) × (here : List ℕ) × (later : List ℕ) × (taken ≡ here ++ later) × does s line here [] mid × HaveRun does mid lines later s'
 
 -- the lines were done in full, and one more in part
-pub record StopsWithin {S : Type 0} (does : S → List ℕ → List ℕ → List ℕ → S → Type 0) (s : S) (done : List (List ℕ)) (line taken : List ℕ)
+pub record IsCutOff {S : Type 0} (does : S → List ℕ → List ℕ → List ℕ → S → Type 0) (s : S) (done : List (List ℕ)) (line taken : List ℕ)
     (s' : S) : Type 0 where
   pub mid : S
   pub earlier : List ℕ

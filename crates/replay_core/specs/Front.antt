@@ -6,7 +6,7 @@ use Rattle.quick_core.specs.Lines.{ReadsAs}
 use Rattle.kernel_core.specs.Content.{KernelContent}
 use Rattle.replay_core.specs.declared.run.Run.{Run}
 use Rattle.replay_core.specs.Doing.{HasDone}
-use Rattle.replay_core.specs.Standing.{AnswersReading}
+use Rattle.replay_core.specs.Standing.{AnswersRead}
 
 -- nothing was done, or the line of so many bytes at the front was a command of a tenant, which was run and answered in full
 abbrev pub HasAnsweredLine : List ℕ → KernelContent → KernelContent → Option (List ℕ) → Option (List ℕ) → Bool → Run → Run → Option ℕ → Type 0
@@ -14,4 +14,4 @@ HasAnsweredLine bytes before after old new failing run run' None =
     (after ≡ before) × (new ≡ old) × (failing ≡ false) × (run' ≡ run)
 HasAnsweredLine bytes before after old new failing run run' (Some len) = (tenant : ℕ) × (command : Command)
     × ReadsAs bytes tenant command len
-    × HasDone AnswersReading (run, before) (Ok (Some (Tenant tenant command))) old new (Ok tt) (run', after) × (failing ≡ false)
+    × HasDone AnswersRead (run, before) (Ok (Some (Tenant tenant command))) old new (Ok tt) (run', after) × (failing ≡ false)

@@ -39,7 +39,7 @@ pub record IsReady (failed : Bool) (run : Run) (lines : ℕ) : Type 0 where
   pub more : run.lines + lines < 2 ^ 64
 
 -- a line with this reading has been run and counted, and this is what it shows: what was taken, and what was not
-pub record AnswersReading (s : Run × KernelContent) (reading : Result (Option Event) LineFault) (taken rest : List ℕ) (s' : Run × KernelContent) : Type 0 where
+pub record AnswersRead (s : Run × KernelContent) (reading : Result (Option Event) LineFault) (taken rest : List ℕ) (s' : Run × KernelContent) : Type 0 where
   pub sizes : SameSizes s.1 s'.1
   pub shows : (w : World) → Shows s.1 w → Shows s'.1 (world_after cache_limit s.1.order w (event_in reading))
   pub shown : (w : World) → Shows s.1 w → shown_reading s.0.replies.only cache_limit s.1.order reading w ≡ taken ++ rest
@@ -51,4 +51,4 @@ pub record AnswersReading (s : Run × KernelContent) (reading : Result (Option E
 
 -- the same of the line
 abbrev pub answers : Run × KernelContent → List ℕ → List ℕ → List ℕ → Run × KernelContent → Type 0
-answers s line taken rest s' = AnswersReading s (reading_of line) taken rest s'
+answers s line taken rest s' = AnswersRead s (reading_of line) taken rest s'

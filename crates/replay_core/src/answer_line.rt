@@ -7,7 +7,7 @@ ghost use Rattle.words_core.specs.declared.reply.Addressee.TheVariants as Addres
 ghost use Rattle.world_core.specs.Output.{is_shown};
 ghost use Rattle.replay_core.specs.Doing.{HasDone, HasGone};
 ghost use Rattle.replay_core.specs.Front.{HasAnsweredLine};
-ghost use Rattle.replay_core.specs.Standing.{IsReady, AnswersReading, answers};
+ghost use Rattle.replay_core.specs.Standing.{IsReady, AnswersRead, answers};
 
 use crate::notes::Notes;
 use crate::run::Run;
@@ -45,7 +45,8 @@ impl Run {
         notes: &mut N,
     ) -> &'a [u8]
         requires { IsReady (D.has_failed drain.old) self.old (length piece.now) }
-        ensures done { HasGone answers (self.old, kernel.old) piece.now result.now (D.contents drain.old) (D.contents drain.new) (self.new, kernel.new) }
+        ensures done { HasGone answers (self.old, kernel.old) piece.now result.now
+            (D.contents drain.old) (D.contents drain.new) (self.new, kernel.new) }
         ensures left { self.new.lines + length result.now ≤ self.old.lines + length piece.now }
         ensures within { length result.now ≤ length piece.now }
         ensures failed { D.has_failed drain.new ≡ false }
@@ -104,7 +105,7 @@ impl Run {
         requires shown { is_shown self.old.replies.only (Addressee.Tenant tenant) ≡ true }
         requires ready { IsReady (D.has_failed drain.old) self.old 1 }
         requires space { D.is_roomy drain.old ≡ true }
-        ensures done { HasDone AnswersReading (self.old, kernel.old) (Ok (Some (Tenant tenant (command_of request.entry))))
+        ensures done { HasDone AnswersRead (self.old, kernel.old) (Ok (Some (Tenant tenant (command_of request.entry))))
             (D.contents drain.old) (D.contents drain.new) (Ok tt) (self.new, kernel.new) }
         ensures failed { D.has_failed drain.new ≡ false }
     {
@@ -184,7 +185,7 @@ impl Run {
         requires shown { is_shown self.old.replies.only (Addressee.Tenant tenant) ≡ true }
         requires ready { IsReady (D.has_failed drain.old) self.old 1 }
         requires space { D.is_roomy drain.old ≡ true }
-        ensures done { HasDone AnswersReading (self.old, kernel.old) (Ok (Some (Tenant tenant (command_of request.entry))))
+        ensures done { HasDone AnswersRead (self.old, kernel.old) (Ok (Some (Tenant tenant (command_of request.entry))))
             (D.contents drain.old) (D.contents drain.new) (Ok tt) (self.new, kernel.new) }
         ensures failed { D.has_failed drain.new ≡ false }
     {
@@ -211,7 +212,7 @@ impl Run {
         requires shown { is_shown self.old.replies.only (Addressee.Tenant tenant) ≡ true }
         requires ready { IsReady (D.has_failed drain.old) self.old 1 }
         requires space { D.is_roomy drain.old ≡ true }
-        ensures done { HasDone AnswersReading (self.old, kernel.old) (Ok (Some (Tenant tenant (command_of request.entry))))
+        ensures done { HasDone AnswersRead (self.old, kernel.old) (Ok (Some (Tenant tenant (command_of request.entry))))
             (D.contents drain.old) (D.contents drain.new) (Ok tt) (self.new, kernel.new) }
         ensures failed { D.has_failed drain.new ≡ false }
     {

@@ -58,7 +58,8 @@ fn run_event<S: Sink, D: Drain, N: Notes>(
     requires more { 0 < S.lines_left sink.old }
     requires fine { D.has_failed drain.old ≡ false }
     ensures done { reading_of line.now ≡ Ok (Some event.now)
-        → HasDone S.does (sink.old, kernel.old) line.now (D.contents drain.old) (D.contents drain.new) result (sink.new, kernel.new) }
+        → HasDone S.does (sink.old, kernel.old) line.now
+        (D.contents drain.old) (D.contents drain.new) result (sink.new, kernel.new) }
     ensures left { S.lines_left sink.old ≤ S.lines_left sink.new + 1 }
     ensures failed { D.has_failed drain.new ≡ is_err result }
 {
@@ -90,7 +91,8 @@ fn ask<S: Sink, D: Drain, N: Notes>(
     requires more { 0 < S.lines_left sink.old }
     requires fine { D.has_failed drain.old ≡ false }
     ensures done { reading_of line.now ≡ Ok (Some event.now)
-        → HasDone S.does (sink.old, kernel.old) line.now (D.contents drain.old) (D.contents drain.new) result (sink.new, kernel.new) }
+        → HasDone S.does (sink.old, kernel.old) line.now
+        (D.contents drain.old) (D.contents drain.new) result (sink.new, kernel.new) }
     ensures left { S.lines_left sink.old ≤ S.lines_left sink.new + 1 }
     ensures failed { D.has_failed drain.new ≡ is_err result }
 {
@@ -120,7 +122,8 @@ fn reply<S: Sink, D: Drain, N: Notes>(
     requires more { 0 < S.lines_left sink.old }
     requires fine { D.has_failed drain.old ≡ false }
     ensures done { reading_of line.now ≡ Ok (Some event.now)
-        → HasDone S.does (sink.old, kernel.old) line.now (D.contents drain.old) (D.contents drain.new) result (sink.new, kernel.new) }
+        → HasDone S.does (sink.old, kernel.old) line.now
+        (D.contents drain.old) (D.contents drain.new) result (sink.new, kernel.new) }
     ensures left { S.lines_left sink.old ≤ S.lines_left sink.new + 1 }
     ensures failed { D.has_failed drain.new ≡ is_err result }
 {

@@ -5,7 +5,7 @@ ghost use Rattle.std.specs.Io.KnownBytes.{Consumes, Appends, IsAtEnd};
 ghost use Rattle.replay_core.specs.Pending.{HoldsLine};
 ghost use Rattle.replay_core.specs.Standing.{IsOneLine};
 ghost use Rattle.replay_core.specs.Doing.{HasDone, HasGone, HasStopped};
-ghost use Rattle.replay_core.specs.Ending.{EndsRun, IsRunToEnd, SaysEnd};
+ghost use Rattle.replay_core.specs.Ending.{RunsAs, IsRunToEnd, NamesEndFailed};
 
 use crate::answering::answer;
 use crate::notes::Notes;
@@ -46,12 +46,12 @@ pub fn do_lines<S: Sink, F: Feed, D: Drain, N: Notes>(
     ensures ran { (given : List ℕ) × (taken : List ℕ)
         × Consumes (F.remaining feed.old) (F.remaining feed.new) given
         × Appends (D.contents drain.old) (D.contents drain.new) taken
-        × EndsRun S.does (F.has_ended feed.new) (sink.old, kernel.old) given taken result (sink.new, kernel.new)
+        × RunsAs S.does (F.has_ended feed.new) (sink.old, kernel.old) given taken result (sink.new, kernel.new)
         × (F.room_left feed.new + length given ≡ F.room_left feed.old) }
     ensures ended { IsRunToEnd result (F.has_ended feed.new) }
     // Then what was given is all that it had.
     ensures whole { F.has_ended feed.new ≡ true → IsAtEnd (F.remaining feed.new) }
-    ensures failed { SaysEnd result (F.has_failed feed.new) (D.has_failed drain.new) }
+    ensures failed { NamesEndFailed result (F.has_failed feed.new) (D.has_failed drain.new) }
 {
     let mut pending = Pending::new();
     let mut piece = [0; PIECE_BYTES];
@@ -100,8 +100,10 @@ fn do_piece<S: Sink, D: Drain, N: Notes>(
     ensures done { (tail : List ℕ) → HoldsLine tail pending.old → IsOneLine tail → MatchResult result
         (λ _. (left : List ℕ) × HoldsLine left pending.new × IsOneLine left
         × (S.lines_left sink.old + length left ≤ S.lines_left sink.new + length piece.now + length tail)
-        × HasGone S.does (sink.old, kernel.old) (tail ++ piece.now) left (D.contents drain.old) (D.contents drain.new) (sink.new, kernel.new))
-        (λ _. HasStopped S.does (sink.old, kernel.old) (tail ++ piece.now) (D.contents drain.old) (D.contents drain.new) (sink.new, kernel.new)) }
+        × HasGone S.does (sink.old, kernel.old) (tail ++ piece.now) left
+        (D.contents drain.old) (D.contents drain.new) (sink.new, kernel.new))
+        (λ _. HasStopped S.does (sink.old, kernel.old) (tail ++ piece.now)
+        (D.contents drain.old) (D.contents drain.new) (sink.new, kernel.new)) }
     ensures failed { D.has_failed drain.new ≡ is_err result }
 {
     let mut rest = begin_piece(piece, pending, kernel, sink, drain, notes)?;
@@ -114,8 +116,8 @@ fn do_piece<S: Sink, D: Drain, N: Notes>(
     Ok(())
 }
 
-/// Does the lines at the front of a piece that are read the short way, where no beginning of a line is pending, and returns the rest
-/// of the piece.
+/// Does the lines at the front of a piece that are read the short way, where no beginning of a line is pending, and returns the
+/// rest of the piece.
 fn begin_piece<'a, S: Sink, D: Drain, N: Notes>(
     piece: &'a [u8],
     pending: &Pending,
@@ -127,8 +129,10 @@ fn begin_piece<'a, S: Sink, D: Drain, N: Notes>(
     requires more { length piece.now ≤ S.lines_left sink.old }
     requires fine { D.has_failed drain.old ≡ false }
     ensures done { (tail : List ℕ) → HoldsLine tail pending.now → MatchResult result
-        (λ rest. HasGone S.does (sink.old, kernel.old) (tail ++ piece.now) (tail ++ rest.now) (D.contents drain.old) (D.contents drain.new) (sink.new, kernel.new))
-        (λ _. HasStopped S.does (sink.old, kernel.old) (tail ++ piece.now) (D.contents drain.old) (D.contents drain.new) (sink.new, kernel.new)) }
+        (λ rest. HasGone S.does (sink.old, kernel.old) (tail ++ piece.now) (tail ++ rest.now)
+        (D.contents drain.old) (D.contents drain.new) (sink.new, kernel.new))
+        (λ _. HasStopped S.does (sink.old, kernel.old) (tail ++ piece.now)
+        (D.contents drain.old) (D.contents drain.new) (sink.new, kernel.new)) }
     ensures left { IfOk result (λ rest. S.lines_left sink.old + length rest.now ≤ S.lines_left sink.new + length piece.now) }
     ensures failed { D.has_failed drain.new ≡ is_err result }
 {
@@ -139,8 +143,8 @@ fn begin_piece<'a, S: Sink, D: Drain, N: Notes>(
     }
 }
 
-/// Does the lines at the front of a piece as long as they are read the short way, and returns the rest of the piece. No beginning of a
-/// line may be pending.
+/// Does the lines at the front of a piece as long as they are read the short way, and returns the rest of the piece. No beginning
+/// of a line may be pending.
 ///
 /// Lines that end in CR LF are tried only behind one that did, as `returned` says.
 #[inline(always)]
@@ -155,8 +159,10 @@ fn do_quick_lines<'a, S: Sink, D: Drain, N: Notes>(
     requires more { length piece.now ≤ S.lines_left sink.old }
     requires fine { D.has_failed drain.old ≡ false }
     ensures done { MatchResult result
-        (λ rest. HasGone S.does (sink.old, kernel.old) piece.now rest.now (D.contents drain.old) (D.contents drain.new) (sink.new, kernel.new))
-        (λ _. HasStopped S.does (sink.old, kernel.old) piece.now (D.contents drain.old) (D.contents drain.new) (sink.new, kernel.new)) }
+        (λ rest. HasGone S.does (sink.old, kernel.old) piece.now rest.now
+        (D.contents drain.old) (D.contents drain.new) (sink.new, kernel.new))
+        (λ _. HasStopped S.does (sink.old, kernel.old) piece.now
+        (D.contents drain.old) (D.contents drain.new) (sink.new, kernel.new)) }
     ensures left { IfOk result (λ rest. S.lines_left sink.old + length rest.now ≤ S.lines_left sink.new + length piece.now) }
     ensures failed { D.has_failed drain.new ≡ is_err result }
 {
@@ -182,7 +188,8 @@ fn end_line<S: Sink, D: Drain, N: Notes>(
     requires more { 0 < S.lines_left sink.old }
     requires fine { D.has_failed drain.old ≡ false }
     ensures done { (tail : List ℕ) → HoldsLine tail pending.old
-        → HasDone S.does (sink.old, kernel.old) (tail ++ bytes.now) (D.contents drain.old) (D.contents drain.new) result (sink.new, kernel.new) }
+        → HasDone S.does (sink.old, kernel.old) (tail ++ bytes.now)
+        (D.contents drain.old) (D.contents drain.new) result (sink.new, kernel.new) }
     ensures cleared { (tail : List ℕ) → HoldsLine tail pending.old → HoldsLine [] pending.new }
     ensures left { S.lines_left sink.old ≤ S.lines_left sink.new + 1 }
     ensures failed { D.has_failed drain.new ≡ is_err result }

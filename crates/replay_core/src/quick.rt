@@ -7,7 +7,7 @@ ghost use Rattle.words_core.specs.Grammar.{reading_of};
 ghost use Rattle.words_core.specs.Requests.{command_of, IsAskable};
 ghost use Rattle.words_core.specs.declared.event.Event.TheVariants.{Tenant};
 ghost use Rattle.replay_core.specs.Doing.{HasDone, HasGone, HasStopped};
-ghost use Rattle.replay_core.specs.Standing.{IsReady, AnswersReading, answers};
+ghost use Rattle.replay_core.specs.Standing.{IsReady, AnswersRead, answers};
 
 use crate::notes::Notes;
 use crate::pending::line_end;
@@ -31,8 +31,10 @@ impl Run {
     ) -> Result<&'a [u8], Stopped>
         requires { IsReady (D.has_failed drain.old) self.old (length piece.now) }
         ensures done { MatchResult result
-            (λ rest. HasGone answers (self.old, kernel.old) piece.now rest.now (D.contents drain.old) (D.contents drain.new) (self.new, kernel.new))
-            (λ _. HasStopped answers (self.old, kernel.old) piece.now (D.contents drain.old) (D.contents drain.new) (self.new, kernel.new)) }
+            (λ rest. HasGone answers (self.old, kernel.old) piece.now rest.now
+            (D.contents drain.old) (D.contents drain.new) (self.new, kernel.new))
+            (λ _. HasStopped answers (self.old, kernel.old) piece.now
+            (D.contents drain.old) (D.contents drain.new) (self.new, kernel.new)) }
         ensures left { IfOk result (λ rest. self.new.lines + length rest.now ≤ self.old.lines + length piece.now) }
         ensures failed { D.has_failed drain.new ≡ is_err result }
     {
@@ -84,8 +86,10 @@ impl Run {
     ) -> Result<&'a [u8], Stopped>
         requires { IsReady (D.has_failed drain.old) self.old (length piece.now) }
         ensures done { MatchResult result
-            (λ rest. HasGone answers (self.old, kernel.old) piece.now rest.now (D.contents drain.old) (D.contents drain.new) (self.new, kernel.new))
-            (λ _. HasStopped answers (self.old, kernel.old) piece.now (D.contents drain.old) (D.contents drain.new) (self.new, kernel.new)) }
+            (λ rest. HasGone answers (self.old, kernel.old) piece.now rest.now
+            (D.contents drain.old) (D.contents drain.new) (self.new, kernel.new))
+            (λ _. HasStopped answers (self.old, kernel.old) piece.now
+            (D.contents drain.old) (D.contents drain.new) (self.new, kernel.new)) }
         ensures left { IfOk result (λ rest. self.new.lines + length rest.now ≤ self.old.lines + length piece.now) }
         ensures failed { D.has_failed drain.new ≡ is_err result }
     {
@@ -113,7 +117,7 @@ impl Run {
     ) -> Result<(), Stopped>
         requires askable { IsAskable request }
         requires ready { IsReady (D.has_failed drain.old) self.old 1 }
-        ensures done { HasDone AnswersReading (self.old, kernel.old) (Ok (Some (Tenant tenant (command_of request.entry))))
+        ensures done { HasDone AnswersRead (self.old, kernel.old) (Ok (Some (Tenant tenant (command_of request.entry))))
             (D.contents drain.old) (D.contents drain.new) result (self.new, kernel.new) }
         ensures failed { D.has_failed drain.new ≡ is_err result }
     {

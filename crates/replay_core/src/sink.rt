@@ -1,6 +1,7 @@
 //! What becomes of the lines of a trace.
 
-ghost use Rattle.std.specs.Prelude.{◌≡◌, ℕ, ◌+◌, ◌<◌, ◌≤◌, false, List, Option, Some, None, Ok, Err, length, is_err, IfOk, MatchResult};
+ghost use Rattle.std.specs.Prelude.{◌≡◌, ℕ, ◌+◌, ◌<◌, ◌≤◌, false, List, length, is_err};
+ghost use Rattle.std.specs.Prelude.{Option, Some, None, Ok, Err, IfOk, MatchResult};
 ghost use Rattle.words_core.specs.Grammar.{reading_of};
 ghost use Rattle.words_core.specs.Requests.{reply_to, HasFewBytes};
 ghost use Rattle.kernel_core.specs.Content.{KernelContent};
@@ -24,8 +25,8 @@ pub trait Sink {
     /// How many lines have been done, if they are counted.
     fn lines(&self) -> u64;
 
-    /// Runs and does the lines at the front of a piece as long as they are read the short way, and returns the rest of the piece. The
-    /// lines end in LF, or in CR LF if `returns`.
+    /// Runs and does the lines at the front of a piece as long as they are read the short way, and returns the rest of the piece.
+    /// The lines end in LF, or in CR LF if `returns`.
     fn quick_lines<'a, D: Drain, N: Notes>(
         &mut self,
         piece: &'a [u8],
@@ -37,8 +38,10 @@ pub trait Sink {
         requires more { length piece.now ≤ lines_left self.old }
         requires fine { D.has_failed drain.old ≡ false }
         ensures done { MatchResult result
-            (λ rest. HasGone does (self.old, kernel.old) piece.now rest.now (D.contents drain.old) (D.contents drain.new) (self.new, kernel.new))
-            (λ _. HasStopped does (self.old, kernel.old) piece.now (D.contents drain.old) (D.contents drain.new) (self.new, kernel.new)) }
+            (λ rest. HasGone does (self.old, kernel.old) piece.now rest.now
+            (D.contents drain.old) (D.contents drain.new) (self.new, kernel.new))
+            (λ _. HasStopped does (self.old, kernel.old) piece.now
+            (D.contents drain.old) (D.contents drain.new) (self.new, kernel.new)) }
         ensures left { IfOk result (λ rest. lines_left self.old + length rest.now ≤ lines_left self.new + length piece.now) }
         ensures failed { D.has_failed drain.new ≡ is_err result };
 
