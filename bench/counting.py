@@ -9,6 +9,9 @@ ROUNDS = 100
 # The C library has a memcpy and a memset for each kind of processor. With these settings it takes the same ones on all.
 TUNABLES = "glibc.cpu.hwcaps=-ERMS,-FSRM,-AVX,-AVX2,-AVX512F,-AVX512VL,-AVX_Fast_Unaligned_Load"
 LIBRARY = "C library"
+# Programs that use this header say where callgrind begins. Until there it is faster.
+HEADER = "/usr/include/valgrind/callgrind.h"
+LATE = ["--instr-atstart=no"] if os.path.exists(HEADER) else []
 
 
 def own_library():
@@ -33,24 +36,32 @@ def write_ceilings(path, values):
         file.writelines([*comment, *rows])
 
 
-def callgrind(command, *options, out="/dev/null", tunables=TUNABLES):
+def callgrind(command, *options, out="/dev/null", tunables=TUNABLES, preload=""):
     """Runs a command under callgrind, and returns how it ended, with what it wrote on standard error."""
     tool = ["valgrind", "--tool=callgrind", f"--callgrind-out-file={out}", *options]
+    settings = {**os.environ, "GLIBC_TUNABLES": tunables, "LD_PRELOAD": preload}
     return subprocess.run([*tool, *command], stdin=subprocess.DEVNULL, stdout=subprocess.DEVNULL, stderr=subprocess.PIPE,
-                          text=True, errors="replace", check=False, env={**os.environ, "GLIBC_TUNABLES": tunables})
+                          text=True, errors="replace", check=False, env=settings)
+
+
+def of_calls(command, out, *options, toggle="measured", functions="measured", called=r".*", tunables=TUNABLES, preload=""):
+    """Returns the instructions of the calls that some functions make, with all below, while `toggle` runs. callgrind writes to
+    the file `out`. `options` are callgrind's; `functions` and `called` are patterns of names."""
+    own = ["--compress-strings=no", "--compress-pos=no", f"--toggle-collect={toggle}"]
+    ran = callgrind(command, *own, *options, out=out, tunables=tunables, preload=preload)
+    if ran.returncode:
+        raise OSError(f"{' '.join(command)} ended with status {ran.returncode} under valgrind: {ran.stderr[-500:]}")
+    with open(out, encoding="utf-8") as file:
+        blocks = re.findall(rf"^fn=(?:{functions})$(.*?)(?=^fn=|\Z)", file.read(), re.M | re.S)
+    costs = re.findall(rf"^cfn={called}\ncalls=.*\n\S+ (\d+)$", "".join(blocks), re.M)
+    if not costs:
+        raise OSError(f"callgrind counted no call of {' '.join(command)}")
+    return sum(map(int, costs))
 
 
 def of_command(program, how, command, folder, tunables=TUNABLES):
     """Returns the instructions of a command of bench/events.c, as an event or a direct call: the one of each round that its
     `measured` makes, on average."""
-    out = f"{folder}/{how}-{command}"
-    options = ["--compress-strings=no", "--compress-pos=no", "--toggle-collect=measured"]
-    ran = callgrind([program, how, command, str(ROUNDS)], *options, out=out, tunables=tunables)
-    if ran.returncode:
-        raise OSError(f"{command} ended with status {ran.returncode} under valgrind: {ran.stderr[-500:]}")
-    with open(out, encoding="utf-8") as file:
-        functions = re.findall(r"^fn=(?:measured|event|call)$(.*?)(?=^fn=|\Z)", file.read(), re.M | re.S)
-    costs = re.findall(r"^cfn=partmem_\w+\ncalls=.*\n\S+ (\d+)$", "".join(functions), re.M)
-    if not costs:
-        raise OSError(f"callgrind counted no {how} of {command}")
-    return sum(map(int, costs)) / ROUNDS
+    run = [program, how, command, str(ROUNDS)]
+    functions = "measured|event|call"
+    return of_calls(run, f"{folder}/{how}-{command}", functions=functions, called=r"partmem_\w+", tunables=tunables) / ROUNDS

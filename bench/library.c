@@ -1,11 +1,13 @@
 /* Runs the lines of a trace by the static library, or by malloc and free, and prints the nanoseconds of a call.
  *
  *     library HOW ORDER SUPERBLOCKS TENANTS TRACE
+ *     library --order=ORDER --superblocks=SUPERBLOCKS --tenants=TENANTS   writes the replies to lines, as `partmem` does
  *
- * HOW is `event` (partmem_event), `line` (partmem_line) or `malloc`. The calls are made in turn on a machine just booted, with
- * all that is passed to them made before, and what they answer is thrown away. For malloc a page block or an object is a block of
- * as many bytes, whose first byte is written; lines that neither take nor give are left out. The allocator that is linked or
- * preloaded is the one that is measured.
+ * HOW is `event` (partmem_event), `line` (partmem_line), `call` (the direct calls) or `malloc`. The calls are made in turn on a
+ * machine just booted, with all that is passed to them made before, and what they return is thrown away. For malloc a page block
+ * or an object is a block of as many bytes; lines that neither take nor give are left out. The allocator that is linked or
+ * preloaded is the one that is measured. After a direct call and after malloc the first byte is stored. With `call-used` and
+ * `malloc-used` all bytes of a block or an object are stored when it is taken, and loaded and checked before it is given back.
  */
 #define _POSIX_C_SOURCE 200809L
 #include <stdio.h>
@@ -14,6 +16,13 @@
 #include <time.h>
 
 #include "partmem.h"
+
+/* Callgrind is slow, so it begins where the calls begin, if it is there. */
+#if __has_include(<valgrind/callgrind.h>)
+#include <valgrind/callgrind.h>
+#else
+#define CALLGRIND_START_INSTRUMENTATION
+#endif
 
 enum { MOST_CACHES = 32, MOST_TENANTS = 64, FRAME_BYTES = 4096 };
 
@@ -28,7 +37,7 @@ struct call {
     size_t bytes_len;
     enum deed deed;
     size_t block; /* how many blocks were taken before it */
-    size_t size;
+    size_t size;  /* of what is taken or given, in bytes */
 };
 
 static struct call *calls;
@@ -121,7 +130,7 @@ static partmem_reply run(const struct call *call) {
     return reply;
 }
 
-/* What malloc has to do for each line, by what the library answers it: a frame or a place says which block is given back. */
+/* What is taken or given by each line, by what the library answers it: a frame or a place says which block is given back. */
 static void plan(char **sizes) {
     size_t frames = (size_t)atol(sizes[1]) << atol(sizes[0]), granules = frames * FRAME_BYTES / 8;
     static size_t chunk[MOST_TENANTS][MOST_CACHES];
@@ -150,10 +159,10 @@ static void plan(char **sizes) {
             call->deed = TAKE, call->block = block_count++, call->size = chunk[request->tenant][request->first];
             break;
         case PARTMEM_FREED:
-            call->deed = GIVE, call->block = frame[request->first];
+            call->deed = GIVE, call->block = frame[request->first], call->size = (size_t)FRAME_BYTES << reply.first;
             break;
         case PARTMEM_GIVEN:
-            call->deed = GIVE, call->block = place[request->second / 8];
+            call->deed = GIVE, call->block = place[request->second / 8], call->size = chunk[request->tenant][request->first];
             break;
         default:
             break;
@@ -180,22 +189,91 @@ __attribute__((noinline)) static void run_lines(void) {
     }
 }
 
-/* Answers how many calls of malloc and free there were. */
-__attribute__((noinline)) static size_t run_malloc(uint8_t **blocks) {
+/* Stores all bytes of what was taken, or only the first. */
+static void store(uint8_t *at, const struct call *call, int is_used) {
+    if (is_used) {
+        memset(at, (uint8_t)call->block, call->size);
+    } else {
+        *(volatile uint8_t *)at = 0;
+    }
+}
+
+/* Loads all bytes of what is given back. */
+static void load(const uint8_t *at, const struct call *call) {
+    check(*at == (uint8_t)call->block && memcmp(at, at + 1, call->size - 1) == 0, "bytes are not as they were stored");
+}
+
+static partmem_status run_direct(const struct call *call, partmem_lent *lent) {
+    const partmem_tenant tenant = {&machine, call->request.tenant};
+    uint32_t first = call->request.first, second = call->request.second;
+    partmem_slot slot;
+    partmem_cache cache;
+    switch (call->request.kind) {
+    case PARTMEM_ALLOC: return partmem_alloc(tenant, first, lent);
+    case PARTMEM_FREE: return partmem_free(tenant, first * FRAME_BYTES);
+    case PARTMEM_TAKE: return partmem_take(tenant, first, lent);
+    case PARTMEM_GIVE: return partmem_give(tenant, first, second);
+    case PARTMEM_READ: return partmem_read(tenant, first, buffer, second);
+    case PARTMEM_WRITE: return partmem_write(tenant, first, call->bytes, call->bytes_len);
+    case PARTMEM_CACHE: return partmem_make_cache(tenant, first, second, call->bytes, call->bytes_len, &cache);
+    case PARTMEM_REAP: return partmem_reap(tenant, &first);
+    case PARTMEM_GRANT: return partmem_grant(tenant, &slot);
+    default: return PARTMEM_NOT_AN_EVENT;
+    }
+}
+
+__attribute__((noinline)) static void run_calls(uint8_t **blocks, int is_used) {
+    partmem_lent lent;
+    for (size_t i = 0; i < call_count; i++) {
+        const struct call *call = &calls[i];
+        if (is_used && call->deed == GIVE) {
+            load(blocks[call->block], call);
+        }
+        check(run_direct(call, &lent) < PARTMEM_NO_MACHINE, "a direct call");
+        if (call->deed == TAKE) {
+            blocks[call->block] = lent.at;
+            store(lent.at, call, is_used);
+        }
+    }
+}
+
+/* Returns how many calls of malloc and free there were. */
+__attribute__((noinline)) static size_t run_malloc(uint8_t **blocks, int is_used) {
     size_t count = 0;
     for (size_t i = 0; i < call_count; i++) {
         const struct call *call = &calls[i];
         if (call->deed == TAKE) {
             uint8_t *block = malloc(call->size);
             check(block != NULL, "malloc");
-            *(volatile uint8_t *)block = 0;
             blocks[call->block] = block;
+            store(block, call, is_used);
         } else if (call->deed == GIVE) {
+            if (is_used) {
+                load(blocks[call->block], call);
+            }
             free(blocks[call->block]);
         }
         count += call->deed != NOTHING;
     }
     return count;
+}
+
+/* Writes the reply to each line of the standard input, as soon as it is read. */
+static int answer_lines(char **sizes) {
+    char *line = NULL, *plain[3];
+    size_t size = 0, written;
+    ssize_t len;
+    for (int i = 0; i < 3; i++) {
+        plain[i] = strchr(sizes[i], '=') + 1;
+    }
+    boot(plain);
+    while ((len = getline(&line, &size, stdin)) > 0) {
+        check(partmem_line(&machine, line, (size_t)len - (line[len - 1] == '\n'), buffer, sizeof buffer, &written) == 0, "line");
+        fwrite(buffer, 1, written, stdout);
+        fflush(stdout);
+    }
+    free(line);
+    return 0;
 }
 
 static double processor_time(void) {
@@ -205,22 +283,29 @@ static double processor_time(void) {
 }
 
 int main(int argc, char **argv) {
+    if (argc == 4 && strncmp(argv[1], "--order=", 8) == 0) {
+        return answer_lines(argv + 1);
+    }
     check(argc == 6, "usage: library HOW ORDER SUPERBLOCKS TENANTS TRACE");
     char **sizes = argv + 2;
+    int is_used = strstr(argv[1], "-used") != NULL;
     read_trace(argv[5]);
-    if (strcmp(argv[1], "malloc") == 0) {
+    if (strcmp(argv[1], "event") != 0 && strcmp(argv[1], "line") != 0) {
         plan(sizes);
     }
     uint8_t **blocks = some(block_count, sizeof *blocks);
     size_t count = call_count;
     boot(sizes);
+    CALLGRIND_START_INSTRUMENTATION;
     double start = processor_time();
     if (strcmp(argv[1], "event") == 0) {
         run_events();
     } else if (strcmp(argv[1], "line") == 0) {
         run_lines();
+    } else if (strncmp(argv[1], "call", 4) == 0) {
+        run_calls(blocks, is_used);
     } else {
-        count = run_malloc(blocks);
+        count = run_malloc(blocks, is_used);
     }
     double taken = processor_time() - start;
     printf("%zu calls %.1f nanoseconds\n", count, count ? taken / (double)count * 1e9 : 0.0);

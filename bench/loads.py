@@ -140,6 +140,8 @@ LOADS = {'pages': pages, 'objects': objects, 'scattered': scattered, 'transfers'
          'administered': administered}
 # Of these no call of an allocator's has the like.
 LINES_ALONE = ('faulty', 'administered')
+# Of these the blocks and objects are also used in place.
+USED = ('pages', 'objects')
 
 
 def make(name, ask, lines, order, superblocks, tenants, seed=1):
