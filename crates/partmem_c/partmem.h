@@ -162,7 +162,7 @@ typedef struct partmem_tenant {
     uint32_t number; /* from 0 */
 } partmem_tenant;
 
-/* Lent bytes: their address, the place of the first, and how many there are. */
+/* Lent bytes: their address, the place of the first, and how many there are, of an object its size. */
 typedef struct partmem_lent {
     void *at;
     uint32_t place;
@@ -197,7 +197,8 @@ typedef struct partmem_memory {
          ? (PARTMEM_POWER_OF_2(superblocks) << ((order) > 5 ? (order) - 5 : 0))                                                 \
          : 64)
 
-/* Boots a machine in which no superblock has an owner, in memory that is the library's until partmem_end. Superblock m lies at
+/* Boots a machine in which no superblock has an owner, in memory that is the library's until partmem_end. *config and *memory
+ * are read in the call alone. Superblock m lies at
  * ram + m * PARTMEM_RAM_BYTES(order, 1). Superblocks that are never granted are never touched. Returns HAS_MACHINE, BAD_CONFIG,
  * BAD_MEMORY, and NO_MEMORY only if PARTMEM_TABLE_BYTES says too little, which tests exclude. */
 PARTMEM_CHECKED partmem_status partmem_boot_in(partmem_machine *machine, const partmem_config *config,
@@ -252,9 +253,9 @@ void *partmem_superblock_address(const partmem_machine *machine, uint32_t superb
 
 /* ---- Page blocks --------------------------------------------------------------------------------------------------------- */
 
-/* Allocates 2^order frames, and lends them. A frame has what the tenant left there in a page block since the grant, and zeroes
- * if it was in none since then, or in a slab after that. The first lend or write in a superblock since its grant takes as long as to clear that superblock. Returns
- * BAD_ORDER, NO_FRAMES. */
+/* Allocates 2^order frames, and lends them. A frame has what the tenant left there in a page block since the grant; if it was in
+ * none since then, or in a slab after that, it has zeroes. The first lend or write in a superblock since its grant clears that
+ * superblock. Returns BAD_ORDER, NO_FRAMES. */
 PARTMEM_CHECKED partmem_status partmem_alloc(partmem_tenant tenant, uint32_t order, partmem_lent *block);
 
 /* Frees the page block that begins at the place. Returns NOT_A_BLOCK. */

@@ -2,7 +2,9 @@
 //!
 //! A [`Machine`] has RAM in superblocks, which are granted to tenants. Whatever the others do, a tenant gets the same results and
 //! finds the same bytes as if it were alone. The header `partmem.h` describes the calls, and what is proved of them. Left out are
-//! events, lines, the `find` functions and memory of your own. `PARTMEM_DIR` or pkg-config names the folder of `libpartmem.a`.
+//! events, lines, `read`, `write`, the `find` functions and memory of your own. `PARTMEM_DIR` (an absolute path of the
+//! installation or of its `lib`) or pkg-config names the folder of `libpartmem.a`. Numbers are stored in lent bytes by
+//! `to_le_bytes` and the like.
 //!
 //! ```
 //! use partmem::{Config, Machine, Refusal, Tenant};
@@ -36,8 +38,9 @@
 //!   [`Error::Stale`].
 //! - Links between objects are numbers of places in lent bytes. [`Machine::lend_at`] follows them. It needs `&mut Machine`, since
 //!   a handle of the same bytes may be lent.
-//! - A machine is `Send` and not `Sync`, since calls are one at a time: threads share a `Mutex<Machine>`. Lent bytes may be used
-//!   on other threads, without a lock, while this one makes calls.
+//! - A machine is `Send` and not `Sync`, since calls are one at a time: threads share a `Mutex<Machine>`. Then a lend borrows the
+//!   lock's guard. Without a mutex, lent bytes may be used on other threads of a scope while this one makes calls.
+//! - A move or a reset of one client requires that nobody's bytes are lent, which is stricter than the library.
 //!
 //! # What the compiler refuses
 //!
