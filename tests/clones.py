@@ -5,7 +5,7 @@ import subprocess
 
 TOP = os.path.dirname(os.path.dirname(os.path.abspath(__file__)))
 PROGRAMS = ["partmem", "framemap", "partcheck"]
-BUILT = [*(f"crates/{name}/out/{name}" for name in PROGRAMS), "crates/partmem_c/out/libpartmem_c.a"]
+BUILT = [*(f"crates/{name}/out/{name}" for name in PROGRAMS), *(f"crates/partmem_c/out/libpartmem_c.{kind}" for kind in ("a", "ll"))]
 # Stands in for `rt` over programs and a library that are there: what would be proved once more is taken as it is.
 RT = r"""#!/bin/sh
 real=REAL
