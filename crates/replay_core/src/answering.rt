@@ -66,11 +66,11 @@ fn run_event<S: Sink, D: Drain, N: Notes>(
     match event {
         Event::Tenant(tenant, command) => match command.request() {
             Some(request) => ask(event, *tenant, request, line, kernel, sink, drain, notes),
-            None => reply(event, line, kernel, sink, drain, notes),
+            None => sink.replied(line, event, &kernel.report(*tenant), drain, notes),
         },
         Event::Admin(command) => match kernel.administer(command) {
             Some(answer) => sink.answered(line, event, Addressee::Admin, answer, drain, notes),
-            None => reply(event, line, kernel, sink, drain, notes),
+            None => sink.replied(line, event, &kernel.pool(), drain, notes),
         },
     }
 }
@@ -105,28 +105,4 @@ fn ask<S: Sink, D: Drain, N: Notes>(
             sink.answered(line, event, Addressee::Nobody, answer, drain, notes)
         }
     }
-}
-
-/// Runs an event whose reply has several lines; by itself, since such a reply is large.
-#[cold]
-#[inline(never)]
-fn reply<S: Sink, D: Drain, N: Notes>(
-    event: &Event,
-    line: &[u8],
-    kernel: &mut Kernel,
-    sink: &mut S,
-    drain: &mut D,
-    notes: &mut N,
-) -> Result<(), Stopped>
-    requires pattern { HasPattern event.now }
-    requires more { 0 < S.lines_left sink.old }
-    requires fine { D.has_failed drain.old ≡ false }
-    ensures done { reading_of line.now ≡ Ok (Some event.now)
-        → HasDone S.does (sink.old, kernel.old) line.now
-        (D.contents drain.old) (D.contents drain.new) result (sink.new, kernel.new) }
-    ensures left { S.lines_left sink.old ≤ S.lines_left sink.new + 1 }
-    ensures failed { D.has_failed drain.new ≡ is_err result }
-{
-    let reply = kernel.step(event);
-    sink.replied(line, event, &reply, drain, notes)
 }
