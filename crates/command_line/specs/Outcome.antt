@@ -3,9 +3,9 @@ use Rattle.std.specs.Prelude.{◌≡◌, ◌≢◌, ◌⊎◌, ℕ, ◌++◌, Bo
 use Rattle.clap.specs.declared.error.kind.ErrorKind.{ErrorKind}
 use Rattle.clap.specs.declared.error.kind.ErrorKind.TheVariants.{DisplayHelp, DisplayVersion, OutOfMemory}
 use Rattle.clap.specs.Words.{Text}
-use Rattle.ends.specs.declared.tally.Tally.{Tally}
-use Rattle.ends.specs.declared.tally.ReplayError.{ReplayError}
-use Rattle.ends.specs.declared.tally.ReplayError.TheVariants as Failed
+use Rattle.streams.specs.declared.tally.Tally.{Tally}
+use Rattle.streams.specs.declared.tally.ReplayError.{ReplayError}
+use Rattle.streams.specs.declared.tally.ReplayError.TheVariants as Failed
 use Rattle.command_line.specs.declared.outcome.Line.{Line}
 use Rattle.command_line.specs.declared.outcome.Outcome.{Outcome}
 use Rattle.command_line.specs.declared.outcome.Outcome.TheVariants.{Done, Help, Version, Unreadable, Unwritable, BadLine, BadOnly, NoMemory}

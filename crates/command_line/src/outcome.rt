@@ -8,7 +8,7 @@ ghost use Rattle.command_line.specs.declared.outcome.Outcome.TheVariants.{NoMemo
 use crate::arguments::Program;
 use clap::Error;
 use clap::error::ErrorKind;
-use ends::{ReplayError, Tally};
+use streams::{ReplayError, Tally};
 use std::alloc::{AllocError, Global};
 use std::{fmt, io};
 

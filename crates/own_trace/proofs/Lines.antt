@@ -12,8 +12,8 @@ use Rattle.world_core.specs.Output.{event_in, events_of}
 use Rattle.kernel_core.specs.Content.{KernelContent, SameSizes}
 use Rattle.kernel_core.specs.Shows.{Shows}
 use Rattle.kernel_core.specs.Steps.{Steps}
-use Rattle.ends.specs.declared.feed.Stopped.{Stopped}
-use Rattle.ends.proofs.MoveLemmas.{appends_nothing}
+use Rattle.streams.specs.declared.feed.Stopped.{Stopped}
+use Rattle.streams.proofs.MoveLemmas.{appends_nothing}
 use Rattle.replay_core.specs.Doing.{HaveRun, IsCutOff, HasDone}
 use Rattle.replay_core.specs.Pushes.{HasPushed}
 use Rattle.replay_core.specs.Runs.{StandsAfter}

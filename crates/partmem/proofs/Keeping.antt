@@ -8,9 +8,9 @@ use Rattle.world_core.specs.Output.{ended_lines, events_of}
 use Rattle.world_core.specs.Laws.{EndedLinesStay}
 use Rattle.world_core.specs.World.{World, opening_world, world_after}
 use Rattle.kernel_core.specs.Content.{KernelContent}
-use Rattle.ends.specs.declared.tally.Tally.{Tally}
-use Rattle.ends.specs.declared.tally.ReplayError.{ReplayError}
-use Rattle.ends.specs.declared.tally.ReplayError.TheVariants as Failed
+use Rattle.streams.specs.declared.tally.Tally.{Tally}
+use Rattle.streams.specs.declared.tally.ReplayError.{ReplayError}
+use Rattle.streams.specs.declared.tally.ReplayError.TheVariants as Failed
 use Rattle.replay_core.specs.Runs.{HasCome, IsDone, NamesFailed}
 use Rattle.own_trace.specs.declared.keeping.KeepError.{KeepError}
 use Rattle.own_trace.specs.declared.keeping.KeepError.TheVariants as Kept

@@ -12,9 +12,9 @@ use Rattle.kernel_core.specs.Content.{KernelContent, opening_content}
 use Rattle.kernel_core.specs.Shows.{Shows}
 use Rattle.world_core.specs.World.{World, opening_world}
 use Rattle.world_core.proofs.Showing.{shown_first}
-use Rattle.ends.specs.declared.tally.Tally.{Tally}
-use Rattle.ends.specs.declared.tally.ReplayError.{ReplayError}
-use Rattle.ends.specs.declared.tally.ReplayError.TheVariants as Failed
+use Rattle.streams.specs.declared.tally.Tally.{Tally}
+use Rattle.streams.specs.declared.tally.ReplayError.{ReplayError}
+use Rattle.streams.specs.declared.tally.ReplayError.TheVariants as Failed
 use Rattle.replay_core.specs.Runs.{Counts, HasCome, IsCutShort, Replays, IsDone, NamesFailed, HasOwnLines}
 use Rattle.replay_core.proofs.RunLemmas.{shown_more}
 use Rattle.command_line.specs.declared.outcome.Outcome.{Outcome}

@@ -5,9 +5,9 @@ use Rattle.command_line.specs.declared.outcome.Outcome.TheVariants.{Done, Unread
 use Rattle.partmem.specs.declared.outcome.Ended.{Ended}
 use Rattle.own_trace.specs.declared.keeping.KeepError.{KeepError}
 use Rattle.own_trace.specs.declared.keeping.KeepError.TheVariants as Kept
-use Rattle.ends.specs.declared.tally.Tally.{Tally}
-use Rattle.ends.specs.declared.tally.ReplayError.{ReplayError}
-use Rattle.ends.specs.declared.tally.ReplayError.TheVariants as Failed
+use Rattle.streams.specs.declared.tally.Tally.{Tally}
+use Rattle.streams.specs.declared.tally.ReplayError.{ReplayError}
+use Rattle.streams.specs.declared.tally.ReplayError.TheVariants as Failed
 
 -- the outcome of a run that kept a tenant's own list
 abbrev pub outcome_of_kept : Result (Unit {0}) KeepError → Outcome

@@ -7,8 +7,8 @@ use Rattle.std.specs.Prelude.{MatchResult, nat_eq}
 use Rattle.words_core.specs.Cutting.{lines_of_trace}
 use Rattle.world_core.specs.Output.{with_line_feeds, ended_lines}
 use Rattle.world_core.proofs.Showing.{with_line_feeds-append}
-use Rattle.ends.specs.declared.feed.Stopped.{Stopped}
-use Rattle.ends.proofs.MoveLemmas.{appends_nothing, appends_more, appends_kept}
+use Rattle.streams.specs.declared.feed.Stopped.{Stopped}
+use Rattle.streams.proofs.MoveLemmas.{appends_nothing, appends_more, appends_kept}
 use Rattle.replay_core.specs.declared.engine.EndFailed.TheVariants as Of
 use Rattle.replay_core.specs.Standing.{IsOneLine, AreLines}
 use Rattle.replay_core.specs.Doing.{HaveRun, IsCutOff, HasDone, HasGone, HasStopped}

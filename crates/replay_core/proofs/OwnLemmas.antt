@@ -7,7 +7,7 @@ use Rattle.world_core.specs.Output.{output_of, lines_for, with_line_feeds}
 use Rattle.world_core.specs.Laws.{OwnLines, OwnShown}
 use Rattle.world_core.proofs.Worlds.{opening_tenants}
 use Rattle.kernel_core.specs.Content.{KernelContent}
-use Rattle.ends.specs.declared.tally.Tally.{Tally}
+use Rattle.streams.specs.declared.tally.Tally.{Tally}
 use Rattle.replay_core.specs.Runs.{HasRun, HasOwnLines}
 
 pub own_lines_taken : OwnLines → OwnShown → (only : Option ℕ) (before now : KernelContent) (given taken : List ℕ) (tally : Tally) → before.tenants < 4294967296

@@ -9,8 +9,8 @@ use Rattle.promise_kept.specs.Written.{IsAllowedText}
 use Rattle.promise_kept.proofs.Written.{ram_is_small, shown_is_allowed}
 use Rattle.kernel_core.specs.Content.{KernelContent}
 use Rattle.kernel_core.specs.Shows.{Shows}
-use Rattle.ends.specs.declared.tally.Tally.{Tally}
-use Rattle.ends.specs.declared.tally.ReplayError.TheVariants as Of
+use Rattle.streams.specs.declared.tally.Tally.{Tally}
+use Rattle.streams.specs.declared.tally.ReplayError.TheVariants as Of
 use Rattle.replay_core.specs.Runs.{Counts, HasRun, IsCutShort, Replays}
 use Rattle.replay_core.specs.Promised.{TellsAllowed, BeginsAllowed, TakesAllowed}
 use Rattle.replay_core.proofs.RunLemmas.{shown_more}

@@ -3,7 +3,7 @@ use Rattle.std.proofs.Common.{◌≡◌, ℕ, zero, suc, ◌+◌, ◌<◌, ◌�
 use Rattle.std.proofs.lemmas.List.{append-nil, length-take-le}
 use Rattle.std.specs.List.{concat, slice_get}
 use Rattle.std.specs.Io.KnownBytes.{Appends, Keeps}
-use Rattle.ends.specs.declared.feed.Stopped.{Stopped}
+use Rattle.streams.specs.declared.feed.Stopped.{Stopped}
 use Rattle.std.specs.Result.{is_err}
 use Rattle.std.specs.Prelude.{nat_eq, if◌then◌else◌}
 use Rattle.std.proofs.lemmas.Bool.Decides.{nat_tests}
@@ -11,7 +11,7 @@ use Rattle.words_core.specs.declared.reply.Reply.{Reply}
 use Rattle.words_core.specs.Texts.{text_of}
 use Rattle.world_core.specs.Output.{is_shown, shown_text}
 use Rattle.replay_core.specs.Pushes.{HasPushed, IsWholeAtOk}
-use Rattle.ends.proofs.MoveLemmas.{appends_nothing, appends_more, appends_kept}
+use Rattle.streams.proofs.MoveLemmas.{appends_nothing, appends_more, appends_kept}
 
 -- of the text all was taken and counted but the rest, which is to be offered
 pub record HasPushedBut (old new : Option (List ℕ)) (text rest : List ℕ) (written written' : ℕ) : Type 0 where

@@ -6,7 +6,7 @@ use Rattle.words_core.specs.Grammar.{reading_of}
 use Rattle.words_core.specs.declared.event.Command.{Command}
 use Rattle.kernel_core.specs.Content.{KernelContent}
 use Rattle.quick_core.specs.Lines.{ReadsAs}
-use Rattle.ends.specs.declared.feed.Stopped.{Stopped}
+use Rattle.streams.specs.declared.feed.Stopped.{Stopped}
 use Rattle.replay_core.specs.declared.run.Run.{Run}
 use Rattle.replay_core.specs.Doing.{HasDone, HasGone, HasStopped}
 use Rattle.replay_core.specs.Standing.{IsOneLine, AnswersRead, answers}

@@ -14,9 +14,9 @@ use Rattle.world_core.proofs.Worlds.{world_both}
 use Rattle.kernel_core.specs.Content.{KernelContent, SameSizes}
 use Rattle.kernel_core.specs.Shows.{Shows}
 use Rattle.kernel_core.specs.Steps.{Steps}
-use Rattle.ends.specs.declared.feed.Stopped.{Stopped}
-use Rattle.ends.specs.declared.tally.Tally.{Tally}
-use Rattle.ends.proofs.MoveLemmas.{appends_nothing}
+use Rattle.streams.specs.declared.feed.Stopped.{Stopped}
+use Rattle.streams.specs.declared.tally.Tally.{Tally}
+use Rattle.streams.proofs.MoveLemmas.{appends_nothing}
 use Rattle.replay_core.specs.declared.run.Run.{Run}
 use Rattle.replay_core.specs.Doing.{HaveRun, IsCutOff, HasDone}
 use Rattle.replay_core.specs.Runs.{fault_in, faults_of, Counts, StandsAfter, HasRun, IsCutShort}

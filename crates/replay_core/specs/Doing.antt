@@ -3,7 +3,7 @@
 use Rattle.std.specs.Prelude.{◌≡◌, ℕ, ◌<◌, List, [], ◌∷◌, ◌++◌, length, Option, Result, Err}
 use Rattle.std.specs.Io.KnownBytes.{Appends}
 use Rattle.world_core.specs.Output.{with_line_feeds}
-use Rattle.ends.specs.declared.feed.Stopped.{Stopped}
+use Rattle.streams.specs.declared.feed.Stopped.{Stopped}
 use Rattle.replay_core.specs.Standing.{IsOneLine, AreLines}
 use Rattle.replay_core.specs.Pushes.{IsWholeAtOk}
 

@@ -8,9 +8,9 @@ use Rattle.world_core.specs.Limits.{cache_limit}
 use Rattle.world_core.specs.World.{opening_world}
 use Rattle.world_core.specs.Output.{ended_lines}
 use Rattle.promise_kept.specs.Written.{IsAllowedText}
-use Rattle.ends.specs.declared.tally.Tally.{Tally}
-use Rattle.ends.specs.declared.tally.ReplayError.{ReplayError}
-use Rattle.ends.specs.declared.tally.ReplayError.TheVariants as Of
+use Rattle.streams.specs.declared.tally.Tally.{Tally}
+use Rattle.streams.specs.declared.tally.ReplayError.{ReplayError}
+use Rattle.streams.specs.declared.tally.ReplayError.TheVariants as Of
 use Rattle.replay_core.specs.Runs.{Counts, HasCome}
 
 -- From an opening world, whose slots have at least 8 frames, the text is that of allowed replies to these lines ..

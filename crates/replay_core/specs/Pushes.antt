@@ -4,7 +4,7 @@ use Rattle.std.specs.Prelude.{Option, Result, MatchResult, is_err}
 use Rattle.std.specs.Io.KnownBytes.{Appends}
 use Rattle.words_core.specs.declared.text.TheConstants.{MOST_ROWS}
 use Rattle.words_core.specs.declared.text.TheConstants.{MOST_REPLY_BYTES}
-use Rattle.ends.specs.declared.feed.Stopped.{Stopped}
+use Rattle.streams.specs.declared.feed.Stopped.{Stopped}
 
 -- no reply has more bytes: the owners of all superblocks, with a line in front of them, of at most 256 bytes each
 abbrev pub most_reply_bytes : ℕ

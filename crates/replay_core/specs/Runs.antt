@@ -10,9 +10,9 @@ use Rattle.world_core.specs.Limits.{cache_limit}
 use Rattle.world_core.specs.World.{World, opening_world, world_after}
 use Rattle.world_core.specs.Output.{shown_line, shown_lines, ended_lines, events_of, lines_for, with_line_feeds}
 use Rattle.world_core.specs.Laws.{private_lines}
-use Rattle.ends.specs.declared.tally.Tally.{Tally}
-use Rattle.ends.specs.declared.tally.ReplayError.{ReplayError}
-use Rattle.ends.specs.declared.tally.ReplayError.TheVariants as Of
+use Rattle.streams.specs.declared.tally.Tally.{Tally}
+use Rattle.streams.specs.declared.tally.ReplayError.{ReplayError}
+use Rattle.streams.specs.declared.tally.ReplayError.TheVariants as Of
 
 abbrev pub fault_in : Result (Option Event) LineFault → ℕ
 fault_in (Ok event) = 0

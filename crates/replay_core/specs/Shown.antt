@@ -1,6 +1,6 @@
 -- What becomes of the text of a reply.
 use Rattle.std.specs.Prelude.{◌≡◌, ℕ, ◌+◌, ◌≤◌, Bool, List, Option, Result}
-use Rattle.ends.specs.declared.feed.Stopped.{Stopped}
+use Rattle.streams.specs.declared.feed.Stopped.{Stopped}
 use Rattle.replay_core.specs.declared.replies.Replies.{Replies}
 use Rattle.replay_core.specs.Pushes.{most_reply_bytes, HasPushed}
 

@@ -10,7 +10,7 @@ use Rattle.kernel_core.specs.Steps.{HasPattern}
 use Rattle.world_core.specs.Limits.{cache_limit}
 use Rattle.world_core.specs.World.{World, world_after}
 use Rattle.world_core.specs.Output.{event_in, shown_reading, line_feed}
-use Rattle.ends.specs.declared.tally.Tally.{Tally}
+use Rattle.streams.specs.declared.tally.Tally.{Tally}
 use Rattle.replay_core.specs.declared.run.Run.{Run}
 use Rattle.replay_core.specs.Runs.{fault_in}
 

@@ -11,7 +11,7 @@ ghost use Rattle.replay_core.specs.Standing.{IsReady, AnswersRead, answers};
 
 use crate::notes::Notes;
 use crate::run::Run;
-use ends::Drain;
+use streams::Drain;
 use kernel_core::Kernel;
 use model_core::limits::MOST_BYTES;
 use quick_core::{LF, read_known_request, read_tenant};

@@ -11,7 +11,7 @@ ghost use Rattle.replay_core.specs.Standing.{IsRunnable};
 
 use crate::notes::Notes;
 use crate::sink::Sink;
-use ends::{Drain, Stopped};
+use streams::{Drain, Stopped};
 use kernel_core::Kernel;
 use words_core::{Addressee, Answer, Event, LineFault, Refusal, Request};
 

@@ -11,7 +11,7 @@ use crate::answering::answer;
 use crate::notes::Notes;
 use crate::pending::{Pending, split_line};
 use crate::sink::Sink;
-use ends::{Drain, Feed, Stopped};
+use streams::{Drain, Feed, Stopped};
 use kernel_core::Kernel;
 use quick_core::{CR_LF, LF, may_begin_request};
 

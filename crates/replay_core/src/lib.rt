@@ -13,7 +13,7 @@ mod replies;
 mod run;
 mod sink;
 
-pub use ends::{Drain, Feed, ReaderFeed, ReplayError, Stopped, Tally, Text, WriterDrain};
+pub use streams::{Drain, Feed, ReaderFeed, ReplayError, Stopped, Tally, Text, WriterDrain};
 pub use engine::{EndFailed, do_lines};
 pub use notes::{NoNotes, Notes};
 pub use pending::{Pending, line_end};

@@ -12,7 +12,7 @@ ghost use Rattle.replay_core.specs.Standing.{IsReady, AnswersRead, answers};
 use crate::notes::Notes;
 use crate::pending::line_end;
 use crate::run::Run;
-use ends::{Drain, Stopped};
+use streams::{Drain, Stopped};
 use kernel_core::Kernel;
 use model_core::limits::MOST_BYTES;
 use quick_core::{

@@ -8,7 +8,7 @@ ghost use Rattle.replay_core.specs.Promised.{TakesAllowed};
 use crate::engine::{EndFailed, do_lines};
 use crate::notes::{NoNotes, Notes};
 use crate::run::Run;
-use ends::{Drain, Feed, ReplayError, Tally};
+use streams::{Drain, Feed, ReplayError, Tally};
 use kernel_core::{Kernel, laws};
 
 /// Runs the trace that the feed gives on the kernel, and pushes the replies into the drain: with `only` those to that

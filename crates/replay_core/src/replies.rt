@@ -8,7 +8,7 @@ ghost use Rattle.replay_core.specs.Pushes.{HasRoomToWrite, HasPushed, most_reply
 ghost use Rattle.replay_core.specs.Shown.{HasShown};
 
 use crate::notes::Notes;
-use ends::{Drain, Stopped, TEXT_BYTES, Text};
+use streams::{Drain, Stopped, TEXT_BYTES, Text};
 use std::marker::Model;
 use words_core::{
     Addressee, Answer, Body, MOST_ANSWER_BYTES, MOST_REPLY_BYTES, Reply, rows, write_answer,

@@ -6,7 +6,7 @@ ghost use Rattle.replay_core.specs.Bounds.{IsBounded};
 use crate::notes::Notes;
 use crate::replies::Replies;
 use crate::sink::Sink;
-use ends::{Drain, Stopped, Tally};
+use streams::{Drain, Stopped, Tally};
 use kernel_core::Kernel;
 use quick_core::{CR_LF, LF};
 use words_core::{Addressee, Answer, Event, LineFault, Reply};

@@ -9,7 +9,7 @@ ghost use Rattle.kernel_core.specs.Steps.{Steps};
 ghost use Rattle.replay_core.specs.Doing.{HasDone, HasGone, HasStopped};
 
 use crate::notes::Notes;
-use ends::{Drain, Stopped};
+use streams::{Drain, Stopped};
 use kernel_core::Kernel;
 use words_core::{Addressee, Answer, Event, LineFault, Reply};
 

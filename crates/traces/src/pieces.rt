@@ -3,7 +3,7 @@
 ghost use Rattle.std.specs.Prelude.{◌≡◌, ◌≤◌, true, false, [], length};
 ghost use Rattle.traces.specs.declared.pieces.TheConstants.{ROOM};
 
-use ends::{TEXT_BYTES, Text};
+use streams::{TEXT_BYTES, Text};
 use replay_core::{Drain, Feed, Stopped};
 
 /// More than any worked trace writes.
@@ -112,7 +112,7 @@ impl PieceDrain {
 
 impl Drain for PieceDrain {
     ghost use Rattle.std.specs.Prelude.{take, Some, nat_le, ◌&&◌, ◌+◌};
-    ghost use Rattle.ends.specs.declared.drain.TheConstants.{TEXT_BYTES};
+    ghost use Rattle.streams.specs.declared.drain.TheConstants.{TEXT_BYTES};
 
     ghost contents = { λ s. Some (take s.len s.bytes) };
 

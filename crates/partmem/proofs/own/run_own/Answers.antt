@@ -1,7 +1,7 @@
 use Rattle.std.proofs.Common.{[], refl, arith, rules}
 use Rattle.partmem.proofs.Keeping.{own_written, own_traced, own_reached, own_ends, own_nothing}
 use Rattle.partmem.proofs.Writing.{booted, flushed}
-use Rattle.ends.proofs.MoveLemmas.{consumes_nothing, appends_nothing}
+use Rattle.streams.proofs.MoveLemmas.{consumes_nothing, appends_nothing}
 use Rattle.partmem.proofs.own.run_own.Goals as goal
 
 pub returns-clause-kept : goal.returns-clause-kept

@@ -1,7 +1,7 @@
 use Rattle.std.proofs.Common.{[], refl, arith, rules}
 use Rattle.partmem.proofs.Promising.{promises_kept}
 use Rattle.partmem.proofs.Writing.{booted, answers, given_so_far, traced, flushed, tallied, reached, ends, nothing_of}
-use Rattle.ends.proofs.MoveLemmas.{consumes_nothing, appends_nothing}
+use Rattle.streams.proofs.MoveLemmas.{consumes_nothing, appends_nothing}
 use Rattle.partmem.proofs.run.run.Goals as goal
 
 pub returns-clause-ran : goal.returns-clause-ran

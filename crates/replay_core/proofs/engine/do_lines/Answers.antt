@@ -2,7 +2,7 @@ use Rattle.std.proofs.Common.{◌≡◌, ◌<◌, ◌++◌, true, false, [], tak
 use Rattle.std.specs.Result.{is_err}
 use Rattle.std.proofs.lemmas.Bool.{eqb-true}
 use Rattle.std.proofs.lemmas.List.{length-take-le}
-use Rattle.ends.proofs.MoveLemmas.{consumes_nothing, consumes_more, consumes_kept, consumes_end, room_at_end}
+use Rattle.streams.proofs.MoveLemmas.{consumes_nothing, consumes_more, consumes_kept, consumes_end, room_at_end}
 use Rattle.replay_core.proofs.PendingLemmas.{take-short}
 use Rattle.replay_core.proofs.PushLemmas.{some_left}
 use Rattle.replay_core.proofs.DoingLemmas.{gone_nothing, gone_on, gone_given, gone_sent, stopped_on, stopped_before, ended_are_done, all_are_done, last_is_done, stopped_at_last, ended_at, err_of, ok_of, is_ok_of, is_err_of}

@@ -1,7 +1,7 @@
 use Rattle.std.proofs.Common.{sym, subst, arith, ap}
 use Rattle.words_core.specs.Cutting.{lines_of_trace}
 use Rattle.world_core.specs.Output.{ended_lines}
-use Rattle.ends.specs.declared.tally.Tally.{Tally}
+use Rattle.streams.specs.declared.tally.Tally.{Tally}
 use Rattle.replay_core.specs.Runs.{HasRun, IsCutShort}
 use Rattle.replay_core.proofs.OwnLemmas.{own_lines_taken}
 use Rattle.replay_core.proofs.PromiseLemmas.{all_promised, part_promised}

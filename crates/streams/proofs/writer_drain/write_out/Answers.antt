@@ -2,8 +2,8 @@ use Rattle.std.proofs.Common.{◌-◌, ◌++◌, length, take, drop, sym, ap, su
 use Rattle.std.proofs.lemmas.List.{take-take}
 use Rattle.std.proofs.Math.Seq.{take-add}
 use Rattle.std.specs.Io.KnownBytes.{Appends}
-use Rattle.ends.proofs.MoveLemmas.{appends_more}
-use Rattle.ends.proofs.writer_drain.write_out.Goals as goal
+use Rattle.streams.proofs.MoveLemmas.{appends_more}
+use Rattle.streams.proofs.writer_drain.write_out.Goals as goal
 
 pub loop-written-preserved : goal.loop-written-preserved
 loop-written-preserved g c =

@@ -52,7 +52,7 @@ impl<R: Read> ReaderFeed<R> {
 }
 
 impl<R: Read> Feed for ReaderFeed<R> {
-    ghost use Rattle.ends.specs.Moves.{put_back};
+    ghost use Rattle.streams.specs.Moves.{put_back};
 
     ghost remaining = { λ s. put_back s.beyond (R.remaining s.reader) };
 

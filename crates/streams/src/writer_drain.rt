@@ -1,6 +1,6 @@
 ghost use Rattle.std.specs.Prelude.{◌≡◌, ℕ, ◌<◌, ◌≤◌, true, false, not, ◌&&◌, [], length, take, OnOk, IfOk, is_err, vec_len};
 ghost use Rattle.std.specs.Io.KnownBytes.{Appends, Keeps, WriteAppends, append_known};
-ghost use Rattle.ends.specs.Held.{held_bytes, has_space};
+ghost use Rattle.streams.specs.Held.{held_bytes, has_space};
 
 use crate::drain::{Drain, Text};
 use crate::feed::Stopped;

@@ -1,5 +1,5 @@
-//! The ends of a replay: where a trace comes from and where replies go, a piece at a time, and both over std's readers and
-//! writers. They know nothing of what lies between them.
+//! Where a trace comes from and where replies go, a piece at a time: a [`Feed`] over one of std's readers, a [`Drain`] over one
+//! of std's writers. Neither knows what is made of the bytes.
 #![tactic(auto)]
 
 mod drain;

@@ -13,7 +13,7 @@ pub struct Held {
 
 impl Model for Held {
     ghost use Rattle.std.specs.Prelude.{◌-◌, ◌≤◌, length, take};
-    ghost use Rattle.ends.specs.Held.{HeldBytes};
+    ghost use Rattle.streams.specs.Held.{HeldBytes};
 
     ghost Value = { HeldBytes };
 

@@ -3,8 +3,8 @@ use lib.Seq.{paste}
 use Rattle.std.proofs.lemmas.List.{with_items_is, places}
 use Rattle.std.proofs.lemmas.List.Edits.{take-paste}
 use Rattle.std.proofs.lemmas.Slice.{between_is}
-use Rattle.ends.specs.Held.{HeldBytes}
-use Rattle.ends.proofs.held.Held.remove_front.Goals as goal
+use Rattle.streams.specs.Held.{HeldBytes}
+use Rattle.streams.proofs.held.Held.remove_front.Goals as goal
 
 pub returns : goal.returns
 returns c =

@@ -1,8 +1,8 @@
 use Rattle.std.proofs.Common.{◌≡◌, ℕ, ◌+◌, ◌≤◌, ◌++◌, List, take, length, sym, ap, ◌∙◌, arith, rules}
 use Rattle.std.proofs.Math.Seq.{take-append-add}
 use Rattle.std.proofs.lemmas.List.{take-append-le, length-take-le, with_items_is, places}
-use Rattle.ends.specs.Held.{HeldBytes}
-use Rattle.ends.proofs.held.Held.append_text.Goals as goal
+use Rattle.streams.specs.Held.{HeldBytes}
+use Rattle.streams.proofs.held.Held.append_text.Goals as goal
 
 -- what is held, and then the beginning of what stands behind it
 taken : (front text rest : List ℕ) (len n : ℕ) → length front ≡ len → n ≤ length text → take (len + n) (front ++ (text ++ rest)) ≡ front ++ take n text

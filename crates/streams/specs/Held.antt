@@ -1,6 +1,6 @@
 -- Bytes that a drain holds back.
 use Rattle.std.specs.Prelude.{ℕ, nat_le, Bool, false, List, [], Option, Some, None}
-use Rattle.ends.specs.declared.drain.TheConstants.{TEXT_BYTES}
+use Rattle.streams.specs.declared.drain.TheConstants.{TEXT_BYTES}
 
 -- the bytes that are held, and for how many more there is room
 pub record HeldBytes : Type 0 where

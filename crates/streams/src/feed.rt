@@ -1,6 +1,6 @@
 ghost use Rattle.std.specs.Prelude.{◌≡◌, ℕ, ◌+◌, ◌<◌, ◌≤◌, ◌==◌, Bool, true, false, List, Option, None, Ok, length, IfOk, OnErr, is_err};
 ghost use Rattle.std.specs.Io.KnownBytes.{ReadConsumes};
-ghost use Rattle.ends.specs.Moves.{moved_count};
+ghost use Rattle.streams.specs.Moves.{moved_count};
 
 /// A feed or a drain has failed: it gave or took no byte in this call, and does so no more.
 #[derive(Clone, Copy, Debug, PartialEq, Eq)]
