@@ -18,7 +18,7 @@ ghost use Rattle.own_trace.specs.Keeping.{KeepsOwn, IsKeptToEnd, NamesEnd, keeps
 use crate::quick::keep_ended_lines;
 use kernel_core::Kernel;
 use quick_core::{CR_LF, LF};
-use replay_core::{Drain, EndFailed, Feed, NoNotes, Notes, Sink, Stopped, do_lines, push_all};
+use replay_core::{Drain, EndFailed, Feed, Sink, Stopped, do_lines, push_all};
 use thiserror::Error;
 use words_core::{Addressee, AdminCommand, Answer, Body, Event, LineFault, Reply};
 
@@ -61,7 +61,7 @@ pub fn keep<F: Feed, D: Drain>(
     // As many lines as there are bytes at most.
     let _most = feed.room();
     let mut own = OwnLines { tenant };
-    match do_lines(kernel, &mut own, feed, drain, &mut NoNotes) {
+    match do_lines(kernel, &mut own, feed, drain) {
         Ok(()) => Ok(()),
         Err(EndFailed::Feed) => Err(KeepError::Feed),
         Err(EndFailed::Drain) => Err(KeepError::Drain),
@@ -101,20 +101,17 @@ impl Sink for OwnLines {
 
     ghost does = { keeps };
 
+    ghost leaves = { λ own line own'. own' ≡ own };
+
     ghost lines_left = { λ _. 2 ^ 64 };
 
-    fn lines(&self) -> u64 {
-        0
-    }
-
     #[inline(always)]
-    fn quick_lines<'a, D: Drain, N: Notes>(
+    fn quick_lines<'a, D: Drain>(
         &mut self,
         piece: &'a [u8],
         returns: bool,
         kernel: &mut Kernel,
         drain: &mut D,
-        _notes: &mut N,
     ) -> Result<&'a [u8], Stopped> {
         if returns {
             keep_ended_lines::<CR_LF, D>(piece, kernel, drain, self.tenant)
@@ -123,39 +120,39 @@ impl Sink for OwnLines {
         }
     }
 
-    fn answered<D: Drain, N: Notes>(
+    fn answered<D: Drain>(
         &mut self,
         line: &[u8],
         event: &Event,
         _addressee: Addressee,
         answer: Answer<'_>,
         drain: &mut D,
-        _notes: &mut N,
     ) -> Result<(), Stopped> {
         self.keep_event(line, event, is_refusal(answer), drain)
     }
 
-    fn replied<D: Drain, N: Notes>(
+    fn replied<D: Drain>(
         &mut self,
         line: &[u8],
         event: &Event,
         reply: &Reply,
         drain: &mut D,
-        _notes: &mut N,
     ) -> Result<(), Stopped> {
         self.keep_event(line, event, is_refused_by(reply), drain)
     }
 
-    fn faulty<D: Drain, N: Notes>(
+    fn faulty<D: Drain>(
         &mut self,
         _fault: LineFault,
+        _front: &[u8],
         _drain: &mut D,
-        _notes: &mut N,
     ) -> Result<(), Stopped> {
         Ok(())
     }
 
     fn blank(&mut self) {}
+
+    fn unended(&mut self, _reading: Result<Option<Event>, LineFault>, _front: &[u8]) {}
 }
 
 fn is_refusal(answer: Answer<'_>) -> bool

@@ -1,5 +1,5 @@
 -- Lines that are done one after the other.
-use Rattle.std.proofs.Common.{◌≡◌, ℕ, ◌<◌, Bool, true, false, inl, inr, List, [], ◌∷◌, ◌++◌, Result, Ok, Err, Option, length, refl, ap, sym, subst, ◌∙◌, append_assoc}
+use Rattle.std.proofs.Common.{◌≡◌, ℕ, ◌<◌, Bool, true, false, inl, inr, List, [], ◌∷◌, ◌++◌, Result, Ok, Err, Option, length, refl, ap, sym, subst, ◌∙◌, append_assoc, arith}
 use Rattle.std.proofs.lemmas.List.{append-nil, nil_from_length}
 use Rattle.std.specs.Io.KnownBytes.{Appends, Keeps}
 use Rattle.std.specs.Result.{is_err}
@@ -9,10 +9,9 @@ use Rattle.world_core.specs.Output.{with_line_feeds, ended_lines}
 use Rattle.world_core.proofs.Showing.{with_line_feeds-append}
 use Rattle.streams.specs.declared.feed.Stopped.{Stopped}
 use Rattle.streams.proofs.MoveLemmas.{appends_nothing, appends_more, appends_kept}
-use Rattle.replay_core.specs.declared.engine.EndFailed.TheVariants as Of
 use Rattle.replay_core.specs.Standing.{IsOneLine, AreLines}
 use Rattle.replay_core.specs.Doing.{HaveRun, IsCutOff, HasDone, HasGone, HasStopped}
-use Rattle.replay_core.specs.Ending.{RunsAs}
+use Rattle.replay_core.specs.Ending.{HasLeft, HasRunInto}
 use Rattle.replay_core.proofs.LineLemmas.{one_line_append, line_ended, lines_cut, lines_ended, one_line_cut, one_line_unended}
 
 lines_both : (xs ys : List (List ℕ)) → AreLines xs → AreLines ys → AreLines (xs ++ ys)
@@ -156,6 +155,14 @@ module _ {S : Type 0} (does : S → List ℕ → List ℕ → List ℕ → S →
       (sym (ap ended_lines gone.split ∙ lines_ended gone.done tail gone.ended
       ∙ ap (λ more. gone.done ++ more) (one_line_unended tail one) ∙ append-nil gone.done)) gone.ran
 
+  -- .. and what is held is what follows them
+  pub ended_split : (s s' : S) (given tail : List ℕ) (old new : Option (List ℕ)) → (gone : HasGone does s given tail old new s') → IsOneLine tail
+      → given ≡ with_line_feeds (ended_lines given) ++ tail
+  ended_split s s' given tail old new gone one =
+      gone.split ∙ ap (λ lines. with_line_feeds lines ++ tail)
+      (sym (ap ended_lines gone.split ∙ lines_ended gone.done tail gone.ended
+      ∙ ap (λ more. gone.done ++ more) (one_line_unended tail one) ∙ append-nil gone.done))
+
   -- with nothing held these are all lines
   pub all_are_done : (s s' : S) (given tail : List ℕ) (old new : Option (List ℕ)) → (gone : HasGone does s given tail old new s') → length tail ≡ 0
       → HaveRun does s (lines_of_trace given) gone.taken s'
@@ -189,7 +196,7 @@ module _ {S : Type 0} (does : S → List ℕ → List ℕ → List ℕ → S →
   -- .. or the drain failed in it
   pub stopped_at_last : (ended : Bool) (s mid s' : S) (given tail : List ℕ) (old now new : Option (List ℕ)) (stopped : Stopped)
       → HasGone does s given tail old now mid → IsOneLine tail → 0 < length tail → HasDone does mid tail now new (Err stopped) s' → ended ≡ true
-      → (taken : List ℕ) × Appends old new taken × RunsAs does ended s given taken (Err Of.Drain) s'
+      → (taken : List ℕ) × Appends old new taken × HasRunInto does ended s given taken s'
   stopped_at_last ended s mid s' given tail old now new stopped gone one some done over = (
     gone.taken ++ done.taken,
     appends_more old now new gone.taken done.taken gone.appended done.appended,
@@ -198,7 +205,7 @@ module _ {S : Type 0} (does : S → List ℕ → List ℕ → List ℕ → S →
 
   -- the drain failed in a line that ended
   pub stopped_before : (ended : Bool) (s s' : S) (given : List ℕ) (old new : Option (List ℕ)) → HasStopped does s given old new s'
-      → (taken : List ℕ) × Appends old new taken × RunsAs does ended s given taken (Err Of.Drain) s'
+      → (taken : List ℕ) × Appends old new taken × HasRunInto does ended s given taken s'
   stopped_before ended s s' given old new last =
       let gone = last.gone in
       let all = append_assoc gone.done (last.line ∷ []) (ended_lines last.after) in (
@@ -215,6 +222,11 @@ module _ {S : Type 0} (does : S → List ℕ → List ℕ → List ℕ → S →
           cut_off s last.mid s' given _ last.line old last.now new last.stopped gone last.done,
         ),
       )
+
+-- there is an unfinished line
+pub has_left : {S : Type 0} (leaves : S → List ℕ → S → Type 0) (s : S) (tail : List ℕ) (s' : S) → 0 < length tail → leaves s tail s' → HasLeft leaves s tail s'
+has_left leaves s [] s' some left = absurd (omega (arith, some))
+has_left leaves s (b ∷ tail) s' some left = left
 
 -- the answer 0 is the end
 pub ended_at : (ended : Bool) (count : ℕ) → ended ≡ nat_eq count 0 → count ≡ 0 → ended ≡ true

@@ -5,9 +5,11 @@ use Rattle.std.specs.Result.{is_ok}
 use Rattle.words_core.specs.declared.event.Event.{Event}
 use Rattle.words_core.specs.declared.event.LineFault.TheVariants.{Long}
 use Rattle.words_core.specs.Grammar.{reading_of}
+use Rattle.replay_core.specs.declared.pending.Pending.{Pending}
+use Rattle.replay_core.specs.Pending.{HoldsLine, IsFrontOf}
 use Rattle.words_core.proofs.LineLemmas.{reading_of-long}
 use Rattle.std.proofs.lemmas.Bool.{cases_lt, ltb-true, ltb-false, lt-ltb, le-ltb}
-use Rattle.std.proofs.lemmas.List.{append-nil, take_all, take-append-le, length-take, length-append}
+use Rattle.std.proofs.lemmas.List.{append-nil, take_all, take-append-le, take-take, length-take, length-append}
 use Rattle.std.proofs.Math.Seq.{take-append-add}
 
 -- a line of at most 256 bytes is its own beginning
@@ -76,3 +78,10 @@ event_short line event read = elim (cases_lt 256 (length line)) [
   where
     no_fault : Err Long ≡ Ok (Some event) → ⊥
     no_fault h = cc
+
+-- what is held is a front of the line
+pub held_front : (line front : List ℕ) (pending : Pending) → HoldsLine line pending → front ≡ pending.held.items → IsFrontOf line front
+held_front line front pending holds is = record {
+  same = ap (λ xs. take 256 xs) (is ∙ holds.front) ∙ take-take 256 256 line (omega arith);
+  whole = λ few. is ∙ holds.front ∙ take-short line few;
+}

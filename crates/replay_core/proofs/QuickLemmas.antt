@@ -8,11 +8,12 @@ use Rattle.kernel_core.specs.Content.{KernelContent}
 use Rattle.quick_core.specs.Lines.{ReadsAs}
 use Rattle.streams.specs.declared.feed.Stopped.{Stopped}
 use Rattle.replay_core.specs.declared.run.Run.{Run}
+use Rattle.replay_core.specs.Noting.{Noting}
 use Rattle.replay_core.specs.Doing.{HasDone, HasGone, HasStopped}
 use Rattle.replay_core.specs.Standing.{IsOneLine, AnswersRead, answers}
 use Rattle.replay_core.proofs.DoingLemmas.{gone_end, stopped_end}
 use Rattle.replay_core.proofs.LineLemmas.{found_cut}
-use Rattle.replay_core.proofs.RunLemmas.{done_of_reading}
+use Rattle.replay_core.proofs.RunLemmas.{done_of_event}
 
 -- a line that was read by itself, at the front of the rest
 pub reads_alone : (rest : List ℕ) (end tenant : ℕ) (command : Command) → end < length rest → position (λ b. b == 10) rest ≡ Some end
@@ -29,25 +30,26 @@ front_cut rest tenant command len read =
     let some = read.some in
     (found.0, found.1 ∙ ap (λ n. (take (len - 1) rest ++ 10 ∷ []) ++ drop n rest) (omega arith))
 
--- a line at the front of the rest has been run and answered ..
-pub line_done : (s mid s' : Run × KernelContent) (bytes rest : List ℕ) (old now new : Option (List ℕ)) (tenant : ℕ) (command : Command) (len : ℕ)
-    → ReadsAs rest tenant command len → HasGone answers s bytes rest old now mid
-    → HasDone AnswersRead mid (Ok (Some (Tenant tenant command))) now new (Ok tt) s'
-    → HasGone answers s bytes (drop len rest) old new s'
-line_done s mid s' bytes rest old now new tenant command len read gone done =
-    let cut = front_cut rest tenant command len read in
-    gone_end answers s mid s' bytes [] rest (take (len - 1) rest) (drop len rest) old now new gone tt cut.0 cut.1
-    (done_of_reading mid s' (take (len - 1) rest) _ now new (Ok tt) read.reading done)
+module _ {N : Type 0} (noting : Noting N) where
+  -- a line at the front of the rest has been run and answered ..
+  pub line_done : (s mid s' : Run N × KernelContent) (bytes rest : List ℕ) (old now new : Option (List ℕ)) (tenant : ℕ) (command : Command) (len : ℕ)
+      → ReadsAs rest tenant command len → HasGone (answers noting) s bytes rest old now mid
+      → HasDone (AnswersRead noting []) mid (Ok (Some (Tenant tenant command))) now new (Ok tt) s'
+      → HasGone (answers noting) s bytes (drop len rest) old new s'
+  line_done s mid s' bytes rest old now new tenant command len read gone done =
+      let cut = front_cut rest tenant command len read in
+      gone_end (answers noting) s mid s' bytes [] rest (take (len - 1) rest) (drop len rest) old now new gone tt cut.0 cut.1
+      (done_of_event noting mid s' (take (len - 1) rest) _ now new (Ok tt) read.reading done)
 
--- .. or the drain failed within its answer
-pub line_stopped : (s mid s' : Run × KernelContent) (bytes rest : List ℕ) (old now new : Option (List ℕ)) (stopped : Stopped) (tenant : ℕ) (command : Command) (len : ℕ)
-    → ReadsAs rest tenant command len → HasGone answers s bytes rest old now mid
-    → HasDone AnswersRead mid (Ok (Some (Tenant tenant command))) now new (Err stopped) s'
-    → HasStopped answers s bytes old new s'
-line_stopped s mid s' bytes rest old now new stopped tenant command len read gone done =
-    let cut = front_cut rest tenant command len read in
-    stopped_end answers s mid s' bytes [] rest (take (len - 1) rest) (drop len rest) old now new stopped gone tt cut.0 cut.1
-    (done_of_reading mid s' (take (len - 1) rest) _ now new (Err stopped) read.reading done)
+  -- .. or the drain failed within its answer
+  pub line_stopped : (s mid s' : Run N × KernelContent) (bytes rest : List ℕ) (old now new : Option (List ℕ)) (stopped : Stopped) (tenant : ℕ) (command : Command) (len : ℕ)
+      → ReadsAs rest tenant command len → HasGone (answers noting) s bytes rest old now mid
+      → HasDone (AnswersRead noting []) mid (Ok (Some (Tenant tenant command))) now new (Err stopped) s'
+      → HasStopped (answers noting) s bytes old new s'
+  line_stopped s mid s' bytes rest old now new stopped tenant command len read gone done =
+      let cut = front_cut rest tenant command len read in
+      stopped_end (answers noting) s mid s' bytes [] rest (take (len - 1) rest) (drop len rest) old now new stopped gone tt cut.0 cut.1
+      (done_of_event noting mid s' (take (len - 1) rest) _ now new (Err stopped) read.reading done)
 
 -- what is left behind the line, and the line
 pub left_over : (rest : List ℕ) (len : ℕ) → len ≤ length rest → length (drop len rest) + len ≡ length rest

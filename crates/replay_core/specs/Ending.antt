@@ -1,18 +1,37 @@
 -- How a run of lines ends.
 use Rattle.std.specs.Prelude.{◌≡◌, ℕ, Bool, true, false, List, [], ◌∷◌, ◌++◌, Result, Ok, Err}
 use Rattle.words_core.specs.Cutting.{lines_of_trace}
-use Rattle.world_core.specs.Output.{ended_lines}
+use Rattle.world_core.specs.Output.{ended_lines, with_line_feeds}
 use Rattle.replay_core.specs.declared.engine.EndFailed.{EndFailed}
 use Rattle.replay_core.specs.declared.engine.EndFailed.TheVariants as Of
 use Rattle.replay_core.specs.Runs.{HasCome}
 use Rattle.replay_core.specs.Doing.{HaveRun, IsCutOff}
 
--- At Ok all lines were done. If the feed failed, those that ended in LF; if the drain did, those before one that was cut short.
-abbrev pub RunsAs : {S : Type 0} → (S → List ℕ → List ℕ → List ℕ → S → Type 0) → Bool → S → List ℕ → List ℕ → Result (Unit {0}) EndFailed → S → Type 0
-RunsAs does ended s given taken (Ok done) s' = HaveRun does s (lines_of_trace given) taken s'
-RunsAs does ended s given taken (Err Of.Feed) s' = HaveRun does s (ended_lines given) taken s'
-RunsAs does ended s given taken (Err Of.Drain) s' =
+-- what the unfinished line does, if there is one
+abbrev pub HasLeft : {S : Type 0} → (S → List ℕ → S → Type 0) → S → List ℕ → S → Type 0
+HasLeft leaves s [] s' = s' ≡ s
+HasLeft leaves s (b ∷ tail) s' = leaves s (b ∷ tail) s'
+
+-- the lines that ended were done, and the unfinished one was not
+pub record HasRunEnded {S K : Type 0} (does : S × K → List ℕ → List ℕ → List ℕ → S × K → Type 0) (leaves : S → List ℕ → S → Type 0)
+    (s : S × K) (given taken : List ℕ) (s' : S × K) : Type 0 where
+  pub mid : S
+  pub tail : List ℕ
+  pub ran : HaveRun does s (ended_lines given) taken (mid, s'.1)
+  pub split : given ≡ with_line_feeds (ended_lines given) ++ tail
+  pub left : HasLeft leaves mid tail s'.0
+
+-- the lines before one were done, and that one was cut short
+abbrev pub HasRunInto : {S : Type 0} → (S → List ℕ → List ℕ → List ℕ → S → Type 0) → Bool → S → List ℕ → List ℕ → S → Type 0
+HasRunInto does ended s given taken s' =
     (done : List (List ℕ)) × (line : List ℕ) × HasCome ended given (done ++ line ∷ []) × IsCutOff does s done line taken s'
+
+-- At Ok all lines were done. If the feed failed, those that ended in LF; if the drain did, those before one that was cut short.
+abbrev pub RunsAs : {S K : Type 0} → (S × K → List ℕ → List ℕ → List ℕ → S × K → Type 0) → (S → List ℕ → S → Type 0) → Bool → S × K
+    → List ℕ → List ℕ → Result (Unit {0}) EndFailed → S × K → Type 0
+RunsAs does leaves ended s given taken (Ok done) s' = HaveRun does s (lines_of_trace given) taken s'
+RunsAs does leaves ended s given taken (Err Of.Feed) s' = HasRunEnded does leaves s given taken s'
+RunsAs does leaves ended s given taken (Err Of.Drain) s' = HasRunInto does ended s given taken s'
 
 -- the answer is Ok only where the feed has ended
 abbrev pub IsRunToEnd : Result (Unit {0}) EndFailed → Bool → Type 0

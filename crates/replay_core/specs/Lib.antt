@@ -2,6 +2,7 @@ pub mod Bounds
 pub mod Doing
 pub mod Ending
 pub mod Front
+pub mod Noting
 pub mod Pending
 pub mod Promised
 pub mod Pushes

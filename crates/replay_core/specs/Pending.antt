@@ -12,5 +12,6 @@ abbrev pub HoldsNothing : Pending → Type 0
 HoldsNothing pending = (line : List ℕ) → HoldsLine line pending → line ≡ []
 
 -- all of the line, or the front of one that is too long
-abbrev pub IsFrontOf : List ℕ → List ℕ → Type 0
-IsFrontOf line front = length line ≤ 256 → front ≡ line
+pub record IsFrontOf (line front : List ℕ) : Type 0 where
+  pub same : take 256 front ≡ take 256 line
+  pub whole : length line ≤ 256 → front ≡ line

@@ -1,5 +1,5 @@
 -- What was run, shown and counted while bytes were given and taken.
-use Rattle.std.specs.Prelude.{◌≡◌, ◌⊎◌, ℕ, ◌+◌, ◌<◌, Bool, List, [], ◌∷◌, ◌++◌, length, Option, Some, None, Result, Ok, Err}
+use Rattle.std.specs.Prelude.{◌≡◌, ◌⊎◌, ℕ, suc, ◌+◌, ◌<◌, Bool, List, [], ◌∷◌, ◌++◌, length, take, Option, Some, None, Result, Ok, Err}
 use Rattle.words_core.specs.declared.event.Event.{Event}
 use Rattle.words_core.specs.declared.event.LineFault.{LineFault}
 use Rattle.words_core.specs.Cutting.{lines_of_trace}
@@ -13,6 +13,7 @@ use Rattle.world_core.specs.Laws.{private_lines}
 use Rattle.streams.specs.declared.tally.Tally.{Tally}
 use Rattle.streams.specs.declared.tally.ReplayError.{ReplayError}
 use Rattle.streams.specs.declared.tally.ReplayError.TheVariants as Of
+use Rattle.replay_core.specs.Noting.{Noting, noted_fault, noted_lines}
 
 abbrev pub fault_in : Result (Option Event) LineFault → ℕ
 fault_in (Ok event) = 0
@@ -78,3 +79,18 @@ HasOwnLines None before given taken = (superblocks tenants t : ℕ) → Shows be
     lines_for t taken ≡ private_lines cache_limit before.order superblocks tenants t given
 HasOwnLines (Some t) before given taken = (superblocks tenants : ℕ) → Shows before (opening_world superblocks tenants) → t < tenants →
     taken ≡ with_line_feeds (private_lines cache_limit before.order superblocks tenants t given)
+
+-- what was noted of these lines, whichever world the kernel showed
+abbrev pub AreNoted : {N : Type 0} → Noting N → Option ℕ → KernelContent → List (List ℕ) → N → N → Type 0
+AreNoted noting only before lines notes notes' =
+    (w : World) → Shows before w → notes' ≡ noted_lines noting only cache_limit before.order 1 lines w notes
+
+-- What was noted of all lines that were run; if the feed failed, of the unfinished one too, and if the drain did, of the one
+-- whose reply was cut short.
+abbrev pub Noted : {N : Type 0} → Noting N → Bool → Option ℕ → KernelContent → List ℕ → Result Tally ReplayError → N → N → Type 0
+Noted noting ended only before given (Ok tally) notes notes' = AreNoted noting only before (lines_of_trace given) notes notes'
+Noted {N} noting ended only before given (Err (Of.Feed tally)) notes notes' = (mid : N) × (tail : List ℕ)
+    × AreNoted noting only before (ended_lines given) notes mid × (given ≡ with_line_feeds (ended_lines given) ++ tail)
+    × (notes' ≡ noted_fault noting (suc (length (ended_lines given))) (take 256 tail) (reading_of tail) mid)
+Noted noting ended only before given (Err (Of.Drain tally)) notes notes' = (lines : List (List ℕ)) × HasCome ended given lines
+    × (length lines ≡ tally.lines) × AreNoted noting only before lines notes notes'

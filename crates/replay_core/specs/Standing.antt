@@ -1,5 +1,5 @@
 -- What one line does in a replay.
-use Rattle.std.specs.Prelude.{◌≡◌, ℕ, ◌+◌, ◌^◌, ◌<◌, ◌==◌, Bool, false, List, [], ◌∷◌, ◌++◌, length}
+use Rattle.std.specs.Prelude.{◌≡◌, ℕ, ◌+◌, ◌^◌, ◌<◌, ◌==◌, Bool, false, List, [], ◌∷◌, ◌++◌, length, take}
 use Rattle.std.specs.Prelude.{Option, Some, None, Result, Ok, Err}
 use Rattle.words_core.specs.declared.event.Event.{Event}
 use Rattle.words_core.specs.declared.event.LineFault.{LineFault}
@@ -13,6 +13,7 @@ use Rattle.world_core.specs.Output.{event_in, shown_reading, line_feed}
 use Rattle.streams.specs.declared.tally.Tally.{Tally}
 use Rattle.replay_core.specs.declared.run.Run.{Run}
 use Rattle.replay_core.specs.Runs.{fault_in}
+use Rattle.replay_core.specs.Noting.{Noting, noted_fault, noted_reading}
 
 -- a line that was read so is no event, or one that a kernel can be asked to run
 abbrev pub IsRunnable : Result (Option Event) LineFault → Type 0
@@ -30,16 +31,18 @@ AreLines [] = Unit {0}
 AreLines (line ∷ lines) = IsOneLine line × AreLines lines
 
 -- what a run has counted
-abbrev pub tally_of_run : Run → Tally
+abbrev pub tally_of_run : {N : Type 0} → Run N → Tally
 tally_of_run run = record { lines = run.lines; events = run.events; faults = run.faults; written = run.replies.written }
 
 -- the drain has not failed, and so many lines more can be counted
-pub record IsReady (failed : Bool) (run : Run) (lines : ℕ) : Type 0 where
+pub record IsReady {N : Type 0} (failed : Bool) (run : Run N) (lines : ℕ) : Type 0 where
   pub fine : failed ≡ false
   pub more : run.lines + lines < 2 ^ 64
 
 -- a line with this reading has been run and counted, and this is what it shows: what was taken, and what was not
-pub record AnswersRead (s : Run × KernelContent) (reading : Result (Option Event) LineFault) (taken rest : List ℕ) (s' : Run × KernelContent) : Type 0 where
+-- (of the line, the front is noted if it is faulty)
+pub record AnswersRead {N : Type 0} (noting : Noting N) (front : List ℕ) (s : Run N × KernelContent) (reading : Result (Option Event) LineFault)
+    (taken rest : List ℕ) (s' : Run N × KernelContent) : Type 0 where
   pub sizes : SameSizes s.1 s'.1
   pub shows : (w : World) → Shows s.1 w → Shows s'.1 (world_after cache_limit s.1.order w (event_in reading))
   pub shown : (w : World) → Shows s.1 w → shown_reading s.0.replies.only cache_limit s.1.order reading w ≡ taken ++ rest
@@ -48,7 +51,13 @@ pub record AnswersRead (s : Run × KernelContent) (reading : Result (Option Even
   pub faults : s'.0.faults ≡ s.0.faults + fault_in reading
   pub written : s'.0.replies.written ≡ s.0.replies.written + length taken
   pub same : s'.0.replies.only ≡ s.0.replies.only
+  pub noted : (w : World) → Shows s.1 w
+      → s'.0.notes ≡ noted_reading noting s.0.replies.only cache_limit s.1.order (s.0.lines + 1) front reading w s.0.notes
 
 -- the same of the line
-abbrev pub answers : Run × KernelContent → List ℕ → List ℕ → List ℕ → Run × KernelContent → Type 0
-answers s line taken rest s' = AnswersRead s (reading_of line) taken rest s'
+abbrev pub answers : {N : Type 0} → Noting N → Run N × KernelContent → List ℕ → List ℕ → List ℕ → Run N × KernelContent → Type 0
+answers noting s line taken rest s' = AnswersRead noting (take 256 line) s (reading_of line) taken rest s'
+
+-- the beginning of a line whose end could not be read has been noted, if it is faulty
+abbrev pub IsUnended : {N : Type 0} → Noting N → Run N → List ℕ → Run N → Type 0
+IsUnended noting run line run' = run' ≡ record run { notes = noted_fault noting (run.lines + 1) (take 256 line) (reading_of line) run.notes }

@@ -1,6 +1,6 @@
 //! Lines of a load whose answers are written where they stay, each with its command known from reading on.
 
-ghost use Rattle.std.specs.Prelude.{◌≡◌, ◌+◌, ◌^◌, ◌<◌, ◌≤◌, false, true, Some, Ok, length};
+ghost use Rattle.std.specs.Prelude.{◌≡◌, ◌+◌, ◌^◌, ◌<◌, ◌≤◌, false, true, [], Some, Ok, length};
 ghost use Rattle.words_core.specs.Requests.{command_of, IsAskable};
 ghost use Rattle.words_core.specs.declared.event.Event.TheVariants.{Tenant};
 ghost use Rattle.words_core.specs.declared.reply.Addressee.TheVariants as Addressee;
@@ -9,7 +9,7 @@ ghost use Rattle.replay_core.specs.Doing.{HasDone, HasGone};
 ghost use Rattle.replay_core.specs.Front.{HasAnsweredLine};
 ghost use Rattle.replay_core.specs.Standing.{IsReady, AnswersRead, answers};
 
-use crate::notes::Notes;
+use crate::notes::{Notes, note_answer};
 use crate::run::Run;
 use streams::Drain;
 use kernel_core::Kernel;
@@ -32,20 +32,19 @@ const WRITE: usize = 5;
 
 const RARE: usize = 6;
 
-impl Run {
+impl<N: Notes> Run<N> {
     /// Runs the lines at the front of a piece as long as they are requests that are read the short way, of tenants that there are and
     /// whose replies are shown, and the drain has space for an answer; answers the rest of the piece. The lines end in LF, or in CR LF
     /// if `RETURNS`. By itself, so that its loop has all registers.
     #[inline(never)]
-    pub fn run_in_place<'a, const RETURNS: bool, D: Drain, N: Notes>(
+    pub fn run_in_place<'a, const RETURNS: bool, D: Drain>(
         &mut self,
         piece: &'a [u8],
         kernel: &mut Kernel,
         drain: &mut D,
-        notes: &mut N,
     ) -> &'a [u8]
         requires { IsReady (D.has_failed drain.old) self.old (length piece.now) }
-        ensures done { HasGone answers (self.old, kernel.old) piece.now result.now
+        ensures done { HasGone (answers N.noting) (self.old, kernel.old) piece.now result.now
             (D.contents drain.old) (D.contents drain.new) (self.new, kernel.new) }
         ensures left { self.new.lines + length result.now ≤ self.old.lines + length piece.now }
         ensures within { length result.now ≤ length piece.now }
@@ -55,7 +54,7 @@ impl Run {
         let mut room = [0; MOST_BYTES];
         let mut rest = piece;
         'lines: while drain.has_space() {
-            let Some(len) = self.answer_line::<RETURNS, D, N>(rest, &mut room, kernel, drain, notes)
+            let Some(len) = self.answer_line::<RETURNS, D>(rest, &mut room, kernel, drain)
             else {
                 return rest;
             };
@@ -67,17 +66,16 @@ impl Run {
     /// Runs and answers the line at the front of these bytes, and answers how long it is; None, and nothing is done, where it is no
     /// request that is read the short way, or of no tenant that there is and is shown.
     #[inline(always)]
-    fn answer_line<const RETURNS: bool, D: Drain, N: Notes>(
+    fn answer_line<const RETURNS: bool, D: Drain>(
         &mut self,
         bytes: &[u8],
         room: &mut [u8; MOST_BYTES],
         kernel: &mut Kernel,
         drain: &mut D,
-        notes: &mut N,
     ) -> Option<usize>
         requires ready { IsReady (D.has_failed drain.old) self.old (length bytes.now) }
         requires space { D.is_roomy drain.old ≡ true }
-        ensures { HasAnsweredLine bytes.now kernel.old kernel.new (D.contents drain.old) (D.contents drain.new)
+        ensures { HasAnsweredLine N.noting bytes.now kernel.old kernel.new (D.contents drain.old) (D.contents drain.new)
             (D.has_failed drain.new) self.old self.new result }
     {
         let number = read_tenant(bytes)?;
@@ -86,85 +84,78 @@ impl Run {
             return None;
         }
         let line = read_known_request::<RETURNS>(bytes, number, room)?;
-        self.answer_request::<RETURNS, D, N>(tenant, line.request, kernel, drain, notes);
+        self.answer_request::<RETURNS, D>(tenant, line.request, kernel, drain);
         Some(line.len)
     }
 
     /// Runs a request of a tenant that there is and is shown, counts its line, and writes what it is answered where it stays.
     #[inline(always)]
-    fn answer_request<const RETURNS: bool, D: Drain, N: Notes>(
+    fn answer_request<const RETURNS: bool, D: Drain>(
         &mut self,
         tenant: u8,
         request: Request<'_>,
         kernel: &mut Kernel,
         drain: &mut D,
-        notes: &mut N,
     )
         requires askable { IsAskable request }
         requires tenant { tenant < kernel.old.tenants }
         requires shown { is_shown self.old.replies.only (Addressee.Tenant tenant) ≡ true }
         requires ready { IsReady (D.has_failed drain.old) self.old 1 }
         requires space { D.is_roomy drain.old ≡ true }
-        ensures done { HasDone AnswersRead (self.old, kernel.old) (Ok (Some (Tenant tenant (command_of request.entry))))
+        ensures done { HasDone (AnswersRead N.noting []) (self.old, kernel.old) (Ok (Some (Tenant tenant (command_of request.entry))))
             (D.contents drain.old) (D.contents drain.new) (Ok tt) (self.new, kernel.new) }
         ensures failed { D.has_failed drain.new ≡ false }
     {
         match request {
             Request::Alloc { order } => {
-                self.answer_as::<ALLOC, RETURNS, D, N>(
+                self.answer_as::<ALLOC, RETURNS, D>(
                     tenant,
                     Request::Alloc { order },
                     kernel,
                     drain,
-                    notes,
                 )
             }
             Request::Free { frame } => {
-                self.answer_as::<FREE, RETURNS, D, N>(
+                self.answer_as::<FREE, RETURNS, D>(
                     tenant,
                     Request::Free { frame },
                     kernel,
                     drain,
-                    notes,
                 )
             }
             Request::Take { cache } => {
-                self.answer_as::<TAKE, RETURNS, D, N>(
+                self.answer_as::<TAKE, RETURNS, D>(
                     tenant,
                     Request::Take { cache },
                     kernel,
                     drain,
-                    notes,
                 )
             }
             Request::Give { cache, place } => {
-                self.answer_as::<GIVE, RETURNS, D, N>(
+                self.answer_as::<GIVE, RETURNS, D>(
                     tenant,
                     Request::Give { cache, place },
                     kernel,
                     drain,
-                    notes,
                 )
             }
             Request::Read { place, len } => {
-                self.answer_as::<READ, RETURNS, D, N>(
+                self.answer_as::<READ, RETURNS, D>(
                     tenant,
                     Request::Read { place, len },
                     kernel,
                     drain,
-                    notes,
                 )
             }
             Request::Write { place, bytes } => {
-                self.answer_as::<WRITE, RETURNS, D, N>(
+                self.answer_as::<WRITE, RETURNS, D>(
                     tenant,
                     Request::Write { place, bytes },
                     kernel,
                     drain,
-                    notes,
                 )
             }
-            rare => self.answer_rare(tenant, rare, kernel, drain, notes),
+            rare => self.answer_rare(tenant, rare, kernel, drain),
         }
     }
 
@@ -172,50 +163,48 @@ impl Run {
     /// line end: of such a function the compiler makes a part of its caller, however long it is, and what the command may be answered
     /// is then known where that is written.
     #[inline]
-    fn answer_as<const COMMAND: usize, const RETURNS: bool, D: Drain, N: Notes>(
+    fn answer_as<const COMMAND: usize, const RETURNS: bool, D: Drain>(
         &mut self,
         tenant: u8,
         request: Request<'_>,
         kernel: &mut Kernel,
         drain: &mut D,
-        notes: &mut N,
     )
         requires askable { IsAskable request }
         requires tenant { tenant < kernel.old.tenants }
         requires shown { is_shown self.old.replies.only (Addressee.Tenant tenant) ≡ true }
         requires ready { IsReady (D.has_failed drain.old) self.old 1 }
         requires space { D.is_roomy drain.old ≡ true }
-        ensures done { HasDone AnswersRead (self.old, kernel.old) (Ok (Some (Tenant tenant (command_of request.entry))))
+        ensures done { HasDone (AnswersRead N.noting []) (self.old, kernel.old) (Ok (Some (Tenant tenant (command_of request.entry))))
             (D.contents drain.old) (D.contents drain.new) (Ok tt) (self.new, kernel.new) }
         ensures failed { D.has_failed drain.new ≡ false }
     {
         self.lines += 1;
         self.events += 1;
         let answer = kernel.ask_known(tenant, request);
-        notes.answered(answer);
+        note_answer(answer, &mut self.notes);
         self.replies.show_in_place(tenant, answer, drain);
     }
 
     /// [`Run::answer_as`] of a command that no load is made of.
     #[cold]
     #[inline(never)]
-    fn answer_rare<D: Drain, N: Notes>(
+    fn answer_rare<D: Drain>(
         &mut self,
         tenant: u8,
         request: Request<'_>,
         kernel: &mut Kernel,
         drain: &mut D,
-        notes: &mut N,
     )
         requires askable { IsAskable request }
         requires tenant { tenant < kernel.old.tenants }
         requires shown { is_shown self.old.replies.only (Addressee.Tenant tenant) ≡ true }
         requires ready { IsReady (D.has_failed drain.old) self.old 1 }
         requires space { D.is_roomy drain.old ≡ true }
-        ensures done { HasDone AnswersRead (self.old, kernel.old) (Ok (Some (Tenant tenant (command_of request.entry))))
+        ensures done { HasDone (AnswersRead N.noting []) (self.old, kernel.old) (Ok (Some (Tenant tenant (command_of request.entry))))
             (D.contents drain.old) (D.contents drain.new) (Ok tt) (self.new, kernel.new) }
         ensures failed { D.has_failed drain.new ≡ false }
     {
-        self.answer_as::<RARE, LF, D, N>(tenant, request, kernel, drain, notes);
+        self.answer_as::<RARE, LF, D>(tenant, request, kernel, drain);
     }
 }

@@ -9,20 +9,18 @@ ghost use Rattle.replay_core.specs.Doing.{HasDone};
 ghost use Rattle.replay_core.specs.Pending.{IsFrontOf};
 ghost use Rattle.replay_core.specs.Standing.{IsRunnable};
 
-use crate::notes::Notes;
 use crate::sink::Sink;
 use streams::{Drain, Stopped};
 use kernel_core::Kernel;
 use words_core::{Addressee, Answer, Event, LineFault, Refusal, Request};
 
 /// Runs a line that was read so, and hands it on. `front` is the line, or the beginning of one that is too long.
-pub fn answer<S: Sink, D: Drain, N: Notes>(
+pub fn answer<S: Sink, D: Drain>(
     reading: Result<Option<Event>, LineFault>,
     front: &[u8],
     kernel: &mut Kernel,
     sink: &mut S,
     drain: &mut D,
-    notes: &mut N,
 ) -> Result<(), Stopped>
     requires runnable { IsRunnable reading }
     requires more { 0 < S.lines_left sink.old }
@@ -33,26 +31,22 @@ pub fn answer<S: Sink, D: Drain, N: Notes>(
     ensures failed { D.has_failed drain.new ≡ is_err result }
 {
     match reading {
-        Ok(Some(event)) => run_event(&event, front, kernel, sink, drain, notes),
+        Ok(Some(event)) => run_event(&event, front, kernel, sink, drain),
         Ok(None) => {
             sink.blank();
             Ok(())
         }
-        Err(fault) => {
-            notes.faulty(sink.lines().saturating_add(1), fault, front);
-            sink.faulty(fault, drain, notes)
-        }
+        Err(fault) => sink.faulty(fault, front, drain),
     }
 }
 
 /// Runs the event of a line.
-fn run_event<S: Sink, D: Drain, N: Notes>(
+fn run_event<S: Sink, D: Drain>(
     event: &Event,
     line: &[u8],
     kernel: &mut Kernel,
     sink: &mut S,
     drain: &mut D,
-    notes: &mut N,
 ) -> Result<(), Stopped>
     requires pattern { HasPattern event.now }
     requires more { 0 < S.lines_left sink.old }
@@ -65,18 +59,18 @@ fn run_event<S: Sink, D: Drain, N: Notes>(
 {
     match event {
         Event::Tenant(tenant, command) => match command.request() {
-            Some(request) => ask(event, *tenant, request, line, kernel, sink, drain, notes),
-            None => sink.replied(line, event, &kernel.report(*tenant), drain, notes),
+            Some(request) => ask(event, *tenant, request, line, kernel, sink, drain),
+            None => sink.replied(line, event, &kernel.report(*tenant), drain),
         },
         Event::Admin(command) => match kernel.administer(command) {
-            Some(answer) => sink.answered(line, event, Addressee::Admin, answer, drain, notes),
-            None => sink.replied(line, event, &kernel.pool(), drain, notes),
+            Some(answer) => sink.answered(line, event, Addressee::Admin, answer, drain),
+            None => sink.replied(line, event, &kernel.pool(), drain),
         },
     }
 }
 
 /// Runs the request that the event of a line is.
-fn ask<S: Sink, D: Drain, N: Notes>(
+fn ask<S: Sink, D: Drain>(
     event: &Event,
     tenant: u32,
     request: Request<'_>,
@@ -84,7 +78,6 @@ fn ask<S: Sink, D: Drain, N: Notes>(
     kernel: &mut Kernel,
     sink: &mut S,
     drain: &mut D,
-    notes: &mut N,
 ) -> Result<(), Stopped>
     requires event { event.now ≡ Tenant tenant (command_of request) }
     requires askable { IsAskable request }
@@ -98,11 +91,11 @@ fn ask<S: Sink, D: Drain, N: Notes>(
 {
     match kernel.ask(tenant, request) {
         Some((t, answer)) => {
-            sink.answered(line, event, Addressee::Tenant(t), answer, drain, notes)
+            sink.answered(line, event, Addressee::Tenant(t), answer, drain)
         }
         None => {
             let answer = Answer::Refused(Refusal::NoTenant);
-            sink.answered(line, event, Addressee::Nobody, answer, drain, notes)
+            sink.answered(line, event, Addressee::Nobody, answer, drain)
         }
     }
 }

@@ -5,10 +5,9 @@ ghost use Rattle.std.specs.Io.KnownBytes.{Consumes, Appends, IsAtEnd};
 ghost use Rattle.replay_core.specs.Pending.{HoldsLine};
 ghost use Rattle.replay_core.specs.Standing.{IsOneLine};
 ghost use Rattle.replay_core.specs.Doing.{HasDone, HasGone, HasStopped};
-ghost use Rattle.replay_core.specs.Ending.{RunsAs, IsRunToEnd, NamesEndFailed};
+ghost use Rattle.replay_core.specs.Ending.{HasLeft, RunsAs, IsRunToEnd, NamesEndFailed};
 
 use crate::answering::answer;
-use crate::notes::Notes;
 use crate::pending::{Pending, split_line};
 use crate::sink::Sink;
 use streams::{Drain, Feed, Stopped};
@@ -31,12 +30,11 @@ pub enum EndFailed {
 ///
 /// Lines are cut at LF wherever the pieces end, and a last line needs none. Each is done as soon as it has come, and the drain
 /// sends what was pushed before the feed is asked for more. Allocates nothing.
-pub fn do_lines<S: Sink, F: Feed, D: Drain, N: Notes>(
+pub fn do_lines<S: Sink, F: Feed, D: Drain>(
     kernel: &mut Kernel,
     sink: &mut S,
     feed: &mut F,
     drain: &mut D,
-    notes: &mut N,
 ) -> Result<(), EndFailed>
     // Each line has a byte.
     requires more { F.room_left feed.old ≤ S.lines_left sink.old }
@@ -46,7 +44,7 @@ pub fn do_lines<S: Sink, F: Feed, D: Drain, N: Notes>(
     ensures ran { (given : List ℕ) × (taken : List ℕ)
         × Consumes (F.remaining feed.old) (F.remaining feed.new) given
         × Appends (D.contents drain.old) (D.contents drain.new) taken
-        × RunsAs S.does (F.has_ended feed.new) (sink.old, kernel.old) given taken result (sink.new, kernel.new)
+        × RunsAs S.does S.leaves (F.has_ended feed.new) (sink.old, kernel.old) given taken result (sink.new, kernel.new)
         × (F.room_left feed.new + length given ≡ F.room_left feed.old) }
     ensures ended { IsRunToEnd result (F.has_ended feed.new) }
     // Then what was given is all that it had.
@@ -58,13 +56,13 @@ pub fn do_lines<S: Sink, F: Feed, D: Drain, N: Notes>(
     'pulls: loop {
         drain.send();
         let Ok(count) = feed.pull(&mut piece) else {
-            note_unended(&pending, sink.lines(), notes);
+            see_unended(&pending, sink);
             return Err(EndFailed::Feed);
         };
         if count == 0 {
             break;
         }
-        let done = do_piece(&piece[..count], &mut pending, kernel, sink, drain, notes);
+        let done = do_piece(&piece[..count], &mut pending, kernel, sink, drain);
         if done.is_err() {
             return Err(EndFailed::Drain);
         }
@@ -73,27 +71,30 @@ pub fn do_lines<S: Sink, F: Feed, D: Drain, N: Notes>(
         return Ok(());
     }
     let front = pending.held.as_slice();
-    if answer(pending.reading(), front, kernel, sink, drain, notes).is_err() {
+    if answer(pending.reading(), front, kernel, sink, drain).is_err() {
         return Err(EndFailed::Drain);
     }
     Ok(())
 }
 
-/// Notes the line behind the first `lines` if its end could not be read and it is faulty as far as it was read.
-fn note_unended<N: Notes>(pending: &Pending, lines: u64, notes: &mut N) {
-    if let Err(fault) = pending.reading() {
-        notes.faulty(lines.saturating_add(1), fault, pending.held.as_slice());
+/// Shows the sink the line whose end could not be read, if there is one.
+#[cold]
+fn see_unended<S: Sink>(pending: &Pending, sink: &mut S)
+    requires more { (tail : List ℕ) × HoldsLine tail pending.now × (length tail ≤ S.lines_left sink.old) }
+    ensures { (tail : List ℕ) → HoldsLine tail pending.now → HasLeft S.leaves sink.old tail sink.new }
+{
+    if !pending.is_empty() {
+        sink.unended(pending.reading(), pending.held.as_slice());
     }
 }
 
 /// Does the lines that end in a piece; what follows the last of them becomes pending.
-fn do_piece<S: Sink, D: Drain, N: Notes>(
+fn do_piece<S: Sink, D: Drain>(
     piece: &[u8],
     pending: &mut Pending,
     kernel: &mut Kernel,
     sink: &mut S,
     drain: &mut D,
-    notes: &mut N,
 ) -> Result<(), Stopped>
     requires more { length piece.now ≤ S.lines_left sink.old }
     requires fine { D.has_failed drain.old ≡ false }
@@ -106,11 +107,11 @@ fn do_piece<S: Sink, D: Drain, N: Notes>(
         (D.contents drain.old) (D.contents drain.new) (sink.new, kernel.new)) }
     ensures failed { D.has_failed drain.new ≡ is_err result }
 {
-    let mut rest = begin_piece(piece, pending, kernel, sink, drain, notes)?;
+    let mut rest = begin_piece(piece, pending, kernel, sink, drain)?;
     'lines: while let Some((end, after)) = split_line(rest) {
-        end_line(end, pending, kernel, sink, drain, notes)?;
+        end_line(end, pending, kernel, sink, drain)?;
         let returned = end.ends_with(b"\r");
-        rest = do_quick_lines(after, returned, kernel, sink, drain, notes)?;
+        rest = do_quick_lines(after, returned, kernel, sink, drain)?;
     }
     pending.add(rest);
     Ok(())
@@ -118,13 +119,12 @@ fn do_piece<S: Sink, D: Drain, N: Notes>(
 
 /// Does the lines at the front of a piece that are read the short way, where no beginning of a line is pending, and returns the
 /// rest of the piece.
-fn begin_piece<'a, S: Sink, D: Drain, N: Notes>(
+fn begin_piece<'a, S: Sink, D: Drain>(
     piece: &'a [u8],
     pending: &Pending,
     kernel: &mut Kernel,
     sink: &mut S,
     drain: &mut D,
-    notes: &mut N,
 ) -> Result<&'a [u8], Stopped>
     requires more { length piece.now ≤ S.lines_left sink.old }
     requires fine { D.has_failed drain.old ≡ false }
@@ -137,7 +137,7 @@ fn begin_piece<'a, S: Sink, D: Drain, N: Notes>(
     ensures failed { D.has_failed drain.new ≡ is_err result }
 {
     if pending.is_empty() {
-        do_quick_lines(piece, false, kernel, sink, drain, notes)
+        do_quick_lines(piece, false, kernel, sink, drain)
     } else {
         Ok(piece)
     }
@@ -148,13 +148,12 @@ fn begin_piece<'a, S: Sink, D: Drain, N: Notes>(
 ///
 /// Lines that end in CR LF are tried only behind one that did, as `returned` says.
 #[inline(always)]
-fn do_quick_lines<'a, S: Sink, D: Drain, N: Notes>(
+fn do_quick_lines<'a, S: Sink, D: Drain>(
     piece: &'a [u8],
     returned: bool,
     kernel: &mut Kernel,
     sink: &mut S,
     drain: &mut D,
-    notes: &mut N,
 ) -> Result<&'a [u8], Stopped>
     requires more { length piece.now ≤ S.lines_left sink.old }
     requires fine { D.has_failed drain.old ≡ false }
@@ -169,21 +168,20 @@ fn do_quick_lines<'a, S: Sink, D: Drain, N: Notes>(
     if !may_begin_request(piece) {
         return Ok(piece);
     }
-    let rest = sink.quick_lines(piece, LF, kernel, drain, notes)?;
+    let rest = sink.quick_lines(piece, LF, kernel, drain)?;
     if !returned {
         return Ok(rest);
     }
-    sink.quick_lines(rest, CR_LF, kernel, drain, notes)
+    sink.quick_lines(rest, CR_LF, kernel, drain)
 }
 
 /// Does the line that ends with these bytes. The next line begins.
-fn end_line<S: Sink, D: Drain, N: Notes>(
+fn end_line<S: Sink, D: Drain>(
     bytes: &[u8],
     pending: &mut Pending,
     kernel: &mut Kernel,
     sink: &mut S,
     drain: &mut D,
-    notes: &mut N,
 ) -> Result<(), Stopped>
     requires more { 0 < S.lines_left sink.old }
     requires fine { D.has_failed drain.old ≡ false }
@@ -195,11 +193,11 @@ fn end_line<S: Sink, D: Drain, N: Notes>(
     ensures failed { D.has_failed drain.new ≡ is_err result }
 {
     if pending.is_empty() {
-        return answer(pending.end_with(bytes), bytes, kernel, sink, drain, notes);
+        return answer(pending.end_with(bytes), bytes, kernel, sink, drain);
     }
     pending.add(bytes);
     let front = pending.held.as_slice();
-    let done = answer(pending.reading(), front, kernel, sink, drain, notes);
+    let done = answer(pending.reading(), front, kernel, sink, drain);
     pending.clear();
     done
 }

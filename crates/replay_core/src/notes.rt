@@ -1,25 +1,55 @@
 //! Notes of a replay, beside its replies.
 
-use words_core::{Answer, LineFault};
+ghost use Rattle.std.specs.Prelude.{◌≡◌, take};
+ghost use Rattle.words_core.specs.Requests.{body_of_answer};
+ghost use Rattle.replay_core.specs.Noting.{Noting, noted_body};
 
-/// What looks on while a trace is replayed. It changes nothing of the replies.
-pub trait Notes {
-    /// Notes an answer that is shown, before it is pushed. Of the replies of several lines only a refusal is an answer.
-    fn answered(&mut self, answer: Answer<'_>);
+use words_core::{Answer, Body, LineFault, Refusal};
+
+/// What is noted while a trace is replayed: the refusals that are shown, and the faulty lines. It changes nothing of the replies.
+pub trait Notes: Default + Drop {
+    // What each adds to the notes.
+    ghost noting: { Noting Self };
+
+    /// Notes a refusal that is shown, before its reply is pushed.
+    fn refused(&mut self, refusal: Refusal)
+        ensures { self.new ≡ noting.refused self.old refusal };
 
     /// Notes a faulty line: its number, the first line's being 1, its fault, and the line, or at least its first 256 bytes.
     ///
     /// A line whose end could not be read is noted too, as far as it was read.
-    fn faulty(&mut self, number: u64, fault: LineFault, begin: &[u8]);
+    fn faulty(&mut self, number: u64, fault: LineFault, begin: &[u8])
+        ensures { self.new ≡ noting.faulty self.old number fault (take 256 begin.now) };
+}
+
+/// Notes a shown answer if it is a refusal.
+#[inline(always)]
+pub(crate) fn note_answer<N: Notes>(answer: Answer<'_>, notes: &mut N)
+    ensures { notes.new ≡ noted_body N.noting (body_of_answer answer.entry) notes.old }
+{
+    if let Answer::Refused(refusal) = answer {
+        notes.refused(refusal);
+    }
+}
+
+/// Notes a shown reply if it is a refusal.
+pub(crate) fn note_body<N: Notes>(body: &Body, notes: &mut N)
+    ensures { notes.new ≡ noted_body N.noting body.now notes.old }
+{
+    if let Body::Refused(refusal) = body {
+        notes.refused(*refusal);
+    }
 }
 
 /// No notes.
-#[derive(Drop)]
+#[derive(Default, Drop)]
 pub struct NoNotes;
 
 impl Notes for NoNotes {
+    ghost noting = { record { refused = λ notes refusal. notes; faulty = λ notes number fault front. notes } };
+
     #[inline(always)]
-    fn answered(&mut self, _answer: Answer<'_>) {}
+    fn refused(&mut self, _refusal: Refusal) {}
 
     #[inline(always)]
     fn faulty(&mut self, _number: u64, _fault: LineFault, _begin: &[u8]) {}

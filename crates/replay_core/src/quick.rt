@@ -1,6 +1,6 @@
 //! The lines that make up a load, run one after the other, and requests that are not answered in place.
 
-ghost use Rattle.std.specs.Prelude.{◌≡◌, ◌+◌, ◌^◌, ◌<◌, ◌≤◌, Some, Ok, length, is_err};
+ghost use Rattle.std.specs.Prelude.{◌≡◌, ◌+◌, ◌^◌, ◌<◌, ◌≤◌, [], Some, Ok, length, is_err};
 ghost use Rattle.std.specs.Prelude.{IfOk, IfSome, MatchResult};
 ghost use Rattle.quick_core.specs.Lines.{ReadsAs};
 ghost use Rattle.words_core.specs.Grammar.{reading_of};
@@ -20,36 +20,35 @@ use quick_core::{
 };
 use words_core::{Addressee, Answer, Refusal, Request};
 
-impl Run {
+impl<N: Notes> Run<N> {
     /// The quick lines of a replay: those that are answered in place, and between them those that are not.
-    pub fn run_ended_lines<'a, const RETURNS: bool, D: Drain, N: Notes>(
+    pub fn run_ended_lines<'a, const RETURNS: bool, D: Drain>(
         &mut self,
         piece: &'a [u8],
         kernel: &mut Kernel,
         drain: &mut D,
-        notes: &mut N,
     ) -> Result<&'a [u8], Stopped>
         requires { IsReady (D.has_failed drain.old) self.old (length piece.now) }
         ensures done { MatchResult result
-            (λ rest. HasGone answers (self.old, kernel.old) piece.now rest.now
+            (λ rest. HasGone (answers N.noting) (self.old, kernel.old) piece.now rest.now
             (D.contents drain.old) (D.contents drain.new) (self.new, kernel.new))
-            (λ _. HasStopped answers (self.old, kernel.old) piece.now
+            (λ _. HasStopped (answers N.noting) (self.old, kernel.old) piece.now
             (D.contents drain.old) (D.contents drain.new) (self.new, kernel.new)) }
         ensures left { IfOk result (λ rest. self.new.lines + length rest.now ≤ self.old.lines + length piece.now) }
         ensures failed { D.has_failed drain.new ≡ is_err result }
     {
         // What a write stores: one room for all lines, filled anew by each.
         let mut room = [0; MOST_BYTES];
-        let mut rest = self.run_in_place::<RETURNS, D, N>(piece, kernel, drain, notes);
+        let mut rest = self.run_in_place::<RETURNS, D>(piece, kernel, drain);
         'lines: while let Some(line) = self.read_left::<RETURNS, D>(
             rest, &mut room, kernel, drain,
         ) {
             let len = line.len;
-            self.answer_apart(line.tenant, line.request, kernel, drain, notes)?;
-            rest = self.run_in_place::<RETURNS, D, N>(&rest[len..], kernel, drain, notes);
+            self.answer_apart(line.tenant, line.request, kernel, drain)?;
+            rest = self.run_in_place::<RETURNS, D>(&rest[len..], kernel, drain);
         }
         if rest.len() < WINDOW {
-            return self.run_last_lines(rest, kernel, drain, notes);
+            return self.run_last_lines(rest, kernel, drain);
         }
         Ok(rest)
     }
@@ -77,18 +76,17 @@ impl Run {
     /// beginning of a line may be pending.
     #[cold]
     #[inline(never)]
-    pub fn run_last_lines<'a, D: Drain, N: Notes>(
+    pub fn run_last_lines<'a, D: Drain>(
         &mut self,
         piece: &'a [u8],
         kernel: &mut Kernel,
         drain: &mut D,
-        notes: &mut N,
     ) -> Result<&'a [u8], Stopped>
         requires { IsReady (D.has_failed drain.old) self.old (length piece.now) }
         ensures done { MatchResult result
-            (λ rest. HasGone answers (self.old, kernel.old) piece.now rest.now
+            (λ rest. HasGone (answers N.noting) (self.old, kernel.old) piece.now rest.now
             (D.contents drain.old) (D.contents drain.new) (self.new, kernel.new))
-            (λ _. HasStopped answers (self.old, kernel.old) piece.now
+            (λ _. HasStopped (answers N.noting) (self.old, kernel.old) piece.now
             (D.contents drain.old) (D.contents drain.new) (self.new, kernel.new)) }
         ensures left { IfOk result (λ rest. self.new.lines + length rest.now ≤ self.old.lines + length piece.now) }
         ensures failed { D.has_failed drain.new ≡ is_err result }
@@ -99,7 +97,7 @@ impl Run {
             let Some(read) = read_alone(&rest[..end], &mut room) else {
                 return Ok(rest);
             };
-            self.answer_apart(read.tenant, read.request, kernel, drain, notes)?;
+            self.answer_apart(read.tenant, read.request, kernel, drain)?;
             rest = &rest[end + 1..];
         }
         Ok(rest)
@@ -107,17 +105,16 @@ impl Run {
 
     /// Runs a request that was read off a line, counts the line, and pushes what it shows.
     #[inline(never)]
-    pub fn answer_apart<D: Drain, N: Notes>(
+    pub fn answer_apart<D: Drain>(
         &mut self,
         tenant: u32,
         request: Request<'_>,
         kernel: &mut Kernel,
         drain: &mut D,
-        notes: &mut N,
     ) -> Result<(), Stopped>
         requires askable { IsAskable request }
         requires ready { IsReady (D.has_failed drain.old) self.old 1 }
-        ensures done { HasDone AnswersRead (self.old, kernel.old) (Ok (Some (Tenant tenant (command_of request.entry))))
+        ensures done { HasDone (AnswersRead N.noting []) (self.old, kernel.old) (Ok (Some (Tenant tenant (command_of request.entry))))
             (D.contents drain.old) (D.contents drain.new) result (self.new, kernel.new) }
         ensures failed { D.has_failed drain.new ≡ is_err result }
     {
@@ -126,12 +123,12 @@ impl Run {
         match kernel.ask(tenant, request) {
             Some((t, answer)) => {
                 self.replies
-                    .show_to(Addressee::Tenant(t), answer, drain, notes)
+                    .show_to(Addressee::Tenant(t), answer, drain, &mut self.notes)
             }
             None => {
                 let answer = Answer::Refused(Refusal::NoTenant);
                 self.replies
-                    .show_to(Addressee::Nobody, answer, drain, notes)
+                    .show_to(Addressee::Nobody, answer, drain, &mut self.notes)
             }
         }
     }

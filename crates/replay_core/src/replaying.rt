@@ -2,7 +2,7 @@
 
 ghost use Rattle.std.specs.Prelude.{◌≡◌, ℕ, ◌+◌, true, false, List, length, OnOk};
 ghost use Rattle.std.specs.Io.KnownBytes.{Consumes, Appends, IsAtEnd};
-ghost use Rattle.replay_core.specs.Runs.{Replays, HasOwnLines, IsDone, NamesFailed};
+ghost use Rattle.replay_core.specs.Runs.{Noted, Replays, HasOwnLines, IsDone, NamesFailed};
 ghost use Rattle.replay_core.specs.Promised.{TakesAllowed};
 
 use crate::engine::{EndFailed, do_lines};
@@ -10,6 +10,7 @@ use crate::notes::{NoNotes, Notes};
 use crate::run::Run;
 use streams::{Drain, Feed, ReplayError, Tally};
 use kernel_core::{Kernel, laws};
+use std::mem;
 
 /// Runs the trace that the feed gives on the kernel, and pushes the replies into the drain: with `only` those to that
 /// tenant alone, else all.
@@ -45,7 +46,7 @@ pub fn replay<F: Feed, D: Drain>(
     replay_noted(kernel, feed, drain, only, &mut NoNotes)
 }
 
-/// Does what [`replay`] does, and notes the shown answers and the faulty lines.
+/// Does what [`replay`] does, and notes the refusals that are shown and the faulty lines.
 pub fn replay_noted<F: Feed, D: Drain, N: Notes>(
     kernel: &mut Kernel,
     feed: &mut F,
@@ -62,7 +63,8 @@ pub fn replay_noted<F: Feed, D: Drain, N: Notes>(
         × Appends (D.contents drain.old) (D.contents drain.new) taken
         × Replays (F.has_ended feed.new) only kernel.old kernel.new given taken result
         × OnOk result (HasOwnLines only kernel.old given taken)
-        × (F.room_left feed.new + length given ≡ F.room_left feed.old) }
+        × (F.room_left feed.new + length given ≡ F.room_left feed.old)
+        × Noted N.noting (F.has_ended feed.new) only kernel.old given result notes.old notes.new }
     // From an opening world each of these replies keeps the promises, the ones that are not shown too.
     ensures promises { (given : List ℕ) × (taken : List ℕ)
         × Consumes (F.remaining feed.old) (F.remaining feed.new) given
@@ -78,10 +80,10 @@ pub fn replay_noted<F: Feed, D: Drain, N: Notes>(
     // The texts of tenants' numbers, and the counts: each line has a byte at least.
     let _tenants = kernel.tenants();
     let _room = feed.room();
-    let mut run = Run::new(only);
-    match do_lines(kernel, &mut run, feed, drain, notes) {
-        Ok(()) => Ok(run.tally()),
-        Err(EndFailed::Feed) => Err(ReplayError::Feed(run.tally())),
-        Err(EndFailed::Drain) => Err(ReplayError::Drain(run.tally())),
+    let mut run = Run::new(only, mem::take(notes));
+    match do_lines(kernel, &mut run, feed, drain) {
+        Ok(()) => Ok(run.end(notes)),
+        Err(EndFailed::Feed) => Err(ReplayError::Feed(run.end(notes))),
+        Err(EndFailed::Drain) => Err(ReplayError::Drain(run.end(notes))),
     }
 }

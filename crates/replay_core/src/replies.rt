@@ -6,12 +6,13 @@ ghost use Rattle.words_core.specs.Requests.{reply_of_answer, reply_to, HasFewByt
 ghost use Rattle.world_core.specs.Output.{is_shown, shown_text};
 ghost use Rattle.replay_core.specs.Pushes.{HasRoomToWrite, HasPushed, most_reply_bytes};
 ghost use Rattle.replay_core.specs.Shown.{HasShown};
+ghost use Rattle.replay_core.specs.Noting.{noted_reply};
 
-use crate::notes::Notes;
+use crate::notes::{Notes, note_answer, note_body};
 use streams::{Drain, Stopped, TEXT_BYTES, Text};
 use std::marker::Model;
 use words_core::{
-    Addressee, Answer, Body, MOST_ANSWER_BYTES, MOST_REPLY_BYTES, Reply, rows, write_answer,
+    Addressee, Answer, MOST_ANSWER_BYTES, MOST_REPLY_BYTES, Reply, rows, write_answer,
     write_answer_to, write_row,
 };
 
@@ -57,7 +58,7 @@ impl Replies {
         self.written += len as u128;
     }
 
-    /// Pushes an answer to anyone, by way of the room that the longest takes.
+    /// Notes an answer to anyone and pushes it, by way of a buffer for the longest one. Does nothing if it is not shown.
     #[cold]
     #[inline(never)]
     pub fn show_to<D: Drain, N: Notes>(
@@ -69,19 +70,21 @@ impl Replies {
     ) -> Result<(), Stopped>
         requires few { HasFewBytes answer }
         requires room { HasRoomToWrite (D.has_failed drain.old) self.old.written most_reply_bytes }
-        ensures { HasShown (D.contents drain.old) (D.contents drain.new) (D.has_failed drain.new)
+        ensures shown { HasShown (D.contents drain.old) (D.contents drain.new) (D.has_failed drain.new)
             (shown_text self.old.only (reply_to addressee answer.entry)) self.old self.new result }
+        ensures noted { notes.new ≡ noted_reply N.noting self.old.only (reply_to addressee answer.entry) notes.old }
     {
         if !self.is_shown(addressee) {
             return Ok(());
         }
-        notes.answered(answer);
+        note_answer(answer, notes);
         let mut text = [0; MOST_ANSWER_BYTES];
         let len = write_answer_to(addressee, answer, &mut text);
         push_all(&text[..len], drain, &mut self.written)
     }
 
-    /// Pushes a reply, line by line; by itself, since its lines take space that no other answer needs.
+    /// Notes a reply and pushes it, line by line. Does nothing if it is not shown. By itself, since its lines take space that no other
+    /// answer needs.
     #[cold]
     #[inline(never)]
     pub fn show<D: Drain, N: Notes>(
@@ -91,15 +94,14 @@ impl Replies {
         notes: &mut N,
     ) -> Result<(), Stopped>
         requires { HasRoomToWrite (D.has_failed drain.old) self.old.written most_reply_bytes }
-        ensures { HasShown (D.contents drain.old) (D.contents drain.new) (D.has_failed drain.new)
+        ensures shown { HasShown (D.contents drain.old) (D.contents drain.new) (D.has_failed drain.new)
             (shown_text self.old.only reply.now) self.old self.new result }
+        ensures noted { notes.new ≡ noted_reply N.noting self.old.only reply.now notes.old }
     {
         if !self.is_shown(reply.addressee) {
             return Ok(());
         }
-        if let Body::Refused(refusal) = &reply.body {
-            notes.answered(Answer::Refused(*refusal));
-        }
+        note_body(&reply.body, notes);
         let mut text = [0; MOST_REPLY_BYTES];
         for row in 0..rows(reply) {
             let len = write_row(reply, row, &mut text);

@@ -11,22 +11,24 @@ use kernel_core::Kernel;
 use quick_core::{CR_LF, LF};
 use words_core::{Addressee, Answer, Event, LineFault, Reply};
 
-/// What a replay keeps from one line to the next: the counts of a [`Tally`], and the replies.
+/// What a replay keeps from one line to the next: the counts of a [`Tally`], the replies, and the notes.
 #[derive(Drop)]
-pub struct Run {
+pub struct Run<N> {
     pub lines: u64,
     pub events: u64,
     pub faults: u64,
     pub replies: Replies,
+    pub notes: N,
     ghost bounded: { IsBounded lines events faults replies.written },
 }
 
-impl Run {
+impl<N: Notes> Run<N> {
     ghost use Rattle.replay_core.specs.Standing.{tally_of_run};
 
     /// Before the first line.
-    pub fn new(only: Option<u8>) -> Self
+    pub fn new(only: Option<u8>, notes: N) -> Self
         ensures only { result.replies.only ≡ only }
+        ensures notes { result.notes ≡ notes }
         ensures none { tally_of_run result ≡ record { lines = 0; events = 0; faults = 0; written = 0 } }
     {
         Run {
@@ -34,13 +36,16 @@ impl Run {
             events: 0,
             faults: 0,
             replies: Replies::new(only),
+            notes,
         }
     }
 
-    /// What has been done.
-    pub fn tally(&self) -> Tally
-        ensures { result ≡ tally_of_run self.now }
+    /// Gives the notes back, and returns what has been done.
+    pub fn end(self, notes: &mut N) -> Tally
+        ensures tally { result ≡ tally_of_run self }
+        ensures notes { notes.new ≡ self.notes }
     {
+        *notes = self.notes;
         Tally {
             lines: self.lines,
             events: self.events,
@@ -50,76 +55,79 @@ impl Run {
     }
 }
 
-impl Sink for Run {
+impl<N: Notes> Sink for Run<N> {
     ghost use Rattle.std.specs.Prelude.{◌-◌, ◌^◌};
-    ghost use Rattle.replay_core.specs.Standing.{answers};
+    ghost use Rattle.replay_core.specs.Standing.{answers, IsUnended};
 
-    ghost does = { answers };
+    ghost does = { answers N.noting };
+
+    ghost leaves = { IsUnended N.noting };
 
     ghost lines_left = { λ run. 2 ^ 64 - 1 - run.lines };
 
-    fn lines(&self) -> u64 {
-        self.lines
-    }
-
     #[inline(always)]
-    fn quick_lines<'a, D: Drain, N: Notes>(
+    fn quick_lines<'a, D: Drain>(
         &mut self,
         piece: &'a [u8],
         returns: bool,
         kernel: &mut Kernel,
         drain: &mut D,
-        notes: &mut N,
     ) -> Result<&'a [u8], Stopped> {
         // It is no more than the type has.
         let _lines = self.lines;
         if returns {
-            self.run_ended_lines::<CR_LF, D, N>(piece, kernel, drain, notes)
+            self.run_ended_lines::<CR_LF, D>(piece, kernel, drain)
         } else {
-            self.run_ended_lines::<LF, D, N>(piece, kernel, drain, notes)
+            self.run_ended_lines::<LF, D>(piece, kernel, drain)
         }
     }
 
-    fn answered<D: Drain, N: Notes>(
+    fn answered<D: Drain>(
         &mut self,
         _line: &[u8],
         _event: &Event,
         addressee: Addressee,
         answer: Answer<'_>,
         drain: &mut D,
-        notes: &mut N,
     ) -> Result<(), Stopped> {
         self.lines += 1;
         self.events += 1;
-        self.replies.show_to(addressee, answer, drain, notes)
+        self.replies
+            .show_to(addressee, answer, drain, &mut self.notes)
     }
 
-    fn replied<D: Drain, N: Notes>(
+    fn replied<D: Drain>(
         &mut self,
         _line: &[u8],
         _event: &Event,
         reply: &Reply,
         drain: &mut D,
-        notes: &mut N,
     ) -> Result<(), Stopped> {
         self.lines += 1;
         self.events += 1;
-        self.replies.show(reply, drain, notes)
+        self.replies.show(reply, drain, &mut self.notes)
     }
 
-    fn faulty<D: Drain, N: Notes>(
+    fn faulty<D: Drain>(
         &mut self,
         fault: LineFault,
+        front: &[u8],
         drain: &mut D,
-        notes: &mut N,
     ) -> Result<(), Stopped> {
         self.lines += 1;
         self.faults += 1;
+        self.notes.faulty(self.lines, fault, front);
         self.replies
-            .show_to(Addressee::Nobody, Answer::Fault(fault), drain, notes)
+            .show_to(Addressee::Nobody, Answer::Fault(fault), drain, &mut self.notes)
     }
 
     fn blank(&mut self) {
         self.lines += 1;
+    }
+
+    fn unended(&mut self, reading: Result<Option<Event>, LineFault>, front: &[u8]) {
+        if let Err(fault) = reading {
+            self.notes.faulty(self.lines + 1, fault, front);
+        }
     }
 }

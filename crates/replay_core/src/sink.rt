@@ -7,8 +7,8 @@ ghost use Rattle.words_core.specs.Requests.{reply_to, HasFewBytes};
 ghost use Rattle.kernel_core.specs.Content.{KernelContent};
 ghost use Rattle.kernel_core.specs.Steps.{Steps};
 ghost use Rattle.replay_core.specs.Doing.{HasDone, HasGone, HasStopped};
+ghost use Rattle.replay_core.specs.Pending.{IsFrontOf};
 
-use crate::notes::Notes;
 use streams::{Drain, Stopped};
 use kernel_core::Kernel;
 use words_core::{Addressee, Answer, Event, LineFault, Reply};
@@ -19,21 +19,20 @@ pub trait Sink {
     // others were not.
     ghost does: { Self × KernelContent → List ℕ → List ℕ → List ℕ → Self × KernelContent → Type 0 };
 
+    // What the beginning of a line does whose end could not be read.
+    ghost leaves: { Self → List ℕ → Self → Type 0 };
+
     // So many lines more can be done at least.
     ghost lines_left: { Self → ℕ };
 
-    /// How many lines have been done, if they are counted.
-    fn lines(&self) -> u64;
-
     /// Runs and does the lines at the front of a piece as long as they are read the short way, and returns the rest of the piece.
     /// The lines end in LF, or in CR LF if `returns`.
-    fn quick_lines<'a, D: Drain, N: Notes>(
+    fn quick_lines<'a, D: Drain>(
         &mut self,
         piece: &'a [u8],
         returns: bool,
         kernel: &mut Kernel,
         drain: &mut D,
-        notes: &mut N,
     ) -> Result<&'a [u8], Stopped>
         requires more { length piece.now ≤ lines_left self.old }
         requires fine { D.has_failed drain.old ≡ false }
@@ -46,14 +45,13 @@ pub trait Sink {
         ensures failed { D.has_failed drain.new ≡ is_err result };
 
     /// Does a line whose event was answered so.
-    fn answered<D: Drain, N: Notes>(
+    fn answered<D: Drain>(
         &mut self,
         line: &[u8],
         event: &Event,
         addressee: Addressee,
         answer: Answer<'_>,
         drain: &mut D,
-        notes: &mut N,
     ) -> Result<(), Stopped>
         requires few { HasFewBytes answer }
         requires more { 0 < lines_left self.old }
@@ -65,13 +63,12 @@ pub trait Sink {
         ensures failed { D.has_failed drain.new ≡ is_err result };
 
     /// Does a line whose event has a reply of several lines.
-    fn replied<D: Drain, N: Notes>(
+    fn replied<D: Drain>(
         &mut self,
         line: &[u8],
         event: &Event,
         reply: &Reply,
         drain: &mut D,
-        notes: &mut N,
     ) -> Result<(), Stopped>
         requires more { 0 < lines_left self.old }
         requires fine { D.has_failed drain.old ≡ false }
@@ -81,16 +78,16 @@ pub trait Sink {
         ensures left { lines_left self.old ≤ lines_left self.new + 1 }
         ensures failed { D.has_failed drain.new ≡ is_err result };
 
-    /// Does a faulty line.
-    fn faulty<D: Drain, N: Notes>(
+    /// Does a faulty line. `front` is the line, or the beginning of one that is too long.
+    fn faulty<D: Drain>(
         &mut self,
         fault: LineFault,
+        front: &[u8],
         drain: &mut D,
-        notes: &mut N,
     ) -> Result<(), Stopped>
         requires more { 0 < lines_left self.old }
         requires fine { D.has_failed drain.old ≡ false }
-        ensures done { (line : List ℕ) (kernel : KernelContent) → reading_of line ≡ Err fault
+        ensures done { (line : List ℕ) (kernel : KernelContent) → reading_of line ≡ Err fault → IsFrontOf line front.now
             → HasDone does (self.old, kernel) line (D.contents drain.old) (D.contents drain.new) result (self.new, kernel) }
         ensures left { lines_left self.old ≤ lines_left self.new + 1 }
         ensures failed { D.has_failed drain.new ≡ is_err result };
@@ -101,4 +98,9 @@ pub trait Sink {
         ensures done { (line : List ℕ) (kernel : KernelContent) (known : Option (List ℕ)) → reading_of line ≡ Ok None
             → HasDone does (self.old, kernel) line known known (Ok tt) (self.new, kernel) }
         ensures left { lines_left self.old ≤ lines_left self.new + 1 };
+
+    /// Sees the beginning of a line that was read so, and whose end could not be read. It is not run.
+    fn unended(&mut self, reading: Result<Option<Event>, LineFault>, front: &[u8])
+        requires more { 0 < lines_left self.old }
+        ensures { (line : List ℕ) → reading ≡ reading_of line → IsFrontOf line front.now → leaves self.old line self.new };
 }

@@ -1,6 +1,9 @@
 //! The first faulty lines of a trace.
 
+ghost use Rattle.std.specs.Prelude.{◌≡◌, take};
+
 use std::fmt;
+use std::marker::Model;
 use words_core::LineFault;
 
 /// How many faulty lines are noted.
@@ -18,17 +21,30 @@ pub struct FaultyLine {
     shown: usize,
 }
 
+impl Model for FaultyLine {
+    ghost use Rattle.std.specs.Prelude.{take, length, ◌≤◌};
+    ghost use Rattle.run_notes.specs.Notes.{FaultNote};
+
+    ghost Value = { FaultNote };
+
+    ghost view = { λ line. record { number = line.number; fault = line.fault; begin = take line.shown line.begin } };
+
+    ghost invariant = { λ line. line.shown ≤ length line.begin };
+}
+
 impl FaultyLine {
-    pub(crate) fn new(number: u64, fault: LineFault, line: &[u8]) -> FaultyLine {
+    /// Notes the first 32 bytes of a line.
+    pub(crate) fn new(number: u64, fault: LineFault, line: &[u8]) -> FaultyLine
+        ensures { result ≡ record { number = number; fault = fault; begin = take 32 line.now } }
+    {
+        let shown = line.len().min(MOST_SHOWN);
         let mut begin = [b' '; MOST_SHOWN];
-        for (to, byte) in begin.iter_mut().zip(line) {
-            *to = *byte;
-        }
+        begin[..shown].copy_from_slice(&line[..shown]);
         FaultyLine {
             number,
             fault,
             begin,
-            shown: line.len().min(MOST_SHOWN),
+            shown,
         }
     }
 

@@ -1,9 +1,14 @@
 //! The notes of a run.
 
+ghost use Rattle.std.specs.Prelude.{◌≡◌, ◌+◌, ◌-◌, ◌^◌, ◌<◌, replicate, min, slice_index_or, slice_set, IfSome, IfNone, None};
+ghost use Rattle.words_core.specs.Texts.{number_of_refusal};
+ghost use Rattle.run_notes.specs.Notes.{noted_in, times_of, with_refusal};
+
 use crate::faults::{FaultyLine, MOST_FAULTS};
 use crate::refusals::{REFUSALS, Refused};
 use replay_core::Notes;
-use words_core::{Answer, LineFault, Refusal};
+use std::marker::Model;
+use words_core::{LineFault, Refusal};
 
 /// The first faulty lines of a trace, and how often each refusal was answered.
 #[derive(Drop)]
@@ -12,9 +17,25 @@ pub struct RunNotes {
     times: [u64; REFUSALS.len()],
 }
 
+impl Model for RunNotes {
+    ghost use Rattle.run_notes.specs.Notes.{NotesTaken};
+
+    ghost Value = { NotesTaken };
+
+    ghost view = { λ notes. record { first = notes.first; times = notes.times } };
+}
+
+impl Default for RunNotes {
+    fn default() -> RunNotes {
+        RunNotes::new()
+    }
+}
+
 impl RunNotes {
     /// Creates notes of nothing.
-    pub fn new() -> RunNotes {
+    pub fn new() -> RunNotes
+        ensures { result ≡ record { first = replicate 10 None; times = replicate 15 0 } }
+    {
         RunNotes {
             first: [None; MOST_FAULTS],
             times: [0; REFUSALS.len()],
@@ -22,7 +43,9 @@ impl RunNotes {
     }
 
     /// Returns the first ten faulty lines, in their order; `None` behind them if there are fewer.
-    pub fn first(&self) -> &[Option<FaultyLine>] {
+    pub fn first(&self) -> &[Option<FaultyLine>]
+        ensures { result.now ≡ self.now.first }
+    {
         &self.first
     }
 
@@ -39,7 +62,9 @@ impl RunNotes {
     }
 
     /// Counts a refusal.
-    fn count(&mut self, refusal: Refusal) {
+    fn count(&mut self, refusal: Refusal)
+        ensures { self.new ≡ with_refusal self.old refusal }
+    {
         let place = usize::from(refusal.number()).saturating_sub(1);
         if let Some(times) = self.times.get_mut(place) {
             *times = times.saturating_add(1);
@@ -48,21 +73,21 @@ impl RunNotes {
 }
 
 impl Notes for RunNotes {
+    ghost use Rattle.run_notes.specs.Notes.{with_fault, with_refusal};
+
+    ghost noting = { record { refused = with_refusal; faulty = with_fault } };
+
     #[inline(always)]
-    fn answered(&mut self, answer: Answer<'_>) {
-        if let Answer::Refused(refusal) = answer {
-            self.count(refusal);
-        }
+    fn refused(&mut self, refusal: Refusal) {
+        self.count(refusal);
     }
 
     #[cold]
     #[inline(never)]
     fn faulty(&mut self, number: u64, fault: LineFault, begin: &[u8]) {
-        for place in &mut self.first {
-            if place.is_none() {
-                *place = Some(FaultyLine::new(number, fault, begin));
-                return;
-            }
+        let free = self.first.iter().position(|place| place.is_none());
+        if let Some(place) = free {
+            self.first[place] = Some(FaultyLine::new(number, fault, begin));
         }
     }
 }

@@ -6,7 +6,7 @@ use replay_core::Notes;
 use std::alloc::{AllocError, Global};
 use std::process::Abort;
 use std::test::Fail;
-use words_core::{Answer, LineFault};
+use words_core::LineFault;
 
 /// All that is printed, a line for each note.
 fn text_of(alloc: Global, notes: &RunNotes) -> Result<String, AllocError> {
@@ -26,9 +26,8 @@ fn text_of(alloc: Global, notes: &RunNotes) -> Result<String, AllocError> {
 fn each_refusal_is_counted_by_its_number(rt: HostRuntime) -> Result<(), Fail> {
     for refusal in &REFUSALS {
         let mut notes = RunNotes::new();
-        notes.answered(Answer::Given);
-        notes.answered(Answer::Refused(*refusal));
-        notes.answered(Answer::Refused(*refusal));
+        notes.refused(*refusal);
+        notes.refused(*refusal);
         let text = text_of(rt.alloc(), &notes)?;
         let number = refusal.number();
         let name = refusal.name();

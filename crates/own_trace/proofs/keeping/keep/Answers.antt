@@ -10,7 +10,7 @@ returns-in-Ok-clause-kept g c =
 pub returns-in-Err-Feed-clause-kept : goal.returns-in-Err-Feed-clause-kept
 returns-in-Err-Feed-clause-kept g c =
     let ran = rw c.in-Err-Feed.field-0-is at (rw c.in-Err-Feed.is at c.do_lines.ensures.ran) in
-    let all = are_kept _ _ _ _ _ ran.4 in
+    let all = are_kept _ _ _ _ _ ran.4.ran in
     (ran.0, ran.1, ran.2, ran.3, (all.1, all.2), ran.5)
 
 pub returns-in-Err-Drain-clause-kept : goal.returns-in-Err-Drain-clause-kept

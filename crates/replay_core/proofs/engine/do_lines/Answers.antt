@@ -3,9 +3,9 @@ use Rattle.std.specs.Result.{is_err}
 use Rattle.std.proofs.lemmas.Bool.{eqb-true}
 use Rattle.std.proofs.lemmas.List.{length-take-le}
 use Rattle.streams.proofs.MoveLemmas.{consumes_nothing, consumes_more, consumes_kept, consumes_end, room_at_end}
-use Rattle.replay_core.proofs.PendingLemmas.{take-short}
+use Rattle.replay_core.proofs.PendingLemmas.{held_front}
 use Rattle.replay_core.proofs.PushLemmas.{some_left}
-use Rattle.replay_core.proofs.DoingLemmas.{gone_nothing, gone_on, gone_given, gone_sent, stopped_on, stopped_before, ended_are_done, all_are_done, last_is_done, stopped_at_last, ended_at, err_of, ok_of, is_ok_of, is_err_of}
+use Rattle.replay_core.proofs.DoingLemmas.{gone_nothing, gone_on, gone_given, gone_sent, stopped_on, stopped_before, ended_are_done, ended_split, all_are_done, last_is_done, stopped_at_last, ended_at, err_of, ok_of, is_ok_of, is_err_of}
 use Rattle.replay_core.proofs.engine.do_lines.Goals as goal
 
 pub pulls-init : goal.pulls-init
@@ -32,12 +32,21 @@ returns-in_default-clause-ran g c =
       gone.taken,
       consumes_kept _ _ _ _ c.pulls.invariant.2 c.in_default.ensures.bytes,
       gone.appended,
-      ended_are_done _ _ _ _ _ _ _ gone c.pulls.invariant.5,
+      record {
+        mid = c.pulls.sink;
+        tail = c.pulls.invariant.1;
+        ran = ended_are_done _ _ _ _ _ _ _ gone c.pulls.invariant.5;
+        split = ended_split _ _ _ _ _ _ _ gone c.pulls.invariant.5;
+        left = c.see_unended.ensures c.pulls.invariant.1 c.pulls.invariant.4;
+      },
       omega (arith, c.pulls.invariant.3, c.in_default.ensures.room),
     )
 
 pub returns-in_default-clause-failed : goal.returns-in_default-clause-failed
 returns-in_default-clause-failed g c = (c.in_default.ensures.failed, c.send.ensures.failed ∙ c.pulls.invariant.9)
+
+pub see_unended-requires : goal.see_unended-requires
+see_unended-requires g c = record { more = (c.pulls.invariant.1, c.pulls.invariant.4, omega (arith, c.pulls.invariant.6)) }
 
 pub do_piece-done-requires : goal.do_piece-done-requires
 do_piece-done-requires g c = record {
@@ -114,7 +123,7 @@ returns-then-is_err-2-clause-ran g c =
     let gone = gone_sent _ _ _ _ _ _ _ _ c.pulls.invariant.7 c.send.ensures.bytes in
     let some = some_left tail _ (c.is_empty.ensures tail holds) c.if-is_empty.false in
     let failed = is_err_of c.answer.result (sym c.is_err-2.ensures.value ∙ c.if-is_err-2.true) in
-    let done = rw failed.1 at (c.answer.ensures.done tail (c.reading.ensures.reading tail holds) (λ few. c.as_slice-front.ensures.value ∙ holds.front ∙ take-short tail few)) in
+    let done = rw failed.1 at (c.answer.ensures.done tail (c.reading.ensures.reading tail holds) (held_front _ _ _ holds c.as_slice-front.ensures.value)) in
     let stopped = stopped_at_last _ _ _ _ _ _ tail _ _ _ failed.0 gone c.pulls.invariant.5 some done (ended_at _ c.in-Ok.count c.in-Ok.ensures.ended c.if-count-eq0.true) in (
       c.pulls.invariant.0,
       stopped.0,
@@ -131,7 +140,7 @@ returns-clause-ran g c =
     let gone = gone_sent _ _ _ _ _ _ _ _ c.pulls.invariant.7 c.send.ensures.bytes in
     let some = some_left tail _ (c.is_empty.ensures tail holds) c.if-is_empty.false in
     let fine = is_ok_of c.answer.result (sym c.is_err-2.ensures.value ∙ c.if-is_err-2.false) in
-    let done = rw fine at (c.answer.ensures.done tail (c.reading.ensures.reading tail holds) (λ few. c.as_slice-front.ensures.value ∙ holds.front ∙ take-short tail few)) in
+    let done = rw fine at (c.answer.ensures.done tail (c.reading.ensures.reading tail holds) (held_front _ _ _ holds c.as_slice-front.ensures.value)) in
     let last = last_is_done _ _ _ _ _ tail _ _ _ gone c.pulls.invariant.5 some done in (
       c.pulls.invariant.0,
       last.0,

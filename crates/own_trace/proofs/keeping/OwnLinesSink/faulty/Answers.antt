@@ -3,4 +3,4 @@ use Rattle.own_trace.proofs.Lines.{nothing_run, not_kept}
 use Rattle.own_trace.proofs.keeping.OwnLinesSink.faulty.Goals as goal
 
 pub returns-clause-done : goal.returns-clause-done
-returns-clause-done g c line kernel read = not_kept _ line _ _ _ false (nothing_run _ line kernel _ read refl) refl
+returns-clause-done g c line kernel read front = not_kept _ line _ _ _ false (nothing_run _ line kernel _ read refl) refl

@@ -4,8 +4,8 @@ use Rattle.words_core.specs.Texts.{lines_of}
 use Rattle.replay_core.proofs.PushLemmas.{row_next, pushed_into, pushed_part, pushed_few, shown_whole}
 use Rattle.replay_core.proofs.replies.Replies.show.Goals as goal
 
-pub returns-in_err-push_all : goal.returns-in_err-push_all
-returns-in_err-push_all g c =
+pub returns-in_err-push_all-clause-shown : goal.returns-in_err-push_all-clause-shown
+returns-in_err-push_all-clause-shown g c =
     let line = take c.write_row-len.result c.write_row-len.new.out in
     let short : length line ≤ 256 = omega (arith, c.write_row-len.ensures.short, c.write_row-len.auto.out, length-take-le c.write_row-len.result c.write_row-len.new.out (omega (arith, c.write_row-len.ensures.short, c.write_row-len.auto.out))) in record {
       pushed = rw (shown_whole c.args.self.now.only c.args.reply.now _ c.is_shown.ensures c.if-not-is_shown.false) (

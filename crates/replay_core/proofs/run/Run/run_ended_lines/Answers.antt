@@ -7,7 +7,7 @@ use Rattle.replay_core.proofs.run.Run.run_ended_lines.Goals as goal
 pub returns-in_err-answer_apart-clause-done : goal.returns-in_err-answer_apart-clause-done
 returns-in_err-answer_apart-clause-done g c =
     at_error _ _ c.from_residual.result c.from_residual.ensures.0
-    (λ _. line_stopped _ _ _ _ c.lines.rest.now _ _ _ c.in_err-answer_apart.field-0.0 _ _ c.in-Some.line.len c.in-Some.ensures.reads
+    (λ _. line_stopped _ _ _ _ _ c.lines.rest.now _ _ _ c.in_err-answer_apart.field-0.0 _ _ c.in-Some.line.len c.in-Some.ensures.reads
     c.lines.invariant.0 c.in_err-answer_apart.ensures.done)
 
 pub lines-preserved : goal.lines-preserved
@@ -18,7 +18,7 @@ lines-preserved g c =
     let left = left_over rest len read.within in
     let more = c.in_ok-answer_apart.ensures.done.did.lines in
     let ran = rw (take_rest rest len) at c.run_in_place-rest-in-Some.ensures in (
-      gone_on _ _ _ _ _ _ _ _ _ _ (line_done _ _ _ _ rest _ _ _ _ _ len read c.lines.invariant.0 c.in_ok-answer_apart.ensures.done) ran.done,
+      gone_on _ _ _ _ _ _ _ _ _ _ (line_done _ _ _ _ _ rest _ _ _ _ _ len read c.lines.invariant.0 c.in_ok-answer_apart.ensures.done) ran.done,
       omega (arith, c.lines.invariant.1, left, read.some, more, ran.left),
       omega (arith, c.lines.invariant.2, left, read.some, more, ran.left),
       omega (arith, c.lines.invariant.3, left, ran.within),

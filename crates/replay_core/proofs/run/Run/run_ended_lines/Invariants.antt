@@ -5,7 +5,7 @@ use Rattle.replay_core.proofs.run.Run.run_ended_lines.Given as goal
 
 abbrev pub invariant-lines : goal.invariant-lines
 invariant-lines g l =
-    HasGone answers (l.fn.self, l.fn.kernel) l.piece l.rest (g.D.Drain.contents l.fn.drain) (g.D.Drain.contents l.drain) (l.self, l.kernel)
+    HasGone (answers g.N.Notes.noting) (l.fn.self, l.fn.kernel) l.piece l.rest (g.D.Drain.contents l.fn.drain) (g.D.Drain.contents l.drain) (l.self, l.kernel)
     × (l.self.lines + length l.rest ≤ l.fn.self.lines + length l.piece) × (l.self.lines + length l.rest < 2 ^ 64)
     × (length l.rest ≤ length l.piece) × (g.D.Drain.has_failed l.drain ≡ false)
 

@@ -14,7 +14,7 @@ lines-preserved g c =
     let left = left_over rest c.in-Some.len read.within in
     let more = done.did.lines in
     rw (take_rest rest c.in-Some.len) (
-      line_done _ _ _ _ rest _ _ _ tenant command c.in-Some.len read c.lines.invariant.0 done,
+      line_done _ _ _ _ _ rest _ _ _ tenant command c.in-Some.len read c.lines.invariant.0 done,
       omega (arith, c.lines.invariant.1, left, read.some, more),
       omega (arith, c.lines.invariant.2, left, read.some, more),
       omega (arith, c.lines.invariant.3, left),

@@ -13,7 +13,7 @@ returns-in_err-answer_apart-clause-done g c =
     let end = c.in-Some.end in
     let read = reads_alone rest end _ _ c.in-Some.ensures.within (sym c.in-Some.ensures.at) c.in-Some-read_alone.ensures.reads in
     at_error _ _ c.from_residual.result c.from_residual.ensures.0
-    (λ _. line_stopped _ _ _ _ rest _ _ _ c.in_err-answer_apart.field-0.0 _ _ (end + 1) read c.lines.invariant.0 c.in_err-answer_apart.ensures.done)
+    (λ _. line_stopped _ _ _ _ _ rest _ _ _ c.in_err-answer_apart.field-0.0 _ _ (end + 1) read c.lines.invariant.0 c.in_err-answer_apart.ensures.done)
 
 pub lines-preserved : goal.lines-preserved
 lines-preserved g c =
@@ -23,7 +23,7 @@ lines-preserved g c =
     let left = left_over rest (end + 1) read.within in
     let more = c.in_ok-answer_apart.ensures.done.did.lines in
     rw (take_rest rest (end + 1)) (
-      line_done _ _ _ _ rest _ _ _ _ _ (end + 1) read c.lines.invariant.0 c.in_ok-answer_apart.ensures.done,
+      line_done _ _ _ _ _ rest _ _ _ _ _ (end + 1) read c.lines.invariant.0 c.in_ok-answer_apart.ensures.done,
       omega (arith, c.lines.invariant.1, left, more),
       omega (arith, c.lines.invariant.2, left, more),
       omega (arith, c.lines.invariant.3, left),

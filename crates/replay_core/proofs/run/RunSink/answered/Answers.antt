@@ -3,4 +3,4 @@ use Rattle.replay_core.proofs.RunLemmas.{event_done}
 use Rattle.replay_core.proofs.run.RunSink.answered.Goals as goal
 
 pub returns-clause-done : goal.returns-clause-done
-returns-clause-done g c before after read steps = event_done before after _ _ _ _ _ _ _ _ _ read steps c.show_to.ensures refl refl refl
+returns-clause-done g c before after read steps = event_done _ before after _ _ _ _ _ _ _ _ _ read steps c.show_to.ensures.shown refl refl refl c.show_to.ensures.noted

@@ -3,4 +3,5 @@ use Rattle.replay_core.proofs.RunLemmas.{fault_done}
 use Rattle.replay_core.proofs.run.RunSink.faulty.Goals as goal
 
 pub returns-clause-done : goal.returns-clause-done
-returns-clause-done g c line kernel read = fault_done kernel _ _ _ line _ _ _ _ read c.show_to.ensures refl refl refl
+returns-clause-done g c line kernel read front =
+    fault_done _ kernel _ _ _ _ line c.args.front.now _ _ _ _ read front.same c.show_to.ensures.shown refl refl refl c.faulty.ensures c.show_to.ensures.noted
