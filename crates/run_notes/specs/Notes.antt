@@ -1,35 +1,24 @@
 -- What the notes of a run are: the first ten faulty lines, and how often each refusal was shown.
-use Rattle.std.specs.Prelude.{ℕ, ◌+◌, ◌-◌, ◌^◌, List, [], ◌∷◌, Option, Some, None, take, min, slice_index_or, slice_set}
+use Rattle.std.specs.Prelude.{ℕ, ◌+◌, ◌-◌, ◌^◌, nat_lt, List, [], ◌∷◌, ◌++◌, length, take, min, replicate, slice_index, slice_set, if◌then◌else◌}
 use Rattle.words_core.specs.declared.event.LineFault.{LineFault}
 use Rattle.words_core.specs.declared.reply.Refusal.{Refusal}
 use Rattle.words_core.specs.Texts.{number_of_refusal}
+use Rattle.run_notes.specs.declared.faults.FaultyLine.{FaultyLine}
+use Rattle.run_notes.specs.declared.notes.RunNotes.{RunNotes}
 
--- a faulty line: its number, what is wrong with it, and its first 32 bytes
-pub record FaultNote : Type 0 where
-  pub number : ℕ
-  pub fault : LineFault
-  pub begin : List ℕ
+abbrev pub no_notes : RunNotes
+no_notes = record { first = record { items = [] }; times = replicate 15 0 }
 
--- the faulty lines, in places of which the last ones may be free; and the counts of the refusals 1, 2, ..
-pub record NotesTaken : Type 0 where
-  pub first : List (Option FaultNote)
-  pub times : List ℕ
+-- 32 bytes of a faulty line are kept
+abbrev pub faulty_line : ℕ → LineFault → List ℕ → FaultyLine
+faulty_line number fault line = record { number = number; fault = fault; begin = record { items = take 32 line } }
 
--- the first free place has it, if there is one
-abbrev pub noted_in : List (Option FaultNote) → FaultNote → List (Option FaultNote)
-noted_in [] note = []
-noted_in (None ∷ places) note = Some note ∷ places
-noted_in (Some other ∷ places) note = Some other ∷ noted_in places note
+abbrev pub with_fault : RunNotes → ℕ → LineFault → List ℕ → RunNotes
+with_fault notes number fault line = if nat_lt (length notes.first.items) 10
+    then record notes { first = record { items = notes.first.items ++ faulty_line number fault line ∷ [] } }
+    else notes
 
-abbrev pub with_fault : NotesTaken → ℕ → LineFault → List ℕ → NotesTaken
-with_fault notes number fault line =
-    record notes { first = noted_in notes.first (record { number = number; fault = fault; begin = take 32 line }) }
-
--- how often a refusal was shown
-abbrev pub times_of : NotesTaken → Refusal → ℕ
-times_of notes refusal = slice_index_or notes.times (number_of_refusal refusal - 1) 0
-
--- counts stay below 2^64
-abbrev pub with_refusal : NotesTaken → Refusal → NotesTaken
-with_refusal notes refusal =
-    record notes { times = slice_set notes.times (number_of_refusal refusal - 1) (min (times_of notes refusal + 1) (2 ^ 64 - 1)) }
+-- by number, from 1 on; a count stays below 2^64
+abbrev pub with_refusal : RunNotes → Refusal → RunNotes
+with_refusal notes refusal = let at = number_of_refusal refusal - 1 in
+    record notes { times = slice_set notes.times at (min (slice_index notes.times at + 1) (2 ^ 64 - 1)) }

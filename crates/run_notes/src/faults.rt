@@ -1,9 +1,10 @@
 //! The first faulty lines of a trace.
 
-ghost use Rattle.std.specs.Prelude.{◌≡◌, take};
+ghost use Rattle.std.specs.Prelude.{◌≡◌};
+ghost use Rattle.run_notes.specs.Notes.{faulty_line};
 
+use arrayvec::ArrayVec;
 use std::fmt;
-use std::marker::Model;
 use words_core::LineFault;
 
 /// How many faulty lines are noted.
@@ -12,39 +13,32 @@ pub(crate) const MOST_FAULTS: usize = 10;
 /// How many bytes of one are.
 const MOST_SHOWN: usize = 32;
 
-/// A faulty line: its number, the first one's being 1, what is wrong with it, and how it begins.
-#[derive(Clone, Copy, Debug)]
+/// A faulty line: its number, the first one's being 1, what is wrong with it, and its first 32 bytes.
+#[derive(Debug, Drop)]
 pub struct FaultyLine {
     number: u64,
     fault: LineFault,
-    begin: [u8; MOST_SHOWN],
-    shown: usize,
+    begin: ArrayVec<u8, MOST_SHOWN>,
 }
 
-impl Model for FaultyLine {
-    ghost use Rattle.std.specs.Prelude.{take, length, ◌≤◌};
-    ghost use Rattle.run_notes.specs.Notes.{FaultNote};
-
-    ghost Value = { FaultNote };
-
-    ghost view = { λ line. record { number = line.number; fault = line.fault; begin = take line.shown line.begin } };
-
-    ghost invariant = { λ line. line.shown ≤ length line.begin };
+impl Default for FaultyLine {
+    fn default() -> FaultyLine {
+        FaultyLine::new(0, LineFault::Long, b"")
+    }
 }
 
 impl FaultyLine {
-    /// Notes the first 32 bytes of a line.
     pub(crate) fn new(number: u64, fault: LineFault, line: &[u8]) -> FaultyLine
-        ensures { result ≡ record { number = number; fault = fault; begin = take 32 line.now } }
+        ensures { result ≡ faulty_line number fault line.now }
     {
-        let shown = line.len().min(MOST_SHOWN);
-        let mut begin = [b' '; MOST_SHOWN];
-        begin[..shown].copy_from_slice(&line[..shown]);
+        let mut begin = ArrayVec::new();
+        let shown = MOST_SHOWN.min(line.len());
+        let taken = begin.try_extend_from_slice(&line[..shown]);
+        prove!(taken.is_ok());
         FaultyLine {
             number,
             fault,
             begin,
-            shown,
         }
     }
 
@@ -65,7 +59,7 @@ impl fmt::Display for FaultyLine {
     fn fmt<W: fmt::Write>(&self, f: &mut fmt::Formatter<W>) -> fmt::Result {
         let number = self.number;
         write!(f, "line {number}: '")?;
-        for byte in self.begin.iter().take(self.shown) {
+        for byte in self.begin.as_slice() {
             let shown = if (b' '..=b'~').contains(byte) {
                 *byte
             } else {

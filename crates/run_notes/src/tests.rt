@@ -16,7 +16,7 @@ fn text_of(alloc: Global, notes: &RunNotes) -> Result<String, AllocError> {
             text.push_str(format!(in alloc; "{refused}\n")?.as_str())?;
         }
     }
-    for line in notes.first().iter().flatten() {
+    for line in notes.first() {
         text.push_str(format!(in alloc; "{line}\n")?.as_str())?;
     }
     Ok(text)
