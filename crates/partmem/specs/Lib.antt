@@ -1,3 +1,4 @@
+pub mod Notes
 pub mod Outcome
 pub mod Own
 pub mod Promised

@@ -203,7 +203,7 @@ fn tell_notes(rt: &impl Eprint, notes: &RunNotes, outcome: &Outcome) {
             let _unheard = eprintln!(rt; "partmem: {refused}{counted}");
         }
     }
-    for line in notes.first().iter().flatten() {
+    for line in notes.first() {
         let _unheard = eprintln!(rt; "partmem: {line}");
     }
 }

@@ -3,6 +3,7 @@
 ghost use Rattle.std.specs.Prelude.{◌≡◌, ◌≤◌, ℕ, true, false, not, List, [], length, IfSome};
 ghost use Rattle.std.specs.Io.KnownBytes.{Appends, Consumes, Keeps};
 ghost use Rattle.partmem.specs.Promised.{WritesAllowed};
+ghost use Rattle.partmem.specs.Notes.{HasNoted};
 ghost use Rattle.partmem.specs.Run.{Answers, EndsAs, HasReached, IsOfTrace, Tallies};
 
 use crate::outcome::{Ended, tally_of};
@@ -24,7 +25,7 @@ pub fn run<F: Feed, W: Write, N: Notes>(
 ) -> Ended
     requires feed_fine { F.has_failed feed.old ≡ false }
     requires drain_fine { ⟦<WriterDrain<W> as Drain>⟧.has_failed drain.old ≡ false }
-    // What was given of the trace, what was written, how much of that the writer took, and what the tally counts of them.
+    // What was given of the trace, what was written, how much of that the writer took, what the tally counts of them, and what was noted.
     ensures ran { (given : List ℕ) × (written : List ℕ) × (sent : List ℕ)
         × Consumes (F.remaining feed.old) (F.remaining feed.new) given
         × Appends (⟦<WriterDrain<W> as Drain>⟧.contents drain.old) (⟦<WriterDrain<W> as Drain>⟧.contents drain.new) written
@@ -33,7 +34,8 @@ pub fn run<F: Feed, W: Write, N: Notes>(
         × Answers machine.now result.outcome given written
         × Tallies result.outcome result.tally (F.has_ended feed.new) given sent
         × (length given ≤ F.room_left feed.old)
-        × IfSome (F.remaining feed.old) (λ trace. IsOfTrace machine.now result.outcome trace given written) }
+        × IfSome (F.remaining feed.old) (λ trace. IsOfTrace machine.now result.outcome trace given written)
+        × HasNoted N.noting machine.now result.outcome result.tally.lines (F.has_ended feed.new) given notes.old notes.new }
     // Each of these replies keeps the promises, the ones that are not shown too.
     ensures promises { (given : List ℕ) × (written : List ℕ) × (sent : List ℕ)
         × Consumes (F.remaining feed.old) (F.remaining feed.new) given

@@ -90,7 +90,7 @@ shown_here only before now xs line text stands shown w before_shows =
     ∙ shown (world_after cache_limit before.order w (events_of xs)) (stands.shows w before_shows)
 
 -- no byte is no fault
-reading_of_nothing : reading_of [] ≡ Ok None
+pub reading_of_nothing : reading_of [] ≡ Ok None
 unfolding reading_of reading_of_words words_of
 reading_of_nothing = refl
 

@@ -1,6 +1,7 @@
 use Rattle.std.proofs.Common.{[], refl, arith, rules}
 use Rattle.partmem.proofs.Promising.{promises_kept}
 use Rattle.partmem.proofs.Writing.{booted, answers, given_so_far, traced, flushed, tallied, reached, ends, nothing_of}
+use Rattle.partmem.proofs.Noting.{noted}
 use Rattle.streams.proofs.MoveLemmas.{consumes_nothing, appends_nothing}
 use Rattle.partmem.proofs.run.run.Goals as goal
 
@@ -22,6 +23,7 @@ returns-clause-ran g c =
       tallied _ _ _ _ ran.0 ran.1 _ _ _ _ ran.4 said.ended,
       omega (arith, ran.6),
       traced stays _ _ _ _ ran.0 ran.1 _ _ _ _ new ran.4 said.ended (λ more over. given_so_far _ _ _ _ ran.0 more said.ended over) ran.2 said.whole,
+      noted g.N.Notes.noting _ _ _ _ ran.0 ran.1 _ _ _ _ c.args.notes.now c.replay_noted-replayed.new.notes new ran.4 said.ended refl ran.7,
     )
 
 pub returns-clause-ended : goal.returns-clause-ended
@@ -33,7 +35,7 @@ returns-clause-ended g c =
 
 pub returns-in-Err-Memory-clause-ran : goal.returns-in-Err-Memory-clause-ran
 returns-in-Err-Memory-clause-ran g c =
-    rw c.at_once.ensures ([], [], [], consumes_nothing _, appends_nothing _, refl, (refl, refl), refl, omega arith, nothing_of _ _)
+    rw c.at_once.ensures ([], [], [], consumes_nothing _, appends_nothing _, refl, (refl, refl), refl, omega arith, nothing_of _ _, refl)
 
 pub returns-clause-promises : goal.returns-clause-promises
 returns-clause-promises g c =

@@ -1,0 +1,33 @@
+-- What a run of the program notes.
+use Rattle.std.specs.Prelude.{◌≡◌, ◌⊎◌, ℕ, suc, Bool, List, [], ◌++◌, length, take}
+use Rattle.words_core.specs.Cutting.{lines_of_trace}
+use Rattle.words_core.specs.Grammar.{reading_of}
+use Rattle.world_core.specs.Limits.{cache_limit}
+use Rattle.world_core.specs.World.{opening_world}
+use Rattle.world_core.specs.Output.{ended_lines, with_line_feeds}
+use Rattle.replay_core.specs.Noting.{Noting, noted_fault, noted_lines}
+use Rattle.replay_core.specs.Runs.{HasCome}
+use Rattle.command_line.specs.declared.outcome.Outcome.{Outcome}
+use Rattle.command_line.specs.declared.outcome.Outcome.TheVariants.{Done, Unreadable, Unwritable, NoMemory}
+use Rattle.command_line.specs.declared.machine.Machine.{Machine}
+
+-- what these lines add to notes on a new machine: the refusals that are shown, and the faulty lines
+abbrev pub with_notes : {N : Type 0} → Noting N → Machine → List (List ℕ) → N → N
+with_notes noting m lines notes =
+    noted_lines noting m.only cache_limit m.config.order 1 lines (opening_world m.config.superblocks m.config.tenants) notes
+
+-- what the beginning of a line adds behind these lines, if it is faulty as far as it was read
+abbrev pub with_unended : {N : Type 0} → Noting N → List (List ℕ) → List ℕ → N → N
+with_unended noting lines tail notes = noted_fault noting (suc (length lines)) (take 256 tail) (reading_of tail) notes
+
+-- What was noted of the `count` lines that were run, when the run ended so; and behind them of an unfinished line, if the trace
+-- could not be read.
+abbrev pub HasNoted : {N : Type 0} → Noting N → Machine → Outcome → ℕ → Bool → List ℕ → N → N → Type 0
+HasNoted noting m Done count ended given notes notes' = notes' ≡ with_notes noting m (lines_of_trace given) notes
+HasNoted noting m Unreadable count ended given notes notes' = (tail : List ℕ) × (given ≡ with_line_feeds (ended_lines given) ++ tail)
+    × (notes' ≡ with_unended noting (ended_lines given) tail (with_notes noting m (ended_lines given) notes))
+HasNoted noting m Unwritable count ended given notes notes' = (lines : List (List ℕ)) × (tail : List ℕ)
+    × HasCome ended given lines × (length lines ≡ count) × ((tail ≡ []) ⊎ (given ≡ with_line_feeds lines ++ tail))
+    × (notes' ≡ with_unended noting lines tail (with_notes noting m lines notes))
+HasNoted noting m NoMemory count ended given notes notes' = notes' ≡ notes
+HasNoted noting m _ count ended given notes notes' = ⊥
