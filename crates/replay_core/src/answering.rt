@@ -3,7 +3,9 @@
 ghost use Rattle.std.specs.Prelude.{◌≡◌, ℕ, ◌+◌, ◌<◌, ◌≤◌, false, List, Some, Ok, is_err};
 ghost use Rattle.words_core.specs.Grammar.{reading_of};
 ghost use Rattle.words_core.specs.Requests.{command_of, IsAskable};
-ghost use Rattle.words_core.specs.declared.event.Event.TheVariants.{Tenant};
+ghost use Rattle.words_core.specs.declared.event.Event.TheVariants.{Tenant, Admin};
+ghost use Rattle.words_core.specs.declared.event.Command.TheVariants.{Report};
+ghost use Rattle.words_core.specs.declared.event.AdminCommand.TheVariants.{Pool};
 ghost use Rattle.kernel_core.specs.Steps.{HasPattern};
 ghost use Rattle.replay_core.specs.Doing.{HasDone};
 ghost use Rattle.replay_core.specs.Pending.{IsFrontOf};
@@ -60,11 +62,11 @@ fn run_event<S: Sink, D: Drain>(
     match event {
         Event::Tenant(tenant, command) => match command.request() {
             Some(request) => ask(event, *tenant, request, line, kernel, sink, drain),
-            None => sink.replied(line, event, &kernel.report(*tenant), drain),
+            None => report(event, *tenant, line, kernel, sink, drain),
         },
         Event::Admin(command) => match kernel.administer(command) {
             Some(answer) => sink.answered(line, event, Addressee::Admin, answer, drain),
-            None => sink.replied(line, event, &kernel.pool(), drain),
+            None => pool(event, line, kernel, sink, drain),
         },
     }
 }
@@ -98,4 +100,50 @@ fn ask<S: Sink, D: Drain>(
             sink.answered(line, event, Addressee::Nobody, answer, drain)
         }
     }
+}
+
+/// Runs a request for a report. By itself, as [`pool`] is: a function clears the space of its variables when it begins, and such a
+/// reply takes 1.5 KB.
+#[cold]
+#[inline(never)]
+fn report<S: Sink, D: Drain>(
+    event: &Event,
+    tenant: u32,
+    line: &[u8],
+    kernel: &Kernel,
+    sink: &mut S,
+    drain: &mut D,
+) -> Result<(), Stopped>
+    requires event { event.now ≡ Tenant tenant Report }
+    requires more { 0 < S.lines_left sink.old }
+    requires fine { D.has_failed drain.old ≡ false }
+    ensures done { reading_of line.now ≡ Ok (Some event.now)
+        → HasDone S.does (sink.old, kernel.now) line.now
+        (D.contents drain.old) (D.contents drain.new) result (sink.new, kernel.now) }
+    ensures left { S.lines_left sink.old ≤ S.lines_left sink.new + 1 }
+    ensures failed { D.has_failed drain.new ≡ is_err result }
+{
+    sink.replied(line, event, &kernel.report(tenant), drain)
+}
+
+/// Runs a request for the table of owners.
+#[cold]
+#[inline(never)]
+fn pool<S: Sink, D: Drain>(
+    event: &Event,
+    line: &[u8],
+    kernel: &Kernel,
+    sink: &mut S,
+    drain: &mut D,
+) -> Result<(), Stopped>
+    requires event { event.now ≡ Admin Pool }
+    requires more { 0 < S.lines_left sink.old }
+    requires fine { D.has_failed drain.old ≡ false }
+    ensures done { reading_of line.now ≡ Ok (Some event.now)
+        → HasDone S.does (sink.old, kernel.now) line.now
+        (D.contents drain.old) (D.contents drain.new) result (sink.new, kernel.now) }
+    ensures left { S.lines_left sink.old ≤ S.lines_left sink.new + 1 }
+    ensures failed { D.has_failed drain.new ≡ is_err result }
+{
+    sink.replied(line, event, &kernel.pool(), drain)
 }
