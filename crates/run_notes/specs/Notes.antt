@@ -1,5 +1,5 @@
 -- What the notes of a run are: the first ten faulty lines, and how often each refusal was shown.
-use Rattle.std.specs.Prelude.{ℕ, ◌+◌, ◌-◌, ◌^◌, nat_lt, List, [], ◌∷◌, ◌++◌, length, take, min, replicate, slice_index, slice_set, if◌then◌else◌}
+use Rattle.std.specs.Prelude.{ℕ, zero, suc, ◌+◌, ◌-◌, ◌^◌, nat_lt, List, [], ◌∷◌, ◌++◌, length, take, min, replicate, slice_index, slice_index_or, slice_set, if◌then◌else◌}
 use Rattle.words_core.specs.declared.event.LineFault.{LineFault}
 use Rattle.words_core.specs.declared.reply.Refusal.{Refusal}
 use Rattle.words_core.specs.Texts.{number_of_refusal}
@@ -18,7 +18,12 @@ with_fault notes number fault line = if nat_lt (length notes.first.items) 10
     then record notes { first = record { items = notes.first.items ++ faulty_line number fault line ∷ [] } }
     else notes
 
--- by number, from 1 on; a count stays below 2^64
+-- how often the refusal of a number was shown: they are numbered from 1 on
+abbrev pub times_of : RunNotes → ℕ → ℕ
+times_of notes zero = 0
+times_of notes (suc place) = slice_index_or notes.times place 0
+
+-- a count stays below 2^64
 abbrev pub with_refusal : RunNotes → Refusal → RunNotes
 with_refusal notes refusal = let at = number_of_refusal refusal - 1 in
     record notes { times = slice_set notes.times at (min (slice_index notes.times at + 1) (2 ^ 64 - 1)) }

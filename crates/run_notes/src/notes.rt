@@ -1,7 +1,8 @@
 //! The notes of a run.
 
-ghost use Rattle.std.specs.Prelude.{◌≡◌};
-ghost use Rattle.run_notes.specs.Notes.{no_notes, with_refusal};
+ghost use Rattle.std.specs.Prelude.{◌≡◌, MatchOption};
+ghost use Rattle.words_core.specs.Texts.{number_of_refusal};
+ghost use Rattle.run_notes.specs.Notes.{no_notes, times_of, with_refusal};
 
 use crate::faults::{FaultyLine, MOST_FAULTS};
 use crate::refusals::{REFUSALS, Refused};
@@ -41,15 +42,19 @@ impl RunNotes {
     }
 
     /// Returns the refusal of this number, and how often it was answered; `None` if it never was.
-    pub fn told(&self, number: u8) -> Option<Refused> {
-        REFUSALS
-            .iter()
-            .zip(&self.times)
-            .find(|(refusal, times)| refusal.number() == number && **times > 0)
-            .map(|(refusal, times)| Refused {
-                refusal: *refusal,
-                times: *times,
-            })
+    pub fn told(&self, number: u8) -> Option<Refused>
+        ensures { MatchOption result (times_of self.now number ≡ 0)
+            (λ refused. (number_of_refusal refused.refusal ≡ number) × (refused.times ≡ times_of self.now number)) }
+    {
+        let place = usize::from(number).checked_sub(1)?;
+        let times = *self.times.get(place)?;
+        if times == 0 {
+            return None;
+        }
+        Some(Refused {
+            refusal: REFUSALS[place],
+            times,
+        })
     }
 
     /// Counts a refusal.
