@@ -18,7 +18,7 @@ ghost use Rattle.own_trace.specs.Keeping.{KeepsOwn, IsKeptToEnd, NamesEnd, keeps
 use crate::quick::keep_ended_lines;
 use kernel_core::Kernel;
 use quick_core::{CR_LF, LF};
-use replay_core::{Drain, EndFailed, Feed, Sink, Stopped, do_lines, push_all};
+use replay_core::{Drain, EndFailed, Feed, Sink, Stopped, do_lines, push_all, reply_in_rows};
 use thiserror::Error;
 use words_core::{Addressee, AdminCommand, Answer, Body, Event, LineFault, Reply};
 
@@ -101,6 +101,8 @@ impl Sink for OwnLines {
 
     ghost does = { keeps };
 
+    ghost does_first = { keeps };
+
     ghost leaves = { λ own line own'. own' ≡ own };
 
     ghost lines_left = { λ _. 2 ^ 64 };
@@ -131,14 +133,18 @@ impl Sink for OwnLines {
         self.keep_event(line, event, is_refusal(answer), drain)
     }
 
+    // By itself: a function clears the space of its variables when it begins, and a reply of several lines takes 1.5 KB.
+    #[cold]
+    #[inline(never)]
     fn replied<D: Drain>(
         &mut self,
         line: &[u8],
         event: &Event,
-        reply: &Reply,
+        kernel: &Kernel,
         drain: &mut D,
     ) -> Result<(), Stopped> {
-        self.keep_event(line, event, is_refused_by(reply), drain)
+        let refused = is_refused_by(&reply_in_rows(kernel, event));
+        self.keep_event(line, event, refused, drain)
     }
 
     fn faulty<D: Drain>(
@@ -151,6 +157,9 @@ impl Sink for OwnLines {
     }
 
     fn blank(&mut self) {}
+
+    #[inline(always)]
+    fn ran(&mut self, _kernel: &Kernel) {}
 
     fn unended(&mut self, _reading: Result<Option<Event>, LineFault>, _front: &[u8]) {}
 }

@@ -252,3 +252,10 @@ is_ok_of (Err e) fine = cc
 pub is_err_of : (r : Result (Unit {0}) Stopped) → is_err r ≡ true → (e : Stopped) × (r ≡ Err e)
 is_err_of (Ok x) failed = cc
 is_err_of (Err e) failed = (e, refl)
+
+-- what is left to do of the line is done
+pub done_then : {S : Type 0} (first does : S → List ℕ → List ℕ → List ℕ → S → Type 0) (s mid s' : S) (line : List ℕ) (old new : Option (List ℕ))
+    (result : Result (Unit {0}) Stopped) → HasDone first s line old new result mid
+    → ((taken rest : List ℕ) → first s line taken rest mid → does s line taken rest s') → HasDone does s line old new result s'
+done_then first does s mid s' line old new result done then =
+    record { taken = done.taken; rest = done.rest; did = then done.taken done.rest done.did; appended = done.appended; whole = done.whole }

@@ -5,7 +5,6 @@ use Rattle.std.proofs.lemmas.Bool.{eqb-true, lt-ltb, le-ltb}
 use Rattle.std.proofs.lemmas.List.Quantifiers.{position-Some}
 use Rattle.std.proofs.lemmas.List.Sums.{prefix_len_is}
 use Rattle.std.proofs.lemmas.Iterator.Adapters.{position_from-zero}
-use Rattle.std.proofs.lemmas.List.{append-nil}
 use Rattle.memchr.specs.Find.{IsFirstByte}
 use Rattle.words_core.specs.Cutting.{lines_of_trace}
 use Rattle.world_core.specs.Output.{line_feed, onto_ended, ended_lines, with_line_feeds}
@@ -17,15 +16,6 @@ is_line_feed b = b == line_feed
 pub one_line_append : (xs ys : List ℕ) → IsOneLine xs → IsOneLine ys → IsOneLine (xs ++ ys)
 one_line_append [] ys h k = k
 one_line_append (b ∷ xs) ys h k = (h.0, one_line_append xs ys h.1 k)
-
-pub lines_append : (xs : List (List ℕ)) (line : List ℕ) → AreLines xs → IsOneLine line → AreLines (xs ++ line ∷ [])
-lines_append [] line h k = (k, tt)
-lines_append (x ∷ xs) line h k = (h.0, lines_append xs line h.1 k)
-
-pub with_line_feeds_append : (xs : List (List ℕ)) (line : List ℕ) → with_line_feeds (xs ++ line ∷ []) ≡ with_line_feeds xs ++ (line ++ 10 ∷ [])
-with_line_feeds_append [] line = append-nil (line ++ 10 ∷ [])
-with_line_feeds_append (x ∷ xs) line =
-    ap (λ more. (x ++ 10 ∷ []) ++ more) (with_line_feeds_append xs line) ∙ sym (append_assoc (x ++ 10 ∷ []) (with_line_feeds xs) (line ++ 10 ∷ []))
 
 line_cut : (line after : List ℕ) → IsOneLine line → lines_of_trace ((line ++ 10 ∷ []) ++ after) ≡ line ∷ lines_of_trace after
 line_cut [] after h = refl

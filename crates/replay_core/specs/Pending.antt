@@ -1,15 +1,11 @@
 -- The beginning of a line whose end has not come.
-use Rattle.std.specs.Prelude.{◌≡◌, ℕ, ◌≤◌, nat_lt, List, [], length, take}
+use Rattle.std.specs.Prelude.{◌≡◌, ℕ, ◌≤◌, nat_lt, List, length, take}
 use Rattle.replay_core.specs.declared.pending.Pending.{Pending}
 
 -- 256 bytes of the line are enough to tell that it is too long
 pub record HoldsLine (line : List ℕ) (pending : Pending) : Type 0 where
   pub front : pending.held.items ≡ take 256 line
   pub longer : pending.longer ≡ nat_lt 256 (length line)
-
--- no byte of a line is held
-abbrev pub HoldsNothing : Pending → Type 0
-HoldsNothing pending = (line : List ℕ) → HoldsLine line pending → line ≡ []
 
 -- all of the line, or the front of one that is too long
 pub record IsFrontOf (line front : List ℕ) : Type 0 where

@@ -11,10 +11,10 @@ ghost use Rattle.replay_core.specs.Standing.{IsReady, AnswersRead, answers};
 
 use crate::notes::{Notes, note_answer};
 use crate::run::Run;
-use streams::Drain;
 use kernel_core::Kernel;
 use model_core::limits::MOST_BYTES;
 use quick_core::{LF, read_known_request, read_tenant};
+use streams::Drain;
 use words_core::{Addressee, Request};
 
 /// The commands that make up a load, by number, and all others.

@@ -3,18 +3,17 @@
 ghost use Rattle.std.specs.Prelude.{◌≡◌, ℕ, ◌+◌, ◌<◌, ◌≤◌, false, List, Some, Ok, is_err};
 ghost use Rattle.words_core.specs.Grammar.{reading_of};
 ghost use Rattle.words_core.specs.Requests.{command_of, IsAskable};
-ghost use Rattle.words_core.specs.declared.event.Event.TheVariants.{Tenant, Admin};
-ghost use Rattle.words_core.specs.declared.event.Command.TheVariants.{Report};
-ghost use Rattle.words_core.specs.declared.event.AdminCommand.TheVariants.{Pool};
-ghost use Rattle.kernel_core.specs.Steps.{HasPattern};
+ghost use Rattle.words_core.specs.declared.event.Event.TheVariants.{Tenant};
+ghost use Rattle.kernel_core.specs.Steps.{HasPattern, Steps};
 ghost use Rattle.replay_core.specs.Doing.{HasDone};
 ghost use Rattle.replay_core.specs.Pending.{IsFrontOf};
+ghost use Rattle.replay_core.specs.Rows.{HasRows};
 ghost use Rattle.replay_core.specs.Standing.{IsRunnable};
 
 use crate::sink::Sink;
-use streams::{Drain, Stopped};
 use kernel_core::Kernel;
-use words_core::{Addressee, Answer, Event, LineFault, Refusal, Request};
+use streams::{Drain, Stopped};
+use words_core::{Addressee, Answer, Event, LineFault, Refusal, Reply, Request};
 
 /// Runs a line that was read so, and hands it on. `front` is the line, or the beginning of one that is too long.
 pub fn answer<S: Sink, D: Drain>(
@@ -32,14 +31,16 @@ pub fn answer<S: Sink, D: Drain>(
     ensures left { S.lines_left sink.old ≤ S.lines_left sink.new + 1 }
     ensures failed { D.has_failed drain.new ≡ is_err result }
 {
-    match reading {
+    let done = match reading {
         Ok(Some(event)) => run_event(&event, front, kernel, sink, drain),
         Ok(None) => {
             sink.blank();
             Ok(())
         }
         Err(fault) => sink.faulty(fault, front, drain),
-    }
+    };
+    sink.ran(kernel);
+    done
 }
 
 /// Runs the event of a line.
@@ -54,7 +55,7 @@ fn run_event<S: Sink, D: Drain>(
     requires more { 0 < S.lines_left sink.old }
     requires fine { D.has_failed drain.old ≡ false }
     ensures done { reading_of line.now ≡ Ok (Some event.now)
-        → HasDone S.does (sink.old, kernel.old) line.now
+        → HasDone S.does_first (sink.old, kernel.old) line.now
         (D.contents drain.old) (D.contents drain.new) result (sink.new, kernel.new) }
     ensures left { S.lines_left sink.old ≤ S.lines_left sink.new + 1 }
     ensures failed { D.has_failed drain.new ≡ is_err result }
@@ -62,11 +63,11 @@ fn run_event<S: Sink, D: Drain>(
     match event {
         Event::Tenant(tenant, command) => match command.request() {
             Some(request) => ask(event, *tenant, request, line, kernel, sink, drain),
-            None => report(event, *tenant, line, kernel, sink, drain),
+            None => sink.replied(line, event, kernel, drain),
         },
         Event::Admin(command) => match kernel.administer(command) {
             Some(answer) => sink.answered(line, event, Addressee::Admin, answer, drain),
-            None => pool(event, line, kernel, sink, drain),
+            None => sink.replied(line, event, kernel, drain),
         },
     }
 }
@@ -86,7 +87,7 @@ fn ask<S: Sink, D: Drain>(
     requires more { 0 < S.lines_left sink.old }
     requires fine { D.has_failed drain.old ≡ false }
     ensures done { reading_of line.now ≡ Ok (Some event.now)
-        → HasDone S.does (sink.old, kernel.old) line.now
+        → HasDone S.does_first (sink.old, kernel.old) line.now
         (D.contents drain.old) (D.contents drain.new) result (sink.new, kernel.new) }
     ensures left { S.lines_left sink.old ≤ S.lines_left sink.new + 1 }
     ensures failed { D.has_failed drain.new ≡ is_err result }
@@ -102,48 +103,13 @@ fn ask<S: Sink, D: Drain>(
     }
 }
 
-/// Runs a request for a report. By itself, as [`pool`] is: a function clears the space of its variables when it begins, and such a
-/// reply takes 1.5 KB.
-#[cold]
-#[inline(never)]
-fn report<S: Sink, D: Drain>(
-    event: &Event,
-    tenant: u32,
-    line: &[u8],
-    kernel: &Kernel,
-    sink: &mut S,
-    drain: &mut D,
-) -> Result<(), Stopped>
-    requires event { event.now ≡ Tenant tenant Report }
-    requires more { 0 < S.lines_left sink.old }
-    requires fine { D.has_failed drain.old ≡ false }
-    ensures done { reading_of line.now ≡ Ok (Some event.now)
-        → HasDone S.does (sink.old, kernel.now) line.now
-        (D.contents drain.old) (D.contents drain.new) result (sink.new, kernel.now) }
-    ensures left { S.lines_left sink.old ≤ S.lines_left sink.new + 1 }
-    ensures failed { D.has_failed drain.new ≡ is_err result }
+/// The reply of several lines to an event that changes nothing: a report, or the table of owners.
+pub fn reply_in_rows(kernel: &Kernel, event: &Event) -> Reply
+    requires { HasRows event.now }
+    ensures { Steps kernel.now event.now kernel.now result }
 {
-    sink.replied(line, event, &kernel.report(tenant), drain)
-}
-
-/// Runs a request for the table of owners.
-#[cold]
-#[inline(never)]
-fn pool<S: Sink, D: Drain>(
-    event: &Event,
-    line: &[u8],
-    kernel: &Kernel,
-    sink: &mut S,
-    drain: &mut D,
-) -> Result<(), Stopped>
-    requires event { event.now ≡ Admin Pool }
-    requires more { 0 < S.lines_left sink.old }
-    requires fine { D.has_failed drain.old ≡ false }
-    ensures done { reading_of line.now ≡ Ok (Some event.now)
-        → HasDone S.does (sink.old, kernel.now) line.now
-        (D.contents drain.old) (D.contents drain.new) result (sink.new, kernel.now) }
-    ensures left { S.lines_left sink.old ≤ S.lines_left sink.new + 1 }
-    ensures failed { D.has_failed drain.new ≡ is_err result }
-{
-    sink.replied(line, event, &kernel.pool(), drain)
+    match event {
+        Event::Tenant(tenant, _) => kernel.report(*tenant),
+        Event::Admin(_) => kernel.pool(),
+    }
 }

@@ -10,9 +10,9 @@ ghost use Rattle.replay_core.specs.Ending.{HasLeft, RunsAs, IsRunToEnd, NamesEnd
 use crate::answering::answer;
 use crate::pending::{Pending, split_line};
 use crate::sink::Sink;
-use streams::{Drain, Feed, Stopped};
 use kernel_core::Kernel;
 use quick_core::{CR_LF, LF, may_begin_request};
+use streams::{Drain, Feed, Stopped};
 
 /// How many bytes are asked for in one pull.
 const PIECE_BYTES: usize = 65_536;

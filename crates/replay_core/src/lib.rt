@@ -13,10 +13,11 @@ mod replies;
 mod run;
 mod sink;
 
-pub use streams::{Drain, Feed, ReaderFeed, ReplayError, Stopped, Tally, Text, WriterDrain};
+pub use answering::reply_in_rows;
 pub use engine::{EndFailed, do_lines};
 pub use notes::{NoNotes, Notes};
 pub use pending::{Pending, line_end};
 pub use replaying::{replay, replay_noted};
 pub use replies::push_all;
 pub use sink::Sink;
+pub use streams::{Drain, Feed, ReaderFeed, ReplayError, Stopped, Tally, Text, WriterDrain};

@@ -1,7 +1,7 @@
 ghost use Rattle.std.specs.Prelude.{◌≡◌, ℕ, ◌<◌, ◌++◌, List, [], ◌∷◌, length, position, ◌==◌, IfSome, MatchOption};
 ghost use Rattle.words_core.specs.Grammar.{reading_of};
 ghost use Rattle.world_core.specs.Output.{line_feed};
-ghost use Rattle.replay_core.specs.Pending.{HoldsLine, HoldsNothing};
+ghost use Rattle.replay_core.specs.Pending.{HoldsLine};
 ghost use Rattle.replay_core.specs.Standing.{IsOneLine, IsRunnable};
 
 use arrayvec::ArrayVec;
@@ -65,7 +65,6 @@ impl Pending {
         ensures reading { (line : List ℕ) → HoldsLine line self.old → result ≡ reading_of (line ++ bytes.now) }
         ensures runnable { IsRunnable result }
         ensures cleared { (line : List ℕ) → HoldsLine line self.old → HoldsLine [] self.new }
-        ensures none_held { HoldsNothing self.new }
     {
         if self.is_empty() {
             // It lies whole in these bytes: nothing is copied.

@@ -8,9 +8,9 @@ ghost use Rattle.replay_core.specs.Promised.{TakesAllowed};
 use crate::engine::{EndFailed, do_lines};
 use crate::notes::{NoNotes, Notes};
 use crate::run::Run;
-use streams::{Drain, Feed, ReplayError, Tally};
 use kernel_core::{Kernel, laws};
 use std::mem;
+use streams::{Drain, Feed, ReplayError, Tally};
 
 /// Runs the trace that the feed gives on the kernel, and pushes the replies into the drain: with `only` those to that
 /// tenant alone, else all.

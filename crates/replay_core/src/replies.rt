@@ -9,8 +9,8 @@ ghost use Rattle.replay_core.specs.Shown.{HasShown};
 ghost use Rattle.replay_core.specs.Noting.{noted_reply};
 
 use crate::notes::{Notes, note_answer, note_body};
-use streams::{Drain, Stopped, TEXT_BYTES, Text};
 use std::marker::Model;
+use streams::{Drain, Stopped, TEXT_BYTES, Text};
 use words_core::{
     Addressee, Answer, MOST_ANSWER_BYTES, MOST_REPLY_BYTES, Reply, rows, write_answer,
     write_answer_to, write_row,

@@ -3,13 +3,14 @@
 ghost use Rattle.std.specs.Prelude.{◌≡◌};
 ghost use Rattle.replay_core.specs.Bounds.{IsBounded};
 
+use crate::answering::reply_in_rows;
 use crate::notes::Notes;
 use crate::replies::Replies;
 use crate::sink::Sink;
-use streams::{Drain, Stopped, Tally};
 use kernel_core::Kernel;
 use quick_core::{CR_LF, LF};
-use words_core::{Addressee, Answer, Event, LineFault, Reply};
+use streams::{Drain, Stopped, Tally};
+use words_core::{Addressee, Answer, Event, LineFault};
 
 /// What a replay keeps from one line to the next: the counts of a [`Tally`], the replies, and the notes.
 #[derive(Drop)]
@@ -61,6 +62,8 @@ impl<N: Notes> Sink for Run<N> {
 
     ghost does = { answers N.noting };
 
+    ghost does_first = { answers N.noting };
+
     ghost leaves = { IsUnended N.noting };
 
     ghost lines_left = { λ run. 2 ^ 64 - 1 - run.lines };
@@ -96,16 +99,20 @@ impl<N: Notes> Sink for Run<N> {
             .show_to(addressee, answer, drain, &mut self.notes)
     }
 
+    // By itself: a function clears the space of its variables when it begins, and a reply of several lines takes 1.5 KB.
+    #[cold]
+    #[inline(never)]
     fn replied<D: Drain>(
         &mut self,
         _line: &[u8],
-        _event: &Event,
-        reply: &Reply,
+        event: &Event,
+        kernel: &Kernel,
         drain: &mut D,
     ) -> Result<(), Stopped> {
         self.lines += 1;
         self.events += 1;
-        self.replies.show(reply, drain, &mut self.notes)
+        self.replies
+            .show(&reply_in_rows(kernel, event), drain, &mut self.notes)
     }
 
     fn faulty<D: Drain>(
@@ -124,6 +131,9 @@ impl<N: Notes> Sink for Run<N> {
     fn blank(&mut self) {
         self.lines += 1;
     }
+
+    #[inline(always)]
+    fn ran(&mut self, _kernel: &Kernel) {}
 
     fn unended(&mut self, reading: Result<Option<Event>, LineFault>, front: &[u8]) {
         if let Err(fault) = reading {

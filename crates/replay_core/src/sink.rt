@@ -8,10 +8,11 @@ ghost use Rattle.kernel_core.specs.Content.{KernelContent};
 ghost use Rattle.kernel_core.specs.Steps.{Steps};
 ghost use Rattle.replay_core.specs.Doing.{HasDone, HasGone, HasStopped};
 ghost use Rattle.replay_core.specs.Pending.{IsFrontOf};
+ghost use Rattle.replay_core.specs.Rows.{HasRows};
 
-use streams::{Drain, Stopped};
 use kernel_core::Kernel;
-use words_core::{Addressee, Answer, Event, LineFault, Reply};
+use streams::{Drain, Stopped};
+use words_core::{Addressee, Answer, Event, LineFault};
 
 /// What becomes of the lines of a trace: of each with its answer, one after the other.
 pub trait Sink {
@@ -19,6 +20,8 @@ pub trait Sink {
     // others were not.
     ghost does: { Self × KernelContent → List ℕ → List ℕ → List ℕ → Self × KernelContent → Type 0 };
 
+    // The same, up to what `ran` adds.
+    ghost does_first: { Self × KernelContent → List ℕ → List ℕ → List ℕ → Self × KernelContent → Type 0 };
     // What the beginning of a line does whose end could not be read.
     ghost leaves: { Self → List ℕ → Self → Type 0 };
 
@@ -58,23 +61,24 @@ pub trait Sink {
         requires fine { D.has_failed drain.old ≡ false }
         ensures done { (before : KernelContent) (after : KernelContent) → reading_of line.now ≡ Ok (Some event.now)
             → Steps before event.now after (reply_to addressee answer.entry)
-            → HasDone does (self.old, before) line.now (D.contents drain.old) (D.contents drain.new) result (self.new, after) }
+            → HasDone does_first (self.old, before) line.now (D.contents drain.old) (D.contents drain.new) result (self.new, after) }
         ensures left { lines_left self.old ≤ lines_left self.new + 1 }
         ensures failed { D.has_failed drain.new ≡ is_err result };
 
-    /// Does a line whose event has a reply of several lines.
+    /// Does a line whose event changes nothing and has a reply of several lines. [`reply_in_rows`] makes it, if it is wanted.
     fn replied<D: Drain>(
         &mut self,
         line: &[u8],
         event: &Event,
-        reply: &Reply,
+        kernel: &Kernel,
         drain: &mut D,
     ) -> Result<(), Stopped>
+        requires rows { HasRows event.now }
         requires more { 0 < lines_left self.old }
         requires fine { D.has_failed drain.old ≡ false }
-        ensures done { (before : KernelContent) (after : KernelContent) → reading_of line.now ≡ Ok (Some event.now)
-            → Steps before event.now after reply.now
-            → HasDone does (self.old, before) line.now (D.contents drain.old) (D.contents drain.new) result (self.new, after) }
+        ensures done { reading_of line.now ≡ Ok (Some event.now)
+            → HasDone does_first (self.old, kernel.now) line.now
+            (D.contents drain.old) (D.contents drain.new) result (self.new, kernel.now) }
         ensures left { lines_left self.old ≤ lines_left self.new + 1 }
         ensures failed { D.has_failed drain.new ≡ is_err result };
 
@@ -88,7 +92,7 @@ pub trait Sink {
         requires more { 0 < lines_left self.old }
         requires fine { D.has_failed drain.old ≡ false }
         ensures done { (line : List ℕ) (kernel : KernelContent) → reading_of line ≡ Err fault → IsFrontOf line front.now
-            → HasDone does (self.old, kernel) line (D.contents drain.old) (D.contents drain.new) result (self.new, kernel) }
+            → HasDone does_first (self.old, kernel) line (D.contents drain.old) (D.contents drain.new) result (self.new, kernel) }
         ensures left { lines_left self.old ≤ lines_left self.new + 1 }
         ensures failed { D.has_failed drain.new ≡ is_err result };
 
@@ -96,8 +100,14 @@ pub trait Sink {
     fn blank(&mut self)
         requires more { 0 < lines_left self.old }
         ensures done { (line : List ℕ) (kernel : KernelContent) (known : Option (List ℕ)) → reading_of line ≡ Ok None
-            → HasDone does (self.old, kernel) line known known (Ok tt) (self.new, kernel) }
+            → HasDone does_first (self.old, kernel) line known known (Ok tt) (self.new, kernel) }
         ensures left { lines_left self.old ≤ lines_left self.new + 1 };
+
+    /// The line has been run and done, and the kernel is as it left it. Not called for the lines of [`Sink::quick_lines`].
+    fn ran(&mut self, kernel: &Kernel)
+        ensures done { (before : Self × KernelContent) (line : List ℕ) (taken : List ℕ) (rest : List ℕ)
+            → does_first before line taken rest (self.old, kernel.now) → does before line taken rest (self.new, kernel.now) }
+        ensures left { lines_left self.old ≤ lines_left self.new };
 
     /// Sees the beginning of a line that was read so, and whose end could not be read. It is not run.
     fn unended(&mut self, reading: Result<Option<Event>, LineFault>, front: &[u8])
