@@ -16,12 +16,11 @@ use Rattle.streams.specs.declared.feed.Stopped.{Stopped}
 use Rattle.streams.proofs.MoveLemmas.{appends_nothing}
 use Rattle.replay_core.specs.Doing.{HaveRun, IsCutOff, HasDone}
 use Rattle.replay_core.specs.Pushes.{HasPushed}
-use Rattle.replay_core.specs.Runs.{StandsAfter}
 use Rattle.replay_core.proofs.DoingLemmas.{run_keeps}
 use Rattle.replay_core.proofs.RunLemmas.{same_sizes, stands_more}
 use Rattle.own_trace.specs.declared.keeping.OwnLines.{OwnLines}
 use Rattle.own_trace.specs.Kept.{has_entry, own_text}
-use Rattle.own_trace.specs.Keeping.{KeepsLine, keeps, TellsOwn, BeginsOwn}
+use Rattle.own_trace.specs.Keeping.{HasKept, IsKeptShort, KeepsLine, keeps}
 use Rattle.own_trace.proofs.Kept.{own_both, none_kept, line_kept}
 
 -- the line was run, and found to be the tenant's own or not
@@ -88,41 +87,50 @@ kept own line before after old new failing is_own written written' result run is
 
 -- what is kept of lines and of one more
 own_more : (t : ℕ) (before now next : KernelContent) (xs : List (List ℕ)) (line taken text : List ℕ)
-    → StandsAfter before now xs → TellsOwn t before xs taken → KeepsLine t line now next text
+    → HasKept t before now xs taken → KeepsLine t line now next text
     → (w : World) → Shows before w → own_text t cache_limit before.order (xs ++ line ∷ []) w ≡ taken ++ text
-own_more t before now next xs line taken text stands tells kept w shows =
+own_more t before now next xs line taken text sofar kept w shows =
     let later : World = world_after cache_limit before.order w (events_of xs) in
     own_both t cache_limit before.order xs (line ∷ []) w
-    ∙ ap (λ sofar. sofar ++ own_text t cache_limit before.order (line ∷ []) later) (sym (tells w shows))
-    ∙ ap (λ order. taken ++ own_text t cache_limit order (line ∷ []) later) (sym stands.sizes.order)
-    ∙ ap (λ more. taken ++ more) (kept.kept later (stands.shows w shows))
+    ∙ ap (λ sofar. sofar ++ own_text t cache_limit before.order (line ∷ []) later) (sym (sofar.kept w shows))
+    ∙ ap (λ order. taken ++ own_text t cache_limit order (line ∷ []) later) (sym sofar.stands.sizes.order)
+    ∙ ap (λ more. taken ++ more) (kept.kept later (sofar.stands.shows w shows))
 
 -- After these lines the kernel has run them, and what was taken is what is the tenant's of them.
 abbrev pub AreKept : ℕ → KernelContent → List (List ℕ) → List ℕ → OwnLines × KernelContent → Type 0
-AreKept t before lines taken s = (s.0.tenant ≡ t) × StandsAfter before s.1 lines × TellsOwn t before lines taken
+AreKept t before lines taken s = (s.0.tenant ≡ t) × HasKept t before s.1 lines taken
 
 one_kept : (t : ℕ) (before : KernelContent) (xs : List (List ℕ)) (line taken here : List ℕ) (s s' : OwnLines × KernelContent) → AreKept t before xs taken s → keeps s line here [] s'
     → AreKept t before (xs ++ line ∷ []) (taken ++ here) s'
 one_kept t before xs line taken here s s' sofar did =
     let line_kept = subst (λ (t : ℕ). KeepsLine t line s.1 s'.1 (here ++ [])) sofar.0 did.1 in (
       did.0 ∙ sofar.0,
-      stands_more before s.1 s'.1 xs line sofar.1 line_kept.sizes line_kept.shows,
-      λ w shows. sym (own_more t before s.1 s'.1 xs line taken (here ++ []) sofar.1 sofar.2 line_kept w shows ∙ ap (λ more. taken ++ more) (append-nil here)),
+      record {
+        stands = stands_more before s.1 s'.1 xs line sofar.1.stands line_kept.sizes line_kept.shows;
+        kept = λ w shows. sym (own_more t before s.1 s'.1 xs line taken (here ++ []) sofar.1 line_kept w shows ∙ ap (λ more. taken ++ more) (append-nil here));
+      },
     )
 
 pub are_kept : (own : OwnLines) (before : KernelContent) (lines : List (List ℕ)) (taken : List ℕ) (s : OwnLines × KernelContent) → HaveRun keeps (own, before) lines taken s
     → AreKept own.tenant before lines taken s
 are_kept own before lines taken s ran =
     run_keeps keeps (AreKept own.tenant before) (one_kept own.tenant before) [] lines [] taken (own, before) s
-    (refl, record { sizes = same_sizes before; shows = λ w shows. shows }, λ w shows. refl) ran
+    (refl, record { stands = record { sizes = same_sizes before; shows = λ w shows. shows }; kept = λ w shows. refl }) ran
 
--- of a line that was cut short a beginning is kept
-pub begin_kept : (own : OwnLines) (before : KernelContent) (done : List (List ℕ)) (line taken : List ℕ) (s : OwnLines × KernelContent) → IsCutOff keeps (own, before) done line taken s
-    → BeginsOwn own.tenant before (done ++ line ∷ []) taken
-begin_kept own before done line taken s cut w shows =
-    let sofar = are_kept own before done cut.earlier cut.mid cut.ran in (
-      cut.rest,
-      own_more own.tenant before cut.mid.1 s.1 done line cut.earlier (cut.here ++ cut.rest) sofar.1 sofar.2
-          (subst (λ (t : ℕ). KeepsLine t line cut.mid.1 s.1 (cut.here ++ cut.rest)) sofar.0 cut.did.1) w shows
-          ∙ sym (append_assoc cut.earlier cut.here cut.rest) ∙ ap (λ xs. xs ++ cut.rest) (sym cut.split),
-    )
+-- the drain failed within the last line
+pub kept_short : (own : OwnLines) (before : KernelContent) (done : List (List ℕ)) (line taken : List ℕ) (s : OwnLines × KernelContent) → IsCutOff keeps (own, before) done line taken s
+    → IsKeptShort own.tenant before s.1 done line taken
+kept_short own before done line taken s cut =
+    let sofar = are_kept own before done cut.earlier cut.mid cut.ran in
+    let line_kept = subst (λ (t : ℕ). KeepsLine t line cut.mid.1 s.1 (cut.here ++ cut.rest)) sofar.0 cut.did.1 in
+    subst (λ (ts : List ℕ). IsKeptShort own.tenant before s.1 done line ts) (sym cut.split) (record {
+      stands = stands_more before cut.mid.1 s.1 done line sofar.1.stands line_kept.sizes line_kept.shows;
+      kept = λ w shows. (
+        cut.here,
+        cut.rest,
+        cut.some,
+        ap (λ earlier. earlier ++ cut.here) (sofar.1.kept w shows),
+        own_more own.tenant before cut.mid.1 s.1 done line cut.earlier (cut.here ++ cut.rest) sofar.1 line_kept w shows
+            ∙ sym (append_assoc cut.earlier cut.here cut.rest),
+      );
+    })

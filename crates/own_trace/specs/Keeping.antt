@@ -7,32 +7,28 @@ use Rattle.kernel_core.specs.Shows.{Shows}
 use Rattle.world_core.specs.Limits.{cache_limit}
 use Rattle.world_core.specs.World.{World, world_after}
 use Rattle.world_core.specs.Output.{event_in, ended_lines}
-use Rattle.replay_core.specs.Runs.{StandsAfter, HasCome}
+use Rattle.replay_core.specs.Runs.{StandsAfter, IsCutIn, HasCome}
 use Rattle.own_trace.specs.declared.keeping.KeepError.{KeepError}
 use Rattle.own_trace.specs.declared.keeping.KeepError.TheVariants as Of
 use Rattle.own_trace.specs.declared.keeping.OwnLines.{OwnLines}
 use Rattle.own_trace.specs.Kept.{own_text}
 
--- Of these lines, run from the world that the kernel showed, this is the text of the tenant's own list ..
-abbrev pub TellsOwn : ℕ → KernelContent → List (List ℕ) → List ℕ → Type 0
-TellsOwn t before lines taken = (w : World) → Shows before w → taken ≡ own_text t cache_limit before.order lines w
+-- These lines have been run, and the text of those that are the tenant's own list was taken ..
+pub record HasKept (t : ℕ) (before after : KernelContent) (lines : List (List ℕ)) (taken : List ℕ) : Type 0 where
+  pub stands : StandsAfter before after lines
+  pub kept : (w : World) → Shows before w → taken ≡ own_text t cache_limit before.order lines w
 
--- .. or a beginning of it.
-abbrev pub BeginsOwn : ℕ → KernelContent → List (List ℕ) → List ℕ → Type 0
-BeginsOwn t before lines taken = (w : World) → Shows before w → (rest : List ℕ) × (own_text t cache_limit before.order lines w ≡ taken ++ rest)
+-- .. or not the whole of it: the last line is the tenant's own, and was cut.
+pub record IsKeptShort (t : ℕ) (before after : KernelContent) (lines : List (List ℕ)) (line taken : List ℕ) : Type 0 where
+  pub stands : StandsAfter before after (lines ++ line ∷ [])
+  pub kept : (w : World) → Shows before w → IsCutIn (λ xs. own_text t cache_limit before.order xs w) lines line taken
 
 -- what was given, what was taken, the kernel and the answer
 abbrev pub KeepsOwn : Bool → ℕ → KernelContent → KernelContent → List ℕ → List ℕ → Result (Unit {0}) KeepError → Type 0
-KeepsOwn ended t before after given taken (Ok done) =
-    StandsAfter before after (lines_of_trace given) × TellsOwn t before (lines_of_trace given) taken
-KeepsOwn ended t before after given taken (Err Of.Feed) =
-    StandsAfter before after (ended_lines given) × TellsOwn t before (ended_lines given) taken
-KeepsOwn ended t before after given taken (Err Of.Drain) = (lines : List (List ℕ)) × HasCome ended given lines × BeginsOwn t before lines taken
-
--- the answer is Ok only where the feed has ended
-abbrev pub IsKeptToEnd : Result (Unit {0}) KeepError → Bool → Type 0
-IsKeptToEnd (Ok done) ended = ended ≡ true
-IsKeptToEnd (Err error) ended = Unit {0}
+KeepsOwn ended t before after given taken (Ok done) = HasKept t before after (lines_of_trace given) taken
+KeepsOwn ended t before after given taken (Err Of.Feed) = HasKept t before after (ended_lines given) taken
+KeepsOwn ended t before after given taken (Err Of.Drain) =
+    (lines : List (List ℕ)) × (line : List ℕ) × HasCome ended given (lines ++ line ∷ []) × IsKeptShort t before after lines line taken
 
 -- the end that failed is named, and none where neither did
 abbrev pub NamesEnd : Result (Unit {0}) KeepError → Bool → Bool → Type 0

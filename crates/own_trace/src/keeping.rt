@@ -1,6 +1,6 @@
 //! The lines of a tenant's own list, from a feed into a drain.
 
-ghost use Rattle.std.specs.Prelude.{◌≡◌, ℕ, ◌+◌, true, false, List, [], ◌∷◌, ◌++◌, Ok, Some, length, is_err};
+ghost use Rattle.std.specs.Prelude.{◌≡◌, ℕ, ◌+◌, true, false, List, [], ◌∷◌, ◌++◌, Ok, Some, OnOk, length, is_err};
 ghost use Rattle.std.specs.Io.KnownBytes.{Consumes, Appends, IsAtEnd};
 ghost use Rattle.words_core.specs.Grammar.{reading_of};
 ghost use Rattle.words_core.specs.Requests.{body_of_answer};
@@ -13,7 +13,7 @@ ghost use Rattle.world_core.specs.Output.{line_feed};
 ghost use Rattle.replay_core.specs.Doing.{HasDone};
 ghost use Rattle.replay_core.specs.Pushes.{HasPushed};
 ghost use Rattle.own_trace.specs.Kept.{has_entry};
-ghost use Rattle.own_trace.specs.Keeping.{KeepsOwn, IsKeptToEnd, NamesEnd, keeps};
+ghost use Rattle.own_trace.specs.Keeping.{KeepsOwn, NamesEnd, keeps};
 
 use crate::quick::keep_ended_lines;
 use kernel_core::Kernel;
@@ -28,7 +28,7 @@ pub enum KeepError {
     /// The feed: all lines that ended in LF have been run, and the unfinished one has not been.
     #[error("the trace could not be read")]
     Feed,
-    /// The drain: a beginning of the own list was pushed.
+    /// The drain: a beginning of the own list was pushed, and the kernel has run the line that was cut.
     #[error("the own list could not be written")]
     Drain,
 }
@@ -53,7 +53,7 @@ pub fn keep<F: Feed, D: Drain>(
         × Appends (D.contents drain.old) (D.contents drain.new) taken
         × KeepsOwn (F.has_ended feed.new) tenant kernel.old kernel.new given taken result
         × (F.room_left feed.new + length given ≡ F.room_left feed.old) }
-    ensures ended { IsKeptToEnd result (F.has_ended feed.new) }
+    ensures ended { OnOk result (F.has_ended feed.new ≡ true) }
     // Then what was given is all that it had.
     ensures whole { F.has_ended feed.new ≡ true → IsAtEnd (F.remaining feed.new) }
     ensures failed { NamesEnd result (F.has_failed feed.new) (D.has_failed drain.new) }

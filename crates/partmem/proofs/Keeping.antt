@@ -1,5 +1,5 @@
 -- From the answer of a keeping on a new machine to the outcome of a run.
-use Rattle.std.proofs.Common.{◌≡◌, ℕ, ◌-◌, Bool, true, false, not, inl, inr, List, [], ◌++◌, length, take, Option, Some, None, Result, Ok, Err, IfSome, refl, ap, sym, subst, ◌∙◌, append_assoc}
+use Rattle.std.proofs.Common.{◌≡◌, ℕ, ◌-◌, Bool, true, false, not, inl, inr, List, [], ◌∷◌, ◌++◌, length, take, Option, Result, Ok, Err, IfSome, OnOk, refl, ap, sym, subst, ◌∙◌, append_assoc}
 use Rattle.std.specs.Io.KnownBytes.{Appends, Consumes, IsAtEnd, append_known}
 use Rattle.std.proofs.lemmas.List.{append-nil}
 use Rattle.words_core.specs.Cutting.{lines_of_trace}
@@ -15,15 +15,15 @@ use Rattle.replay_core.specs.Runs.{HasCome, IsDone, NamesFailed}
 use Rattle.own_trace.specs.declared.keeping.KeepError.{KeepError}
 use Rattle.own_trace.specs.declared.keeping.KeepError.TheVariants as Kept
 use Rattle.own_trace.specs.Kept.{own_text}
-use Rattle.own_trace.specs.Keeping.{KeepsOwn, IsKeptToEnd, NamesEnd, BeginsOwn}
+use Rattle.own_trace.specs.Keeping.{IsKeptShort, KeepsOwn, NamesEnd}
 use Rattle.own_trace.proofs.Kept.{own_both}
 use Rattle.command_line.specs.declared.outcome.Outcome.{Outcome}
-use Rattle.command_line.specs.declared.outcome.Outcome.TheVariants.{Unwritable, NoMemory}
+use Rattle.command_line.specs.declared.outcome.Outcome.TheVariants.{Unwritable}
 use Rattle.command_line.specs.declared.machine.Machine.{Machine}
 use Rattle.command_line.specs.Outcome.{after_flush}
 use Rattle.partmem.specs.Outcome.{no_tally, outcome_of_kept}
-use Rattle.partmem.specs.Own.{own_of, WritesOwn, IsOwnOfTrace}
-use Rattle.partmem.specs.Run.{EndsAs, HasReached, IsBeginning, IsGiven}
+use Rattle.partmem.specs.Own.{own_of, WritesOwn}
+use Rattle.partmem.specs.Run.{EndsAs, HasReached, IsBeginning, IsGiven, IsOfTrace}
 use Rattle.partmem.proofs.Writing.{IsNew, ends, given_so_far, of_trace, reached, run_outcome}
 
 -- the outcome of a run that kept a tenant's own list
@@ -44,7 +44,7 @@ same_outcome (Err Kept.Feed) true flushed = refl
 same_outcome (Err Kept.Feed) false flushed = refl
 same_outcome (Err Kept.Drain) unsent flushed = refl
 
-same_done : (kept : Result (Unit {0}) KeepError) (ended : Bool) → IsKeptToEnd kept ended → IsDone (as_replayed kept) ended
+same_done : (kept : Result (Unit {0}) KeepError) (ended : Bool) → OnOk kept (ended ≡ true) → IsDone (as_replayed kept) ended
 unfolding as_replayed
 same_done (Ok done) ended is = is
 same_done (Err Kept.Feed) ended is = tt
@@ -65,14 +65,14 @@ own_reached kept unsent flushed failed before writer held taken same none append
     (reached (as_replayed kept) unsent flushed failed before writer held taken same none appended)
 
 -- which end had failed
-pub own_ends : (kept : Result (Unit {0}) KeepError) (ended unread undrained unsent flushed : Bool) → IsKeptToEnd kept ended → NamesEnd kept unread undrained
+pub own_ends : (kept : Result (Unit {0}) KeepError) (ended unread undrained unsent flushed : Bool) → OnOk kept (ended ≡ true) → NamesEnd kept unread undrained
     → (unsent ≡ true → flushed ≡ false) → (undrained ≡ true → flushed ≡ false)
     → EndsAs (kept_outcome kept unsent flushed) ended unread (not flushed) unsent
 own_ends kept ended unread undrained unsent flushed done named stopped fine =
     subst (λ outcome. EndsAs outcome ended unread (not flushed) unsent) (same_outcome kept unsent flushed)
     (ends (as_replayed kept) ended unread undrained unsent flushed (same_done kept ended done) (same_named kept unread undrained named) stopped fine)
 
-own_given : (kept : Result (Unit {0}) KeepError) (unsent flushed ended : Bool) (given more : List ℕ) → IsKeptToEnd kept ended → (ended ≡ true → more ≡ [])
+own_given : (kept : Result (Unit {0}) KeepError) (unsent flushed ended : Bool) (given more : List ℕ) → OnOk kept (ended ≡ true) → (ended ≡ true → more ≡ [])
     → IsGiven (kept_outcome kept unsent flushed) (given ++ more) given
 own_given kept unsent flushed ended given more done over =
     subst (λ outcome. IsGiven outcome (given ++ more) given) (same_outcome kept unsent flushed)
@@ -98,10 +98,11 @@ whole_begins : (m : Machine) (t : ℕ) (k : KernelContent) (lines : List (List �
     → taken ≡ own_text t cache_limit k.order lines (opening_world m.config.superblocks m.config.tenants) → IsBeginning taken (own_of m.config t lines)
 whole_begins m t k lines taken new is = ([], sym (at_order m t k lines new) ∙ sym is ∙ sym (append-nil taken))
 
-part_begins : (m : Machine) (t : ℕ) (k : KernelContent) (lines : List (List ℕ)) (taken : List ℕ) → IsNew m k → BeginsOwn t k lines taken → IsBeginning taken (own_of m.config t lines)
-part_begins m t k lines taken new begins =
-    let part = begins _ new.shows in
-    (part.0, sym (at_order m t k lines new) ∙ part.1)
+part_begins : (m : Machine) (t : ℕ) (k k' : KernelContent) (lines : List (List ℕ)) (line taken : List ℕ) → IsNew m k → IsKeptShort t k k' lines line taken
+    → IsBeginning taken (own_of m.config t (lines ++ line ∷ []))
+part_begins m t k k' lines line taken new short =
+    let part = short.kept _ new.shows in
+    (part.1, sym (at_order m t k (lines ++ line ∷ []) new) ∙ part.4)
 
 all_came : (m : Machine) (t : ℕ) (given more taken : List ℕ) → more ≡ [] → IsBeginning taken (own_of m.config t (lines_of_trace given))
     → IsBeginning taken (own_of m.config t (lines_of_trace (given ++ more)))
@@ -118,44 +119,39 @@ cut_begins stays m t ended given more taken lines (inr (is_over, all)) begins ov
 
 -- Whatever the keeping answered, a trace goes on from what was given, unless the feed has ended.
 own_begins : EndedLinesStay → (m : Machine) (t : ℕ) (k k' : KernelContent) (ended : Bool) (given more taken : List ℕ) (kept : Result (Unit {0}) KeepError) → IsNew m k
-    → KeepsOwn ended t k k' given taken kept → IsKeptToEnd kept ended → (ended ≡ true → more ≡ [])
+    → KeepsOwn ended t k k' given taken kept → OnOk kept (ended ≡ true) → (ended ≡ true → more ≡ [])
     → IsBeginning taken (own_of m.config t (lines_of_trace (given ++ more)))
 own_begins stays m t k k' ended given more taken (Ok _) new ran done over =
-    all_came m t given more taken (over done) (whole_begins m t k (lines_of_trace given) taken new (ran.1 _ new.shows))
+    all_came m t given more taken (over done) (whole_begins m t k (lines_of_trace given) taken new (ran.kept _ new.shows))
 own_begins stays m t k k' ended given more taken (Err Kept.Feed) new ran done over =
     let whole = stays given more in
-    goes_on m t _ (ended_lines given) whole.0 taken whole.1 (whole_begins m t k (ended_lines given) taken new (ran.1 _ new.shows))
+    goes_on m t _ (ended_lines given) whole.0 taken whole.1 (whole_begins m t k (ended_lines given) taken new (ran.kept _ new.shows))
 own_begins stays m t k k' ended given more taken (Err Kept.Drain) new ran done over =
-    cut_begins stays m t ended given more taken ran.0 ran.1 (part_begins m t k ran.0 taken new ran.2) over
+    cut_begins stays m t ended given more taken (ran.0 ++ ran.1 ∷ []) ran.2 (part_begins m t k k' ran.0 ran.1 taken new ran.3) over
 
 -- where it could not be written, that is what was given
 own_unwritten : EndedLinesStay → (m : Machine) (t : ℕ) (k k' : KernelContent) (ended : Bool) (given taken : List ℕ) (kept : Result (Unit {0}) KeepError) → IsNew m k
-    → KeepsOwn ended t k k' given taken kept → IsKeptToEnd kept ended → WritesOwn m.config t Unwritable given taken
+    → KeepsOwn ended t k k' given taken kept → OnOk kept (ended ≡ true) → WritesOwn m.config t Unwritable given taken
 own_unwritten stays m t k k' ended given taken kept new ran done =
     subst (λ trace. IsBeginning taken (own_of m.config t (lines_of_trace trace))) (append-nil given)
     (own_begins stays m t k k' ended given [] taken kept new ran done (λ _. refl))
 
 -- the outcome of the run
 pub own_written : EndedLinesStay → (m : Machine) (t : ℕ) (k k' : KernelContent) (ended : Bool) (given taken : List ℕ) (kept : Result (Unit {0}) KeepError) (unsent flushed : Bool)
-    → IsNew m k → KeepsOwn ended t k k' given taken kept → IsKeptToEnd kept ended → WritesOwn m.config t (kept_outcome kept unsent flushed) given taken
-own_written stays m t k k' ended given taken (Ok x) unsent true new ran done = ran.1 _ new.shows ∙ at_order m t k (lines_of_trace given) new
+    → IsNew m k → KeepsOwn ended t k k' given taken kept → OnOk kept (ended ≡ true) → WritesOwn m.config t (kept_outcome kept unsent flushed) given taken
+own_written stays m t k k' ended given taken (Ok x) unsent true new ran done = ran.kept _ new.shows ∙ at_order m t k (lines_of_trace given) new
 own_written stays m t k k' ended given taken (Ok x) unsent false new ran done = own_unwritten stays m t k k' ended given taken (Ok x) new ran done
 own_written stays m t k k' ended given taken (Err Kept.Feed) true flushed new ran done = own_unwritten stays m t k k' ended given taken (Err Kept.Feed) new ran done
-own_written stays m t k k' ended given taken (Err Kept.Feed) false flushed new ran done = ran.1 _ new.shows ∙ at_order m t k (ended_lines given) new
+own_written stays m t k k' ended given taken (Err Kept.Feed) false flushed new ran done = ran.kept _ new.shows ∙ at_order m t k (ended_lines given) new
 own_written stays m t k k' ended given taken (Err Kept.Drain) unsent flushed new ran done = own_unwritten stays m t k k' ended given taken (Err Kept.Drain) new ran done
 
 -- what the run was of the trace
 pub own_traced : EndedLinesStay → (m : Machine) (t : ℕ) (k k' : KernelContent) (ended : Bool) (given taken : List ℕ) (kept : Result (Unit {0}) KeepError) (unsent flushed : Bool)
-    (known left : Option (List ℕ)) → IsNew m k → KeepsOwn ended t k k' given taken kept → IsKeptToEnd kept ended → Consumes known left given → (ended ≡ true → IsAtEnd left)
-    → IfSome known (λ trace. IsOwnOfTrace m.config t (kept_outcome kept unsent flushed) trace given taken)
+    (known left : Option (List ℕ)) → IsNew m k → KeepsOwn ended t k k' given taken kept → OnOk kept (ended ≡ true) → Consumes known left given → (ended ≡ true → IsAtEnd left)
+    → IfSome known (λ trace. IsOfTrace (kept_outcome kept unsent flushed) trace given (own_of m.config t (lines_of_trace trace)) taken)
 own_traced stays m t k k' ended given taken kept unsent flushed known left new ran done consumed over =
-    of_trace (λ trace. IsOwnOfTrace m.config t (kept_outcome kept unsent flushed) trace given taken) known left ended given consumed over
+    of_trace (λ trace. IsOfTrace (kept_outcome kept unsent flushed) trace given (own_of m.config t (lines_of_trace trace)) taken) known left ended given consumed over
     (λ more none. record {
       part = own_given kept unsent flushed ended given more done none;
       begins = own_begins stays m t k k' ended given more taken kept new ran done none;
     })
-
--- before the first line
-pub own_nothing : (m : Machine) (t : ℕ) (known : Option (List ℕ)) → IfSome known (λ trace. IsOwnOfTrace m.config t NoMemory trace [] [])
-own_nothing m t None = tt
-own_nothing m t (Some trace) = record { part = (trace, refl); begins = (own_of m.config t (lines_of_trace trace), refl) }

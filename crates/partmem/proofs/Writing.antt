@@ -15,8 +15,7 @@ use Rattle.world_core.proofs.Showing.{shown_first}
 use Rattle.streams.specs.declared.tally.Tally.{Tally}
 use Rattle.streams.specs.declared.tally.ReplayError.{ReplayError}
 use Rattle.streams.specs.declared.tally.ReplayError.TheVariants as Failed
-use Rattle.replay_core.specs.Runs.{Counts, HasCome, IsCutShort, Replays, IsDone, NamesFailed, HasOwnLines}
-use Rattle.replay_core.proofs.RunLemmas.{shown_more}
+use Rattle.replay_core.specs.Runs.{Counts, HasCome, IsCutIn, IsCutShort, Replays, IsDone, NamesFailed, HasOwnLines}
 use Rattle.command_line.specs.declared.outcome.Outcome.{Outcome}
 use Rattle.command_line.specs.declared.outcome.Outcome.TheVariants.{Unwritable, NoMemory}
 use Rattle.command_line.specs.declared.machine.Machine.{Machine}
@@ -59,18 +58,10 @@ cut_first : (only : Option ℕ) (before after : KernelContent) (w : World) (line
     → IsBeginning taken (shown_lines only cache_limit before.order lines w)
 cut_first only before after w lines done line rest taken tally shows split cut =
     let part = cut.shown w shows in
-    let last = done ++ line ∷ [] in
-    let earlier = shown_lines only cache_limit before.order done w in
-    let later = shown_first only cache_limit before.order last rest w in
-    let whole : shown_lines only cache_limit before.order last w ≡ earlier ++ (part.0 ++ part.1) =
-    shown_more only cache_limit before.order done line w ∙ ap (λ text. earlier ++ text) part.3 in (
+    let later = shown_first only cache_limit before.order (done ++ line ∷ []) rest w in (
       part.1 ++ later.0,
-      ap (λ xs. shown_lines only cache_limit before.order xs w) split ∙ later.1 ∙ ap (λ text. text ++ later.0) whole
-          ∙ regrouped earlier part.0 part.1 later.0 ∙ ap (λ text. text ++ (part.1 ++ later.0)) (sym part.4),
+      ap (λ xs. shown_lines only cache_limit before.order xs w) split ∙ later.1 ∙ ap (λ text. text ++ later.0) part.4 ∙ append_assoc taken part.1 later.0,
     )
-  where
-    regrouped : (a b c d : List ℕ) → (a ++ (b ++ c)) ++ d ≡ (a ++ b) ++ (c ++ d)
-    regrouped a b c d = simp append_assoc
 
 -- a beginning of what the ended lines show is one of what any trace shows that goes on from them
 goes_on : ShownStays → (m : Machine) (k : KernelContent) (given more taken : List ℕ) → IsNew m k
@@ -139,16 +130,19 @@ counted tally lines taken unwritten counts =
     record { lines = counts.lines; events = counts.events; faults = counts.faults; written = ap (λ n. n - unwritten) counts.written ∙ sym size }
 
 -- what the run counted, whatever its outcome
-pub tallied : (only : Option ℕ) (k k' : KernelContent) (ended : Bool) (given taken : List ℕ) (replayed : Result Tally ReplayError) (unsent flushed : Bool) (unwritten : ℕ)
-    → Replays ended only k k' given taken replayed → IsDone replayed ended
-    → Tallies (run_outcome replayed unsent flushed) (without_unwritten (tally_of replayed) unwritten) ended given (take (length taken - unwritten) taken)
-tallied only k k' ended given taken (Ok tally) unsent true unwritten ran done = counted _ _ taken unwritten ran.counted
-tallied only k k' ended given taken (Ok tally) unsent false unwritten ran done = (lines_of_trace given, inr (done, refl), counted _ _ taken unwritten ran.counted)
-tallied only k k' ended given taken (Err (Failed.Feed tally)) true flushed unwritten ran done =
-    (ended_lines given, inl ([], sym (append-nil _)), counted _ _ taken unwritten ran.counted)
-tallied only k k' ended given taken (Err (Failed.Feed tally)) false flushed unwritten ran done = counted _ _ taken unwritten ran.counted
-tallied only k k' ended given taken (Err (Failed.Drain tally)) unsent flushed unwritten ran done =
-    (ran.0 ++ ran.1 ∷ [], ran.2, counted _ _ taken unwritten ran.3.counted)
+pub tallied : (m : Machine) (k k' : KernelContent) (ended unread undrained : Bool) (given taken : List ℕ) (replayed : Result Tally ReplayError) (unsent flushed : Bool) (unwritten : ℕ)
+    → IsNew m k → Replays ended m.only k k' given taken replayed → IsDone replayed ended → NamesFailed replayed unread undrained
+    → Tallies m (run_outcome replayed unsent flushed) (without_unwritten (tally_of replayed) unwritten) ended unread given taken (take (length taken - unwritten) taken)
+tallied m k k' ended unread undrained given taken (Ok tally) unsent true unwritten new ran done named = counted _ _ taken unwritten ran.counted
+tallied m k k' ended unread undrained given taken (Ok tally) unsent false unwritten new ran done named =
+    inl (done, ran.shown _ new.shows ∙ at_order m k (lines_of_trace given) new, counted _ _ taken unwritten ran.counted)
+tallied m k k' ended unread undrained given taken (Err (Failed.Feed tally)) true flushed unwritten new ran done named =
+    inr (inl (named.0, ran.shown _ new.shows ∙ at_order m k (ended_lines given) new, counted _ _ taken unwritten ran.counted))
+tallied m k k' ended unread undrained given taken (Err (Failed.Feed tally)) false flushed unwritten new ran done named = counted _ _ taken unwritten ran.counted
+tallied m k k' ended unread undrained given taken (Err (Failed.Drain tally)) unsent flushed unwritten new ran done named =
+    let world = opening_world m.config.superblocks m.config.tenants in
+    let cut = subst (λ order. IsCutIn (λ xs. shown_lines m.only cache_limit order xs world) ran.0 ran.1 taken) new.order (ran.3.shown world new.shows) in
+    inr (inr (ran.0, ran.1, ran.2, cut, counted _ _ taken unwritten ran.3.counted))
 
 -- a drain that holds nothing has handed on all
 all_reached : (before writer : Option (List ℕ)) (held taken : List ℕ) → held ≡ [] → Appends before (append_known writer held) taken
@@ -180,16 +174,17 @@ reached (Err (Failed.Drain tally)) unsent flushed failed before writer held take
 pub ends : (replayed : Result Tally ReplayError) (ended unread undrained unsent flushed : Bool) → IsDone replayed ended → NamesFailed replayed unread undrained
     → (unsent ≡ true → flushed ≡ false) → (undrained ≡ true → flushed ≡ false)
     → EndsAs (run_outcome replayed unsent flushed) ended unread (not flushed) unsent
-ends (Ok tally) ended unread undrained unsent true done named stopped fine = (done, named.0, refl)
+ends (Ok tally) ended unread undrained true true done named stopped fine = let not_flushed : true ≡ false = stopped refl in absurd cc
+ends (Ok tally) ended unread undrained false true done named stopped fine = (done, named.0, refl, refl)
 ends (Ok tally) ended unread undrained unsent false done named stopped fine = (refl, λ failed. absurd cc)
 ends (Err (Failed.Feed tally)) ended unread undrained true flushed done named stopped fine = (ap not (stopped refl), λ _. refl)
 ends (Err (Failed.Feed tally)) ended unread undrained false flushed done named stopped fine = (named.0, refl)
 ends (Err (Failed.Drain tally)) ended unread undrained unsent flushed done named stopped fine = (ap not (fine named.1), λ failed. absurd cc)
 
 -- before the first line
-pub nothing_of : (m : Machine) (known : Option (List ℕ)) → IfSome known (λ trace. IsOfTrace m NoMemory trace [] [])
-nothing_of m None = tt
-nothing_of m (Some trace) = record { part = (trace, refl); begins = (shown_replies m (lines_of_trace trace), refl) }
+pub nothing_of : (whole : List ℕ → List ℕ) (known : Option (List ℕ)) → IfSome known (λ trace. IsOfTrace NoMemory trace [] (whole trace) [])
+nothing_of whole None = tt
+nothing_of whole (Some trace) = record { part = (trace, refl); begins = (whole trace, refl) }
 
 -- a trace is done only at its end
 pub given_so_far : (replayed : Result Tally ReplayError) (unsent flushed ended : Bool) (given more : List ℕ) → IsDone replayed ended → (ended ≡ true → more ≡ [])
@@ -219,7 +214,7 @@ pub traced : ShownStays → (m : Machine) (k k' : KernelContent) (ended : Bool) 
     → IsNew m k → Replays ended m.only k k' given taken replayed → IsDone replayed ended
     → ((more : List ℕ) → (ended ≡ true → more ≡ []) → IsGiven outcome (given ++ more) given)
     → Consumes known left given → (ended ≡ true → IsAtEnd left)
-    → IfSome known (λ trace. IsOfTrace m outcome trace given taken)
+    → IfSome known (λ trace. IsOfTrace outcome trace given (shown_replies m (lines_of_trace trace)) taken)
 traced stays m k k' ended given taken replayed outcome known left new ran done part consumed over =
-    of_trace (λ trace. IsOfTrace m outcome trace given taken) known left ended given consumed over
+    of_trace (λ trace. IsOfTrace outcome trace given (shown_replies m (lines_of_trace trace)) taken) known left ended given consumed over
     (λ more none. record { part = part more none; begins = begins stays m k k' ended given more taken replayed new ran done none })

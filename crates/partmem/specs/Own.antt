@@ -8,7 +8,7 @@ use Rattle.world_core.specs.Output.{ended_lines}
 use Rattle.own_trace.specs.Kept.{own_text, own_trace}
 use Rattle.command_line.specs.declared.outcome.Outcome.{Outcome}
 use Rattle.command_line.specs.declared.outcome.Outcome.TheVariants.{Done, Unreadable, Unwritable, NoMemory}
-use Rattle.partmem.specs.Run.{IsBeginning, IsGiven}
+use Rattle.partmem.specs.Run.{IsBeginning}
 
 -- those of these lines that are the own list of tenant t, on a new machine
 abbrev pub own_of : Config → ℕ → List (List ℕ) → List ℕ
@@ -21,8 +21,3 @@ WritesOwn config t Unreadable given written = written ≡ own_of config t (ended
 WritesOwn config t Unwritable given written = IsBeginning written (own_of config t (lines_of_trace given))
 WritesOwn config t NoMemory given written = (given ≡ []) × (written ≡ [])
 WritesOwn config t _ given written = ⊥
-
--- However the run ended, what was written is a beginning of the own list of the whole trace.
-pub record IsOwnOfTrace (config : Config) (t : ℕ) (outcome : Outcome) (trace given written : List ℕ) : Type 0 where
-  pub part : IsGiven outcome trace given
-  pub begins : IsBeginning written (own_trace cache_limit config.order config.superblocks config.tenants t trace)

@@ -1,5 +1,5 @@
 -- What a run of the program writes.
-use Rattle.std.specs.Prelude.{◌≡◌, ℕ, ◌-◌, ◌<◌, Bool, true, false, List, [], ◌++◌, length, take, Option, Some, None}
+use Rattle.std.specs.Prelude.{◌≡◌, ◌⊎◌, ℕ, ◌-◌, ◌<◌, Bool, true, false, List, [], ◌∷◌, ◌++◌, length, take, Option, Some, None}
 use Rattle.std.specs.Io.KnownBytes.{Appends, append_known}
 use Rattle.words_core.specs.Cutting.{lines_of_trace}
 use Rattle.model_core.specs.declared.config.Config.{Config}
@@ -8,7 +8,7 @@ use Rattle.world_core.specs.World.{opening_world}
 use Rattle.world_core.specs.Output.{shown_lines, ended_lines, lines_for, with_line_feeds}
 use Rattle.world_core.specs.Laws.{private_lines}
 use Rattle.streams.specs.declared.tally.Tally.{Tally}
-use Rattle.replay_core.specs.Runs.{Counts, HasCome}
+use Rattle.replay_core.specs.Runs.{Counts, HasCome, IsCutIn}
 use Rattle.command_line.specs.declared.outcome.Outcome.{Outcome}
 use Rattle.command_line.specs.declared.outcome.Outcome.TheVariants.{Done, Unreadable, Unwritable, NoMemory}
 use Rattle.command_line.specs.declared.machine.Machine.{Machine}
@@ -52,18 +52,23 @@ HasReached Unwritable failed before writer held written sent = IsHeldBack before
 HasReached NoMemory failed before writer held written sent = sent ≡ []
 HasReached _ failed before writer held written sent = ⊥
 
--- what is counted when the run ended so: the lines that were run, and what the writer took
-abbrev pub Tallies : Outcome → Tally → Bool → List ℕ → List ℕ → Type 0
-Tallies Done tally ended given sent = Counts tally (lines_of_trace given) sent
-Tallies Unreadable tally ended given sent = Counts tally (ended_lines given) sent
-Tallies Unwritable tally ended given sent = (lines : List (List ℕ)) × HasCome ended given lines × Counts tally lines sent
-Tallies NoMemory tally ended given sent = tally ≡ no_tally
-Tallies _ tally ended given sent = ⊥
+-- What is counted when the run ended so: the lines that were run, and what the writer took. If the replies could not be written,
+-- all lines had been answered before a flush or a send failed, or the last line that was run is the one whose reply was cut.
+abbrev pub Tallies : Machine → Outcome → Tally → (ended unread : Bool) → (given written sent : List ℕ) → Type 0
+Tallies m Done tally ended unread given written sent = Counts tally (lines_of_trace given) sent
+Tallies m Unreadable tally ended unread given written sent = Counts tally (ended_lines given) sent
+Tallies m Unwritable tally ended unread given written sent =
+    ((ended ≡ true) × (written ≡ shown_replies m (lines_of_trace given)) × Counts tally (lines_of_trace given) sent)
+    ⊎ ((unread ≡ true) × (written ≡ shown_replies m (ended_lines given)) × Counts tally (ended_lines given) sent)
+    ⊎ ((lines : List (List ℕ)) × (line : List ℕ) × HasCome ended given (lines ++ line ∷ [])
+    × IsCutIn (shown_replies m) lines line written × Counts tally (lines ++ line ∷ []) sent)
+Tallies m NoMemory tally ended unread given written sent = tally ≡ no_tally
+Tallies m _ tally ended unread given written sent = ⊥
 
 -- Which end had failed when the run ended so; a trace is done only at its end. Where both had, a send failed before the feed did,
 -- or the feed before the last flush.
 abbrev pub EndsAs : Outcome → (ended unread unwritten unsent : Bool) → Type 0
-EndsAs Done ended unread unwritten unsent = (ended ≡ true) × (unread ≡ false) × (unwritten ≡ false)
+EndsAs Done ended unread unwritten unsent = (ended ≡ true) × (unread ≡ false) × (unwritten ≡ false) × (unsent ≡ false)
 EndsAs Unreadable ended unread unwritten unsent = (unread ≡ true) × (unsent ≡ false)
 EndsAs Unwritable ended unread unwritten unsent = (unwritten ≡ true) × (unread ≡ true → unsent ≡ true)
 EndsAs NoMemory ended unread unwritten unsent = (unread ≡ false) × (unwritten ≡ false)
@@ -74,7 +79,7 @@ abbrev pub IsGiven : Outcome → List ℕ → List ℕ → Type 0
 IsGiven Done trace given = trace ≡ given
 IsGiven outcome trace given = IsBeginning given trace
 
--- However the run ended, what was written is a beginning of what the whole trace shows.
-pub record IsOfTrace (m : Machine) (outcome : Outcome) (trace given written : List ℕ) : Type 0 where
+-- However the run ended, what was written is a beginning of the whole that the trace gives.
+pub record IsOfTrace (outcome : Outcome) (trace given whole written : List ℕ) : Type 0 where
   pub part : IsGiven outcome trace given
-  pub begins : IsBeginning written (shown_replies m (lines_of_trace trace))
+  pub begins : IsBeginning written whole

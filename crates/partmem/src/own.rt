@@ -2,8 +2,9 @@
 
 ghost use Rattle.std.specs.Prelude.{◌≡◌, ◌≤◌, ℕ, false, List, length, IfSome};
 ghost use Rattle.std.specs.Io.KnownBytes.{Appends, Consumes};
-ghost use Rattle.partmem.specs.Own.{IsOwnOfTrace, WritesOwn};
-ghost use Rattle.partmem.specs.Run.{EndsAs, HasReached};
+ghost use Rattle.partmem.specs.Own.{WritesOwn, own_of};
+ghost use Rattle.partmem.specs.Run.{EndsAs, HasReached, IsOfTrace};
+ghost use Rattle.words_core.specs.Cutting.{lines_of_trace};
 
 use crate::outcome::outcome_of_kept;
 use crate::run::flush;
@@ -34,7 +35,8 @@ pub fn run_own<F: Feed, W: Write>(
         (W.contents drain.new.writer) (⟦<WriterDrain<W> as Drain>⟧.held_back drain.new) written sent
         × WritesOwn machine.now.config tenant result given written
         × (length given ≤ F.room_left feed.old)
-        × IfSome (F.remaining feed.old) (λ trace. IsOwnOfTrace machine.now.config tenant result trace given written) }
+        × IfSome (F.remaining feed.old) (λ trace.
+        IsOfTrace result trace given (own_of machine.now.config tenant (lines_of_trace trace)) written) }
     ensures ended { EndsAs result (F.has_ended feed.new) (F.has_failed feed.new)
         (⟦<WriterDrain<W> as Drain>⟧.has_failed drain.new) (⟦<WriterDrain<W> as Drain>⟧.has_failed_to_send drain.new) }
 {

@@ -4,7 +4,8 @@ ghost use Rattle.std.specs.Prelude.{◌≡◌, ◌≤◌, ℕ, true, false, not,
 ghost use Rattle.std.specs.Io.KnownBytes.{Appends, Consumes, Keeps};
 ghost use Rattle.partmem.specs.Promised.{WritesAllowed};
 ghost use Rattle.partmem.specs.Notes.{HasNoted};
-ghost use Rattle.partmem.specs.Run.{Answers, EndsAs, HasReached, IsOfTrace, Tallies};
+ghost use Rattle.partmem.specs.Run.{Answers, EndsAs, HasReached, IsOfTrace, Tallies, shown_replies};
+ghost use Rattle.words_core.specs.Cutting.{lines_of_trace};
 
 use crate::outcome::{Ended, tally_of};
 use command_line::{Machine, Outcome, outcome_of};
@@ -25,16 +26,17 @@ pub fn run<F: Feed, W: Write, N: Notes>(
 ) -> Ended
     requires feed_fine { F.has_failed feed.old ≡ false }
     requires drain_fine { ⟦<WriterDrain<W> as Drain>⟧.has_failed drain.old ≡ false }
-    // What was given of the trace, what was written, how much of that the writer took, what the tally counts of them, and what was noted.
+    // What was given of the trace, what was written, how much of that the writer took, what the tally counts, and what was noted.
     ensures ran { (given : List ℕ) × (written : List ℕ) × (sent : List ℕ)
         × Consumes (F.remaining feed.old) (F.remaining feed.new) given
         × Appends (⟦<WriterDrain<W> as Drain>⟧.contents drain.old) (⟦<WriterDrain<W> as Drain>⟧.contents drain.new) written
         × HasReached result.outcome (⟦<WriterDrain<W> as Drain>⟧.has_failed drain.new) (⟦<WriterDrain<W> as Drain>⟧.contents drain.old)
         (W.contents drain.new.writer) (⟦<WriterDrain<W> as Drain>⟧.held_back drain.new) written sent
         × Answers machine.now result.outcome given written
-        × Tallies result.outcome result.tally (F.has_ended feed.new) given sent
+        × Tallies machine.now result.outcome result.tally (F.has_ended feed.new) (F.has_failed feed.new) given written sent
         × (length given ≤ F.room_left feed.old)
-        × IfSome (F.remaining feed.old) (λ trace. IsOfTrace machine.now result.outcome trace given written)
+        × IfSome (F.remaining feed.old) (λ trace.
+        IsOfTrace result.outcome trace given (shown_replies machine.now (lines_of_trace trace)) written)
         × HasNoted N.noting machine.now result.outcome result.tally.lines (F.has_ended feed.new) given notes.old notes.new }
     // Each of these replies keeps the promises, the ones that are not shown too.
     ensures promises { (given : List ℕ) × (written : List ℕ) × (sent : List ℕ)
@@ -43,7 +45,7 @@ pub fn run<F: Feed, W: Write, N: Notes>(
         × HasReached result.outcome (⟦<WriterDrain<W> as Drain>⟧.has_failed drain.new) (⟦<WriterDrain<W> as Drain>⟧.contents drain.old)
         (W.contents drain.new.writer) (⟦<WriterDrain<W> as Drain>⟧.held_back drain.new) written sent
         × WritesAllowed machine.now result.outcome given written
-        × Tallies result.outcome result.tally (F.has_ended feed.new) given sent }
+        × Tallies machine.now result.outcome result.tally (F.has_ended feed.new) (F.has_failed feed.new) given written sent }
     ensures ended { EndsAs result.outcome (F.has_ended feed.new) (F.has_failed feed.new)
         (⟦<WriterDrain<W> as Drain>⟧.has_failed drain.new) (⟦<WriterDrain<W> as Drain>⟧.has_failed_to_send drain.new) }
 {

@@ -1,5 +1,5 @@
 -- What was taken keeps the promises.
-use Rattle.std.proofs.Common.{◌≡◌, ℕ, ◌*◌, ◌^◌, ◌≤◌, Bool, List, [], ◌∷◌, ◌++◌, length, Option, None, Err, ap, sym, subst, ◌∙◌, append_assoc}
+use Rattle.std.proofs.Common.{◌≡◌, ℕ, ◌*◌, ◌^◌, ◌≤◌, Bool, List, [], ◌∷◌, ◌++◌, length, Option, None, Err, ap, sym, subst, ◌∙◌}
 use Rattle.std.proofs.lemmas.List.{length-replicate}
 use Rattle.model_core.specs.declared.limits.TheConstants.{MOST_SUPERBLOCKS}
 use Rattle.world_core.specs.Limits.{cache_limit}
@@ -13,7 +13,6 @@ use Rattle.streams.specs.declared.tally.Tally.{Tally}
 use Rattle.streams.specs.declared.tally.ReplayError.TheVariants as Of
 use Rattle.replay_core.specs.Runs.{Counts, HasRun, IsCutShort, Replays}
 use Rattle.replay_core.specs.Promised.{TellsAllowed, BeginsAllowed, TakesAllowed}
-use Rattle.replay_core.proofs.RunLemmas.{shown_more}
 
 -- a kernel's limits are those of the opening world that it shows
 ram_shown : (k : KernelContent) (superblocks tenants : ℕ) → Shows k (opening_world superblocks tenants) → superblocks * 2 ^ k.order * 4096 ≤ 2 ^ 32
@@ -36,14 +35,9 @@ answered_in_full only before lines taken shown = λ superblocks tenants shows le
 answered_in_part : (only : Option ℕ) (before after : KernelContent) (lines : List (List ℕ)) (line taken : List ℕ) (tally : Tally)
     → IsCutShort only before after lines line taken tally → BeginsAllowed only before (lines ++ line ∷ []) taken
 answered_in_part only before after lines line taken tally cut = λ superblocks tenants shows least.
-    let w : World = opening_world superblocks tenants in
-    let part = cut.shown w shows in
-    let earlier : List ℕ = shown_lines only cache_limit before.order lines w in
-    let whole : shown_lines only cache_limit before.order (lines ++ line ∷ []) w ≡ taken ++ part.1 =
-    shown_more only cache_limit before.order lines line w ∙ ap (λ text. earlier ++ text) part.3 ∙ sym (append_assoc earlier part.0 part.1)
-    ∙ ap (λ text. text ++ part.1) (sym part.4) in (
+    let part = cut.shown (opening_world superblocks tenants) shows in (
       part.1,
-      subst (IsAllowedText only cache_limit before.order superblocks tenants (lines ++ line ∷ [])) whole
+      subst (IsAllowedText only cache_limit before.order superblocks tenants (lines ++ line ∷ [])) part.4
           (shown_allowed only before (lines ++ line ∷ []) superblocks tenants shows least),
     )
 

@@ -194,8 +194,11 @@ module _ {N : Type 0} (noting : Noting N) where
             cut.here,
             cut.rest,
             cut.some,
-            shown_now only before run.notes done line cut.earlier cut.here cut.rest cut.mid s ran did w shows,
             ap (λ sofar. sofar ++ cut.here) (ran.1.shown w shows),
+            shown_more only cache_limit before.order done line w
+                ∙ ap (λ sofar. sofar ++ shown_line only cache_limit before.order line (world_after cache_limit before.order w (events_of done))) (sym (ran.1.shown w shows))
+                ∙ ap (λ text. cut.earlier ++ text) (shown_now only before run.notes done line cut.earlier cut.here cut.rest cut.mid s ran did w shows)
+                ∙ sym (append_assoc cut.earlier cut.here cut.rest),
           );
           counted = counts_more (tally_of_run cut.mid.0) (tally_of_run s.0) done line cut.earlier cut.here ran.1.counted did.lines did.events did.faults did.written;
         }),

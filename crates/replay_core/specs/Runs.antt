@@ -8,7 +8,7 @@ use Rattle.kernel_core.specs.Content.{KernelContent, SameSizes}
 use Rattle.kernel_core.specs.Shows.{Shows}
 use Rattle.world_core.specs.Limits.{cache_limit}
 use Rattle.world_core.specs.World.{World, opening_world, world_after}
-use Rattle.world_core.specs.Output.{shown_line, shown_lines, ended_lines, events_of, lines_for, with_line_feeds}
+use Rattle.world_core.specs.Output.{shown_lines, ended_lines, events_of, lines_for, with_line_feeds}
 use Rattle.world_core.specs.Laws.{private_lines}
 use Rattle.streams.specs.declared.tally.Tally.{Tally}
 use Rattle.streams.specs.declared.tally.ReplayError.{ReplayError}
@@ -42,12 +42,14 @@ pub record HasRun (only : Option ℕ) (before after : KernelContent) (lines : Li
   pub shown : (w : World) → Shows before w → taken ≡ shown_lines only cache_limit before.order lines w
   pub counted : Counts tally lines taken
 
+-- of the text of these lines and of one more this was taken: of what the last one adds a beginning, and not the whole
+abbrev pub IsCutIn : (text : List (List ℕ) → List ℕ) → (lines : List (List ℕ)) → (line taken : List ℕ) → Type 0
+IsCutIn text lines line taken = (part rest : List ℕ) × (0 < length rest) × (taken ≡ text lines ++ part) × (text (lines ++ line ∷ []) ≡ taken ++ rest)
+
 -- these lines have been run; of what the last one shows a beginning was taken, and not the whole
 pub record IsCutShort (only : Option ℕ) (before after : KernelContent) (lines : List (List ℕ)) (line taken : List ℕ) (tally : Tally) : Type 0 where
   pub stands : StandsAfter before after (lines ++ line ∷ [])
-  pub shown : (w : World) → Shows before w → (part rest : List ℕ) × (0 < length rest)
-      × (shown_line only cache_limit before.order line (world_after cache_limit before.order w (events_of lines)) ≡ part ++ rest)
-      × (taken ≡ shown_lines only cache_limit before.order lines w ++ part)
+  pub shown : (w : World) → Shows before w → IsCutIn (λ xs. shown_lines only cache_limit before.order xs w) lines line taken
   pub counted : Counts tally (lines ++ line ∷ []) taken
 
 -- These are the first lines of what was given: each has ended in LF, or the feed has ended and they are all its lines.

@@ -54,8 +54,7 @@ impl<N: Notes> Run<N> {
         let mut room = [0; MOST_BYTES];
         let mut rest = piece;
         'lines: while drain.has_space() {
-            let Some(len) = self.answer_line::<RETURNS, D>(rest, &mut room, kernel, drain)
-            else {
+            let Some(len) = self.answer_line::<RETURNS, D>(rest, &mut room, kernel, drain) else {
                 return rest;
             };
             rest = &rest[len..];
@@ -108,28 +107,13 @@ impl<N: Notes> Run<N> {
     {
         match request {
             Request::Alloc { order } => {
-                self.answer_as::<ALLOC, RETURNS, D>(
-                    tenant,
-                    Request::Alloc { order },
-                    kernel,
-                    drain,
-                )
+                self.answer_as::<ALLOC, RETURNS, D>(tenant, Request::Alloc { order }, kernel, drain)
             }
             Request::Free { frame } => {
-                self.answer_as::<FREE, RETURNS, D>(
-                    tenant,
-                    Request::Free { frame },
-                    kernel,
-                    drain,
-                )
+                self.answer_as::<FREE, RETURNS, D>(tenant, Request::Free { frame }, kernel, drain)
             }
             Request::Take { cache } => {
-                self.answer_as::<TAKE, RETURNS, D>(
-                    tenant,
-                    Request::Take { cache },
-                    kernel,
-                    drain,
-                )
+                self.answer_as::<TAKE, RETURNS, D>(tenant, Request::Take { cache }, kernel, drain)
             }
             Request::Give { cache, place } => {
                 self.answer_as::<GIVE, RETURNS, D>(

@@ -93,9 +93,7 @@ fn ask<S: Sink, D: Drain>(
     ensures failed { D.has_failed drain.new ≡ is_err result }
 {
     match kernel.ask(tenant, request) {
-        Some((t, answer)) => {
-            sink.answered(line, event, Addressee::Tenant(t), answer, drain)
-        }
+        Some((t, answer)) => { sink.answered(line, event, Addressee::Tenant(t), answer, drain) }
         None => {
             let answer = Answer::Refused(Refusal::NoTenant);
             sink.answered(line, event, Addressee::Nobody, answer, drain)

@@ -124,8 +124,12 @@ impl<N: Notes> Sink for Run<N> {
         self.lines += 1;
         self.faults += 1;
         self.notes.faulty(self.lines, fault, front);
-        self.replies
-            .show_to(Addressee::Nobody, Answer::Fault(fault), drain, &mut self.notes)
+        self.replies.show_to(
+            Addressee::Nobody,
+            Answer::Fault(fault),
+            drain,
+            &mut self.notes,
+        )
     }
 
     fn blank(&mut self) {

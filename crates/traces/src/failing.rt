@@ -6,7 +6,7 @@ use crate::pieces::{in_pieces, taking};
 use crate::running::{ALL, line_end};
 use crate::tables::MACHINE;
 use kernel_core::Kernel;
-use replay_core::{Drain, Feed, ReaderFeed, ReplayError, Tally, WriterDrain, replay};
+use replay_core::{Drain, Feed, ReaderFeed, ReplayError, Tally, WriterDrain, push_all, replay};
 use std::alloc::Global;
 use std::cell::Cell;
 use std::io::{self, ErrorKind, Read, Write};
@@ -324,6 +324,31 @@ fn answers_at_once(rt: HostRuntime) -> Result<(), Fail> {
             assert!(rt; log.writes.get() == writes);
             assert!(rt; log.flushes.get() == flushes);
         }
+    }
+    Ok(())
+}
+
+/// The room of a program's drain, in bytes.
+const FULL: usize = 65_536;
+
+/// How many bytes are pushed, and how many of them the drain holds then.
+const FILLINGS: [(usize, usize); 3] = [(FULL - 1, FULL - 1), (FULL, FULL), (FULL + 1, 1)];
+
+/// A drain is flushed without an error if its room is full, if it lacks a byte, and if a byte found no room.
+#[test]
+fn full_room_is_flushed(rt: HostRuntime) -> Result<(), Fail> {
+    for (len, held) in FILLINGS {
+        let replies = vec![in rt.alloc(); b'0'; len]?;
+        let mut written = Vec::new(rt.alloc());
+        let mut drain = WriterDrain::holding(&mut written, Vec::with_capacity(rt.alloc(), FULL)?);
+        let mut count = 0;
+        let (first, last) = replies.split_at(replies.len().min(FULL));
+        let fits = push_all(first, &mut drain, &mut count).is_ok()
+            && push_all(last, &mut drain, &mut count).is_ok()
+            && drain.unwritten() == held
+            && drain.flush().is_ok();
+        drop(drain);
+        assert!(rt; fits && written == replies, "{len} bytes");
     }
     Ok(())
 }

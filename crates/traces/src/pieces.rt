@@ -3,8 +3,8 @@
 ghost use Rattle.std.specs.Prelude.{◌≡◌, ◌≤◌, true, false, [], length};
 ghost use Rattle.traces.specs.declared.pieces.TheConstants.{ROOM};
 
-use streams::{TEXT_BYTES, Text};
 use replay_core::{Drain, Feed, Stopped};
+use streams::{TEXT_BYTES, Text};
 
 /// More than any worked trace writes.
 const ROOM: usize = 8192;

@@ -1,6 +1,6 @@
 use Rattle.std.proofs.Common.{[], refl, arith, rules}
-use Rattle.partmem.proofs.Keeping.{own_written, own_traced, own_reached, own_ends, own_nothing}
-use Rattle.partmem.proofs.Writing.{booted, flushed}
+use Rattle.partmem.proofs.Keeping.{own_written, own_traced, own_reached, own_ends}
+use Rattle.partmem.proofs.Writing.{booted, flushed, nothing_of}
 use Rattle.streams.proofs.MoveLemmas.{consumes_nothing, appends_nothing}
 use Rattle.partmem.proofs.own.run_own.Goals as goal
 
@@ -31,4 +31,4 @@ returns-clause-ended g c =
     )
 
 pub returns-in-Err-Memory-clause-kept : goal.returns-in-Err-Memory-clause-kept
-returns-in-Err-Memory-clause-kept g c = ([], [], [], consumes_nothing _, appends_nothing _, refl, (refl, refl), omega arith, own_nothing c.args.machine.now _ _)
+returns-in-Err-Memory-clause-kept g c = ([], [], [], consumes_nothing _, appends_nothing _, refl, (refl, refl), omega arith, nothing_of _ _)

@@ -20,7 +20,7 @@ returns-clause-ran g c =
       appended,
       reached _ _ _ _ _ _ _ ran.1 c.flush-flushed.ensures.failed c.flush-flushed.ensures.empty appended,
       answers stays _ _ _ _ ran.0 ran.1 _ _ _ new ran.4 said.ended ran.5,
-      tallied _ _ _ _ ran.0 ran.1 _ _ _ _ ran.4 said.ended,
+      tallied _ _ _ _ _ _ ran.0 ran.1 _ _ _ _ new ran.4 said.ended said.failed,
       omega (arith, ran.6),
       traced stays _ _ _ _ ran.0 ran.1 _ _ _ _ new ran.4 said.ended (λ more over. given_so_far _ _ _ _ ran.0 more said.ended over) ran.2 said.whole,
       noted g.N.Notes.noting _ _ _ _ ran.0 ran.1 _ _ _ _ c.args.notes.now c.replay_noted-replayed.new.notes new ran.4 said.ended refl ran.7,
