@@ -1,5 +1,6 @@
-//! What programs that run a trace have in common: the machine that a command line asks for, the files that it names, and how
-//! the program ends. The command line of `partmem` itself is here too ([`read_words`]), so that tests can call it.
+//! What programs that run a trace have in common: the machine that a command line asks for, the files that it names, the
+//! progress of the run, and how the program ends. The command line of `partmem` itself is here too ([`read_words`]), so that
+//! tests can call it.
 //!
 //! Such a program has the arguments of `command`, or of `sizes_command` if it has no `--only`, and adds its own by
 //! `Command::arg`. From what is found in the words it takes `Machine::found` or `sizes_found`, and then its own.
@@ -10,6 +11,7 @@ mod files;
 mod machine;
 mod outcome;
 mod process;
+mod progress;
 mod settings;
 mod sizes;
 mod words;
@@ -19,6 +21,7 @@ pub use files::{FileError, WatchedReader, open, tell_file};
 pub use machine::Machine;
 pub use outcome::{Line, Outcome, outcome_of};
 pub use process::{hand_out, tell, texts_of, words_given};
+pub use progress::{Progress, ProgressReader, progress_in};
 pub use settings::{OWN_PROGRAM, PROGRAM, Settings};
 pub use sizes::sizes_found;
 pub use words::read_words;

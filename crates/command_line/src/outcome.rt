@@ -8,9 +8,9 @@ ghost use Rattle.command_line.specs.declared.outcome.Outcome.TheVariants.{NoMemo
 use crate::arguments::Program;
 use clap::Error;
 use clap::error::ErrorKind;
-use streams::{ReplayError, Tally};
 use std::alloc::{AllocError, Global};
 use std::{fmt, io};
+use streams::{ReplayError, Tally};
 
 /// How a program ended.
 ///

@@ -15,12 +15,13 @@ mod settings;
 mod tests;
 
 use command_line::{
-    FileError, Outcome, WatchedReader, hand_out, open, tell, tell_file, texts_of, words_given,
+    FileError, Outcome, ProgressReader, WatchedReader, hand_out, open, progress_in, tell,
+    tell_file, texts_of, words_given,
 };
 use replay_core::ReaderFeed;
 use run::{Drawn, run};
 use settings::{PROGRAM, Settings, read_words};
-use std::io::{self, BufWriter, Read};
+use std::io::{self, BufWriter, IsTerminal, Read};
 use std::process::ExitCode;
 use std::rt::Env;
 
@@ -30,7 +31,9 @@ const BUFFER_BYTES: usize = 65_536;
 fn main(rt: HostRuntime) -> ExitCode {
     match read_command_line(&rt) {
         Ok(settings) => {
-            let opened = open(&rt, settings.file.as_deref());
+            let path = settings.file.as_deref();
+            let progress = progress_in(&rt, PROGRAM, path, None, rt.stderr().is_terminal());
+            let opened = open(&rt, path).map(|reader| ProgressReader::new(reader, progress));
             let ran = run_opened(&rt, &settings, opened);
             tell_run(&rt, &settings, ran)
         }

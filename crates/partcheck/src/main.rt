@@ -27,15 +27,16 @@ mod words;
 use check_core::{Finding, LineReader, Shown, Unchecked};
 use checked::{Checked, tell_checked};
 use command_line::{
-    FileError, Outcome, WatchedReader, hand_out, tell, tell_file, texts_of, words_given,
+    FileError, Outcome, Progress, ProgressReader, WatchedReader, hand_out, progress_in, tell,
+    tell_file, texts_of, words_given,
 };
 use replay_core::ReaderFeed;
 use run::run;
 use settings::{PROGRAM, Settings};
 use std::fs::File;
-use std::io::{self, BufWriter, Read, Write};
+use std::io::{self, BufWriter, IsTerminal, Read, Write};
 use std::process::ExitCode;
-use std::rt::{Env, Files};
+use std::rt::{Clock, Env, Files};
 use telling::write_finding;
 use words::read_words;
 
@@ -48,7 +49,14 @@ const STANDARD_INPUT: &str = "-";
 fn main(rt: HostRuntime) -> ExitCode {
     match read_command_line(&rt) {
         Ok(settings) => {
-            let ended = check_files(&rt, &settings);
+            let progress = progress_in(
+                &rt,
+                PROGRAM,
+                trace_path(&settings),
+                Some(settings.replies.as_str()),
+                rt.stderr().is_terminal(),
+            );
+            let ended = check_files(&rt, &settings, progress);
             tell_ended(&rt, &settings, &ended)
         }
         Err(refused) => {
@@ -97,18 +105,29 @@ fn tell_ended(rt: &impl Eprint, settings: &Settings, ended: &Ended) -> ExitCode
 fn name_of(settings: &Settings, checked: Checked) -> &str {
     match checked {
         Checked::Failed(Unchecked::Replies) => settings.replies.as_str(),
-        _ if settings.trace.as_str() == STANDARD_INPUT => "standard input",
-        _ => settings.trace.as_str(),
+        _ => trace_path(settings).unwrap_or("standard input"),
+    }
+}
+
+/// Returns the path of the trace, if it is not standard input.
+fn trace_path(settings: &Settings) -> Option<&str> {
+    match settings.trace.as_str() {
+        STANDARD_INPUT => None,
+        path => Some(path),
     }
 }
 
 /// Checks the files, and writes what is found to standard output.
-fn check_files(rt: &(impl Files + Input + Print + AllocGlobal), settings: &Settings) -> Ended {
+fn check_files<P: Eprint + Clock>(
+    rt: &(impl Files + Input + Print + AllocGlobal),
+    settings: &Settings,
+    progress: Option<Progress<'_, P>>,
+) -> Ended {
     let Ok(mut out) = BufWriter::with_capacity(rt.alloc(), LINE_BYTES, io::writer(rt)) else {
         return Ended::failed(Unchecked::Memory, None);
     };
     let mut shown = Shown::new();
-    let finding = match find(rt, settings, &mut shown) {
+    let finding = match find(rt, settings, progress, &mut shown) {
         Ok(finding) => finding,
         Err(ended) => return ended,
     };
@@ -134,16 +153,18 @@ fn tell_finding<W: Write>(
 }
 
 /// Checks the trace of TRACE, a file or standard input: a copy of the loop for each.
-fn find(
+fn find<P: Eprint + Clock>(
     rt: &(impl Files + Input + AllocGlobal),
     settings: &Settings,
+    progress: Option<Progress<'_, P>>,
     shown: &mut Shown,
 ) -> Result<Finding, Ended> {
-    if settings.trace.as_str() == STANDARD_INPUT {
-        return find_beside(rt, settings, rt.reader(), shown);
-    }
-    match File::open(rt, settings.trace.as_str()) {
-        Ok(trace) => find_beside(rt, settings, trace, shown),
+    let Some(path) = trace_path(settings) else {
+        let trace = ProgressReader::new(rt.reader(), progress);
+        return find_beside(rt, settings, trace, shown);
+    };
+    match File::open(rt, path) {
+        Ok(trace) => find_beside(rt, settings, ProgressReader::new(trace, progress), shown),
         Err(error) => Err(Ended::failed(Unchecked::Trace, Some(FileError::Open(error)))),
     }
 }

@@ -19,8 +19,8 @@ mod run;
 
 pub use command_line::{Outcome, Settings, outcome_of, read_words};
 use command_line::{
-    FileError, Machine, OWN_PROGRAM, PROGRAM, WatchedReader, hand_out, tell, tell_file, texts_of,
-    words_given,
+    FileError, Machine, OWN_PROGRAM, PROGRAM, Progress, ProgressReader, WatchedReader, hand_out,
+    progress_in, tell, tell_file, texts_of, words_given,
 };
 use outcome::Ended;
 use own::run_own;
@@ -28,9 +28,9 @@ use replay_core::{NoNotes, Notes, ReaderFeed, Tally, WriterDrain};
 use run::run;
 use run_notes::{MOST_NUMBER, RunNotes};
 use std::fs::File;
-use std::io::{self, Read, Write};
+use std::io::{self, IsTerminal, Read, Write};
 use std::process::ExitCode;
-use std::rt::{Env, Files};
+use std::rt::{Clock, Env, Files};
 
 /// The bytes that are written at once, where the trace has not to be waited for.
 const BUFFER_BYTES: usize = 65_536;
@@ -38,7 +38,10 @@ const BUFFER_BYTES: usize = 65_536;
 fn main(rt: HostRuntime) -> ExitCode {
     match read_command_line(&rt) {
         Ok(settings) => {
-            let ran = run_from(&rt, &settings);
+            // Replies on the terminal show how far the run is, and no other line is written between them.
+            let wanted = rt.stderr().is_terminal() && !rt.stdout().is_terminal();
+            let progress = progress_in(&rt, PROGRAM, settings.file.as_deref(), None, wanted);
+            let ran = run_from(&rt, &settings, progress);
             tell_run(&rt, &settings, ran)
         }
         Err(refused) => {
@@ -66,10 +69,21 @@ fn read_command_line(rt: &(impl Env + AllocGlobal)) -> Result<Settings, Outcome>
 }
 
 /// Runs the trace, from FILE or from standard input, into standard output: a copy of the loop for each.
-fn run_from(rt: &(impl Files + Input + Print + AllocGlobal), settings: &Settings) -> Ran {
+fn run_from<P: Eprint + Clock>(
+    rt: &(impl Files + Input + Print + AllocGlobal),
+    settings: &Settings,
+    progress: Option<Progress<'_, P>>,
+) -> Ran {
     match &settings.file {
-        None => run_opened(rt, settings, Ok(rt.reader())),
-        Some(path) => run_opened(rt, settings, File::open(rt, path.as_str())),
+        None => run_opened(rt, settings, Ok(ProgressReader::new(rt.reader(), progress))),
+        Some(path) => {
+            let opened = File::open(rt, path.as_str());
+            run_opened(
+                rt,
+                settings,
+                opened.map(|file| ProgressReader::new(file, progress)),
+            )
+        }
     }
 }
 
