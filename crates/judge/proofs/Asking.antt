@@ -2,7 +2,7 @@
 use Rattle.std.proofs.Common.{◌≡◌, ℕ, ◌≤◌, not, length, Option, Some, None, is_some, refl, ap, sym, subst, ◌∙◌}
 use Rattle.std.specs.Prelude.{◌==◌, is_none, option_map}
 use Rattle.std.specs.List.{list_any}
-use Rattle.std.proofs.lemmas.Bool.{eqb-true}
+use Rattle.std.proofs.lemmas.Bool.{eqb-true, and_parts}
 use Rattle.arrayvec.specs.ArrayVec.{ArrayVec}
 use Rattle.model_core.specs.declared.limits.TheConstants.{MOST_ORDER}
 use Rattle.words_core.specs.declared.event.Event.TheVariants as On
@@ -60,7 +60,14 @@ left_sound h old new change sound becomes = record {
   numbered = sound.numbered;
 }
 
--- as many bytes are written as were asked for
+-- as many bytes are read, or written, as were asked for
+pub all_read : (t place len : ℕ) (bytes : ArrayVec ℕ) (x : Seen)
+    → IsKeptReply (On.Tenant t (Asked.Read place len)) (Say.Bytes bytes) x → length bytes.items ≡ len
+all_read t place len bytes x (os, ok) =
+    let after = next (On.Tenant t (Asked.Read place len)) (Say.Bytes bytes) (known_by os x.left.order)
+    (state_with x (left_at x.left)) ok in
+    eqb-true (length bytes.items) len (and_parts _ _ after.bytes).0
+
 pub all_written : (t place n : ℕ) (bytes : ArrayVec ℕ) (x : Seen)
     → IsKeptReply (On.Tenant t (Asked.Write place bytes)) (Say.Written n) x → length bytes.items ≡ n
 all_written t place n bytes x (os, ok) =

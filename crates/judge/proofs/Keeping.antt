@@ -21,7 +21,7 @@ use Rattle.promise_core.specs.Bytes.{Cells}
 use Rattle.promise_core.specs.Holdings.{ToldCache, Holdings, has_slot, with_live_places}
 use Rattle.promise_core.specs.Promises.{refusals, blocks, objects, new_layout, gives, owners, bytes}
 use Rattle.promise_core.specs.State.{State, Known, opening_state, state_after}
-use Rattle.promise_core.proofs.Confined.{in_put, some_state}
+use Rattle.promise_core.proofs.Steps.{in_put, some_state}
 use Rattle.promise_core.specs.Lying.{IsLaid, AllGridded}
 use Rattle.promise_core.proofs.Laid.{can_stand_is, step, grid_step}
 use Rattle.judge_replies.specs.Verdicts.{kept_by, verdict_on}
@@ -64,7 +64,7 @@ next event body w s ok =
 
 -- what was left is shown as it is kept
 pub shown : (x : Seen) → ShowsState x (state_with x (left_at x.left))
-shown x = record { cells = λ place held. refl; rest = refl }
+shown x = record { cells = λ place. refl; rest = refl }
 
 -- The numbers of caches stay below the limit
 

@@ -3,7 +3,7 @@ use Rattle.std.proofs.Common.{◌≡◌, ℕ, zero, suc, List, [], ◌∷◌, �
 use Rattle.std.proofs.lemmas.List.{length-replicate}
 use Rattle.model_core.specs.declared.limits.TheConstants.{MOST_CACHES}
 use Rattle.promise_core.specs.State.{opening_state, opening}
-use Rattle.promise_core.proofs.Confined.{replicated}
+use Rattle.promise_core.proofs.Steps.{replicated}
 use Rattle.judge.specs.Showing.{Seen, ShowsState, IsOpeningTenant}
 use Rattle.judge.specs.Machine.{SeenMachine, ShowsKnown}
 

@@ -15,7 +15,7 @@ use Rattle.promise_core.specs.Holdings.{Holdings, has_slot}
 use Rattle.promise_core.specs.State.{opening_state, state_after}
 use Rattle.promise_core.proofs.Laid.{nothing_laid, nothing_gridded}
 use Rattle.judge_replies.proofs.OnSlots.{no_move, no_pool}
-use Rattle.judge_bytes.specs.Left.{Left, left_slots, left_at, has_place, Becomes}
+use Rattle.judge_bytes.specs.Left.{Left, left_slots, left_at, Becomes}
 use Rattle.judge.specs.Showing.{Seen, state_with, ShowsState, Follows}
 use Rattle.judge.specs.Inside.{LieInSlots, known_by, IsKeptReply}
 use Rattle.judge.proofs.Keeping.{next, unanswered}
@@ -30,7 +30,7 @@ pub opened : (x : Seen) (order : ℕ) → x.has ≡ record { slots = []; pages =
     → ((n : ℕ) → slice_index_or x.hides n false ≡ false) → x.told ≡ None → ShowsState x opening_state
 unfolding opening_state
 opened x order has left hides told = record {
-  cells = λ place held. absurd (false≢true (sym (ap (λ l. has_place l place) left) ∙ held));
+  cells = λ place. ap (λ l. left_at l place) left;
   rest = λ i. record { has = sym has i; cells = λ place. None; hides = λ n. sym (hides n) i; told = sym told i };
 }
 
@@ -68,16 +68,10 @@ slots_granted old new u change sound becomes same n = ap (list_any (λ v. v == n
     ∙ (sym (any_put (λ v. v == n) u old.has.slots) ∙ sym (ap (list_any (λ v. v == n)) same)))
 
 pub granted : (t told u m : ℕ) (old : Seen) (h : Holdings) (l : Left) → h ≡ record old.has { slots = put_rising (λ v. v) u old.has.slots }
-    → Becomes old.left (u ∷ left_slots old.left) (without (λ place holder. slot_of old.left.order place == u)) l
-    → Follows (On.Admin (Do.Grant t)) (Say.Granted told u m) old (changed old h l)
+    → Becomes old.left (u ∷ left_slots old.left) (λ cells. cells) l → Follows (On.Admin (Do.Grant t)) (Say.Granted told u m) old (changed old h l)
 unfolding state_after
-granted t told u m old h l has left = follows (On.Admin (Do.Grant t)) (Say.Granted told u m) old (changed old h l) _ (u ∷ left_slots old.left) left
-    (λ cells i. Some (record {
-      has = sym has i;
-      cells = without (λ place holder. slot_of old.left.order place == u) cells;
-      hides = λ n. slice_index_or old.hides n false;
-      told = None;
-    }))
+granted t told u m old h l has left = follows (On.Admin (Do.Grant t)) (Say.Granted told u m) old (changed old h l) (λ cells. cells) (u ∷ left_slots old.left) left
+    (λ cells i. Some (record { has = sym has i; cells = cells; hides = λ n. slice_index_or old.hides n false; told = None }))
 
 -- what is granted is new, and its places are below 2 ^ 32
 pub record IsNewSlot (u : ℕ) (x : Seen) : Type 0 where
@@ -147,12 +141,17 @@ slots_taken old new u change sound becomes same n = ap (list_any (λ v. v == n))
     ∙ (ap (λ r. not (n == u) && r) (sound.slots n) ∙ (sym (any_dropped u n old.has.slots) ∙ sym (ap (list_any (λ v. v == n)) same))))
 
 pub taken_back : (t u m : ℕ) (old : Seen) (h : Holdings) (l : Left) → h ≡ record old.has { slots = filter (λ v. not (v == u)) old.has.slots }
-    → Becomes old.left (filter (λ v. not (v == u)) (left_slots old.left)) (λ cells. cells) l
+    → Becomes old.left (filter (λ v. not (v == u)) (left_slots old.left)) (without (λ place holder. slot_of old.left.order place == u)) l
     → Follows (On.Admin (Do.TakeBack t u)) (Say.TakenBack m) old (changed old h l)
 unfolding state_after
-taken_back t u m old h l has left = follows (On.Admin (Do.TakeBack t u)) (Say.TakenBack m) old (changed old h l) (λ cells. cells)
+taken_back t u m old h l has left = follows (On.Admin (Do.TakeBack t u)) (Say.TakenBack m) old (changed old h l) _
     (filter (λ v. not (v == u)) (left_slots old.left)) left
-    (λ cells i. Some (record { has = sym has i; cells = cells; hides = λ n. slice_index_or old.hides n false; told = None }))
+    (λ cells i. Some (record {
+      has = sym has i;
+      cells = without (λ place holder. slot_of old.left.order place == u) cells;
+      hides = λ n. slice_index_or old.hides n false;
+      told = None;
+    }))
 
 -- A reset
 

@@ -24,7 +24,7 @@ pub record Seen : Type 0 where
 abbrev pub state_with : Seen → Cells → State
 state_with x cells = record { has = x.has; cells = cells; hides = λ n. slice_index_or x.hides n false; told = x.told }
 
--- the state is the tenant's; what was left at places of slots that it does not hold is not kept
+-- the state is the tenant's
 pub record ShowsState (x : Seen) (s : State) : Type 0 where
   pub cells : AreLeft x.left s.cells
   pub rest : s ≡ state_with x s.cells

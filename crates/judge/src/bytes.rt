@@ -76,13 +76,17 @@ impl Tenant {
         }
     }
 
-    /// What is known after the reply to a read from a place on, which keeps each promise, where this is the holder of the bytes
-    /// that were asked for.
-    pub(crate) fn after_read(&mut self, place: u32, holder: Option<RangeHolder>, body: &Body)
-        requires { (len : ℕ) × (option_map shown_holder holder ≡ holder_of self.old.has place len) }
-        ensures { (t len : ℕ) → option_map shown_holder holder ≡ holder_of self.old.has place len
-            → IsKeptReply (On.Tenant t (Asked.Read place len)) body.now self.old
-            → Follows (On.Tenant t (Asked.Read place len)) body.now self.old self.new }
+    /// What is known after the reply to a read of `len` bytes from a place on, whose holder this is, which keeps each promise.
+    pub(crate) fn after_read(
+        &mut self,
+        place: u32,
+        len: u32,
+        holder: Option<RangeHolder>,
+        body: &Body,
+    )
+        requires holder { option_map shown_holder holder ≡ holder_of self.old.has place len }
+        requires kept { (t : ℕ) → IsKeptReply (On.Tenant t (Asked.Read place len)) body.now self.old }
+        ensures { (t : ℕ) → Follows (On.Tenant t (Asked.Read place len)) body.now self.old self.new }
     {
         if let Body::Bytes(bytes) = body {
             if let Some(holder) = holder {

@@ -88,8 +88,8 @@ impl Tenant {
                 self.after_free(*frame, body);
                 Ok(())
             }
-            Command::Read { place, .. } => {
-                self.after_read(*place, holder, body);
+            Command::Read { place, len } => {
+                self.after_read(*place, *len, holder, body);
                 Ok(())
             }
             Command::Write { place, bytes } => {

@@ -3,13 +3,13 @@ use Rattle.std.proofs.Common.{◌≡◌, ℕ, ◌+◌, ◌-◌, ◌*◌, ◌^◌
 use Rattle.std.specs.Prelude.{if◌then◌else◌, ◌&&◌, ◌||◌, ◌==◌, nat_le, nat_lt, slice_index}
 use Rattle.std.specs.Option.{option_and_then}
 use Rattle.std.proofs.lemmas.Bool.Decides.{nat_tests}
-use Rattle.std.proofs.lemmas.Bool.{eqb-true, false≢true, le-leb, lt-ltb, leb-true, ltb-true, cases_lt}
+use Rattle.std.proofs.lemmas.Bool.{eqb-true, false≢true, and_parts, le-leb, lt-ltb, leb-true, ltb-true, cases_lt}
 use Rattle.model_core.specs.Blocks.{Block}
 use Rattle.model_core.specs.Machine.{in_block}
 use Rattle.promise_core.specs.Bytes.{Holder, Cell, Cells, is_object, is_same, doubted, without, with_bytes}
-use Rattle.promise_core.specs.Holdings.{ToldCache, slab_around}
+use Rattle.promise_core.specs.Holdings.{ToldCache, slab_around, are_apart}
 use Rattle.promise_core.specs.State.{with_object}
-use Rattle.judge_bytes.specs.Left.{Left, left_slots, Becomes}
+use Rattle.judge_bytes.specs.Left.{Left, left_slots, has_place, Becomes}
 use Rattle.judge_bytes.specs.Inside.{StaysNear, IsNear, IsHolderNear, AreSlots, AreStepped, within, doubted_of, removed_of}
 use Rattle.judge_bytes.proofs.Stepping.{becomes}
 use Rattle.judge_bytes.proofs.Places.{in_frames, in_all}
@@ -25,6 +25,18 @@ near_removed test reach place (Some cell) near = go (test cell.holder)
     go : (b : Bool) → IsNear reach place (if b then None else Some cell)
     go true = tt
     go false = near
+
+-- where nothing was left nothing is in doubt, and nothing goes
+pub doubted_none : (test : ℕ → Holder → Bool) (place : ℕ) (cells : Cells) → cells place ≡ None → doubted test cells place ≡ None
+doubted_none test place cells none =
+    ap (option_map (λ (cell : Cell). record cell { sure = cell.sure && not (test place cell.holder) })) none
+
+pub without_none : (test : ℕ → Holder → Bool) (place : ℕ) (cells : Cells) → cells place ≡ None → without test cells place ≡ None
+without_none test place cells none = ap (option_and_then (λ (cell : Cell). if test place cell.holder then None else Some cell)) none
+
+pub object_none : (first : ℕ) (c : ToldCache) (place : ℕ) (cells : Cells) → cells place ≡ None → with_object first (Some c) cells place ≡ None
+object_none first c = without_none (λ place holder. in_block place (slab_around c first)
+    && not (is_object (λ n p. n == c.number && (p == first || are_apart c first p)) holder))
 
 and_true : (b : Bool) → (b && true) ≡ b
 and_true true = refl
@@ -108,6 +120,7 @@ given old new reach number first begin end are is_begin is_end e after =
     becomes old new (within begin end (doubted_of (is_same (Holder.Object number first)))) (doubted (λ place. is_same (Holder.Object number first))) e after
     (λ place cells low at. ap (λ (b : ℕ). within b end (doubted_of (is_same (Holder.Object number first))) place (cells place)) is_begin
     ∙ doubted_object reach number first end place cells (subst (IsNear reach place) at (are.near place)) (far place low))
+    (λ place cells off. doubted_none (λ place. is_same (Holder.Object number first)) place cells)
   where
     far : (place : ℕ) → place < 2 ^ 32 → place < first + slice_index reach number → place < end
     far place low near = omega arith
@@ -127,13 +140,24 @@ put_there holder begin bytes from end is_from is_end place cells =
 
 -- what is left then
 pub put : (old new : Left) (holder : Holder) (begin : ℕ) (bytes told : List ℕ) (from end : ℕ) → bytes ≡ told → from ≡ begin → end ≡ begin + length bytes
-    → new.order ≡ old.order
+    → new.order ≡ old.order → ((j : ℕ) → j < length told → has_place old (begin + j) ≡ true)
     → AreStepped old.order (within from end (λ place cell. with_bytes holder begin bytes (λ _. cell) place)) old.slots new.slots
     → Becomes old (left_slots old) (with_bytes holder begin told) new
-put old new holder begin bytes told from end is_told is_from is_end e after =
+put old new holder begin bytes told from end is_told is_from is_end e held after =
     becomes old new (within from end (λ place cell. with_bytes holder begin bytes (λ _. cell) place)) (with_bytes holder begin told) e after
     (λ place cells low at. put_there holder begin bytes from end is_from is_end place cells
     ∙ ap (λ (bs : List ℕ). with_bytes holder begin bs cells place) is_told)
+    (λ place cells off none. outside place cells off none (leb begin place && ltb place (begin + length told)) refl)
+  where
+    outside : (place : ℕ) (cells : Cells) → has_place old place ≡ false → cells place ≡ None → (b : Bool) → (leb begin place && ltb place (begin + length told)) ≡ b
+        → (if b then Some (record { holder = holder; byte = get_or told (place - begin) 0; sure = true }) else cells place) ≡ None
+    outside place cells off none true inside =
+        let parts = and_parts _ _ inside in
+        let low : begin ≤ place = leb-true begin place parts.0 in
+        let high : place < begin + length told = ltb-true place (begin + length told) parts.1 in
+        let back : begin + (place - begin) ≡ place = omega (arith, low) in
+        absurd (false≢true (sym off ∙ subst (λ p. has_place old p ≡ true) back (held (place - begin) (omega (arith, low, high)))))
+    outside place cells off none false inside = none
 
 near_more : (reach more : List ℕ) (place : ℕ) (cell : Option Cell) → ((n : ℕ) → slice_index reach n ≤ slice_index more n)
     → IsNear reach place cell → IsNear more place cell

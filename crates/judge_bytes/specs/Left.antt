@@ -1,5 +1,5 @@
 -- What was left in the slots that a tenant holds.
-use Rattle.std.specs.Prelude.{◌≡◌, ℕ, ◌-◌, ◌*◌, ◌^◌, Bool, true, List, [], ◌∷◌, map, Option, None, slice_index_or, if◌then◌else◌, ◌==◌}
+use Rattle.std.specs.Prelude.{◌≡◌, ℕ, ◌-◌, ◌*◌, ◌^◌, Bool, List, [], ◌∷◌, map, Option, None, slice_index_or, if◌then◌else◌, ◌==◌}
 use Rattle.std.specs.List.{list_any}
 use Rattle.model_core.specs.declared.limits.TheConstants.{FRAME_BYTES}
 use Rattle.model_core.specs.Machine.{slot_of}
@@ -39,9 +39,9 @@ left_slots left = slots_in left.slots
 abbrev pub has_place : Left → ℕ → Bool
 has_place left place = list_any (λ u. u == slot_of left.order place) (left_slots left)
 
--- at each of their places that was left which these cells tell
+-- at each place that was left which these cells tell: nothing, where the place is of no slot
 abbrev pub AreLeft : Left → Cells → Type 0
-AreLeft left cells = (place : ℕ) → has_place left place ≡ true → left_at left place ≡ cells place
+AreLeft left cells = (place : ℕ) → left_at left place ≡ cells place
 
 -- then the slots are these, and whatever was left before, it is what `change` makes of it
 pub record Becomes (old : Left) (held : List ℕ) (change : Cells → Cells) (new : Left) : Type 0 where

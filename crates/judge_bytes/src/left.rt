@@ -1,6 +1,7 @@
 //! What was left in the slots of a tenant, and what becomes of it by replies.
 
-ghost use Rattle.std.specs.Prelude.{◌≡◌, ℕ, ◌+◌, ◌*◌, ◌^◌, ◌<◌, ◌≤◌, ◌==◌, ◌&&◌, not, filter, length, [], ◌∷◌, Some, true, OnOk, OnErr, option_map, slice_index};
+ghost use Rattle.std.specs.Prelude.{◌≡◌, ℕ, ◌+◌, ◌*◌, ◌^◌, ◌<◌, ◌≤◌, ◌==◌, ◌&&◌, not, filter, length, [], ◌∷◌, Some, true, false, OnOk, OnErr, option_map, slice_index};
+ghost use Rattle.std.specs.List.{list_any};
 ghost use Rattle.model_core.specs.declared.limits.TheConstants.{FRAME_BYTES, MOST_ORDER};
 ghost use Rattle.model_core.specs.Machine.{in_block, slot_of};
 ghost use Rattle.promise_core.specs.Holdings.{ToldCache, slab_around};
@@ -66,11 +67,11 @@ impl LeftBytes {
         self.order
     }
 
-    /// The slot is granted: all of it is fresh. Fails where memory runs out, and then nothing is changed.
+    /// The slot, which is not held, is granted: nothing was left in it. Fails where memory runs out, and then nothing is changed.
     pub fn grant(&mut self, slot: u16) -> Result<(), AllocError>
-        requires { (slot + 1) * 2 ^ self.old.order * FRAME_BYTES ≤ 2 ^ 32 }
-        ensures granted { OnOk result (Becomes self.old (slot ∷ left_slots self.old)
-            (without (λ place holder. slot_of self.old.order place == slot)) self.new) }
+        requires new { list_any (λ v. v == slot) (left_slots self.old) ≡ false }
+        requires low { (slot + 1) * 2 ^ self.old.order * FRAME_BYTES ≤ 2 ^ 32 }
+        ensures granted { OnOk result (Becomes self.old (slot ∷ left_slots self.old) (λ cells. cells) self.new) }
         ensures kept { OnErr result (self.new ≡ self.old) }
     {
         let places = places_of(self.order) as usize;
@@ -79,9 +80,10 @@ impl LeftBytes {
         Ok(())
     }
 
-    /// The slot is taken back.
+    /// The slot is taken back: what was left in it is gone, and its memory is given back.
     pub fn take_back(&mut self, slot: u32)
-        ensures { Becomes self.old (filter (λ v. not (v == slot)) (left_slots self.old)) (λ cells. cells) self.new }
+        ensures { Becomes self.old (filter (λ v. not (v == slot)) (left_slots self.old))
+            (without (λ place holder. slot_of self.old.order place == slot)) self.new }
     {
         drop_slot(&mut self.slots, slot);
     }
@@ -93,9 +95,10 @@ impl LeftBytes {
         self.slots.clear();
     }
 
-    /// These bytes of the holder are told or written, from a place on.
+    /// These bytes of the holder are told or written, from a place on, all of them in slots that the tenant holds.
     pub fn put(&mut self, holder: RangeHolder, place: u32, bytes: &ArrayVec<u8, MOST_BYTES>)
-        requires { (number first : ℕ) → shown_holder holder ≡ Holder.Object number first → first ≤ place }
+        requires held { (j : ℕ) → j < length bytes.now.items → has_place self.old (place + j) ≡ true }
+        requires near { (number first : ℕ) → shown_holder holder ≡ Holder.Object number first → first ≤ place }
         ensures { Becomes self.old (left_slots self.old) (with_bytes (shown_holder holder) place bytes.now.items) self.new }
     {
         let bytes = bytes.as_slice();

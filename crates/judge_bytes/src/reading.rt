@@ -15,7 +15,7 @@ use judge_core::{Held, HeldCache, LeftByte, RangeHolder};
 use model_core::limits::MOST_BYTES;
 
 impl LeftBytes {
-    /// Whether these bytes may be read of the holder from a place on, as far as its places are of slots that the tenant holds.
+    /// Whether these bytes may be read of the holder from a place on, all of them in slots that the tenant holds.
     pub fn may_read(
         &self,
         held: &Held,
@@ -23,16 +23,12 @@ impl LeftBytes {
         place: u32,
         bytes: &ArrayVec<u8, MOST_BYTES>,
     ) -> bool
+        requires { (j : ℕ) → j < length bytes.now.items → has_place self.now (place + j) ≡ true }
         ensures { (cells : Cells) → AreLeft self.now cells
-            → ((j : ℕ) → j < length bytes.now.items → has_place self.now (place + j) ≡ true)
             → result ≡ may_all_be held.now cells (shown_holder holder) place bytes.now.items }
     {
         self.places_are_low();
-        let bytes = bytes.as_slice();
-        if u64::from(place) + bytes.len() as u64 > 1u64 << 32 {
-            return false;
-        }
-        self.may_read_all(held, holder, place, bytes)
+        self.may_read_all(held, holder, place, bytes.as_slice())
     }
 
     // It stands apart so that the loop over the bytes has all registers.

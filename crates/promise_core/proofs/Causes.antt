@@ -25,7 +25,8 @@ use Rattle.promise_core.specs.Promises.{first_due, is_one, due, is_used_up, verd
 use Rattle.promise_core.specs.Laws.{may_tell, RefusedForCause, TakeRefusedForCause}
 use Rattle.promise_core.specs.Lying.{IsGridded, live_of_slab}
 use Rattle.promise_core.proofs.Grids.{all_in, free_place}
-use Rattle.promise_core.proofs.Laid.{can_stand_is, empty_slab, reached_gridded}
+use Rattle.promise_core.proofs.Laid.{can_stand_is, empty_slab}
+use Rattle.promise_core.proofs.Reached.{reached_gridded}
 
 -- Lists
 

@@ -1,12 +1,12 @@
 -- What a tenant is told is its own, by induction over the exchanges.
-use Rattle.std.proofs.Common.{◌≡◌, ℕ, zero, suc, ◌+◌, ◌-◌, ◌<◌, ◌≤◌, Bool, true, false, not, ◌&&◌, ◌||◌, List, [], ◌∷◌, length, replicate, Option, Some, None, Result, Ok, Err, slice_get, slice_set, refl, ap, sym, subst, ◌∙◌, ◌⊎◌, inl, inr, arith}
-use Rattle.std.specs.Prelude.{nat_le, nat_lt, slice_index, if◌then◌else◌, ◌==◌}
+use Rattle.std.proofs.Common.{◌≡◌, ℕ, zero, suc, ◌+◌, ◌-◌, ◌<◌, Bool, true, false, not, ◌&&◌, ◌||◌, List, [], ◌∷◌, length, Option, Some, None, Result, Ok, Err, slice_get, refl, ap, sym, subst, ◌∙◌, inl, inr, arith}
+use Rattle.std.specs.Prelude.{slice_index, if◌then◌else◌, ◌==◌}
 use Rattle.std.specs.List.{list_any}
 use Rattle.std.specs.Option.{option_map_or}
-use Rattle.std.proofs.lemmas.Bool.{cases_eq, eq-eqb, ne_eqb, false≢true, or_left, or_right, and_left, and_right, and_from, and_parts, leb-true, ltb-true, le-leb, lt-ltb, cases_Bool}
+use Rattle.std.proofs.lemmas.Bool.{eq-eqb, ne_eqb, false≢true, or_left, or_right, and_left, and_right, and_from, and_parts, not-true, le-leb, lt-ltb}
 use Rattle.arrayvec.specs.ArrayVec.{ArrayVec}
 use Rattle.model_core.specs.Blocks.{block}
-use Rattle.model_core.specs.Machine.{in_block, put_rising, slot_of}
+use Rattle.model_core.specs.Machine.{in_block, slot_of}
 use Rattle.model_core.specs.Elements.{IsIn}
 use Rattle.model_core.proofs.Lists.{filter_in, map_in}
 use Rattle.words_core.specs.declared.event.Event.{Event}
@@ -18,72 +18,24 @@ use Rattle.words_core.specs.declared.reply.Body.TheVariants as Say
 use Rattle.words_core.specs.declared.reply.Refusal.{Refusal}
 use Rattle.words_core.specs.declared.reply.Reply.{Reply}
 use Rattle.world_core.specs.World.{Exchange}
-use Rattle.world_core.proofs.MachineLists.{slice_get-set_other}
 use Rattle.promise_core.specs.declared.promise.Promise.{Promise}
-use Rattle.promise_core.specs.Holdings.{ToldCache, cache_told, with_live_places, slab_around, are_apart}
-use Rattle.promise_core.specs.Bytes.{Holder, is_object, is_same, Cell, Cells, told_fresh_byte, may_be, with_bytes, doubted, without, may_all_be, holder_of}
-use Rattle.promise_core.specs.State.{State, Known, opening_state, opening, with_object, is_in_no_slab, state_after}
-use Rattle.promise_core.specs.Promises.{is_no_tenant, named, bytes, allowed, all_allowed}
+use Rattle.promise_core.specs.Holdings.{ToldCache, has_slot, cache_told, with_live_places}
+use Rattle.promise_core.specs.Bytes.{Holder, is_object, is_same, Cell, told_fresh_byte, may_be, with_bytes, may_all_be, holder_of}
+use Rattle.promise_core.specs.State.{State, Known, opening_state, opening, is_in_no_slab, state_after}
+use Rattle.promise_core.specs.Promises.{is_no_tenant, named, owners, bytes, allowed, all_allowed}
 use Rattle.promise_core.specs.Laws.{gives_pattern, writes_byte, grants_slot, was_given, was_written, is_own, Confined}
+use Rattle.promise_core.specs.Lying.{AreOfHeld}
 use Rattle.promise_core.proofs.Allowed.{ok_same, allowed_is}
 use Rattle.promise_core.proofs.Explained.{own, IsExplained, own_written, own_more, may_own, each_may}
+use Rattle.promise_core.proofs.Steps.{in_put, replicated, some_state, some_number, none_named, states_at, same_cells, without_cells, object_cells, range_cells, doubted_cells}
+use Rattle.promise_core.proofs.Reached.{AllLaid, allowed_laid, opening_laid}
 
 -- Lists
-
-pub in_put : {X : Type 0} (key : X → ℕ) (x y : X) (ys : List X) → IsIn y (put_rising key x ys) → (x ≡ y) ⊎ IsIn y ys
-in_put key x y [] (inl e) = inl e
-in_put key x y [] (inr i) = elim i [ ]
-in_put {X} key x y (z ∷ zs) i = go (nat_lt (key x) (key z)) i (in_put key x y zs)
-  where
-    go : (b : Bool) → IsIn y (if b then x ∷ (z ∷ zs) else z ∷ put_rising key x zs) → (IsIn y (put_rising key x zs) → (x ≡ y) ⊎ IsIn y zs)
-        → (x ≡ y) ⊎ IsIn y (z ∷ zs)
-    go true (inl e) ih = inl e
-    go true (inr j) ih = inr j
-    go false (inl e) ih = inr (inl e)
-    go false (inr j) ih = elim (ih j) [ inl e ↦ inl e | inr k ↦ inr (inr k) ]
-
-set_same : {X : Type 0} (xs : List X) (i : ℕ) (x y : X) → slice_get (slice_set xs i y) i ≡ Some x → x ≡ y
-set_same [] i x y e = absurd (cc)
-set_same (z ∷ zs) zero x y e = cc
-set_same (z ∷ zs) (suc i) x y e = set_same zs i x y e
-
-pub replicated : {X : Type 0} (n i : ℕ) (x y : X) → slice_get (replicate n x) i ≡ Some y → y ≡ x
-replicated zero i x y e = absurd (cc)
-replicated (suc n) zero x y e = cc
-replicated (suc n) (suc i) x y e = replicated n i x y e
 
 get_index : (xs : List ℕ) (i : ℕ) → i < length xs → slice_get xs i ≡ Some (slice_index xs i)
 get_index [] i h = absurd (omega arith)
 get_index (x ∷ xs) zero h = refl
 get_index (x ∷ xs) (suc i) h = get_index xs i (omega arith)
-
--- What stays of the cells
-
--- the cell at the place is one that was there, which the test does not pass
-pub record IsLeft (test : ℕ → Holder → Bool) (cells : Cells) (place : ℕ) (cell : Cell) : Type 0 where
-  pub old : Cell
-  pub was : cells place ≡ Some old
-  pub byte : old.byte ≡ cell.byte
-  pub fails : test place old.holder ≡ false
-
-without_left : (test : ℕ → Holder → Bool) (cells : Cells) (place : ℕ) (cell : Cell) → without test cells place ≡ Some cell → IsLeft test cells place cell
-without_left test cells place cell = go (cells place) refl
-  where
-    go : (found : Option Cell) → cells place ≡ found → without test (λ p. found) place ≡ Some cell → IsLeft test cells place cell
-    go None is e = absurd (cc)
-    go (Some old) is e = by_test (test place old.holder) refl e
-      where
-        by_test : (b : Bool) → test place old.holder ≡ b → ◌≡◌ {A = Option Cell} (if b then None else Some old) (Some cell) → IsLeft test cells place cell
-        by_test true fails e = absurd (cc)
-        by_test false fails e = record { old = old; was = is; byte = ap (λ o. option_map_or (λ (x : Cell). x.byte) o 0) e; fails = fails }
-
-doubted_left : (test : ℕ → Holder → Bool) (cells : Cells) (place : ℕ) (cell : Cell) → doubted test cells place ≡ Some cell
-    → (old : Cell) × (cells place ≡ Some old) × (old.byte ≡ cell.byte)
-doubted_left test cells place cell = go (cells place) refl
-  where
-    go : (found : Option Cell) → cells place ≡ found → doubted test (λ p. found) place ≡ Some cell → (old : Cell) × (cells place ≡ Some old) × (old.byte ≡ cell.byte)
-    go None is e = absurd (cc)
-    go (Some old) is e = (old, is, ap (λ o. option_map_or (λ (x : Cell). x.byte) o 0) e)
 
 -- What a state has that another has not
 
@@ -103,9 +55,6 @@ carried given written given' written' place s s' more_given more_written c x = r
 same_patterns : (s : State) (c : ToldCache) → IsIn c s.has.caches → (d : ToldCache) × IsIn d s.has.caches × (d.pattern ≡ c.pattern)
 same_patterns s c i = (c, i, refl)
 
-same_cells : (place : ℕ) (s : State) (cell : Cell) → s.cells place ≡ Some cell → (old : Cell) × (s.cells place ≡ Some old) × (old.byte ≡ cell.byte)
-same_cells place s cell e = (cell, e, refl)
-
 live_pattern : (b : Bool) (c : ToldCache) (live : List ℕ) → (if b then record c { live = live } else c).pattern ≡ c.pattern
 live_pattern true c live = refl
 live_pattern false c live = refl
@@ -115,38 +64,6 @@ live_patterns : (s : State) (number : ℕ) (change : List ℕ → List ℕ) (c :
 live_patterns s number change c i =
     let from : (d : ToldCache) × IsIn d s.has.caches × ((if d.number == number then record d { live = change d.live } else d) ≡ c) = map_in _ c s.has.caches i in
     (from.0, from.1, sym (live_pattern (from.0.number == number) from.0 (change from.0.live)) ∙ ap (λ x. x.pattern) from.2)
-
-without_cells : (test : ℕ → Holder → Bool) (place : ℕ) (s : State) (cell : Cell) → without test s.cells place ≡ Some cell
-    → (old : Cell) × (s.cells place ≡ Some old) × (old.byte ≡ cell.byte)
-without_cells test place s cell e = let l = without_left test s.cells place cell e in (l.old, l.was, l.byte)
-
-object_cells : (first place : ℕ) (s : State) (cache : Option ToldCache) (cell : Cell) → with_object first cache s.cells place ≡ Some cell
-    → (old : Cell) × (s.cells place ≡ Some old) × (old.byte ≡ cell.byte)
-object_cells first place s None cell e = (cell, e, refl)
-object_cells first place s (Some c) cell e =
-    without_cells (λ p holder. in_block p (slab_around c first) && not (is_object (λ n q. n == c.number && (q == first || are_apart c first q)) holder)) place s cell e
-
--- where bytes were laid from `begin` on, the byte at the place is one of them, or the one that was there
-range_cells : (begin place : ℕ) (new : List ℕ) (s : State) (holder : Option Holder) (cell : Cell)
-    → option_map_or (λ x. with_bytes x begin new s.cells) holder s.cells place ≡ Some cell
-    → ((x : Holder) × (holder ≡ Some x) × (begin ≤ place) × (place < begin + length new) × (cell.byte ≡ slice_index new (place - begin))) ⊎ (s.cells place ≡ Some cell)
-range_cells begin place new s None cell e = inr e
-range_cells begin place new s (Some x) cell e = go (cases_Bool (nat_le begin place && nat_lt place (begin + length new))) e
-  where
-    value : Option Cell → ℕ
-    value found = option_map_or (λ (c : Cell). c.byte) found 0
-
-    go : ((nat_le begin place && nat_lt place (begin + length new)) ≡ true) ⊎ ((nat_le begin place && nat_lt place (begin + length new)) ≡ false)
-        → with_bytes x begin new s.cells place ≡ Some cell
-        → ((y : Holder) × (Some x ≡ Some y) × (begin ≤ place) × (place < begin + length new) × (cell.byte ≡ slice_index new (place - begin))) ⊎ (s.cells place ≡ Some cell)
-    go (inl b) e = let parts = and_parts _ _ b in
-        let is : (if true then Some (record { holder = x; byte = slice_index new (place - begin); sure = true }) else s.cells place) ≡ Some cell = rw (b) at e in
-        inl (x, refl, leb-true begin place parts.0, ltb-true place _ parts.1, sym (ap value is))
-    go (inr b) e = inr (rw (b) at e)
-
-doubted_cells : (test : ℕ → Holder → Bool) (place : ℕ) (s : State) (cell : Cell) → doubted test s.cells place ≡ Some cell
-    → (old : Cell) × (s.cells place ≡ Some old) × (old.byte ≡ cell.byte)
-doubted_cells test place s cell e = doubted_left test s.cells place cell e
 
 -- Which exchanges give, write and grant
 
@@ -159,28 +76,10 @@ grants_other : (order t place : ℕ) (event : Event) (body : Body) → (named ev
 grants_other order t place (On.Admin (Do.Grant n)) (Say.Granted told u superblock) other = and_left _ _ (ne_eqb n t (λ e. other (ap Some e)))
 grants_other order t place event body other = refl
 
-pub some_state : {x y : State} → Some x ≡ Some y → x ≡ y
-some_state e = cc
-
-some_number : {x y : ℕ} → Some x ≡ Some y → x ≡ y
-some_number e = cc
-
-none_named : {t : ℕ} → ◌≡◌ {A = Option ℕ} None (Some t) → ⊥
-none_named e = absurd (cc)
-
 -- a refusal for want of the tenant grants nothing
 grants_none : (order t place : ℕ) (event : Event) (body : Body) → is_no_tenant body ≡ true → grants_slot order t place event body ≡ false
 grants_none order t place event (Say.Refused r) e = grants_refused order t place event r
 grants_none order t place event body e = absurd (cc)
-
--- the state of tenant t after an event that names this one
-pub states_at : (t : ℕ) (name : Option ℕ) (states : List State) (after x : State) → slice_get (option_map_or (λ i. slice_set states i after) name states) t ≡ Some x
-    → ((name ≡ Some t) × (x ≡ after)) ⊎ ((name ≡ Some t → ⊥) × (slice_get states t ≡ Some x))
-states_at t None states after x e = inr ((λ n. none_named n), e)
-states_at t (Some i) states after x e = elim (cases_eq i t) [
-  | inl same ↦ inl (ap Some same, set_same states t x after (subst (λ k. slice_get (slice_set states k after) t ≡ Some x) same e))
-  | inr other ↦ inr ((λ n. other (some_number n)), sym (slice_get-set_other states i t after other) ∙ e)
-]
 
 -- the flags after an exchange
 abbrev given_after : ℕ → (ℕ → Bool) → Event → ℕ → Bool
@@ -245,37 +144,35 @@ module _ (order t place : ℕ) (given written : ℕ → Bool) where
   unfolding opening_state
   opened event body = record { patterns = λ c m. elim m [ ]; cells = λ cell e. absurd (cc) }
 
-  grant_step : (n u superblock told : ℕ) (s : State) (cell : Cell) → IsExplained given written place s
-      → without (λ p holder. slot_of order p == u) s.cells place ≡ Some cell
-      → own (given_after t given (On.Admin (Do.Grant n)))
-      (written_after order t place written (On.Admin (Do.Grant n)) (Say.Granted told u superblock)) cell.byte ≡ true
-  grant_step n u superblock told s cell x e = let left = without_left (λ p holder. slot_of order p == u) s.cells place cell e in
-      own_stays (On.Admin (Do.Grant n)) (Say.Granted told u superblock) cell.byte (and_right (n == t) _ left.fails)
-      (subst (λ b. own given written b ≡ true) left.byte (x.cells left.old left.was))
+  -- what was left is of no slot that is granted only now
+  grants_no_held : (n u superblock told : ℕ) (s : State) (cell : Cell) → not (has_slot s.has u) ≡ true → AreOfHeld order s.has s.cells
+      → s.cells place ≡ Some cell → grants_slot order t place (On.Admin (Do.Grant n)) (Say.Granted told u superblock) ≡ false
+  grants_no_held n u superblock told s cell new held is = and_right (n == t) _
+      (ne_eqb (slot_of order place) u (λ same. false≢true (sym (not-true _ new) ∙ subst (λ v. has_slot s.has v ≡ true) same (held place cell is))))
 
-  step : (w : Known) (event : Event) (body : Body) (s s' : State) → w.order ≡ order → state_after w.order event body s ≡ Some s' → bytes event body w s ≡ true
-      → named event ≡ Some t → IsExplained given written place s → After event body s'
+  step : (w : Known) (event : Event) (body : Body) (s s' : State) → state_after w.order event body s ≡ Some s' → owners event body w s ≡ true
+      → bytes event body w s ≡ true → AreOfHeld order s.has s.cells → named event ≡ Some t → IsExplained given written place s → After event body s'
   unfolding state_after
-  step w event (Say.Refused r) s s' o e b n x =
+  step w event (Say.Refused r) s s' e own b l n x =
       carry event (Say.Refused r) s s s' (grants_refused order t place event r) e (record { patterns = same_patterns s; cells = same_cells place s }) x
-  step w (On.Tenant i (Asked.Alloc k)) (Say.Frame f) s s' o e b n x =
+  step w (On.Tenant i (Asked.Alloc k)) (Say.Frame f) s s' e own b l n x =
       carry (On.Tenant i (Asked.Alloc k)) (Say.Frame f) s _ s' refl e
       (record { patterns = same_patterns s; cells = without_cells (λ p holder. in_block p (block f k) && not (is_same Holder.Page holder)) place s }) x
-  step w (On.Tenant i (Asked.Free f)) (Say.Freed k) s s' o e b n x =
+  step w (On.Tenant i (Asked.Free f)) (Say.Freed k) s s' e own b l n x =
       carry (On.Tenant i (Asked.Free f)) (Say.Freed k) s _ s' refl e
       (record { patterns = same_patterns s; cells = doubted_cells (λ p holder. in_block p (block f k) && is_same Holder.Page holder) place s }) x
-  step w (On.Tenant i (Asked.Read begin len)) (Say.Bytes told) s s' o e b n x = subst (After (On.Tenant i (Asked.Read begin len)) (Say.Bytes told)) (some_state e)
+  step w (On.Tenant i (Asked.Read begin len)) (Say.Bytes told) s s' e own b l n x = subst (After (On.Tenant i (Asked.Read begin len)) (Say.Bytes told)) (some_state e)
       (record {
         patterns = λ c m y g. or_left _ _ (x.patterns c m y g);
         cells = λ cell h. own_stays (On.Tenant i (Asked.Read begin len)) (Say.Bytes told) cell.byte refl
             (read_step begin len told.items s (holder_of s.has begin len) cell x (and_parts _ _ b).1 h);
       })
-  step w (On.Tenant i (Asked.Write begin new)) (Say.Written count) s s' o e b n x = subst (After (On.Tenant i (Asked.Write begin new)) (Say.Written count)) (some_state e)
+  step w (On.Tenant i (Asked.Write begin new)) (Say.Written count) s s' e own b l n x = subst (After (On.Tenant i (Asked.Write begin new)) (Say.Written count)) (some_state e)
       (record {
         patterns = λ c m y g. or_left _ _ (x.patterns c m y g);
         cells = λ cell h. write_step i begin new count s (holder_of s.has begin count) cell (some_number n) x h;
       })
-  step w (On.Tenant i (Asked.Cache size align pattern)) (Say.Cache number chunk q c colours) s s' o e b n x =
+  step w (On.Tenant i (Asked.Cache size align pattern)) (Say.Cache number chunk q c colours) s s' e own b l n x =
       subst (After (On.Tenant i (Asked.Cache size align pattern)) (Say.Cache number chunk q c colours)) (some_state e)
       (record {
         patterns = λ d m y g. elim (in_put (λ z. z.number) _ d s.has.caches m) [
@@ -284,32 +181,34 @@ module _ (order t place : ℕ) (given written : ℕ → Bool) where
         ];
         cells = λ cell h. own_stays (On.Tenant i (Asked.Cache size align pattern)) (Say.Cache number chunk q c colours) cell.byte refl (x.cells cell h);
       })
-  step w (On.Tenant i (Asked.Destroy number)) (Say.Destroyed frames) s s' o e b n x =
+  step w (On.Tenant i (Asked.Destroy number)) (Say.Destroyed frames) s s' e own b l n x =
       carry (On.Tenant i (Asked.Destroy number)) (Say.Destroyed frames) s _ s' refl e
       (record { patterns = λ c m. (c, (filter_in _ c s.has.caches m).0, refl); cells = without_cells (λ p. is_object (λ m q. m == number)) place s }) x
-  step w (On.Tenant i (Asked.Take number)) (Say.Object first) s s' o e b n x =
+  step w (On.Tenant i (Asked.Take number)) (Say.Object first) s s' e own b l n x =
       carry (On.Tenant i (Asked.Take number)) (Say.Object first) s _ s' refl e (record { patterns = live_patterns s number _; cells = object_cells first place s (cache_told s.has number) }) x
-  step w (On.Tenant i (Asked.Give number first)) Say.Given s s' o e b n x =
+  step w (On.Tenant i (Asked.Give number first)) Say.Given s s' e own b l n x =
       carry (On.Tenant i (Asked.Give number first)) Say.Given s _ s' refl e
       (record { patterns = live_patterns s number _; cells = doubted_cells (λ p. is_same (Holder.Object number first)) place s }) x
-  step w (On.Tenant i Asked.Reap) (Say.Reaped frames) s s' o e b n x =
+  step w (On.Tenant i Asked.Reap) (Say.Reaped frames) s s' e own b l n x =
       carry (On.Tenant i Asked.Reap) (Say.Reaped frames) s _ s' refl e
       (record { patterns = same_patterns s; cells = without_cells (λ p. is_object (is_in_no_slab s.has)) place s }) x
-  step w (On.Tenant i Asked.Report) (Say.Report r) s s' o e b n x =
+  step w (On.Tenant i Asked.Report) (Say.Report r) s s' e own b l n x =
       carry (On.Tenant i Asked.Report) (Say.Report r) s _ s' refl e (record { patterns = same_patterns s; cells = same_cells place s }) x
-  step w (On.Admin (Do.Grant i)) (Say.Granted told u superblock) s s' o e b n x = subst (After (On.Admin (Do.Grant i)) (Say.Granted told u superblock)) (some_state e)
+  step w (On.Admin (Do.Grant i)) (Say.Granted told u superblock) s s' e own b l n x = subst (After (On.Admin (Do.Grant i)) (Say.Granted told u superblock)) (some_state e)
       (record {
         patterns = λ c m y g. or_left _ _ (x.patterns c m y g);
-        cells = λ cell h. grant_step i u superblock told s cell x (subst (λ k. without (λ p holder. slot_of k p == u) s.cells place ≡ Some cell) o h);
+        cells = λ cell h. own_stays (On.Admin (Do.Grant i)) (Say.Granted told u superblock) cell.byte
+            (grants_no_held i u superblock told s cell (and_parts _ _ (and_parts _ _ own).1).0 l h) (x.cells cell h);
       })
-  step w (On.Admin (Do.TakeBack i u)) (Say.TakenBack superblock) s s' o e b n x =
-      carry (On.Admin (Do.TakeBack i u)) (Say.TakenBack superblock) s _ s' refl e (record { patterns = same_patterns s; cells = same_cells place s }) x
-  step w (On.Admin (Do.Reset i)) (Say.WasReset told superblocks) s s' o e b n x = subst (After (On.Admin (Do.Reset i)) (Say.WasReset told superblocks)) (some_state e)
+  step w (On.Admin (Do.TakeBack i u)) (Say.TakenBack superblock) s s' e own b l n x =
+      carry (On.Admin (Do.TakeBack i u)) (Say.TakenBack superblock) s _ s' refl e
+      (record { patterns = same_patterns s; cells = without_cells (λ p holder. slot_of w.order p == u) place s }) x
+  step w (On.Admin (Do.Reset i)) (Say.WasReset told superblocks) s s' e own b l n x = subst (After (On.Admin (Do.Reset i)) (Say.WasReset told superblocks)) (some_state e)
       (opened (On.Admin (Do.Reset i)) (Say.WasReset told superblocks))
-  step w (On.Admin (Do.Move i u)) (Say.Moved told slot superblock) s s' o e b n x =
+  step w (On.Admin (Do.Move i u)) (Say.Moved told slot superblock) s s' e own b l n x =
       carry (On.Admin (Do.Move i u)) (Say.Moved told slot superblock) s s s' refl e (record { patterns = same_patterns s; cells = same_cells place s }) x
-  step w (On.Admin Do.Pool) (Say.Owners owners) s s' o e b n x = absurd (none_named n)
-  step w event body s s' o e b n x = absurd (cc)
+  step w (On.Admin Do.Pool) (Say.Owners owners) s s' e own b l n x = absurd (none_named n)
+  step w event body s s' e own b l n x = absurd (cc)
 
   stays : (event : Event) (body : Body) (s : State) → grants_slot order t place event body ≡ false → IsExplained given written place s → After event body s
   stays event body s none x = carry event body s s s none refl (record { patterns = same_patterns s; cells = same_cells place s }) x
@@ -318,39 +217,32 @@ module _ (order t place : ℕ) (given written : ℕ → Bool) where
 abbrev Holds : ℕ → ℕ → (ℕ → Bool) → (ℕ → Bool) → Known → Type 0
 Holds t place given written w = (s : State) → slice_get w.states t ≡ Some s → IsExplained given written place s
 
-allowed_step : (order t place : ℕ) (given written : ℕ → Bool) (event : Event) (reply : Reply) (w v : Known) → w.order ≡ order → allowed event reply w ≡ Ok v
-    → Holds t place given written w
-    → Holds t place (given_after t given event) (written_after order t place written event reply.body) v × (v.order ≡ order)
-allowed_step order t place given written event reply w v o e holds = elim (allowed_is event reply w v e) [
-  | inl none ↦ (
-    (λ s h. stays order t place given written event reply.body s (grants_none order t place event reply.body none.said)
-        (holds s (subst (λ k. slice_get k.states t ≡ Some s) none.is h))),
-    ap (λ k. k.order) none.is ∙ o,
-  )
-  | inr a ↦ (
-    (λ x h. elim (states_at t (named event) w.states a.after x (subst (λ k. slice_get k.states t ≡ Some x) a.is h)) [
-      | inl (same, is) ↦ subst (λ y. IsExplained (given_after t given event) (written_after order t place written event reply.body) place y) (sym is)
-          (step order t place given written w event reply.body a.state a.after o a.next a.bytes same
-          (holds a.state (subst (λ n. option_map_or (slice_get w.states) n (Some opening_state) ≡ Some a.state) same a.here)))
-      | inr (other, was) ↦ stays order t place given written event reply.body x (grants_other order t place event reply.body other) (holds x was)
-    ]),
-    ap (λ k. k.order) a.is ∙ o,
-  )
+allowed_step : (order t place : ℕ) (given written : ℕ → Bool) (event : Event) (reply : Reply) (w v : Known) → allowed event reply w ≡ Ok v → AllLaid order w
+    → Holds t place given written w → Holds t place (given_after t given event) (written_after order t place written event reply.body) v
+allowed_step order t place given written event reply w v e laid holds = elim (allowed_is event reply w v e) [
+  | inl none ↦ λ s h. stays order t place given written event reply.body s (grants_none order t place event reply.body none.said)
+      (holds s (subst (λ k. slice_get k.states t ≡ Some s) none.is h))
+  | inr a ↦ λ x h. elim (states_at t (named event) w.states a.after x (subst (λ k. slice_get k.states t ≡ Some x) a.is h)) [
+    | inl (same, is) ↦ let here = subst (λ n. option_map_or (slice_get w.states) n (Some opening_state) ≡ Some a.state) same a.here in
+        subst (λ y. IsExplained (given_after t given event) (written_after order t place written event reply.body) place y) (sym is)
+        (step order t place given written w event reply.body a.state a.after a.next a.owners a.bytes (laid.1 t a.state here).held same (holds a.state here))
+    | inr (other, was) ↦ stays order t place given written event reply.body x (grants_other order t place event reply.body other) (holds x was)
+  ]
 ]
 
-run : (order t place : ℕ) (given written : ℕ → Bool) (es : List Exchange) (w v : Known) → w.order ≡ order → all_allowed es (Ok w) ≡ Ok v
+run : (order t place : ℕ) (given written : ℕ → Bool) (es : List Exchange) (w v : Known) → all_allowed es (Ok w) ≡ Ok v → AllLaid order w
     → Holds t place given written w → Holds t place (λ b. was_given t b (given b) es) (λ b. was_written order t place b (written b) es) v
-run order t place given written [] w v o e holds = subst (Holds t place given written) (sym (ok_same e)) holds
-run order t place given written (x ∷ xs) w v o e holds =
+run order t place given written [] w v e laid holds = subst (Holds t place given written) (sym (ok_same e)) holds
+run order t place given written (x ∷ xs) w v e laid holds =
     go (allowed x.event x.reply w) refl e
-    (λ u p r h. run order t place (given_after t given x.event) (written_after order t place written x.event x.reply.body) xs u v p r h)
+    (λ u r l h. run order t place (given_after t given x.event) (written_after order t place written x.event x.reply.body) xs u v r l h)
   where
     go : (r : Result Known Promise) → allowed x.event x.reply w ≡ r → all_allowed xs r ≡ Ok v
-        → ((u : Known) → u.order ≡ order → all_allowed xs (Ok u) ≡ Ok v
+        → ((u : Known) → all_allowed xs (Ok u) ≡ Ok v → AllLaid order u
         → Holds t place (given_after t given x.event) (written_after order t place written x.event x.reply.body) u → Holds t place (λ b. was_given t b (given b) (x ∷ xs)) (λ b. was_written order t place b (written b) (x ∷ xs)) v)
         → Holds t place (λ b. was_given t b (given b) (x ∷ xs)) (λ b. was_written order t place b (written b) (x ∷ xs)) v
     go (Err promise) is r rest = absurd (cc)
-    go (Ok u) is r rest = let next = allowed_step order t place given written x.event x.reply w u o is holds in rest u next.1 r next.0
+    go (Ok u) is r rest = rest u r (allowed_laid order x.event x.reply w u is laid) (allowed_step order t place given written x.event x.reply w u is laid holds)
 
 opening_holds : (limit order superblocks tenants t place : ℕ) (given written : ℕ → Bool) → Holds t place given written (opening limit order superblocks tenants)
 unfolding opening opening_state
@@ -367,8 +259,8 @@ confined limit order superblocks tenants t begin len j byte es addressee told w 
     ]
   where
     reached : Holds t (begin + j) (λ b. was_given t b false es) (λ b. was_written order t (begin + j) b false es) w
-    reached = run order t (begin + j) (λ b. false) (λ b. false) es (opening limit order superblocks tenants) w refl e
-        (opening_holds limit order superblocks tenants t (begin + j) (λ b. false) (λ b. false))
+    reached = run order t (begin + j) (λ b. false) (λ b. false) es (opening limit order superblocks tenants) w e
+        (opening_laid limit order superblocks tenants) (opening_holds limit order superblocks tenants t (begin + j) (λ b. false) (λ b. false))
 
     go : (s : State) → IsExplained (λ b. was_given t b false es) (λ b. was_written order t (begin + j) b false es) (begin + j) s → (holder : Option Holder)
         → option_map_or (λ x. may_all_be s.has s.cells x begin told.items) holder false ≡ true → is_own order t (begin + j) byte es ≡ true

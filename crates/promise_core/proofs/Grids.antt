@@ -16,7 +16,7 @@ use Rattle.model_core.proofs.Lists.{filter_in, in_filter, some_any, any_in}
 use Rattle.model_core.proofs.BlocksByNumber.{number_is, first_is, number_of_frame, any_below_tells, any_below_is}
 use Rattle.promise_core.specs.Lying.{IsFitted, live_of_slab, OnGrid, HasGrid, IsGridded}
 use Rattle.promise_core.specs.Holdings.{ToldCache, Holdings, slab_around, can_stand, are_apart, is_grid, can_be_taken}
-use Rattle.promise_core.proofs.Confined.{in_put}
+use Rattle.promise_core.proofs.Steps.{in_put}
 
 -- Lists
 

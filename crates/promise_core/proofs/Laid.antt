@@ -1,5 +1,5 @@
--- What is live lies apart and in held slots, by induction over the exchanges.
-use Rattle.std.proofs.Common.{◌≡◌, ℕ, ◌+◌, ◌-◌, ◌*◌, ◌/◌, ◌%◌, ◌^◌, ◌<◌, ◌≤◌, Bool, true, false, not, List, [], ◌∷◌, map, length, Option, Some, None, Result, Ok, Err, is_none, slice_get, refl, ap, sym, subst, ◌∙◌, ◌⊎◌, inl, inr, arith}
+-- What is live lies apart and in held slots, and stays so by each step.
+use Rattle.std.proofs.Common.{◌≡◌, ℕ, ◌+◌, ◌-◌, ◌*◌, ◌/◌, ◌%◌, ◌^◌, ◌<◌, ◌≤◌, Bool, true, false, not, List, [], ◌∷◌, map, length, Option, Some, None, is_none, refl, ap, sym, subst, ◌∙◌, ◌⊎◌, inl, inr, arith}
 use Rattle.std.specs.Prelude.{if◌then◌else◌, filter, find, flat_map, nat_lt, ◌==◌}
 use Rattle.std.specs.Option.{option_map_or}
 use Rattle.std.proofs.Math.Nat.{div-mul-le_self, lt-div-mul-add}
@@ -12,7 +12,6 @@ use Rattle.model_core.specs.Machine.{put_rising}
 use Rattle.model_core.specs.Operations.{overlaps}
 use Rattle.model_core.specs.Elements.{IsIn}
 use Rattle.model_core.proofs.Lists.{find_in, filter_in, in_filter, some_any, any_in, in_left, in_right, map_in, in_map}
-use Rattle.model_core.proofs.ObjectsApart.{contains_in}
 use Rattle.model_core.proofs.Apart.{overlap_from, has_first}
 use Rattle.words_core.specs.declared.event.Event.{Event}
 use Rattle.words_core.specs.declared.event.Event.TheVariants as On
@@ -21,16 +20,11 @@ use Rattle.words_core.specs.declared.event.Command.TheVariants as Asked
 use Rattle.words_core.specs.declared.reply.Body.{Body}
 use Rattle.words_core.specs.declared.reply.Body.TheVariants as Say
 use Rattle.words_core.specs.declared.reply.Refusal.{Refusal}
-use Rattle.words_core.specs.declared.reply.Reply.{Reply}
-use Rattle.world_core.specs.World.{Exchange}
-use Rattle.promise_core.specs.declared.promise.Promise.{Promise}
 use Rattle.promise_core.specs.Holdings.{ToldCache, Holdings, has_slot, cache_told, with_live_places, slab_around, told_blocks, is_vacant, can_stand, is_slot_busy, live_beside, can_be_taken}
 use Rattle.promise_core.specs.Lying.{Used, HaveOwnNumbers, IsLaid, IsFitted, IsGridded, AllGridded, live_of_slab}
-use Rattle.promise_core.specs.State.{State, Known, opening_state, opening, state_after}
-use Rattle.promise_core.specs.Promises.{first_due, due, refusals, blocks, objects, new_layout, named, allowed, all_allowed}
-use Rattle.promise_core.specs.Laws.{Uses, LiveApart}
-use Rattle.promise_core.proofs.Allowed.{ok_same, allowed_is}
-use Rattle.promise_core.proofs.Confined.{in_put, replicated, some_state, states_at}
+use Rattle.promise_core.specs.State.{State, Known, opening_state, state_after}
+use Rattle.promise_core.specs.Promises.{first_due, due, refusals, blocks, objects, new_layout}
+use Rattle.promise_core.proofs.Steps.{in_put, some_state}
 use Rattle.promise_core.proofs.Grids.{new_gridded, given_gridded, taken_gridded}
 
 -- Lists
@@ -261,17 +255,16 @@ cache_laid order h new empty l none = fewer order h (record h { caches = put_ris
       | inr old ↦ (c, p, old, j, e, is)
     ]
 
+pub slot_put : (u : ℕ) (h : Holdings) (v : ℕ) → has_slot h v ≡ true → has_slot (record h { slots = put_rising (λ x. x) u h.slots }) v ≡ true
+slot_put u h v e = let x : (x : ℕ) × IsIn x h.slots × ((x == v) ≡ true) = some_any _ h.slots e in
+    any_in _ x.0 (put_rising (λ x. x) u h.slots) (put_keeps (λ x. x) u x.0 h.slots x.1) x.2
+
 grant_laid : (order u : ℕ) (h : Holdings) → IsLaid order h → IsLaid order (record h { slots = put_rising (λ v. v) u h.slots })
-grant_laid order u h l = fewer order h (record h { slots = put_rising (λ v. v) u h.slots }) l same_used held l.numbers
+grant_laid order u h l = fewer order h (record h { slots = put_rising (λ v. v) u h.slots }) l same_used (λ by b i. slot_put u h (b.first / 2 ^ order)) l.numbers
   where
     same_used : (by : Option ℕ) (b : Block) → Used (record h { slots = put_rising (λ v. v) u h.slots }) by b → Used h by b
     same_used None b i = i
     same_used (Some n) b i = i
-
-    held : (by : Option ℕ) (b : Block) → Used (record h { slots = put_rising (λ v. v) u h.slots }) by b → has_slot h (b.first / 2 ^ order) ≡ true
-        → has_slot (record h { slots = put_rising (λ v. v) u h.slots }) (b.first / 2 ^ order) ≡ true
-    held by b i e = let v : (x : ℕ) × IsIn x h.slots × ((x == b.first / 2 ^ order) ≡ true) = some_any _ h.slots e in
-        any_in _ v.0 (put_rising (λ v. v) u h.slots) (put_keeps (λ v. v) u v.0 h.slots v.1) v.2
 
 in_slot_overlaps : (order slot : ℕ) (b : Block) → b.first / 2 ^ order ≡ slot → overlaps (slot_block order slot) b ≡ true
 in_slot_overlaps order slot b same = and_from _ _
@@ -429,60 +422,3 @@ grid_step w (On.Admin (Do.Reset i)) (Say.WasReset told superblocks) s s' e f o c
 grid_step w (On.Admin (Do.Move i u)) (Say.Moved told slot superblock) s s' e f o c own g = subst (λ y. AllGridded w.order y.has) (some_state e) g
 grid_step w (On.Admin Do.Pool) (Say.Owners owners) s s' e f o c own g = subst (λ y. AllGridded w.order y.has) (some_state e) g
 grid_step w event body s s' e f o c own g = absurd (cc)
-
--- Whole runs
-
-abbrev AllLaid : ℕ → Known → Type 0
-AllLaid order w = (w.order ≡ order) × ((t : ℕ) (s : State) → slice_get w.states t ≡ Some s → IsLaid order s.has × AllGridded order s.has)
-
-allowed_laid : (order : ℕ) (event : Event) (reply : Reply) (w v : Known) → allowed event reply w ≡ Ok v → AllLaid order w → AllLaid order v
-allowed_laid order event reply w v e (o, l) = elim (allowed_is event reply w v e) [
-  | inl none ↦ subst (AllLaid order) (sym none.is) (o, l)
-  | inr a ↦ (
-    ap (λ k. k.order) a.is ∙ o,
-    λ t x h. elim (states_at t (named event) w.states a.after x (subst (λ k. slice_get k.states t ≡ Some x) a.is h)) [
-      | inl (same, is) ↦
-          let before : IsLaid w.order a.state.has × AllGridded w.order a.state.has = subst (λ k. IsLaid k a.state.has × AllGridded k a.state.has) (sym o)
-          (l t a.state (subst (λ n. option_map_or (slice_get w.states) n (Some opening_state) ≡ Some a.state) same a.here)) in
-          subst (λ y. IsLaid order y.has × AllGridded order y.has) (sym is) (subst (λ k. IsLaid k a.after.has × AllGridded k a.after.has) o (
-            step w event reply.body a.state a.after a.next a.refusals a.blocks a.objects a.layout before.0,
-            grid_step w event reply.body a.state a.after a.next a.refusals a.objects a.layout before.0.numbers before.1,
-          ))
-      | inr (other, was) ↦ l t x was
-    ],
-  )
-]
-
-run : (order : ℕ) (es : List Exchange) (w v : Known) → all_allowed es (Ok w) ≡ Ok v → AllLaid order w → AllLaid order v
-run order [] w v e l = subst (AllLaid order) (sym (ok_same e)) l
-run order (x ∷ xs) w v e l = go (allowed x.event x.reply w) refl e (λ u r m. run order xs u v r m)
-  where
-    go : (r : Result Known Promise) → allowed x.event x.reply w ≡ r → all_allowed xs r ≡ Ok v
-        → ((u : Known) → all_allowed xs (Ok u) ≡ Ok v → AllLaid order u → AllLaid order v) → AllLaid order v
-    go (Err promise) is r rest = absurd (cc)
-    go (Ok u) is r rest = rest u r (allowed_laid order x.event x.reply w u is l)
-
-opening_laid : (limit order superblocks tenants : ℕ) → AllLaid order (opening limit order superblocks tenants)
-unfolding opening
-opening_laid limit order superblocks tenants =
-    (refl, λ t s h. subst (λ y. IsLaid order y.has × AllGridded order y.has) (sym (replicated tenants t opening_state s h)) (nothing_laid order, nothing_gridded order))
-
-used_of : (h : Holdings) (by : Option ℕ) (b : Block) → Uses h by b → Used h by b
-used_of h None b i = contains_in h.pages b i
-used_of h (Some n) b (c, p, i, j, e, is) = (c, p, contains_in h.caches c i, contains_in c.live p j, e, is)
-
-reached : (limit order superblocks tenants : ℕ) (es : List Exchange) (w : Known) → all_allowed es (Ok (opening limit order superblocks tenants)) ≡ Ok w → AllLaid order w
-reached limit order superblocks tenants es w e = run order es (opening limit order superblocks tenants) w e (opening_laid limit order superblocks tenants)
-
-pub reached_gridded : (limit order superblocks tenants t : ℕ) (es : List Exchange) (w : Known) (s : State) → all_allowed es (Ok (opening limit order superblocks tenants)) ≡ Ok w
-    → slice_get w.states t ≡ Some s → (c : ToldCache) → IsIn c s.has.caches → IsGridded w.order c
-reached_gridded limit order superblocks tenants t es w s e h c i =
-    let r = reached limit order superblocks tenants es w e in subst (λ k. IsGridded k c) (sym r.0) ((r.1 t s h).1 c i)
-
-pub live_apart : LiveApart
-live_apart limit order superblocks tenants t es w s e h =
-    let l = ((reached limit order superblocks tenants es w e).1 t s h).0 in
-    record {
-      placed = λ by b u. l.placed by b (used_of s.has by b u);
-      apart = λ by other a b x ua ub. l.apart by other a b x (used_of s.has by a ua) (used_of s.has other b ub);
-    }

@@ -1,8 +1,11 @@
 pub mod Allowed
 pub mod Explained
-pub mod Confined
+pub mod Steps
 pub mod Grids
 pub mod Laid
+pub mod Held
+pub mod Reached
+pub mod Confined
 pub mod Causes
 pub mod Answered
 pub mod Examples

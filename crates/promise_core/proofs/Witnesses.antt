@@ -2,17 +2,18 @@
 use Rattle.std.specs.Prelude.{is_ok}
 use Rattle.std.proofs.Common.{◌≡◌, ℕ, true, false, [], ◌∷◌, Option, Some, None, Result, Ok, Err, slice_get, unwrap_or, refl, arith}
 use Rattle.model_core.specs.Blocks.{block, HasFrame}
+use Rattle.model_core.specs.Machine.{slot_of}
 use Rattle.words_core.specs.declared.event.Event.TheVariants as On
 use Rattle.words_core.specs.declared.event.Command.TheVariants as Asked
 use Rattle.words_core.specs.declared.reply.Addressee.TheVariants as To
 use Rattle.words_core.specs.declared.reply.Body.TheVariants as Say
 use Rattle.words_core.specs.declared.reply.Reply.{Reply}
 use Rattle.promise_core.specs.declared.promise.Promise.{Promise}
-use Rattle.promise_core.specs.Holdings.{ToldCache, told_blocks, can_stand, vacant_blocks, can_be_taken}
-use Rattle.promise_core.specs.Bytes.{holder_of}
+use Rattle.promise_core.specs.Holdings.{ToldCache, has_slot, told_blocks, can_stand, vacant_blocks, can_be_taken}
+use Rattle.promise_core.specs.Bytes.{Holder, holder_of}
 use Rattle.promise_core.specs.State.{State, Known, opening_state, opening, state_after, owners_after}
 use Rattle.promise_core.specs.Promises.{due, allowed, all_allowed}
-use Rattle.promise_core.specs.Laws.{LiveApart, is_own, Confined, may_tell, RefusedForCause, TakeRefusedForCause, UseAnswerable}
+use Rattle.promise_core.specs.Laws.{LiveApart, LeftInHeld, is_own, Confined, may_tell, RefusedForCause, TakeRefusedForCause, UseAnswerable}
 use Rattle.promise_core.proofs.Examples.{begun}
 
 abbrev known_of : Result Known Promise → Known
@@ -37,6 +38,11 @@ LiveApart-met : LiveApart → (x : ℕ) → HasFrame (block 2 1) x → HasFrame 
 unfolding opening opening_state told_blocks can_stand vacant_blocks can_be_taken holder_of state_after owners_after due allowed
 LiveApart-met law x page slab = none_is_some ((law 32 3 3 2 0 begun known the_state refl refl).apart None (Some 0) (block 2 1) (block 0 0) x
     (0, omega arith, refl) (the_cache, 0, (0, omega arith, refl), (0, omega arith, refl), refl, refl) page slab).0
+
+-- of the first of the two bytes that were written
+LeftInHeld-met : LeftInHeld → has_slot the_state.has (slot_of 3 8192) ≡ true
+unfolding opening opening_state told_blocks can_stand vacant_blocks can_be_taken holder_of state_after owners_after due allowed
+LeftInHeld-met law = law 32 3 3 2 0 begun known the_state refl refl 8192 (record { holder = Holder.Page; byte = 1; sure = true }) refl
 
 -- the second of the bytes that were written, in a page block
 Confined-met : Confined → is_own 3 0 8193 2 begun ≡ true

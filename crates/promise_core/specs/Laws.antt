@@ -17,6 +17,7 @@ use Rattle.words_core.specs.declared.reply.Refusal.{Refusal}
 use Rattle.words_core.specs.declared.reply.Reply.{Reply}
 use Rattle.world_core.specs.World.{Exchange}
 use Rattle.promise_core.specs.Holdings.{ToldCache, Holdings, has_slot, cache_told, slab_around}
+use Rattle.promise_core.specs.Lying.{AreOfHeld}
 use Rattle.promise_core.specs.State.{State, Known, opening}
 use Rattle.promise_core.specs.Promises.{allowed, all_allowed}
 
@@ -74,6 +75,12 @@ pub record LiesApart (order : ℕ) (h : Holdings) : Type 0 where
 abbrev pub LiveApart : Type 0
 LiveApart = (limit order superblocks tenants t : ℕ) (es : List Exchange) (w : Known) (s : State)
     → all_allowed es (Ok (opening limit order superblocks tenants)) ≡ Ok w → slice_get w.states t ≡ Some s → LiesApart order s.has
+
+-- What was left is of held slots for every tenant, whatever was asked and answered, if each reply was allowed.
+abbrev pub LeftInHeld : Type 0
+LeftInHeld = (limit order superblocks tenants t : ℕ) (es : List Exchange) (w : Known) (s : State)
+    → all_allowed es (Ok (opening limit order superblocks tenants)) ≡ Ok w → slice_get w.states t ≡ Some s
+    → AreOfHeld order s.has s.cells
 
 -- the tenant can be told this
 abbrev pub may_tell : Known → ℕ → Command → Body → Bool

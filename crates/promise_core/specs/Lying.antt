@@ -1,10 +1,12 @@
--- What lies where among what a tenant has: live blocks and slabs share no frame, live objects lie on a grid of their slab. Every
--- run of allowed replies keeps this.
+-- What lies where among what a tenant has: live blocks and slabs share no frame, live objects lie on a grid of their slab, and
+-- what was left is in held slots. Every run of allowed replies keeps this.
 use Rattle.std.specs.Prelude.{◌≡◌, ℕ, ◌+◌, ◌-◌, ◌*◌, ◌/◌, ◌%◌, ◌^◌, ◌<◌, ◌≤◌, true, List, length, filter, Option, Some, None, ◌==◌}
 use Rattle.model_core.specs.Blocks.{Block, HasFrame, IsAligned}
 use Rattle.model_core.specs.Elements.{IsIn}
 use Rattle.model_core.specs.Layouts.{is_alignment}
+use Rattle.model_core.specs.Machine.{slot_of}
 use Rattle.promise_core.specs.Holdings.{ToldCache, Holdings, has_slot, slab_around}
+use Rattle.promise_core.specs.Bytes.{Cell, Cells}
 
 -- the block is a live page block, or the slab of a live object of cache n
 abbrev pub Used : Holdings → Option ℕ → Block → Type 0
@@ -52,3 +54,7 @@ pub record IsGridded (order : ℕ) (c : ToldCache) : Type 0 where
 
 abbrev pub AllGridded : ℕ → Holdings → Type 0
 AllGridded order h = (c : ToldCache) → IsIn c h.caches → IsGridded order c
+
+-- what was left is of held slots; slots have 2 ^ order frames
+abbrev pub AreOfHeld : ℕ → Holdings → Cells → Type 0
+AreOfHeld order h cells = (place : ℕ) (cell : Cell) → cells place ≡ Some cell → has_slot h (slot_of order place) ≡ true

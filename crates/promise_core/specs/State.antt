@@ -96,10 +96,10 @@ state_after order (On.Tenant t Asked.Reap) (Say.Reaped frames) s =
     Some (record s { cells = cells; hides = λ n. is_in_use (cache_told s.has n); told = None })
 state_after order (On.Tenant t Asked.Report) (Say.Report r) s = Some (record s { told = Some r })
 state_after order (On.Admin (Do.Grant t)) (Say.Granted named u superblock) s =
-    let cells = without (λ place holder. slot_of order place == u) s.cells in
-    Some (record s { has = record s.has { slots = put_rising (λ v. v) u s.has.slots }; cells = cells; told = None })
+    Some (record s { has = record s.has { slots = put_rising (λ v. v) u s.has.slots }; told = None })
 state_after order (On.Admin (Do.TakeBack t u)) (Say.TakenBack superblock) s =
-    Some (record s { has = record s.has { slots = filter (λ v. not (v == u)) s.has.slots }; told = None })
+    let cells = without (λ place holder. slot_of order place == u) s.cells in
+    Some (record s { has = record s.has { slots = filter (λ v. not (v == u)) s.has.slots }; cells = cells; told = None })
 state_after order (On.Admin (Do.Reset t)) (Say.WasReset named superblocks) s = Some opening_state
 state_after order (On.Admin (Do.Move t u)) (Say.Moved named slot superblock) s = Some s
 state_after order (On.Admin Do.Pool) (Say.Owners owners) s = Some s

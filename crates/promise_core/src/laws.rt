@@ -1,11 +1,17 @@
 //! What follows from the promises alone. Each law is the contract of a function that does nothing: a caller has the law by the
 //! call, for every program whose replies keep the promises.
 
-ghost use Rattle.promise_core.specs.Laws.{LiveApart, Confined, RefusedForCause, TakeRefusedForCause, UseAnswerable};
+ghost use Rattle.promise_core.specs.Laws.{LiveApart, LeftInHeld, Confined, RefusedForCause, TakeRefusedForCause, UseAnswerable};
 
 /// The page blocks of a tenant and the slabs of its live objects are aligned, lie in slots that it holds, and share no frame.
 pub fn live_apart()
     ensures { LiveApart }
+{}
+
+/// What is known of a place is of a slot that the tenant holds: so whoever keeps what is known can drop a slot when it is taken
+/// back.
+pub fn left_in_held()
+    ensures { LeftInHeld }
 {}
 
 /// Each byte in an allowed reply to a read is zero, or a byte of some pattern that the tenant ever gave, or one that it wrote at

@@ -2,7 +2,7 @@
 use Rattle.std.proofs.Common.{◌≡◌, ◌≢◌, ℕ, ◌+◌, ◌<◌, Bool, true, false, not, ◌||◌, cond, eqb, List, [], ◌∷◌, map, Option, Some, None, refl, sym, ap, ◌∙◌, subst, ⊎_elim, arith}
 use Rattle.std.specs.Prelude.{if◌then◌else◌, filter, flat_map}
 use Rattle.std.specs.List.{list_any}
-use Rattle.std.proofs.lemmas.Bool.{false≢true, eqb-true, eq-eqb, ne_eqb, or_left, or_right}
+use Rattle.std.proofs.lemmas.Bool.{false≢true, false_from_ne_true, eqb-true, ne_eqb, or_left, or_right}
 use Rattle.model_core.specs.Blocks.{Block, slot_block}
 use Rattle.model_core.specs.Layouts.{pattern_byte}
 use Rattle.model_core.specs.Machine.{Slab, Cache, Machine, empty_machine, holds, slot_of, in_block, slab_block, slab_blocks, put_rising}
@@ -20,12 +20,12 @@ use Rattle.model_core.proofs.Constructed.{next_unheld}
 use Rattle.model_core.proofs.Objects.{in_append}
 use Rattle.model_core.proofs.ObjectsApart.{contains_in}
 use Rattle.promise_core.specs.Holdings.{Holdings, told_blocks, is_slot_busy}
-use Rattle.promise_core.specs.Bytes.{Holder, Cell, Cells, may_be, without}
+use Rattle.promise_core.specs.Bytes.{Holder, may_be, without}
 use Rattle.promise_core.specs.State.{State, opening_state}
 use Rattle.promise_kept.specs.Meets.{told_cache, holdings_of, is_object_live, Meets}
 use Rattle.promise_kept.proofs.Owning.{below_missing}
 use Rattle.promise_kept.proofs.Stand.{flat_in, taken_seen, in_contains}
-use Rattle.promise_kept.proofs.Cells.{without_some, without_may}
+use Rattle.promise_kept.proofs.Cells.{fresh_may, without_some, without_may}
 use Rattle.promise_kept.proofs.Reaped.{object_in_slab}
 
 -- what lives does not hang on the slots
@@ -37,24 +37,17 @@ lives_still us h (Holder.Object n first) place e = e
 abbrev pub of_slot : ℕ → ℕ → ℕ → Holder → Bool
 of_slot order u place holder = eqb (slot_of order place) u
 
-gone_fresh : (test : ℕ → Holder → Bool) (cells : Cells) (holder : Holder) (place fresh : ℕ) → ((x : Holder) → test place x ≡ true) → may_be holder fresh (without test cells place) fresh ≡ true
-gone_fresh test cells holder place fresh all = go (cells place)
-  where
-    go : (o : Option Cell) → may_be holder fresh (elim o as (λ x. Option Cell) [ None ↦ None | Some was ↦ (if test place was.holder then None else Some was) ]) fresh ≡ true
-    go None = eq-eqb fresh fresh refl
-    go (Some was) = ap (λ b. may_be holder fresh (if b then None else Some was) fresh) (all was.holder) ∙ eq-eqb fresh fresh refl
-
 -- what is known after a slot is granted, and after one is taken back
 
-abbrev pub granted : ℕ → ℕ → State → State
-granted order u s = record s {
-  has = record s.has { slots = put_rising (λ v. v) u s.has.slots };
+abbrev pub granted : ℕ → State → State
+granted u s = record s { has = record s.has { slots = put_rising (λ v. v) u s.has.slots }; told = None }
+
+abbrev pub taken_back : ℕ → ℕ → State → State
+taken_back order u s = record s {
+  has = record s.has { slots = filter (λ v. not (eqb v u)) s.has.slots };
   cells = without (of_slot order u) s.cells;
   told = None;
 }
-
-abbrev pub taken_back : ℕ → State → State
-taken_back u s = record s { has = record s.has { slots = filter (λ v. not (eqb v u)) s.has.slots }; told = None }
 
 module _ {limit : ℕ} (order : ℕ) (m : Machine) (s : State) (w : IsWellFormed limit order m) (h : Meets order s m) where
   -- an object's byte lies in a held slot
@@ -69,44 +62,54 @@ module _ {limit : ℕ} (order : ℕ) (m : Machine) (s : State) (w : IsWellFormed
   outside : (o : Object) (j : ℕ) → IsObject m o → j < o.cache.size → eqb (slot_of order (place_of o + j)) (next_slot m) ≡ false
   outside o j i below = ne_eqb (slot_of order (place_of o + j)) (next_slot m) (λ same. false≢true (sym (next_unheld order m w) ∙ (ap (holds m) (sym same) ∙ object_held o j i below)))
 
-  pub grant_meets : Meets order (granted order (next_slot m) s) (after_grant order m)
+  -- no page block lies in the slot that is granted next
+  none_lives : (place : ℕ) → eqb (slot_of order place) (next_slot m) ≡ true → is_object_live s.has Holder.Page place ≡ false
+  unfolding holdings_of
+  none_lives place at = ap (λ (x : Holdings). list_any (in_block place) x.pages) h.has ∙ any_none (in_block place) m.blocks
+      (each_from (λ b. in_block place b ≡ false) m.blocks (λ b i. false_from_ne_true (in_block place b) (λ inside. apart b i inside)))
+    where
+      apart : (b : Block) → IsIn b m.blocks → in_block place b ≡ true → ⊥
+      apart b i inside = false≢true (sym (next_unheld order m w) ∙ (ap (holds m) (sym (eqb-true (slot_of order place) (next_slot m) at))
+          ∙ place_held order m.slots place b (each_in (Placed order m.slots) b m.blocks (laid_out order m w).placed_blocks i) inside))
+
+  pub grant_meets : Meets order (granted (next_slot m) s) (after_grant order m)
   unfolding holdings_of after_grant
   grant_meets = record {
     has = ap (λ (x : Holdings). record x { slots = put_rising (λ v. v) (next_slot m) x.slots }) h.has;
     hides = h.hides;
-    lives = λ place cell e sure. let was = without_some (of_slot order (next_slot m)) s.cells place cell e in
-        lives_still (put_rising (λ v. v) (next_slot m) s.has.slots) s.has cell.holder place (h.lives place cell was.0 sure);
+    lives = λ place cell e sure. lives_still (put_rising (λ v. v) (next_slot m) s.has.slots) s.has cell.holder place (h.lives place cell e sure);
     page_bytes = λ place byte out e. page place byte out (eqb (slot_of order place) (next_slot m)) refl e;
     object_bytes = λ o j byte i below e. let is : IsObject m o = record { cache_in = i.cache_in; slab_in = i.slab_in; index_in = i.index_in } in
-        let off : eqb (slot_of order (place_of o + j)) (next_slot m) ≡ false = outside o j is below in
-        without_may (of_slot order (next_slot m)) s.cells (Holder.Object o.cache.number (place_of o)) (place_of o + j) (pattern_byte o.cache.pattern j) byte off
-        (h.object_bytes o j byte is below (sym (ap (λ b. if b then Some 0 else m.bytes (place_of o + j)) off) ∙ e));
+        h.object_bytes o j byte is below (sym (ap (λ b. if b then Some 0 else m.bytes (place_of o + j)) (outside o j is below)) ∙ e);
     empty_told = λ r e. absurd (cc);
     free_told = λ r e. absurd (cc);
   }
     where
       page : (place byte : ℕ) → in_slab m place ≡ false → (b : Bool) → eqb (slot_of order place) (next_slot m) ≡ b → (if b then Some 0 else m.bytes place) ≡ Some byte
-          → may_be Holder.Page 0 (without (of_slot order (next_slot m)) s.cells place) byte ≡ true
+          → may_be Holder.Page 0 (s.cells place) byte ≡ true
       page place byte out true is e = let zero_it : 0 ≡ byte = cc in
-          subst (λ x. may_be Holder.Page 0 (without (of_slot order (next_slot m)) s.cells place) x ≡ true) zero_it (gone_fresh (of_slot order (next_slot m)) s.cells Holder.Page place 0 (λ x. is))
-      page place byte out false is e = without_may (of_slot order (next_slot m)) s.cells Holder.Page place 0 byte is (h.page_bytes place byte out e)
+          subst (λ x. may_be Holder.Page 0 (s.cells place) x ≡ true) zero_it (fresh_may s.has s.cells h.lives Holder.Page place 0 (none_lives place is))
+      page place byte out false is e = h.page_bytes place byte out e
 
-  pub take_back_meets : (u : ℕ) → Meets order (taken_back u s) (after_take_back order u m)
+  pub take_back_meets : (u : ℕ) → Meets order (taken_back order u s) (after_take_back order u m)
   unfolding holdings_of after_take_back
   take_back_meets u = record {
     has = ap (λ (x : Holdings). record x { slots = filter (λ v. not (eqb v u)) x.slots }) h.has;
     hides = h.hides;
-    lives = λ place cell e sure. lives_still (filter (λ v. not (eqb v u)) s.has.slots) s.has cell.holder place (h.lives place cell e sure);
-    page_bytes = λ place byte out e. h.page_bytes place byte out (there (m.bytes place) byte (eqb (slot_of order place) u) e);
-    object_bytes = λ o j byte i below e. h.object_bytes o j byte (record { cache_in = i.cache_in; slab_in = i.slab_in; index_in = i.index_in }) below
-        (there (m.bytes (place_of o + j)) byte (eqb (slot_of order (place_of o + j)) u) e);
+    lives = λ place cell e sure. let was = without_some (of_slot order u) s.cells place cell e in
+        lives_still (filter (λ v. not (eqb v u)) s.has.slots) s.has cell.holder place (h.lives place cell was.0 sure);
+    page_bytes = λ place byte out e. let at = there (m.bytes place) byte (eqb (slot_of order place) u) e in
+        without_may (of_slot order u) s.cells Holder.Page place 0 byte at.0 (h.page_bytes place byte out at.1);
+    object_bytes = λ o j byte i below e. let at = there (m.bytes (place_of o + j)) byte (eqb (slot_of order (place_of o + j)) u) e in
+        without_may (of_slot order u) s.cells (Holder.Object o.cache.number (place_of o)) (place_of o + j) (pattern_byte o.cache.pattern j) byte at.0
+        (h.object_bytes o j byte (record { cache_in = i.cache_in; slab_in = i.slab_in; index_in = i.index_in }) below at.1);
     empty_told = λ r e. absurd (cc);
     free_told = λ r e. absurd (cc);
   }
     where
-      there : (o : Option ℕ) (byte : ℕ) (b : Bool) → (if b then None else o) ≡ Some byte → o ≡ Some byte
+      there : (o : Option ℕ) (byte : ℕ) (b : Bool) → (if b then None else o) ≡ Some byte → (b ≡ false) × (o ≡ Some byte)
       there o byte true e = absurd (cc)
-      there o byte false e = e
+      there o byte false e = (refl, e)
 
   -- what is seen as busy is so
   pub busy_seen : (u : ℕ) → operations.is_busy order m u ≡ false → is_slot_busy order (holdings_of m) u ≡ false

@@ -5,7 +5,7 @@ use Rattle.std.specs.List.{list_any, range_with_len, AllByRecursion as Each}
 use Rattle.std.proofs.Math.Nat.{div-div-eq-div-mul, div-eq_of_lt-le, mul-div_cancel}
 use Rattle.std.proofs.lemmas.Nat.{pow_pos, pow-add}
 use Rattle.std.proofs.lemmas.Bool.{false≢true, and_parts, and_from, not-true, not-false, not_from_false, false_from_ne_true, ltb-true, le-leb, eqb-true, eq-eqb, cases_lt}
-use Rattle.model_core.specs.Blocks.{Block, block, HasFrame, around}
+use Rattle.model_core.specs.Blocks.{Block, block}
 use Rattle.model_core.specs.Choice.{choose}
 use Rattle.model_core.specs.Layouts.{object_place}
 use Rattle.model_core.specs.Machine.{Slab, Cache, Machine, holds, beyond, layout, slab_block, slab_blocks, order_in, taken_in, choice}

@@ -216,17 +216,17 @@ module _ (limit order : ℕ) (w : World) (states : List State) where
           let below : (next_slot m + 1) * 2 ^ order * 4096 ≤ 2 ^ 32 = omega (arith, le, h.ram) in
           let unheld : not (seen.has_slot s.has (next_slot m)) ≡ true = ap (λ (x : Holdings). not (seen.has_slot x (next_slot m))) met.has ∙ not_held in
           record {
-            after = record { limit = limit; order = order; owners = slice_set w.owners j (Some (owned_by t (next_slot m))); states = slice_set states t (granted order (next_slot m) s) };
-            is_allowed = allowed_if (On.Admin (Do.Grant t)) (told (Say.Granted t (next_slot m) j)) now t s (granted order (next_slot m) s) refl (state_of t m is).1
+            after = record { limit = limit; order = order; owners = slice_set w.owners j (Some (owned_by t (next_slot m))); states = slice_set states t (granted (next_slot m) s) };
+            is_allowed = allowed_if (On.Admin (Do.Grant t)) (told (Say.Granted t (next_slot m) j)) now t s (granted (next_slot m) s) refl (state_of t m is).1
                 (all_kept (On.Admin (Do.Grant t)) (told (Say.Granted t (next_slot m) j)) now s refl (ap (λ b. is_none (first_due ((b, Refusal.PoolEmpty) ∷ []))) some) refl refl refl refl refl refl
                 (and_from _ _ (and_from _ _ (eq-eqb t t refl) (ap (λ o. option_map_or is_none o false) free)) (and_from _ _ unheld (le-leb ((next_slot m + 1) * 2 ^ order * 4096) (2 ^ 32) below))) refl refl refl) refl;
-            meets = step_meets t (granted order (next_slot m) s) m (after_grant order m) (slice_set w.owners j (Some (owned_by t (next_slot m)))) is (grant_meets order m s formed met)
+            meets = step_meets t (granted (next_slot m) s) m (after_grant order m) (slice_set w.owners j (Some (owned_by t (next_slot m)))) is (grant_meets order m s formed met)
                 (grant_kept order m formed) (length-set w.owners j (Some (owned_by t (next_slot m))))
                 (λ v. grant_holds order m v ∙ (ap (λ b. eqb (next_slot m) v || b) (h.held t v m is)
                 ∙ (ap (λ b. (b && eqb (next_slot m) v) || list_any (is_owner t v) w.owners) (sym (eq-eqb t t refl)) ∙ sym (granted_any (is_owner t v) w.owners j (Some (owned_by t (next_slot m))) free refl))))
                 (λ x v differ. granted_any (is_owner x v) w.owners j (Some (owned_by t (next_slot m))) free refl
                 ∙ ap (λ b. (b && eqb (next_slot m) v) || list_any (is_owner x v) w.owners) (ne_eqb t x (λ e. differ (sym e))));
-            others = others_stay (On.Admin (Do.Grant t)) t (granted order (next_slot m) s) refl;
+            others = others_stay (On.Admin (Do.Grant t)) t (granted (next_slot m) s) refl;
           }
         where
           not_held : not (seen.has_slot (holdings_of m) (next_slot m)) ≡ true
@@ -281,15 +281,15 @@ module _ (limit order : ℕ) (w : World) (states : List State) where
       back_done u e free =
           let idle : seen.is_slot_busy order s.has u ≡ false = ap (λ (x : Holdings). seen.is_slot_busy order x u) met.has ∙ busy_seen order m s formed met u free in
           record {
-            after = record { limit = limit; order = order; owners = map (given_up (is_owner t u)) w.owners; states = slice_set states t (taken_back u s) };
-            is_allowed = allowed_if (On.Admin (Do.TakeBack t u)) (told (Say.TakenBack (position_or_len (is_owner t u) w.owners))) now t s (taken_back u s) refl (state_of t m is).1
+            after = record { limit = limit; order = order; owners = map (given_up (is_owner t u)) w.owners; states = slice_set states t (taken_back order u s) };
+            is_allowed = allowed_if (On.Admin (Do.TakeBack t u)) (told (Say.TakenBack (position_or_len (is_owner t u) w.owners))) now t s (taken_back order u s) refl (state_of t m is).1
                 (all_kept (On.Admin (Do.TakeBack t u)) (told (Say.TakenBack (position_or_len (is_owner t u) w.owners))) now s refl
                 (ap (λ b. is_none (first_due ((b, Refusal.NoSlot) ∷ (seen.is_slot_busy order s.has u, Refusal.SlotBusy) ∷ []))) (held_slot u e)
                 ∙ ap (λ b. is_none (first_due ((b, Refusal.SlotBusy) ∷ []))) idle)
                 refl refl refl refl refl refl (first_passes (is_owner t u) w.owners (sym (h.held t u m is) ∙ e)) refl refl refl) refl;
-            meets = step_meets t (taken_back u s) m (after_take_back order u m) (map (given_up (is_owner t u)) w.owners) is (take_back_meets order m s formed met u)
+            meets = step_meets t (taken_back order u s) m (after_take_back order u m) (map (given_up (is_owner t u)) w.owners) is (take_back_meets order m s formed met u)
                 (slot_gone_kept order u m formed free) (length-map w.owners (given_up (is_owner t u))) (fewer_mine u) (fewer_others u);
-            others = others_stay (On.Admin (Do.TakeBack t u)) t (taken_back u s) refl;
+            others = others_stay (On.Admin (Do.TakeBack t u)) t (taken_back order u s) refl;
           }
 
       -- Resets

@@ -1,5 +1,5 @@
-use Rattle.promise_core.proofs.Laid as laid
+use Rattle.promise_core.proofs.Reached as reached
 use Rattle.promise_core.proofs.laws.live_apart.Goals as goal
 
 pub returns : goal.returns
-returns c = laid.live_apart
+returns c = reached.live_apart

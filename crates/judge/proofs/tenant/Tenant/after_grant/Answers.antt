@@ -30,6 +30,12 @@ returns-in-Err-clause-failed c =
     (c.take_back.ensures ∙ ap (λ u. record c.grant.new.self { slots = filter (λ v. not (v == u)) c.grant.new.self.slots }) c.from.ensures) in
     ap (λ h. record x { has = h; left = c.grant-in-Granted.new.self }) held ∙ (ap (λ l. record x { left = l }) c.in-Err.ensures.kept ∙ c.self.view_is)
 
+pub grant-requires-in-Granted-clause-new : goal.grant-requires-in-Granted-clause-new
+grant-requires-in-Granted-clause-new c =
+    let x : Seen = record { has = c.self.inside.held; left = c.self.inside.left; hides = c.self.inside.hides; told = c.self.inside.told } in
+    let kept = asked (On.Admin (Do.Grant c.args.t)) c.args.body.now (Say.Granted c.in-Granted.tenant c.in-Granted.slot c.in-Granted.superblock) x c.args.self.now c.self.view_is c.in-Granted.is c.requires in
+    c.self.invariant.slots c.in-Granted.slot ∙ (new_slot c.args.t c.in-Granted.tenant c.in-Granted.slot c.in-Granted.superblock x kept).new
+
 pub invariant_of-self-in-Granted : goal.invariant_of-self-in-Granted
 invariant_of-self-in-Granted c =
     let x : Seen = record { has = c.self.inside.held; left = c.self.inside.left; hides = c.self.inside.hides; told = c.self.inside.told } in

@@ -11,11 +11,18 @@ use Rattle.judge_bytes.proofs.ReadBytes.{begins}
 use Rattle.judge.proofs.Asking.{found, found_none, left_sound, all_written}
 use Rattle.judge.proofs.Keeping.{turned, unanswered, none_of}
 use Rattle.judge.proofs.Following.{written, none_written}
+use Rattle.judge.proofs.Reading.{places_held}
 use Rattle.judge_replies.proofs.OnBytes.{no_write}
 use Rattle.judge.proofs.tenant.Tenant.after_write.Goals as goal
 
-pub put-requires : goal.put-requires
-put-requires c number first is =
+pub put-requires-clause-held : goal.put-requires-clause-held
+put-requires-clause-held c =
+    let x : Seen = record { has = c.self.inside.held; left = c.self.inside.left; hides = c.self.inside.hides; told = c.self.inside.told } in
+    places_held x.has x.left c.self.invariant c.args.place (length c.args.bytes.now.items) (shown_holder c.in-Some.holder)
+    (found x c.args.self.now c.args.place _ c.args.holder c.in-Some.holder c.self.view_is c.in-Some.is c.requires.holder)
+
+pub put-requires-clause-near : goal.put-requires-clause-near
+put-requires-clause-near c number first is =
     let x : Seen = record { has = c.self.inside.held; left = c.self.inside.left; hides = c.self.inside.hides; told = c.self.inside.told } in
     begins x.has c.args.place (length c.args.bytes.now.items) number first
     (found x c.args.self.now c.args.place _ c.args.holder c.in-Some.holder c.self.view_is c.in-Some.is c.requires.holder ∙ ap Some is)

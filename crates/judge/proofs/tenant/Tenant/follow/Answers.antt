@@ -24,16 +24,17 @@ pub returns-in-Free-clause-followed : goal.returns-in-Free-clause-followed
 returns-in-Free-clause-followed c t =
     subst (λ m. Follows (On.Tenant t m) c.args.body.now c.args.self.now c.after_free.new.self) (sym c.in-Free.is) (c.after_free.ensures t)
 
-pub after_read-requires : goal.after_read-requires
-after_read-requires c =
-    (c.in-Read.len, subst (λ m. option_map shown_holder c.args.holder ≡ holder_asked m c.args.self.now.has) c.in-Read.is c.requires.holder)
+pub after_read-requires-clause-holder : goal.after_read-requires-clause-holder
+after_read-requires-clause-holder c =
+    subst (λ m. option_map shown_holder c.args.holder ≡ holder_asked m c.args.self.now.has) c.in-Read.is c.requires.holder
+
+pub after_read-requires-clause-kept : goal.after_read-requires-clause-kept
+after_read-requires-clause-kept c t =
+    subst (λ m. IsKeptReply (On.Tenant t m) c.args.body.now c.args.self.now) c.in-Read.is (c.requires.kept t)
 
 pub returns-in-Read-clause-followed : goal.returns-in-Read-clause-followed
 returns-in-Read-clause-followed c t =
-    let asked = subst (λ m. option_map shown_holder c.args.holder ≡ holder_asked m c.args.self.now.has) c.in-Read.is c.requires.holder in
-    let kept = subst (λ m. IsKeptReply (On.Tenant t m) c.args.body.now c.args.self.now) c.in-Read.is (c.requires.kept t) in
-    subst (λ m. Follows (On.Tenant t m) c.args.body.now c.args.self.now c.after_read.new.self) (sym c.in-Read.is)
-    (c.after_read.ensures t c.in-Read.len asked kept)
+    subst (λ m. Follows (On.Tenant t m) c.args.body.now c.args.self.now c.after_read.new.self) (sym c.in-Read.is) (c.after_read.ensures t)
 
 pub after_write-requires-clause-holder : goal.after_write-requires-clause-holder
 after_write-requires-clause-holder c =

@@ -1,7 +1,7 @@
 use Rattle.std.proofs.Common.{eqb}
 use Rattle.promise_core.specs.Bytes.{is_object}
 use Rattle.judge_bytes.proofs.Stepping.{becomes}
-use Rattle.judge_bytes.proofs.Changes.{near_removed, removed_all}
+use Rattle.judge_bytes.proofs.Changes.{near_removed, without_none, removed_all}
 use Rattle.judge_bytes.proofs.left.LeftBytes.destroy.Goals as goal
 
 pub change-requires : goal.change-requires
@@ -10,3 +10,4 @@ change-requires c = near_removed (is_object (λ n p. eqb n c.args.number))
 pub returns : goal.returns
 returns c = becomes c.args.self.now c.change.new.self _ _ c.change.ensures.order c.change.ensures.slots
     (λ place cells lt at. removed_all (is_object (λ n p. eqb n c.args.number)) place cells lt)
+    (λ place cells off. without_none (λ place. is_object (λ n p. eqb n c.args.number)) place cells)

@@ -1,7 +1,7 @@
 use Rattle.promise_core.specs.Bytes.{is_object}
 use Rattle.promise_core.specs.State.{is_in_no_slab}
 use Rattle.judge_bytes.proofs.Stepping.{becomes}
-use Rattle.judge_bytes.proofs.Changes.{near_removed, removed_all}
+use Rattle.judge_bytes.proofs.Changes.{near_removed, without_none, removed_all}
 use Rattle.judge_bytes.proofs.left.LeftBytes.reap.Goals as goal
 
 pub change-requires : goal.change-requires
@@ -10,3 +10,4 @@ change-requires c = near_removed (is_object (is_in_no_slab c.args.held.now))
 pub returns : goal.returns
 returns c = becomes c.args.self.now c.change.new.self _ _ c.change.ensures.order c.change.ensures.slots
     (λ place cells lt at. removed_all (is_object (is_in_no_slab c.args.held.now)) place cells lt)
+    (λ place cells off. without_none (λ place. is_object (is_in_no_slab c.args.held.now)) place cells)

@@ -3,7 +3,7 @@ use Rattle.std.specs.Prelude.{slice_index}
 use Rattle.judge_bytes.specs.Left.{Left}
 use Rattle.judge_bytes.specs.Inside.{IsNear, AreSlots, AreStepped, within, removed_of}
 use Rattle.judge_bytes.proofs.Stepping.{becomes, stepped_twice}
-use Rattle.judge_bytes.proofs.Changes.{near_removed, not_beside, elsewhere, taken_twice}
+use Rattle.judge_bytes.proofs.Changes.{near_removed, object_none, not_beside, elsewhere, taken_twice}
 use Rattle.judge_bytes.proofs.left.LeftBytes.take.Goals as goal
 
 pub change-requires : goal.change-requires
@@ -29,3 +29,4 @@ returns c = λ cache is_number is_size is_slab.
     (λ place cells small at. taken_twice c.self.inside.reach c.args.number c.args.first c.args.size c.args.slab.now c.first_byte-begin.result
     c.end_byte-end.result c.max.result c.min.result c.first_byte-begin.ensures.value c.end_byte-end.ensures.value low high cache is_number is_size is_slab
     place cells small (subst (IsNear c.self.inside.reach place) at (are.near place)))
+    (λ place cells off. object_none c.args.first cache place cells)

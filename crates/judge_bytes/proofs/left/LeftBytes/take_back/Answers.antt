@@ -1,5 +1,7 @@
 use Rattle.std.proofs.Common.{not, eqb, List, sym, subst}
 use Rattle.std.specs.Prelude.{filter}
+use Rattle.model_core.specs.Machine.{slot_of}
+use Rattle.promise_core.specs.Bytes.{without}
 use Rattle.judge_bytes.specs.Left.{LeftSlot, Left, left_slots, Becomes}
 use Rattle.judge_bytes.specs.Inside.{AreSlots}
 use Rattle.judge_bytes.proofs.SlotsHeld.{slots_taken, taken_back}
@@ -14,9 +16,9 @@ invariant_of-self c = (
 
 pub returns : goal.returns
 returns c =
-    subst (λ (old : Left). Becomes old (filter (λ v. not (eqb v c.args.slot)) (left_slots old)) (λ cells. cells)
+    subst (λ (old : Left). Becomes old (filter (λ v. not (eqb v c.args.slot)) (left_slots old)) (without (λ place holder. eqb (slot_of old.order place) c.args.slot))
     (record { order = c.self.inside.order; slots = c.drop_slot.new.slots.items })) c.self.view_is
     (subst (λ (xs : List LeftSlot). Becomes (record { order = c.self.inside.order; slots = c.self.inside.slots.items })
-    (filter (λ v. not (eqb v c.args.slot)) (left_slots (record { order = c.self.inside.order; slots = c.self.inside.slots.items }))) (λ cells. cells)
+    (filter (λ v. not (eqb v c.args.slot)) (left_slots (record { order = c.self.inside.order; slots = c.self.inside.slots.items }))) (without (λ place holder. eqb (slot_of c.self.inside.order place) c.args.slot))
     (record { order = c.self.inside.order; slots = xs })) (sym c.drop_slot.ensures)
     (taken_back (record { order = c.self.inside.order; slots = c.self.inside.slots.items }) c.args.slot))
