@@ -3,4 +3,3 @@ pub mod Inside
 pub mod Machine
 pub mod Adding
 pub mod Sizes
-pub mod Slabs

@@ -12,9 +12,8 @@ ghost use Rattle.promise_core.specs.Promises.{due, can_come_back, empty_frames};
 ghost use Rattle.judge_replies.specs.Verdicts.{verdict_on};
 
 use crate::answer::on_answer;
-use crate::marks::is_marked;
 use crate::taken::empty_frames;
-use judge_core::{Held, HeldCache};
+use judge_core::{Held, HeldCache, is_marked};
 use judge_replies::{Verdict, on_refusal};
 use promise_core::promise::Promise;
 use words_core::{Body, Refusal, Report};

@@ -4,6 +4,7 @@
 #![tactic(auto)]
 
 mod addressing;
+mod administrator;
 mod answer;
 mod bytes;
 mod caches;
@@ -19,7 +20,6 @@ mod pages;
 mod replies;
 mod report;
 mod rows;
-mod slots;
 mod taken;
 mod tenant;
 

@@ -8,16 +8,6 @@ ghost use Rattle.promise_core.specs.State.{is_in_use};
 use judge_core::Held;
 use words_core::CACHES;
 
-/// The mark of this number, false where there is none.
-pub(crate) fn is_marked(marks: &[bool], number: u8) -> bool
-    ensures { result ≡ slice_index_or marks.now number false }
-{
-    match marks.get(usize::from(number)) {
-        Some(mark) => *mark,
-        None => false,
-    }
-}
-
 /// Also of the cache of this number.
 pub(crate) fn set_mark(marks: &mut [bool; CACHES], number: u32)
     requires { number < MOST_CACHES }

@@ -5,8 +5,7 @@ ghost use Rattle.std.specs.List.{list_all, zip};
 ghost use Rattle.promise_core.specs.Holdings.{slab_around, live_beside, is_slab_full};
 ghost use Rattle.promise_core.specs.Promises.{count_slabs, is_row};
 
-use crate::marks::is_marked;
-use judge_core::{Held, HeldCache};
+use judge_core::{Held, HeldCache, is_marked};
 use model_core::report::CacheRow;
 
 /// Whether each row is that of its cache, where `hides` tells by its number whether a slab without live objects may stand.
@@ -54,71 +53,40 @@ fn count_slabs(cache: &HeldCache) -> (usize, usize)
     ensures full { result.0 ≡ count_slabs (is_slab_full cache.now) cache.now }
     ensures partial { result.1 ≡ count_slabs (λ p. not (is_slab_full cache.now p)) cache.now }
 {
-    let Some(first) = cache.live().first() else {
-        return (0, 0);
-    };
-    let mut slab = Slab::of(cache, *first);
     let mut full = 0usize;
     let mut partial = 0usize;
+    let mut beside = cache.beside(0);
     for place in cache.live() {
-        slab = slab.at(cache, *place);
-        full += usize::from(slab.is_full_from(*place));
-        partial += usize::from(slab.is_partial_from(*place));
+        beside = beside_next(cache, beside, *place);
+        let is_full = beside.len() == cache.count() as usize;
+        full += usize::from(begins_at(beside, *place, is_full));
+        partial += usize::from(begins_at(beside, *place, !is_full));
     }
     (full, partial)
 }
 
-/// A slab of a cache. Live objects of one slab lie side by side, so it is looked up once for all of them.
-#[derive(Clone, Copy)]
-struct Slab {
-    /// Its first frame.
-    begin: u32,
-    /// Its first live object, 0 if it has none.
-    first: u32,
-    /// Whether all its objects are live.
-    is_full: bool,
+/// The live objects of the slab that has the place, where `last` are those of the slab of some place. Live objects of one slab
+/// lie side by side, so it is looked up once for all of them.
+fn beside_next<'a>(cache: &'a HeldCache, last: &'a [u32], place: u32) -> &'a [u32]
+    requires { (q : ℕ) × (last.now ≡ live_beside cache.now q) }
+    ensures { result.now ≡ live_beside cache.now place }
+{
+    match last.first() {
+        Some(first) if are_beside(cache, *first, place) => last,
+        _ => cache.beside(place),
+    }
 }
 
-impl Slab {
-    ghost use Rattle.judge.specs.Slabs.{IsSlabOf};
+/// Whether the places are in one slab.
+fn are_beside(cache: &HeldCache, p: u32, q: u32) -> bool
+    ensures { result ≡ ((slab_around cache.now p).first == (slab_around cache.now q).first) }
+{
+    cache.slab_around(p).first() == cache.slab_around(q).first()
+}
 
-    /// The slab that has the place.
-    fn of(cache: &HeldCache, place: u32) -> Slab
-        ensures begin { result.begin ≡ (slab_around cache.now place).first }
-        ensures slab { IsSlabOf cache.now result }
-    {
-        let beside = cache.beside(place);
-        Slab {
-            begin: cache.slab_around(place).first(),
-            first: beside.first().copied().unwrap_or(0),
-            is_full: beside.len() == cache.count() as usize,
-        }
-    }
-
-    /// Whether its first live object is at the place, and all its objects are live.
-    fn is_full_from(self, place: u32) -> bool
-        ensures { result ≡ (self.first == place && self.is_full) }
-    {
-        self.first == place && self.is_full
-    }
-
-    /// Whether its first live object is at the place, and not all its objects are live.
-    fn is_partial_from(self, place: u32) -> bool
-        ensures { result ≡ (self.first == place && not self.is_full) }
-    {
-        self.first == place && !self.is_full
-    }
-
-    /// The slab that has the place: this one, or another.
-    fn at(self, cache: &HeldCache, place: u32) -> Slab
-        requires { IsSlabOf cache.now self }
-        ensures begin { result.begin ≡ (slab_around cache.now place).first }
-        ensures slab { IsSlabOf cache.now result }
-    {
-        if cache.slab_around(place).first() == self.begin {
-            self
-        } else {
-            Slab::of(cache, place)
-        }
-    }
+/// Whether the first of these is at the place, if `counts`.
+fn begins_at(beside: &[u32], place: u32, counts: bool) -> bool
+    ensures { result ≡ (slice_index beside.now 0 == place && counts) }
+{
+    beside.first().copied().unwrap_or(0) == place && counts
 }

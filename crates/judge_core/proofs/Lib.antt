@@ -1,7 +1,6 @@
+pub mod Keys
 pub mod Lists
-pub mod Putting
 pub mod ByNumber
-pub mod Points
 pub mod Slabs
 pub mod Marks
 pub mod Clear

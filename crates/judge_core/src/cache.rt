@@ -2,8 +2,7 @@
 
 ghost use Rattle.std.specs.Prelude.{◌≡◌, ℕ, ◌+◌, ◌-◌, ◌*◌, ◌/◌, ◌%◌, ◌^◌, ◌<◌, ◌≤◌, nat_le, nat_lt, ◌==◌, ◌&&◌, not};
 ghost use Rattle.std.specs.Prelude.{find, filter, length, [], IfOk, OnErr};
-ghost use Rattle.std.specs.List.{list_any, list_all, prefix_len};
-ghost use Rattle.std.specs.List.Sorted.{IsNonDecreasing, IsPartitionPoint};
+ghost use Rattle.std.specs.List.{list_any, list_all};
 ghost use Rattle.model_core.specs.declared.limits.TheConstants.{FRAME_BYTES, MOST_ORDER, MOST_SIZE};
 ghost use Rattle.model_core.specs.Choice.{is_any_below};
 ghost use Rattle.model_core.specs.Operations.{overlaps};
@@ -15,7 +14,7 @@ ghost use Rattle.judge_core.specs.Inside.{IsToldLayout, IsObjectAt};
 
 use crate::block::FrameBlock;
 use crate::layout::ToldLayout;
-use crate::rising::{places_before, places_before_from, remove_range};
+use crate::rising::{all_within, first_from, first_within, put, remove, with_key};
 use arrayvec::ArrayVec;
 use model_core::limits::{FRAME_BYTES, MOST_PATTERN};
 use std::alloc::{AllocError, Global};
@@ -84,8 +83,7 @@ impl HeldCache {
         ensures taken { IfOk result (λ _. self.new ≡ record self.old { live = put_rising (λ p. p) place self.old.live }) }
         ensures kept { OnErr result (self.new ≡ self.old) }
     {
-        let at = index_of_place(&self.live, place);
-        self.live.insert(at, place)?;
+        put(&mut self.live, place)?;
         Ok(())
     }
 
@@ -93,7 +91,7 @@ impl HeldCache {
     pub(crate) fn give(&mut self, place: u32)
         ensures { self.new ≡ record self.old { live = filter (λ p. not (p == place)) self.old.live } }
     {
-        drop_place(&mut self.live, place);
+        remove(&mut self.live, place);
     }
 
     /// The number of the cache.
@@ -138,11 +136,7 @@ impl HeldCache {
     pub fn has_live(&self, place: u32) -> bool
         ensures { result ≡ list_any (λ p. p == place) self.now.live }
     {
-        let at = places_before(&self.live, u64::from(place));
-        match self.live.get(at) {
-            Some(first) => *first == place,
-            None => false,
-        }
+        with_key(&self.live, place).is_some()
     }
 
     /// The slab that an object at this place is in.
@@ -156,9 +150,8 @@ impl HeldCache {
     pub fn has_slab_over(&self, block: &FrameBlock) -> bool
         ensures { result ≡ list_any (λ p. overlaps block.now (slab_around self.now p)) self.now.live }
     {
-        let slab = FrameBlock::around(block.first(), self.order);
-        let at = places_before(&self.live, slab.first_byte());
-        match self.live.get(at) {
+        let begin = FrameBlock::around(block.first(), self.order).first_byte();
+        match first_from(&self.live, begin) {
             Some(place) => block.overlaps(&self.slab_around(*place)),
             None => false,
         }
@@ -169,23 +162,19 @@ impl HeldCache {
         ensures { result.now ≡ live_beside self.now place }
     {
         let slab = self.slab_around(place);
-        let begin = places_before(&self.live, slab.first_byte());
-        let end = places_before_from(&self.live, begin, self.count as usize, slab.end_byte());
-        &self.live[begin..end]
+        all_within(
+            &self.live,
+            slab.first_byte(),
+            slab.end_byte(),
+            self.count as usize,
+        )
     }
 
-    /// How many live objects are in the slab that has the place.
-    pub fn count_beside(&self, place: u32) -> usize
-        ensures { result ≡ length (live_beside self.now place) }
-    {
-        self.beside(place).len()
-    }
-
-    /// Whether all objects of that slab are live.
-    pub fn is_slab_full(&self, place: u32) -> bool
+    /// Whether all objects of the slab that has the place are live.
+    fn is_slab_full(&self, place: u32) -> bool
         ensures { result ≡ is_slab_full self.now place }
     {
-        self.count_beside(place) == self.count as usize
+        self.beside(place).len() == self.count as usize
     }
 
     /// Whether all objects of all slabs that have a live one are live.
@@ -201,11 +190,8 @@ impl HeldCache {
     {
         // no object before this one reaches the end of the range, and no later one begins before it
         let end = u64::from(place) + u64::from(len);
-        let at = places_before(&self.live, end.saturating_sub(u64::from(self.size)));
-        match self.live.get(at) {
-            Some(first) => (*first <= place).then_some(*first),
-            None => None,
-        }
+        let low = end.saturating_sub(u64::from(self.size));
+        first_within(&self.live, low, u64::from(place) + 1).copied()
     }
 
     /// Whether an object at the place shares no byte with these.
@@ -347,24 +333,4 @@ fn copy_of(pattern: &ArrayVec<u8, MOST_PATTERN>) -> ArrayVec<u8, MOST_PATTERN>
     let taken = copy.try_extend_from_slice(pattern.as_slice());
     prove!(taken.is_ok());
     copy
-}
-
-/// Where a live object that begins at the place goes among these.
-fn index_of_place(live: &[u32], place: u32) -> usize
-    requires { IsNonDecreasing live.now }
-    ensures value { result ≡ prefix_len (λ p. not (nat_lt place p)) live.now }
-    ensures inside { result ≤ length live.now }
-    ensures point { IsPartitionPoint (λ p. p ≤ place) (λ p. place < p) live.now result }
-{
-    places_before(live, u64::from(place) + 1)
-}
-
-/// The live objects without the one that begins at the place.
-fn drop_place(live: &mut Vec<u32>, place: u32)
-    requires { IsNonDecreasing live.old.items }
-    ensures { live.new.items ≡ filter (λ p. not (p == place)) live.old.items }
-{
-    let begin = places_before(live, u64::from(place));
-    let end = places_before_from(live, begin, 1, u64::from(place) + 1);
-    remove_range(live, begin, end);
 }

@@ -1,8 +1,6 @@
 //! What becomes of a tenant's holdings by answers that add something.
 
-ghost use Rattle.std.specs.Prelude.{◌≡◌, ◌<◌, ◌≤◌, not, nat_lt, length, [], None, IfOk, OnErr};
-ghost use Rattle.std.specs.List.{prefix_len};
-ghost use Rattle.std.specs.List.Sorted.{IsNonDecreasingBy, IsPartitionPoint};
+ghost use Rattle.std.specs.Prelude.{◌≡◌, ◌≤◌, [], None, IfOk, OnErr};
 ghost use Rattle.model_core.specs.declared.limits.TheConstants.{MOST_ORDER, MOST_SUPERBLOCKS};
 ghost use Rattle.model_core.specs.Machine.{put_rising};
 ghost use Rattle.promise_core.specs.Holdings.{cache_told, with_live_places};
@@ -10,7 +8,7 @@ ghost use Rattle.promise_core.specs.Holdings.{cache_told, with_live_places};
 use crate::block::FrameBlock;
 use crate::cache::HeldCache;
 use crate::held::{Held, index_of_cache};
-use crate::rising::pages_before;
+use crate::rising::put;
 use model_core::limits::MOST_CACHES;
 use std::alloc::{AllocError, Global};
 
@@ -35,8 +33,7 @@ impl Held {
         ensures granted { IfOk result (λ _. self.new ≡ record self.old { slots = put_rising (λ v. v) slot self.old.slots }) }
         ensures kept { OnErr result (self.new ≡ self.old) }
     {
-        let place = place_of_slot(&self.slots, slot);
-        self.slots.insert(place, slot)?;
+        put(&mut self.slots, slot)?;
         Ok(())
     }
 
@@ -45,8 +42,7 @@ impl Held {
         ensures taken { IfOk result (λ _. self.new ≡ record self.old { pages = put_rising (λ b. b.first) block self.old.pages }) }
         ensures kept { OnErr result (self.new ≡ self.old) }
     {
-        let place = place_of_page(&self.pages, block.first());
-        self.pages.insert(place, block)?;
+        put(&mut self.pages, block)?;
         self.longest = self.longest.max(block.order());
         Ok(())
     }
@@ -58,8 +54,7 @@ impl Held {
             self.new ≡ record self.old { caches = put_rising (λ x. x.number) cache self.old.caches }) }
         ensures kept { OnErr result (self.new ≡ self.old) }
     {
-        let place = place_of_cache(&self.caches, cache.number());
-        self.caches.insert(place, cache)?;
+        put(&mut self.caches, cache)?;
         Ok(())
     }
 
@@ -74,35 +69,4 @@ impl Held {
             None => Ok(()),
         }
     }
-}
-
-/// Where the slot goes among these.
-#[tactic(auto, using(crate::proofs::Putting::prefix_within))]
-fn place_of_slot(slots: &[u16], slot: u16) -> usize
-    ensures value { result ≡ prefix_len (λ v. not (nat_lt slot v)) slots.now }
-    ensures inside { result ≤ length slots.now }
-{
-    slots.iter().take_while(|held| !(slot < **held)).count()
-}
-
-/// Where a page block that begins at the frame goes among these.
-fn place_of_page(pages: &[FrameBlock], frame: u32) -> usize
-    requires { IsNonDecreasingBy (λ b. b.first) pages.now }
-    ensures value { result ≡ prefix_len (λ b. not (nat_lt frame b.first)) pages.now }
-    ensures inside { result ≤ length pages.now }
-    ensures point { IsPartitionPoint (λ b. b.first ≤ frame) (λ b. frame < b.first) pages.now result }
-{
-    pages_before(pages, u64::from(frame) + 1)
-}
-
-/// Where a cache of this number goes among these.
-#[tactic(auto, using(crate::proofs::Putting::prefix_within))]
-fn place_of_cache(caches: &[HeldCache], number: u8) -> usize
-    ensures value { result ≡ prefix_len (λ c. not (nat_lt number c.number)) caches.now }
-    ensures inside { result ≤ length caches.now }
-{
-    caches
-        .iter()
-        .take_while(|cache| !(number < cache.number()))
-        .count()
 }

@@ -16,7 +16,7 @@ ghost use Rattle.promise_core.specs.Holdings.{blocks_of_slot, vacant_blocks, has
 use crate::block::FrameBlock;
 use crate::cache::HeldCache;
 use crate::holder::RangeHolder;
-use crate::rising::{pages_before, pages_before_from};
+use crate::rising::{all_within, with_key};
 use crate::vacancy::count_clear;
 use model_core::limits::{FRAME_BYTES, MOST_CACHES};
 use std::marker::Model;
@@ -33,16 +33,38 @@ pub struct Held {
 
 impl Model for Held {
     ghost use Rattle.promise_core.specs.Holdings.{Holdings};
+    ghost use Rattle.std.specs.List.Sorted.{IsNonDecreasing};
     ghost use Rattle.judge_core.specs.Inside.{AreListed, ArePages};
 
     ghost Value = { Holdings };
 
     ghost view = { λ h. record { slots = h.slots.items; pages = h.pages.items; caches = h.caches.items } };
 
-    ghost invariant = { λ h. AreListed h.caches.items × ArePages h.longest h.pages.items };
+    ghost invariant = { λ h. AreListed h.caches.items × ArePages h.longest h.pages.items × IsNonDecreasing h.slots.items };
 }
 
 impl Held {
+    /// The held slots, rising.
+    pub fn slots(&self) -> &[u16]
+        ensures { result.now ≡ self.now.slots }
+    {
+        self.slots.as_slice()
+    }
+
+    /// The live page blocks, by rising first frame.
+    pub fn pages(&self) -> &[FrameBlock]
+        ensures { result.now ≡ self.now.pages }
+    {
+        self.pages.as_slice()
+    }
+
+    /// The caches, by rising number.
+    pub fn caches(&self) -> &[HeldCache]
+        ensures { result.now ≡ self.now.caches }
+    {
+        self.caches.as_slice()
+    }
+
     /// Whether the tenant holds the slot.
     pub fn has_slot(&self, slot: u32) -> bool
         ensures { result ≡ has_slot self.now slot }
@@ -90,11 +112,7 @@ impl Held {
     pub fn page_at(&self, frame: u32) -> Option<&FrameBlock>
         ensures { option_copied result ≡ find (λ b. b.first == frame) self.now.pages }
     {
-        let at = pages_before(&self.pages, u64::from(frame));
-        match self.pages.get(at) {
-            Some(page) => (page.first() == frame).then_some(page),
-            None => None,
-        }
+        with_key(&self.pages, frame)
     }
 
     /// The cache of this number.
@@ -125,10 +143,11 @@ impl Held {
     fn is_in_pages(&self, block: &FrameBlock) -> bool
         ensures { result ≡ list_any (overlaps block.now) self.now.pages }
     {
-        is_over_some(
-            block,
-            self.pages_near(u64::from(block.first()), block.end()),
-        )
+        // The last are the nearest to the block.
+        self.pages_near(u64::from(block.first()), block.end())
+            .iter()
+            .rev()
+            .any(|page| block.overlaps(page))
     }
 
     /// All live page blocks that end behind the frame `begin` and begin before the frame `end`, and maybe others.
@@ -141,9 +160,7 @@ impl Held {
     {
         // those before do not reach the frame
         let first = begin.saturating_sub((1u64 << self.longest) - 1);
-        let low = pages_before(&self.pages, first);
-        let high = pages_before_from(&self.pages, low, (end - first) as usize, end);
-        &self.pages[low..high]
+        all_within(&self.pages, first, end, (end - first) as usize)
     }
 
     /// The first live page block that shares a frame with the block.
@@ -267,7 +284,11 @@ impl Held {
         ensures { result ≡ list_any (within_block place len) self.now.pages }
     {
         let frame = u64::from(place / FRAME_BYTES);
-        some_has_range(self.pages_near(frame, frame + 1), place, len)
+        // The last are the nearest to the place.
+        self.pages_near(frame, frame + 1)
+            .iter()
+            .rev()
+            .any(|page| page.has_range(place, len))
     }
 
     fn object_with(&self, place: u32, len: u32) -> Option<RangeHolder>
@@ -285,24 +306,8 @@ impl Held {
     }
 }
 
-/// Whether one of these page blocks shares a frame with the block.
-fn is_over_some(block: &FrameBlock, pages: &[FrameBlock]) -> bool
-    ensures { result ≡ list_any (overlaps block.now) pages.now }
-{
-    // The last are the nearest to the block.
-    pages.iter().rev().any(|page| block.overlaps(page))
-}
-
-/// Whether the `len` bytes from a place on lie inside one of these page blocks.
-fn some_has_range(pages: &[FrameBlock], place: u32, len: u32) -> bool
-    ensures { result ≡ list_any (within_block place len) pages.now }
-{
-    // The last are the nearest to the place.
-    pages.iter().rev().any(|page| page.has_range(place, len))
-}
-
-/// The mark of this number, false where there is none.
-fn is_marked(marks: &[bool], number: u8) -> bool
+/// Returns the mark of this number, false if there is none.
+pub fn is_marked(marks: &[bool], number: u8) -> bool
     ensures { result ≡ slice_index_or marks.now number false }
 {
     match marks.get(usize::from(number)) {

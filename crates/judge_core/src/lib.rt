@@ -12,11 +12,10 @@ mod holder;
 mod layout;
 mod rising;
 mod vacancy;
-mod walking;
 
 pub use block::FrameBlock;
 pub use bytes::LeftByte;
 pub use cache::HeldCache;
-pub use held::Held;
+pub use held::{Held, is_marked};
 pub use holder::RangeHolder;
 pub use layout::ToldLayout;

@@ -1,86 +1,148 @@
-//! Searches in what rises.
+//! Searches in lists that rise by a key.
 
-ghost use Rattle.std.specs.Prelude.{◌≡◌, ◌++◌, ◌<◌, ◌≤◌, length, take, drop};
-ghost use Rattle.std.specs.List.{AllWithin};
-ghost use Rattle.std.specs.List.Sorted.{IsNonDecreasing, IsNonDecreasingBy, IsPartitionPoint};
+ghost use Rattle.std.specs.Prelude.{◌≡◌, ℕ, ◌≤◌, ◌<◌, ◌==◌, ◌&&◌, ◌++◌, take, drop, nat_le, nat_lt, not, filter, find, length, IfOk, OnErr};
+ghost use Rattle.std.specs.Option.{option_copied};
+ghost use Rattle.std.specs.List.{prefix_len};
+ghost use Rattle.std.specs.List.Sorted.{IsNonDecreasingBy};
+ghost use Rattle.model_core.specs.Machine.{put_rising};
 
 use crate::block::FrameBlock;
+use crate::cache::HeldCache;
+use std::alloc::AllocError;
 
-/// How many of the places come before this one.
-pub(crate) fn places_before(places: &[u32], place: u64) -> usize
-    requires { IsNonDecreasing places.now }
-    ensures inside { result ≤ length places.now }
-    ensures point { IsPartitionPoint (λ p. p < place) (λ p. place ≤ p) places.now result }
-{
-    places.partition_point(|p| u64::from(*p) < place)
+/// An item of a list that rises by the items' keys: a page block, say, by its first frame.
+pub(crate) trait Keyed {
+    ghost key: { Self → ℕ };
+
+    /// Returns the key.
+    fn key(&self) -> u32
+        ensures { result ≡ key self.now };
 }
 
-/// [`places_before`], by a shorter search if the place of index `near` is there and is none of them.
-fn places_before_near(places: &[u32], near: usize, place: u64) -> usize
-    requires { IsNonDecreasing places.now }
-    ensures inside { result ≤ length places.now }
-    ensures point { IsPartitionPoint (λ p. p < place) (λ p. place ≤ p) places.now result }
-{
-    match places.get(near) {
-        Some(next) if u64::from(*next) >= place => places_before(&places[..near], place),
-        _ => places_before(places, place),
+/// A slot.
+impl Keyed for u16 {
+    ghost key = { λ slot. slot };
+
+    fn key(&self) -> u32 {
+        u32::from(*self)
     }
 }
 
-/// [`places_before`], where the first `begin` come before it: the next `near` are looked at first.
-pub(crate) fn places_before_from(places: &[u32], begin: usize, near: usize, place: u64) -> usize
-    requires rise { IsNonDecreasing places.now }
-    requires begin { begin ≤ length places.now }
-    requires before { AllWithin (λ p. p < place) places.now 0 begin }
-    ensures inside { result ≤ length places.now }
-    ensures point { IsPartitionPoint (λ p. p < place) (λ p. place ≤ p) places.now result }
-{
-    begin + places_before_near(&places[begin..], near, place)
-}
+/// The first place of an object.
+impl Keyed for u32 {
+    ghost key = { λ place. place };
 
-/// How many of the page blocks begin before the frame.
-pub(crate) fn pages_before(pages: &[FrameBlock], frame: u64) -> usize
-    requires { IsNonDecreasingBy (λ b. b.first) pages.now }
-    ensures inside { result ≤ length pages.now }
-    ensures point { IsPartitionPoint (λ b. b.first < frame) (λ b. frame ≤ b.first) pages.now result }
-{
-    pages.partition_point(|page| u64::from(page.first()) < frame)
-}
-
-/// [`pages_before`], by a shorter search if the block of index `near` is there and is none of them.
-fn pages_before_near(pages: &[FrameBlock], near: usize, frame: u64) -> usize
-    requires { IsNonDecreasingBy (λ b. b.first) pages.now }
-    ensures inside { result ≤ length pages.now }
-    ensures point { IsPartitionPoint (λ b. b.first < frame) (λ b. frame ≤ b.first) pages.now result }
-{
-    match pages.get(near) {
-        Some(next) if u64::from(next.first()) >= frame => pages_before(&pages[..near], frame),
-        _ => pages_before(pages, frame),
+    fn key(&self) -> u32 {
+        *self
     }
 }
 
-/// [`pages_before`], where the first `begin` begin before it: the next `near` are looked at first.
-pub(crate) fn pages_before_from(
-    pages: &[FrameBlock],
-    begin: usize,
-    near: usize,
-    frame: u64,
-) -> usize
-    requires rise { IsNonDecreasingBy (λ b. b.first) pages.now }
-    requires begin { begin ≤ length pages.now }
-    requires before { AllWithin (λ b. b.first < frame) pages.now 0 begin }
-    ensures inside { result ≤ length pages.now }
-    ensures point { IsPartitionPoint (λ b. b.first < frame) (λ b. frame ≤ b.first) pages.now result }
-{
-    begin + pages_before_near(&pages[begin..], near, frame)
+impl Keyed for FrameBlock {
+    ghost key = { λ block. block.first };
+
+    fn key(&self) -> u32 {
+        self.first()
+    }
 }
 
-/// Removes those from index `begin` on before index `end`.
-pub(crate) fn remove_range<T: Drop>(items: &mut Vec<T>, begin: usize, end: usize)
-    requires order { begin ≤ end }
-    requires inside { end ≤ length items.old.items }
-    ensures { items.new.items ≡ take begin items.old.items ++ drop end items.old.items }
+impl Keyed for HeldCache {
+    ghost key = { λ cache. cache.number };
+
+    fn key(&self) -> u32 {
+        u32::from(self.number())
+    }
+}
+
+/// Returns how many items have keys below `bound`.
+pub(crate) fn count_below<T: Keyed>(items: &[T], bound: u64) -> usize
+    requires { IsNonDecreasingBy T.key items.now }
+    ensures value { result ≡ prefix_len (λ x. nat_lt (T.key x) bound) items.now }
+    ensures inside { result ≤ length items.now }
 {
+    items.partition_point(|item| u64::from(item.key()) < bound)
+}
+
+/// [`count_below`], by a shorter search if there is an item of index `near` and its key is not below `bound`.
+pub(crate) fn count_below_near<T: Keyed>(items: &[T], near: usize, bound: u64) -> usize
+    requires { IsNonDecreasingBy T.key items.now }
+    ensures value { result ≡ prefix_len (λ x. nat_lt (T.key x) bound) items.now }
+    ensures inside { result ≤ length items.now }
+{
+    match items.get(near) {
+        Some(next) if u64::from(next.key()) >= bound => count_below(&items[..near], bound),
+        _ => count_below(items, bound),
+    }
+}
+
+/// Returns the first item whose key is at least `low`.
+pub(crate) fn first_from<T: Keyed>(items: &[T], low: u64) -> Option<&T>
+    requires { IsNonDecreasingBy T.key items.now }
+    ensures { option_copied result ≡ find (λ x. nat_le low (T.key x)) items.now }
+{
+    items.get(count_below(items, low))
+}
+
+/// Returns the first item whose key is at least `low` and below `end`.
+pub(crate) fn first_within<T: Keyed>(items: &[T], low: u64, end: u64) -> Option<&T>
+    requires { IsNonDecreasingBy T.key items.now }
+    ensures { option_copied result ≡ find (λ x. nat_le low (T.key x) && nat_lt (T.key x) end) items.now }
+{
+    match first_from(items, low) {
+        Some(item) if u64::from(item.key()) < end => Some(item),
+        _ => None,
+    }
+}
+
+/// Returns the first item with this key.
+pub(crate) fn with_key<T: Keyed>(items: &[T], key: u32) -> Option<&T>
+    requires { IsNonDecreasingBy T.key items.now }
+    ensures { option_copied result ≡ find (λ x. T.key x == key) items.now }
+{
+    let key = u64::from(key);
+    first_within(items, key, key + 1)
+}
+
+/// Returns the items whose keys are at least `low` and below `end`. It is fastest if there are at most `near` of them.
+pub(crate) fn all_within<T: Keyed>(items: &[T], low: u64, end: u64, near: usize) -> &[T]
+    requires { IsNonDecreasingBy T.key items.now }
+    ensures { result.now ≡ filter (λ x. nat_le low (T.key x) && nat_lt (T.key x) end) items.now }
+{
+    let from = &items[count_below(items, low)..];
+    &from[..count_below_near(from, near, end)]
+}
+
+/// Inserts the item behind those whose keys are not greater. Fails if memory runs out, and then the items stay as they were.
+pub(crate) fn put<T: Keyed + Drop>(items: &mut Vec<T>, item: T) -> Result<(), AllocError>
+    requires { IsNonDecreasingBy T.key items.old.items }
+    ensures put { IfOk result (λ _. items.new.items ≡ put_rising T.key item items.old.items) }
+    ensures kept { OnErr result (items.new.items ≡ items.old.items) }
+    ensures rise { IsNonDecreasingBy T.key items.new.items }
+{
+    let at = count_below(items, u64::from(item.key()) + 1);
+    items.insert(at, item)?;
+    Ok(())
+}
+
+/// Returns the index of the first item with this key, and the index behind the last.
+fn range_of<T: Keyed>(items: &[T], key: u32) -> (usize, usize)
+    requires { IsNonDecreasingBy T.key items.now }
+    ensures order { result.0 ≤ result.1 }
+    ensures inside { result.1 ≤ length items.now }
+    ensures others { filter (λ x. not (T.key x == key)) items.now ≡ take result.0 items.now ++ drop result.1 items.now }
+{
+    let key = u64::from(key);
+    let begin = count_below(items, key);
+    let end = begin + count_below_near(&items[begin..], 1, key + 1);
+    (begin, end)
+}
+
+/// Removes the items with this key.
+pub(crate) fn remove<T: Keyed + Drop>(items: &mut Vec<T>, key: u32)
+    requires { IsNonDecreasingBy T.key items.old.items }
+    ensures value { items.new.items ≡ filter (λ x. not (T.key x == key)) items.old.items }
+    ensures rise { IsNonDecreasingBy T.key items.new.items }
+{
+    let (begin, end) = range_of(items, key);
     for _ in begin..end {
         items.remove(begin);
     }

@@ -1,8 +1,9 @@
 //! Which frames of a slot are taken, found once for all blocks of the slot.
 
-ghost use Rattle.std.specs.Prelude.{◌≡◌, ℕ, ◌+◌, ◌*◌, ◌^◌, ◌<◌, ◌≤◌, not, ◌||◌, false, length, filter, slice_index, slice_index_or, take};
-ghost use Rattle.std.specs.List.{list_any};
-ghost use Rattle.model_core.specs.declared.limits.TheConstants.{MOST_ORDER};
+ghost use Rattle.std.specs.Prelude.{◌≡◌, ℕ, ◌+◌, ◌*◌, ◌^◌, ◌<◌, ◌≤◌, not, ◌||◌, false, length, filter, slice_index, slice_index_or, take, drop, nat_lt};
+ghost use Rattle.std.specs.List.{list_any, prefix_len};
+ghost use Rattle.std.specs.List.Sorted.{IsNonDecreasing};
+ghost use Rattle.model_core.specs.declared.limits.TheConstants.{FRAME_BYTES, MOST_ORDER};
 ghost use Rattle.model_core.specs.Blocks.{block};
 ghost use Rattle.model_core.specs.Operations.{overlaps};
 ghost use Rattle.promise_core.specs.Holdings.{is_vacant, slab_around, blocks_of_slot, vacant_blocks};
@@ -10,13 +11,11 @@ ghost use Rattle.promise_core.specs.Holdings.{is_vacant, slab_around, blocks_of_
 use crate::block::FrameBlock;
 use crate::cache::HeldCache;
 use crate::held::Held;
-use crate::rising::{places_before, places_before_from};
+use crate::rising::{count_below, count_below_near};
+use words_core::ORDERS;
 
 /// No slot has more frames.
 const MOST_FRAMES: usize = 256;
-
-/// The greatest order of a block is 8.
-const ORDERS: usize = 9;
 
 impl Held {
     /// Which frames of a slot are taken, from its first one on.
@@ -113,20 +112,25 @@ impl HeldCache {
         ensures { (f : ℕ) → f < 2 ^ slot.now.order → slice_index_or taken.new f false ≡ (slice_index_or taken.old f false
             || list_any (λ p. overlaps (block (slot.now.first + f) 0) (slab_around self.now p)) self.now.live) }
     {
-        let live = self.live.as_slice();
-        let mut at = places_before(
-            live,
-            FrameBlock::around(slot.first(), self.order()).first_byte(),
-        );
-        'slabs: while at < live.len() {
-            let slab = self.slab_around(live[at]);
+        let begin = FrameBlock::around(slot.first(), self.order()).first_byte();
+        let mut rest = &self.live[count_below(&self.live, begin)..];
+        'slabs: while let Some(first) = rest.first() {
+            let slab = self.slab_around(*first);
             if u64::from(slab.first()) >= slot.end() {
                 return;
             }
             mark(taken, slot, &slab);
-            // A slab of a sound machine has no more objects than `count`, so the first one behind it is near.
-            at = places_before_from(live, at, self.count() as usize, slab.end_byte());
+            rest = self.behind(&slab, rest);
         }
+    }
+
+    /// Returns the places that are not before the end of the slab.
+    fn behind<'a>(&self, slab: &FrameBlock, places: &'a [u32]) -> &'a [u32]
+        requires { IsNonDecreasing places.now }
+        ensures { result.now ≡ drop (prefix_len (λ p. nat_lt p (FRAME_BYTES * (slab.now.first + 2 ^ slab.now.order))) places.now) places.now }
+    {
+        // A slab of a sound machine has at most `count` objects, so the first one behind it is near.
+        &places[count_below_near(places, self.count() as usize, slab.end_byte())..]
     }
 }
 

@@ -1,22 +1,15 @@
-use Rattle.std.proofs.Common.{◌≡◌, ℕ, ◌<◌, ◌≤◌, List, get_or, sym, subst, arith}
-use Rattle.std.specs.List.Sorted.{IsPartitionPoint}
-use Rattle.judge_core.proofs.Slabs.{place_told, place_untold}
+use Rattle.std.proofs.Common.{◌≡◌, ◌==◌, ℕ, Bor, Option, Some, None, refl, ap, ◌∙◌}
+use Rattle.std.specs.Prelude.{find}
+use Rattle.std.specs.Option.{is_some, option_copied}
+use Rattle.promise_core.specs.Holdings.{ToldCache}
+use Rattle.judge_core.proofs.Keys.{any_found}
 use Rattle.judge_core.proofs.cache.HeldCache.has_live.Goals as goal
 
-pub returns-in-Some : goal.returns-in-Some
-returns-in-Some c =
-    let live = c.self.inside.live.items in
-    let point = subst (λ (xs : List ℕ). IsPartitionPoint (λ p. p < c.from.result) (λ p. c.from.result ≤ p) xs c.places_before-at.result)
-    c.deref.ensures.value c.places_before-at.ensures.point in
-    let got = subst (λ (xs : List ℕ). c.in-Some.first.now ≡ get_or xs c.places_before-at.result c.in-Some.first.now) c.deref-2.ensures.value
-    c.in-Some.ensures.lookup.1 in
-    rw (← c.self.view_is) (place_told live c.args.place c.from.result c.places_before-at.result c.in-Some.first.now c.from.ensures c.self.invariant.1 point
-    (omega (arith, c.in-Some.ensures.lookup.3.0, c.deref-2.ensures.len)) got)
+copied : (o : Option (Bor ℕ)) → is_some o ≡ is_some (option_copied o)
+copied None = refl
+copied (Some p) = refl
 
-pub returns-in-None : goal.returns-in-None
-returns-in-None c =
-    let live = c.self.inside.live.items in
-    let point = subst (λ (xs : List ℕ). IsPartitionPoint (λ p. p < c.from.result) (λ p. c.from.result ≤ p) xs c.places_before-at.result)
-    c.deref.ensures.value c.places_before-at.ensures.point in
-    rw (← c.self.view_is) (sym (place_untold live c.args.place c.from.result c.places_before-at.result c.from.ensures
-    (omega (arith, c.in-None.ensures.lookup.3, c.deref-2.ensures.len)) point))
+pub returns : goal.returns
+returns c = c.is_some.ensures ∙ copied c.with_key.result
+    ∙ ap is_some (c.with_key.ensures ∙ ap (find (λ p. p == c.args.place)) (c.deref.ensures.value ∙ ap (λ (t : ToldCache). t.live) c.self.view_is))
+    ∙ any_found (λ p. p == c.args.place) c.args.self.now.live

@@ -1,85 +1,66 @@
-use Rattle.std.proofs.Common.{◌≡◌, ℕ, ◌+◌, ◌*◌, ◌/◌, ◌^◌, ◌<◌, ◌≤◌, false, List, length, get_or, take, sym, ap, ◌∙◌, subst, arith}
-use Rattle.std.specs.Prelude.{◌||◌}
-use Rattle.std.specs.List.{list_any}
-use Rattle.std.specs.List.Sorted.{IsNonDecreasing, IsPartitionPoint}
+use Rattle.std.proofs.Common.{◌≡◌, ℕ, ◌+◌, ◌-◌, ◌*◌, ◌/◌, ◌^◌, false, refl, length, get_or, take, drop, sym, ap, ◌∙◌, subst, arith, length-drop}
+use Rattle.std.specs.Prelude.{◌||◌, nat_lt}
+use Rattle.std.specs.List.{list_any, prefix_len}
+use Rattle.std.specs.List.Sorted.{IsNonDecreasing}
+use Rattle.std.proofs.lemmas.List.{take_all}
+use Rattle.std.proofs.lemmas.List.Sorted.{IsNonDecreasingBy-drop}
 use Rattle.model_core.specs.Blocks.{Block}
 use Rattle.promise_core.specs.Holdings.{ToldCache, slab_around}
-use Rattle.std.proofs.lemmas.List.{get_or_default}
-use Rattle.judge_core.proofs.Slabs.{place_inside}
-use Rattle.judge_core.proofs.Marks.{has_over, has_over_block, or_false, or_assoc, none_before, slab_passed, none_behind}
+use Rattle.judge_core.proofs.Marks.{has_over, has_over_block, or_false, any_from, slab_passed, goes_on, none_behind}
 use Rattle.judge_core.proofs.cache.HeldCache.mark_slabs.Goals as goal
 
 pub slabs-init : goal.slabs-init
 slabs-init c =
     let told = c.args.self.now in
-    let at = c.places_before-at.result in
-    let a = c.first_byte.result in
-    let seen : c.as_slice-live.result.now ≡ told.live = c.as_slice-live.ensures.value ∙ ap (λ (t : ToldCache). t.live) c.self.view_is in
-    let is_a : a ≡ 4096 * (c.args.slot.now.first / 2 ^ told.order * 2 ^ told.order) = c.first_byte.ensures.value
+    let n = c.count_below.result in
+    let a = c.first_byte-begin.result in
+    let xs = c.deref.result.now in
+    let live : c.self.inside.live.items ≡ told.live = ap (λ (t : ToldCache). t.live) c.self.view_is in
+    let is_a : a ≡ 4096 * (c.args.slot.now.first / 2 ^ told.order * 2 ^ told.order) = c.first_byte-begin.ensures.value
     ∙ ap (λ (b : Block). 4096 * b.first) c.around.ensures ∙ ap (λ n. 4096 * (n / 2 ^ c.order.result * 2 ^ c.order.result)) c.first.ensures
     ∙ ap (λ k. 4096 * (c.args.slot.now.first / 2 ^ k * 2 ^ k)) c.order.ensures.value in
-    let point = subst (λ (xs : List ℕ). IsPartitionPoint (λ p. p < a) (λ p. a ≤ p) xs at) seen c.places_before-at.ensures.point in
-    let inside = subst (λ (xs : List ℕ). at ≤ length xs) seen c.places_before-at.ensures.inside in
+    let at : n ≡ prefix_len (λ p. nat_lt p a) told.live = c.count_below.ensures.value ∙ ap (prefix_len (λ p. nat_lt p a)) (c.deref-2.ensures.value ∙ live) in
+    let rest : take (length xs - n) (drop n xs) ≡ drop (prefix_len (λ p. nat_lt p a) told.live) told.live =
+    take_all (length xs - n) (drop n xs) (omega (arith, length-drop n xs)) ∙ (λ i. drop (at i) ((c.deref.ensures.value ∙ live) i)) in
     record {
-      inside = c.places_before-at.ensures.inside;
-      marked = λ f less.
-          let none = none_before told c.args.slot.now.first (c.args.slot.now.first + f) a at is_a (omega arith) point inside in
-          sym (ap (λ v. get_or c.args.taken.now f false || v) none ∙ or_false (get_or c.args.taken.now f false));
+      rise = subst IsNonDecreasing (sym rest) (IsNonDecreasingBy-drop (λ p. p) _ told.live (subst IsNonDecreasing live c.self.invariant.1));
+      marked = λ f less. ap (λ ys. get_or c.args.taken.now f false || list_any (has_over told (c.args.slot.now.first + f)) ys) rest
+          ∙ ap (λ t. get_or c.args.taken.now f false || t) (any_from told c.args.slot.now.first (c.args.slot.now.first + f) a told.live is_a (omega arith));
     }
-
-pub places_before_from-at-requires-clause-before : goal.places_before_from-at-requires-clause-before
-places_before_from-at-requires-clause-before c = λ k d from lt.
-    let told = c.args.self.now in
-    let at = c.slabs.at in
-    let seen : c.as_slice-live.result.now ≡ told.live = c.as_slice-live.ensures.value ∙ ap (λ (t : ToldCache). t.live) c.self.view_is in
-    let rise = subst IsNonDecreasing (ap (λ (t : ToldCache). t.live) c.self.view_is) c.self.invariant.1 in
-    let there = subst (λ (xs : List ℕ). at < length xs) seen c.slabs-test.true in
-    let slab : c.slab_around-slab.result ≡ slab_around told (get_or told.live at 0) =
-    c.slab_around-slab.ensures ∙ ap (λ (xs : List ℕ). slab_around told (get_or xs at 0)) seen in
-    let is_b : c.end_byte.result ≡ 4096 * ((slab_around told (get_or told.live at 0)).first + 2 ^ told.order) =
-    c.end_byte.ensures.value ∙ ap (λ (x : Block). 4096 * (x.first + 2 ^ x.order)) slab in
-    let here : get_or c.as_slice-live.result.now k d ≡ get_or told.live k d = ap (λ (xs : List ℕ). get_or xs k d) seen in
-    let same : get_or told.live at d ≡ get_or told.live at 0 = get_or_default told.live at d 0 there in
-    let in_slab = place_inside told.order (get_or told.live at 0) in
-    let later = rise k at d (omega (arith, lt)) there in
-    omega (arith, is_b, here, same, in_slab.1, later)
 
 pub slabs-preserved : goal.slabs-preserved
 slabs-preserved c =
     let told = c.args.self.now in
-    let at = c.slabs.at in
-    let to = c.places_before_from-at.result in
-    let b = c.end_byte.result in
-    let seen : c.as_slice-live.result.now ≡ told.live = c.as_slice-live.ensures.value ∙ ap (λ (t : ToldCache). t.live) c.self.view_is in
-    let rise = subst IsNonDecreasing (ap (λ (t : ToldCache). t.live) c.self.view_is) c.self.invariant.1 in
-    let there = subst (λ (xs : List ℕ). at < length xs) seen c.slabs-test.true in
-    let inside = subst (λ (xs : List ℕ). to ≤ length xs) seen c.places_before_from-at.ensures.inside in
-    let slab : c.slab_around-slab.result ≡ slab_around told (get_or told.live at 0) =
-    c.slab_around-slab.ensures ∙ ap (λ (xs : List ℕ). slab_around told (get_or xs at 0)) seen in
-    let is_b : b ≡ 4096 * ((slab_around told (get_or told.live at 0)).first + 2 ^ told.order) =
-    c.end_byte.ensures.value ∙ ap (λ (x : Block). 4096 * (x.first + 2 ^ x.order)) slab in
-    let point = subst (λ (xs : List ℕ). IsPartitionPoint (λ p. p < b) (λ p. b ≤ p) xs to) seen c.places_before_from-at.ensures.point in
+    let xs = c.slabs.rest.now in
+    let p = c.in-Some.first.now in
+    let rest = c.behind-rest.ensures
+    ∙ ap (λ (y : Block). drop (prefix_len (λ q. nat_lt q (4096 * (y.first + 2 ^ y.order))) xs) xs) c.slab_around-slab.ensures in
     record {
-      inside = c.places_before_from-at.ensures.inside;
+      rise = subst IsNonDecreasing (sym c.behind-rest.ensures) (IsNonDecreasingBy-drop (λ q. q) _ xs c.slabs.invariant.rise);
       marked = λ f less.
           let x : ℕ = c.args.slot.now.first + f in
-          c.mark.ensures f less
-          ∙ ap (λ v. v || has_over_block x c.slab_around-slab.result) (c.slabs.invariant.marked f less)
-          ∙ ap (λ (y : Block). (get_or c.args.taken.now f false || list_any (has_over told x) (take at told.live)) || has_over_block x y) slab
-          ∙ or_assoc (get_or c.args.taken.now f false) (list_any (has_over told x) (take at told.live)) (has_over told x (get_or told.live at 0))
-          ∙ ap (λ v. get_or c.args.taken.now f false || v) (sym (slab_passed told x at to b 0 rise there inside is_b point));
+          (λ i. c.mark.ensures f less i || list_any (has_over told x) (rest i))
+          ∙ ap (λ y. (get_or c.slabs.taken f false || has_over_block x y)
+          || list_any (has_over told x) (drop (prefix_len (λ q. nat_lt q (4096 * ((slab_around told p).first + 2 ^ told.order))) xs) xs)) c.slab_around-slab.ensures
+          ∙ slab_passed told p _ xs c.slabs.invariant.rise c.in-Some.ensures.item.3.0 c.in-Some.ensures.item.1 refl x (get_or c.slabs.taken f false)
+          ∙ c.slabs.invariant.marked f less;
     }
+
+pub slabs-smaller : goal.slabs-smaller
+slabs-smaller c =
+    let told = c.args.self.now in
+    let xs = c.slabs.rest.now in
+    let p = c.in-Some.first.now in
+    let rest = c.behind-rest.ensures
+    ∙ ap (λ (y : Block). drop (prefix_len (λ q. nat_lt q (4096 * (y.first + 2 ^ y.order))) xs) xs) c.slab_around-slab.ensures in
+    let some = c.in-Some.ensures.item.3.0 in
+    let more = goes_on told p _ xs c.slabs.invariant.rise some c.in-Some.ensures.item.1 refl in
+    omega (arith, ap length rest, length-drop (prefix_len (λ q. nat_lt q (4096 * ((slab_around told p).first + 2 ^ told.order))) xs) xs, more, some)
 
 pub returns-then-from-end : goal.returns-then-from-end
 returns-then-from-end c = λ f less.
     let told = c.args.self.now in
-    let at = c.slabs.at in
-    let seen : c.as_slice-live.result.now ≡ told.live = c.as_slice-live.ensures.value ∙ ap (λ (t : ToldCache). t.live) c.self.view_is in
-    let rise = subst IsNonDecreasing (ap (λ (t : ToldCache). t.live) c.self.view_is) c.self.invariant.1 in
-    let there = subst (λ (xs : List ℕ). at < length xs) seen c.slabs-test.true in
-    let slab : c.slab_around-slab.result ≡ slab_around told (get_or told.live at 0) =
-    c.slab_around-slab.ensures ∙ ap (λ (xs : List ℕ). slab_around told (get_or xs at 0)) seen in
-    let first : c.from.result ≡ (slab_around told (get_or told.live at 0)).first = c.from.ensures ∙ c.first-in-slabs.ensures ∙ ap (λ (x : Block). x.first) slab in
-    c.slabs.invariant.marked f less
-    ∙ ap (λ v. get_or c.args.taken.now f false || v)
-    (sym (none_behind told (c.args.slot.now.first + f) at 0 rise there (omega (arith, c.if-from-end.true, c.end.ensures.value, first, less))))
+    let x : ℕ = c.args.slot.now.first + f in
+    let none = none_behind told c.in-Some.first.now _ c.slabs.rest.now c.slabs.invariant.rise c.in-Some.ensures.item.3.0 c.in-Some.ensures.item.1 refl x
+    (omega (arith, less, c.if-from-end.true, c.end.ensures.value, c.from.ensures, c.first-in-Some.ensures, ap (λ (b : Block). b.first) c.slab_around-slab.ensures)) in
+    sym (or_false _) ∙ ap (λ t. get_or c.slabs.taken f false || t) (sym none) ∙ c.slabs.invariant.marked f less

@@ -15,6 +15,7 @@ invariant_of-self c =
           (sym (map-set_same (λ (x : ToldCache). x.number) caches c.in-Some.i c.give.new.self old same))
           c.self.invariant.0,
       c.self.invariant.1,
+      c.self.invariant.2,
     )
 
 pub returns-in-Some : goal.returns-in-Some

@@ -18,6 +18,7 @@ invariant_of-self c =
           (sym (map-set_same (λ (x : ToldCache). x.number) caches c.in-Some.i c.take.new.self old same))
           c.self.invariant.0,
       c.self.invariant.1,
+      c.self.invariant.2,
     )
 
 pub returns-in-Some-clause-taken : goal.returns-in-Some-clause-taken
