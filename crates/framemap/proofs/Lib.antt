@@ -1,1 +1,1 @@
-mod PieceLemmas
+pub mod WatchingLemmas

@@ -9,10 +9,12 @@
 ghost use Rattle.std.specs.Prelude.{◌≡◌, OnErr};
 ghost use Rattle.command_line.specs.declared.outcome.Outcome.{Outcome};
 
+mod line_limit;
 mod run;
 mod settings;
 #[cfg(test)]
 mod tests;
+mod watched;
 
 use command_line::{
     FileError, Outcome, ProgressReader, WatchedReader, hand_out, open, progress_in, tell,
@@ -107,6 +109,6 @@ fn run_read<R: Read + Drop>(
     let Ok(mut writer) = BufWriter::with_capacity(alloc, BUFFER_BYTES, io::writer(rt)) else {
         return Drawn::at_once(Outcome::NoMemory);
     };
-    let mut feed = ReaderFeed::with_room(reader, u64::MAX);
-    run(alloc, settings, &mut feed, &mut writer)
+    let feed = ReaderFeed::with_room(reader, u64::MAX);
+    run(alloc, settings, feed, &mut writer)
 }

@@ -1,16 +1,16 @@
-//! The lines of a trace beside a loop that reads each of them the long way, as it was: the same picture, whatever the text and however
-//! it is cut.
+//! The picture of a trace beside that of its lines, each read the long way; and the limit on lines.
 
-ghost use Rattle.std.specs.Prelude.{◌<◌};
-
-use crate::run::{watch_line, watch_piece};
+use crate::line_limit::LineLimit;
+use crate::run::watch;
+use crate::watched::Watched;
 use frame_picture::history::History;
 use kernel_core::{Config, Kernel};
 use picture_svg::picture::Picture;
-use replay_core::Pending;
+use replay_core::{Feed, Pending, ReaderFeed, Stopped};
 use std::alloc::{AllocError, Global};
 use std::process::Abort;
 use std::test::Fail;
+use words_core::{Addressee, Body, Refusal};
 
 /// What a text is made of. The last three make lines of about 255 bytes.
 const PARTS: [&[u8]; 24] = [
@@ -40,71 +40,43 @@ const PARTS: [&[u8]; 24] = [
     b"                                                                                                                                \n",
 ];
 
-/// Requests behind the beginnings of other lines, which a cut parts from them.
-const BEGINNINGS: &[u8] = b"\
-admin grant 0\nadmin grant 0\n    frob0 alloc 1\n10 alloc 1\n0 alloc 1\n0 alloc 1\n0 free 2\n0 alloc 0\n0 alloc 1\n0 alloc 1\n";
-
-/// Some of these lines, which end in CR LF.
-const RETURNING: &[u8] = b"\
-admin grant 0\r\n0 alloc 1\r\n10 alloc 1\r\nfrob\r\n0 alloc 0\r\n0 free 2\n0 alloc 0\r\n0 write 0 00ff\r\n0 free 0\r\n0 alloc 1\r\n";
-
-/// A machine that is watched.
-#[derive(Drop)]
-struct Watched {
-    kernel: Kernel,
-    history: History,
-    pending: Pending,
-    events: u64,
+/// A machine of three tenants, of which no line has been run.
+fn start(alloc: Global) -> Result<(Kernel, Watched), AllocError> {
+    let config = Config {
+        order: 3,
+        superblocks: 4,
+        tenants: 3,
+    };
+    let kernel = Kernel::boot(alloc, config).map_err(|_| AllocError)?;
+    let history = History::new(alloc, &kernel, 20)?;
+    Ok((kernel, Watched { history, events: 0 }))
 }
 
-impl Watched {
-    fn new(alloc: Global) -> Result<Watched, AllocError> {
-        let config = Config {
-            order: 3,
-            superblocks: 4,
-            tenants: 3,
-        };
-        let kernel = Kernel::boot(alloc, config).map_err(|_| AllocError)?;
-        let history = History::new(alloc, &kernel, 20)?;
-        Ok(Watched {
-            kernel,
-            history,
-            pending: Pending::new(),
-            events: 0,
-        })
-    }
-
-    fn add(&mut self, piece: &[u8]) {
-        let more = watch_piece(
-            piece,
-            &mut self.pending,
-            &mut self.kernel,
-            &mut self.history,
-        );
-        self.events = self.events.saturating_add(more);
-    }
-
-    /// The same, as it was.
-    fn add_as_before(&mut self, piece: &[u8]) {
-        for part in piece.split_inclusive(|byte| *byte == b'\n') {
-            match part {
-                [line @ .., b'\n'] => {
-                    let reading = self.pending.end_with(line);
-                    let more = watch_line(reading, &mut self.kernel, &mut self.history);
-                    self.events = self.events.saturating_add(more);
-                }
-                unended => self.pending.add(unended),
+/// Runs the lines of a text, each read the long way.
+fn watch_slowly(kernel: &mut Kernel, text: &[u8], watched: &mut Watched) {
+    for part in text.split_inclusive(|byte| *byte == b'\n') {
+        let line = part.strip_suffix(b"\n").unwrap_or(part);
+        if let Ok(Some(event)) = Pending::new().end_with(line) {
+            let reply = kernel.step(&event);
+            if let (Addressee::Tenant(t), Body::Refused(Refusal::NoFrames)) = (
+                reply.addressee,
+                &reply.body,
+            ) {
+                watched.history.add_refusal(t);
             }
+            watched.events = watched.events.saturating_add(1);
         }
+        watched.history.add_line(kernel);
     }
+    watched.history.end(kernel);
+}
 
-    fn picture(&self, alloc: Global) -> Result<Vec<u8>, AllocError> {
-        let mut picture = Picture::new(alloc, &self.history, None)?;
-        let mut text = Vec::new(alloc);
-        match picture.draw(&self.history, None, &mut text) {
-            Ok(()) => Ok(text),
-            Err(_) => Err(AllocError),
-        }
+fn picture(alloc: Global, watched: &Watched) -> Result<Vec<u8>, AllocError> {
+    let mut picture = Picture::new(alloc, &watched.history, None)?;
+    let mut text = Vec::new(alloc);
+    match picture.draw(&watched.history, None, &mut text) {
+        Ok(()) => Ok(text),
+        Err(_) => Err(AllocError),
     }
 }
 
@@ -116,27 +88,22 @@ fn draw(state: &mut u64) -> usize {
     (*state >> 48) as usize
 }
 
-/// Compares the pictures of a text that comes in pieces of this length.
-fn compare(rt: &(impl Abort + AllocGlobal), text: &[u8], piece: usize) -> Result<(), AllocError>
-    requires { 0 < piece }
-{
-    let mut now = Watched::new(rt.alloc())?;
-    let mut before = Watched::new(rt.alloc())?;
-    for part in text.chunks(piece) {
-        now.add(part);
-        before.add_as_before(part);
-    }
-    assert!(rt; now.events == before.events);
-    assert!(rt; now.history.lines() == before.history.lines());
-    assert!(rt; now.pending.held.as_slice() == before.pending.held.as_slice());
-    let drawn = now.picture(rt.alloc())?;
-    let drawn_before = before.picture(rt.alloc())?;
-    assert!(rt; drawn.as_slice() == drawn_before.as_slice());
+/// Compares the pictures of a text.
+fn compare(rt: &(impl Abort + AllocGlobal), text: &[u8]) -> Result<(), AllocError> {
+    let (mut kernel, mut watched) = start(rt.alloc())?;
+    let ran = watch(&mut kernel, ReaderFeed::new(text), &mut watched);
+    assert!(rt; ran.is_ok());
+    let (mut slow_kernel, mut slow) = start(rt.alloc())?;
+    watch_slowly(&mut slow_kernel, text, &mut slow);
+    assert!(rt; watched.events == slow.events);
+    let drawn = picture(rt.alloc(), &watched)?;
+    let drawn_slowly = picture(rt.alloc(), &slow)?;
+    assert!(rt; drawn.as_slice() == drawn_slowly.as_slice());
     Ok(())
 }
 
 #[test]
-fn pictures_are_as_before(rt: HostRuntime) -> Result<(), Fail> {
+fn quick_lines_make_the_same_picture(rt: HostRuntime) -> Result<(), Fail> {
     let mut state = 0x9e37_79b9_7f4a_7c15u64;
     for round in 0..120usize {
         let mut text = Vec::new(rt.alloc());
@@ -144,23 +111,18 @@ fn pictures_are_as_before(rt: HostRuntime) -> Result<(), Fail> {
             let at = draw(&mut state) % PARTS.len();
             text.extend_from_slice(PARTS[at])?;
         }
-        let piece = match round % 4 {
-            0 => 1 + draw(&mut state) % 7,
-            1 => 30 + draw(&mut state) % 10,
-            2 => 250 + draw(&mut state) % 12,
-            _ => 1 << 16,
-        };
-        compare(&rt, text.as_slice(), piece)?;
+        compare(&rt, text.as_slice())?;
     }
     Ok(())
 }
 
 #[test]
-fn a_cut_in_a_line_changes_nothing(rt: HostRuntime) -> Result<(), Fail> {
-    for text in [BEGINNINGS, RETURNING] {
-        for piece in 1..text.len() {
-            compare(&rt, text, piece)?;
-        }
-    }
-    Ok(())
+fn a_trace_of_too_many_lines_fails(rt: HostRuntime) {
+    let mut piece = [0; 8];
+    let mut within = LineLimit::new(ReaderFeed::new(b"a\nb\nc".as_slice()), 3);
+    assert!(rt; within.pull(&mut piece) == Ok(5));
+    assert!(rt; within.pull(&mut piece) == Ok(0));
+    let mut beyond = LineLimit::new(ReaderFeed::new(b"a\nb\nc\n".as_slice()), 3);
+    assert!(rt; beyond.pull(&mut piece) == Ok(6));
+    assert!(rt; beyond.pull(&mut piece) == Err(Stopped));
 }

@@ -1,0 +1,93 @@
+//! A limit on the lines of a trace.
+
+ghost use Rattle.std.specs.Prelude.{◌≡◌, false, ◌==◌, count_by, length};
+ghost use Rattle.world_core.specs.Output.{line_feed};
+
+use replay_core::{Feed, Stopped};
+use std::simd::prelude::*;
+
+/// A feed that fails, unless it has ended, when it has given a limit of line feeds.
+#[derive(Drop)]
+pub struct LineLimit<F: Feed> {
+    feed: F,
+    limit: u64,
+    /// How many line feeds it has given.
+    lines: u64,
+    failed: bool,
+    ghost fine: { failed ≡ false → F.has_failed feed ≡ false },
+}
+
+impl<F: Feed> LineLimit<F> {
+    /// A feed of what this one gives, as long as fewer than `limit` line feeds have been given.
+    pub fn new(feed: F, limit: u64) -> Self
+        requires { F.has_failed feed ≡ false }
+        ensures remaining { ⟦<LineLimit<F> as Feed>⟧.remaining result ≡ F.remaining feed }
+        ensures fine { ⟦<LineLimit<F> as Feed>⟧.has_failed result ≡ false }
+    {
+        LineLimit {
+            feed,
+            limit,
+            lines: 0,
+            failed: false,
+        }
+    }
+}
+
+impl<F: Feed> Feed for LineLimit<F> {
+    ghost remaining = { λ s. F.remaining s.feed };
+
+    ghost room_left = { λ s. F.room_left s.feed };
+
+    ghost has_ended = { λ s. F.has_ended s.feed };
+
+    ghost has_failed = { λ s. s.failed };
+
+    fn pull(&mut self, into: &mut [u8]) -> Result<usize, Stopped> {
+        if self.lines >= self.limit && !self.feed.ended() {
+            self.failed = true;
+            return Err(Stopped);
+        }
+        let Ok(count) = self.feed.pull(into) else {
+            self.failed = true;
+            return Err(Stopped);
+        };
+        self.lines = self.lines.saturating_add(line_feeds(&into[..count]) as u64);
+        Ok(count)
+    }
+
+    fn room(&self) -> u64 {
+        self.feed.room()
+    }
+
+    fn ended(&self) -> bool {
+        self.feed.ended()
+    }
+
+    fn failed(&self) -> bool {
+        self.failed
+    }
+}
+
+/// How many line feeds there are.
+fn line_feeds(bytes: &[u8]) -> usize
+    ensures { result ≡ count_by (λ b. b == line_feed) bytes.now }
+{
+    let mut count = 0;
+    let mut rest = bytes;
+    'lanes: while rest.len() >= 16 {
+        let (lanes, after) = rest.split_at(16);
+        count += line_feeds_in_lanes(lanes);
+        rest = after;
+    }
+    count + rest.iter().filter(|byte| **byte == b'\n').count()
+}
+
+/// How many of 16 bytes are line feeds, in one comparison.
+#[inline(always)]
+fn line_feeds_in_lanes(bytes: &[u8]) -> usize
+    requires { length bytes.now ≡ 16 }
+    ensures { result ≡ count_by (λ b. b == line_feed) bytes.now }
+{
+    let lanes = u8x16::from_slice(bytes);
+    lanes.simd_eq(u8x16::splat(b'\n')).to_bitmask().count_ones() as usize
+}

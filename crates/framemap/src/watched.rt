@@ -1,0 +1,131 @@
+//! What a picture makes of the lines of a trace.
+
+ghost use Rattle.std.specs.Prelude.{◌≡◌, ℕ, ◌+◌, ◌^◌, ◌<◌, ◌≤◌, List, Option, length};
+ghost use Rattle.frame_picture.specs.Histories.{line_count};
+ghost use Rattle.replay_core.specs.Doing.{HasGone};
+ghost use Rattle.framemap.specs.Watching.{watches};
+
+use frame_picture::history::History;
+use kernel_core::Kernel;
+use model_core::limits::MOST_BYTES;
+use quick_core::{CR_LF, LF, read_ended_request};
+use replay_core::{Drain, Sink, Stopped};
+use words_core::{Addressee, Answer, Event, LineFault, Refusal};
+
+/// Keeps what the machine is like after each line of a trace, and counts the events. No reply is written.
+#[derive(Drop)]
+pub struct Watched {
+    pub history: History,
+    /// How many of the lines were events.
+    pub events: u64,
+}
+
+impl Watched {
+    /// Runs the requests at the front of a piece as long as they are read the short way, and returns the rest of the piece. The
+    /// lines end in LF, or in CR LF if `RETURNS`.
+    fn watch_requests<'a, const RETURNS: bool>(
+        &mut self,
+        piece: &'a [u8],
+        kernel: &mut Kernel,
+    ) -> &'a [u8]
+        requires { self.old.events + length piece.now < 2 ^ 64 }
+        ensures gone { (known : Option (List ℕ))
+            → HasGone watches (self.old, kernel.old) piece.now result.now known known (self.new, kernel.new) }
+        ensures left { self.new.events + length result.now ≤ self.old.events + length piece.now }
+    {
+        // The bytes of a write: one buffer for all lines.
+        let mut room = [0; MOST_BYTES];
+        let mut rest = piece;
+        'lines: while let Some(line) = read_ended_request::<RETURNS>(rest, &mut room) {
+            let len = line.len;
+            if let Some((t, answer)) = kernel.ask(line.tenant, line.request) {
+                self.note_refusal(Addressee::Tenant(t), answer);
+            }
+            self.history.add_line(kernel);
+            self.events += 1;
+            rest = &rest[len..];
+        }
+        rest
+    }
+
+    /// Notes a request that was refused for want of frames.
+    fn note_refusal(&mut self, addressee: Addressee, answer: Answer<'_>)
+        ensures events { self.new.events ≡ self.old.events }
+        ensures lines { line_count self.new.history ≡ line_count self.old.history }
+    {
+        if let (Addressee::Tenant(t), Answer::Refused(Refusal::NoFrames)) = (addressee, answer) {
+            self.history.add_refusal(t);
+        }
+    }
+}
+
+impl Sink for Watched {
+    ghost use Rattle.std.specs.Prelude.{◌-◌};
+    ghost use Rattle.framemap.specs.Watching.{watches_first};
+
+    ghost does = { watches };
+
+    ghost does_first = { watches_first };
+
+    ghost leaves = { λ watched line watched'. watched' ≡ watched };
+
+    ghost lines_left = { λ watched. 2 ^ 64 - 1 - watched.events };
+
+    #[inline(always)]
+    fn quick_lines<'a, D: Drain>(
+        &mut self,
+        piece: &'a [u8],
+        returns: bool,
+        kernel: &mut Kernel,
+        _drain: &mut D,
+    ) -> Result<&'a [u8], Stopped> {
+        // It is no more than the type has.
+        let _events = self.events;
+        if returns {
+            Ok(self.watch_requests::<CR_LF>(piece, kernel))
+        } else {
+            Ok(self.watch_requests::<LF>(piece, kernel))
+        }
+    }
+
+    fn answered<D: Drain>(
+        &mut self,
+        _line: &[u8],
+        _event: &Event,
+        addressee: Addressee,
+        answer: Answer<'_>,
+        _drain: &mut D,
+    ) -> Result<(), Stopped> {
+        self.events += 1;
+        self.note_refusal(addressee, answer);
+        Ok(())
+    }
+
+    fn replied<D: Drain>(
+        &mut self,
+        _line: &[u8],
+        _event: &Event,
+        _kernel: &Kernel,
+        _drain: &mut D,
+    ) -> Result<(), Stopped> {
+        self.events += 1;
+        Ok(())
+    }
+
+    fn faulty<D: Drain>(
+        &mut self,
+        _fault: LineFault,
+        _front: &[u8],
+        _drain: &mut D,
+    ) -> Result<(), Stopped> {
+        Ok(())
+    }
+
+    fn blank(&mut self) {}
+
+    fn ran(&mut self, kernel: &Kernel) {
+        self.history.add_line(kernel);
+    }
+
+    fn unended(&mut self, _reading: Result<Option<Event>, LineFault>, _front: &[u8]) {}
+}
