@@ -230,7 +230,7 @@ fn replay_and_note(
             digest.add_bytes(format!(in alloc; "{refused}")?.as_bytes());
         }
     }
-    for line in notes.first().iter().flatten() {
+    for line in notes.first() {
         digest.add_bytes(format!(in alloc; "{line}")?.as_bytes());
     }
     Ok(())
