@@ -11,13 +11,14 @@
  *
  * The processor traps after each instruction while its trap flag is set, and the handler of that signal sees all registers.
  * So nothing of another process is read, which takes a fourth of the time of ptrace and no permission. The program runs with
- * address randomisation off; it is to be linked statically, so that each instruction stands at the same address in every run.
+ * address randomisation off; it is to be linked statically, so that each instruction has the same address in every run.
  *
  * The file "operands", if there is one in the working folder, has the memory operand of each instruction (as tests/same-path reads
- * them from a disassembly). An access to a block that boot took is told by the block's size (one more for a superblock) and the
- * offset in it. Where the size is a multiple of the number of superblocks (of a block that grew in boot, of the power of two from
- * there on) it is told by the offset in that part. Blocks and parts are numbered in each command as it meets them: so what is equal is equal but for the
- * numbers of superblocks. Other accesses are told by their addresses.
+ * them from a disassembly). Of an access to a block that boot took, the block's size (one more for a superblock) and the offset in
+ * it are hashed. If the size is a multiple of the number of superblocks (for a block that grew in boot, of the next power of two),
+ * the block has a part for each superblock, and the offset in the part is hashed. Blocks and parts are numbered in each command in
+ * the order of their first access, so equal hashes mean equal accesses but for the numbers of superblocks. Of other accesses the
+ * address is hashed.
  */
 #define _GNU_SOURCE /* registers by name */
 #include <fcntl.h>
@@ -169,14 +170,14 @@ static uint64_t told_of_address(uint64_t address)
     return mix(mix(block->size + block->is_superblock, met[part].number), offset % block->part_bytes);
 }
 
-/* a step at an address, which read or wrote what is told so */
-static void count_step(uint64_t at, uint64_t told)
+/* a step at an address, with the hash of what it read or wrote */
+static void count_step(uint64_t at, uint64_t touched)
 {
     now.path = mix(now.path, at);
-    if (told) now.data = mix(now.data, told);
+    if (touched) now.data = mix(now.data, touched);
     if (now.command == shown_command && now.steps < MOST_SHOWN) {
         shown[now.steps][0] = at;
-        shown[now.steps][1] = told;
+        shown[now.steps][1] = touched;
     }
     now.steps++;
 }
@@ -208,8 +209,8 @@ static void catch_traps(void)
 #define FOLLOW() __asm__ volatile("pushfq\n\torq $0x100, (%%rsp)\n\tpopfq" ::: "memory", "cc")
 #define LET_GO() __asm__ volatile("pushfq\n\tandq $~0x100, (%%rsp)\n\tpopfq" ::: "memory", "cc")
 
-/* What the C library copies and clears is followed inside where the row says so, and else told by its length, and by where what
- * it writes and reads begins: in 64 bytes, for the path, and in its block. */
+/* What the C library copies and clears is followed inside if the row says so. Else its length is hashed, and where what it writes
+ * and reads begins: in 64 bytes, for the path, and in its block. */
 static bool is_apart;
 
 static void tell_apart(const void *to, const void *from, size_t count)

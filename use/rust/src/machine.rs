@@ -148,7 +148,8 @@ impl Machine {
         Handle { stamp: self.stamps[tenant.0 as usize], moves: self.moves, at, tenant, place, bytes, kind }
     }
 
-    /// Allocates 2^order frames. They have what the tenant left there in page blocks since the grant, and zeroes otherwise.
+    /// Allocates 2^order frames. A frame has what the tenant left there in a page block since the grant. If it was in none since
+    /// then, or in a slab after that, it has zeroes.
     pub fn alloc(&self, tenant: Tenant, order: u32) -> Result<Block, Error> {
         let lent = result(|lent| unsafe { sys::partmem_alloc(self.of(tenant), order, lent) })?;
         Ok(self.hold(tenant, lent, PageBlock(())))
