@@ -1,5 +1,7 @@
 //! The picture of a trace beside that of its lines, each read the long way; and the limit on lines.
 
+ghost use Rattle.std.specs.Prelude.{◌≡◌, IfOk};
+
 use crate::line_limit::LineLimit;
 use crate::run::watch;
 use crate::watched::Watched;
@@ -41,7 +43,9 @@ const PARTS: [&[u8]; 24] = [
 ];
 
 /// A machine of three tenants, of which no line has been run.
-fn start(alloc: Global) -> Result<(Kernel, Watched), AllocError> {
+fn start(alloc: Global) -> Result<(Kernel, Watched), AllocError>
+    ensures { IfOk result (λ started. started.1.events ≡ 0) }
+{
     let config = Config {
         order: 3,
         superblocks: 4,
