@@ -6,7 +6,7 @@ use Rattle.kernel_core.specs.Content.{KernelContent}
 use Rattle.frame_picture.specs.Histories.{line_count}
 use Rattle.framemap.specs.declared.watched.Watched.{Watched}
 
--- nothing comes of the line, its event is counted, and the history has so many lines more
+-- the line writes nothing, its event is counted, and the history gets `more` lines
 pub record WatchesLine (more : ℕ) (s : Watched × KernelContent) (line taken rest : List ℕ) (s' : Watched × KernelContent) : Type 0 where
   pub silent : taken ≡ []
   pub whole : rest ≡ []
