@@ -1,5 +1,5 @@
 # What one can do here; `make` lists it.
-.PHONY: list try prove test test-quick install bench soak
+.PHONY: list try prove test test-quick install release bench soak
 PREFIX ?= out/installed
 
 list: ; @sed -n "s/^\([a-z-]*\): ## /make \1\t/p" Makefile | expand -t 18
@@ -13,6 +13,8 @@ test-quick: ## what can be checked without proofs
 	tests/quick
 install: ## proves, builds and installs under PREFIX (out/installed)
 	./install $(PREFIX)
+release: ## makes a release of what the gate has passed
+	./release
 bench: ## measures the proved program
 	bench/run
 soak: ## random pairs of worlds, for ten minutes
