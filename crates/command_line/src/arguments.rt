@@ -13,7 +13,7 @@ use model_core::limits::{LEAST_ORDER, MOST_ORDER, MOST_SUPERBLOCKS, MOST_TENANTS
 use std::alloc::{AllocError, Global};
 
 /// What `--version` tells.
-const VERSION: &str = "1.0.0";
+const VERSION: &str = "2.0.0";
 
 /// What a program that runs a trace tells of itself.
 #[derive(Clone, Copy, Debug)]
