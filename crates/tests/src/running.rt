@@ -1,8 +1,5 @@
 //! A trace on a new machine, between ends over memory.
 
-ghost use Rattle.std.specs.Prelude.{◌≡◌, ◌<◌, ◌==◌, length, position, IfSome};
-ghost use Rattle.world_core.specs.Output.{line_feed};
-
 use crate::pieces::{PieceDrain, in_pieces, taking};
 use crate::tables::MACHINE;
 use kernel_core::{Config, Kernel};
@@ -56,12 +53,4 @@ pub fn run(alloc: Global, trace: &[u8]) -> Result<(Kernel, Vec<u8>), Fail> {
     let mut kernel = Kernel::boot(alloc, MACHINE)?;
     let replies = written_by(alloc, &mut kernel, trace)?;
     Ok((kernel, replies))
-}
-
-/// The place of the first line feed.
-pub fn line_end(bytes: &[u8]) -> Option<usize>
-    ensures first { result ≡ position (λ b. b == line_feed) bytes.now }
-    ensures within { IfSome result (λ end. end < length bytes.now) }
-{
-    bytes.iter().position(|byte| *byte == b'\n')
 }

@@ -3,10 +3,12 @@
 ghost use Rattle.std.specs.Prelude.{◌≡◌, false, IfOk};
 
 use crate::pieces::{in_pieces, taking};
-use crate::running::{ALL, line_end};
+use crate::running::ALL;
 use crate::tables::MACHINE;
 use kernel_core::Kernel;
-use replay_core::{Drain, Feed, ReaderFeed, ReplayError, Tally, WriterDrain, push_all, replay};
+use replay_core::{
+    Drain, Feed, ReaderFeed, ReplayError, Tally, WriterDrain, line_end, push_all, replay,
+};
 use std::alloc::Global;
 use std::cell::Cell;
 use std::io::{self, ErrorKind, Read, Write};

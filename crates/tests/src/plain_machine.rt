@@ -3,15 +3,19 @@
 ghost use Rattle.std.specs.Prelude.{◌≤◌};
 ghost use Rattle.kernel_core.specs.Steps.{HasPattern};
 
-use crate::machine::{Machine, TENANTS};
+mod machine;
+mod slab;
+mod tenant;
+
 use crate::numbers::Numbers;
-use crate::slab::{CUTS, FRAME_BYTES};
-use crate::tenant::{PATTERN, SLOTS};
 use arrayvec::ArrayVec;
 use kernel_core::{Config, Kernel};
+use machine::{Machine, TENANTS};
+use slab::{CUTS, FRAME_BYTES};
 use std::alloc::Global;
 use std::process::Abort;
 use std::test::Fail;
+use tenant::{PATTERN, SLOTS};
 use words_core::{AdminCommand, Body, CACHES, Command, Event};
 
 /// The kernel, the plain machine, and how often which kind of reply was given.

@@ -2,7 +2,7 @@
 
 ghost use Rattle.std.specs.Prelude.{◌≤◌};
 
-use crate::tenant::{SLOTS, Tenant, refused};
+use crate::plain_machine::tenant::{SLOTS, Tenant, refused};
 use arrayvec::ArrayVec;
 use model_core::owner::Owner;
 use std::alloc::{AllocError, Global};

@@ -1,10 +1,10 @@
 //! Worked traces and long lines whose feed or drain fails, at each call of it.
 
 use crate::pieces::{in_pieces, taking};
-use crate::running::{ALL, WHOLE, line_end};
+use crate::running::{ALL, WHOLE};
 use crate::tables::{MACHINE, Table, tables};
 use kernel_core::Kernel;
-use replay_core::{ReplayError, Tally, replay};
+use replay_core::{ReplayError, Tally, line_end, replay};
 use std::process::Abort;
 use std::test::Fail;
 

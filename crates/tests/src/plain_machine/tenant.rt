@@ -3,7 +3,7 @@
 
 ghost use Rattle.std.specs.Prelude.{◌≤◌};
 
-use crate::slab::{Cut, FRAME_BYTES, Kind, Slab, cut_of};
+use crate::plain_machine::slab::{Cut, FRAME_BYTES, Kind, Slab, cut_of};
 use arrayvec::ArrayVec;
 use model_core::report::{CacheRow, OrderRow};
 use std::alloc::{AllocError, Global};

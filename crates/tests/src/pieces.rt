@@ -1,7 +1,7 @@
 //! A feed and a drain over memory, in pieces, each of which can fail.
 
 ghost use Rattle.std.specs.Prelude.{◌≡◌, ◌≤◌, true, false, [], length};
-ghost use Rattle.traces.specs.declared.pieces.TheConstants.{ROOM};
+ghost use Rattle.tests.specs.declared.pieces.TheConstants.{ROOM};
 
 use replay_core::{Drain, Feed, Stopped};
 use streams::{TEXT_BYTES, Text};

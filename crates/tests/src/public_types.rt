@@ -2,7 +2,7 @@
 //!
 //! A generic function, and one that returns a borrow, is called with its types written out, since the prover does not follow a
 //! pointer to it.
-//! `traces::pieces` has a feed and a drain, with all methods of these traits.
+//! `pieces` has a feed and a drain, with all methods of these traits.
 
 ghost use Rattle.std.specs.Prelude.{◌≡◌, false};
 

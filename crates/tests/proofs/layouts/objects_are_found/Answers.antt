@@ -2,7 +2,7 @@ use Rattle.std.proofs.Common.{◌≡◌, ◌<◌, refl, subst, sym, arith}
 use Rattle.model_core.specs.Layouts.{layout_of}
 use Rattle.layout_core.specs.Cut.{Cut, cut, numbers_of}
 use Rattle.layout_core.specs.Objects.{IsColour}
-use Rattle.trials.proofs.layouts.objects_are_found.Goals as goal
+use Rattle.tests.proofs.layouts.objects_are_found.Goals as goal
 
 second_colour : IsColour (cut 100 8) 8
 unfolding layout_of

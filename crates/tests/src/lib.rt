@@ -1,0 +1,36 @@
+//! Tests across the libraries: traces on new machines with what they write, ends that fail, lines of every kind, pairs of worlds,
+//! the kernel beside a plain machine, and the public functions with their types and fixed values.
+#![tactic(auto)]
+
+#[cfg(test)]
+mod built_traces;
+#[cfg(test)]
+mod command_lines;
+#[cfg(test)]
+mod failing_at_each_call;
+#[cfg(test)]
+mod failing_ends;
+#[cfg(test)]
+mod hostile_lines;
+#[cfg(test)]
+mod kernel_parts;
+#[cfg(test)]
+mod layouts;
+#[cfg(test)]
+mod machine_memory;
+pub mod numbers;
+#[cfg(test)]
+mod pairs_of_worlds;
+pub mod pieces;
+#[cfg(test)]
+mod plain_machine;
+#[cfg(test)]
+mod public_types;
+#[cfg(test)]
+mod running;
+#[cfg(test)]
+mod short_lines;
+#[cfg(test)]
+mod tables;
+#[cfg(test)]
+mod worked_traces;
