@@ -36,20 +36,34 @@ def caches(draw, tenants):
     return [f'{t} cache {size} 8 {draw.randbytes(draw.choice((1, 4, 8))).hex()}' for t in range(tenants) for size in SIZES]
 
 
+def alloc(draw, tenant):
+    """Mostly a small block."""
+    order = draw.choices((0, 1, 2, 3), (8, 4, 2, 1))[0]
+    return tenant, f'{tenant.number} alloc {order}', order
+
+
+def free(draw, tenant):
+    frame, order = tenant.drop(tenant.blocks, draw)
+    tenant.used -= 1 << order
+    return tenant, f'{tenant.number} free {frame}', None
+
+
+def take(tenant, cache):
+    return tenant, f'{tenant.number} take {cache}', cache
+
+
+def give(draw, tenant):
+    cache, place = tenant.drop(tenant.objects, draw)
+    return tenant, f'{tenant.number} give {cache} {place}', None
+
+
 def pages(draw, tenants):
     """Blocks of order 0 to 3, mostly small, about half of each tenant's frames, freed in any order."""
     for tenant in draw.choices(tenants, k=BATCH):
         if draw.random() < (.6 if tenant.used < tenant.frames // 2 else .4) or not tenant.blocks:
-            order = draw.choices((0, 1, 2, 3), (8, 4, 2, 1))[0]
-            yield tenant, f'{tenant.number} alloc {order}', order
+            yield alloc(draw, tenant)
         else:
-            frame, order = tenant.drop(tenant.blocks, draw)
-            tenant.used -= 1 << order
-            yield tenant, f'{tenant.number} free {frame}', None
-
-
-def took(tenant, cache):
-    return tenant, f'{tenant.number} take {cache}', cache
+            yield free(draw, tenant)
 
 
 def objects(draw, tenants):
@@ -58,27 +72,25 @@ def objects(draw, tenants):
         if draw.random() < .0005:
             yield tenant, f'{tenant.number} reap', None
         elif draw.random() < (.6 if len(tenant.objects) < tenant.frames // 2 else .4) or not tenant.objects:
-            yield took(tenant, draw.randrange(len(SIZES)))
+            yield take(tenant, draw.randrange(len(SIZES)))
         else:
-            cache, place = tenant.drop(tenant.objects, draw)
-            yield tenant, f'{tenant.number} give {cache} {place}', None
+            yield give(draw, tenant)
 
 
 def scattered(draw, tenants):
     """Small objects that use most frames, given back all over them: each cache has hundreds of partial slabs."""
     for tenant in draw.choices(tenants, k=BATCH):
         if draw.random() < (.9 if len(tenant.objects) < tenant.frames * 5 else .5) or not tenant.objects:
-            yield took(tenant, draw.choice((4, 5, 6)))
+            yield take(tenant, draw.choice((4, 5, 6)))
         else:
-            cache, place = tenant.drop(tenant.objects, draw)
-            yield tenant, f'{tenant.number} give {cache} {place}', None
+            yield give(draw, tenant)
 
 
 def transfers(draw, tenants):
     """1 to 64 bytes read or written in live objects and blocks, as often as not the least or the greatest number of them."""
     for tenant in draw.choices(tenants, k=BATCH):
         if len(tenant.objects) < 20:
-            yield took(tenant, draw.randrange(len(SIZES)))
+            yield take(tenant, draw.randrange(len(SIZES)))
         elif len(tenant.blocks) < 20:
             yield tenant, f'{tenant.number} alloc 0', 0
         else:
@@ -97,17 +109,13 @@ def mixed(draw, tenants):
         few = len(tenant.objects) + tenant.used < tenant.frames // 2
         if draw.random() < (.55 if few else .4) or not tenant.objects or not tenant.blocks:
             if draw.random() < .5:
-                order = draw.choices((0, 1, 2, 3), (8, 4, 2, 1))[0]
-                yield tenant, f'{tenant.number} alloc {order}', order
+                yield alloc(draw, tenant)
             else:
-                yield took(tenant, WHOLE if draw.random() < .31 else draw.randrange(len(SIZES)))
+                yield take(tenant, WHOLE if draw.random() < .31 else draw.randrange(len(SIZES)))
         elif draw.random() < .5:
-            frame, order = tenant.drop(tenant.blocks, draw)
-            tenant.used -= 1 << order
-            yield tenant, f'{tenant.number} free {frame}', None
+            yield free(draw, tenant)
         else:
-            cache, place = tenant.drop(tenant.objects, draw)
-            yield tenant, f'{tenant.number} give {cache} {place}', None
+            yield give(draw, tenant)
 
 
 FAULTS = ('frobnicate 1', '{} alloc', '{} allot 1', '{} free x', '{} write 0 0', '{} alloc 0 0', '{} take 12345678901', '{} alloc 9')
