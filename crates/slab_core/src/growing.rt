@@ -61,40 +61,13 @@ impl Slabs {
             return None;
         }
         self.give_back_all(space, buddy, t);
-        self.make_slab_apart(space, buddy, t, c, cache)
-    }
-
-    /// [`Slabs::make_slab`], where it is seldom needed: its code stands once more by itself.
-    #[cold]
-    #[inline(never)]
-    fn make_slab_apart(
-        &mut self,
-        space: &mut Space,
-        buddy: &mut Buddy,
-        t: u8,
-        c: u32,
-        cache: &Cache,
-    ) -> Option<(u32, u32)>
-        requires tenant { t < length space.old.slots }
-        requires agree { Agree space.old buddy.old self.old }
-        requires cache { cache_at self.old t c ≡ Some cache.now }
-        ensures chosen { (m : Machine) → ShowsMachine space.old buddy.old self.old t m
-            → choice self.old.top m (layout_numbers cache.now).order ≡ option_map (λ o. o.0) result }
-        ensures shows { IfSome result (λ o. (m : Machine) (x : machines.Cache) → ShowsMachine space.old buddy.old self.old t m → cache_of m c ≡ Some x
-            → ShowsMachine space.new buddy.new self.new t (grown o.0 x m)) }
-        ensures grown { IfSome result (λ o. IsGrown space.old space.new buddy.old buddy.new self.old self.new t c cache.now o.0 o.1) }
-        ensures free { IsSome result ↔ HasFreeBlock buddy.old t (layout_numbers cache.now).order }
-        ensures spares { Spares t space.old space.new buddy.old buddy.new self.old self.new }
-        ensures agree { Agree space.new buddy.new self.new }
-        ensures refused { IfNone result ((space.new ≡ space.old) × ((buddy.new ≡ buddy.old) × (self.new ≡ self.old))) }
-    {
         self.make_slab(space, buddy, t, c, cache)
     }
 
     /// Makes the next slab of cache `c` of tenant `t` on a free block, and answers its first frame and its node. None, and
     /// nothing changed, where no block is free that is large enough: no slab is given back for it.
     #[inline(always)]
-    pub(crate) fn make_slab(
+    fn make_slab(
         &mut self,
         space: &mut Space,
         buddy: &mut Buddy,

@@ -48,7 +48,7 @@ returns-then-order-clause-chosen c =
           need_none x.self.now.top (layout_numbers x.cache.now).order m (c.in_default.ensures.chosen m h) (sym same ∙ w.if-not-fits_by_need.true)
     ]
 
-returned : (c : goal.After-make_slab_apart) → IsReturned c.args.space.now c.give_back_all.new.space c.args.buddy.now c.give_back_all.new.buddy
+returned : (c : goal.After-make_slab-2) → IsReturned c.args.space.now c.give_back_all.new.space c.args.buddy.now c.give_back_all.new.buddy
     c.args.self.now c.give_back_all.new.self c.args.t (idle_at (λ i. true) c.args.space.now c.args.self.now c.args.t)
 returned c =
     unmoved
@@ -61,24 +61,24 @@ returns-clause-chosen c =
     let x = c.args in
     chosen_by_need x.space.now c.give_back_all.new.space x.buddy.now c.give_back_all.new.buddy x.self.now c.give_back_all.new.self x.t
     c.laws_with.ensures.parts.slabs c.requires.agree c.laws_with.ensures.steady (returned c)
-    c.make_slab_apart.new.space c.make_slab_apart.new.buddy c.make_slab_apart.new.self x.c (layout_numbers x.cache.now).order c.requires.full c.make_slab_apart.result
-    c.in_default.ensures.chosen c.make_slab_apart.ensures.chosen
+    c.make_slab-2.new.space c.make_slab-2.new.buddy c.make_slab-2.new.self x.c (layout_numbers x.cache.now).order c.requires.full c.make_slab-2.result
+    c.in_default.ensures.chosen c.make_slab-2.ensures.chosen
 
 pub returns-clause-shows : goal.returns-clause-shows
 returns-clause-shows c =
     let x = c.args in
     grown_by_need x.space.now c.give_back_all.new.space x.buddy.now c.give_back_all.new.buddy x.self.now c.give_back_all.new.self x.t
     c.laws_with.ensures.parts.slabs c.requires.agree c.laws_with.ensures.steady (returned c)
-    c.make_slab_apart.new.space c.make_slab_apart.new.buddy c.make_slab_apart.new.self x.c (layout_numbers x.cache.now).order c.requires.full c.make_slab_apart.result
-    c.in_default.ensures.chosen c.make_slab_apart.ensures.chosen c.make_slab_apart.ensures.shows
+    c.make_slab-2.new.space c.make_slab-2.new.buddy c.make_slab-2.new.self x.c (layout_numbers x.cache.now).order c.requires.full c.make_slab-2.result
+    c.in_default.ensures.chosen c.make_slab-2.ensures.chosen c.make_slab-2.ensures.shows
 
 pub returns-clause-spares : goal.returns-clause-spares
 returns-clause-spares c =
     let x = c.args in
-    spares_twice x.space.now c.make_slab.new.space c.make_slab_apart.new.space x.buddy.now c.make_slab.new.buddy c.make_slab_apart.new.buddy
-    x.self.now c.make_slab.new.self c.make_slab_apart.new.self x.t c.make_slab.ensures.spares
-    (spares_twice c.make_slab.new.space c.give_back_all.new.space c.make_slab_apart.new.space c.make_slab.new.buddy c.give_back_all.new.buddy c.make_slab_apart.new.buddy
-    c.make_slab.new.self c.give_back_all.new.self c.make_slab_apart.new.self x.t (rw c.fits_by_need.ensures.same at c.give_back_all.ensures.spares) c.make_slab_apart.ensures.spares)
+    spares_twice x.space.now c.make_slab.new.space c.make_slab-2.new.space x.buddy.now c.make_slab.new.buddy c.make_slab-2.new.buddy
+    x.self.now c.make_slab.new.self c.make_slab-2.new.self x.t c.make_slab.ensures.spares
+    (spares_twice c.make_slab.new.space c.give_back_all.new.space c.make_slab-2.new.space c.make_slab.new.buddy c.give_back_all.new.buddy c.make_slab-2.new.buddy
+    c.make_slab.new.self c.give_back_all.new.self c.make_slab-2.new.self x.t (rw c.fits_by_need.ensures.same at c.give_back_all.ensures.spares) c.make_slab-2.ensures.spares)
 
 pub returns-clause-refused : goal.returns-clause-refused
 returns-clause-refused c =
@@ -88,6 +88,6 @@ returns-clause-refused c =
     (unmoved (λ r b s. HasRoom r b s x.t c.order-order.result)
     x.space.now c.make_slab.new.space x.buddy.now c.make_slab.new.buddy x.self.now c.make_slab.new.self c.in_default.ensures.refused
     (c.fits_by_need.ensures.room.0 c.if-not-fits_by_need.false)) in
-    is_there _ c.make_slab_apart.result
-    (c.make_slab_apart.ensures.free.1 (room_free x.space.now c.give_back_all.new.space x.buddy.now c.give_back_all.new.buddy x.self.now c.give_back_all.new.self x.t
+    is_there _ c.make_slab-2.result
+    (c.make_slab-2.ensures.free.1 (room_free x.space.now c.give_back_all.new.space x.buddy.now c.give_back_all.new.buddy x.self.now c.give_back_all.new.self x.t
     (layout_numbers x.cache.now).order c.laws_with.ensures.steady (returned c) c.give_back_all.ensures.agree room))
