@@ -3,7 +3,7 @@
 ghost use Rattle.std.specs.Prelude.{◌≡◌, ◌<◌, IfOk, true, false};
 ghost use Rattle.model_core.specs.Layouts.{is_pattern};
 ghost use Rattle.machine_changes.specs.Changes.{Found};
-ghost use Rattle.machine_changes.specs.Objects.{IsObject};
+ghost use Rattle.machine_changes.specs.Objects.{IsLiveObject};
 ghost use Rattle.words_core.specs.Requests.{body_of_answer, HasFewBytes, tells_bytes};
 ghost use Rattle.words_core.specs.declared.event.Command.TheVariants as Command;
 ghost use Rattle.words_core.specs.declared.reply.Body.TheVariants.{Destroyed, Object, Given, Reaped};
@@ -62,7 +62,7 @@ impl Kernel {
     pub(crate) fn take(&mut self, t: u8, cache: u32) -> Result<u32, Refusal>
         requires { t < self.old.tenants }
         ensures steps { StepsMachine self.old t (Command.Take cache) self.new (body_of Object result) }
-        ensures object { IfOk result (λ place. (o : Found) × IsObject self.new.space self.new.slabs t cache place o) }
+        ensures object { IfOk result (λ place. (o : Found) × IsLiveObject self.new.space self.new.slabs t cache place o) }
     {
         Ok(self.slabs.take(&mut self.space, &mut self.buddy, t, cache)?)
     }

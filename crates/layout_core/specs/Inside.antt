@@ -13,12 +13,12 @@ pub record AreLayoutFields (size align chunk order count colours : ℕ) : Type 0
   pub sized : size ≤ chunk
 
 -- 16 bytes that begin with these and go on with zeroes
-abbrev pub padded : List ℕ → List ℕ
-padded xs = take 16 (xs ++ replicate 16 0)
+abbrev pub padded_to_16 : List ℕ → List ℕ
+padded_to_16 xs = take 16 (xs ++ replicate 16 0)
 
 -- the fields of a `Pattern`: 16 bytes, of which all behind the first `len` are 0
 pub record IsHeld (bytes : List ℕ) (len : ℕ) : Type 0 where
   pub some : 0 < len
   pub few : len ≤ 16
-  pub padding : padded (take len bytes) ≡ bytes
+  pub padding : padded_to_16 (take len bytes) ≡ bytes
   pub taken : length (take len bytes) ≡ len

@@ -12,7 +12,7 @@ pub struct Pattern {
 
 impl Model for Pattern {
     ghost use Rattle.std.specs.Prelude.{ℕ, List, take, length};
-    ghost use Rattle.layout_core.specs.Inside.{IsHeld, padded};
+    ghost use Rattle.layout_core.specs.Inside.{IsHeld, padded_to_16};
 
     ghost Value = { List ℕ };
 
@@ -20,7 +20,7 @@ impl Model for Pattern {
 
     ghost invariant = { λ p. IsHeld p.bytes p.len };
 
-    ghost inverse = { λ xs. record { bytes = padded xs; len = length xs } };
+    ghost inverse = { λ xs. record { bytes = padded_to_16 xs; len = length xs } };
 
     ghost inverse_ok = { λ p h. λ i. record { bytes = h.padding i; len = h.taken i } };
 }

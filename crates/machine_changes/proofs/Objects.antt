@@ -19,7 +19,7 @@ use Rattle.slab_tables.specs.Content.{Content, kept_at, layout_numbers}
 use Rattle.machine_changes.specs.Shows.{is_live, IsSlab, ShowsMachine}
 use Rattle.machine_changes.specs.Steady.{IsSteady}
 use Rattle.machine_changes.specs.Changes.{Found, found}
-use Rattle.machine_changes.specs.Objects.{IsObject, IsNoObject}
+use Rattle.machine_changes.specs.Objects.{IsLiveObject, IsNoObject}
 use Rattle.machine_changes.specs.Laws.{FoundGives, NotFoundRefuses}
 use Rattle.machine_changes.proofs.Lookups.{some_same, in_found}
 use Rattle.machine_changes.proofs.Facts.{one_slab, cache_shown, slab_in, slab_of_machine}
@@ -81,7 +81,7 @@ module _ (r : spaces.Content) (b : buddies.Content) (s : Content) (t c : ℕ) (s
     pub first : u.first ≡ o.first
     pub index : u.index ≡ o.index
 
-  pub one_object : (place : ℕ) (o u : Found) → IsObject r s t c place o → IsObject r s t c place u → IsOneObject o u
+  pub one_object : (place : ℕ) (o u : Found) → IsLiveObject r s t c place o → IsLiveObject r s t c place u → IsOneObject o u
   one_object place o u is also =
       let fit = fit_of o.first o.node o.cache is.slab in
       let first : u.first ≡ o.first =
@@ -106,7 +106,7 @@ module _ (r : spaces.Content) (b : buddies.Content) (s : Content) (t c : ℕ) (s
     pub record IsObjectKept (place : ℕ) (x : Cache) (w : LiveObject) : Type 0 where
       pub kept : own.Cache
       pub node : ℕ
-      pub object : IsObject r s t c place (found kept w.slab.first node w.index)
+      pub object : IsLiveObject r s t c place (found kept w.slab.first node w.index)
       pub standing : slab_of x w.slab.first ≡ Some w.slab
 
     pub object_kept : (place : ℕ) (x : Cache) (w : LiveObject) → cache_of m c ≡ Some x → IsIn w (live_objects x) → w.place ≡ place → IsObjectKept place x w
@@ -152,7 +152,7 @@ module _ (r : spaces.Content) (b : buddies.Content) (s : Content) (t c : ℕ) (s
       pub listed : IsIn (object_of cache slab o.index) (live_objects cache)
       pub begins : object_place (layout cache) slab.first slab.colour o.index ≡ object_place (layout_numbers o.cache) o.first (kept_at s.kept o.node).colour o.index
 
-    pub object_in : (place : ℕ) (o : Found) → IsObject r s t c place o → IsObjectIn o
+    pub object_in : (place : ℕ) (o : Found) → IsLiveObject r s t c place o → IsObjectIn o
     object_in place o is =
         let there = slab_in r b s t m h c o.first o.node o.cache is.slab in
         let x = there.there.shown in

@@ -19,7 +19,7 @@ use Rattle.machine_changes.specs.Records.{count_true}
 use Rattle.machine_changes.specs.Keeps.{Keeps}
 use Rattle.machine_changes.specs.Steady.{IsSteady}
 use Rattle.machine_changes.specs.Changes.{Found, IsMarked, IsReturned, IsGrown, returned}
-use Rattle.machine_changes.specs.Objects.{IsObject, IsNoObject, Standing, IsToUse, IsAllFull}
+use Rattle.machine_changes.specs.Objects.{IsLiveObject, IsNoObject, Standing, IsToUse, IsAllFull}
 use Rattle.machine_changes.specs.Room.{HasRoom}
 
 -- parts that keep all that a tenant has show the same machine of it
@@ -73,7 +73,7 @@ TakeMakes = (r : spaces.Content) (b : buddies.Content) (s : Content) (t c : ℕ)
     → slab_to_use (find is_partial x.slabs) (find is_empty x.slabs) ≡ None
 
 -- giving back object `index` of a slab of cache c, which begins at the place
-pub record Gives (m : Machine) (c place index first : ℕ) : Type 0 where
+pub record GivesObject (m : Machine) (c place index first : ℕ) : Type 0 where
   pub cache : Cache
   pub slab : Slab
   pub cached : cache_of m c ≡ Some cache
@@ -83,7 +83,7 @@ pub record Gives (m : Machine) (c place index first : ℕ) : Type 0 where
 -- a live object that begins at the place is the one that a give gives back
 abbrev pub FoundGives : Type 0
 FoundGives = (r : spaces.Content) (b : buddies.Content) (s : Content) (t c place : ℕ) (o : Found) (m : Machine)
-    → IsSteady r b s t → ShowsMachine r b s t m → IsObject r s t c place o → Gives m c place o.index o.first
+    → IsSteady r b s t → ShowsMachine r b s t m → IsLiveObject r s t c place o → GivesObject m c place o.index o.first
 
 -- where none begins there, a give is refused
 abbrev pub NotFoundRefuses : Type 0

@@ -10,7 +10,7 @@ use Rattle.machine_changes.specs.Shows.{IsSlab, is_live}
 use Rattle.machine_changes.specs.Changes.{Found}
 
 -- o is a live object of cache c of tenant t, and begins at this place
-pub record IsObject (r : spaces.Content) (s : Content) (t c place : ℕ) (o : Found) : Type 0 where
+pub record IsLiveObject (r : spaces.Content) (s : Content) (t c place : ℕ) (o : Found) : Type 0 where
   pub slab : IsSlab r s t c o.first o.node o.cache
   pub index : o.index < (layout_numbers o.cache).count
   pub live : is_live r t o.cache (kept_at s.kept o.node) o.first o.index ≡ true
@@ -18,7 +18,7 @@ pub record IsObject (r : spaces.Content) (s : Content) (t c place : ℕ) (o : Fo
 
 -- no live object of the cache begins there
 abbrev pub IsNoObject : spaces.Content → Content → ℕ → ℕ → ℕ → Type 0
-IsNoObject r s t c place = (o : Found) → IsObject r s t c place o → ⊥
+IsNoObject r s t c place = (o : Found) → IsLiveObject r s t c place o → ⊥
 
 -- a slab of a cache: its first frame and its node
 pub record Standing : Type 0 where
@@ -39,7 +39,7 @@ IsAllFull s t c = IsEmpty s.lists.places (head_of t c (kind_number Partial)) × 
 pub record HasRange (r : spaces.Content) (s : Content) (t place len : ℕ) (o : Found) : Type 0 where
   pub number : ℕ
   pub begin : ℕ
-  pub object : IsObject r s t number begin o
+  pub object : IsLiveObject r s t number begin o
   pub some : 0 < len
   pub from : begin ≤ place
   pub to : place + len ≤ begin + o.cache.layout.size

@@ -10,7 +10,7 @@ use Rattle.model_core.specs.Operations.{without_block, written}
 use Rattle.model_core.specs.Reach.{in_reach}
 use Rattle.space_core.specs.Content as spaces
 use Rattle.space_core.specs.Windows.{home_of, with_window, byte_at}
-use Rattle.space_core.specs.Laws.{IsRead, SpaceLaws}
+use Rattle.space_core.specs.Laws.{AreBytesAt, SpaceLaws}
 use Rattle.buddy_core.specs.Content as buddies
 use Rattle.slab_tables.specs.declared.cache.Cache as own
 use Rattle.slab_tables.specs.Content.{Content, IsSlabs, kept_at, layout_numbers}
@@ -81,7 +81,7 @@ ReachBytes = (r : spaces.Content) (b : buddies.Content) (s : Content) (t place l
 abbrev pub ReachReads : Type 0
 ReachReads = (r : spaces.Content) (b : buddies.Content) (s : Content) (t place len : ℕ) (bytes : List ℕ) (m : Machine)
     → IsSteady r b s t → ShowsMachine r b s t m → IsInReach r b s t place len
-    → IsRead r t place len bytes → filter_map m.bytes (range_with_len place len) ≡ bytes
+    → AreBytesAt r t place len bytes → filter_map m.bytes (range_with_len place len) ≡ bytes
 
 -- the memory with these bytes of tenant t written from a place on
 abbrev pub stored : ℕ → ℕ → List ℕ → spaces.Content → spaces.Content

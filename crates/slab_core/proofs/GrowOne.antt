@@ -19,7 +19,7 @@ use Rattle.buddy_core.specs.Content as buddies
 use Rattle.buddy_core.proofs.Holdings.{own_holding, taken-with_block}
 use Rattle.slab_tables.specs.declared.cache.Cache as own
 use Rattle.slab_tables.specs.Content.{Content, IsSlabs, kept_at, cache_in, cache_at, index_of_cache, head_of, layout_numbers}
-use Rattle.slab_tables.specs.Changes.{fresh_kept, made_more, with_slab}
+use Rattle.slab_tables.specs.Changes.{fresh_kept, made_more, with_new_slab}
 use Rattle.machine_changes.specs.Records.{is_set, count_true, flags_from}
 use Rattle.machine_changes.specs.Shows.{frame_under, node_of, is_inside, record_byte, byte_or_zero, is_live, live_of, IsSlab, IsAgreed, Agree, ShowsMachine}
 use Rattle.machine_changes.specs.Keeps.{Spares}
@@ -191,10 +191,10 @@ module _ {r : spaces.Content} {b : buddies.Content} {s : Content} {t c : ℕ} {c
   among : index_of_cache t c < length s.caches
   among = among_all r b s t c a chosen.tenant small
 
-  pub kept_now : kept_at (with_slab s t c cache f n).kept n ≡ fresh_kept cache
+  pub kept_now : kept_at (with_new_slab s t c cache f n).kept n ≡ fresh_kept cache
   kept_now = get_or-set_same s.kept n (fresh_kept cache) _ (subst (λ l. n < l) (sym w.paired) node_within)
 
-  placed_now : place_at (with_slab s t c cache f n).lists.places n ≡ Some (head_of t c 2, f)
+  placed_now : place_at (with_new_slab s t c cache f n).lists.places n ≡ Some (head_of t c 2, f)
   placed_now = get_or-set_same s.lists.places n (Some (head_of t c 2, f)) None node_within
 
   abbrev pub reserved : buddies.Content
@@ -211,7 +211,7 @@ module _ {r : spaces.Content} {b : buddies.Content} {s : Content} {t c : ℕ} {c
   module _ {r' : spaces.Content}
       (built : IsConstructed r r' t cache f (fresh_kept cache).colour (layout_numbers cache).count) where
     abbrev s' : Content
-    s' = with_slab s t c cache f n
+    s' = with_new_slab s t c cache f n
 
     -- each object is found by one division
     constructed : (place : ℕ) → is_inside place f cache ≡ true

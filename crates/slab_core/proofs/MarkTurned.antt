@@ -7,7 +7,7 @@ use Rattle.std.proofs.lemmas.List.{length-set, get_or-set_same, get_or-set_other
 use Rattle.std.proofs.lemmas.Nat.{one_shl}
 use Rattle.model_core.specs.Layouts.{is_small}
 use Rattle.space_core.specs.Content as spaces
-use Rattle.space_core.specs.Laws.{SpaceLaws, IsSameFor, SpareStays, IsRead}
+use Rattle.space_core.specs.Laws.{SpaceLaws, IsSameFor, SpareStays, AreBytesAt}
 use Rattle.space_core.specs.Windows.{byte_at, with_byte, home_of, with_window}
 use Rattle.slab_tables.specs.declared.cache.Cache as own
 use Rattle.slab_tables.specs.declared.cache.Kept.{Kept}
@@ -91,7 +91,7 @@ module _ (r : spaces.Content) (s : Content) (t : ℕ) (o : Found) where
   -- .. where the whole record was lent
   module _ (after : spaces.Content) (laws : SpaceLaws r) (few : o.index < 256) (small : is_small (layout_numbers o.cache).chunk ≡ true) (place : ℕ)
       (at : place ≡ 4096 * o.first + 4064) (home : IsSome (home_of r t place 32)) (k : IsRecordRaised r after t place o.index) where
-    read : IsRead r t place 32 k.before
+    read : AreBytesAt r t place 32 k.before
     read = laws.own_bytes.read t place 32 k.before k.read
 
     abbrev byte : ℕ

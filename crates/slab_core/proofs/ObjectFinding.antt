@@ -13,7 +13,7 @@ use Rattle.slab_tables.specs.declared.cache.Cache as own
 use Rattle.slab_tables.specs.Content.{Content, IsSlabs, kept_at, cache_at, index_of_cache, layout_numbers}
 use Rattle.machine_changes.specs.Shows.{node_of, is_of_cache, is_live, Agree}
 use Rattle.machine_changes.specs.Changes.{Found, found}
-use Rattle.machine_changes.specs.Objects.{IsObject, IsNoObject}
+use Rattle.machine_changes.specs.Objects.{IsLiveObject, IsNoObject}
 use Rattle.machine_changes.proofs.Lookups.{some_none, some_same}
 use Rattle.slab_core.proofs.ObjectSlabs.{held}
 
@@ -44,7 +44,7 @@ object_within l colour i fit less =
 module _ (r : spaces.Content) (b : buddies.Content) (s : Content) (t c place : ℕ) (cache : own.Cache) (w : IsSlabs s) (a : Agree r b s)
     (sound : buddies.IsSoundHolding b.top (buddies.holding_of t b)) (cached : cache_at s t c ≡ Some cache)
     (first : ℕ) (is_first : first ≡ (around (place / 4096) (layout_numbers cache).order).first) where
-  begins_there : (f n i : ℕ) → IsObject r s t c place (found cache f n i) → f ≡ first
+  begins_there : (f n i : ℕ) → IsLiveObject r s t c place (found cache f n i) → f ≡ first
   begins_there f n i o =
       let h = held r b s t c f n cache w a o.slab in
       let k = (layout_numbers cache).order in
@@ -55,25 +55,25 @@ module _ (r : spaces.Content) (b : buddies.Content) (s : Content) (t c place : �
       around_frame f k (place / 4096) (sound.placed f k h.taken).0.1 has ∙ sym is_first
 
   -- an object that begins at the place is one of the slab there
-  pub there : (o : Found) → IsObject r s t c place o → IsObject r s t c place (found cache first o.node o.index)
+  pub there : (o : Found) → IsLiveObject r s t c place o → IsLiveObject r s t c place (found cache first o.node o.index)
   there o is =
-      let mine : IsObject r s t c place (found cache o.first o.node o.index) =
-      subst (λ x. IsObject r s t c place (found x o.first o.node o.index)) (some_same (sym is.slab.cached ∙ cached)) is in
-      subst (λ f. IsObject r s t c place (found cache f o.node o.index)) (begins_there o.first o.node o.index mine) mine
+      let mine : IsLiveObject r s t c place (found cache o.first o.node o.index) =
+      subst (λ x. IsLiveObject r s t c place (found x o.first o.node o.index)) (some_same (sym is.slab.cached ∙ cached)) is in
+      subst (λ f. IsLiveObject r s t c place (found cache f o.node o.index)) (begins_there o.first o.node o.index mine) mine
 
   pub no_node : node_of s.top r.slots t first ≡ None → IsNoObject r s t c place
   no_node none o is = some_none (sym (there o is).slab.under ∙ none)
 
   module _ (n : ℕ) (under : node_of s.top r.slots t first ≡ Some n) where
-    at_node : (o : Found) → IsObject r s t c place o → IsObject r s t c place (found cache first n o.index)
+    at_node : (o : Found) → IsLiveObject r s t c place o → IsLiveObject r s t c place (found cache first n o.index)
     at_node o is =
         let x = there o is in
-        subst (λ m. IsObject r s t c place (found cache first m o.index)) (some_same (sym x.slab.under ∙ under)) x
+        subst (λ m. IsLiveObject r s t c place (found cache first m o.index)) (some_same (sym x.slab.under ∙ under)) x
 
     pub no_slab : is_of_cache (index_of_cache t c) first (place_at s.lists.places n) ≡ false → IsNoObject r s t c place
     no_slab none o is = false≢true (sym none ∙ (at_node o is).slab.listed)
 
-    begins_at : (o : Found) → IsObject r s t c place o → Begins cache.layout (kept_at s.kept n).colour (place - 4096 * first) o.index
+    begins_at : (o : Found) → IsLiveObject r s t c place o → Begins cache.layout (kept_at s.kept n).colour (place - 4096 * first) o.index
     begins_at o is = let x = at_node o is in let e = x.begins in record { object = x.index; begins = omega arith }
 
     pub none_begins : ((i : ℕ) → Begins cache.layout (kept_at s.kept n).colour (place - 4096 * first) i → ⊥) → IsNoObject r s t c place

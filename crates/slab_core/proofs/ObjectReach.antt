@@ -16,7 +16,7 @@ use Rattle.slab_tables.specs.Content.{Content, kept_at, layout_numbers}
 use Rattle.machine_changes.specs.Shows.{node_of, has_slab, is_live, IsSlab, ShowsMachine}
 use Rattle.machine_changes.specs.Steady.{IsSteady}
 use Rattle.machine_changes.specs.Changes.{Found, found}
-use Rattle.machine_changes.specs.Objects.{IsObject, HasRange, HasNone}
+use Rattle.machine_changes.specs.Objects.{IsLiveObject, HasRange, HasNone}
 use Rattle.machine_changes.proofs.Facts.{is_not, has_it, one_slab}
 use Rattle.machine_changes.proofs.Objects.{fit_of}
 use Rattle.machine_changes.proofs.PageReach.{object_tells, object_from}
@@ -56,7 +56,7 @@ module _ (r : spaces.Content) (b : buddies.Content) (s : Content) (t place len :
       -- an object that has the range is one of this slab
       record IsHere (i : ℕ) : Type 0 where
         begin : ℕ
-        object : IsObject r s t c begin (found cache first n i)
+        object : IsLiveObject r s t c begin (found cache first n i)
         some : 0 < len
         from : begin ≤ place
         to : place + len ≤ begin + cache.layout.size
@@ -65,11 +65,11 @@ module _ (r : spaces.Content) (b : buddies.Content) (s : Content) (t place len :
       here o h =
           let e = begins_there o h in
           let one = one_slab r s t c first n h.number o.first o.node cache o.cache q h.object.slab e in
-          let object : IsObject r s t c h.begin (found cache first n o.index) =
-          subst (λ f. IsObject r s t c h.begin (found cache f n o.index)) e
-          (subst (λ k. IsObject r s t k h.begin (found cache o.first n o.index)) one.number
-          (subst (λ m. IsObject r s t h.number h.begin (found cache o.first m o.index)) one.node
-          (subst (λ x. IsObject r s t h.number h.begin (found x o.first o.node o.index)) one.same h.object))) in
+          let object : IsLiveObject r s t c h.begin (found cache first n o.index) =
+          subst (λ f. IsLiveObject r s t c h.begin (found cache f n o.index)) e
+          (subst (λ k. IsLiveObject r s t k h.begin (found cache o.first n o.index)) one.number
+          (subst (λ m. IsLiveObject r s t h.number h.begin (found cache o.first m o.index)) one.node
+          (subst (λ x. IsLiveObject r s t h.number h.begin (found x o.first o.node o.index)) one.same h.object))) in
           record { begin = h.begin; object = object; some = h.some; from = h.from; to = subst (λ (x : own.Cache). place + len ≤ h.begin + x.layout.size) one.same h.to }
 
       holds : (o : Found) → HasRange r s t place len o → Holds cache.layout (kept_at s.kept n).colour (place - 4096 * first) len o.index

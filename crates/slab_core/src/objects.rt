@@ -6,7 +6,7 @@ ghost use Rattle.model_core.specs.declared.limits.TheConstants.{FRAME_BYTES, REC
 ghost use Rattle.slab_tables.specs.Content.{Content, IsSlabs, kept_at, cache_at, index_of_cache, layout_numbers};
 ghost use Rattle.machine_changes.specs.Shows.{node_of, has_slab, is_of_cache, is_live, IsSlab, Agree};
 ghost use Rattle.machine_changes.specs.Changes.{found, IsMarked};
-ghost use Rattle.machine_changes.specs.Objects.{IsObject, IsNoObject};
+ghost use Rattle.machine_changes.specs.Objects.{IsLiveObject, IsNoObject};
 ghost use Rattle.machine_changes.specs.Keeps.{Spares};
 ghost use Rattle.slab_core.specs.Objects.{IsTurned, IsToCount};
 ghost use Rattle.machine_changes.specs.Slots.{HoldTogether};
@@ -151,7 +151,7 @@ impl Slabs {
         requires parts { HoldTogether space.now buddy.now self.now }
         requires cache { cache_at self.now t c ≡ Some cache.now }
         ensures { MatchOption result (IsNoObject space.now self.now t c place)
-            (λ o. IsObject space.now self.now t c place (found cache.now o.first o.node o.index)) }
+            (λ o. IsLiveObject space.now self.now t c place (found cache.now o.first o.node o.index)) }
     {
         let order = cache.layout.order();
         let first = block_around(place, order);

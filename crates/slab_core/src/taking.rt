@@ -13,7 +13,7 @@ ghost use Rattle.model_core.specs.Machine as machines;
 ghost use Rattle.model_core.specs.Machine.{Machine};
 ghost use Rattle.model_core.specs.Slabs.{cache_of, slab_of};
 ghost use Rattle.model_core.specs.CacheOperations.{hand_out, take_step};
-ghost use Rattle.machine_changes.specs.Objects.{IsObject, IsToUse, IsAllFull};
+ghost use Rattle.machine_changes.specs.Objects.{IsLiveObject, IsToUse, IsAllFull};
 ghost use Rattle.machine_changes.specs.Changes.{Found, found};
 ghost use Rattle.space_core.specs.Laws.{SpaceLaws};
 ghost use Rattle.space_core.specs.Windows.{home_of, window_of};
@@ -104,7 +104,7 @@ impl Slabs {
         ensures answer { (m : Machine) → ShowsMachine space.old buddy.old self.old t m → result ≡ (take_step self.old.top c m).answer }
         ensures shows { (m : Machine) → ShowsMachine space.old buddy.old self.old t m
             → ShowsMachine space.new buddy.new self.new t (take_step self.old.top c m).machine }
-        ensures object { IfOk result (λ place. (o : Found) × IsObject space.new self.new t c place o) }
+        ensures object { IfOk result (λ place. (o : Found) × IsLiveObject space.new self.new t c place o) }
         ensures spares { Spares t space.old space.new buddy.old buddy.new self.old self.new }
         ensures agree { Agree space.new buddy.new self.new }
         ensures refused { OnErr result ((space.new ≡ space.old) × ((buddy.new ≡ buddy.old) × (self.new ≡ self.old))) }
@@ -135,7 +135,7 @@ impl Slabs {
         ensures answer { (m : Machine) → ShowsMachine space.old buddy.old self.old t m → result ≡ (take_step self.old.top c m).answer }
         ensures shows { (m : Machine) → ShowsMachine space.old buddy.old self.old t m
             → ShowsMachine space.new buddy.new self.new t (take_step self.old.top c m).machine }
-        ensures object { IfOk result (λ place. (o : Found) × IsObject space.new self.new t c place o) }
+        ensures object { IfOk result (λ place. (o : Found) × IsLiveObject space.new self.new t c place o) }
         ensures spares { Spares t space.old space.new buddy.old buddy.new self.old self.new }
         ensures agree { Agree space.new buddy.new self.new }
         ensures refused { OnErr result ((space.new ≡ space.old) × ((buddy.new ≡ buddy.old) × (self.new ≡ self.old))) }
@@ -221,7 +221,7 @@ impl Slabs {
             → cache_of m c ≡ Some x → slab_of x first ≡ Some y → Ok result ≡ (hand_out x y m).answer }
         ensures shows { (m : Machine) (x : machines.Cache) (y : machines.Slab) → ShowsMachine space.old buddy.now self.old t m
             → cache_of m c ≡ Some x → slab_of x first ≡ Some y → ShowsMachine space.new buddy.now self.new t (hand_out x y m).machine }
-        ensures object { (o : Found) × IsObject space.new self.new t c result o }
+        ensures object { (o : Found) × IsLiveObject space.new self.new t c result o }
         ensures spares { Spares t space.old space.new buddy.now buddy.now self.old self.new }
         ensures agree { Agree space.new buddy.now self.new }
     {

@@ -8,8 +8,8 @@ use Rattle.klist_core.proofs.Tables.{placed_within}
 use Rattle.model_core.specs.declared.limits.TheConstants.{MOST_CACHES, MOST_ORDER, MOST_SUPERBLOCKS, MOST_TENANTS}
 use Rattle.slab_tables.specs.declared.cache.Cache.{Cache}
 use Rattle.slab_tables.specs.declared.cache.Kept.{Kept}
-use Rattle.slab_tables.specs.Content.{Content, IsSlabs, IsListed, IsCache, IsTenant, IsPlacedIn, blank, kept_at, cache_in, cache_at, index_of_cache, head_of, layout_numbers, kind_of, is_of_index, live_total, empty_tables}
-use Rattle.slab_tables.specs.Changes.{fresh_kept, made_more, with_slab, with_count, with_outside, without_slab, with_cache}
+use Rattle.slab_tables.specs.Content.{Content, IsSlabs, IsListed, IsTableCache, IsTenant, IsPlacedIn, blank, kept_at, cache_in, cache_at, index_of_cache, head_of, layout_numbers, kind_of, is_of_index, live_total, empty_tables}
+use Rattle.slab_tables.specs.Changes.{fresh_kept, made_more, with_new_slab, with_count, with_outside, without_slab, with_cache}
 use Rattle.slab_tables.proofs.Totals.{part, total_set, part_within, total_none, total_few}
 use Rattle.slab_tables.proofs.Reading.{everywhere, same_cache, same_place, IsCached, cached, cache_within, placed_at, head_parts, listed, few_live, kind_below, kind_fresh}
 
@@ -64,7 +64,7 @@ slabs_node s node p k live w lt stands size counts = record {
         omega (arith, t, counts n (omega (arith, w.totals)), w.counted n below)
 
 -- one cache is replaced
-pub slabs_cache : (s : Content) (i : ℕ) (o : Option Cache) → IsSlabs s → i < length s.caches → ((c : Cache) → o ≡ Some c → IsCache c)
+pub slabs_cache : (s : Content) (i : ℕ) (o : Option Cache) → IsSlabs s → i < length s.caches → ((c : Cache) → o ≡ Some c → IsTableCache c)
     → ((node head key : ℕ) → place_at s.lists.places node ≡ Some (head, key) → head / 3 ≡ i → (c : Cache) × (o ≡ Some c) × IsListed (kept_at s.kept node) c head)
     → IsSlabs (record s { caches = set s.caches i o })
 slabs_cache s i o w lt fits stands = record {
@@ -121,7 +121,7 @@ with_made s t c cache = record s { caches = set s.caches (index_of_cache t c) (S
 
 -- a slab more
 pub slabs_slab : (s : Content) (t c : ℕ) (cache : Cache) (first node : ℕ) → IsSlabs s → cache_at s t c ≡ Some cache → index_of_cache t c < length s.caches
-    → node < length s.lists.places → place_at s.lists.places node ≡ None → IsSlabs (with_slab s t c cache first node)
+    → node < length s.lists.places → place_at s.lists.places node ≡ None → IsSlabs (with_new_slab s t c cache first node)
 slabs_slab s t c cache first node w e below lt free =
     slabs_node (with_made s t c cache) node (Some (head_of t c 2, first)) (fresh_kept cache) s.live more lt (λ head key q. stands head key q) refl
     (λ n there. omega (arith, part_zero n (Some (head_of t c 2, first)) (fresh_kept cache) refl, ap (λ p. part n p (kept_at s.kept node)) free))
@@ -129,12 +129,12 @@ slabs_slab s t c cache first node w e below lt free =
     here : IsCached s t c cache
     here = cached s t c cache e
 
-    fit : IsCache cache
+    fit : IsTableCache cache
     fit = w.fits (index_of_cache t c) cache here.cached
 
     more : IsSlabs (with_made s t c cache)
     more = slabs_cache s (index_of_cache t c) (Some (made_more cache)) w below
-        (λ d q. subst IsCache (same_cache {o = Some (made_more cache)} refl q)
+        (λ d q. subst IsTableCache (same_cache {o = Some (made_more cache)} refl q)
         (record { size = fit.size; align = fit.align; layout = fit.layout; pattern = fit.pattern; made = omega (arith, fit.layout.colours) }))
         (λ i head key q is.
         let x = w.standing i head key q in
@@ -165,10 +165,10 @@ slabs_less s t c w below none = slabs_cache s (index_of_cache t c) None w below
     (λ node head key e is. absurd (none key node (placed_at s t c head key node e is)))
 
 -- a cache more, in the place of none
-pub slabs_more : (s : Content) (t c : ℕ) (cache : Cache) → IsSlabs s → c < MOST_CACHES → index_of_cache t c < length s.caches → cache_at s t c ≡ None → IsCache cache
+pub slabs_more : (s : Content) (t c : ℕ) (cache : Cache) → IsSlabs s → c < MOST_CACHES → index_of_cache t c < length s.caches → cache_at s t c ≡ None → IsTableCache cache
     → IsSlabs (with_cache s t c (Some cache))
 slabs_more s t c cache w lt below vacant fit = slabs_cache s (index_of_cache t c) (Some cache) w below
-    (λ d e. subst IsCache (same_cache {o = Some cache} refl e) fit)
+    (λ d e. subst IsTableCache (same_cache {o = Some cache} refl e) fit)
     (λ node head key e is.
     let x = w.standing node head key e in
     let gone : cache_in s.caches (index_of_cache t c) ≡ None = sym (ap (λ b. cond b (cache_in s.caches (index_of_cache t c)) None) (lt-ltb c MOST_CACHES lt)) ∙ vacant in

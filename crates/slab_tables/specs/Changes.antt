@@ -17,8 +17,8 @@ abbrev pub made_more : Cache → Cache
 made_more cache = record cache { made = (cache.made + 1) % (layout_numbers cache).colours }
 
 -- the next slab of cache c of tenant t, an empty one, begins at this frame and node
-abbrev pub with_slab : Content → ℕ → ℕ → Cache → ℕ → ℕ → Content
-with_slab s t c cache first node = record s {
+abbrev pub with_new_slab : Content → ℕ → ℕ → Cache → ℕ → ℕ → Content
+with_new_slab s t c cache first node = record s {
   lists = inserted s.lists (head_of t c 2) node first;
   kept = slice_set s.kept node (fresh_kept cache);
   caches = slice_set s.caches (index_of_cache t c) (Some (made_more cache));

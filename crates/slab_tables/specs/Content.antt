@@ -68,7 +68,7 @@ pub record IsListed (kept : Kept) (cache : Cache) (head : ℕ) : Type 0 where
   pub few : kept.live ≤ (layout_numbers cache).count
   pub colour : IsColour cache.layout kept.colour
 
-pub record IsCache (c : Cache) : Type 0 where
+pub record IsTableCache (c : Cache) : Type 0 where
   pub size : is_size c.layout.size ≡ true
   pub align : is_alignment c.layout.align ≡ true
   pub layout : IsLayout c.layout.size c.layout.align (layout_numbers c)
@@ -94,7 +94,7 @@ pub record IsSlabs (s : Content) : Type 0 where
   pub few : length s.caches ≤ 2 ^ 11
   pub heads : s.lists.heads ≡ length s.caches * 3
   pub totals : length s.live ≡ length s.caches
-  pub fits : (n : ℕ) (c : Cache) → cache_in s.caches n ≡ Some c → IsCache c
+  pub fits : (n : ℕ) (c : Cache) → cache_in s.caches n ≡ Some c → IsTableCache c
   pub standing : (node head key : ℕ) → place_at s.lists.places node ≡ Some (head, key)
       → (c : Cache) × (cache_in s.caches (head / 3) ≡ Some c) × IsListed (kept_at s.kept node) c head
   pub counted : (n : ℕ) → n < length s.caches → slice_index s.live n ≡ live_total n s.lists.places s.kept

@@ -5,7 +5,7 @@ ghost use Rattle.klist_core.specs.Places.{ArePlaces, IsEmpty, IsFirst, place_at,
 ghost use Rattle.klist_core.specs.Lists.{keys_of};
 ghost use Rattle.model_core.specs.declared.limits.TheConstants.{MOST_CACHES, MOST_ORDER, MOST_SUPERBLOCKS, MOST_TENANTS};
 ghost use Rattle.slab_tables.specs.Content.{IsSlabs, IsTenant, IsPlacedIn, empty_tables, kept_at, cache_at, index_of_cache, head_of, kind_number, layout_numbers};
-ghost use Rattle.slab_tables.specs.Changes.{with_slab, with_count, with_outside, without_slab, with_cache, new_cache, IsLeastNumber, IsAllUsed, IsCleared, IsReset, IsMoved, with_node_moved};
+ghost use Rattle.slab_tables.specs.Changes.{with_new_slab, with_count, with_outside, without_slab, with_cache, new_cache, IsLeastNumber, IsAllUsed, IsCleared, IsReset, IsMoved, with_node_moved};
 
 use crate::cache::{Cache, Kept};
 use crate::kind::Kind;
@@ -231,7 +231,7 @@ impl Tables {
         requires node { node < length self.old.lists.places }
         requires free { place_at self.old.lists.places node ≡ None }
         requires fresh { (n : ℕ) → place_at self.old.lists.places n ≢ Some (head_of t c 2, first) }
-        ensures { self.new ≡ with_slab self.old t c cache.now first node }
+        ensures { self.new ≡ with_new_slab self.old t c cache.now first node }
     {
         let colours = cache.layout.colours();
         self.lists

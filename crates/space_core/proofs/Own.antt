@@ -8,7 +8,7 @@ use Rattle.std.proofs.lemmas.Bool.Decides.{nat_tests}
 use Rattle.space_core.specs.Content.{Content, IsSpace, bank, owner_at, superblock_at}
 use Rattle.space_core.specs.Windows.{slot_bytes, is_in_slot, home_of, bytes_under, window_of, put_within, banks_with, with_window, byte_under, byte_at, banks_with_byte, with_byte}
 use Rattle.space_core.specs.Changes.{with_grant, with_take_back, with_move, with_entry}
-use Rattle.space_core.specs.Laws.{IsRead, ReadsSame, OwnBytes}
+use Rattle.space_core.specs.Laws.{AreBytesAt, ReadsSame, OwnBytes}
 use Rattle.space_core.proofs.BankLemmas.{with_bank, with_banks}
 use Rattle.space_core.proofs.Changed.{same_parts, tenant-lt}
 use Rattle.space_core.proofs.Mapping.{superblock-lt, within_from_some}
@@ -50,10 +50,10 @@ size_of {s} facts t u m under =
     let within : m < length s.banks = omega (arith, superblock-lt facts t u m under, facts.paired) in
     (within, facts.sized m within)
 
-pub own_read : {s : Content} → IsSpace s → (t place len : ℕ) (bytes : List ℕ) → window_of s t place len ≡ Some bytes → IsRead s t place len bytes
+pub own_read : {s : Content} → IsSpace s → (t place len : ℕ) (bytes : List ℕ) → window_of s t place len ≡ Some bytes → AreBytesAt s t place len bytes
 own_read {s} facts t place len bytes = go (home_of s t place len) refl
   where
-    go : (o : Option ℕ) → home_of s t place len ≡ o → bytes_under s.banks (place % s.unit) len o ≡ Some bytes → IsRead s t place len bytes
+    go : (o : Option ℕ) → home_of s t place len ≡ o → bytes_under s.banks (place % s.unit) len o ≡ Some bytes → AreBytesAt s t place len bytes
     go None h e = absurd (cc)
     go (Some m) h e =
         let home = home_is s t place len m h in

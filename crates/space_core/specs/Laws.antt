@@ -44,13 +44,13 @@ pub record SpareBytes (s : Content) : Type 0 where
   pub move : (t u from to : ℕ) → to < length s.owners → SpareStays s (with_move s t u from to)
 
 -- bytes are those of tenant t from place on, len of them
-pub record IsRead (s : Content) (t place len : ℕ) (bytes : List ℕ) : Type 0 where
+pub record AreBytesAt (s : Content) (t place len : ℕ) (bytes : List ℕ) : Type 0 where
   pub count : length bytes ≡ len
   pub each : (i : ℕ) → i < len → byte_at s t (place + i) ≡ Some (slice_index bytes i)
 
 -- what the named tenant then reads at each place p
 pub record OwnBytes (s : Content) : Type 0 where
-  pub read : (t place len : ℕ) (bytes : List ℕ) → window_of s t place len ≡ Some bytes → IsRead s t place len bytes
+  pub read : (t place len : ℕ) (bytes : List ℕ) → window_of s t place len ≡ Some bytes → AreBytesAt s t place len bytes
   pub window : (t place len : ℕ) (w : List ℕ) → IsSome (home_of s t place len) → length w ≡ len
       → (p : ℕ) → byte_at (with_window s t place len w) t p
       ≡ (if nat_le place p && nat_lt p (place + len) then Some (slice_index w (p - place)) else byte_at s t p)

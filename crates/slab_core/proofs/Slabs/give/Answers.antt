@@ -7,8 +7,8 @@ use Rattle.model_core.specs.declared.refusals.GiveRefusal.TheVariants.{NoCache, 
 use Rattle.slab_tables.specs.Content.{Content, cache_at}
 use Rattle.machine_changes.specs.Shows.{ShowsMachine}
 use Rattle.machine_changes.specs.Changes.{Found, found}
-use Rattle.machine_changes.specs.Objects.{IsObject, IsNoObject}
-use Rattle.machine_changes.specs.Laws.{Gives}
+use Rattle.machine_changes.specs.Objects.{IsLiveObject, IsNoObject}
+use Rattle.machine_changes.specs.Laws.{GivesObject}
 use Rattle.slab_core.specs.Objects.{IsToCount}
 use Rattle.slab_core.proofs.ObjectGiven.{give_refused}
 use Rattle.machine_changes.proofs.Marked.{marked_shows}
@@ -42,7 +42,7 @@ not_found : (c : After-from_residual-in_err-object) (m : Machine) → ShowsMachi
 not_found c m h =
     let none : IsNoObject c.args.space.now c.args.self.now c.args.t c.args.c c.args.place =
     subst (λ o. MatchOption o (IsNoObject c.args.space.now c.args.self.now c.args.t c.args.c c.args.place)
-    (λ o. IsObject c.args.space.now c.args.self.now c.args.t c.args.c c.args.place (found c.in_ok-cache.field-0.now o.first o.node o.index)))
+    (λ o. IsLiveObject c.args.space.now c.args.self.now c.args.t c.args.c c.args.place (found c.in_ok-cache.field-0.now o.first o.node o.index)))
     c.in_err-object.ensures.ok_part c.find.ensures in
     not_found_refuses c.args.space.now c.args.buddy.now c.args.self.now c.args.t c.args.c c.args.place c.in_ok-cache.field-0.now m c.laws_with.ensures.steady h
     (cached (goal.at.returns-in_err-object-clause-shows c).In_ok-cache) none
@@ -56,15 +56,15 @@ returns-in_err-object-clause-shows c = λ m h. rw (not_found c m h) h
 object : After-turn_bit → Found
 object c = found c.in_ok-cache.field-0.now c.in_ok-object.object.first c.in_ok-object.object.node c.in_ok-object.object.index
 
-is_object : (c : After-turn_bit) → IsObject c.args.space.now c.args.self.now c.args.t c.args.c c.args.place (object c)
+is_object : (c : After-turn_bit) → IsLiveObject c.args.space.now c.args.self.now c.args.t c.args.c c.args.place (object c)
 unfolding object
 is_object c =
     subst (λ o. MatchOption o (IsNoObject c.args.space.now c.args.self.now c.args.t c.args.c c.args.place)
-    (λ o. IsObject c.args.space.now c.args.self.now c.args.t c.args.c c.args.place (found c.in_ok-cache.field-0.now o.first o.node o.index)))
+    (λ o. IsLiveObject c.args.space.now c.args.self.now c.args.t c.args.c c.args.place (found c.in_ok-cache.field-0.now o.first o.node o.index)))
     c.in_ok-object.ensures.ok_part c.find.ensures
 
 gives : (c : After-turn_bit) (m : Machine) → ShowsMachine c.args.space.now c.args.buddy.now c.args.self.now c.args.t m
-    → Gives m c.args.c c.args.place c.in_ok-object.object.index c.in_ok-object.object.first
+    → GivesObject m c.args.c c.args.place c.in_ok-object.object.index c.in_ok-object.object.first
 unfolding object
 gives c m h = found_gives c.args.space.now c.args.buddy.now c.args.self.now c.args.t c.args.c c.args.place (object c) m c.laws_with.ensures.steady h (is_object c)
 

@@ -5,7 +5,7 @@ use Rattle.model_core.specs.Blocks.{IsWithout}
 use Rattle.klist_core.specs.Places.{place_at}
 use Rattle.buddy_core.specs.Content.{is_held, taken_of, holding_of, with_holding, with_block}
 use Rattle.slab_tables.specs.Content.{layout_numbers, kept_at, head_of}
-use Rattle.slab_tables.specs.Changes.{fresh_kept, with_slab}
+use Rattle.slab_tables.specs.Changes.{fresh_kept, with_new_slab}
 use Rattle.slab_core.specs.Calls.{IsConstructed}
 use Rattle.slab_core.proofs.Slabs.make_slab.Goals as goal
 use Rattle.slab_core.proofs.Slabs.make_slab.Goals.{Then-order, In_err-first, In-Some, After-kept_of-colour, After-construct}
@@ -96,8 +96,8 @@ returns-clause-free c =
 
 -- A slab is made
 
-tables : (c : After-kept_of-colour) → c.add_slab.new.self ≡ with_slab c.args.self.now c.args.t c.args.c c.args.cache.now c.in_ok-first.first c.in-Some.node
-tables c = c.add_slab.ensures ∙ ap (λ s. with_slab s c.args.t c.args.c c.args.cache.now c.in_ok-first.first c.in-Some.node) c.self.view_is
+tables : (c : After-kept_of-colour) → c.add_slab.new.self ≡ with_new_slab c.args.self.now c.args.t c.args.c c.args.cache.now c.in_ok-first.first c.in-Some.node
+tables c = c.add_slab.ensures ∙ ap (λ s. with_new_slab s c.args.t c.args.c c.args.cache.now c.in_ok-first.first c.in-Some.node) c.self.view_is
 
 colour_is : (c : After-construct) → c.into.result ≡ (fresh_kept c.args.cache.now).colour
 colour_is c =

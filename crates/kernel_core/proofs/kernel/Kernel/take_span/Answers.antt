@@ -10,7 +10,7 @@ use Rattle.space_core.specs.Content.{superblock_at}
 use Rattle.slab_tables.specs.declared.cache.Cache as own
 use Rattle.slab_tables.specs.Content.{cache_at}
 use Rattle.machine_changes.specs.Changes.{Found}
-use Rattle.machine_changes.specs.Objects.{IsObject, HasRange}
+use Rattle.machine_changes.specs.Objects.{IsLiveObject, HasRange}
 use Rattle.slab_core.proofs.ObjectBytes.{has_object, has_range}
 use Rattle.kernel_core.specs.Content.{KernelContent}
 use Rattle.kernel_core.proofs.Changing.{opened, known, steady}
@@ -25,8 +25,8 @@ asked c = record {
   tenant = known _ _ _ _ c.in-Some.t c.self.view_is (subst (λ n. c.in-Some.t < n) (sym c.in_ok-place.ensures.steps.does.sizes.tenants) c.in-Some.ensures.1);
 }
 
-object : (c : After-machine_of) → (o : Found) × IsObject c.self.inside.space c.self.inside.slabs c.in-Some.t c.args.cache c.in_ok-place.place o
-object c = subst (λ (k : KernelContent). (o : Found) × IsObject k.space k.slabs c.in-Some.t c.args.cache c.in_ok-place.place o) (sym c.self.view_is) c.in_ok-place.ensures.object
+object : (c : After-machine_of) → (o : Found) × IsLiveObject c.self.inside.space c.self.inside.slabs c.in-Some.t c.args.cache c.in_ok-place.place o
+object c = subst (λ (k : KernelContent). (o : Found) × IsLiveObject k.space k.slabs c.in-Some.t c.args.cache c.in_ok-place.place o) (sym c.self.view_is) c.in_ok-place.ensures.object
 
 -- its range, whatever size the cache has
 range : (c : After-machine_of) → (bytes : ℕ) → bytes ≡ (object c).0.cache.layout.size
