@@ -1,6 +1,6 @@
 -- What a kernel lends of a tenant, and what a call leaves: marks, what others have, the machine of the tenant.
-use Rattle.std.proofs.Common.{◌≡◌, ◌≢◌, ℕ, ◌≤◌, ◌==◌, nat_lt, true, false, refl, arith, ◌<◌, Bool, Option, Some, None, length, slice_set, sym, ap, ◌∙◌, ⊎_elim, subst, ◌⊎◌, inl, inr, [], slice_index_or}
-use Rattle.std.proofs.lemmas.Bool.{eq-eqb, cases_eq, cases_lt}
+use Rattle.std.proofs.Common.{◌≡◌, ℕ, ◌≤◌, nat_lt, false, refl, arith, ◌<◌, Bool, Option, Some, None, length, slice_set, sym, ap, ◌∙◌, ⊎_elim, subst, ◌⊎◌, inl, inr, [], slice_index_or}
+use Rattle.std.proofs.lemmas.Bool.{cases_eq, cases_lt}
 use Rattle.std.proofs.lemmas.Bool.Decides.{nat_tests}
 use Rattle.model_core.specs.declared.owner.Owner.{Owner}
 use Rattle.std.proofs.lemmas.List.{get_or-set_same, get_or-set_other, length-set, get_or_past}
@@ -9,7 +9,6 @@ use Rattle.kernel_core.specs.Content.{mark_after, MarksFollow, KernelContent, Ke
 use Rattle.model_core.specs.Machine.{Machine}
 use Rattle.model_core.specs.Operations.{Step}
 use Rattle.space_core.specs.Content as spaces
-use Rattle.space_core.specs.Laws.{IsSameFor}
 use Rattle.buddy_core.specs.Content as buddies
 use Rattle.slab_tables.specs.Content as tables
 use Rattle.machine_changes.specs.Keeps.{Spares}
@@ -19,13 +18,8 @@ use Rattle.machine_changes.proofs.Lookups.{some_none}
 use Rattle.machine_changes.specs.Shows.{Agree}
 use Rattle.machine_changes.specs.Steady.{IsSteady}
 use Rattle.machine_changes.proofs.Steady.{agree_steady}
+use Rattle.machine_changes.proofs.PageHoldings.{same_space}
 use Rattle.machine_changes.specs.Slots.{HoldTogether}
-
-pub is_same : (n : ℕ) → (n == n) ≡ true
-is_same n = eq-eqb n n refl
-
-pub is_other : (a b : ℕ) → a ≢ b → (a == b) ≡ false
-is_other a b other = grind (arith)
 
 pub not_less : (a b : ℕ) → b ≤ a → nat_lt a b ≡ false
 not_less a b le = grind (arith, nat_tests)
@@ -88,14 +82,10 @@ does_called r r' b b' s s' t spares step told answer shows =
 pub same_of : (r r' : spaces.Content) (b b' : buddies.Content) (s s' : tables.Content) → (r' ≡ r) × ((b' ≡ b) × (s' ≡ s)) → content_of r' b' s' ≡ content_of r b s
 same_of r r' b b' s s' same = λ i. content_of (same.0 i) (same.1.0 i) (same.1.1 i)
 
--- a space that stays is the same for all
-same_all : (t : ℕ) (s : spaces.Content) → IsSameFor t s s
-same_all t s = record { slots = λ u. refl; banks = λ u m here. refl; bytes = λ place. refl; windows = λ place len. refl }
-
 -- parts that stay keep all
 pub keeps_all : (k : KernelContent) (t : ℕ) → Keeps k k t
 keeps_all k t = record {
-  space = same_all t k.space;
+  space = same_space t k.space;
   buddy = refl;
   slabs = record { top = refl; caches = λ c. refl; lists = λ f n under. refl; kept = λ f n under. refl };
 }

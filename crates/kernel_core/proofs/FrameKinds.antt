@@ -22,7 +22,7 @@ use Rattle.machine_changes.specs.Steady.{IsSteady}
 use Rattle.machine_changes.specs.Laws.{is_kind}
 use Rattle.machine_changes.proofs.Facts.{cache_shown}
 use Rattle.machine_changes.proofs.Steady.{placed_as}
-use Rattle.machine_changes.proofs.ByKind.{from_list}
+use Rattle.machine_changes.proofs.ByKind.{from_list, head_is}
 use Rattle.machine_changes.proofs.Taken.{taken_meets}
 use Rattle.machine_changes.specs.Slots.{HoldTogether}
 use Rattle.kernel_core.specs.Content.{KernelContent, content_of}
@@ -105,9 +105,6 @@ runs_more P old new at frames most kind before kept set here k cell within less 
 -- there are three kinds of lists
 pub kind_small : (list : ℕ) → list % 3 < 3
 kind_small list = mod-lt list (lit< tt)
-
-head_is : (head index kind : ℕ) → head / 3 ≡ index → head % 3 ≡ kind → head ≡ 3 * index + kind
-head_is head index kind e e' = omega arith
 
 module _ (r : spaces.Content) (b : buddies.Content) (s : Content) (t : ℕ) (st : IsSteady r b s t) (m : Machine) (h : showing.ShowsMachine r b s t m) (f : ℕ) where
   -- where no block is taken

@@ -1,12 +1,11 @@
 -- A superblock without owner is given to a tenant.
-use Rattle.std.proofs.Common.{◌≡◌, ℕ, ◌<◌, true, false, Option, Some, None, is_none, position, List, length, slice_set, refl, sym, ap, subst, arith, ◌≤◌, slice_get, ◌∙◌}
+use Rattle.std.proofs.Common.{◌≡◌, ℕ, ◌<◌, true, false, Option, Some, None, is_none, position, length, slice_set, refl, sym, ap, subst, arith, ◌≤◌, slice_get, ◌∙◌}
 use Rattle.std.proofs.lemmas.Bool.{false≢true}
-use Rattle.std.proofs.lemmas.List.Quantifiers.{position-Some}
 use Rattle.model_core.specs.declared.owner.Owner.{Owner}
 use Rattle.model_core.specs.Operations.{after_grant, next_slot}
 use Rattle.model_core.specs.Owners.{owned_by}
 use Rattle.space_core.specs.Content as spaces
-use Rattle.space_core.specs.Content.{owner_at, mark_at}
+use Rattle.space_core.specs.Content.{mark_at}
 use Rattle.space_core.specs.Changes.{IsLeastSlot, with_grant}
 use Rattle.buddy_core.specs.Content as buddies
 use Rattle.slab_tables.specs.Content as tables
@@ -29,19 +28,17 @@ use Rattle.world_core.specs.Limits.{cache_limit}
 use Rattle.world_core.specs.World.{World, WorldStep, grant_step, world_step}
 use Rattle.kernel_core.specs.Does as calls
 use Rattle.kernel_core.specs.Steps.{Steps}
-use Rattle.kernel_core.proofs.Worlds.{get_past, get_within, steps_done, steps_answered, unnamed}
+use Rattle.space_core.proofs.Vacancy.{unowned-from_position}
+use Rattle.std.proofs.lemmas.Option.{slice_get_past}
+use Rattle.kernel_core.proofs.Worlds.{get_within, steps_done, steps_answered, unnamed}
 
 was_none : (o : Option Owner) → is_none o ≡ true → o ≡ None
 was_none None _ = refl
 was_none (Some o) fails = absurd (false≢true fails)
 
--- the first superblock without owner has none
-pub unowned_at : (owners : List (Option Owner)) (m : ℕ) → position is_none owners ≡ Some m → owner_at owners m ≡ None
-unowned_at owners m free = was_none (owner_at owners m) (position-Some is_none owners m None free).1
-
 -- it stands under no slot, and no slab begins on it
 pub free_is_spare : (r : spaces.Content) (b : buddies.Content) (s : tables.Content) (m : ℕ) → HoldTogether r b s → position is_none r.owners ≡ Some m → IsSpare b s m
-free_is_spare r b s m holds free = unowned_is_spare r b s m holds (unowned_at r.owners m free)
+free_is_spare r b s m holds free = unowned_is_spare r b s m holds (unowned-from_position r.owners m free)
 
 -- superblock m has no owner, and slot u is the least that tenant t does not hold
 pub record IsGrantable (r : spaces.Content) (b : buddies.Content) (s : tables.Content) (t u m : ℕ) : Type 0 where
@@ -59,7 +56,7 @@ buddy_after t u m b = buddies.with_holding t (buddies.with_slot u m (buddies.hol
 pub changes : (r : spaces.Content) (b : buddies.Content) (s : tables.Content) (t u m : ℕ) → IsGrantable r b s t u m
     → ChangesFor t r (with_grant r t u m) b (buddy_after t u m b) s s (after_grant s.top)
 changes r b s t u m g =
-    granted_shows r b s t u m g.together (has_row r b s t g.together.agree g.tenant) g.least g.slot_below g.below (unowned_at r.owners m g.free)
+    granted_shows r b s t u m g.together (has_row r b s t g.together.agree g.tenant) g.least g.slot_below g.below (unowned-from_position r.owners m g.free)
 
 -- the least superblock without owner becomes the least slot that the tenant does not hold
 pub does_granted : (r : spaces.Content) (b : buddies.Content) (s : tables.Content) (t u m : ℕ) → IsGrantable r b s t u m
@@ -74,7 +71,7 @@ does_granted r b s t u m g =
       owners = refl;
       marks = marks_replaced r r m (Some (owned_by t u)) false (marks_kept r r refl refl) g.below
           (omega (arith, g.below, g.together.space.facts.flagged))
-          (ap (λ o. mark_after o (Some (owned_by t u)) (mark_at r.marks m)) (unowned_at r.owners m g.free));
+          (ap (λ o. mark_after o (Some (owned_by t u)) (mark_at r.marks m)) (unowned-from_position r.owners m g.free));
       spare = g.together.space.spare.grant t u m g.below;
     }
 
@@ -120,7 +117,7 @@ pub grant_without_tenant : (k : KernelContent) (t : ℕ) → k.tenants ≤ t →
 unfolding grant_step world_step
 grant_without_tenant k t unknown =
     steps_answered k (On.Admin (Do.Grant t)) To.Admin (Refused NoTenant)
-    (λ w shown. ap (λ o. grant_step k.order t w o (position is_none w.owners)) (get_past w.machines t (omega (arith, shown.tenants))))
+    (λ w shown. ap (λ o. grant_step k.order t w o (position is_none w.owners)) (slice_get_past w.machines t (omega (arith, shown.tenants))))
 
 -- every superblock has an owner
 pub grant_without_superblock : (k : KernelContent) (t n : ℕ) → t ≡ n → t < k.tenants → position is_none k.space.owners ≡ None

@@ -31,12 +31,13 @@ use Rattle.slab_core.proofs.ReserveByNeed.{found_choice, found_step}
 use Rattle.slab_core.proofs.ReserveOne.{IsServed, is_served}
 use Rattle.kernel_core.specs.Content.{KernelContent, content_of, opening_content}
 use Rattle.kernel_core.proofs.Changing.{has_row, parts_agree, steady}
-use Rattle.kernel_core.proofs.Granting.{IsGrantable, buddy_after, changes, does_granted, unowned_at, granted_reply, steps_granted}
+use Rattle.kernel_core.proofs.Granting.{IsGrantable, buddy_after, changes, does_granted, granted_reply, steps_granted}
 use Rattle.kernel_core.proofs.PageCalls.{alloc_done, IsAsked, held, read_done}
 use Rattle.kernel_core.specs.Shows.{Shows}
 use Rattle.kernel_core.specs.Stores.{IsKernel, Loads}
 use Rattle.kernel_core.specs.Actions.{Runs, Acts, IsBooted}
 use Rattle.kernel_core.proofs.Witnesses.{opening_shown}
+use Rattle.space_core.proofs.Vacancy.{unowned-from_position}
 use Rattle.kernel_core.proofs.Worlds.{steps_asked}
 
 kernel_of : (r : spaces.Content) (b : buddies.Content) (s : tables.Content) → HoldTogether r b s → IsKernel (content_of r b s)
@@ -51,7 +52,7 @@ pub grant_acts : (r : spaces.Content) (b : buddies.Content) (s : tables.Content)
 grant_acts r b s t u m g laws =
     let together : HoldTogether (with_grant r t u m) (buddy_after t u m b) s = record {
       space = laws_of (granted-IsSpace g.together.space.facts t u m (has_row r b s t g.together.agree g.tenant) g.slot_below g.below g.least.vacant
-          (unowned_at r.owners m g.free));
+          (unowned-from_position r.owners m g.free));
       buddy = laws;
       slabs = g.together.slabs;
       agree = (changes r b s t u m g).agree;

@@ -13,7 +13,7 @@ use Rattle.machine_changes.proofs.SlotMoved.{moved_shows}
 use Rattle.kernel_core.specs.Content.{MarksFollow, content_of, mark_after, KernelContent, PartsAgree, superblock_at}
 use Rattle.kernel_core.specs.Does.{Moves, no_step}
 use Rattle.kernel_core.proofs.Changing.{marks_kept, marks_replaced, has_row, same_sizes}
-use Rattle.kernel_core.proofs.Granting.{buddy_after, unowned_at}
+use Rattle.kernel_core.proofs.Granting.{buddy_after}
 use Rattle.model_core.specs.declared.owner.Owner.{Owner}
 use Rattle.model_core.specs.Machine.{Machine, holds}
 use Rattle.words_core.specs.declared.event.Event.TheVariants as On
@@ -26,7 +26,9 @@ use Rattle.world_core.specs.Limits.{cache_limit}
 use Rattle.world_core.specs.World.{World, WorldStep, answer, given_up, moved_to, move_step, world_step}
 use Rattle.kernel_core.specs.Shows.{Shows}
 use Rattle.kernel_core.specs.Steps.{Steps}
-use Rattle.kernel_core.proofs.Worlds.{get_past, get_within, steps_done, steps_answered, unnamed}
+use Rattle.kernel_core.proofs.Worlds.{get_within, steps_done, steps_answered, unnamed}
+use Rattle.space_core.proofs.Vacancy.{unowned-from_position}
+use Rattle.std.proofs.lemmas.Option.{slice_get_past}
 use Rattle.kernel_core.proofs.Owners.{is_under, given_up_one}
 
 -- superblock `from` stands under slot u of tenant t, and `to` is the least without owner
@@ -42,7 +44,7 @@ pub record IsMovable (r : spaces.Content) (b : buddies.Content) (s s' : tables.C
 pub changes : (r : spaces.Content) (b : buddies.Content) (s s' : tables.Content) (t u from to : ℕ) → IsMovable r b s s' t u from to
     → ChangesFor t r (with_move r t u from to) b (buddy_after t u to b) s s' (λ m. m)
 changes r b s s' t u from to g =
-    (moved_shows r b s s' t u from to g.together (has_row r b s t g.together.agree g.tenant) g.here g.to_below (unowned_at r.owners to g.free) g.slabs).1
+    (moved_shows r b s s' t u from to g.together (has_row r b s t g.together.agree g.tenant) g.here g.to_below (unowned-from_position r.owners to g.free) g.slabs).1
 
 pub moves : (r : spaces.Content) (b : buddies.Content) (s s' : tables.Content) (t u from to : ℕ) → IsMovable r b s s' t u from to
     → Moves (content_of r b s) t u to (content_of (with_move r t u from to) (buddy_after t u to b) s')
@@ -60,7 +62,7 @@ moves r b s s' t u from to g =
         marks = marks_replaced r left to (Some (owned_by t u)) false left_follows
             (omega (arith, g.to_below, length-set r.owners from None))
             (omega (arith, g.to_below, g.together.space.facts.flagged, length-set r.marks from true))
-            (ap (λ o. mark_after o (Some (owned_by t u)) (mark_at r.marks to)) (unowned_at r.owners to g.free));
+            (ap (λ o. mark_after o (Some (owned_by t u)) (mark_at r.marks to)) (unowned-from_position r.owners to g.free));
         spare = g.together.space.spare.move t u from to g.to_below;
       };
     }
@@ -117,7 +119,7 @@ pub move_without_tenant : (k : KernelContent) (t u : ℕ) → k.tenants ≤ t �
 unfolding world_step move_step
 move_without_tenant k t u unknown =
     steps_answered k (On.Admin (Do.Move t u)) To.Admin (Refused NoTenant)
-    (λ w shown. ap (λ o. move_step t u w o (position is_none w.owners)) (get_past w.machines t (omega (arith, shown.tenants))))
+    (λ w shown. ap (λ o. move_step t u w o (position is_none w.owners)) (slice_get_past w.machines t (omega (arith, shown.tenants))))
 
 pub move_without_slot : (k : KernelContent) (t n u : ℕ) → t ≡ n → t < k.tenants → superblock_at k t u ≡ None
     → Steps k (On.Admin (Do.Move n u)) k (record { addressee = To.Admin; body = Refused NoSlot })

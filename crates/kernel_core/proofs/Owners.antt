@@ -10,8 +10,8 @@ use Rattle.space_core.specs.Content as spaces
 use Rattle.space_core.specs.Content.{IsSpace, owner_at}
 use Rattle.model_core.specs.Owners.{owned_by, is_owner}
 use Rattle.world_core.specs.World.{given_up}
+use Rattle.world_core.proofs.Runs.{is_same}
 use Rattle.machine_changes.proofs.Lookups.{some_none, some_same}
-use Rattle.kernel_core.proofs.Changing.{is_same}
 
 -- an owner is one tenant with one slot
 pub owner_is : (t u : ℕ) (o : Option Owner) → is_owner t u o ≡ true → o ≡ Some (owned_by t u)

@@ -13,7 +13,7 @@ use Rattle.model_core.specs.Owners.{owned_by, is_of}
 use Rattle.kernel_core.specs.Content.{mark_after, MarksFollow, content_of, KernelContent, PartsAgree}
 use Rattle.kernel_core.specs.GivenUp.{GivesUp, owner_without}
 use Rattle.machine_changes.proofs.Lookups.{some_none}
-use Rattle.kernel_core.proofs.Changing.{is_same, is_other, not_less, marks_replaced, has_row, same_sizes}
+use Rattle.kernel_core.proofs.Changing.{not_less, marks_replaced, has_row, same_sizes}
 use Rattle.model_core.specs.Machine.{empty_machine, Machine}
 use Rattle.space_core.specs.Content as spaces
 use Rattle.buddy_core.specs.Content as buddies
@@ -33,15 +33,10 @@ use Rattle.world_core.specs.World.{World, WorldStep, answer, given_up, reset_ste
 use Rattle.kernel_core.specs.Does as calls
 use Rattle.kernel_core.specs.Shows.{Shows}
 use Rattle.kernel_core.specs.Steps.{Steps}
-use Rattle.kernel_core.proofs.Worlds.{get_past, steps_done, steps_answered, unnamed}
-
-pub same_after : (u : ℕ) (a b c : Content) → IsSameFor u a b → IsSameFor u b c → IsSameFor u a c
-same_after u a b c first second = record {
-  slots = λ slot. second.slots slot ∙ first.slots slot;
-  banks = λ slot m here. second.banks slot m (first.slots slot ∙ here) ∙ first.banks slot m here;
-  bytes = λ place. second.bytes place ∙ first.bytes place;
-  windows = λ place len. second.windows place len ∙ first.windows place len;
-}
+use Rattle.world_core.proofs.Runs.{is_same, is_other}
+use Rattle.space_core.proofs.Reading.{same_twice}
+use Rattle.std.proofs.lemmas.Option.{slice_get_past}
+use Rattle.kernel_core.proofs.Worlds.{steps_done, steps_answered, unnamed}
 
 -- of the first m superblocks tenant t has given up its own, this many
 pub record IsGivingUp (old now : Content) (t m told : ℕ) : Type 0 where
@@ -90,7 +85,7 @@ giving_takes old now t slot m told g space stay below own =
           (λ other. get_or-set_other now.owners m n None None other
           ∙ g.owners n ∙ ap (λ b. if b then owner_without t (owner_at old.owners n) else owner_at old.owners n) (sym (next_less n m other)))
           (cases_eq n m);
-      others = λ u other. same_after u old now (with_take_back now t slot m) (g.others u other) (stay.take_back t slot m u other);
+      others = λ u other. same_twice u old now (with_take_back now t slot m) (g.others u other) (stay.take_back t slot m u other);
     }
 
 -- no owner is the tenant after the giving up
@@ -205,7 +200,7 @@ pub reset_without_tenant : (k : KernelContent) (t : ℕ) → k.tenants ≤ t →
 unfolding world_step reset_step
 reset_without_tenant k t unknown =
     steps_answered k (On.Admin (Do.Reset t)) To.Admin (Refused NoTenant)
-    (λ w shown. ap (λ o. reset_step t w o) (get_past w.machines t (omega (arith, shown.tenants))))
+    (λ w shown. ap (λ o. reset_step t w o) (slice_get_past w.machines t (omega (arith, shown.tenants))))
 
 -- who owns each superblock
 pub steps_told : (k : KernelContent) (owners : List (Option Owner)) → owners ≡ k.space.owners → Steps k (On.Admin Do.Pool) k (record { addressee = To.Admin; body = Owners (record { items = owners }) })

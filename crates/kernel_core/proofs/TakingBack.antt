@@ -30,7 +30,8 @@ use Rattle.words_core.specs.Refusals.{take_back_refusal}
 use Rattle.world_core.specs.Limits.{cache_limit}
 use Rattle.world_core.specs.World.{World, WorldStep, given_up, take_back_answered, slot_step, world_step}
 use Rattle.kernel_core.specs.Steps.{Steps}
-use Rattle.kernel_core.proofs.Worlds.{get_past, get_within, steps_done, steps_answered, unnamed}
+use Rattle.kernel_core.proofs.Worlds.{get_within, steps_done, steps_answered, unnamed}
+use Rattle.std.proofs.lemmas.Option.{slice_get_past}
 use Rattle.kernel_core.proofs.Owners.{is_under, found_under, given_up_one}
 
 -- tenant t has frames of slot u taken
@@ -117,7 +118,7 @@ pub take_without_tenant : (k : KernelContent) (t u : ℕ) → k.tenants ≤ t �
 unfolding world_step slot_step
 take_without_tenant k t u unknown =
     steps_answered k (On.Admin (Do.TakeBack t u)) To.Admin (Refused NoTenant)
-    (λ w shown. ap (λ o. slot_step k.order t u w o) (get_past w.machines t (omega (arith, shown.tenants))))
+    (λ w shown. ap (λ o. slot_step k.order t u w o) (slice_get_past w.machines t (omega (arith, shown.tenants))))
 
 -- the machine refuses
 pub take_refused : (k : KernelContent) (t n u : ℕ) (refusal : TakeBackRefusal) → t ≡ n → t < k.tenants → Does k t (take_back_step k.order u) k.space.owners k (Err refusal)

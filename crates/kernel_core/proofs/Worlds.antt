@@ -1,6 +1,6 @@
 -- From what one event does to a kernel to what it does to the world that it shows, which is the only one.
 use Rattle.model_core.specs.declared.owner.Owner.{Owner}
-use Rattle.std.proofs.Common.{◌≡◌, ◌≢◌, ℕ, zero, suc, ◌<◌, ◌≤◌, ◌==◌, Bool, true, false, Option, Some, None, List, [], ◌∷◌, length, slice_get, slice_set, refl, sym, ap, ◌∙◌, subst, ⊎_elim, arith}
+use Rattle.std.proofs.Common.{◌≡◌, ◌≢◌, ℕ, zero, suc, ◌<◌, ◌≤◌, ◌==◌, Bool, true, false, Option, Some, List, [], ◌∷◌, length, slice_get, slice_set, refl, sym, ap, ◌∙◌, subst, ⊎_elim, arith}
 use Rattle.std.proofs.lemmas.Bool.{cases_eq, eq-eqb}
 use Rattle.std.proofs.lemmas.List.{length-set}
 use Rattle.model_core.specs.Machine.{Machine}
@@ -26,12 +26,8 @@ use Rattle.kernel_core.specs.Shows.{ShowsMachine, Shows, OneWorld}
 use Rattle.kernel_core.specs.Does.{Does}
 use Rattle.kernel_core.proofs.Changing.{keeps_all, marks_kept}
 use Rattle.kernel_core.specs.Steps.{is_named, Steps, StepsMachine}
+use Rattle.std.proofs.lemmas.Option.{slice_get_past}
 use Rattle.machine_changes.proofs.PageOne.{one_machine}
-
-pub get_past : {A : Type 0} (xs : List A) (i : ℕ) → length xs ≤ i → slice_get xs i ≡ None
-get_past [] i past = refl
-get_past (x ∷ xs) zero past = absurd (omega arith)
-get_past (x ∷ xs) (suc i) past = get_past xs i (omega arith)
 
 pub get_within : {A : Type 0} (xs : List A) (i : ℕ) → i < length xs → (x : A) × (slice_get xs i ≡ Some x)
 get_within [] i within = absurd (omega arith)
@@ -110,7 +106,7 @@ pub unknown_tenant : (k : KernelContent) (t : ℕ) (command : Command) → k.ten
 unfolding world_step tenant_step
 unknown_tenant k t command past =
     steps_answered k (On.Tenant t command) To.Nobody (Refused NoTenant)
-    (λ w shown. ap (λ o. tenant_step cache_limit k.order t command w o) (get_past w.machines t (omega (arith, shown.tenants))))
+    (λ w shown. ap (λ o. tenant_step cache_limit k.order t command w o) (slice_get_past w.machines t (omega (arith, shown.tenants))))
 
 -- a command of a tenant is a step of its machine
 pub steps_asked : (k k' : KernelContent) (t u : ℕ) (command : Command) (body : Body) → t ≡ u → t < k.tenants → ((w : World) → Shows k w → PartsAgree k')

@@ -11,7 +11,7 @@ use Rattle.klist_core.specs.declared.Head.{Head}
 abbrev pub empty_head : Head
 empty_head = record { first = None; last = None; len = 0 }
 
-same_everywhere : {X : Type 0} (x : X) (n i : ℕ) → get_or (replicate n x) i x ≡ x
+pub same_everywhere : {X : Type 0} (x : X) (n i : ℕ) → get_or (replicate n x) i x ≡ x
 same_everywhere x zero i = refl
 same_everywhere x (suc n) zero = refl
 same_everywhere x (suc n) (suc i) = same_everywhere x n i

@@ -12,9 +12,10 @@ use Rattle.machine_changes.specs.Shows.{node_of, has_slab, ShowsMachine}
 use Rattle.machine_changes.specs.Steady.{IsSteady}
 use Rattle.machine_changes.proofs.Facts.{has_it, one_slab}
 use Rattle.machine_changes.proofs.Lookups.{some_none, key_above, in_found}
-use Rattle.machine_changes.proofs.Members.{mapped_in, flat_map_in}
+use Rattle.machine_changes.proofs.Members.{flat_map_in}
 use Rattle.machine_changes.proofs.Reserved.{order_found}
 use Rattle.machine_changes.proofs.Taken.{slab_kept}
+use Rattle.model_core.proofs.Lists.{map_in}
 use Rattle.machine_changes.proofs.FigureSums.{AreKeyed, rising_keyed, append_keyed, mapped_keyed}
 
 abbrev pub first : Block → ℕ
@@ -32,7 +33,7 @@ module _ (r : spaces.Content) (b : buddies.Content) (s : Content) (t : ℕ) (m :
   of_some : (cs : List Cache) (z : Block) → IsIn z (flat_map slab_blocks cs) → IsAmong cs z
   of_some cs z i =
       let cache = flat_map_in slab_blocks z cs i in
-      let slab = mapped_in (slab_block cache.0) z cache.0.slabs cache.2 in
+      let slab = map_in (slab_block cache.0) z cache.0.slabs cache.2 in
       record { cache = cache.0; slab = slab.0; cache_in = cache.1; slab_in = slab.1; same = slab.2 }
 
   -- slabs at one frame are of one cache
@@ -52,7 +53,7 @@ module _ (r : spaces.Content) (b : buddies.Content) (s : Content) (t : ℕ) (m :
       (rising_keyed (λ y. y.first) 0 x.slabs (h.slabs_rise x.number x (in_found (λ c. c.number) 0 x m.caches h.caches_rise (inside x (inl refl))))))
       (slabs_keyed (x.number + 1) cs rises (λ c i. inside c (inr i)))
       (λ z w i j same.
-      let here = mapped_in (slab_block x) z x.slabs i in
+      let here = map_in (slab_block x) z x.slabs i in
       let there = of_some cs w j in
       let above : x.number + 1 ≤ there.cache.number = key_above (λ c. c.number) (x.number + 1) there.cache cs rises there.cache_in in
       let one : there.cache.number ≡ x.number =

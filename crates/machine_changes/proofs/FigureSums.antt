@@ -8,8 +8,8 @@ use Rattle.std.proofs.lemmas.List.Sums.{sum_by-cons, sum_by-set}
 use Rattle.model_core.specs.WellFormed.{RisesFrom}
 use Rattle.model_core.specs.Elements.{IsIn}
 use Rattle.model_core.proofs.Objects.{in_append}
+use Rattle.model_core.proofs.Lists.{map_in}
 use Rattle.machine_changes.proofs.Lookups.{key_above}
-use Rattle.machine_changes.proofs.Members.{mapped_in}
 
 -- Lists in which no two have one key
 
@@ -31,7 +31,7 @@ module _ {X : Type 0} (key : X → ℕ) where
 pub mapped_keyed : {X Y : Type 0} (g : X → Y) (key : Y → ℕ) (xs : List X) → AreKeyed (λ x. key (g x)) xs → AreKeyed key (map g xs)
 mapped_keyed g key [] k = tt
 mapped_keyed g key (x ∷ xs) (one, k) =
-    (λ y i same. let there = mapped_in g y xs i in one there.0 there.1 (ap key there.2 ∙ same), mapped_keyed g key xs k)
+    (λ y i same. let there = map_in g y xs i in one there.0 there.1 (ap key there.2 ∙ same), mapped_keyed g key xs k)
 
 -- Sums over tables
 

@@ -2,12 +2,12 @@
 use Rattle.std.proofs.Common.{List, [], ◌∷◌, map, subst, inl, inr}
 use Rattle.std.specs.Prelude.{filter}
 use Rattle.model_core.specs.Elements.{IsIn}
-use Rattle.model_core.proofs.Lists.{filter_in, in_filter, filter_rises, in_map}
+use Rattle.model_core.proofs.Lists.{filter_in, in_filter, filter_rises, in_map, map_in}
 use Rattle.klist_core.specs.Lists as lists
 use Rattle.klist_core.proofs.Listing.{IsAmong, list_rises, in_list, listed, key_among, among_keys}
 use Rattle.slab_tables.specs.Content.{head_of}
 use Rattle.machine_changes.specs.Laws.{is_kind, KindsHold}
-use Rattle.machine_changes.proofs.Members.{mapped_in, same_rising}
+use Rattle.machine_changes.proofs.Members.{same_rising}
 use Rattle.machine_changes.proofs.ByKind.{to_list, from_list}
 
 -- what is among the elements is in the list
@@ -32,7 +32,7 @@ kinds_hold s w table r b t c kind m x a st h ex less =
     subst (λ f. IsIn f (map (λ y. y.first) (filter (is_kind kind) x.slabs))) there.begins
     (in_map (λ y. y.first) there.slab (filter (is_kind kind) x.slabs) (in_filter (is_kind kind) there.slab x.slabs there.listed there.passes)))
     (λ u i.
-    let y = mapped_in (λ z. z.first) u (filter (is_kind kind) x.slabs) i in
+    let y = map_in (λ z. z.first) u (filter (is_kind kind) x.slabs) i in
     let kept = filter_in (is_kind kind) y.0 x.slabs y.1 in
     let there = to_list r b s w a t c kind less m x h ex y.0 kept.0 kept.1 in
     subst (λ f. IsIn f (lists.keys_of s.lists.places (head_of t c kind))) y.2

@@ -10,11 +10,6 @@ use Rattle.machine_changes.proofs.Lookups.{some_none, key_above}
 
 -- Mapped lists
 
-pub mapped_in : {X Y : Type 0} (g : X → Y) (z : Y) (xs : List X) → IsIn z (map g xs) → (x : X) × IsIn x xs × (g x ≡ z)
-mapped_in g z [] i = elim i [ ]
-mapped_in g z (x ∷ xs) (inl same) = (x, inl refl, same)
-mapped_in g z (x ∷ xs) (inr i) = let there = mapped_in g z xs i in (there.0, inr there.1, there.2)
-
 pub flat_map_in : {X Y : Type 0} (g : X → List Y) (z : Y) (xs : List X) → IsIn z (flat_map g xs) → (x : X) × IsIn x xs × IsIn z (g x)
 flat_map_in g z [] i = elim i [ ]
 flat_map_in {X} g z (x ∷ xs) i =

@@ -7,7 +7,7 @@ use Rattle.model_core.specs.Choice.{choose}
 use Rattle.model_core.specs.Machine.{Slab, Cache, Machine, holds, beyond, order_in, choice, layout, slab_block, slab_blocks, taken_blocks}
 use Rattle.model_core.specs.Slabs.{is_empty, without_empty, reaped}
 use Rattle.model_core.specs.Elements.{IsIn}
-use Rattle.model_core.proofs.Lists.{find_in, filter_in, in_filter, in_map}
+use Rattle.model_core.proofs.Lists.{find_in, filter_in, in_filter, in_map, map_in}
 use Rattle.model_core.proofs.Chosen.{held_below}
 use Rattle.model_core.proofs.Vacant.{IsVacant, some_choice, choice_vacant}
 use Rattle.space_core.specs.Content as spaces
@@ -20,7 +20,7 @@ use Rattle.machine_changes.specs.Room.{IsIdle, HasRoom}
 use Rattle.machine_changes.specs.Laws.{AreObjectsCounted, RoomMeets}
 use Rattle.machine_changes.proofs.Lookups.{some_none, some_same}
 use Rattle.machine_changes.proofs.Facts.{shown, has_it, one_slab, IsSlabThere, some_slab, slab_in}
-use Rattle.machine_changes.proofs.Members.{mapped_in, flat_map_in, in_flat_map}
+use Rattle.machine_changes.proofs.Members.{flat_map_in, in_flat_map}
 use Rattle.machine_changes.proofs.Flags.{any_counts}
 use Rattle.machine_changes.proofs.Taken.{IsOfSlab, slab_kept, order_of_slab, order_of_none, order_of_page}
 
@@ -62,9 +62,9 @@ module _ (r : spaces.Content) (b : buddies.Content) (s : Content) (t : ℕ) (m :
   left_tells : (z : Block) → IsIn z left_list → IsLeft z
   left_tells z i =
       let rest = flat_map_in slab_blocks z (map without_empty m.caches) i in
-      let x = mapped_in without_empty rest.0 m.caches rest.1 in
+      let x = map_in without_empty rest.0 m.caches rest.1 in
       let listed : IsIn z (slab_blocks (without_empty x.0)) = subst (λ c. IsIn z (slab_blocks c)) (sym x.2) rest.2 in
-      let y = mapped_in (slab_block (without_empty x.0)) z (filter (λ y. not (is_empty y)) x.0.slabs) listed in
+      let y = map_in (slab_block (without_empty x.0)) z (filter (λ y. not (is_empty y)) x.0.slabs) listed in
       let kept = filter_in (λ y. not (is_empty y)) y.0 x.0.slabs y.1 in
       subst IsLeft y.2 (left_of x.0 y.0 x.1 kept.0 kept.1)
 

@@ -9,7 +9,7 @@ use Rattle.model_core.specs.Layouts.{Layout}
 use Rattle.model_core.specs.Machine.{Machine, slab_block, slab_blocks, taken_blocks, order_in}
 use Rattle.model_core.specs.Operations.{overlaps, is_busy}
 use Rattle.model_core.specs.Elements.{IsIn}
-use Rattle.model_core.proofs.Lists.{some_any}
+use Rattle.model_core.proofs.Lists.{some_any, map_in}
 use Rattle.model_core.proofs.Objects.{in_append}
 use Rattle.model_core.proofs.Apart.{overlap_from}
 use Rattle.space_core.specs.Content as spaces
@@ -18,7 +18,7 @@ use Rattle.slab_tables.specs.Content.{Content}
 use Rattle.machine_changes.specs.Shows.{node_of, has_slab, ShowsMachine}
 use Rattle.machine_changes.specs.Steady.{IsSteady}
 use Rattle.machine_changes.proofs.Lookups.{some_none, some_same, in_found}
-use Rattle.machine_changes.proofs.Members.{mapped_in, flat_map_in}
+use Rattle.machine_changes.proofs.Members.{flat_map_in}
 use Rattle.machine_changes.proofs.Reserved.{order_found}
 use Rattle.machine_changes.proofs.Taken.{slab_kept, taken_meets}
 use Rattle.machine_changes.specs.Slots.{BusyMeets}
@@ -68,7 +68,7 @@ module _ (r : spaces.Content) (b : buddies.Content) (s : Content) (t : ℕ) (m :
   slab_taken : (z : Block) → IsIn z (flat_map slab_blocks m.caches) → buddies.taken_of (buddies.holding_of t b) z.first ≡ Some z.order
   slab_taken z i =
       let x = flat_map_in slab_blocks z m.caches i in
-      let y = mapped_in (slab_block x.0) z x.0.slabs x.2 in
+      let y = map_in (slab_block x.0) z x.0.slabs x.2 in
       let is = slab_kept r b s t m st h x.0 y.0 x.1 y.1 in
       subst (λ w. buddies.taken_of (buddies.holding_of t b) w.first ≡ Some w.order) y.2
       ((st.stands x.0.number y.0.first is.node is.kept is.slab).taken ∙ ap (λ (l : Layout). Some l.order) (sym is.layout))

@@ -20,7 +20,7 @@ use Rattle.machine_changes.proofs.SlotBare.{tenant_of, slab_there}
 use Rattle.machine_changes.proofs.SlotEmpty.{empty_shows, none_in}
 
 -- a place that is not gone was there, in a list of another cache
-unless_some : (gone : ℕ → Bool) (place : Option (ℕ × ℕ)) (p : ℕ × ℕ) → unless_gone gone place ≡ Some p → (place ≡ Some p) × (gone (p.0 / 3) ≡ false)
+pub unless_some : (gone : ℕ → Bool) (place : Option (ℕ × ℕ)) (p : ℕ × ℕ) → unless_gone gone place ≡ Some p → (place ≡ Some p) × (gone (p.0 / 3) ≡ false)
 unless_some gone None p e = absurd (some_none (sym e))
 unless_some gone (Some q) p e = go (gone (q.0 / 3)) refl e
   where

@@ -51,7 +51,7 @@ pub in_row : (x a n : ℕ) → a ≤ x → x < a + n → IsIn x (range_with_len 
 in_row x a zero low high = absurd (omega arith)
 in_row x a (suc n) low high = ⊎_elim (λ same. inl same) (λ other. inr (in_row x (a + 1) n (omega arith) (omega arith))) (cases_eq a x)
 
-listed_some : {X : Type 0} (x : X) (xs : List X) → IsIn x xs → ltb 0 (length xs) ≡ true
+pub listed_some : {X : Type 0} (x : X) (xs : List X) → IsIn x xs → ltb 0 (length xs) ≡ true
 listed_some x [] i = elim i [ ]
 listed_some x (y ∷ xs) i = lt-ltb 0 (length (y ∷ xs)) (omega arith)
 

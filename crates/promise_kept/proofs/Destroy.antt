@@ -37,8 +37,8 @@ use Rattle.promise_kept.proofs.Reaped.{slab_no_page, object_in_slab}
 use Rattle.promise_kept.proofs.Live.{apart_in}
 use Rattle.promise_kept.proofs.Known.{seen, seen_is, cache_seen, IsLiveIn, live_told, told_live}
 use Rattle.promise_kept.proofs.Counts.{empty_vacant}
+use Rattle.promise_core.proofs.Causes.{listed_some}
 use Rattle.promise_kept.proofs.Frames.{frames_divide, empty_of, told_frames}
-use Rattle.promise_kept.proofs.Reap.{in_length}
 
 -- a cache without live objects
 
@@ -200,7 +200,7 @@ in_use : (c : Cache) → list_any (λ s. not (is_empty s)) c.slabs ≡ true → 
 in_use c e =
     let t : (t : Slab) × IsIn t c.slabs × (not (is_empty t) ≡ true) = some_any (λ s. not (is_empty s)) c.slabs e in
     let o : (o : LiveObject) × IsIn o (live_in c t.0) × (o.slab ≡ t.0) = one_live c t.0 0 t.0.live (not-false _ (not-true (is_empty t.0) t.2)) in
-    in_length o.0.place (map (λ o. o.place) (live_objects c)) (in_map (λ o. o.place) o.0 (live_objects c) (in_flat (live_in c) o.0 t.0 c.slabs t.1 o.1))
+    listed_some o.0.place (map (λ o. o.place) (live_objects c)) (in_map (λ o. o.place) o.0 (live_objects c) (in_flat (live_in c) o.0 t.0 c.slabs t.1 o.1))
 
 destroy_seen : (limit order number : ℕ) (m : Machine) (s : State) → IsWellFormed limit order m → Meets order s m → Meets order (seen m s) m → IsPromiseKept limit order (Asked.Destroy number) m (seen m s)
 unfolding command_step destroy_step holdings_of due state_after

@@ -28,9 +28,9 @@ use Rattle.promise_kept.proofs.Cells.{fresh_may}
 use Rattle.promise_kept.proofs.Reaped.{untold, object_in_slab}
 use Rattle.promise_kept.proofs.Live.{IsLivePlace}
 use Rattle.promise_kept.proofs.Flag.{replaced_is}
-use Rattle.promise_kept.proofs.TakePlaces.{put_has}
 use Rattle.promise_kept.proofs.Known.{IsLiveIn, live_told}
 use Rattle.promise_kept.proofs.Beside.{is_slab}
+use Rattle.promise_core.proofs.Steps.{in_put}
 use Rattle.promise_kept.proofs.Take.{hidden}
 
 pub none_set : (n : ℕ) → list_any (λ live. live) (replicate n false) ≡ false
@@ -161,7 +161,7 @@ module _ {limit : ℕ} (order first : ℕ) (c : Cache) (m : Machine) (st : State
       go_bytes o j byte below is i (inr l) = old_byte o.cache o.slab o.index j byte l.0 (contains_in o.cache.slabs o.slab i.slab_in) i.index_in below is
       go_bytes o j byte below is i (inl e) = subst (λ x. IsIn o.slab x.slabs → o.index < (layout x).count → j < x.size → n.bytes (object_place (layout x) o.slab.first o.slab.colour o.index + j) ≡ Some byte
           → may_be (Holder.Object x.number (object_place (layout x) o.slab.first o.slab.colour o.index)) (pattern_byte x.pattern j) (st.cells (object_place (layout x) o.slab.first o.slab.colour o.index + j)) byte ≡ true)
-          e (λ in_t lt small there. by lt small there (put_has (λ s. s.first) new o.slab c.slabs in_t))
+          e (λ in_t lt small there. by lt small there (in_put (λ s. s.first) new o.slab c.slabs in_t))
           (contains_in o.cache.slabs o.slab i.slab_in) i.index_in below is
         where
           by : o.index < (layout c).count → j < c.size → n.bytes (object_place (layout c) o.slab.first o.slab.colour o.index + j) ≡ Some byte → (new ≡ o.slab) ⊎ IsIn o.slab c.slabs

@@ -1,9 +1,9 @@
 -- A reap keeps the promises.
-use Rattle.std.proofs.Common.{◌≡◌, ℕ, ◌+◌, ◌%◌, ◌^◌, ◌<◌, Bool, true, false, not, ◌&&◌, cond, eqb, ltb, leb, List, [], ◌∷◌, map, length, Option, Some, None, refl, sym, ap, ◌∙◌, subst, ◌⊎◌, inl, inr, arith}
+use Rattle.std.proofs.Common.{◌≡◌, ℕ, ◌+◌, ◌%◌, ◌^◌, ◌<◌, Bool, true, false, not, ◌&&◌, cond, eqb, leb, List, [], ◌∷◌, map, length, Option, Some, None, refl, sym, ap, ◌∙◌, subst, ◌⊎◌, inl, inr, arith}
 use Rattle.std.specs.Prelude.{option_map, find, flat_map, Contains}
 use Rattle.std.specs.List.{list_any}
 use Rattle.std.specs.Option.{option_map_or}
-use Rattle.std.proofs.lemmas.Bool.{and_from, or_left, or_right, le-leb, lt-ltb, eqb-true, eq-eqb, not_from_true, not-true, not-false, false≢true}
+use Rattle.std.proofs.lemmas.Bool.{and_from, or_left, or_right, le-leb, eqb-true, eq-eqb, not_from_true, not-true, not-false, false≢true}
 use Rattle.model_core.specs.Layouts.{object_place, pattern_byte}
 use Rattle.model_core.specs.Machine.{Slab, Cache, Machine, layout, in_block, slab_block}
 use Rattle.model_core.specs.Slabs.{LiveObject, live_objects, live_in, is_empty, without_empty, empty_blocks, reaped}
@@ -30,6 +30,7 @@ use Rattle.promise_kept.proofs.Cells.{all_kept, without_some, without_may}
 use Rattle.promise_kept.proofs.Reaped.{untold, meets_reaped, object_in_slab}
 use Rattle.promise_kept.proofs.Known.{seen, seen_is, cache_seen}
 use Rattle.promise_kept.proofs.Counts.{empty_vacant, empty_apart}
+use Rattle.promise_core.proofs.Causes.{listed_some}
 use Rattle.promise_kept.proofs.Frames.{IsLeast, least_order, frames_divide, told_frames}
 
 -- the one element that passes is found
@@ -47,10 +48,6 @@ pub cache_known : {limit : ℕ} (order : ℕ) (m : Machine) (c : Cache) → IsWe
 unfolding holdings_of
 cache_known order m c w i = cache_seen c.number m.caches ∙ ap (option_map told_cache) (find_one (λ x. eqb x.number c.number) c m.caches i (eq-eqb c.number c.number refl)
     (λ x j e. one_key (λ y. y.number) 0 m.caches x c w.caches_rise j i (eqb-true x.number c.number e)))
-
-pub in_length : {X : Type 0} (x : X) (xs : List X) → IsIn x xs → ltb 0 (length xs) ≡ true
-in_length x [] i = elim i [ ]
-in_length x (y ∷ ys) i = lt-ltb 0 (length (y ∷ ys)) (omega arith)
 
 module _ (limit order : ℕ) (m : Machine) (s : State) (w : IsWellFormed limit order m) (h : Meets order s m) (k : Meets order (seen m s) m) where
   comes_back : can_come_back order (holdings_of m).caches (frames_of (flat_map empty_blocks m.caches)) (seen m s) ≡ true
@@ -86,7 +83,7 @@ module _ (limit order : ℕ) (m : Machine) (s : State) (w : IsWellFormed limit o
   in_use : (d : Cache) (t : Slab) → IsIn d m.caches → IsIn t (without_empty d).slabs → is_in_use (cache_told (holdings_of m) d.number) ≡ true
   in_use d t in_d in_t =
       let o : (o : LiveObject) × IsIn o (live_objects d) × (o.slab ≡ t) = beside d t in_d in_t in
-      ap is_in_use (cache_known order m d w in_d) ∙ in_length o.0.place (map (λ x. x.place) (live_objects d)) (in_map (λ x. x.place) o.0 (live_objects d) o.1)
+      ap is_in_use (cache_known order m d w in_d) ∙ listed_some o.0.place (map (λ x. x.place) (live_objects d)) (in_map (λ x. x.place) o.0 (live_objects d) o.1)
 
   in_one : (d : Cache) (t : Slab) (i : ℕ) → IsIn d m.caches → IsIn t (without_empty d).slabs → i < (layout d).count
       → is_in_no_slab (holdings_of m) d.number (object_place (layout d) t.first t.colour i) ≡ false

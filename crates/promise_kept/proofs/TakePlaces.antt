@@ -10,16 +10,8 @@ use Rattle.model_core.proofs.Lists.{PutIn, put_in, put_rises, each_from, in_left
 use Rattle.model_core.proofs.CacheSteps.{live_kept}
 use Rattle.model_core.proofs.Objects.{in_append}
 use Rattle.promise_kept.proofs.Live.{same_members, live_rises, IsLivePlace, live_place, place_listed}
+use Rattle.promise_core.proofs.Steps.{in_put}
 use Rattle.promise_kept.proofs.Flag.{replaced_one, live_after, live_other, live_this}
-
--- what a list has with one more
-pub put_has : {X : Type 0} (key : X → ℕ) (x y : X) (xs : List X) → IsIn y (put_rising key x xs) → (x ≡ y) ⊎ IsIn y xs
-put_has {X} key x y xs i = let p : PutIn key x xs = put_in key x xs in go p (in_append y p.before (x ∷ p.later) (subst (IsIn y) p.is i))
-  where
-    go : (p : PutIn key x xs) → IsIn y p.before ⊎ IsIn y (x ∷ p.later) → (x ≡ y) ⊎ IsIn y xs
-    go p (inl j) = inr (subst (IsIn y) (sym p.was) (in_left y p.before p.later j))
-    go p (inr (inl e)) = inl e
-    go p (inr (inr j)) = inr (subst (IsIn y) (sym p.was) (in_right y p.before p.later j))
 
 has_put : (u p : ℕ) (ps : List ℕ) → (p ≡ u) ⊎ IsIn u ps → IsIn u (put_rising (λ x. x) p ps)
 has_put u p ps i = let k : PutIn (λ x. x) p ps = put_in (λ x. x) p ps in subst (IsIn u) (sym k.is) (go k i)
@@ -45,7 +37,7 @@ place_put {limit} order c s i m w in_c in_s lt dead =
     (subst (RisesFrom 0) (map-id (put_rising (λ p. p) p ps)) (put_rises (λ x. x) 0 p ps (subst (RisesFrom 0) (sym (map-id ps)) (live_rises order c m w in_c)) (omega arith)
     (each_from (λ y. y ≢ p) ps (λ y j e. dead (subst (IsLivePlace c) e (live_place c y j))))))
     (live_rises order d (with_cache d m) (live_kept order c s i true m w in_c in_s) d_in)
-    (λ u j. there u (put_has (λ x. x) p u ps j))
+    (λ u j. there u (in_put (λ x. x) p u ps j))
     (λ u j. has_put u p ps (back u (live_after limit order c s i true m w in_c in_s lt u (live_place d u j))))
   where
     there : (u : ℕ) → (object_place (layout c) s.first s.colour i ≡ u) ⊎ IsIn u (map (λ o. o.place) (live_objects c)) → IsIn u (map (λ o. o.place) (live_objects (with_slab (with_live i true s) c)))

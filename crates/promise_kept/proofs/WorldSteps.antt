@@ -53,6 +53,7 @@ use Rattle.promise_kept.proofs.Destroy as destroy
 use Rattle.promise_kept.proofs.Taking as taking
 use Rattle.promise_kept.proofs.Give as give
 use Rattle.promise_kept.proofs.Reap as reap
+use Rattle.std.proofs.lemmas.Option.{slice_get_past}
 use Rattle.promise_kept.proofs.Report.{report_kept}
 
 -- Commands
@@ -187,11 +188,6 @@ event_kept limit order (On.Admin Do.Pool) le can = pool_event limit order
 
 -- A tenant that there is not
 
-past_none : {A : Type 0} (xs : List A) (t : ℕ) → length xs ≤ t → slice_get xs t ≡ None
-past_none [] t le = refl
-past_none (x ∷ xs) zero le = absurd (omega (arith, le))
-past_none (x ∷ xs) (suc t) le = past_none xs t (omega (arith, le))
-
 stranger_is : (limit order t : ℕ) (event : Event) (addressee : Addressee) (k : Known) (w : World) → MeetsWorld limit order k w → named event ≡ Some t → slice_get w.machines t ≡ None
     → world_step limit order event w ≡ answer addressee (Say.Refused Refusal.NoTenant) w → is_for event false addressee ≡ true
     → (allowed event (world_step limit order event w).reply k ≡ Ok k) × ((world_step limit order event w).world ≡ w)
@@ -202,7 +198,7 @@ stranger_is limit order t event addressee k w h name is e for = (
 )
 
 none_named : (w : World) (n t : ℕ) → Some n ≡ Some t → length w.machines ≤ t → slice_get w.machines n ≡ None
-none_named w n t name past = let same : n ≡ t = cc in past_none w.machines n (omega (arith, same, past))
+none_named w n t name past = let same : n ≡ t = cc in slice_get_past w.machines n (omega (arith, same, past))
 
 pub stranger_event : StrangerChangesNothing
 unfolding world_step grant_step slot_step reset_step move_step tenant_step
@@ -258,7 +254,7 @@ keeps_promises limit order superblocks tenants events le ram can =
 
 -- what a line reads as can be asked for
 
-read_asked : (line : List ℕ) (event : Event) → reading_of line ≡ Ok (Some event) → CanBeAsked event
+pub read_asked : (line : List ℕ) (event : Event) → reading_of line ≡ Ok (Some event) → CanBeAsked event
 read_asked line (On.Tenant t command) e = reading_possible line (On.Tenant t command) e
 read_asked line (On.Admin command) e = tt
 

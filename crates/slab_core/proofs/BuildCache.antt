@@ -15,8 +15,8 @@ use Rattle.slab_tables.specs.Content.{Content, kept_at, cache_in, cache_at, inde
 use Rattle.slab_tables.specs.Changes.{with_cache}
 use Rattle.machine_changes.specs.Shows.{node_of, live_of, is_of_cache, slab_placed, slab_under, slab_at, bare, without_slabs, IsSlab, ShowsMachine, Agree}
 use Rattle.machine_changes.specs.Keeps.{Keeps}
+use Rattle.machine_changes.proofs.PageHoldings.{same_space}
 use Rattle.machine_changes.proofs.Lookups.{at}
-use Rattle.slab_core.proofs.Building.{same_here}
 
 -- no slab of the cache with this index stands anywhere
 abbrev pub IsBare : Content → ℕ → Type 0
@@ -54,7 +54,7 @@ module _ (s : Content) (t c : ℕ) (o : Option own.Cache) (small : c < MOST_CACH
 
   pub cache_others : (r : spaces.Content) (b : buddies.Content) (u : ℕ) → u ≢ t → Keeps r r b b s (with_cache s t c o) u
   cache_others r b u differ = record {
-    space = same_here u r;
+    space = same_space u r;
     buddy = refl;
     slabs = record {
       top = refl;

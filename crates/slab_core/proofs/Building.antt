@@ -16,15 +16,8 @@ use Rattle.space_core.proofs.Reading.{same_twice}
 use Rattle.slab_tables.specs.declared.cache.Cache as own
 use Rattle.slab_tables.specs.Content.{layout_numbers}
 use Rattle.machine_changes.specs.Shows.{byte_or_zero}
+use Rattle.machine_changes.proofs.PageHoldings.{same_space}
 use Rattle.slab_core.specs.Calls.{IsFilled, IsConstructed}
-
-pub same_here : (t : ℕ) (r : spaces.Content) → IsSameFor t r r
-same_here t r = record {
-  slots = λ u. refl;
-  banks = λ u m e. refl;
-  bytes = λ place. refl;
-  windows = λ place len. refl;
-}
 
 -- bytes alone change
 pub banks_of : (r r' v : spaces.Content) → r' ≡ v → v ≡ record r { banks = v.banks } → r' ≡ record r { banks = r'.banks }
@@ -169,7 +162,7 @@ module _ (cache : own.Cache) (f colour : ℕ) where
   pub begun : (r : spaces.Content) (t : ℕ) → is_small (layout_numbers cache).chunk ≡ false → IsConstructed r r t cache f colour 0
   begun r t large = record {
     space = refl;
-    others = λ u differ. same_here u r;
+    others = λ u differ. same_space u r;
     spare = λ m none. refl;
     clear = λ small j less. absurd (false≢true (sym large ∙ small));
     objects = λ i j lower less. absurd (omega arith);

@@ -27,8 +27,8 @@ use Rattle.model_core.proofs.FreeBlocks.{reserved_is_untaken}
 use Rattle.machine_changes.proofs.Reserved.{reserved_shows}
 use Rattle.slab_core.specs.Room.{HasFreeBlock}
 use Rattle.slab_core.specs.Lending.{IsPageAt}
-use Rattle.slab_core.proofs.Building.{same_here}
 use Rattle.slab_core.proofs.GrowOne.{something, choice_some, choice_none}
+use Rattle.machine_changes.proofs.PageHoldings.{same_space}
 use Rattle.slab_core.proofs.ReturnMany.{spares_none}
 
 no_order : (o : Option ℕ) → ((k : ℕ) → o ≡ Some k → ⊥) → o ≡ None
@@ -130,7 +130,7 @@ module _ (r : spaces.Content) (b : buddies.Content) (s : Content) (t k : ℕ) (a
     one_spares : Spares t r r b reserved s s
     one_spares = record {
       others = λ u differ. record {
-        space = same_here u r;
+        space = same_space u r;
         buddy = holding_then u differ;
         slabs = record { top = refl; caches = λ c. refl; lists = λ f n e. refl; kept = λ f n e. refl };
       };

@@ -29,7 +29,8 @@ use Rattle.machine_changes.proofs.Steady.{IsInTable, in_table, placed_as, slab_f
 use Rattle.machine_changes.proofs.Twice.{twice}
 use Rattle.slab_core.specs.Calls.{is_of_these, is_idle, idle_at}
 use Rattle.slab_core.proofs.BuildCreate.{bare_without}
-use Rattle.slab_core.proofs.Building.{same_here, banks_twice, spare_twice}
+use Rattle.machine_changes.proofs.PageHoldings.{same_space}
+use Rattle.slab_core.proofs.Building.{banks_twice, spare_twice}
 
 or_cases : (v w : Bool) → (v || w) ≡ true → (v ≡ true) ⊎ (w ≡ true)
 or_cases true w e = inl refl
@@ -92,7 +93,7 @@ pub record IsGiving (these : ℕ → Bool) (r r' : spaces.Content) (b b' : buddi
 pub spares_none : (r : spaces.Content) (b : buddies.Content) (s : Content) (t : ℕ) → Spares t r r b b s s
 spares_none r b s t = record {
   others = λ u differ. record {
-    space = same_here u r;
+    space = same_space u r;
     buddy = refl;
     slabs = record { top = refl; caches = λ c. refl; lists = λ f n e. refl; kept = λ f n e. refl };
   };

@@ -1,8 +1,7 @@
 -- Free blocks that are large enough, and their number.
-use Rattle.std.proofs.Common.{◌≡◌, ℕ, zero, suc, ◌+◌, ◌*◌, ◌/◌, ◌^◌, ◌<◌, ◌≤◌, Bool, true, false, Some, None, length, refl, ap, ◌∙◌, ⊎_elim, arith}
-use Rattle.std.specs.Prelude.{Option, is_some}
+use Rattle.std.proofs.Common.{◌≡◌, ℕ, zero, suc, ◌+◌, ◌*◌, ◌/◌, ◌^◌, ◌<◌, ◌≤◌, Bool, true, false, length, refl, ap, ◌∙◌, ⊎_elim, arith}
 use Rattle.std.proofs.Math.Nat.{div-lt_iff_lt-mul}
-use Rattle.std.proofs.lemmas.Bool.{cases_lt, false≢true}
+use Rattle.std.proofs.lemmas.Bool.{cases_lt}
 use Rattle.std.proofs.lemmas.Nat.{pow_pos}
 use Rattle.model_core.specs.Blocks.{block}
 use Rattle.model_core.specs.Choice.{is_free, count_below}
@@ -11,6 +10,7 @@ use Rattle.model_core.proofs.Counting.{bit}
 use Rattle.buddy_core.specs.Content as buddies
 use Rattle.buddy_core.proofs.Counting.{count_some}
 use Rattle.machine_changes.proofs.Steady.{within}
+use Rattle.slab_core.proofs.GrowOne.{something}
 use Rattle.slab_core.specs.Room.{HasFreeBlock}
 
 -- where some are counted, one passes
@@ -22,15 +22,11 @@ some_counted p (suc n) some = go (p n) refl some (some_counted p n)
     go true is some rest = (n, is)
     go false is some rest = rest (omega arith)
 
-some_is : (o : Option ℕ) → is_some o ≡ true → (m : ℕ) × (o ≡ Some m)
-some_is None e = absurd (false≢true e)
-some_is (Some m) e = (m, refl)
-
 -- a held slot is one of the table
 pub held_within : (b : buddies.Content) (t u : ℕ) → buddies.IsSized b → t < length b.tenants
     → buddies.is_held (buddies.holding_of t b) u ≡ true → u < b.superblocks
 held_within b t u sized lt held =
-    let is = some_is (buddies.superblock_at (buddies.holding_of t b) u) held in
+    let is = something (buddies.superblock_at (buddies.holding_of t b) u) held in
     let less : u < length (buddies.holding_of t b).slots = within (buddies.holding_of t b).slots u is.0 is.1 in
     omega (arith, less, sized.slots t lt)
 

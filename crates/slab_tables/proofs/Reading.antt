@@ -1,5 +1,5 @@
 -- What stands in the tables, read by tenant, number and node.
-use Rattle.std.proofs.Common.{◌≡◌, ℕ, zero, suc, ◌/◌, ◌%◌, ◌<◌, ◌≤◌, Bool, true, false, cond, eqb, Option, Some, None, length, get_or, replicate, refl, sym, ap, ◌∙◌, subst, inl, inr, arith}
+use Rattle.std.proofs.Common.{◌≡◌, ℕ, ◌/◌, ◌%◌, ◌<◌, ◌≤◌, Bool, true, false, cond, eqb, Option, Some, None, length, sym, ap, ◌∙◌, subst, inl, inr, arith}
 use Rattle.std.specs.Prelude.{IsSome}
 use Rattle.std.proofs.lemmas.Bool.{cases_lt, lt-ltb, le-ltb, ne_eqb, false≢true}
 use Rattle.klist_core.specs.Places.{place_at}
@@ -11,11 +11,6 @@ use Rattle.slab_tables.specs.Content.{Content, IsSlabs, IsListed, IsTenant, IsPl
 -- what callers see of the tables
 abbrev pub shown : Inside → Content
 shown a = record { top = a.order; lists = a.lists; kept = a.kept.items; caches = a.caches.items; live = a.live.items }
-
-pub everywhere : {X : Type 0} (x : X) (n i : ℕ) → get_or (replicate n x) i x ≡ x
-everywhere x zero i = refl
-everywhere x (suc n) zero = refl
-everywhere x (suc n) (suc i) = everywhere x n i
 
 -- two answers of one look-up are the same
 pub same_cache : {c d : Cache} {o : Option Cache} → o ≡ Some c → o ≡ Some d → c ≡ d

@@ -1,24 +1,14 @@
-use Rattle.std.proofs.Common.{◌≡◌, ℕ, ◌*◌, ◌/◌, ◌^◌, ◌==◌, Bool, true, false, cond, Some, None, refl, sym, ap, ◌∙◌, subst}
-use Rattle.std.specs.Prelude.{Option}
+use Rattle.std.proofs.Common.{◌≡◌, ℕ, ◌*◌, ◌/◌, ◌^◌, ◌==◌, cond, None, sym, ap, ◌∙◌, subst}
 use Rattle.model_core.specs.declared.limits.TheConstants.{MOST_CACHES}
 use Rattle.klist_core.specs.Places.{place_at}
 use Rattle.space_core.specs.Content as spaces
 use Rattle.buddy_core.specs.Content as buddies
 use Rattle.slab_tables.specs.Content.{Content, kept_at, cache_in}
-use Rattle.slab_tables.specs.Changes.{IsReset, unless_gone}
+use Rattle.slab_tables.specs.Changes.{IsReset}
 use Rattle.machine_changes.specs.Records.{count_true}
 use Rattle.machine_changes.specs.Shows.{node_of, is_live, live_of, Agree}
-use Rattle.machine_changes.proofs.Lookups.{some_none, some_same}
+use Rattle.machine_changes.proofs.SlotEmptied.{unless_some}
 use Rattle.slab_core.proofs.Slabs.reset.Goals as goal
-
--- a slab that is left was there, and its cache is left
-was_there : (gone : ℕ → Bool) (place : Option (ℕ × ℕ)) (p : ℕ × ℕ) → unless_gone gone place ≡ Some p → (place ≡ Some p) × (gone (p.0 / 3) ≡ false)
-was_there gone None p e = absurd (some_none (sym e))
-was_there gone (Some q) p e = go (gone (q.0 / 3)) refl e
-  where
-    go : (v : Bool) → gone (q.0 / 3) ≡ v → cond v None (Some q) ≡ Some p → (Some q ≡ Some p) × (gone (p.0 / 3) ≡ false)
-    go true is e = absurd (some_none (sym e))
-    go false is e = (e, ap (λ (x : ℕ × ℕ). gone (x.0 / 3)) (sym (some_same e)) ∙ is)
 
 agrees : (r : spaces.Content) (b : buddies.Content) (s s' : Content) (t : ℕ) → IsReset s s' t → Agree r b s → Agree r b s'
 agrees r b s s' t k a = record {
@@ -30,7 +20,7 @@ agrees r b s s' t k a = record {
   tenants = k.tenants ∙ a.tenants;
   slots = a.slots;
   slabs = λ n head key cache placed cached.
-      let was = was_there (λ i. i / MOST_CACHES == t) (place_at s.lists.places n) (head, key) (sym (k.places n) ∙ placed) in
+      let was = unless_some (λ i. i / MOST_CACHES == t) (place_at s.lists.places n) (head, key) (sym (k.places n) ∙ placed) in
       let left : cache_in s'.caches (head / 3) ≡ cache_in s.caches (head / 3) = k.caches (head / 3) ∙ ap (λ v. cond v None (cache_in s.caches (head / 3))) was.1 in
       let g = a.slabs n head key cache was.0 (sym left ∙ cached) in
       let u : ℕ = head / 3 / MOST_CACHES in
