@@ -3,7 +3,7 @@ use Rattle.std.specs.Prelude.{ℕ, ◌*◌, ◌≤◌}
 use Rattle.replay_core.specs.Pushes.{most_reply_bytes}
 
 -- no line counts twice, and each has one reply at most
-pub record IsBounded (lines events faults written : ℕ) : Type 0 where
+pub record IsWithinLines (lines events faults written : ℕ) : Type 0 where
   pub events_few : events ≤ lines
   pub faults_few : faults ≤ lines
   pub written_few : written ≤ most_reply_bytes * lines

@@ -1,7 +1,7 @@
 //! What a replay makes of lines: it counts them, and shows their answers.
 
 ghost use Rattle.std.specs.Prelude.{◌≡◌};
-ghost use Rattle.replay_core.specs.Bounds.{IsBounded};
+ghost use Rattle.replay_core.specs.Bounds.{IsWithinLines};
 
 use crate::answering::reply_in_rows;
 use crate::notes::Notes;
@@ -20,7 +20,7 @@ pub struct Run<N> {
     pub faults: u64,
     pub replies: Replies,
     pub notes: N,
-    ghost bounded: { IsBounded lines events faults replies.written },
+    ghost bounded: { IsWithinLines lines events faults replies.written },
 }
 
 impl<N: Notes> Run<N> {
