@@ -1,13 +1,12 @@
 -- Reaping by need: what serves a request is the machine itself, or what is left when all its empty slabs are given back.
 use Rattle.std.proofs.Common.{◌≡◌, ℕ, ◌≤◌, Bool, true, false, ltb, Option, Some, None, refl, sym, ap, ◌∙◌, arith}
-use Rattle.std.specs.Prelude.{if◌then◌else◌, OnErr, find}
+use Rattle.std.specs.Prelude.{if◌then◌else◌}
 use Rattle.std.proofs.lemmas.Bool.Decides.{nat_tests}
-use Rattle.model_core.specs.declared.refusals.AllocRefusal.{AllocRefusal}
-use Rattle.model_core.specs.Machine.{Slab, Cache, Machine, layout, choice}
-use Rattle.model_core.specs.Slabs.{cache_of, is_partial, is_empty, slab_to_use, reaped, by_need, choice_by_need}
-use Rattle.model_core.specs.Operations.{refuse, alloc_at, alloc_step}
-use Rattle.model_core.specs.CacheOperations.{take_new, take_from, take_of, take_step}
-use Rattle.model_core.specs.Laws.{AllocReaps, TakeReaps, RefusalsStay}
+use Rattle.model_core.specs.Machine.{Machine, choice}
+use Rattle.model_core.specs.Slabs.{reaped, by_need, choice_by_need}
+use Rattle.model_core.specs.Operations.{alloc_step}
+use Rattle.model_core.specs.CacheOperations.{take_step}
+use Rattle.model_core.specs.Laws.{AllocReaps, TakeReaps}
 
 -- what the machine has, reaped or not, it has by need
 pub by_need_keeps : (P : Machine → Type 0) (order k : ℕ) (m : Machine) → P m → P (reaped m) → P (by_need order k m)
@@ -60,33 +59,3 @@ take_reaps order number m c is unused = record {
   reaps = λ first none found. rw is (rw unused (rw (by_need_reaps order _ first m none found) (rw found refl)));
   stays = λ none still. rw is (rw unused (rw (by_need_stays order _ m none still) (rw none refl)));
 }
-
-alloc_stays : (order k : ℕ) (m : Machine) → OnErr (alloc_step order k m).answer ((alloc_step order k m).machine ≡ m)
-unfolding alloc_step
-alloc_stays order k m = go (ltb order k) (choice_by_need order k m) refl
-  where
-    go : (t : Bool) (o : Option ℕ) → choice_by_need order k m ≡ o
-        → let step = if t then refuse AllocRefusal.BadOrder m else alloc_at k (by_need order k m) o in OnErr step.answer (step.machine ≡ m)
-    go true o e = refl
-    go false None e = by_need_none order k m e
-    go false (Some first) e = tt
-
-take_stays : (order number : ℕ) (m : Machine) → OnErr (take_step order number m).answer ((take_step order number m).machine ≡ m)
-unfolding take_step
-take_stays order number m = go (cache_of m number)
-  where
-    new : (c : Cache) (o : Option ℕ) → choice_by_need order (layout c).order m ≡ o
-        → let step = take_new c (by_need order (layout c).order m) o in OnErr step.answer (step.machine ≡ m)
-    new c None e = by_need_none order (layout c).order m e
-    new c (Some first) e = tt
-
-    slab : (c : Cache) (o : Option Slab) → OnErr (take_from order c m o).answer ((take_from order c m o).machine ≡ m)
-    slab c (Some s) = tt
-    slab c None = new c (choice_by_need order (layout c).order m) refl
-
-    go : (o : Option Cache) → OnErr (take_of order m o).answer ((take_of order m o).machine ≡ m)
-    go None = refl
-    go (Some c) = slab c (slab_to_use (find is_partial c.slabs) (find is_empty c.slabs))
-
-pub refusals_stay : RefusalsStay
-refusals_stay order n m = (alloc_stays order n m, take_stays order n m)

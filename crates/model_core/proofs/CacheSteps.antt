@@ -1,6 +1,6 @@
--- Objects taken and given back, and growth: the machine stays well formed.
-use Rattle.std.proofs.Common.{◌≡◌, ◌≢◌, ℕ, ◌+◌, ◌-◌, ◌*◌, ◌<◌, Bool, true, false, not, cond, eqb, List, [], ◌∷◌, ◌++◌, map, length, Option, Some, None, refl, sym, ap, ◌∙◌, subst, inl, inr, arith}
-use Rattle.std.specs.Prelude.{if◌then◌else◌, is_some, filter, find, slice_set}
+-- A flag of an object set, and growth: the machine stays well formed.
+use Rattle.std.proofs.Common.{◌≡◌, ◌≢◌, ℕ, ◌+◌, ◌-◌, ◌*◌, ◌<◌, Bool, true, false, List, [], ◌∷◌, ◌++◌, map, length, Some, None, refl, sym, ap, ◌∙◌, subst, inl, inr, arith}
+use Rattle.std.specs.Prelude.{if◌then◌else◌, is_some, slice_set}
 use Rattle.std.specs.List.{AllByRecursion as Each}
 use Rattle.std.proofs.Math.ListN.{length-set, length-replicate}
 use Rattle.std.proofs.Math.Nat.{mod-lt}
@@ -8,13 +8,11 @@ use Rattle.model_core.specs.declared.limits.TheConstants.{FRAME_BYTES}
 use Rattle.model_core.specs.Blocks.{Block, block}
 use Rattle.model_core.specs.Layouts.{in_object}
 use Rattle.model_core.specs.Machine.{Slab, Cache, Machine, layout, choice}
-use Rattle.model_core.specs.Slabs.{is_partial, is_empty, cache_of, with_cache, with_slab, with_live, new_slab, fresh_byte, grown_cache, grown, slab_to_use, next_object, without_empty, reaped, by_need}
-use Rattle.model_core.specs.CacheOperations.{take_new, take_from, take_of, take_step}
+use Rattle.model_core.specs.Slabs.{with_cache, with_slab, with_live, new_slab, fresh_byte, grown_cache, grown, by_need, choice_by_need}
 use Rattle.model_core.specs.WellFormed.{RisesFrom, IsApart, IsCut, IsCache, IsWellFormed}
 use Rattle.model_core.proofs.Layouts.{layouts_fit}
 use Rattle.model_core.specs.Elements.{IsIn}
-use Rattle.model_core.proofs.Lists.{each_left, each_right, each_put, each_less, each_middle, each_weaker, each_in, each_unmap, each_from, find_in, Found, found, found_replaced, PutIn, put_in, put_rises, map_append, in_left, in_right, in_map}
-use Rattle.model_core.proofs.ByNeed.{by_need_keeps}
+use Rattle.model_core.proofs.Lists.{each_left, each_right, each_put, each_less, each_middle, each_weaker, each_in, each_unmap, each_from, Found, found, found_replaced, PutIn, put_in, put_rises, map_append, in_left, in_right, in_map}
 use Rattle.model_core.proofs.Apart.{apart_first}
 use Rattle.model_core.proofs.Chosen.{chosen_apart, chosen_placed}
 use Rattle.model_core.proofs.Laid.{Laid, laid, laid_in, all_laid, laid_block, IsLaidOut, taken_laid, laid_out, Numbered, well_formed}
@@ -158,59 +156,17 @@ grown_kept {limit} order first c m w in_c e =
     (record { fit = layouts_fit c.size c.align is_c.sized is_c.aligned; count = count; colour_is = (c.made, refl) })
     (λ place. fresh_some (in_object (layout c) c.size s.colour (place - FRAME_BYTES * first)) _)))
 
--- Objects taken
+-- a slab that is made by need
+pub record IsMade (limit order first : ℕ) (c : Cache) (m : Machine) : Type 0 where
+  pub served : IsWellFormed limit order (by_need order (layout c).order m)
+  pub formed : IsWellFormed limit order (grown first c (by_need order (layout c).order m))
+  pub cache_in : IsIn (grown_cache first c) (grown first c (by_need order (layout c).order m)).caches
+  pub slab_in : IsIn (new_slab c first) (grown_cache first c).slabs
 
-pub used_in : (c : Cache) (s : Slab) → slab_to_use (find is_partial c.slabs) (find is_empty c.slabs) ≡ Some s → IsIn s c.slabs
-unfolding slab_to_use
-used_in c s e = go (find is_partial c.slabs) refl e
-  where
-    go : (o : Option Slab) → find is_partial c.slabs ≡ o → slab_to_use o (find is_empty c.slabs) ≡ Some s → IsIn s c.slabs
-    go None f e = (find_in is_empty s c.slabs e).0
-    go (Some t) f e = (find_in is_partial s c.slabs (f ∙ e)).0
-
--- a cache that grows has no empty slab, so it stands among those of the reaped machine as it was
-kept_all : {X : Type 0} (p : X → Bool) (xs : List X) → find p xs ≡ None → filter (λ x. not (p x)) xs ≡ xs
-kept_all p [] e = refl
-kept_all {X} p (x ∷ xs) e = go (p x) e (kept_all p xs)
-  where
-    go : (b : Bool) → cond b (Some x) (find p xs) ≡ None → (find p xs ≡ None → filter (λ x. not (p x)) xs ≡ xs)
-        → cond (not b) (x ∷ filter (λ x. not (p x)) xs) (filter (λ x. not (p x)) xs) ≡ x ∷ xs
-    go true e ih = absurd (cc)
-    go false e ih = ap (λ ys. x ∷ ys) (ih e)
-
-none_empty : (c : Cache) → slab_to_use (find is_partial c.slabs) (find is_empty c.slabs) ≡ None → find is_empty c.slabs ≡ None
-unfolding slab_to_use
-none_empty c e = go (find is_partial c.slabs) e
-  where
-    go : (o : Option Slab) → slab_to_use o (find is_empty c.slabs) ≡ None → find is_empty c.slabs ≡ None
-    go None e = e
-    go (Some s) e = absurd (cc)
-
-stands_reaped : (c : Cache) (m : Machine) → IsIn c m.caches → slab_to_use (find is_partial c.slabs) (find is_empty c.slabs) ≡ None → IsIn c (reaped m).caches
-unfolding reaped
-stands_reaped c m i e =
-    subst (λ x. IsIn x (map without_empty m.caches)) (ap (λ (ss : List Slab). record c { slabs = ss }) (kept_all is_empty c.slabs (none_empty c e))) (in_map without_empty c m.caches i)
-
-pub stands_by_need : (order k : ℕ) (c : Cache) (m : Machine) → IsIn c m.caches → slab_to_use (find is_partial c.slabs) (find is_empty c.slabs) ≡ None → IsIn c (by_need order k m).caches
-stands_by_need order k c m i e = by_need_keeps (λ n. IsIn c n.caches) order k m i (stands_reaped c m i e)
-
-take_from_kept : {limit : ℕ} (order : ℕ) (c : Cache) (m : Machine) → IsWellFormed limit order m → IsIn c m.caches → (o : Option Slab) → slab_to_use (find is_partial c.slabs) (find is_empty c.slabs) ≡ o
-    → IsWellFormed limit order (take_from order c m o).machine
-take_from_kept {limit} order c m w in_c (Some s) e = live_kept order c s (next_object s) true m w in_c (used_in c s e)
-take_from_kept {limit} order c m w in_c None e =
+pub made : {limit : ℕ} (order first : ℕ) (c : Cache) (m : Machine) → IsWellFormed limit order m → IsIn c (by_need order (layout c).order m).caches → choice_by_need order (layout c).order m ≡ Some first
+    → IsMade limit order first c m
+made order first c m w i e =
     let n : Machine = by_need order (layout c).order m in
-    go n (by_need_kept order (layout c).order m w) (stands_by_need order (layout c).order c m in_c e) (choice order n (layout c).order) refl
-  where
-    go : (n : Machine) → IsWellFormed limit order n → IsIn c n.caches → (o : Option ℕ) → choice order n (layout c).order ≡ o → IsWellFormed limit order (take_new c n o).machine
-    go n w in_c None e = w
-    go n w in_c (Some first) e =
-        let h : IsGrown first c n = grown_is order first c n w in_c in
-        live_kept order (grown_cache first c) (new_slab c first) (next_object (new_slab c first)) true (grown first c n) (grown_kept order first c n w in_c e) h.cache_in h.slab_in
-
-pub take_kept : {limit : ℕ} (order number : ℕ) (m : Machine) → IsWellFormed limit order m → IsWellFormed limit order (take_step order number m).machine
-unfolding take_step
-take_kept {limit} order number m w = go (cache_of m number) refl
-  where
-    go : (o : Option Cache) → cache_of m number ≡ o → IsWellFormed limit order (take_of order m o).machine
-    go None e = w
-    go (Some c) e = take_from_kept order c m w (find_in (λ x. eqb x.number number) c m.caches e).0 (slab_to_use (find is_partial c.slabs) (find is_empty c.slabs)) refl
+    let served = by_need_kept order (layout c).order m w in
+    let g : IsGrown first c n = grown_is order first c n served i in
+    record { served = served; formed = grown_kept order first c n served i e; cache_in = g.cache_in; slab_in = g.slab_in }

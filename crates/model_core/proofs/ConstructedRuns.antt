@@ -1,169 +1,74 @@
 -- Over every list of operations: an object that was not handed out since its slab was made is in constructed state, and so is
 -- one that a take has just handed out for the first time.
-use Rattle.std.proofs.Common.{◌≡◌, ◌≢◌, ℕ, ◌+◌, ◌<◌, Bool, true, false, not, eqb, ltb, leb, List, [], ◌∷◌, ◌++◌, length, Option, Some, None, Result, Ok, refl, sym, ap, ◌∙◌, subst, arith}
-use Rattle.std.specs.Prelude.{if◌then◌else◌, find, is_some, option_map, option_and_then}
+use Rattle.std.proofs.Common.{◌≡◌, ℕ, ◌+◌, ◌<◌, Bool, true, false, eqb, List, [], ◌∷◌, ◌++◌, Some, Result, refl, sym, ap, ◌∙◌, subst, arith}
+use Rattle.std.specs.Prelude.{if◌then◌else◌}
 use Rattle.std.specs.Option.{option_map_or}
-use Rattle.std.specs.List.{list_any, AllByRecursion as Each}
+use Rattle.std.specs.List.{AllByRecursion as Each}
 use Rattle.std.specs.Result.{result_ok}
 use Rattle.std.proofs.lemmas.Bool.{false≢true, eqb-false, eq-eqb}
-use Rattle.model_core.specs.declared.refusals.AllocRefusal.{AllocRefusal}
-use Rattle.model_core.specs.declared.refusals.CacheRefusal.{CacheRefusal}
-use Rattle.model_core.specs.declared.refusals.DestroyRefusal.{DestroyRefusal}
-use Rattle.model_core.specs.declared.refusals.TakeBackRefusal.{TakeBackRefusal}
 use Rattle.model_core.specs.declared.refusals.TakeRefusal.{TakeRefusal}
-use Rattle.model_core.specs.Blocks.{block}
-use Rattle.model_core.specs.Layouts.{is_size, is_alignment, pattern_byte}
-use Rattle.model_core.specs.Machine.{Slab, Cache, Machine, empty_machine, holds, layout, choice, order_in}
-use Rattle.model_core.specs.Slabs.{LiveObject, live_objects, is_partial, is_empty, cache_of, new_slab, grown_cache, grown, slab_to_use, next_object, by_need, choice_by_need}
-use Rattle.model_core.specs.Reach.{in_reach}
-use Rattle.model_core.specs.Operations.{Step, refuse, alloc_at, alloc_step, free_at, free_step, written, write_step, is_busy, after_take_back, take_back_step}
-use Rattle.model_core.specs.CacheOperations.{created, next_number, create_step, cache_step, hand_out, take_new, take_from, take_of, take_step, give_object, give_of, give_step, destroy_of, destroy_step, reap_step}
-use Rattle.model_core.specs.Runs.{Operation, Alloc, Free, Write, Create, Take, Give, Destroy, Reap, Grant, TakeBack, Reset, ArePossible, after, run}
+use Rattle.model_core.specs.Layouts.{pattern_byte}
+use Rattle.model_core.specs.Machine.{Slab, Cache, Machine, empty_machine, in_block, layout}
+use Rattle.model_core.specs.Slabs.{new_slab, grown_cache, next_object}
+use Rattle.model_core.specs.Operations.{Step}
+use Rattle.model_core.specs.CacheOperations.{next_number, hand_out, take_step}
+use Rattle.model_core.specs.Runs.{Operation, Take, ArePossible, after, run}
 use Rattle.model_core.specs.WellFormed.{IsWellFormed}
-use Rattle.model_core.specs.Laws.{Object, IsObject, place_of, block_of_growth, makes_slab_at, hands_out, hand_outs, ConstructedFirst, ConstructedWhenTaken}
+use Rattle.model_core.specs.Laws.{Object, IsObject, place_of, makes_slab_at, hands_out, hand_outs, ConstructedFirst, ConstructedWhenTaken}
 use Rattle.model_core.specs.Elements.{IsIn}
-use Rattle.model_core.proofs.Lists.{find_in, each_in}
+use Rattle.model_core.proofs.Lists.{each_in}
 use Rattle.model_core.proofs.ByNeed.{by_need_keeps}
+use Rattle.model_core.proofs.Outcomes.{outcome}
 use Rattle.model_core.proofs.Laid.{laid, all_laid}
-use Rattle.model_core.proofs.PageSteps.{either, done, created_laid, by_need_kept}
-use Rattle.model_core.proofs.CacheSteps.{IsGrown, grown_is, grown_kept, used_in, stands_by_need, take_kept}
+use Rattle.model_core.proofs.PageSteps.{created_laid}
+use Rattle.model_core.proofs.CacheSteps.{IsMade, made}
 use Rattle.model_core.proofs.Objects.{live_is}
 use Rattle.model_core.proofs.ObjectsApart.{IsLaidObject, laid_object}
 use Rattle.model_core.proofs.Constructed.{IsFresh, AllFresh, IsConstructed, AllConstructed, fresh_constructed, constructed_flagged, fresh_written, fresh_flagged, fresh_grown, fresh_destroyed, fresh_reaped, fresh_granted, fresh_taken_back}
 use Rattle.model_core.proofs.WellFormedRuns.{keeps_well_formed, runs_well_formed}
-use Rattle.model_core.proofs.Split.{Unmade}
 
-fresh_by_need : {limit : ℕ} (order place k : ℕ) (m : Machine) → IsWellFormed limit order m → AllFresh place m → AllFresh place (by_need order k m)
-fresh_by_need order place k m w h = by_need_keeps (AllFresh place) order k m h (fresh_reaped order place m w h)
+-- what is left is fresh unless an object that begins at the place was handed out, and is in constructed state if one was
+abbrev Leaves : ℕ → ℕ → Operation → Machine → Machine → Type 0
+Leaves order place operation m n = (hands_out order operation m place ≡ false → AllFresh place n) × (hands_out order operation m place ≡ true → AllConstructed place n)
 
-fresh_alloc : {limit : ℕ} (order place k : ℕ) (m : Machine) → IsWellFormed limit order m → AllFresh place m → AllFresh place (alloc_step order k m).machine
-unfolding alloc_step
-fresh_alloc order place k m w h =
-    let n : Machine = by_need order k m in
-    either (AllFresh place) (ltb order k) (refuse AllocRefusal.BadOrder m) (alloc_at k n (choice order n k)) h (go n (fresh_by_need order place k m w h) (choice order n k))
-  where
-    go : (n : Machine) → AllFresh place n → (o : Option ℕ) → AllFresh place (alloc_at k n o).machine
-    go n h None = h
-    go n h (Some first) = h
+-- none was
+leaves_fresh : {P Q : Type 0} → P → (false ≡ false → P) × (false ≡ true → Q)
+leaves_fresh h = (λ _. h, λ e. absurd (false≢true e))
 
-fresh_free : (place first : ℕ) (m : Machine) → AllFresh place m → AllFresh place (free_step first m).machine
-unfolding free_step
-fresh_free place first m h = go (order_in m.blocks first)
-  where
-    go : (o : Option ℕ) → AllFresh place (free_at first m o).machine
-    go None = h
-    go (Some k) = h
-
-fresh_write : {limit : ℕ} (order place begin : ℕ) (new : List ℕ) (m : Machine) → IsWellFormed limit order m → AllFresh place m → AllFresh place (write_step begin new m).machine
-unfolding write_step
-fresh_write order place begin new m w h = go (in_reach m begin (length new)) refl
-  where
-    go : (b : Bool) → in_reach m begin (length new) ≡ b
-        → AllFresh place (if◌then◌else◌ {A = Step (Option ℕ)} b (record { answer = Some (length new); machine = record m { bytes = written begin new m.bytes } }) (record { answer = None; machine = m })).machine
-    go false e = h
-    go true e = fresh_written order place begin new m w e h
-
-fresh_created : (limit place size align : ℕ) (pattern : List ℕ) (m : Machine) → AllFresh place m → AllFresh place (cache_step limit size align pattern m).machine
-unfolding cache_step create_step
-fresh_created limit place size align pattern m h =
-    either (AllFresh place) (not (is_size size)) (refuse CacheRefusal.BadSize m) _ h
-    (either (AllFresh place) (not (is_alignment align)) (refuse CacheRefusal.BadAlign m) _ h
-    (either (AllFresh place) (leb limit (next_number m)) (record { answer = None; machine = m }) (record { answer = Some (next_number m); machine = created (next_number m) size align pattern m }) h
-    (subst (Each (IsFresh m.bytes place)) (sym (created_laid (next_number m) size align pattern m)) h)))
-
--- what a step that may hand out the object at the place leaves: it is in constructed state, and fresh unless it was handed out
-abbrev Leaves : ℕ → Step (Result ℕ TakeRefusal) → Type 0
-Leaves place step = AllConstructed place step.machine × (result_ok step.answer ≢ Some place → AllFresh place step.machine)
-
-leaves_fresh : (place : ℕ) (step : Step (Result ℕ TakeRefusal)) → AllFresh place step.machine → Leaves place step
-leaves_fresh place step h = (fresh_constructed place step.machine h, λ _. h)
-
-leaves_handed : {limit : ℕ} (order place : ℕ) (c : Cache) (s : Slab) (m : Machine) → IsWellFormed limit order m → IsIn c m.caches → IsIn s c.slabs → AllFresh place m → Leaves place (hand_out c s m)
-leaves_handed order place c s m w in_c in_s h = (
-  constructed_flagged order place c s (next_object s) true m w in_c in_s h,
-  λ ne. fresh_flagged order place c s (next_object s) true m w in_c in_s (λ _ same. ne (ap Some same)) h,
+leaves_handed : {limit : ℕ} (order place number : ℕ) (c : Cache) (s : Slab) (m n : Machine) → IsWellFormed limit order n → IsIn c n.caches → IsIn s c.slabs
+    → take_step order number m ≡ hand_out c s n → AllFresh place n → Leaves order place (Take number) m (hand_out c s n).machine
+leaves_handed order place number c s m n w in_c in_s is h = (
+  λ other. fresh_flagged order place c s (next_object s) true n w in_c in_s
+      (λ _. eqb-false _ place (ap (λ (step : Step (Result ℕ TakeRefusal)). option_map_or (λ p. eqb p place) (result_ok step.answer) false) (sym is) ∙ other)) h,
+  λ _. constructed_flagged order place c s (next_object s) true n w in_c in_s h,
 )
 
-leaves_take_from : {limit : ℕ} (order place : ℕ) (c : Cache) (m : Machine) → IsWellFormed limit order m → IsIn c m.caches → (o : Option Slab) → slab_to_use (find is_partial c.slabs) (find is_empty c.slabs) ≡ o
-    → (Unmade place (if is_some o then None else option_map (λ first. block first (layout c).order) (choice_by_need order (layout c).order m)) → AllFresh place m)
-    → Leaves place (take_from order c m o)
-leaves_take_from order place c m w in_c (Some s) e h = leaves_handed order place c s m w in_c (used_in c s e) (h refl)
-leaves_take_from {limit} order place c m w in_c None e h =
-    let n : Machine = by_need order (layout c).order m in
-    go n (by_need_kept order (layout c).order m w) (stands_by_need order (layout c).order c m in_c e) (choice order n (layout c).order) refl
-    (λ unmade. fresh_by_need order place (layout c).order m w (h unmade))
-  where
-    go : (n : Machine) → IsWellFormed limit order n → IsIn c n.caches → (o : Option ℕ) → choice order n (layout c).order ≡ o
-        → (Unmade place (option_map (λ first. block first (layout c).order) o) → AllFresh place n) → Leaves place (take_new c n o)
-    go n w in_c None e h = leaves_fresh place (take_new c n None) (h refl)
-    go n w in_c (Some first) e h =
-        let g : IsGrown first c n = grown_is order first c n w in_c in
-        leaves_handed order place (grown_cache first c) (new_slab c first) (grown first c n) (grown_kept order first c n w in_c e) g.cache_in g.slab_in
-        (fresh_grown order place first c n w in_c e h)
-
-leaves_take : {limit : ℕ} (order place number : ℕ) (m : Machine) → IsWellFormed limit order m → (makes_slab_at order (Take number) m place ≡ false → AllFresh place m) → Leaves place (take_step order number m)
-unfolding take_step
-leaves_take order place number m w h = go (cache_of m number) refl h
-  where
-    go : (o : Option Cache) → cache_of m number ≡ o → (Unmade place (option_and_then (block_of_growth order m) o) → AllFresh place m) → Leaves place (take_of order m o)
-    go None e h = leaves_fresh place (take_of order m None) (h refl)
-    go (Some c) e h = leaves_take_from order place c m w (find_in (λ x. eqb x.number number) c m.caches e).0 (slab_to_use (find is_partial c.slabs) (find is_empty c.slabs)) refl h
-
-fresh_give_object : {limit : ℕ} (order place begin : ℕ) (c : Cache) (m : Machine) → IsWellFormed limit order m → IsIn c m.caches → (o : Option LiveObject) → find (λ x. eqb x.place begin) (live_objects c) ≡ o
-    → AllFresh place m → AllFresh place (give_object c m o).machine
-fresh_give_object order place begin c m w in_c None e h = h
-fresh_give_object order place begin c m w in_c (Some o) e h =
-    fresh_flagged order place c o.slab o.index false m w in_c (live_is c o (find_in (λ x. eqb x.place begin) o (live_objects c) e).0).slab_in (λ is same. false≢true is) h
-
-fresh_give : {limit : ℕ} (order place number begin : ℕ) (m : Machine) → IsWellFormed limit order m → AllFresh place m → AllFresh place (give_step number begin m).machine
-unfolding give_step
-fresh_give order place number begin m w h = go (cache_of m number) refl
-  where
-    go : (o : Option Cache) → cache_of m number ≡ o → AllFresh place (give_of begin m o).machine
-    go None e = h
-    go (Some c) e = fresh_give_object order place begin c m w (find_in (λ x. eqb x.number number) c m.caches e).0 (find (λ x. eqb x.place begin) (live_objects c)) refl h
-
-fresh_destroy : {limit : ℕ} (order place number : ℕ) (m : Machine) → IsWellFormed limit order m → AllFresh place m → AllFresh place (destroy_step number m).machine
-unfolding destroy_step
-fresh_destroy order place number m w h = go (cache_of m number) refl
-  where
-    go : (o : Option Cache) → cache_of m number ≡ o → AllFresh place (destroy_of m o).machine
-    go None e = h
-    go (Some c) e = either (AllFresh place) (list_any (λ s. not (is_empty s)) c.slabs) (refuse DestroyRefusal.CacheInUse m) _ h (fresh_destroyed order place c m w (find_in (λ x. eqb x.number number) c m.caches e).0 h)
-
-fresh_reap : {limit : ℕ} (order place : ℕ) (m : Machine) → IsWellFormed limit order m → AllFresh place m → AllFresh place (reap_step m).machine
-unfolding reap_step
-fresh_reap order place m w h = fresh_reaped order place m w h
-
-fresh_take_back : {limit : ℕ} (order place slot : ℕ) (m : Machine) → IsWellFormed limit order m → AllFresh place m → AllFresh place (take_back_step order slot m).machine
-unfolding take_back_step
-fresh_take_back order place slot m w h = either (AllFresh place) (not (holds m slot)) (refuse TakeBackRefusal.NoSlot m) _ h (go (is_busy order m slot) refl)
-  where
-    go : (b : Bool) → is_busy order m slot ≡ b → AllFresh place (if b then refuse TakeBackRefusal.SlotBusy m else record { answer = Ok done; machine = after_take_back order slot m }).machine
-    go true e = h
-    go false e = fresh_taken_back order place slot m w e h
-
-fresh_reset : (place : ℕ) → AllFresh place empty_machine
+fresh_empty : (place : ℕ) → AllFresh place empty_machine
 unfolding empty_machine
-fresh_reset place = tt
+fresh_empty place = tt
 
-not_answered : (place : ℕ) (o : Option ℕ) → option_map_or (λ p. eqb p place) o false ≡ false → o ≢ Some place
-not_answered place None e same = absurd (cc)
-not_answered place (Some p) e same = eqb-false p place e (cc)
-
-fresh_after : (limit order place : ℕ) (operation : Operation) (m : Machine) → IsWellFormed limit order m → (makes_slab_at order operation m place ≡ false → AllFresh place m)
-    → hands_out order operation m place ≡ false → AllFresh place (after limit order operation m)
-fresh_after limit order place (Alloc k) m w h other = fresh_alloc order place k m w (h refl)
-fresh_after limit order place (Free first) m w h other = fresh_free place first m (h refl)
-fresh_after limit order place (Write begin new) m w h other = fresh_write order place begin new m w (h refl)
-fresh_after limit order place (Create size align pattern) m w h other = fresh_created limit place size align pattern m (h refl)
-fresh_after limit order place (Take number) m w h other = (leaves_take order place number m w h).1 (not_answered place (result_ok (take_step order number m).answer) other)
-fresh_after limit order place (Give number begin) m w h other = fresh_give order place number begin m w (h refl)
-fresh_after limit order place (Destroy number) m w h other = fresh_destroy order place number m w (h refl)
-fresh_after limit order place Reap m w h other = fresh_reap order place m w (h refl)
-fresh_after limit order place Grant m w h other = fresh_granted order place m w (h refl)
-fresh_after limit order place (TakeBack slot) m w h other = fresh_take_back order place slot m w (h refl)
-fresh_after limit order place Reset m w h other = fresh_reset place
+leaves : (limit order place : ℕ) (operation : Operation) (m : Machine) → IsWellFormed limit order m → (makes_slab_at order operation m place ≡ false → AllFresh place m)
+    → Leaves order place operation m (after limit order operation m)
+leaves limit order place operation m w = outcome limit order m (λ operation n. (makes_slab_at order operation m place ≡ false → AllFresh place m) → Leaves order place operation m n) (record {
+  refused = λ operation none h. let f : AllFresh place m = h (ap (λ b. option_map_or (in_block place) b false) none) in (λ _. f, λ _. fresh_constructed place m f);
+  page_taken = λ k first e h. leaves_fresh (by_need_keeps (AllFresh place) order k m (h refl) (fresh_reaped order place m w (h refl)));
+  page_released = λ first h. leaves_fresh (h refl);
+  bytes_written = λ begin new e h. leaves_fresh (fresh_written order place begin new m w e (h refl));
+  cache_made = λ size align pattern _ _ _ h. leaves_fresh (subst (Each (IsFresh m.bytes place)) (sym (created_laid (next_number m) size align pattern m)) (h refl));
+  object_taken = λ number c s i j none is h. leaves_handed order place number c s m m w i j is (h (ap (λ b. option_map_or (in_block place) b false) none));
+  slab_made = λ number c first i e some is h.
+      let g : IsMade limit order first c m = made order first c m w i e in
+      leaves_handed order place number (grown_cache first c) (new_slab c first) m _ g.formed g.cache_in g.slab_in is (fresh_grown order place first c _ g.served i e (λ unmade.
+      let fresh : AllFresh place m = h (ap (λ b. option_map_or (in_block place) b false) some ∙ unmade) in
+      by_need_keeps (AllFresh place) order (layout c).order m fresh (fresh_reaped order place m w fresh)));
+  object_given = λ number begin c o i j h. leaves_fresh
+      (fresh_flagged order place c o.slab o.index false m w i (live_is c o j).slab_in (λ is same. false≢true is) (h refl));
+  cache_destroyed = λ number c i _ h. leaves_fresh (fresh_destroyed order place c m w i (h refl));
+  slabs_reaped = λ h. leaves_fresh (fresh_reaped order place m w (h refl));
+  slot_granted = λ h. leaves_fresh (fresh_granted order place m w (h refl));
+  slot_gone = λ slot _ free h. leaves_fresh (fresh_taken_back order place slot m w free (h refl));
+  all_gone = λ h. leaves_fresh (fresh_empty place);
+}) operation
 
 -- Counts
 
@@ -184,7 +89,7 @@ fresh_run limit order place [] m n can w h none = h none
 fresh_run limit order place (operation ∷ operations) m n (first, rest) w h none =
     fresh_run limit order place operations (after limit order operation m) _ rest (keeps_well_formed limit order operation m first w) (λ zero.
     let parts = none_counted (makes_slab_at order operation m place) (hands_out order operation m place) n zero in
-    fresh_after limit order place operation m w (λ unmade. h (parts.0 unmade)) parts.1) none
+    (leaves limit order place operation m w (λ unmade. h (parts.0 unmade))).0 parts.1) none
 
 hand_outs-append : (limit order place : ℕ) (before since : List Operation) (m : Machine) (n : ℕ)
     → hand_outs limit order place (before ++ since) m n ≡ hand_outs limit order place since (run limit order before m) (hand_outs limit order place before m n)
@@ -193,7 +98,7 @@ hand_outs-append limit order place (operation ∷ before) since m n = hand_outs-
 
 -- what is left of the empty machine
 fresh_left : (limit order place : ℕ) (operations : List Operation) → ArePossible operations → hand_outs limit order place operations empty_machine 0 ≡ 0 → AllFresh place (run limit order operations empty_machine)
-fresh_left limit order place operations can none = fresh_run limit order place operations empty_machine 0 can (runs_well_formed limit order [] tt) (λ _. fresh_reset place) none
+fresh_left limit order place operations can none = fresh_run limit order place operations empty_machine 0 can (runs_well_formed limit order [] tt) (λ _. fresh_empty place) none
 
 -- an object of a machine in which all that begin at its place are in constructed state
 object_reads : {limit : ℕ} (order : ℕ) (m : Machine) (object : Object) (j : ℕ) → IsWellFormed limit order m → IsObject m object → j < object.cache.size → AllConstructed (place_of object) m
@@ -217,5 +122,5 @@ constructed_when_taken limit order number operations object j can answer is_obje
     let before : makes_slab_at order (Take number) m place ≡ false → hand_outs limit order place operations empty_machine 0 ≡ 0 =
     one_counted (makes_slab_at order (Take number) m place) (hands_out order (Take number) m place) (hand_outs limit order place operations empty_machine 0)
     (sym (hand_outs-append limit order place operations (Take number ∷ []) empty_machine 0) ∙ once) handed in
-    object_reads order (take_step order number m).machine object j (take_kept order number m w) is_object in_size
-    (leaves_take order place number m w (λ unmade. fresh_left limit order place operations can (before unmade))).0
+    object_reads order (take_step order number m).machine object j (keeps_well_formed limit order (Take number) m tt w) is_object in_size
+    ((leaves limit order place (Take number) m w (λ unmade. fresh_left limit order place operations can (before unmade))).1 handed)

@@ -15,6 +15,7 @@ pub mod Layouts
 pub mod Lists
 pub mod Rising
 pub mod ByNeed
+pub mod Outcomes
 pub mod Apart
 pub mod Chosen
 pub mod TakenSteps

@@ -1,35 +1,26 @@
 -- Page blocks, slots and whole caches: the machine stays well formed.
-use Rattle.std.proofs.Common.{◌≡◌, ◌≢◌, ℕ, ◌+◌, ◌*◌, ◌/◌, ◌^◌, ◌<◌, ◌≤◌, Bool, true, false, not, eqb, ltb, leb, List, [], ◌∷◌, ◌++◌, map, Option, Some, None, Ok, refl, sym, ap, ◌∙◌, subst, arith}
-use Rattle.std.specs.Prelude.{if◌then◌else◌, filter}
+use Rattle.std.proofs.Common.{◌≡◌, ◌≢◌, ℕ, ◌+◌, ◌*◌, ◌/◌, ◌^◌, ◌<◌, ◌≤◌, true, false, not, eqb, ltb, List, [], ◌∷◌, ◌++◌, map, Some, refl, sym, ap, ◌∙◌, subst, arith}
+use Rattle.std.specs.Prelude.{filter}
 use Rattle.std.specs.List.{list_any, AllByRecursion as Each}
 use Rattle.std.proofs.lemmas.List.{map-id}
 use Rattle.std.proofs.lemmas.Nat.{pow_pos}
 use Rattle.std.proofs.Math.Nat.{div-mul-le_self, lt-div-mul-add}
-use Rattle.std.proofs.lemmas.Bool.{and_from, lt-ltb, leb-false, ne_eqb, false≢true}
-use Rattle.model_core.specs.declared.refusals.AllocRefusal.{AllocRefusal}
-use Rattle.model_core.specs.declared.refusals.CacheRefusal.{CacheRefusal}
-use Rattle.model_core.specs.declared.refusals.DestroyRefusal.{DestroyRefusal}
-use Rattle.model_core.specs.declared.refusals.TakeBackRefusal.{TakeBackRefusal}
+use Rattle.std.proofs.lemmas.Bool.{and_from, lt-ltb, ne_eqb, false≢true}
 use Rattle.model_core.specs.Blocks.{Block, block, slot_block}
 use Rattle.model_core.specs.Layouts.{layout_of, is_size, is_alignment, is_pattern}
-use Rattle.model_core.specs.Machine.{Cache, Machine, empty_machine, put_rising, least_missing, holds, taken_blocks, choice, order_in}
-use Rattle.model_core.specs.Slabs.{zeroed, is_empty, without_empty, reaped, by_need, destroyed, cache_of}
-use Rattle.model_core.specs.Operations.{Step, refuse, with_block, without_block, alloc_at, alloc_step, free_at, free_step, next_slot, after_grant, overlaps, is_busy, after_take_back, take_back_step}
-use Rattle.model_core.specs.CacheOperations.{created, next_number, create_step, cache_answer, cache_step, destroy_of, destroy_step, reap_step}
+use Rattle.model_core.specs.Machine.{Cache, Machine, empty_machine, put_rising, least_missing, taken_blocks, choice}
+use Rattle.model_core.specs.Slabs.{zeroed, is_empty, without_empty, reaped, by_need, destroyed}
+use Rattle.model_core.specs.Operations.{with_block, without_block, next_slot, after_grant, overlaps, is_busy, after_take_back}
+use Rattle.model_core.specs.CacheOperations.{created, next_number}
 use Rattle.model_core.specs.WellFormed.{RisesFrom, IsApart, IsCut, IsCache, IsWellFormed}
 use Rattle.model_core.specs.Elements.{IsIn}
-use Rattle.model_core.proofs.Lists.{each_left, each_right, each_put, each_weaker, each_filter, each_map, each_unmap, any_none, none_any, find_in, Found, found, PutIn, put_in, put_rises, filter_rises, least_is_missing}
+use Rattle.model_core.proofs.Lists.{each_left, each_right, each_put, each_weaker, each_filter, each_map, each_unmap, any_none, none_any, Found, found, PutIn, put_in, put_rises, filter_rises, least_is_missing}
 use Rattle.model_core.proofs.ByNeed.{by_need_keeps}
 use Rattle.model_core.proofs.Apart.{apart_first}
 use Rattle.model_core.proofs.Chosen.{chosen_apart, chosen_placed}
 use Rattle.model_core.proofs.Laid.{all_laid, laid_block, IsLaidOut, taken_laid, laid_out, Numbered, well_formed}
 use Rattle.model_core.proofs.MemoryKept.{block_put, blocks_filtered, given_back, slot_put, slot_gone}
 use Rattle.model_core.proofs.Split.{laid_without, filter_laid, laid_of, is_empty_laid, kept_laid, gone_laid, slab_blocks_laid}
-
--- what both outcomes of a test keep
-pub either : {A : Type 0} (P : Machine → Type 0) (b : Bool) (s t : Step A) → P s.machine → P t.machine → P (if b then s else t).machine
-either P true s t p q = p
-either P false s t p q = q
 
 pub empty_kept : {limit : ℕ} (order : ℕ) → IsWellFormed limit order empty_machine
 unfolding empty_machine
@@ -68,16 +59,12 @@ reaped_kept {limit} order m w = well_formed order (reaped m) w.slots_rise w.bloc
     (subst (λ bs. IsLaidOut order m.slots m.blocks (filter (λ l. not (is_empty_laid l)) (all_laid m.caches)) (zeroed bs m.bytes)) (sym (gone_laid m.caches))
     (given_back order m.slots m.blocks is_empty_laid (all_laid m.caches) m.bytes (laid_out order m w))))
 
-pub reap_kept : {limit : ℕ} (order : ℕ) (m : Machine) → IsWellFormed limit order m → IsWellFormed limit order (reap_step m).machine
-unfolding reap_step
-reap_kept order m w = reaped_kept order m w
-
 pub by_need_kept : {limit : ℕ} (order k : ℕ) (m : Machine) → IsWellFormed limit order m → IsWellFormed limit order (by_need order k m)
 by_need_kept {limit} order k m w = by_need_keeps (IsWellFormed limit order) order k m w (reaped_kept order m w)
 
 -- Page blocks
 
-block_kept : {limit : ℕ} (order first k : ℕ) (m : Machine) → IsWellFormed limit order m → choice order m k ≡ Some first → IsWellFormed limit order (with_block (block first k) m)
+pub block_kept : {limit : ℕ} (order first k : ℕ) (m : Machine) → IsWellFormed limit order m → choice order m k ≡ Some first → IsWellFormed limit order (with_block (block first k) m)
 block_kept order first k m w e =
     let b : Block = block first k in
     let slabs : List Block = map laid_block (all_laid m.caches) in
@@ -91,25 +78,9 @@ block_kept order first k m w e =
     (block_put order m.slots p.before p.later b (all_laid m.caches) m.bytes (subst (λ bs. IsLaidOut order m.slots bs (all_laid m.caches) m.bytes) p.was l)
     (chosen_placed order k first m e) (subst (Each (IsApart b)) p.was (each_left (IsApart b) m.blocks slabs apart)) (each_right (IsApart b) m.blocks slabs apart)))
 
-alloc_at_kept : {limit : ℕ} (order k : ℕ) (m : Machine) → IsWellFormed limit order m → (o : Option ℕ) → choice order m k ≡ o → IsWellFormed limit order (alloc_at k m o).machine
-alloc_at_kept order k m w None e = w
-alloc_at_kept order k m w (Some first) e = block_kept order first k m w e
-
-pub alloc_kept : {limit : ℕ} (order k : ℕ) (m : Machine) → IsWellFormed limit order m → IsWellFormed limit order (alloc_step order k m).machine
-unfolding alloc_step
-alloc_kept {limit} order k m w =
-    let n : Machine = by_need order k m in
-    either (IsWellFormed limit order) (ltb order k) (refuse AllocRefusal.BadOrder m) (alloc_at k n (choice order n k)) w
-    (alloc_at_kept order k n (by_need_kept order k m w) (choice order n k) refl)
-
-pub free_kept : {limit : ℕ} (order first : ℕ) (m : Machine) → IsWellFormed limit order m → IsWellFormed limit order (free_step first m).machine
-unfolding free_step
-free_kept {limit} order first m w = go (order_in m.blocks first)
-  where
-    go : (o : Option ℕ) → IsWellFormed limit order (free_at first m o).machine
-    go None = w
-    go (Some k) = well_formed order (without_block first m) w.slots_rise (filter_rises (λ b. b.first) (λ x. not (eqb x.first first)) 0 m.blocks w.blocks_rise) w.caches_rise w.numbered w.caches
-        (blocks_filtered order m.slots (λ x. not (eqb x.first first)) m.blocks (all_laid m.caches) m.bytes (laid_out order m w))
+pub released_kept : {limit : ℕ} (order first : ℕ) (m : Machine) → IsWellFormed limit order m → IsWellFormed limit order (without_block first m)
+released_kept order first m w = well_formed order (without_block first m) w.slots_rise (filter_rises (λ b. b.first) (λ x. not (eqb x.first first)) 0 m.blocks w.blocks_rise) w.caches_rise w.numbered w.caches
+    (blocks_filtered order m.slots (λ x. not (eqb x.first first)) m.blocks (all_laid m.caches) m.bytes (laid_out order m w))
 
 -- Slots
 
@@ -155,17 +126,6 @@ slot_gone_kept order slot m w e =
     (slot_gone order m.slots slot m.blocks (all_laid m.caches) m.bytes (each_left (λ b. b.first / 2 ^ order ≢ slot) m.blocks slabs apart)
     (each_unmap (λ b. b.first / 2 ^ order ≢ slot) laid_block (all_laid m.caches) (each_right (λ b. b.first / 2 ^ order ≢ slot) m.blocks slabs apart)) (laid_out order m w))
 
-abbrev pub done : Unit {0}
-done = tt
-
-pub take_back_kept : {limit : ℕ} (order slot : ℕ) (m : Machine) → IsWellFormed limit order m → IsWellFormed limit order (take_back_step order slot m).machine
-unfolding take_back_step
-take_back_kept {limit} order slot m w = either (IsWellFormed limit order) (not (holds m slot)) (refuse TakeBackRefusal.NoSlot m) _ w (go (is_busy order m slot) refl)
-  where
-    go : (b : Bool) → is_busy order m slot ≡ b → IsWellFormed limit order (if b then refuse TakeBackRefusal.SlotBusy m else record { answer = Ok done; machine = after_take_back order slot m }).machine
-    go true e = w
-    go false e = slot_gone_kept order slot m w e
-
 -- Caches made and destroyed
 
 pub created_laid : (number size align : ℕ) (pattern : List ℕ) (m : Machine) → all_laid (created number size align pattern m).caches ≡ all_laid m.caches
@@ -174,10 +134,12 @@ created_laid number size align pattern m =
     let p : PutIn (λ x. x.number) c m.caches = put_in (λ x. x.number) c m.caches in
     ap all_laid p.is ∙ (laid_without p.before p.later c refl ∙ ap all_laid (sym p.was))
 
-new_kept : {limit : ℕ} (order number size align : ℕ) (pattern : List ℕ) (m : Machine) → IsWellFormed limit order m → is_size size ≡ true → is_alignment align ≡ true → is_pattern pattern ≡ true
-    → number < limit → Each (λ x. x ≢ number) (map (λ c. c.number) m.caches) → IsWellFormed limit order (created number size align pattern m)
-unfolding layout_of
-new_kept {limit} order number size align pattern m w sized aligned patterned below missing =
+pub new_kept : {limit : ℕ} (order size align : ℕ) (pattern : List ℕ) (m : Machine) → IsWellFormed limit order m → is_size size ≡ true → is_alignment align ≡ true
+    → next_number m < limit → is_pattern pattern ≡ true → IsWellFormed limit order (created (next_number m) size align pattern m)
+unfolding layout_of next_number
+new_kept {limit} order size align pattern m w sized aligned below patterned =
+    let number : ℕ = next_number m in
+    let missing : Each (λ x. x ≢ number) (map (λ c. c.number) m.caches) = least_is_missing 0 (map (λ c. c.number) m.caches) w.caches_rise in
     let c : Cache = record { number = number; size = size; align = align; pattern = pattern; made = 0; slabs = [] } in
     let p : PutIn (λ x. x.number) c m.caches = put_in (λ x. x.number) c m.caches in
     let is : IsCache c = record { sized = sized; aligned = aligned; patterned = patterned; counted = omega arith; slabs_rise = tt; slabs_cut = tt } in
@@ -187,27 +149,8 @@ new_kept {limit} order number size align pattern m w sized aligned patterned bel
     (subst (Each IsCache) (sym p.is) (each_put IsCache p.before p.later c (subst (Each IsCache) p.was w.caches) is))
     (subst (λ ls. IsLaidOut order m.slots m.blocks ls m.bytes) (ap all_laid p.was ∙ (sym (laid_without p.before p.later c refl) ∙ ap all_laid (sym p.is))) (laid_out order m w))
 
-pub cache_kept : (limit order size align : ℕ) (pattern : List ℕ) (m : Machine) → is_pattern pattern ≡ true → IsWellFormed limit order m → IsWellFormed limit order (cache_step limit size align pattern m).machine
-unfolding cache_step create_step next_number
-cache_kept limit order size align pattern m patterned w = go (is_size size) refl (is_alignment align) refl
-  where
-    made : is_size size ≡ true → is_alignment align ≡ true → next_number m < limit → IsWellFormed limit order (created (next_number m) size align pattern m)
-    made sized aligned below = new_kept order (next_number m) size align pattern m w sized aligned patterned below (least_is_missing 0 (map (λ c. c.number) m.caches) w.caches_rise)
-
-    go : (a : Bool) → is_size size ≡ a → (b : Bool) → is_alignment align ≡ b
-        → IsWellFormed limit order (if not a then refuse CacheRefusal.BadSize m else if not b then refuse CacheRefusal.BadAlign m
-        else cache_answer (create_step limit size align pattern m)).machine
-    go false e b f = w
-    go true e false f = w
-    go true e true f = numbered (leb limit (next_number m)) refl
-      where
-        numbered : (b : Bool) → leb limit (next_number m) ≡ b
-            → IsWellFormed limit order (if◌then◌else◌ {A = Step (Option ℕ)} b (record { answer = None; machine = m }) (record { answer = Some (next_number m); machine = created (next_number m) size align pattern m })).machine
-        numbered true above = w
-        numbered false below = made e f (leb-false limit (next_number m) below)
-
 -- the slabs of one cache given back
-gone_kept : {limit : ℕ} (order : ℕ) (c : Cache) (m : Machine) → IsWellFormed limit order m → IsIn c m.caches → IsWellFormed limit order (destroyed c m)
+pub gone_kept : {limit : ℕ} (order : ℕ) (c : Cache) (m : Machine) → IsWellFormed limit order m → IsIn c m.caches → IsWellFormed limit order (destroyed c m)
 unfolding destroyed
 gone_kept {limit} order c m w i =
     let f : Found (λ x. x.number) c m.caches = found (λ x. x.number) 0 c m.caches w.caches_rise i in
@@ -217,11 +160,3 @@ gone_kept {limit} order c m w i =
     (subst (λ ls. IsLaidOut order m.slots m.blocks ls (destroyed c m).bytes) (filter_laid (λ n. not (eqb n c.number)) m.caches)
     (subst (λ bs. IsLaidOut order m.slots m.blocks (filter (λ l. not (eqb l.number c.number)) (all_laid m.caches)) (zeroed bs m.bytes)) (ap (λ ls. map laid_block ls) (laid_of c m.caches f) ∙ sym (slab_blocks_laid c))
     (given_back order m.slots m.blocks (λ l. eqb l.number c.number) (all_laid m.caches) m.bytes (laid_out order m w))))
-
-pub destroy_kept : {limit : ℕ} (order number : ℕ) (m : Machine) → IsWellFormed limit order m → IsWellFormed limit order (destroy_step number m).machine
-unfolding destroy_step
-destroy_kept {limit} order number m w = go (cache_of m number) refl
-  where
-    go : (o : Option Cache) → cache_of m number ≡ o → IsWellFormed limit order (destroy_of m o).machine
-    go None e = w
-    go (Some c) e = either (IsWellFormed limit order) (list_any (λ s. not (is_empty s)) c.slabs) (refuse DestroyRefusal.CacheInUse m) _ w (gone_kept order c m w (find_in (λ x. eqb x.number number) c m.caches e).0)

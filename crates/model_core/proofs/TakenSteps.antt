@@ -1,15 +1,14 @@
 -- The taken blocks of a machine are sound, and a page block taken or released is one more or one fewer.
-use Rattle.std.proofs.Common.{◌≡◌, ◌≢◌, ℕ, Bool, true, false, not, cond, eqb, ltb, List, [], ◌∷◌, ◌++◌, map, Option, Some, None, Ok, append_assoc, refl, sym, ap, ◌∙◌, subst, ◌⊎◌, inl, inr}
+use Rattle.std.proofs.Common.{◌≡◌, ◌≢◌, ℕ, Bool, true, false, not, cond, eqb, List, [], ◌∷◌, ◌++◌, map, Option, Some, None, Ok, append_assoc, refl, sym, ap, ◌∙◌, subst, ◌⊎◌, inl, inr}
 use Rattle.std.specs.Prelude.{if◌then◌else◌, filter}
 use Rattle.std.specs.List.{AllByRecursion as Each}
 use Rattle.std.proofs.lemmas.List.{map-id}
 use Rattle.std.proofs.lemmas.Bool.{cases_eq, eqb-true, eqb-false, eq-eqb, ne_eqb}
-use Rattle.model_core.specs.declared.refusals.AllocRefusal.{AllocRefusal}
 use Rattle.model_core.specs.Blocks.{Block, block, with_taken, without_taken}
-use Rattle.model_core.specs.Machine.{Machine, taken_blocks, order_in, taken_in, choice}
+use Rattle.model_core.specs.Machine.{Machine, taken_blocks, order_in, taken_in}
 use Rattle.model_core.specs.Slabs.{by_need}
-use Rattle.model_core.specs.Operations.{refuse, with_block, without_block, alloc_at, alloc_step, free_at, free_step}
-use Rattle.model_core.specs.WellFormed.{IsApart, AreApart, IsPlaced, IsWellFormed}
+use Rattle.model_core.specs.Operations.{with_block, without_block, free_at, free_step}
+use Rattle.model_core.specs.WellFormed.{IsApart, AreApart, IsPlaced}
 use Rattle.model_core.specs.Laws.{TakenSound, AllocTakes, FreeReleases}
 use Rattle.model_core.specs.Elements.{IsIn}
 use Rattle.model_core.proofs.Lists.{each_in, each_left, each_weaker, PutIn, put_in}
@@ -17,6 +16,7 @@ use Rattle.model_core.proofs.Rising.{order_in-middle, none_found}
 use Rattle.model_core.proofs.Apart.{apart_first, one_holder}
 use Rattle.model_core.proofs.Chosen.{chosen_apart}
 use Rattle.model_core.proofs.Laid.{all_laid, laid_block, taken_laid, laid_out}
+use Rattle.model_core.proofs.Outcomes.{alloc_outcome}
 use Rattle.model_core.proofs.PageSteps.{by_need_kept}
 
 same_block : (b : Block) (f k : ℕ) → b.first ≡ f → b.order ≡ k → b ≡ block f k
@@ -53,18 +53,16 @@ with_block_takes b m h f =
     ∙ ap (λ bs. with_taken (order_in bs) b.first b.order f) (sym (append_assoc p.before p.later slabs) ∙ (ap (λ bs. bs ++ slabs) (sym p.was) ∙ sym (taken_laid m))))
 
 pub alloc_takes : AllocTakes
-unfolding alloc_step
-alloc_takes limit order k first m w e = go (ltb order k) (by_need order k m) (by_need_kept order k m w) (choice order (by_need order k m) k) refl e
+alloc_takes limit order k first m w e = alloc_outcome order k m (λ step. step.answer ≡ Ok first → (f : ℕ) → taken_in step.machine f ≡ with_taken (taken_in n) first k f) (λ _ e. absurd (cc)) (λ g is e f.
+    let same : g ≡ first = cc in
+    with_block_takes (block g k) n (each_left (IsApart (block g k)) n.blocks slabs (subst (Each (IsApart (block g k))) (taken_laid n) (chosen_apart order k g n (by_need_kept order k m w).apart is))) f
+    ∙ ap (λ n'. with_taken (taken_in n) n' k f) same) e
   where
-    go : (t : Bool) (n : Machine) → IsWellFormed limit order n → (o : Option ℕ) → choice order n k ≡ o → (if t then refuse AllocRefusal.BadOrder m else alloc_at k n o).answer ≡ Ok first
-        → (f : ℕ) → taken_in (if t then refuse AllocRefusal.BadOrder m else alloc_at k n o).machine f ≡ with_taken (taken_in n) first k f
-    go true n w o c e f = absurd (cc)
-    go false n w None c e f = absurd (cc)
-    go false n w (Some g) c e f =
-        let same : g ≡ first = cc in
-        let slabs : List Block = map laid_block (all_laid n.caches) in
-        with_block_takes (block g k) n (each_left (IsApart (block g k)) n.blocks slabs (subst (Each (IsApart (block g k))) (taken_laid n) (chosen_apart order k g n w.apart c))) f
-        ∙ ap (λ n'. with_taken (taken_in n) n' k f) same
+    n : Machine
+    n = by_need order k m
+
+    slabs : List Block
+    slabs = map laid_block (all_laid n.caches)
 
 -- One fewer
 

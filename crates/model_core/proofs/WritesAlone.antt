@@ -1,35 +1,30 @@
 -- What is in reach before and after an operation is changed by a write to it alone.
-use Rattle.std.proofs.Common.{◌≡◌, ◌≢◌, ℕ, zero, suc, ◌/◌, ◌^◌, ◌<◌, Bool, true, false, not, eqb, ltb, List, [], ◌∷◌, ◌++◌, map, length, get_or, Option, Some, None, Ok, refl, sym, ap, ◌∙◌, subst, ◌⊎◌, inl, inr, arith}
-use Rattle.std.specs.Prelude.{if◌then◌else◌, filter, find}
+use Rattle.std.proofs.Common.{◌≡◌, ◌-◌, ◌≢◌, ℕ, zero, suc, ◌/◌, ◌^◌, ◌<◌, Bool, true, false, not, eqb, List, [], ◌∷◌, ◌++◌, map, length, get_or, Some, None, refl, sym, ap, ◌∙◌, subst, ◌⊎◌, inl, inr, arith}
+use Rattle.std.specs.Prelude.{slice_get, if◌then◌else◌, filter}
 use Rattle.std.specs.List.{list_any, AllByRecursion as Each}
 use Rattle.std.proofs.lemmas.Bool.{false≢true, ne_eqb, or_left, or_right, or_parts, not_from_false}
 use Rattle.model_core.specs.declared.limits.TheConstants.{FRAME_BYTES}
-use Rattle.model_core.specs.declared.refusals.AllocRefusal.{AllocRefusal}
-use Rattle.model_core.specs.declared.refusals.DestroyRefusal.{DestroyRefusal}
-use Rattle.model_core.specs.declared.refusals.TakeBackRefusal.{TakeBackRefusal}
 use Rattle.model_core.specs.Blocks.{Block, block}
-use Rattle.model_core.specs.Machine.{Slab, Cache, Machine, empty_machine, holds, slot_of, layout, in_block, slab_blocks, choice}
-use Rattle.model_core.specs.Slabs.{is_partial, is_empty, cache_of, grown, slab_to_use, without_empty, reaped, by_need, destroyed}
+use Rattle.model_core.specs.Machine.{Cache, Machine, empty_machine, slot_of, layout, in_block, choice}
+use Rattle.model_core.specs.Slabs.{is_empty, grown, without_empty, reaped, by_need, choice_by_need, destroyed}
 use Rattle.model_core.specs.Reach.{in_reach}
-use Rattle.model_core.specs.Operations.{refuse, alloc_at, alloc_step, next_slot, after_grant, is_busy, after_take_back, take_back_step}
-use Rattle.model_core.specs.CacheOperations.{take_new, take_from, take_of, take_step, frames_of, destroy_of, destroy_step, reap_step}
-use Rattle.model_core.specs.Runs.{Operation, Alloc, Free, Write, Create, Take, Give, Destroy, Reap, Grant, TakeBack, Reset, after}
+use Rattle.model_core.specs.Operations.{next_slot, after_grant, is_busy, after_take_back}
 use Rattle.model_core.specs.WellFormed.{IsApart, IsWellFormed}
 use Rattle.model_core.specs.ByteLaws.{writes, WritesAlone}
 use Rattle.model_core.specs.Elements.{IsIn}
-use Rattle.model_core.proofs.Lists.{in_filter, each_in, find_in, Found, found, any_map, any_split, none_any, in_left, in_right, in_map}
+use Rattle.model_core.proofs.Lists.{in_filter, each_in, Found, found, any_map, any_split, none_any, in_left, in_right, in_map}
 use Rattle.model_core.proofs.ByNeed.{by_need_keeps}
+use Rattle.model_core.proofs.Outcomes.{outcome}
 use Rattle.model_core.proofs.Apart.{in_block-true, apart_place}
 use Rattle.model_core.proofs.Chosen.{chosen_apart}
 use Rattle.model_core.proofs.Laid.{Laid, laid, all_laid, laid_block, in_laid, Placed, IsCutLaid, taken_laid, laid_out}
 use Rattle.model_core.proofs.MemoryKept.{frame_slot, place_held}
 use Rattle.model_core.proofs.Split.{laid_of, slab_blocks_laid, is_empty_laid, gone_laid}
-use Rattle.model_core.proofs.PageSteps.{either, done, by_need_kept, not_busy}
+use Rattle.model_core.proofs.PageSteps.{by_need_kept, not_busy}
 use Rattle.model_core.proofs.CacheSteps.{in_all_laid}
 use Rattle.model_core.proofs.Objects.{byte_is_of, IsPageByte, IsLiveByte, reached, live_byte, page_apart}
 use Rattle.model_core.proofs.Constructed.{grown_byte, not_gone, next_unheld}
 use Rattle.model_core.proofs.ObjectsApart.{one_key}
-use Rattle.model_core.proofs.BytesStay.{free_keeps, give_keeps, same_write, same_create}
 
 -- What is in reach lies in a taken block
 
@@ -98,16 +93,6 @@ same_reaped order place m w r = ap (λ b. if b then Some 0 else m.bytes place) (
 same_by_need : {limit : ℕ} (order k place : ℕ) (m : Machine) → IsWellFormed limit order m → Reached m place → Same place m (by_need order k m)
 same_by_need order k place m w r = by_need_keeps (Same place m) order k m refl (same_reaped order place m w r)
 
-same_alloc : {limit : ℕ} (order k place : ℕ) (m : Machine) → IsWellFormed limit order m → Reached m place → Same place m (alloc_step order k m).machine
-unfolding alloc_step
-same_alloc order k place m w r =
-    let n : Machine = by_need order k m in
-    either (Same place m) (ltb order k) (refuse AllocRefusal.BadOrder m) (alloc_at k n (choice order n k)) refl (go n (same_by_need order k place m w r) (choice order n k))
-  where
-    go : (n : Machine) → Same place m n → (o : Option ℕ) → Same place m (alloc_at k n o).machine
-    go n h None = h
-    go n h (Some first) = h
-
 -- what is in reach is in reach of the reaped machine
 reached_reaped : (m : Machine) (place : ℕ) → Reached m place → Reached (reaped m) place
 unfolding reaped
@@ -125,24 +110,11 @@ reached_reaped m place (inr h) = inr (record {
   at = h.at;
 })
 
-same_take : {limit : ℕ} (order number place : ℕ) (m : Machine) → IsWellFormed limit order m → Reached m place → Same place m (take_step order number m).machine
-unfolding take_step
-same_take {limit} order number place m w r = go (cache_of m number)
-  where
-    new : (c : Cache) (n : Machine) → IsWellFormed limit order n → Reached n place → Same place m n → (o : Option ℕ) → choice order n (layout c).order ≡ o → Same place m (take_new c n o).machine
-    new c n w r h None e = h
-    new c n w r h (Some first) e = reached_grown order first c n place w e r ∙ h
-
-    slab : (c : Cache) (o : Option Slab) → Same place m (take_from order c m o).machine
-    slab c (Some s) = refl
-    slab c None =
-        let k : ℕ = (layout c).order in
-        let n : Machine = by_need order k m in
-        new c n (by_need_kept order k m w) (by_need_keeps (λ n. Reached n place) order k m r (reached_reaped m place r)) (same_by_need order k place m w r) (choice order n k) refl
-
-    go : (o : Option Cache) → Same place m (take_of order m o).machine
-    go None = refl
-    go (Some c) = slab c (slab_to_use (find is_partial c.slabs) (find is_empty c.slabs))
+same_made : {limit : ℕ} (order first : ℕ) (c : Cache) (m : Machine) (place : ℕ) → IsWellFormed limit order m → choice_by_need order (layout c).order m ≡ Some first → Reached m place
+    → Same place m (grown first c (by_need order (layout c).order m))
+same_made order first c m place w e r =
+    let k : ℕ = (layout c).order in
+    reached_grown order first c (by_need order k m) place (by_need_kept order k m w) e (by_need_keeps (λ n. Reached n place) order k m r (reached_reaped m place r)) ∙ same_by_need order k place m w r
 
 same_destroyed : {limit : ℕ} (order place : ℕ) (c : Cache) (m : Machine) → IsWellFormed limit order m → Reached m place → IsIn c m.caches → list_any (λ s. not (is_empty s)) c.slabs ≡ false → Same place m (destroyed c m)
 unfolding destroyed
@@ -153,26 +125,9 @@ same_destroyed order place c m w r in_c e =
     let one : h.cache ≡ c = one_key (λ x. x.number) 0 m.caches h.cache c w.caches_rise h.cache_in in_c same in
     false≢true (sym (each_in (λ s. not (is_empty s) ≡ false) h.slab c.slabs (none_any (λ s. not (is_empty s)) c.slabs e) (subst (λ x. IsIn h.slab x.slabs) one h.slab_in)) ∙ ap not (live_not_empty m place h)))))
 
-same_destroy : {limit : ℕ} (order number place : ℕ) (m : Machine) → IsWellFormed limit order m → Reached m place → Same place m (destroy_step number m).machine
-unfolding destroy_step
-same_destroy order number place m w r = go (cache_of m number) refl
-  where
-    test : (c : Cache) → IsIn c m.caches → (b : Bool) → list_any (λ s. not (is_empty s)) c.slabs ≡ b
-        → Same place m (if b then refuse DestroyRefusal.CacheInUse m else record { answer = Ok (frames_of (slab_blocks c)); machine = destroyed c m }).machine
-    test c in_c true e = refl
-    test c in_c false e = same_destroyed order place c m w r in_c e
-
-    go : (o : Option Cache) → cache_of m number ≡ o → Same place m (destroy_of m o).machine
-    go None e = refl
-    go (Some c) e = test c (find_in (λ x. eqb x.number number) c m.caches e).0 (list_any (λ s. not (is_empty s)) c.slabs) refl
-
-same_reap : {limit : ℕ} (order place : ℕ) (m : Machine) → IsWellFormed limit order m → Reached m place → Same place m (reap_step m).machine
-unfolding reap_step
-same_reap order place m w r = same_reaped order place m w r
-
-same_grant : {limit : ℕ} (order place : ℕ) (m : Machine) → IsWellFormed limit order m → Reached m place → Same place m (after_grant order m)
+same_granted : {limit : ℕ} (order place : ℕ) (m : Machine) → IsWellFormed limit order m → Reached m place → Same place m (after_grant order m)
 unfolding after_grant
-same_grant order place m w r =
+same_granted order place m w r =
     let h : IsHolder m place = holder_of order m place w r in
     ap (λ b. if b then Some 0 else m.bytes place) (ne_eqb (slot_of order place) (next_slot m) (λ same.
     false≢true (sym (next_unheld order m w) ∙ (ap (λ u. list_any (λ v. eqb v u) m.slots) (sym same) ∙ place_held order m.slots place h.holder (holder_placed order m place w h) h.here))))
@@ -185,33 +140,26 @@ same_gone order slot place m w r e =
     each_in (λ b. b.first / 2 ^ order ≢ slot) h.holder (m.blocks ++ map laid_block (all_laid m.caches)) (not_busy order slot m e) h.holder_in
     (sym (frame_slot order (place / FRAME_BYTES) h.holder (holder_placed order m place w h).0 (in_block-true place h.holder h.here)) ∙ same)))
 
-same_take_back : {limit : ℕ} (order slot place : ℕ) (m : Machine) → IsWellFormed limit order m → Reached m place → Same place m (take_back_step order slot m).machine
-unfolding take_back_step
-same_take_back order slot place m w r = either (Same place m) (not (holds m slot)) (refuse TakeBackRefusal.NoSlot m) _ refl (go (is_busy order m slot) refl)
-  where
-    go : (b : Bool) → is_busy order m slot ≡ b → Same place m (if b then refuse TakeBackRefusal.SlotBusy m else record { answer = Ok done; machine = after_take_back order slot m }).machine
-    go true e = refl
-    go false e = same_gone order slot place m w r e
-
 nothing_reached : (place : ℕ) → in_reach empty_machine place 1 ≡ false
 unfolding in_reach empty_machine
 nothing_reached place = refl
 
 pub writes_alone : WritesAlone
-writes_alone limit order operation m place w e = go operation
+writes_alone limit order operation m place w e f not_written = outcome limit order m (λ operation n. in_reach n place 1 ≡ true → writes operation place ≡ false → Same place m n) (record {
+  refused = λ _ _ _ _. refl;
+  page_taken = λ k first _ _ _. same_by_need order k place m w r;
+  page_released = λ first _ _. refl;
+  bytes_written = λ begin new _ _ unwritten. ap (λ b. if b then slice_get new (place - begin) else m.bytes place) unwritten;
+  cache_made = λ size align pattern _ _ _ _ _. refl;
+  object_taken = λ number c s _ _ _ _ _ _. refl;
+  slab_made = λ number c first i e _ _ _ _. same_made order first c m place w e r;
+  object_given = λ number begin c o _ _ _ _. refl;
+  cache_destroyed = λ number c i none _ _. same_destroyed order place c m w r i none;
+  slabs_reaped = λ _ _. same_reaped order place m w r;
+  slot_granted = λ _ _. same_granted order place m w r;
+  slot_gone = λ slot _ free _ _. same_gone order slot place m w r free;
+  all_gone = λ there _. absurd (false≢true (sym (nothing_reached place) ∙ there));
+}) operation f not_written
   where
     r : Reached m place
     r = reached m place 1 place e (omega arith) (omega arith)
-
-    go : (operation : Operation) → in_reach (after limit order operation m) place 1 ≡ true → writes operation place ≡ false → Same place m (after limit order operation m)
-    go (Alloc k) f not_written = same_alloc order k place m w r
-    go (Free first) f not_written = ap (λ bytes. bytes place) (free_keeps first m)
-    go (Write begin new) f not_written = same_write begin place new m not_written
-    go (Create size align pattern) f not_written = ap (λ bytes. bytes place) (same_create limit size align pattern m)
-    go (Take number) f not_written = same_take order number place m w r
-    go (Give number begin) f not_written = ap (λ bytes. bytes place) (give_keeps number begin m)
-    go (Destroy number) f not_written = same_destroy order number place m w r
-    go Reap f not_written = same_reap order place m w r
-    go Grant f not_written = same_grant order place m w r
-    go (TakeBack slot) f not_written = same_take_back order slot place m w r
-    go Reset f not_written = absurd (false≢true (sym (nothing_reached place) ∙ f))

@@ -15,7 +15,8 @@ use Rattle.model_core.specs.Elements.{IsIn}
 use Rattle.model_core.proofs.Lists.{each_in, find_in, none_any as none_of}
 use Rattle.model_core.proofs.ByNeed.{by_need_none}
 use Rattle.model_core.proofs.PageSteps.{by_need_kept}
-use Rattle.model_core.proofs.CacheSteps.{used_in, stands_by_need, IsGrown, grown_is, grown_kept}
+use Rattle.model_core.proofs.Outcomes.{used_in, stands_by_need}
+use Rattle.model_core.proofs.CacheSteps.{IsGrown, grown_is, grown_kept}
 use Rattle.words_core.specs.declared.event.Event.TheVariants as On
 use Rattle.words_core.specs.declared.event.Command.TheVariants as Asked
 use Rattle.words_core.specs.declared.reply.Addressee.TheVariants as To

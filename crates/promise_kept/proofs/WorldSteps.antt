@@ -1,6 +1,6 @@
 -- The world keeps the promises in every step, and so in every run from the opening world.
-use Rattle.std.proofs.Common.{◌≡◌, ℕ, zero, suc, ◌*◌, ◌^◌, ◌≤◌, Bool, true, false, not, eqb, List, [], ◌∷◌, length, Option, Some, None, Result, Ok, Err, is_none, position, slice_get, refl, sym, ap, ◌∙◌, subst, arith}
-use Rattle.std.specs.Prelude.{if◌then◌else◌, replicate}
+use Rattle.std.proofs.Common.{◌≡◌, ℕ, zero, suc, ◌*◌, ◌^◌, ◌≤◌, Bool, true, false, not, eqb, List, [], ◌∷◌, length, Option, Some, None, Result, Ok, Err, is_none, position, slice_get, append-nil, refl, sym, ap, ◌∙◌, subst, arith}
+use Rattle.std.specs.Prelude.{if◌then◌else◌, replicate, flat_map}
 use Rattle.std.specs.List.{list_any, AllByRecursion as Each}
 use Rattle.std.proofs.lemmas.Bool.{and_from, eq-eqb}
 use Rattle.std.proofs.lemmas.List.{length-replicate}
@@ -11,10 +11,8 @@ use Rattle.model_core.specs.Operations.{Step, refuse, is_busy, after_take_back, 
 use Rattle.model_core.specs.Runs.{ArePossible}
 use Rattle.model_core.specs.WellFormed.{IsWellFormed}
 use Rattle.model_core.proofs.Lists.{each_append}
-use Rattle.model_core.proofs.PageSteps.{empty_kept, alloc_kept, free_kept, cache_kept}
-use Rattle.model_core.proofs.PageSteps as pages
-use Rattle.model_core.proofs.CacheSteps as caches
-use Rattle.model_core.proofs.ByteSteps as bytes
+use Rattle.model_core.proofs.PageSteps.{empty_kept}
+use Rattle.model_core.proofs.WellFormedRuns as formed
 use Rattle.words_core.specs.declared.event.Event.{Event}
 use Rattle.words_core.specs.declared.event.Event.TheVariants as On
 use Rattle.words_core.specs.declared.event.AdminCommand.TheVariants as Do
@@ -27,13 +25,13 @@ use Rattle.words_core.specs.declared.reply.Body.TheVariants as Say
 use Rattle.words_core.specs.declared.reply.Refusal.{Refusal}
 use Rattle.words_core.specs.Cutting.{lines_of_trace}
 use Rattle.words_core.specs.Grammar.{reading_of}
-use Rattle.world_core.specs.PrivateStep.{Entry, report_step, command_step}
+use Rattle.world_core.specs.PrivateStep.{Entry, private_step, command_step}
 use Rattle.world_core.specs.World.{World, WorldStep, answer, grant_step, slot_step, reset_step, moved_to, move_step, tenant_step, world_step, history, world_after, opening_world}
 use Rattle.world_core.specs.World as world
 use Rattle.world_core.specs.Output.{event_in, events_of}
 use Rattle.world_core.specs.Laws.{opening_history}
 use Rattle.world_core.specs.Reached.{operations_in}
-use Rattle.world_core.proofs.Operations.{read_stays}
+use Rattle.world_core.proofs.Operations.{entries_are_operations}
 use Rattle.world_core.proofs.Asked.{reading_possible}
 use Rattle.promise_core.specs.State.{State, Known, opening_state, opening, state_after, owners_after}
 use Rattle.promise_core.specs.Promises.{is_for, due, named, kept, allowed, all_allowed}
@@ -71,17 +69,9 @@ command_kept limit order Asked.Reap m s le w h = reap.reap_kept limit order m s 
 command_kept limit order Asked.Report m s le w h = report_kept limit order m s w h
 
 command_formed : (limit order : ℕ) (command : Command) (m : Machine) → ArePossible (operations_in (Entry.Ask command)) → IsWellFormed limit order m → IsWellFormed limit order (command_step limit order command m).machine
-unfolding command_step report_step
-command_formed limit order (Asked.Alloc k) m can w = alloc_kept order k m w
-command_formed limit order (Asked.Free first) m can w = free_kept order first m w
-command_formed limit order (Asked.Read place len) m can w = subst (IsWellFormed limit order) (sym (read_stays place len m)) w
-command_formed limit order (Asked.Write place new) m can w = bytes.write_kept order place new.items m w
-command_formed limit order (Asked.Cache size align pattern) m can w = cache_kept limit order size align pattern.items m can.0 w
-command_formed limit order (Asked.Destroy number) m can w = pages.destroy_kept order number m w
-command_formed limit order (Asked.Take number) m can w = caches.take_kept order number m w
-command_formed limit order (Asked.Give number place) m can w = bytes.give_kept order number place m w
-command_formed limit order Asked.Reap m can w = pages.reap_kept order m w
-command_formed limit order Asked.Report m can w = w
+unfolding private_step
+command_formed limit order command m can w = subst (IsWellFormed limit order) (sym (entries_are_operations limit order (Entry.Ask command ∷ []) m))
+    (formed.run_kept limit order (flat_map operations_in (Entry.Ask command ∷ [])) m (subst ArePossible (sym (append-nil (operations_in (Entry.Ask command)))) can) w)
 
 -- a slot taken back, by whether it is held and busy
 abbrev back_step : ℕ → ℕ → Machine → Bool → Bool → Step (Result (Unit {0}) TakeBackRefusal)

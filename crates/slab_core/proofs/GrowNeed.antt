@@ -9,7 +9,7 @@ use Rattle.model_core.specs.Slabs.{cache_of, without_empty, reaped, by_need, cho
 use Rattle.model_core.specs.Slabs as slabs
 use Rattle.model_core.specs.WellFormed.{RisesFrom}
 use Rattle.model_core.proofs.ByNeed.{by_need_keeps, by_need_found, by_need_reaps}
-use Rattle.model_core.proofs.CacheSteps.{stands_by_need}
+use Rattle.model_core.proofs.Outcomes.{stands_by_need}
 use Rattle.model_core.proofs.Choosing.{choice_is_found}
 use Rattle.model_core.proofs.Chosen.{held_below}
 use Rattle.model_core.proofs.Lists.{find_in}

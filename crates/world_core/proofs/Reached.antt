@@ -1,14 +1,14 @@
 -- The machines that private runs leave.
-use Rattle.std.proofs.Common.{◌≡◌, ◌↔◌, ℕ, Bool, true, false, ltb, List, [], ◌∷◌, ◌++◌, Option, Some, None, Ok, refl, sym, subst}
+use Rattle.std.proofs.Common.{◌≡◌, ◌↔◌, ℕ, Bool, true, false, List, [], ◌∷◌, ◌++◌, Option, Some, None, Ok, refl, sym, subst}
 use Rattle.std.specs.Prelude.{if◌then◌else◌, option_map, MatchOption, ◌==◌, flat_map}
-use Rattle.model_core.specs.declared.refusals.AllocRefusal.{AllocRefusal}
 use Rattle.model_core.specs.Blocks.{Block, block, Taken, IsFree, IsChoice, IsWithout, with_taken, without_taken}
 use Rattle.model_core.specs.Choice.{choose}
 use Rattle.model_core.specs.Machine.{Machine, empty_machine, holds, beyond, taken_blocks, order_in, taken_in, choice, slab_blocks}
 use Rattle.model_core.specs.Slabs.{by_need, reaped}
-use Rattle.model_core.specs.Operations.{refuse, alloc_at, alloc_step, free_at, free_step}
+use Rattle.model_core.specs.Operations.{alloc_step, free_at, free_step}
 use Rattle.model_core.specs.WellFormed.{IsWellFormed}
 use Rattle.model_core.proofs.ByNeed.{by_need_keeps}
+use Rattle.model_core.proofs.Outcomes.{alloc_outcome}
 use Rattle.model_core.proofs.Choosing.{choice_is_found}
 use Rattle.model_core.proofs.Chosen.{held_below}
 use Rattle.model_core.proofs.FreeBlocks.{each_frame_in_one, splits}
@@ -44,13 +44,7 @@ chosen_from order k first m e = go (choose order (holds m) (taken_in m) (beyond 
         (b.order, subst (λ f. IsChoice order (holds m) (taken_in m) k (block f b.order)) same c)
 
 alloc_chooses : (order k first : ℕ) (m : Machine) → (alloc_step order k m).answer ≡ Ok first → choice order (by_need order k m) k ≡ Some first
-unfolding alloc_step
-alloc_chooses order k first m e = go (ltb order k) (choice order (by_need order k m) k) e
-  where
-    go : (test : Bool) (o : Option ℕ) → (if test then refuse AllocRefusal.BadOrder m else alloc_at k (by_need order k m) o).answer ≡ Ok first → o ≡ Some first
-    go true o e = absurd (cc)
-    go false None e = absurd (cc)
-    go false (Some g) e = cc
+alloc_chooses order k first m e = alloc_outcome order k m (λ s. s.answer ≡ Ok first → choice order (by_need order k m) k ≡ Some first) (λ _ e. absurd (cc)) (λ g is e. cc) e
 
 -- giving back empty slabs changes no slot
 need_holds : (order k : ℕ) (m : Machine) → holds (by_need order k m) ≡ holds m
@@ -58,14 +52,7 @@ unfolding reaped
 need_holds order k m = by_need_keeps (λ n. holds n ≡ holds m) order k m refl refl
 
 alloc_holds : (order k : ℕ) (m : Machine) → holds (alloc_step order k m).machine ≡ holds (by_need order k m)
-unfolding alloc_step
-alloc_holds order k m = go (ltb order k) (choice order (by_need order k m) k)
-  where
-    go : (test : Bool) (o : Option ℕ)
-        → holds (if test then refuse AllocRefusal.BadOrder m else alloc_at k (by_need order k m) o).machine ≡ holds (by_need order k m)
-    go true o = sym (need_holds order k m)
-    go false None = refl
-    go false (Some g) = refl
+alloc_holds order k m = alloc_outcome order k m (λ s. holds s.machine ≡ holds (by_need order k m)) (λ _. sym (need_holds order k m)) (λ _ _. refl)
 
 free_holds : (first : ℕ) (m : Machine) → holds (free_step first m).machine ≡ holds m
 unfolding free_step

@@ -1,4 +1,5 @@
-use Rattle.model_core.proofs.ByNeed.{alloc_reaps, take_reaps, refusals_stay}
+use Rattle.model_core.proofs.ByNeed.{alloc_reaps, take_reaps}
+use Rattle.model_core.proofs.Outcomes.{refusals_stay}
 use Rattle.model_core.proofs.laws.reaps_by_need.Goals as goal
 
 pub returns : goal.returns
