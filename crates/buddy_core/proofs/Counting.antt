@@ -41,13 +41,6 @@ count_some p (suc n) x lt on = go (cases_lt x n) (count_some p n x)
     go (inl below) rest = let before = rest below on in omega arith
     go (inr here) rest = let last : bit (p n) ≡ 1 = ap bit (ap p (let e : n ≡ x = omega arith in e) ∙ on) in omega arith
 
-pub count_none : (p : ℕ → Bool) (n : ℕ) → ((f : ℕ) → f < n → p f ≡ false) → count_below p n ≡ 0
-count_none p zero none = refl
-count_none p (suc n) none =
-    let before = count_none p n (λ f lt. none f (omega arith)) in
-    let last : bit (p n) ≡ 0 = ap bit (none n (omega arith)) in
-    omega arith
-
 -- where something counts, a number passes
 pub count_found : (p : ℕ → Bool) (n : ℕ) → 0 < count_below p n → (f : ℕ) × (f < n) × (p f ≡ true)
 count_found p zero some = absurd (omega arith)

@@ -29,9 +29,6 @@ none_there n y = go (cases_lt y n)
 module _ (top : ℕ) (superblocks : List StoredSuperblock) (tenants : List StoredTenant) (kept : IsKept top superblocks tenants) (t : ℕ) (listed : t < length tenants) (slot m : ℕ)
     (slot_lt : slot < length superblocks) (m_lt : m < length superblocks) (empty : superblock_at (stored_tenant t tenants) slot ≡ None) (unused : (v w : ℕ) → superblock_at (stored_tenant v tenants) w ≡ Some m → ⊥)
     (s : StoredSuperblock) (s_order : s.tree.order ≡ (superblock_of m superblocks).tree.order) (s_orders : s.orders ≡ (superblock_of m superblocks).orders) (s_words : Shows top (λ _. true) s.tree.words) where
-  abbrev tenant : StoredTenant
-  tenant = stored_tenant t tenants
-
   -- the tenant afterwards
   abbrev pub granted : StoredTenant
   granted = record (stored_tenant t tenants) { slots = set (stored_tenant t tenants).slots slot (Some m); free = set (stored_tenant t tenants).free top (slice_index (stored_tenant t tenants).free top + 1) }

@@ -11,11 +11,11 @@ use Rattle.model_core.specs.Blocks.{block}
 use Rattle.model_core.specs.declared.limits.TheConstants.{MOST_ORDER, MOST_SUPERBLOCKS, MOST_TENANTS}
 use Rattle.model_core.specs.Choice.{is_free}
 use Rattle.model_core.proofs.Choosing.{free_is_tested}
+use Rattle.model_core.proofs.Counting.{count_none}
 use Rattle.buddy_core.specs.Content.{Holding, Content, nothing_held, empty_buddy, has_order, taken_block_count}
 use Rattle.buddy_core.specs.Stored.{StoredSuperblock, StoredTenant, bare_superblock, bare_tenant, superblock_of, stored_tenant, superblock_at, held_by, order_under, taken_by, holding_shown, content_shown}
 use Rattle.buddy_core.specs.Kept.{IsKept, IsTenantKept, HasTenantSizes}
 use Rattle.buddy_core.proofs.ContentShown.{blank_of, bare_of}
-use Rattle.buddy_core.proofs.Counting.{count_none}
 use Rattle.buddy_core.proofs.Granting.{none_there}
 
 module _ (top : ℕ) (superblocks : List StoredSuperblock) where

@@ -21,8 +21,9 @@ use Rattle.buddy_core.specs.declared.find.Source.{Source}
 use Rattle.buddy_core.specs.Stored.{StoredTree, StoredSuperblock, StoredTenant, superblock_of, stored_tenant, superblock_at, held_by, taken_by, holding_shown}
 use Rattle.buddy_core.specs.Kept.{IsKept, IsTenantKept, available_in}
 use Rattle.buddy_core.proofs.ContentShown.{taken_shown, slot_within}
-use Rattle.buddy_core.proofs.TenantCounts.{held_slot, table_size, count_set, taken_bit}
+use Rattle.buddy_core.proofs.TenantCounts.{table_size, count_set, taken_bit}
 use Rattle.model_core.proofs.Counting.{bit}
+use Rattle.model_core.proofs.Lists.{some_of}
 use Rattle.buddy_core.proofs.Counting.{count_some, count_found, frame_below, free_balance, whole_counts}
 use Rattle.buddy_core.proofs.TreeSlots.{root_tells, least_free, less_in_slot, same_elsewhere}
 use Rattle.buddy_core.proofs.RootOrders.{word_after}
@@ -59,7 +60,7 @@ module _ (top : ℕ) (superblocks : List StoredSuperblock) (tenants : List Store
       forth (inr le) some =
           let found = count_found (λ g. is_free top (held_by (stored_tenant t tenants)) (taken_by top superblocks (stored_tenant t tenants)) (block g j)) (length superblocks * 2 ^ top) (subst (λ n. 0 < n) (kept_tenant.free j le) some) in
           let free = (free_is_tested top (held_by (stored_tenant t tenants)) (taken_by top superblocks (stored_tenant t tenants)) (block found.0 j)).0 found.2 in
-          let slot = held_slot (superblock_at (stored_tenant t tenants) (found.0 / 2 ^ top)) free.1 in
+          let slot = some_of (superblock_at (stored_tenant t tenants) (found.0 / 2 ^ top)) free.1 in
           (found.0 / 2 ^ top, slot.0, slot.1, bit_of (block found.0 j) slot.0 free slot.1)
 
       back : HasOrder superblocks (stored_tenant t tenants).slots j → 0 < slice_index (stored_tenant t tenants).free j
@@ -73,7 +74,7 @@ module _ (top : ℕ) (superblocks : List StoredSuperblock) (tenants : List Store
 
   pub none_without : (k : ℕ) → IsWithoutOrder superblocks (stored_tenant t tenants).slots k → IsWithout top (held_by (stored_tenant t tenants)) (taken_by top superblocks (stored_tenant t tenants)) k
   none_without k none c free le =
-      let slot = held_slot (superblock_at (stored_tenant t tenants) (c.first / 2 ^ top)) free.1 in
+      let slot = some_of (superblock_at (stored_tenant t tenants) (c.first / 2 ^ top)) free.1 in
       none c.order (c.first / 2 ^ top) slot.0 le slot.1 (bit_of c slot.0 free slot.1)
 
   module _ (k : ℕ) (p : Source) (source : IsSource superblocks (stored_tenant t tenants).slots k p) where
@@ -126,7 +127,7 @@ module _ {top : ℕ} {superblocks : List StoredSuperblock} {tenants : List Store
   first_of = least_free top (held_by (stored_tenant t tenants)) (taken_by top superblocks (stored_tenant t tenants)) p.slot p.order x found.aligned found.least
 
   pub is_choice : IsChoice top (held_by (stored_tenant t tenants)) (taken_by top superblocks (stored_tenant t tenants)) k (block (p.slot * 2 ^ top + x) p.order)
-  is_choice = (first_of.0, found.source.enough, λ c free le. go c free le (held_slot (superblock_at (stored_tenant t tenants) (c.first / 2 ^ top)) free.1) (cases_order p.order c.order))
+  is_choice = (first_of.0, found.source.enough, λ c free le. go c free le (some_of (superblock_at (stored_tenant t tenants) (c.first / 2 ^ top)) free.1) (cases_order p.order c.order))
     where
       later : (g v : ℕ) → v ≡ g / 2 ^ top → p.slot < v → p.slot * 2 ^ top + x ≤ g
       later g v e lt =

@@ -95,9 +95,6 @@ module _ (top : ℕ) (superblocks : List StoredSuperblock) (tenants : List Store
   other_taken : (v : ℕ) → (v ≡ t → ⊥) → taken_by top after (stored_tenant v tenants) ≡ taken_by top superblocks (stored_tenant v tenants)
   other_taken v ne = taken_as_before top superblocks after (stored_tenant v tenants) (stored_tenant v tenants) (record { held = refl; same = λ u i at. (i, at, other_superblock v u i ne at) })
 
-  abbrev pub reset_tenant : StoredTenant
-  reset_tenant = bare_tenant top (length superblocks)
-
   tenant_here : (v : ℕ) → v ≡ t → stored_tenant v (set tenants t (bare_tenant top (length superblocks))) ≡ bare_tenant top (length superblocks)
   tenant_here v e = ap (λ i. stored_tenant i (set tenants t (bare_tenant top (length superblocks)))) e ∙ get_or-set_same tenants t (bare_tenant top (length superblocks)) blank_of listed
 

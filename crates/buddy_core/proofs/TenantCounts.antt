@@ -22,11 +22,6 @@ pow_le i j le = go (cases_lt i j)
     go (inl lt) = let less = pow_below i j lt in omega arith
     go (inr ge) = let same : i ≡ j = omega arith in subst (λ n. 2 ^ i ≤ 2 ^ n) same (omega arith)
 
--- a test that is true tells the superblock
-pub held_slot : (o : Option ℕ) → is_some o ≡ true → (m : ℕ) × (o ≡ Some m)
-held_slot None e = absurd (false≢true e)
-held_slot (Some m) e = (m, refl)
-
 module _ (top : ℕ) (superblocks : List StoredSuperblock) (tenants : List StoredTenant) (kept : IsKept top superblocks tenants) where
   pub few_frames : length superblocks * 2 ^ top ≤ 65536
   few_frames = let small = pow_le top 8 kept.small in let few = kept.few in let le = mul-le (length superblocks) (2 ^ top) 256 256 few (omega arith) in omega arith

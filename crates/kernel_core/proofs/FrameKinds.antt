@@ -38,15 +38,6 @@ free_here taken x ended none (f, k, is, here) = go (cases_order f x)
     go (inr (inl below)) = absurd (omega (arith, ended f k is below, here.1))
     go (inr (inr above)) = absurd (omega (arith, here.0))
 
--- .. so they have ended before the next
-pub free_next : (taken : Taken) (x : ℕ) → AreEndedBefore taken x → None ≡ taken x → AreEndedBefore taken (x + 1)
-free_next taken x ended none f k is less = go (cases_order f x)
-  where
-    go : (f ≡ x) ⊎ ((f < x) ⊎ (x < f)) → f + 2 ^ k ≤ x + 1
-    go (inl e) = absurd (some_none (sym is ∙ ap taken e ∙ sym none))
-    go (inr (inl below)) = omega (arith, ended f k is below)
-    go (inr (inr above)) = absurd (omega (arith, less))
-
 -- behind a block all that began before have ended
 pub block_next : (top : ℕ) (held : ℕ → Bool) (taken : Taken) → IsSound top held taken → (x j : ℕ) → AreEndedBefore taken x → taken x ≡ Some j
     → AreEndedBefore taken (x + 2 ^ j)

@@ -1,12 +1,15 @@
 -- A superblock without owner is given to a tenant.
 use Rattle.std.proofs.Common.{◌≡◌, ℕ, ◌<◌, true, false, Option, Some, None, is_none, position, length, slice_set, refl, sym, ap, subst, arith, ◌≤◌, slice_get, ◌∙◌}
 use Rattle.std.proofs.lemmas.Bool.{false≢true}
+use Rattle.std.proofs.lemmas.List.Quantifiers.{position-Some}
+use Rattle.std.proofs.lemmas.Option.{slice_get_past}
 use Rattle.model_core.specs.declared.owner.Owner.{Owner}
 use Rattle.model_core.specs.Operations.{after_grant, next_slot}
 use Rattle.model_core.specs.Owners.{owned_by}
 use Rattle.space_core.specs.Content as spaces
 use Rattle.space_core.specs.Content.{mark_at}
 use Rattle.space_core.specs.Changes.{IsLeastSlot, with_grant}
+use Rattle.space_core.proofs.Vacancy.{unowned-from_position}
 use Rattle.buddy_core.specs.Content as buddies
 use Rattle.slab_tables.specs.Content as tables
 use Rattle.machine_changes.specs.Slots.{HoldTogether, IsSpare, ChangesFor}
@@ -28,13 +31,7 @@ use Rattle.world_core.specs.Limits.{cache_limit}
 use Rattle.world_core.specs.World.{World, WorldStep, grant_step, world_step}
 use Rattle.kernel_core.specs.Does as calls
 use Rattle.kernel_core.specs.Steps.{Steps}
-use Rattle.space_core.proofs.Vacancy.{unowned-from_position}
-use Rattle.std.proofs.lemmas.Option.{slice_get_past}
 use Rattle.kernel_core.proofs.Worlds.{get_within, steps_done, steps_answered, unnamed}
-
-was_none : (o : Option Owner) → is_none o ≡ true → o ≡ None
-was_none None _ = refl
-was_none (Some o) fails = absurd (false≢true fails)
 
 -- it stands under no slot, and no slab begins on it
 pub free_is_spare : (r : spaces.Content) (b : buddies.Content) (s : tables.Content) (m : ℕ) → HoldTogether r b s → position is_none r.owners ≡ Some m → IsSpare b s m

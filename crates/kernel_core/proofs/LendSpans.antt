@@ -150,9 +150,6 @@ module _ (r : spaces.Content) (b : buddies.Content) (s : tables.Content) (t firs
   pub page_few : order ≤ 8
   page_few = few r b s t (4096 * first) asked first order page.taken here
 
-  pub page_frame : first < 65536
-  page_frame = (steady r b s t asked.together asked.tenant).few first order page.taken
-
   pub page_held : (o : Option ℕ) → spaces.superblock_at r.slots t (first / 2 ^ s.top) ≡ o → (m : ℕ) × (o ≡ Some m)
   page_held None under = absurd (false≢true (sym (ap is_some under) ∙ ((steady r b s t asked.together asked.tenant).sound.placed first order page.taken).1))
   page_held (Some m) under = (m, refl)

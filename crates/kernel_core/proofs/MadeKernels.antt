@@ -19,6 +19,7 @@ use Rattle.space_core.specs.Windows.{home_of, bytes_under, byte_at, window_of}
 use Rattle.space_core.proofs.Changed.{granted-IsSpace}
 use Rattle.space_core.proofs.Empty.{empty_space-IsSpace}
 use Rattle.space_core.proofs.Laws.{laws_of}
+use Rattle.space_core.proofs.Vacancy.{unowned-from_position}
 use Rattle.buddy_core.specs.Content as buddies
 use Rattle.slab_tables.specs.Content as tables
 use Rattle.slab_tables.proofs.Keeping.{slabs_opening}
@@ -37,7 +38,6 @@ use Rattle.kernel_core.specs.Shows.{Shows}
 use Rattle.kernel_core.specs.Stores.{IsKernel, Loads}
 use Rattle.kernel_core.specs.Actions.{Runs, Acts, IsBooted}
 use Rattle.kernel_core.proofs.Witnesses.{opening_shown}
-use Rattle.space_core.proofs.Vacancy.{unowned-from_position}
 use Rattle.kernel_core.proofs.Worlds.{steps_asked}
 
 kernel_of : (r : spaces.Content) (b : buddies.Content) (s : tables.Content) → HoldTogether r b s → IsKernel (content_of r b s)

@@ -1,10 +1,12 @@
 -- A slot is moved to a superblock without owner.
 use Rattle.std.proofs.Common.{◌≡◌, ℕ, ◌<◌, true, false, Some, None, is_none, length, position, slice_set, refl, ap, arith, zero, suc, ◌≤◌, Option, is_some, IsSome, List, [], ◌∷◌, map, slice_get, sym, ◌∙◌, subst}
 use Rattle.std.proofs.lemmas.List.{length-set}
+use Rattle.std.proofs.lemmas.Option.{slice_get_past}
 use Rattle.model_core.specs.Owners.{owned_by, is_owner}
 use Rattle.space_core.specs.Content as spaces
 use Rattle.space_core.specs.Content.{mark_at}
 use Rattle.space_core.specs.Changes.{with_move}
+use Rattle.space_core.proofs.Vacancy.{unowned-from_position}
 use Rattle.buddy_core.specs.Content as buddies
 use Rattle.slab_tables.specs.Content as tables
 use Rattle.slab_tables.specs.Changes.{IsMoved}
@@ -24,11 +26,10 @@ use Rattle.words_core.specs.declared.reply.Body.TheVariants.{Moved, Refused}
 use Rattle.words_core.specs.declared.reply.Refusal.TheVariants.{NoTenant, NoSlot, PoolEmpty}
 use Rattle.world_core.specs.Limits.{cache_limit}
 use Rattle.world_core.specs.World.{World, WorldStep, answer, given_up, moved_to, move_step, world_step}
+use Rattle.world_core.proofs.MachineLists.{slice_set-same}
 use Rattle.kernel_core.specs.Shows.{Shows}
 use Rattle.kernel_core.specs.Steps.{Steps}
 use Rattle.kernel_core.proofs.Worlds.{get_within, steps_done, steps_answered, unnamed}
-use Rattle.space_core.proofs.Vacancy.{unowned-from_position}
-use Rattle.std.proofs.lemmas.Option.{slice_get_past}
 use Rattle.kernel_core.proofs.Owners.{is_under, given_up_one}
 
 -- superblock `from` stands under slot u of tenant t, and `to` is the least without owner
@@ -85,12 +86,6 @@ moved_reply t u m = record { addressee = To.Admin; body = Moved t u m }
 abbrev moved_world : ℕ → ℕ → ℕ → List (Option Owner) → List Machine → WorldStep
 moved_world t u to owners machines = record { reply = moved_reply t u to; world = record { owners = slice_set owners to (Some (owned_by t u)); machines = machines } }
 
--- what is set is there already
-set_here : {A : Type 0} (xs : List A) (i : ℕ) (x : A) → slice_get xs i ≡ Some x → slice_set xs i x ≡ xs
-set_here [] i x here = refl
-set_here (y ∷ ys) zero x here = let same : y ≡ x = cc in ap (λ z. z ∷ ys) (sym same)
-set_here (y ∷ ys) (suc i) x here = ap (λ zs. y ∷ zs) (set_here ys i x here)
-
 -- what a move is to the world: the owners change alone
 moved_is : (k : KernelContent) (w : World) (t u from to : ℕ) (x : Machine) → Shows k w → slice_get w.machines t ≡ Some x
     → superblock_at k t u ≡ Some from → position is_none k.space.owners ≡ Some to → holds x u ≡ true
@@ -103,7 +98,7 @@ moved_is k w t u from to x shown here under free held =
     ∙ step held
     ∙ ap (λ os. moved_world t u to (map (given_up (is_owner t u)) os) w.machines) shown.owners
     ∙ ap (λ os. moved_world t u to os w.machines) (sym (given_up_one k.space t u from (is_under k.space t u from shown.agree.space under)))
-    ∙ ap (λ ms. moved_world t u to (slice_set k.space.owners from None) ms) (sym (set_here w.machines t x here))
+    ∙ ap (λ ms. moved_world t u to (slice_set k.space.owners from None) ms) (sym (slice_set-same w.machines t x here))
   where
     step : holds x u ≡ true → move_step t u w (Some x) (Some to) ≡ moved_to t u w (Some to)
     step is = rw is refl

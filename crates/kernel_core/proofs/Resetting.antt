@@ -6,6 +6,7 @@ use Rattle.std.proofs.lemmas.List.{length-set, get_or-set_same, get_or-set_other
 use Rattle.std.proofs.lemmas.List.Sums.{count_by_more_yes}
 use Rattle.std.proofs.Math.ListN.{length-map}
 use Rattle.std.proofs.Math.Seq.{take-length}
+use Rattle.std.proofs.lemmas.Option.{slice_get_past}
 use Rattle.space_core.specs.Content.{Content, IsSpace, superblock_at, owner_at, mark_at}
 use Rattle.space_core.specs.Changes.{with_take_back}
 use Rattle.space_core.specs.Laws.{IsSameFor, OthersStay}
@@ -16,6 +17,7 @@ use Rattle.machine_changes.proofs.Lookups.{some_none}
 use Rattle.kernel_core.proofs.Changing.{not_less, marks_replaced, has_row, same_sizes}
 use Rattle.model_core.specs.Machine.{empty_machine, Machine}
 use Rattle.space_core.specs.Content as spaces
+use Rattle.space_core.proofs.Reading.{same_twice}
 use Rattle.buddy_core.specs.Content as buddies
 use Rattle.slab_tables.specs.Content as tables
 use Rattle.slab_tables.specs.Changes.{IsReset}
@@ -30,12 +32,10 @@ use Rattle.words_core.specs.declared.reply.Body.TheVariants.{WasReset, Owners, R
 use Rattle.words_core.specs.declared.reply.Refusal.TheVariants.{NoTenant}
 use Rattle.world_core.specs.Limits.{cache_limit}
 use Rattle.world_core.specs.World.{World, WorldStep, answer, given_up, reset_step, world_step}
+use Rattle.world_core.proofs.Runs.{is_same, is_other}
 use Rattle.kernel_core.specs.Does as calls
 use Rattle.kernel_core.specs.Shows.{Shows}
 use Rattle.kernel_core.specs.Steps.{Steps}
-use Rattle.world_core.proofs.Runs.{is_same, is_other}
-use Rattle.space_core.proofs.Reading.{same_twice}
-use Rattle.std.proofs.lemmas.Option.{slice_get_past}
 use Rattle.kernel_core.proofs.Worlds.{steps_done, steps_answered, unnamed}
 
 -- of the first m superblocks tenant t has given up its own, this many

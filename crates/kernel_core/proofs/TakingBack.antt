@@ -1,6 +1,7 @@
 -- A superblock is taken back from a tenant.
 use Rattle.std.proofs.Common.{◌≡◌, ℕ, ◌<◌, true, false, Some, None, is_some, Result, Ok, Err, length, slice_set, refl, sym, ap, ◌∙◌, subst, arith, ◌≤◌, Option, List, map, slice_get}
 use Rattle.std.proofs.lemmas.Bool.{false_from_ne_true}
+use Rattle.std.proofs.lemmas.Option.{slice_get_past}
 use Rattle.model_core.specs.Blocks.{slot_block, HasTaken}
 use Rattle.model_core.specs.Machine.{Machine, holds}
 use Rattle.model_core.specs.Operations.{Step, is_busy, after_take_back, take_back_step}
@@ -31,7 +32,6 @@ use Rattle.world_core.specs.Limits.{cache_limit}
 use Rattle.world_core.specs.World.{World, WorldStep, given_up, take_back_answered, slot_step, world_step}
 use Rattle.kernel_core.specs.Steps.{Steps}
 use Rattle.kernel_core.proofs.Worlds.{get_within, steps_done, steps_answered, unnamed}
-use Rattle.std.proofs.lemmas.Option.{slice_get_past}
 use Rattle.kernel_core.proofs.Owners.{is_under, found_under, given_up_one}
 
 -- tenant t has frames of slot u taken

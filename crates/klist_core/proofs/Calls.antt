@@ -1,6 +1,6 @@
 -- What is known in an insertion and in a removal before their writes.
 use Rattle.std.proofs.Common.{◌≡◌, ℕ, ◌+◌, ◌-◌, ◌%◌, ◌^◌, ◌<◌, ◌≤◌, List, [], Option, Some, None, ◌++◌, take, length, get_or, set, refl, ap, ap₂, sym, ◌∙◌, subst, inl, inr, arith}
-use Rattle.std.specs.Prelude.{◌≢◌, IfSome, MatchOption}
+use Rattle.std.specs.Prelude.{◌≢◌, MatchOption}
 use Rattle.std.proofs.Math.ListN.{get_or-map}
 use Rattle.std.proofs.Math.Seq.{take-append_seam}
 use Rattle.std.proofs.lemmas.List.{length-map, length-set, get_or_read}
@@ -17,11 +17,6 @@ use Rattle.klist_core.proofs.Tables.{put_by_removal, count_inserted, count_remov
 use Rattle.klist_core.proofs.Rewired.{IsWithin, IsRewired, rewired, length_after, length_before}
 use Rattle.klist_core.proofs.Linked.{nearest_within, ranked_before, shown_rewired, linked_inserted, linked_removed, linked_replaced}
 use Rattle.klist_core.proofs.Ranks.{rank_in, by_time, by_key, ranked_there, nearest_ranked, nearest_limit, next_limit, rank_is_new}
-
--- a node of the table, if any, fits a link
-pub linkable : (o : Option ℕ) (len : ℕ) → IsWithin o len → len < 2 ^ 32 → IfSome o (λ i. i < 2 ^ 32 - 1)
-linkable None len w small = tt
-linkable (Some i) len w small = omega (arith, w.below i refl)
 
 -- node n, which was read as x, stands in list h
 pub record IsRemoval (heads : List Head) (nodes : List Node) (n : ℕ) (x : Node) (h : ℕ) : Type 0 where

@@ -1,5 +1,5 @@
 -- A table whose lists are all empty.
-use Rattle.std.proofs.Common.{◌≡◌, ℕ, zero, suc, ◌^◌, ◌<◌, cond, List, ◌∷◌, Option, Some, None, length, get_or, replicate, refl, ap, sym, ◌∙◌, subst, arith}
+use Rattle.std.proofs.Common.{◌≡◌, ℕ, zero, suc, ◌^◌, ◌<◌, cond, List, ◌∷◌, Option, Some, None, length, replicate, refl, ap, sym, ◌∙◌, subst, arith}
 use Rattle.std.specs.Prelude.{count_by}
 use Rattle.std.proofs.Math.ListN.{length-replicate}
 use Rattle.std.proofs.lemmas.List.Sums.{sum_by-cons}
@@ -7,14 +7,10 @@ use Rattle.klist_core.specs.Places.{Placed, place_at, is_in}
 use Rattle.klist_core.specs.Links.{up, back_from, ranks, IsNearest, IsChain, IsLinked, free_node, places_of, shown}
 use Rattle.klist_core.proofs.Ranks.{unranked}
 use Rattle.klist_core.specs.declared.Head.{Head}
+use Rattle.model_core.proofs.Lists.{everywhere}
 
 abbrev pub empty_head : Head
 empty_head = record { first = None; last = None; len = 0 }
-
-pub same_everywhere : {X : Type 0} (x : X) (n i : ℕ) → get_or (replicate n x) i x ≡ x
-same_everywhere x zero i = refl
-same_everywhere x (suc n) zero = refl
-same_everywhere x (suc n) (suc i) = same_everywhere x n i
 
 pub places_fresh : (n : ℕ) → places_of (replicate n free_node) ≡ replicate n None
 places_fresh zero = refl
@@ -26,7 +22,7 @@ count_fresh h (suc n) = sum_by-cons (λ p. cond (is_in h p) 1 0) None (replicate
 
 nowhere : (n i h k : ℕ) → place_at (places_of (replicate n free_node)) i ≡ Some (h, k) → ⊥
 nowhere n i h k e =
-    let f : ◌≡◌ {A = Option (ℕ × ℕ)} None (Some (h, k)) = sym (same_everywhere None n i) ∙ (ap (λ (xs : List (Option (ℕ × ℕ))). place_at xs i) (sym (places_fresh n)) ∙ e) in cc
+    let f : ◌≡◌ {A = Option (ℕ × ℕ)} None (Some (h, k)) = sym (everywhere None n i) ∙ (ap (λ (xs : List (Option (ℕ × ℕ))). place_at xs i) (sym (places_fresh n)) ∙ e) in cc
 
 abbrev long_ago : ℕ → ℕ
 long_ago i = 0
@@ -54,9 +50,9 @@ linked_fresh heads nodes few small = record {
   wide = omega arith;
   before = λ i. omega arith;
   apart = λ i j h r e f. absurd (unlinked nodes i h r e);
-  upwards = chain_fresh up nodes (length (replicate heads empty_head)) _ _ (λ h. ap (λ (x : Head). x.first) (same_everywhere empty_head heads h));
-  downwards = chain_fresh (back_from (2 ^ 32)) nodes (length (replicate heads empty_head)) _ _ (λ h. ap (λ (x : Head). x.last) (same_everywhere empty_head heads h));
-  counted = λ h lt. ap (λ (x : Head). x.len) (same_everywhere empty_head heads h) ∙ (sym (count_fresh h nodes) ∙ ap (λ (xs : List (Option (ℕ × ℕ))). count_by (is_in h) xs) (sym (places_fresh nodes)));
+  upwards = chain_fresh up nodes (length (replicate heads empty_head)) _ _ (λ h. ap (λ (x : Head). x.first) (everywhere empty_head heads h));
+  downwards = chain_fresh (back_from (2 ^ 32)) nodes (length (replicate heads empty_head)) _ _ (λ h. ap (λ (x : Head). x.last) (everywhere empty_head heads h));
+  counted = λ h lt. ap (λ (x : Head). x.len) (everywhere empty_head heads h) ∙ (sym (count_fresh h nodes) ∙ ap (λ (xs : List (Option (ℕ × ℕ))). count_by (is_in h) xs) (sym (places_fresh nodes)));
 }
   where
     none_placed : Option (ℕ × ℕ)

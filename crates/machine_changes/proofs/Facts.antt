@@ -20,10 +20,6 @@ use Rattle.machine_changes.specs.Shows.{frame_under, node_of, record_byte, is_li
 use Rattle.machine_changes.specs.Steady.{IsSteady}
 use Rattle.machine_changes.proofs.Lookups.{some_none, some_same}
 
-pub is_not : (b : Bool) → (b ≡ true → ⊥) → b ≡ false
-is_not true h = absurd (h refl)
-is_not false h = refl
-
 -- Caches with and without their slabs
 
 pub some_mapped : (o : Option Cache) (b : Cache) → option_map without_slabs o ≡ Some b → (x : Cache) × (o ≡ Some x) × (without_slabs x ≡ b)

@@ -1,7 +1,7 @@
 -- A slab made.
 use Rattle.std.proofs.Common.{◌≡◌, ◌≢◌, ℕ, ◌+◌, ◌-◌, ◌*◌, ◌/◌, ◌%◌, ◌^◌, ◌<◌, ◌≤◌, Bool, true, false, cond, zero, suc, [], ◌∷◌, map, Some, None, refl, sym, ap, ◌∙◌, subst, ◌⊎◌, inl, inr, ⊎_elim, arith}
 use Rattle.std.specs.Prelude.{Option, option_map, is_some, replicate, ◌&&◌, ◌==◌}
-use Rattle.std.proofs.lemmas.Bool.{eq-eqb, ne_eqb, cases_eq}
+use Rattle.std.proofs.lemmas.Bool.{eq-eqb, ne_eqb, cases_eq, false_from_ne_true}
 use Rattle.std.proofs.lemmas.Nat.Bits.{bit_at-zero}
 use Rattle.model_core.specs.Blocks.{block, HasFrame}
 use Rattle.model_core.specs.Layouts.{IsLayout, is_small, in_object, colour_offset, pattern_byte}
@@ -23,7 +23,7 @@ use Rattle.machine_changes.specs.Steady.{IsSteady}
 use Rattle.machine_changes.specs.Changes.{IsGrown}
 use Rattle.machine_changes.specs.Laws.{GrownShows}
 use Rattle.machine_changes.proofs.Lookups.{some_none, some_same, found_key, keys_replaced, found_new, found_other, in_found, found_put}
-use Rattle.machine_changes.proofs.Facts.{is_not, one_listed, one_slab, one_node, live_stays, record_inside, cache_kept}
+use Rattle.machine_changes.proofs.Facts.{one_listed, one_slab, one_node, live_stays, record_inside, cache_kept}
 
 -- flags that are all down
 pub all_down : (k n : ℕ) (p : ℕ → Bool) → ((i : ℕ) → k ≤ i → i < k + n → p i ≡ false) → flags_from k n p ≡ replicate n false
@@ -47,7 +47,7 @@ module _ (r r' : spaces.Content) (b b' : buddies.Content) (s s' : Content) (t c 
   -- the new slab's block is free of the others
   apart_slab : (place d g x : ℕ) (other : own.Cache) → IsSlab r s t d g x other → is_inside place g other ≡ true → is_inside place f cache ≡ false
   apart_slab place d g x other q inside =
-      is_not (is_inside place f cache) (λ here.
+      false_from_ne_true (is_inside place f cache) (λ here.
       apart g (layout_numbers other).order (place / 4096) (st.stands d g x other q).taken
       (in_block-true place (block g (layout_numbers other).order) inside) (in_block-true place (block f (layout_numbers cache).order) here))
 
@@ -173,7 +173,7 @@ module _ (r r' : spaces.Content) (b b' : buddies.Content) (s s' : Content) (t c 
   none_new : (d : ℕ) (other : own.Cache) → d ≢ c → slab_at r' s' t d other f ≡ None
   none_new d other differ =
       let unlisted : is_of_cache (index_of_cache t d) f (place_at s'.lists.places n) ≡ false =
-      is_not (is_of_cache (index_of_cache t d) f (place_at s'.lists.places n)) (λ e.
+      false_from_ne_true (is_of_cache (index_of_cache t d) f (place_at s'.lists.places n)) (λ e.
       let same : index_of_cache t d ≡ index_of_cache t c =
       (one_listed (index_of_cache t c) f (index_of_cache t d) f (place_at s'.lists.places n) new_listed e).0 in
       differ (omega arith)) in
@@ -236,12 +236,6 @@ module _ (r r' : spaces.Content) (b b' : buddies.Content) (s s' : Content) (t c 
 
     number_is : x.number ≡ c
     number_is = found_key (λ z. z.number) c m.caches x ex
-
-    layout_is : layout x ≡ layout_numbers cache
-    layout_is = ap layout same
-
-    colour_is : (new_slab x f).colour ≡ (fresh_kept cache).colour
-    colour_is = ap (λ z. colour_offset z.align z.made (layout z)) same
 
     new_slab_is : new_slab x f ≡ fresh
     new_slab_is = ap (λ z. record { first = f; colour = colour_offset z.align z.made (layout z); live = replicate (layout z).count false }) same
@@ -427,10 +421,6 @@ module _ (r r' : spaces.Content) (b b' : buddies.Content) (s s' : Content) (t c 
         go : (v : Bool) → is_inside place f cache ≡ v → cond v (constructed place) (m.bytes place) ≡ Some byte → byte_at r' t place ≡ Some byte
         go true inside e = inside_object (in_object (layout_numbers cache) cache.layout.size (fresh_kept cache).colour (place - 4096 * f)) inside refl e
         go false outside e = k.bytes place outside ∙ h.bytes place byte e
-
-    kept_parts : ((grown f x m).slots ≡ m.slots) × ((grown f x m).blocks ≡ m.blocks)
-    unfolding grown
-    kept_parts = (refl, refl)
 
     pub grown_machine : ShowsMachine r' b' s' t (grown f x m)
     unfolding grown

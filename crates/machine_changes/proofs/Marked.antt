@@ -1,7 +1,7 @@
 -- One object marked live or not.
 use Rattle.std.proofs.Common.{◌≡◌, ◌≢◌, ℕ, ◌+◌, ◌-◌, ◌*◌, ◌/◌, ◌%◌, ◌^◌, ◌<◌, ◌≤◌, Bool, true, false, cond, ltb, leb, List, map, Some, None, refl, sym, ap, ◌∙◌, subst, ◌⊎◌, inl, inr, ⊎_elim, arith}
 use Rattle.std.specs.Prelude.{Option, option_map, is_some, slice_set, ◌&&◌}
-use Rattle.std.proofs.lemmas.Bool.{false≢true, cases_eq, and_parts, ltb-true}
+use Rattle.std.proofs.lemmas.Bool.{false≢true, cases_eq, and_parts, ltb-true, false_from_ne_true}
 use Rattle.std.proofs.lemmas.Nat.{le-div}
 use Rattle.model_core.specs.Layouts.{Layout, is_small, in_object, IsFit}
 use Rattle.model_core.specs.WellFormed.{RisesFrom}
@@ -18,13 +18,13 @@ use Rattle.machine_changes.specs.Steady.{IsSteady}
 use Rattle.machine_changes.specs.Changes.{Found, IsMarked}
 use Rattle.machine_changes.specs.Laws.{MarkedShows}
 use Rattle.machine_changes.proofs.Lookups.{some_same, found_key, keys_replaced, found_new, found_other}
-use Rattle.machine_changes.proofs.Facts.{is_not, one_listed, one_node, live_stays, record_inside, shown, slab_shown}
+use Rattle.machine_changes.proofs.Facts.{one_listed, one_node, live_stays, record_inside, shown, slab_shown}
 
 none_above : (colour offset count chunk size : ℕ) → 0 < chunk → colour + count * chunk ≤ offset
     → (leb colour offset && (ltb ((offset - colour) / chunk) count && ltb ((offset - colour) % chunk) size)) ≡ false
 none_above colour offset count chunk size some past =
     let many : count ≤ (offset - colour) / chunk = le-div count (offset - colour) chunk some (omega arith) in
-    is_not _ (λ e.
+    false_from_ne_true _ (λ e.
     let first = and_parts (leb colour offset) _ e in
     let second = and_parts (ltb ((offset - colour) / chunk) count) _ first.1 in
     let less = ltb-true ((offset - colour) / chunk) count second.0 in
@@ -122,7 +122,7 @@ module _ (r r' : spaces.Content) (b : buddies.Content) (s s' : Content) (t c : �
   pub slab_none : (d : ℕ) (cache : own.Cache) → d ≢ c → slab_at r' s' t d cache o.first ≡ slab_at r s t d cache o.first
   slab_none d cache differ =
       let unlisted : is_of_cache (index_of_cache t d) o.first (place_at s.lists.places o.node) ≡ false =
-      is_not (is_of_cache (index_of_cache t d) o.first (place_at s.lists.places o.node)) (λ e.
+      false_from_ne_true (is_of_cache (index_of_cache t d) o.first (place_at s.lists.places o.node)) (λ e.
       let same : index_of_cache t d ≡ index_of_cache t c =
       (one_listed (index_of_cache t c) o.first (index_of_cache t d) o.first (place_at s.lists.places o.node) q.listed e).0 in
       differ (omega arith)) in
@@ -131,9 +131,6 @@ module _ (r r' : spaces.Content) (b : buddies.Content) (s s' : Content) (t c : �
       (listed_same (index_of_cache t d) o.first o.node ∙ unlisted)
       ∙ sym (ap (slab_under r s t (index_of_cache t d) cache o.first) q.under
       ∙ ap (slab_placed (live_of r t cache (kept_at s.kept o.node) o.first) (kept_at s.kept o.node).colour o.first) unlisted)
-
-  old_slab : Slab
-  old_slab = shown r s t c o.cache q.cached o.first o.node
 
   -- the marked one
   pub slab_before : slab_at r s t c o.cache o.first ≡ Some (shown r s t c o.cache q.cached o.first o.node)

@@ -4,24 +4,10 @@ use Rattle.std.specs.Prelude.{find, flat_map}
 use Rattle.std.proofs.lemmas.Bool.{false≢true}
 use Rattle.model_core.specs.WellFormed.{RisesFrom}
 use Rattle.model_core.specs.Elements.{IsIn}
-use Rattle.model_core.proofs.Lists.{in_left, in_right}
-use Rattle.model_core.proofs.Objects.{in_append}
+use Rattle.model_core.proofs.Lists.{in_left, in_right, in_append}
 use Rattle.machine_changes.proofs.Lookups.{some_none, key_above}
 
 -- Mapped lists
-
-pub flat_map_in : {X Y : Type 0} (g : X → List Y) (z : Y) (xs : List X) → IsIn z (flat_map g xs) → (x : X) × IsIn x xs × IsIn z (g x)
-flat_map_in g z [] i = elim i [ ]
-flat_map_in {X} g z (x ∷ xs) i =
-    ⊎_elim
-    (λ here. (x, inl refl, here))
-    (λ later. let there : (y : X) × IsIn y xs × IsIn z (g y) = flat_map_in g z xs later in (there.0, inr there.1, there.2))
-    (in_append z (g x) (flat_map g xs) i)
-
-pub in_flat_map : {X Y : Type 0} (g : X → List Y) (z : Y) (x : X) (xs : List X) → IsIn x xs → IsIn z (g x) → IsIn z (flat_map g xs)
-in_flat_map g z x [] i j = elim i [ ]
-in_flat_map g z x (y ∷ ys) (inl same) j = in_left z (g y) (flat_map g ys) (subst (λ w. IsIn z (g w)) (sym same) j)
-in_flat_map g z x (y ∷ ys) (inr i) j = in_right z (g y) (flat_map g ys) (in_flat_map g z x ys i j)
 
 -- What a search finds
 

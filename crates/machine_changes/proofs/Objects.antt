@@ -10,7 +10,7 @@ use Rattle.model_core.specs.Machine.{Slab, Cache, Machine, layout}
 use Rattle.model_core.specs.Slabs.{LiveObject, live_from, live_in, live_objects, cache_of, slab_of, with_cache, with_slab, with_live}
 use Rattle.model_core.specs.CacheOperations.{give_of, give_object, give_step}
 use Rattle.model_core.specs.Elements.{IsIn}
-use Rattle.model_core.proofs.Lists.{find_in}
+use Rattle.model_core.proofs.Lists.{find_in, in_flat_map}
 use Rattle.model_core.proofs.Objects.{live_is}
 use Rattle.space_core.specs.Content as spaces
 use Rattle.buddy_core.specs.Content as buddies
@@ -24,7 +24,7 @@ use Rattle.machine_changes.specs.Laws.{FoundGives, NotFoundRefuses}
 use Rattle.machine_changes.proofs.Lookups.{some_same, in_found}
 use Rattle.machine_changes.proofs.Facts.{one_slab, cache_shown, slab_in, slab_of_machine}
 use Rattle.machine_changes.proofs.Flags.{length_flags, flag_at}
-use Rattle.machine_changes.proofs.Members.{in_flat_map, some_found}
+use Rattle.machine_changes.proofs.Members.{some_found}
 
 -- object i of a slab
 abbrev pub object_of : Cache → Slab → ℕ → LiveObject

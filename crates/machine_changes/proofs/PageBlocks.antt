@@ -7,6 +7,7 @@ use Rattle.model_core.specs.Blocks.{block, HasFrame}
 use Rattle.model_core.specs.Machine.{Machine, order_in}
 use Rattle.model_core.specs.Reach.{within_block}
 use Rattle.model_core.proofs.Lists.{some_any, any_in}
+use Rattle.model_core.proofs.TakenSteps.{order_in_is}
 use Rattle.space_core.specs.Content as spaces
 use Rattle.buddy_core.specs.Content as buddies
 use Rattle.slab_tables.specs.Content.{Content}
@@ -14,7 +15,7 @@ use Rattle.machine_changes.specs.Shows.{node_of, has_slab, ShowsMachine}
 use Rattle.machine_changes.specs.Steady.{IsSteady}
 use Rattle.machine_changes.proofs.Lookups.{some_none, some_same}
 use Rattle.machine_changes.specs.Pages.{IsInPage, BlockTells, NoBlockTells}
-use Rattle.machine_changes.proofs.PageLists.{block_in, order_told}
+use Rattle.machine_changes.proofs.PageLists.{order_told}
 
 module _ (r : spaces.Content) (b : buddies.Content) (s : Content) (t place len : ℕ) (m : Machine) (h : ShowsMachine r b s t m) where
   -- an order told by a page block is that of a taken block, and no slab's
@@ -39,7 +40,7 @@ module _ (r : spaces.Content) (b : buddies.Content) (s : Content) (t place len :
       h.blocks p.first ∙ (ap (λ v. cond v None (buddies.taken_of (buddies.holding_of t b) p.first)) p.page ∙ p.taken) in
       let begins = p.begins in
       let ends = p.ends in
-      any_in (within_block place len) (block p.first p.order) m.blocks (block_in m.blocks p.first p.order told)
+      any_in (within_block place len) (block p.first p.order) m.blocks (order_in_is m.blocks p.first p.order told)
       (and_from (nat_le (4096 * p.first) place) (nat_le (place + len) (4096 * p.first + 4096 * 2 ^ p.order))
       (le-leb (4096 * p.first) place begins) (le-leb (place + len) (4096 * p.first + 4096 * 2 ^ p.order) (omega arith)))
 

@@ -2,7 +2,7 @@
 use Rattle.std.proofs.Common.{◌≡◌, ℕ, suc, ◌+◌, ◌-◌, ◌*◌, ◌/◌, ◌%◌, ◌^◌, ◌<◌, ◌≤◌, true, false, List, [], ◌∷◌, Some, None, length, refl, sym, ap, ◌∙◌, subst, ⊎_elim, arith}
 use Rattle.std.specs.Prelude.{Option, IsSome, is_some, nat_lt, nat_le, slice_index, filter_map}
 use Rattle.std.specs.List.{range_with_len}
-use Rattle.std.proofs.lemmas.Bool.{false≢true, lt-ltb, le-leb, and_from}
+use Rattle.std.proofs.lemmas.Bool.{false≢true, lt-ltb, le-leb, and_from, false_from_ne_true}
 use Rattle.std.proofs.lemmas.Nat.{row_fits}
 use Rattle.model_core.specs.Blocks.{block, HasFrame}
 use Rattle.model_core.specs.Layouts.{Layout, in_object}
@@ -19,7 +19,7 @@ use Rattle.slab_tables.specs.Content.{Content, kept_at, layout_numbers}
 use Rattle.machine_changes.specs.Shows.{node_of, has_slab, is_inside, IsSlab, ShowsMachine}
 use Rattle.machine_changes.specs.Steady.{IsSteady}
 use Rattle.machine_changes.specs.Changes.{Found}
-use Rattle.machine_changes.proofs.Facts.{is_not, has_it}
+use Rattle.machine_changes.proofs.Facts.{has_it}
 use Rattle.machine_changes.proofs.Objects.{fit_of}
 use Rattle.machine_changes.specs.Objects.{HasRange}
 use Rattle.machine_changes.specs.Pages.{IsInPage, IsInReach, ReachHeld, ReachBytes, ReachReads}
@@ -123,7 +123,7 @@ module _ (r : spaces.Content) (b : buddies.Content) (s : Content) (t place len :
   pub page_outside : IsInPage r b s t place len → (p : ℕ) → place ≤ p → p < place + len
       → (c f n : ℕ) (cache : own.Cache) → IsSlab r s t c f n cache → is_inside p f cache ≡ false
   page_outside g p low high c f n cache q =
-      is_not (is_inside p f cache) (λ inside.
+      false_from_ne_true (is_inside p f cache) (λ inside.
       let frame : HasFrame (block g.first g.order) (p / 4096) = frame_in g.first (2 ^ g.order) place len p g.begins g.ends low high in
       let same : f ≡ g.first =
       st.sound.apart f (layout_numbers cache).order g.first g.order (p / 4096) (st.stands c f n cache q).taken g.taken

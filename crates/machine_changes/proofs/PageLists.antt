@@ -21,20 +21,6 @@ order_less f bs g =
     ∙ order_of (g == f) (at (λ x. x.first) g bs)
     ∙ ap (cond (g == f) None) (sym (order_found bs g))
 
-pub block_same : (z : Block) (f k : ℕ) → z.first ≡ f → z.order ≡ k → z ≡ block f k
-block_same z f k firsts orders = ap (λ n. block n z.order) firsts ∙ ap (λ n. block f n) orders
-
-some_block : (o : Option Block) (k : ℕ) → option_map (λ b. b.order) o ≡ Some k → (z : Block) × (o ≡ Some z) × (z.order ≡ k)
-some_block None k e = absurd (some_none (sym e))
-some_block (Some z) k e = (z, refl, some_same e)
-
--- the block of a told order is in the list ..
-pub block_in : (bs : List Block) (f k : ℕ) → order_in bs f ≡ Some k → IsIn (block f k) bs
-block_in bs f k e =
-    let there = some_block (at (λ z. z.first) f bs) k (sym (order_found bs f) ∙ e) in
-    subst (λ z. IsIn z bs) (block_same there.0 f k (found_key (λ z. z.first) f bs there.0 there.1) there.2)
-    (find_in (λ z. eqb z.first f) there.0 bs there.1).0
-
 -- .. and the order of a block in a rising list is told
 pub order_told : (z : Block) (bs : List Block) → RisesFrom 0 (map (λ b. b.first) bs) → IsIn z bs → order_in bs z.first ≡ Some z.order
 order_told z bs rises i = order_found bs z.first ∙ ap (option_map (λ b. b.order)) (in_found (λ b. b.first) 0 z bs rises i)

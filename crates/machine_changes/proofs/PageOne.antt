@@ -1,7 +1,7 @@
 -- The parts show one machine at most.
 use Rattle.std.proofs.Common.{◌≡◌, ◌≢◌, ℕ, zero, suc, ◌+◌, ◌-◌, ◌*◌, ◌/◌, ◌<◌, Bool, true, false, List, [], ◌∷◌, map, Some, None, refl, sym, ap, ◌∙◌, subst, ◌⊎◌, inl, inr, ⊎_elim, arith}
 use Rattle.std.specs.Prelude.{Option, option_map, is_some, ◌==◌}
-use Rattle.std.proofs.lemmas.Bool.{false≢true, eqb-true, and_parts, cases_eq, cases_lt}
+use Rattle.std.proofs.lemmas.Bool.{false≢true, eqb-true, and_parts, cases_eq, cases_lt, false_from_ne_true}
 use Rattle.model_core.specs.Blocks.{Block, block}
 use Rattle.model_core.specs.Machine.{Slab, Cache, Machine, slot_of, order_in}
 use Rattle.model_core.specs.Slabs.{cache_of}
@@ -9,6 +9,7 @@ use Rattle.model_core.specs.WellFormed.{RisesFrom}
 use Rattle.model_core.specs.declared.limits.TheConstants.{MOST_CACHES}
 use Rattle.model_core.proofs.Apart.{in_block-true}
 use Rattle.model_core.proofs.Rising.{same_rising}
+use Rattle.model_core.proofs.TakenSteps.{same_block}
 use Rattle.klist_core.specs.Places.{place_at}
 use Rattle.space_core.specs.Content as spaces
 use Rattle.buddy_core.specs.Content as buddies
@@ -16,10 +17,9 @@ use Rattle.slab_tables.specs.declared.cache.Cache as own
 use Rattle.slab_tables.specs.Content.{Content, cache_at, index_of_cache, layout_numbers}
 use Rattle.machine_changes.specs.Shows.{node_of, is_of_cache, without_slabs, is_inside, IsSlab, ShowsMachine}
 use Rattle.machine_changes.proofs.Lookups.{some_none, some_same, at, at_here, at_past, found_key}
-use Rattle.machine_changes.proofs.Facts.{is_not, one_slab, cache_kept}
+use Rattle.machine_changes.proofs.Facts.{one_slab, cache_kept}
 use Rattle.machine_changes.proofs.Reserved.{order_found}
 use Rattle.machine_changes.specs.Pages.{OneMachine}
-use Rattle.machine_changes.proofs.PageLists.{block_same}
 
 -- Rising lists
 
@@ -71,7 +71,7 @@ block_found bs f = go (at (λ z. z.first) f bs) refl ∙ ap (option_map (block f
     go : (o : Option Block) → at (λ z. z.first) f bs ≡ o → at (λ z. z.first) f bs ≡ option_map (block f) (option_map (λ z. z.order) (at (λ z. z.first) f bs))
     go None e = e ∙ ap (λ o. option_map (block f) (option_map (λ z. z.order) o)) (sym e)
     go (Some z) e =
-        e ∙ (ap (λ x. Some x) (block_same z f z.order (found_key (λ x. x.first) f bs z e) refl)
+        e ∙ (ap (λ x. Some x) (same_block z f z.order (found_key (λ x. x.first) f bs z e) refl)
         ∙ ap (λ o. option_map (block f) (option_map (λ x. x.order) o)) (sym e))
 
 -- Places inside slabs
@@ -154,7 +154,7 @@ module _ (r : spaces.Content) (s : Content) (t place : ℕ) where
       ⊎_elim (λ is. inl is)
       (λ none.
       inr (λ c f n cache q.
-      is_not (is_inside place f cache) (λ inside.
+      false_from_ne_true (is_inside place f cache) (λ inside.
       let low = (in_block-true place (block f (layout_numbers cache).order) inside).0 in
       false≢true (sym (none f (omega arith) c n cache q) ∙ inside))))
       (below (suc (place / 4096)))

@@ -8,7 +8,7 @@ use Rattle.model_core.specs.Machine.{Slab, Cache, Machine, layout}
 use Rattle.model_core.specs.Slabs.{cache_of, live_in, live_objects}
 use Rattle.model_core.specs.Reach.{within_block, within_object, within_objects, in_reach}
 use Rattle.model_core.specs.Elements.{IsIn}
-use Rattle.model_core.proofs.Lists.{find_in, some_any, any_in}
+use Rattle.model_core.proofs.Lists.{find_in, some_any, any_in, in_flat_map}
 use Rattle.space_core.specs.Content as spaces
 use Rattle.buddy_core.specs.Content as buddies
 use Rattle.slab_tables.specs.Content.{Content, kept_at, layout_numbers}
@@ -18,7 +18,6 @@ use Rattle.machine_changes.specs.Changes.{Found, found}
 use Rattle.machine_changes.proofs.Lookups.{some_same, in_found}
 use Rattle.machine_changes.proofs.Facts.{shown, cache_shown, slab_in}
 use Rattle.machine_changes.proofs.Flags.{length_flags, flag_at}
-use Rattle.machine_changes.proofs.Members.{in_flat_map}
 use Rattle.machine_changes.proofs.Objects.{object_of, live_object, object_kept}
 use Rattle.machine_changes.specs.Objects.{HasRange}
 use Rattle.machine_changes.specs.Pages.{IsInReach, ReachMeets}

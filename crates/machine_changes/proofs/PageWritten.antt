@@ -1,7 +1,7 @@
 -- Bytes written over a range in reach.
 use Rattle.std.proofs.Common.{◌≡◌, ◌≢◌, ℕ, ◌+◌, ◌-◌, ◌*◌, ◌/◌, ◌%◌, ◌<◌, ◌≤◌, Bool, true, false, cond, List, Some, None, length, refl, sym, ap, ◌∙◌, subst, ⊎_elim, arith}
 use Rattle.std.specs.Prelude.{Option, IsSome, is_some, nat_lt, nat_le, ◌&&◌, slice_index, slice_get}
-use Rattle.std.proofs.lemmas.Bool.{false≢true, cases_eq, ltb-true, leb-true, and_parts}
+use Rattle.std.proofs.lemmas.Bool.{false≢true, cases_eq, ltb-true, leb-true, and_parts, false_from_ne_true}
 use Rattle.std.proofs.lemmas.List.{set-get_or}
 use Rattle.std.proofs.lemmas.Option.{slice_get-get_or}
 use Rattle.model_core.specs.declared.limits.TheConstants.{MOST_CACHES}
@@ -19,7 +19,7 @@ use Rattle.machine_changes.specs.Records.{count_true}
 use Rattle.machine_changes.specs.Shows.{node_of, byte_or_zero, record_byte, live_of, is_of_cache, slab_placed, slab_under, slab_at, is_inside, IsSlab, IsAgreed, ShowsMachine, Agree}
 use Rattle.machine_changes.specs.Keeps.{Spares}
 use Rattle.machine_changes.specs.Steady.{IsSteady}
-use Rattle.machine_changes.proofs.Facts.{is_not, one_slab, one_first, one_stays, all_stay, record_inside}
+use Rattle.machine_changes.proofs.Facts.{one_slab, one_first, one_stays, all_stay, record_inside}
 use Rattle.machine_changes.proofs.Objects.{fit_of}
 use Rattle.machine_changes.proofs.Steady.{slab_from}
 use Rattle.machine_changes.specs.Pages.{IsInReach, stored, WrittenShows, WrittenAgrees}
@@ -77,7 +77,7 @@ module _ (r : spaces.Content) (b : buddies.Content) (s : Content) (t place : ℕ
 
   record_off : (c f n j : ℕ) (cache : own.Cache) → IsSlab r s t c f n cache → is_small (layout_numbers cache).chunk ≡ true → j < 32
       → in_range (4096 * f + 4064 + j) ≡ false
-  record_off c f n j cache q small less = is_not (in_range (4096 * f + 4064 + j)) (record_out c f n j cache q small less)
+  record_off c f n j cache q small less = false_from_ne_true (in_range (4096 * f + 4064 + j)) (record_out c f n j cache q small less)
 
   record_stays : (c f n j : ℕ) (cache : own.Cache) → IsSlab r s t c f n cache → is_small (layout_numbers cache).chunk ≡ true → j < 32
       → record_byte r' t f j ≡ record_byte r t f j

@@ -1,7 +1,7 @@
 -- A page block more.
 use Rattle.std.proofs.Common.{◌≡◌, ◌≢◌, ℕ, Bool, true, false, cond, eqb, List, [], ◌∷◌, Some, None, refl, sym, ap, ◌∙◌, arith}
 use Rattle.std.specs.Prelude.{Option, option_map}
-use Rattle.std.proofs.lemmas.Bool.{false≢true, ne_eqb}
+use Rattle.std.proofs.lemmas.Bool.{false≢true, ne_eqb, false_from_ne_true}
 use Rattle.model_core.specs.Blocks.{Block, block, with_taken}
 use Rattle.model_core.specs.Machine.{put_rising, order_in}
 use Rattle.model_core.specs.Elements.{IsIn}
@@ -13,7 +13,7 @@ use Rattle.machine_changes.specs.Shows.{node_of, has_slab}
 use Rattle.machine_changes.specs.Steady.{IsSteady}
 use Rattle.machine_changes.specs.Laws.{ReservedShows}
 use Rattle.machine_changes.proofs.Lookups.{eq_turned, some_none, at, in_found, found_put}
-use Rattle.machine_changes.proofs.Facts.{is_not, some_slab}
+use Rattle.machine_changes.proofs.Facts.{some_slab}
 
 -- the order that a list of blocks tells at a frame is that of the block found there
 pub order_found : (bs : List Block) (f : ℕ) → order_in bs f ≡ option_map (λ b. b.order) (at (λ b. b.first) f bs)
@@ -68,7 +68,7 @@ reserved_shows r b b' s t f k m st untaken taken h = record {
 }
   where
     no_slab : has_slab s (node_of s.top r.slots t f) ≡ false
-    no_slab = is_not (has_slab s (node_of s.top r.slots t f)) (λ has. slab_taken r b s t f st has untaken)
+    no_slab = false_from_ne_true (has_slab s (node_of s.top r.slots t f)) (λ has. slab_taken r b s t f st has untaken)
 
     absent : order_in m.blocks f ≡ None
     absent = h.blocks f ∙ ap (λ has. cond has None (buddies.taken_of (buddies.holding_of t b) f)) no_slab ∙ untaken

@@ -2,7 +2,7 @@
 use Rattle.std.proofs.Common.{◌≡◌, ℕ, ◌+◌, ◌-◌, ◌*◌, ◌/◌, ◌^◌, Bool, true, false, not, cond, map, Some, None, refl, sym, ap, ◌∙◌, subst}
 use Rattle.std.specs.Prelude.{Option, option_map, is_some, filter, flat_map}
 use Rattle.std.specs.List.{list_any}
-use Rattle.std.proofs.lemmas.Bool.{false≢true}
+use Rattle.std.proofs.lemmas.Bool.{false≢true, false_from_ne_true}
 use Rattle.model_core.specs.Blocks.{block}
 use Rattle.model_core.specs.Layouts.{in_object}
 use Rattle.model_core.specs.WellFormed.{RisesFrom}
@@ -20,7 +20,7 @@ use Rattle.machine_changes.specs.Steady.{IsSteady}
 use Rattle.machine_changes.specs.Changes.{IsReturned, kept_slabs, gone_blocks, returned}
 use Rattle.machine_changes.specs.Laws.{ReturnedShows}
 use Rattle.machine_changes.proofs.Lookups.{some_none, some_same, in_found, found_mapped, keys_mapped, found_kept}
-use Rattle.machine_changes.proofs.Facts.{is_not, one_first, live_stays, record_inside, slot_held, slab_in, slab_of_machine}
+use Rattle.machine_changes.proofs.Facts.{one_first, live_stays, record_inside, slot_held, slab_in, slab_of_machine}
 
 -- what a list's element was before it was changed
 mapped_from : {X : Type 0} (g : X → X) (o : Option X) (z : X) → option_map g o ≡ Some z → (x : X) × (o ≡ Some x) × (z ≡ g x)
@@ -80,7 +80,7 @@ module _ (r r' : spaces.Content) (b b' : buddies.Content) (s s' : Content) (t : 
   pub not_gone : (place c f n : ℕ) (cache : own.Cache) → IsSlab r s t c f n cache → gone f ≡ false → is_inside place f cache ≡ true
       → (c' f' n' : ℕ) (cache' : own.Cache) → IsSlab r s t c' f' n' cache' → gone f' ≡ true → is_inside place f' cache' ≡ false
   not_gone place c f n cache q stays inside c' f' n' cache' q' goes =
-      is_not (is_inside place f' cache') (λ inside'.
+      false_from_ne_true (is_inside place f' cache') (λ inside'.
       false≢true (sym stays ∙ ap gone (sym (one_first r b s t st place c f n c' f' n' cache cache' q q' inside inside')) ∙ goes))
 
   live_now : (c f n : ℕ) (cache : own.Cache) → IsSlab r s t c f n cache → gone f ≡ false
@@ -195,7 +195,7 @@ module _ (r r' : spaces.Content) (b b' : buddies.Content) (s s' : Content) (t : 
       where
         outside : list_any (in_block place) (flat_map (gone_blocks gone) m.caches) ≡ false
             → (c f n : ℕ) (cache : own.Cache) → IsSlab r s t c f n cache → is_inside place f cache ≡ false
-        outside none c f n cache q = is_not (is_inside place f cache) (λ inside. by (gone f) refl inside)
+        outside none c f n cache q = false_from_ne_true (is_inside place f cache) (λ inside. by (gone f) refl inside)
           where
             by : (v : Bool) → gone f ≡ v → is_inside place f cache ≡ true → ⊥
             by true goes inside = false≢true (sym none ∙ gone_is place c f n cache q goes inside)
@@ -213,7 +213,7 @@ module _ (r r' : spaces.Content) (b b' : buddies.Content) (s s' : Content) (t : 
     in_slab_now place c f n cache p inside =
         let was = slab_was c f n cache p in
         let none : list_any (in_block place) (flat_map (gone_blocks gone) m.caches) ≡ false =
-        is_not (list_any (in_block place) (flat_map (gone_blocks gone) m.caches)) (λ e.
+        false_from_ne_true (list_any (in_block place) (flat_map (gone_blocks gone) m.caches)) (λ e.
         let is = gone_tells place e in
         false≢true (sym (not_gone place c f n cache was.0 was.1 inside is.number is.first is.node is.cache is.slab is.goes) ∙ is.inside)) in
         ap (λ any. is_some (cond any (Some 0) (m.bytes place))) none
@@ -229,7 +229,7 @@ module _ (r r' : spaces.Content) (b b' : buddies.Content) (s s' : Content) (t : 
             let is = gone_tells place some in
             k.zeroed place is.number is.first is.node is.cache is.slab is.goes is.inside ∙ e
         go false none e =
-            k.bytes place (λ c f n cache q goes. is_not (is_inside place f cache) (λ inside. false≢true (sym none ∙ gone_is place c f n cache q goes inside)))
+            k.bytes place (λ c f n cache q goes. false_from_ne_true (is_inside place f cache) (λ inside. false≢true (sym none ∙ gone_is place c f n cache q goes inside)))
             ∙ h.bytes place byte e
 
     pub returned_machine : ShowsMachine r' b' s' t (returned gone m)

@@ -7,7 +7,7 @@ use Rattle.model_core.specs.Choice.{choose}
 use Rattle.model_core.specs.Machine.{Slab, Cache, Machine, holds, beyond, order_in, choice, layout, slab_block, slab_blocks, taken_blocks}
 use Rattle.model_core.specs.Slabs.{is_empty, without_empty, reaped}
 use Rattle.model_core.specs.Elements.{IsIn}
-use Rattle.model_core.proofs.Lists.{find_in, filter_in, in_filter, in_map, map_in}
+use Rattle.model_core.proofs.Lists.{find_in, filter_in, in_filter, in_map, map_in, flat_map_in, in_flat_map}
 use Rattle.model_core.proofs.Chosen.{held_below}
 use Rattle.model_core.proofs.Vacant.{IsVacant, some_choice, choice_vacant}
 use Rattle.space_core.specs.Content as spaces
@@ -20,7 +20,6 @@ use Rattle.machine_changes.specs.Room.{IsIdle, HasRoom}
 use Rattle.machine_changes.specs.Laws.{AreObjectsCounted, RoomMeets}
 use Rattle.machine_changes.proofs.Lookups.{some_none, some_same}
 use Rattle.machine_changes.proofs.Facts.{shown, has_it, one_slab, IsSlabThere, some_slab, slab_in}
-use Rattle.machine_changes.proofs.Members.{flat_map_in, in_flat_map}
 use Rattle.machine_changes.proofs.Flags.{any_counts}
 use Rattle.machine_changes.proofs.Taken.{IsOfSlab, slab_kept, order_of_slab, order_of_none, order_of_page}
 

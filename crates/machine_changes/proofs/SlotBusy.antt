@@ -9,8 +9,7 @@ use Rattle.model_core.specs.Layouts.{Layout}
 use Rattle.model_core.specs.Machine.{Machine, slab_block, slab_blocks, taken_blocks, order_in}
 use Rattle.model_core.specs.Operations.{overlaps, is_busy}
 use Rattle.model_core.specs.Elements.{IsIn}
-use Rattle.model_core.proofs.Lists.{some_any, map_in}
-use Rattle.model_core.proofs.Objects.{in_append}
+use Rattle.model_core.proofs.Lists.{some_any, in_append, map_in, flat_map_in}
 use Rattle.model_core.proofs.Apart.{overlap_from}
 use Rattle.space_core.specs.Content as spaces
 use Rattle.buddy_core.specs.Content as buddies
@@ -18,7 +17,6 @@ use Rattle.slab_tables.specs.Content.{Content}
 use Rattle.machine_changes.specs.Shows.{node_of, has_slab, ShowsMachine}
 use Rattle.machine_changes.specs.Steady.{IsSteady}
 use Rattle.machine_changes.proofs.Lookups.{some_none, some_same, in_found}
-use Rattle.machine_changes.proofs.Members.{flat_map_in}
 use Rattle.machine_changes.proofs.Reserved.{order_found}
 use Rattle.machine_changes.proofs.Taken.{slab_kept, taken_meets}
 use Rattle.machine_changes.specs.Slots.{BusyMeets}

@@ -11,6 +11,7 @@ use Rattle.model_core.specs.declared.limits.TheConstants.{MOST_CACHES}
 use Rattle.model_core.proofs.Apart.{in_block-true}
 use Rattle.model_core.proofs.BlocksByNumber.{number_of_frame, same_slot}
 use Rattle.model_core.proofs.Rising.{has}
+use Rattle.model_core.proofs.Lists.{none_of}
 use Rattle.klist_core.specs.Places.{place_at}
 use Rattle.space_core.specs.Content as spaces
 use Rattle.space_core.specs.Windows.{byte_at}
@@ -20,7 +21,6 @@ use Rattle.slab_tables.specs.Content.{Content, IsSlabs, kept_at, cache_at, cache
 use Rattle.machine_changes.specs.Shows.{frame_under, node_of, byte_or_zero, record_byte, live_of, is_of_cache, slab_placed, slab_under, slab_at, has_slab, is_inside, IsSlab, ShowsMachine, IsAgreed, Agree}
 use Rattle.machine_changes.specs.Steady.{IsSteady}
 use Rattle.machine_changes.proofs.Facts.{has_it, live_stays}
-use Rattle.machine_changes.proofs.SlotLists.{none_of}
 use Rattle.machine_changes.proofs.SlotAgreed.{agreed_still}
 
 -- the slot of a place, by the bytes of a superblock

@@ -5,7 +5,7 @@ use Rattle.std.proofs.lemmas.Bool.{false≢true, eq-eqb, ne_eqb, cases_eq, cases
 use Rattle.std.proofs.lemmas.List.{map-id}
 use Rattle.model_core.specs.Machine.{put_rising, least_missing}
 use Rattle.model_core.specs.WellFormed.{RisesFrom}
-use Rattle.model_core.proofs.Lists.{any_in, each_from, put_rises, filter_rises}
+use Rattle.model_core.proofs.Lists.{any_in, each_from, put_rises, filter_rises, none_of}
 use Rattle.model_core.proofs.Rising.{has, none_below}
 use Rattle.machine_changes.proofs.Lookups.{eq_turned, found_put, found_kept}
 
@@ -20,10 +20,6 @@ has_is u (x ∷ xs) = go (eqb x u) (has_is u xs)
     go : (v : Bool) → has u xs ≡ is_some (slot_in u xs) → (v || has u xs) ≡ is_some (cond v (Some x) (slot_in u xs))
     go true more = refl
     go false more = more
-
-pub none_of : {A : Type 0} (o : Option A) → is_some o ≡ false → o ≡ None
-none_of None e = refl
-none_of (Some x) e = absurd (false≢true (sym e))
 
 -- The slots with one more
 

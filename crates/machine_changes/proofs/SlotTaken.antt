@@ -1,7 +1,7 @@
 -- A superblock taken from under a slot of which no frame is taken.
 use Rattle.std.proofs.Common.{◌≡◌, ◌≢◌, ℕ, ◌+◌, ◌*◌, ◌/◌, ◌%◌, ◌^◌, ◌<◌, false, cond, eqb, length, Some, None, refl, sym, ap, ◌∙◌, subst, arith}
 use Rattle.std.specs.Prelude.{filter, not}
-use Rattle.std.proofs.lemmas.Bool.{eq-eqb}
+use Rattle.std.proofs.lemmas.Bool.{eq-eqb, false_from_ne_true}
 use Rattle.std.proofs.lemmas.List.{length-set}
 use Rattle.std.proofs.lemmas.Nat.{div-add-mod', mod_below, pow_pos}
 use Rattle.model_core.specs.Blocks.{block, slot_block, HasFrame, HasTaken}
@@ -17,7 +17,7 @@ use Rattle.slab_tables.specs.Content.{Content, layout_numbers}
 use Rattle.machine_changes.specs.Shows.{frame_under, node_of, has_slab, ShowsMachine}
 use Rattle.machine_changes.specs.Steady.{IsSteady}
 use Rattle.machine_changes.specs.Keeps.{Keeps}
-use Rattle.machine_changes.proofs.Facts.{is_not, some_slab}
+use Rattle.machine_changes.proofs.Facts.{some_slab}
 use Rattle.machine_changes.specs.Slots.{HoldTogether, TakenBackShows}
 use Rattle.machine_changes.proofs.SlotLists.{has_less, less_still_rises}
 use Rattle.machine_changes.proofs.SlotAgreed.{IsLocal, agree_of, keeps_untabled}
@@ -50,7 +50,7 @@ module _ (r : spaces.Content) (b : buddies.Content) (s : Content) (t u m : ℕ) 
 
   -- a slab in the slot would be taken
   no_slab : (f : ℕ) → f / 2 ^ s.top ≡ u → has_slab s (node_of s.top r.slots t f) ≡ false
-  no_slab f e = is_not (has_slab s (node_of s.top r.slots t f)) (λ has.
+  no_slab f e = false_from_ne_true (has_slab s (node_of s.top r.slots t f)) (λ has.
       let st : IsSteady r b s t = steady_of r b s h t tenant in
       let is = some_slab r b s t st f has in
       let k : ℕ = (layout_numbers is.cache).order in

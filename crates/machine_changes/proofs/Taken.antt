@@ -6,7 +6,7 @@ use Rattle.model_core.specs.Blocks.{Block, block}
 use Rattle.model_core.specs.Machine.{Slab, Cache, Machine, order_in, layout, slab_block, slab_blocks, taken_blocks}
 use Rattle.model_core.specs.Slabs.{cache_of, slab_of}
 use Rattle.model_core.specs.Elements.{IsIn}
-use Rattle.model_core.proofs.Lists.{find_in, in_map, map_in}
+use Rattle.model_core.proofs.Lists.{find_in, in_map, map_in, flat_map_in, in_flat_map}
 use Rattle.space_core.specs.Content as spaces
 use Rattle.buddy_core.specs.Content as buddies
 use Rattle.slab_tables.specs.declared.cache.Cache as own
@@ -16,7 +16,6 @@ use Rattle.machine_changes.specs.Steady.{IsSteady}
 use Rattle.machine_changes.specs.Laws.{TakenMeets}
 use Rattle.machine_changes.proofs.Lookups.{in_found}
 use Rattle.machine_changes.proofs.Facts.{has_it, one_slab, some_slab, slab_in, IsSlabKept, slab_of_machine}
-use Rattle.machine_changes.proofs.Members.{flat_map_in, in_flat_map}
 
 -- The order that a list of blocks tells at a frame
 

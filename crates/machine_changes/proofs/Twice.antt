@@ -1,7 +1,7 @@
 -- Slabs given back, and then more.
 use Rattle.std.proofs.Common.{◌≡◌, ℕ, Bool, true, false, cond, ◌||◌, Some, None, refl, sym, ap, ◌∙◌}
 use Rattle.std.specs.Prelude.{Option}
-use Rattle.std.proofs.lemmas.Bool.{false≢true, or_left, or_right}
+use Rattle.std.proofs.lemmas.Bool.{false≢true, or_left, or_right, false_from_ne_true}
 use Rattle.space_core.specs.Content as spaces
 use Rattle.space_core.specs.Windows.{byte_at}
 use Rattle.buddy_core.specs.Content as buddies
@@ -10,7 +10,7 @@ use Rattle.slab_tables.specs.Content.{Content}
 use Rattle.machine_changes.specs.Shows.{node_of, has_slab, is_inside, IsSlab}
 use Rattle.machine_changes.specs.Steady.{IsSteady}
 use Rattle.machine_changes.specs.Changes.{IsReturned}
-use Rattle.machine_changes.proofs.Facts.{is_not, one_first}
+use Rattle.machine_changes.proofs.Facts.{one_first}
 use Rattle.machine_changes.proofs.Returned.{node_same, has_now, slab_was, slab_stays}
 
 either : {A : Type 0} (v w : Bool) (x : Option A) → cond w None (cond v None x) ≡ cond (v || w) None x
@@ -43,7 +43,7 @@ module _ (r r' r'' : spaces.Content) (b b' b'' : buddies.Content) (s s' s'' : Co
   zeroed_first : (place c f n : ℕ) (cache : own.Cache) → IsSlab r s t c f n cache → gone f ≡ true → is_inside place f cache ≡ true
       → byte_at r'' t place ≡ Some 0
   zeroed_first place c f n cache q goes inside =
-      k'.bytes place (λ c' f' n' cache' p _. is_not (is_inside place f' cache') (λ inside'.
+      k'.bytes place (λ c' f' n' cache' p _. false_from_ne_true (is_inside place f' cache') (λ inside'.
       let before = was c' f' n' cache' p in
       false≢true (sym before.1 ∙ ap gone (one_first r b s t st place c f n c' f' n' cache cache' q before.0 inside inside') ∙ goes)))
       ∙ k.zeroed place c f n cache q goes inside

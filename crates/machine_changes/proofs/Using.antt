@@ -1,5 +1,6 @@
 -- The slab that a take uses.
 use Rattle.std.proofs.Common.{◌≡◌, ℕ, ◌<◌, ◌≤◌, Some, None, sym, ap, ◌∙◌, subst, ⊎_elim, arith}
+use Rattle.std.proofs.lemmas.Bool.{false_from_ne_true}
 use Rattle.std.specs.Prelude.{find}
 use Rattle.model_core.specs.Machine.{Slab, Cache, Machine}
 use Rattle.model_core.specs.Slabs.{is_empty, cache_of, slab_of, slab_to_use}
@@ -9,7 +10,6 @@ use Rattle.buddy_core.specs.Content as buddies
 use Rattle.slab_tables.specs.Content.{Content, IsSlabs, head_of}
 use Rattle.machine_changes.specs.Shows.{ShowsMachine, Agree}
 use Rattle.machine_changes.specs.Laws.{is_kind, TakeUses, TakeMakes}
-use Rattle.machine_changes.proofs.Facts.{is_not}
 use Rattle.machine_changes.proofs.Members.{find_none, find_least}
 use Rattle.machine_changes.proofs.ByKind.{to_list, from_list}
 
@@ -18,7 +18,7 @@ module _ (r : spaces.Content) (b : buddies.Content) (s : Content) (w : IsSlabs s
   -- an empty list is that of a kind of which there is no slab
   none_found : IsEmpty s.lists.places (head_of t c kind) → find (is_kind kind) x.slabs ≡ None
   none_found none =
-      find_none (is_kind kind) x.slabs (λ y i. is_not (is_kind kind y) (λ e.
+      find_none (is_kind kind) x.slabs (λ y i. false_from_ne_true (is_kind kind y) (λ e.
       let there = to_list r b s w a t c kind less m x h ex y i e in
       none there.node y.first there.place))
 

@@ -1,6 +1,6 @@
 -- A place that an operation leaves alone keeps its byte.
 use Rattle.std.proofs.Common.{◌≡◌, ℕ, ◌-◌, Bool, true, false, not, ◌&&◌, ◌||◌, eqb, List, [], ◌∷◌, ◌++◌, map, Option, Some, None, refl, sym, ap, ◌∙◌}
-use Rattle.std.specs.Prelude.{if◌then◌else◌, filter, find, is_some, slice_get}
+use Rattle.std.specs.Prelude.{if◌then◌else◌, filter, find, slice_get}
 use Rattle.std.specs.Option.{option_map_or}
 use Rattle.std.specs.List.{list_any}
 use Rattle.std.proofs.lemmas.Bool.{false≢true, eq-eqb, ne_eqb, not-true, false_from_ne_true}
@@ -13,7 +13,7 @@ use Rattle.model_core.specs.WellFormed.{AreApart, in_slab, IsWellFormed}
 use Rattle.model_core.specs.Laws.{makes_slab_at}
 use Rattle.model_core.specs.ByteLaws.{writes, AllocKeeps, FreeKeeps, TakeKeeps, GiveKeeps, BytesStay, RunsKeepBytes}
 use Rattle.model_core.specs.Elements.{IsIn}
-use Rattle.model_core.proofs.Lists.{each_weaker, each_filtered, Found, found, PutIn, put_in, any_map, any_none, any_split}
+use Rattle.model_core.proofs.Lists.{each_weaker, each_filtered, Found, found, PutIn, put_in, any_map, any_none, any_split, none_of}
 use Rattle.model_core.proofs.ByNeed.{by_need_keeps, by_need_found}
 use Rattle.model_core.proofs.Outcomes.{alloc_outcome, take_outcome, outcome}
 use Rattle.model_core.proofs.Apart.{one_side}
@@ -138,11 +138,7 @@ unheld_none order place m w unheld =
     let out : IsLaidOut order m.slots m.blocks ls m.bytes = laid_out order m w in
     let outside : list_any (in_laid place) ls ≡ false = false_from_ne_true (list_any (in_laid place) ls) (λ here.
     false≢true (sym unheld ∙ slab_held order m.slots place ls out.placed_slabs here)) in
-    go (m.bytes place) (out.mapped place ∙ (ap (λ b. (b && not (list_any (in_laid place) ls)) || list_any (in_laid_object place) ls) unheld ∙ no_object place ls outside))
-  where
-    go : (o : Option ℕ) → is_some o ≡ false → o ≡ None
-    go None e = refl
-    go (Some b) e = absurd (false≢true (sym e))
+    none_of (m.bytes place) (out.mapped place ∙ (ap (λ b. (b && not (list_any (in_laid place) ls)) || list_any (in_laid_object place) ls) unheld ∙ no_object place ls outside))
 
 same_reset : {limit : ℕ} (order place : ℕ) (m : Machine) → IsWellFormed limit order m → SameSlot order place m empty_machine → empty_machine.bytes place ≡ m.bytes place
 unfolding empty_machine

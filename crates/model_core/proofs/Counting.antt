@@ -25,6 +25,13 @@ count_le p (suc n) = let before = count_le p n in let last = at_most_one (p n) i
     at_most_one true = omega arith
     at_most_one false = omega arith
 
+pub count_none : (p : ℕ → Bool) (n : ℕ) → ((f : ℕ) → f < n → p f ≡ false) → count_below p n ≡ 0
+count_none p zero none = refl
+count_none p (suc n) none =
+    let before = count_none p n (λ f lt. none f (omega arith)) in
+    let last : bit (p n) ≡ 0 = ap bit (none n (omega arith)) in
+    omega arith
+
 -- numbers that do not pass add nothing
 pub count_past : (p : ℕ → Bool) (n m : ℕ) → n ≤ m → ((f : ℕ) → n ≤ f → p f ≡ false) → count_below p m ≡ count_below p n
 count_past p n zero le none = let same : n ≡ 0 = omega arith in ap (count_below p) (sym same)

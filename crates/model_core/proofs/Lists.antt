@@ -1,6 +1,6 @@
 -- Lists: what holds of each element, of the elements with one put in or replaced, and of lists that rise by key.
-use Rattle.std.proofs.Common.{◌≡◌, ◌≢◌, ℕ, ◌+◌, ◌<◌, ◌≤◌, Bool, true, false, not, ◌||◌, cond, eqb, ltb, List, [], ◌∷◌, ◌++◌, map, Some, refl, sym, ap, ◌∙◌, subst, inl, inr, arith}
-use Rattle.std.specs.Prelude.{if◌then◌else◌, filter, find, flat_map}
+use Rattle.std.proofs.Common.{◌≡◌, ◌≢◌, ℕ, zero, suc, ◌+◌, ◌<◌, ◌≤◌, Bool, true, false, not, ◌||◌, cond, eqb, ltb, List, [], ◌∷◌, ◌++◌, map, get_or, replicate, Option, None, Some, refl, sym, ap, ◌∙◌, subst, ◌⊎◌, inl, inr, arith}
+use Rattle.std.specs.Prelude.{if◌then◌else◌, is_some, filter, find, flat_map}
 use Rattle.std.specs.List.{list_any, AllByRecursion as Each}
 use Rattle.std.proofs.lemmas.List.{map-id}
 use Rattle.std.proofs.lemmas.Bool.{eqb-true, eqb-false, ne_eqb, eq-eqb, ltb-true, ltb-false, false≢true, or_left, or_right, or_parts}
@@ -16,6 +16,11 @@ or_second : (c u v w : Bool) → w ≡ (u || v) → (c || w) ≡ (u || (c || v))
 or_second true true v w e = refl
 or_second true false v w e = refl
 or_second false u v w e = e
+
+pub or_turned : (a b c : Bool) → (a || (b || c)) ≡ (b || (a || c))
+or_turned true true c = refl
+or_turned true false c = refl
+or_turned false b c = refl
 
 pub map_append : {X Y : Type 0} (f : X → Y) (xs ys : List X) → map f (xs ++ ys) ≡ map f xs ++ map f ys
 map_append f [] ys = refl
@@ -303,3 +308,37 @@ least_is_missing n (x ∷ xs) (l, r) = go (eqb x n) refl (λ rises. least_is_mis
         → Each (λ y. y ≢ (if b then least_missing (n + 1) xs else n)) (x ∷ xs)
     go true e ih above = let same : x ≡ n = eqb-true x n e in (λ is. absurd (omega arith), ih (subst (λ k. RisesFrom (k + 1) xs) same r))
     go false e ih above = (eqb-false x n e, each_weaker (λ y. x + 1 ≤ y) (λ y. y ≢ n) (λ y h is. absurd (omega arith)) xs (rises_above (λ y. y) (x + 1) xs (subst (λ ys. RisesFrom (x + 1) ys) (sym (map-id xs)) r)))
+
+-- Lists in a list
+
+pub in_append : {X : Type 0} (x : X) (xs ys : List X) → IsIn x (xs ++ ys) → IsIn x xs ⊎ IsIn x ys
+in_append x [] ys i = inr i
+in_append x (z ∷ xs) ys (inl e) = inl (inl e)
+in_append x (z ∷ xs) ys (inr i) = elim (in_append x xs ys i) [ inl j ↦ inl (inr j) | inr j ↦ inr j ]
+
+pub flat_map_in : {X Y : Type 0} (g : X → List Y) (z : Y) (xs : List X) → IsIn z (flat_map g xs) → (x : X) × IsIn x xs × IsIn z (g x)
+flat_map_in g z [] i = elim i [ ]
+flat_map_in {X} g z (x ∷ xs) i = elim (in_append z (g x) (flat_map g xs) i) [
+  | inl j ↦ (x, inl refl, j)
+  | inr j ↦ let there : (y : X) × IsIn y xs × IsIn z (g y) = flat_map_in g z xs j in (there.0, inr there.1, there.2)
+]
+
+pub in_flat_map : {X Y : Type 0} (g : X → List Y) (z : Y) (x : X) (xs : List X) → IsIn x xs → IsIn z (g x) → IsIn z (flat_map g xs)
+in_flat_map g z x [] i j = elim i [ ]
+in_flat_map g z x (y ∷ ys) (inl same) j = in_left z (g y) (flat_map g ys) (subst (λ w. IsIn z (g w)) (sym same) j)
+in_flat_map g z x (y ∷ ys) (inr i) j = in_right z (g y) (flat_map g ys) (in_flat_map g z x ys i j)
+
+-- Options, and copies of one element
+
+pub none_of : {X : Type 0} (o : Option X) → is_some o ≡ false → o ≡ None
+none_of None e = refl
+none_of (Some x) e = absurd (false≢true (sym e))
+
+pub some_of : {X : Type 0} (o : Option X) → is_some o ≡ true → (x : X) × (o ≡ Some x)
+some_of None e = absurd (false≢true e)
+some_of (Some x) e = (x, refl)
+
+pub everywhere : {X : Type 0} (x : X) (n i : ℕ) → get_or (replicate n x) i x ≡ x
+everywhere x zero i = refl
+everywhere x (suc n) zero = refl
+everywhere x (suc n) (suc i) = everywhere x n i

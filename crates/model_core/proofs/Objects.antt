@@ -1,5 +1,5 @@
 -- Where objects lie, which of them are live, and what is in reach.
-use Rattle.std.proofs.Common.{◌≡◌, ℕ, suc, ◌+◌, ◌-◌, ◌*◌, ◌/◌, ◌%◌, ◌^◌, ◌<◌, ◌≤◌, Bool, true, false, not, ◌&&◌, ◌||◌, eqb, ltb, leb, List, [], ◌∷◌, ◌++◌, map, length, get_or, refl, sym, ap, ◌∙◌, subst, ◌⊎◌, inl, inr, arith}
+use Rattle.std.proofs.Common.{◌≡◌, ℕ, suc, ◌+◌, ◌-◌, ◌*◌, ◌/◌, ◌%◌, ◌^◌, ◌<◌, ◌≤◌, Bool, true, false, not, ◌&&◌, ◌||◌, eqb, ltb, leb, List, [], ◌∷◌, map, length, get_or, refl, sym, ap, ◌∙◌, subst, ◌⊎◌, inl, inr, arith}
 use Rattle.std.specs.Prelude.{if◌then◌else◌, is_some, flat_map}
 use Rattle.std.specs.List.{list_any, AllByRecursion as Each}
 use Rattle.std.proofs.lemmas.Bool.{and_parts, and_from, or_cases, or_right, leb-true, le-leb, lt-ltb}
@@ -12,16 +12,11 @@ use Rattle.model_core.specs.Slabs.{LiveObject, live_from, live_in, live_objects}
 use Rattle.model_core.specs.Reach.{is_within, within_block, within_object, within_objects, in_reach}
 use Rattle.model_core.specs.WellFormed.{IsApart, IsWellFormed}
 use Rattle.model_core.specs.Elements.{IsIn}
-use Rattle.model_core.proofs.Lists.{each_in, each_unmap, some_any, any_in, any_none, each_weaker}
+use Rattle.model_core.proofs.Lists.{each_in, each_unmap, some_any, any_in, any_none, each_weaker, in_append}
 use Rattle.model_core.proofs.Apart.{in_block-from, apart_place}
 use Rattle.model_core.proofs.Laid.{Laid, laid, all_laid, laid_layout, laid_block, in_laid, in_laid_object, IsCutLaid, IsLaidOut, laid_out}
 use Rattle.model_core.proofs.MemoryKept.{place_held}
 use Rattle.model_core.proofs.CacheSteps.{in_all_laid}
-
-pub in_append : {X : Type 0} (x : X) (xs ys : List X) → IsIn x (xs ++ ys) → IsIn x xs ⊎ IsIn x ys
-in_append x [] ys i = inr i
-in_append x (z ∷ xs) ys (inl e) = inl (inl e)
-in_append x (z ∷ xs) ys (inr i) = elim (in_append x xs ys i) [ inl j ↦ inl (inr j) | inr j ↦ inr j ]
 
 -- byte j of object i of a slab
 pub record IsByte (l : Laid) (i j place : ℕ) : Type 0 where
@@ -138,7 +133,7 @@ pub record IsPageByte (m : Machine) (place : ℕ) : Type 0 where
   pub page_in : IsIn page m.blocks
   pub in_page : in_block place page ≡ true
 
-within_is : (place len begin size : ℕ) → is_within place len begin size ≡ true → (begin ≤ place) × (place + len ≤ begin + size)
+pub within_is : (place len begin size : ℕ) → is_within place len begin size ≡ true → (begin ≤ place) × (place + len ≤ begin + size)
 within_is place len begin size e =
     let p : (leb begin place ≡ true) × (leb (place + len) (begin + size) ≡ true) = and_parts (leb begin place) (leb (place + len) (begin + size)) e in
     (leb-true begin place p.0, leb-true (place + len) (begin + size) p.1)

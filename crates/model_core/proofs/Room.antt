@@ -17,27 +17,26 @@ use Rattle.model_core.specs.CacheOperations.{frames_of, take_from, take_new, tak
 use Rattle.model_core.specs.WellFormed.{RisesFrom}
 use Rattle.model_core.specs.Room.{RoomIsPromised, AllocIsPromised, TakeIsPromised}
 use Rattle.model_core.specs.Elements.{IsIn}
-use Rattle.model_core.proofs.Lists.{each_in, in_filter, none_any, some_any, any_in, rises_more, in_left, in_right, in_map}
+use Rattle.model_core.proofs.Lists.{each_in, in_filter, none_any, some_any, any_in, rises_more, in_left, in_right, in_map, in_append}
 use Rattle.model_core.proofs.BlocksByNumber.{number_is, number_first, number_of_frame, aligned_first}
 use Rattle.model_core.proofs.Chosen.{held_below}
 use Rattle.model_core.proofs.ByNeed.{by_need_found, by_need_reaps}
-use Rattle.model_core.proofs.Objects.{in_append}
 use Rattle.model_core.proofs.Vacant.{IsVacant, some_choice}
 
 -- Lists of numbers
 
 -- a range has the numbers from its first on
-in_range : (x a n : ℕ) → a ≤ x → x < a + n → IsIn x (range_with_len a n)
+pub in_range : (x a n : ℕ) → a ≤ x → x < a + n → IsIn x (range_with_len a n)
 in_range x a zero low high = absurd (omega arith)
 in_range x a (suc n) low high = ⊎_elim (λ same. inl same) (λ other. inr (in_range x (a + 1) n (omega arith) (omega arith))) (cases_eq a x)
 
-range_in : (x a n : ℕ) → IsIn x (range_with_len a n) → (a ≤ x) × (x < a + n)
+pub range_in : (x a n : ℕ) → IsIn x (range_with_len a n) → (a ≤ x) × (x < a + n)
 range_in x a zero i = elim i [ ]
 range_in x a (suc n) (inl same) = (omega arith, omega arith)
 range_in x a (suc n) (inr i) = let rest = range_in x (a + 1) n i in (omega (arith, rest.0), omega (arith, rest.1))
 
 -- the numbers of a list that rises are at least its bound
-rises_in : (n x : ℕ) (xs : List ℕ) → RisesFrom n xs → IsIn x xs → n ≤ x
+pub rises_in : (n x : ℕ) (xs : List ℕ) → RisesFrom n xs → IsIn x xs → n ≤ x
 rises_in n x [] r i = elim i [ ]
 rises_in n x (y ∷ ys) (l, r) (inl same) = omega arith
 rises_in n x (y ∷ ys) (l, r) (inr i) = let above : y + 1 ≤ x = rises_in (y + 1) x ys r i in omega arith

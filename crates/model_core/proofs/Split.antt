@@ -1,13 +1,11 @@
 -- Where a slab stands among all slabs of a machine, and what is left of them when some are given back.
 use Rattle.std.proofs.Common.{◌≡◌, ℕ, Bool, true, false, not, cond, eqb, List, [], ◌∷◌, ◌++◌, map, refl, sym, ap, ◌∙◌, append_assoc, inl, inr}
-use Rattle.std.specs.Prelude.{flat_map, filter, Option}
-use Rattle.std.specs.Option.{option_map_or}
+use Rattle.std.specs.Prelude.{flat_map, filter}
 use Rattle.std.specs.List.{list_any, AllByRecursion as Each}
 use Rattle.std.proofs.lemmas.Bool.{eq-eqb}
 use Rattle.std.proofs.lemmas.List.Concat.{flat_map-append}
 use Rattle.std.proofs.lemmas.List.Elements.{filter-append}
-use Rattle.model_core.specs.Blocks.{Block}
-use Rattle.model_core.specs.Machine.{Slab, Cache, in_block, slab_block}
+use Rattle.model_core.specs.Machine.{Slab, Cache, slab_block}
 use Rattle.model_core.specs.Slabs.{is_empty, without_empty, empty_blocks}
 use Rattle.model_core.specs.Elements.{IsIn}
 use Rattle.model_core.proofs.Lists.{Found, map_append}
@@ -101,7 +99,3 @@ gone_laid (c ∷ cs) =
     ∙ (ap (λ bs. map laid_block (filter is_empty_laid (laid_in c)) ++ bs) (gone_laid cs)
     ∙ (sym (map_append laid_block (filter is_empty_laid (laid_in c)) (filter is_empty_laid (all_laid cs)))
     ∙ ap (λ ls. map laid_block ls) (sym (filter-append is_empty_laid (laid_in c) (all_laid cs)))))
-
--- a block that is made, if one is, does not have the place
-abbrev pub Unmade : ℕ → Option Block → Type 0
-Unmade place made = option_map_or (in_block place) made false ≡ false

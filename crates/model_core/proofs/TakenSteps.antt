@@ -19,11 +19,11 @@ use Rattle.model_core.proofs.Laid.{all_laid, laid_block, taken_laid, laid_out}
 use Rattle.model_core.proofs.Outcomes.{alloc_outcome}
 use Rattle.model_core.proofs.PageSteps.{by_need_kept}
 
-same_block : (b : Block) (f k : ℕ) → b.first ≡ f → b.order ≡ k → b ≡ block f k
+pub same_block : (b : Block) (f k : ℕ) → b.first ≡ f → b.order ≡ k → b ≡ block f k
 same_block b f k p q = λ i. block (p i) (q i)
 
 -- the block that a look-up finds
-order_in_is : (bs : List Block) (f k : ℕ) → order_in bs f ≡ Some k → IsIn (block f k) bs
+pub order_in_is : (bs : List Block) (f k : ℕ) → order_in bs f ≡ Some k → IsIn (block f k) bs
 order_in_is [] f k e = absurd (cc)
 order_in_is (b ∷ bs) f k e = go (eqb b.first f) refl e (order_in_is bs f k)
   where

@@ -1,8 +1,9 @@
 -- For each law of the machine an instance: its premises, met by a machine of a few operations. All have slots of order 3, of 8
 -- frames.
-use Rattle.std.proofs.Common.{◌≡◌, ℕ, ◌<◌, ◌/◌, Bool, true, false, List, [], ◌∷◌, ◌++◌, Some, None, Ok, refl, arith}
-use Rattle.std.specs.Prelude.{◌==◌, ◌||◌, if◌then◌else◌}
+use Rattle.std.proofs.Common.{◌≡◌, ℕ, ◌<◌, ◌/◌, Bool, true, List, [], ◌∷◌, ◌++◌, Some, None, Ok, refl, arith}
+use Rattle.std.specs.Prelude.{◌==◌, if◌then◌else◌}
 use Rattle.std.proofs.lemmas.Bool.{eqb-true}
+use Rattle.std.proofs.Math.Bool.{or-false}
 use Rattle.model_core.specs.declared.limits.TheConstants.{MOST_CACHES}
 use Rattle.model_core.specs.declared.refusals.AllocRefusal.{AllocRefusal}
 use Rattle.model_core.specs.declared.refusals.TakeRefusal.{TakeRefusal}
@@ -79,11 +80,7 @@ slot_0_below u e = omega (arith, eqb-true 0 u e)
 
 same_slots : (u : ℕ) → holds machine u ≡ slot_0 u
 unfolding layout_of alloc_step cache_step create_step next_number take_step grown_cache grown slab_to_use by_need reaped choice taken_blocks empty_machine next_slot after_grant
-same_slots u = or_false (0 == u)
-  where
-    or_false : (b : Bool) → (b || false) ≡ b
-    or_false true = refl
-    or_false false = refl
+same_slots u = or-false (0 == u)
 
 same_taken : (f : ℕ) → taken_in machine f ≡ frames_0_and_1 f
 unfolding layout_of alloc_step cache_step create_step next_number take_step grown_cache grown slab_to_use by_need reaped choice taken_blocks empty_machine next_slot after_grant

@@ -29,7 +29,7 @@ use Rattle.promise_core.specs.State.{Known}
 use Rattle.promise_kept.specs.MeetsWorld.{MeetsWorld}
 use Rattle.promise_kept.specs.WorldLaws.{CanBeAsked}
 use Rattle.promise_kept.proofs.Owning.{pool_first}
-use Rattle.promise_kept.proofs.WorldSteps.{event_kept, lines_asked, opening_meets}
+use Rattle.promise_kept.proofs.WorldSteps.{event_kept, lines_asked, read_asked, opening_meets}
 use Rattle.replay_core.specs.Standing.{AreLines}
 use Rattle.replay_core.proofs.LineLemmas.{lines_cut}
 use Rattle.own_trace.specs.Kept.{RunLine, run_lines, has_entry, is_own_line, own_lines, own_trace}
@@ -297,11 +297,6 @@ some_entry : (entries : List Entry) → has_entry (entries ++ []) ≡ true → h
 some_entry [] some = some
 some_entry (entry ∷ entries) some = refl
 
-asked : (line : List ℕ) (event : Event) → reading_of line ≡ Ok (Some event) → CanBeAsked event
-asked line event is =
-    let each = subst (λ r. Each CanBeAsked (event_in r ++ [])) is (lines_asked (line ∷ [])) in
-    each.0
-
 abbrev lines_in : List RunLine → List (List ℕ)
 lines_in runs = map (λ run. run.line) runs
 
@@ -318,10 +313,10 @@ one_event limit order t line event w v later more le is b rest true has =
     ap (λ r. own_list t (history limit order v (event_in r ++ events_of (lines_in later)))) is
     ∙ ap (λ entries. entries ++ own_list t (history limit order (world_step limit order event v).world (events_of (lines_in later)))) step.entries
     ∙ ap (λ entries. entries_at limit order t event w ++ entries)
-    (rest (world_step limit order event v).world (both_after limit order t event w v le (asked line event is) b step))
+    (rest (world_step limit order event v).world (both_after limit order t event w v le (read_asked line event is) b step))
 one_event limit order t line event w v later more le is b rest false has =
     let none = no_entry (entries_at limit order t event w) has in
-    rest v (other_after limit order t event w v le (asked line event is) b none)
+    rest v (other_after limit order t event w v le (read_asked line event is) b none)
     ∙ ap (λ entries. entries ++ own_list t (history limit order (world_step limit order event w).world more)) (sym none)
 
 pub alone_from : (limit order t : ℕ) (lines : List (List ℕ)) (w v : World) → 3 ≤ order → Beside limit order t w v

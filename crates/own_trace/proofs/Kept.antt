@@ -52,17 +52,6 @@ pub line_kept : (t limit order : ℕ) (line : List ℕ) (w : World) → has_entr
     → own_text t limit order (line ∷ []) w ≡ line ++ 10 ∷ []
 line_kept t limit order line w is = rw is (append-nil (line ++ 10 ∷ []))
 
--- which is not too long
-pub own_is_short : (t limit order : ℕ) (line : List ℕ) (w : World) → has_entry (own_list t (history limit order w (event_in (reading_of line)))) ≡ true
-    → length line ≤ 256
-own_is_short t limit order line w is = elim (cases_lt 256 (length line)) [
-  | inl over ↦ absurd (no_entry (sym (ap (λ reading. has_entry (own_list t (history limit order w (event_in reading)))) (overlong line over)) ∙ is))
-  | inr within ↦ within
-]
-  where
-    no_entry : false ≡ true → ⊥
-    no_entry h = cc
-
 -- the own list of events, and then of more
 pub own_list_both : (t limit order : ℕ) (xs ys : List Event) (w : World)
     → own_list t (history limit order w (xs ++ ys)) ≡ own_list t (history limit order w xs) ++ own_list t (history limit order (world_after limit order w xs) ys)

@@ -3,6 +3,7 @@ use Rattle.std.proofs.Common.{◌≡◌, ◌≢◌, ℕ, zero, suc, ◌+◌, ◌
 use Rattle.std.specs.Prelude.{if◌then◌else◌, is_some, slice_set}
 use Rattle.std.specs.List.{list_any, list_all}
 use Rattle.std.proofs.lemmas.Bool.{and_from, and_parts, false≢true, eq-eqb}
+use Rattle.std.proofs.Math.Bool.{or-true}
 use Rattle.model_core.specs.declared.owner.Owner.{Owner}
 use Rattle.model_core.specs.Owners.{is_of, is_owner}
 use Rattle.world_core.specs.World.{given_up}
@@ -92,10 +93,6 @@ no_times test (x ∷ xs) none = go (test x) none (no_times test xs)
     go true none later = absurd (false≢true (sym none))
     go false none later = omega (arith, later none)
 
-or_true : (a : Bool) → (a || true) ≡ true
-or_true true = refl
-or_true false = refl
-
 -- each is there under its slot
 pigeons : (t : ℕ) (xs ys : Owners) → list_all (is_of t) xs ≡ true → ((u : ℕ) → times (is_owner t u) xs ≤ 1)
     → ((u : ℕ) → list_any (is_owner t u) xs ≡ true → list_any (is_owner t u) ys ≡ true) → length xs + free ys ≤ length ys
@@ -109,7 +106,7 @@ pigeons t (Some x ∷ xs) ys all once there =
     let rest : length xs + free (without mine ys) ≤ length (without mine ys) =
     pigeons t xs (without mine ys) parts.1
     (λ u. omega (arith, once u))
-    (λ u any. others_stay mine (is_owner t u) ys (apart u (λ same. absurd (omega (arith, once u, some_times (is_owner t u) xs any, again u same)))) ∙ there u (ap (λ b. is_owner t u (Some x) || b) any ∙ or_true (is_owner t u (Some x)))) in
+    (λ u any. others_stay mine (is_owner t u) ys (apart u (λ same. absurd (omega (arith, once u, some_times (is_owner t u) xs any, again u same)))) ∙ there u (ap (λ b. is_owner t u (Some x) || b) any ∙ or-true (is_owner t u (Some x)))) in
     omega (arith, rest, less_one mine ys found, same_free mine ys refl)
   where
     again : (u : ℕ) → x.slot ≡ u → one (is_owner t u (Some x)) ≡ 1

@@ -202,13 +202,6 @@ of_trace P None left ended given consumed over fact = tt
 of_trace P (Some trace) None ended given consumed over fact = absurd consumed
 of_trace P (Some trace) (Some more) ended given consumed over fact = subst P (sym consumed) (fact more over)
 
--- flushing keeps what was appended
-pub flushed : (before after last : Option (List ℕ)) (bytes : List ℕ) → Appends before after bytes → Keeps after last → Appends before last bytes
-flushed None after last bytes appended kept = tt
-flushed (Some xs) None last bytes appended kept = elim appended [ ]
-flushed (Some xs) (Some ys) None bytes appended kept = elim kept [ ]
-flushed (Some xs) (Some ys) (Some zs) bytes appended kept = kept ∙ appended
-
 -- what the run was of the trace, whatever its outcome
 pub traced : ShownStays → (m : Machine) (k k' : KernelContent) (ended : Bool) (given taken : List ℕ) (replayed : Result Tally ReplayError) (outcome : Outcome) (known left : Option (List ℕ))
     → IsNew m k → Replays ended m.only k k' given taken replayed → IsDone replayed ended

@@ -7,6 +7,7 @@ use Rattle.words_core.specs.declared.reply.Reply.{Reply}
 use Rattle.promise_core.specs.declared.promise.Promise.{Promise}
 use Rattle.promise_core.specs.State.{State, Known, opening_state, state_after}
 use Rattle.promise_core.specs.Promises.{form, refusals, room, busy, blocks, objects, new_layout, gives, owners, bytes, report, still, is_for, is_no_tenant, named, known_after, verdict, kept, judged, allowed}
+use Rattle.model_core.proofs.Lists.{some_of}
 
 -- the state of the tenant that an event names, if there is such a tenant
 abbrev pub state_for : Event → Known → Option State
@@ -45,10 +46,6 @@ pub record IsNoTenant (event : Event) (reply : Reply) (w v : Known) : Type 0 whe
   pub said : is_no_tenant reply.body ≡ true
   pub is : v ≡ w
 
-some_is : (o : Option State) → is_some o ≡ true → (s : State) × (o ≡ Some s)
-some_is None e = absurd (cc)
-some_is (Some s) e = (s, refl)
-
 and_second : (x y : Bool) → (x && y) ≡ true → y ≡ true
 and_second true y e = e
 and_second false y e = absurd (cc)
@@ -64,7 +61,7 @@ allowed_is event reply w v = go (state_for event w) refl
     go (Some s) here e =
         let all = all_kept (kept event reply w s) (known_after event reply.body w (unwrap_or (state_after w.order event reply.body s) s)) v e in
         let k = all.0 in
-        let some : (a : State) × (state_after w.order event reply.body s ≡ Some a) = some_is (state_after w.order event reply.body s) (and_second _ _ k.0) in
+        let some : (a : State) × (state_after w.order event reply.body s ≡ Some a) = some_of (state_after w.order event reply.body s) (and_second _ _ k.0) in
         inr (record {
           state = s;
           here = here;

@@ -6,11 +6,12 @@ use Rattle.std.specs.Option.{option_map_or}
 use Rattle.std.proofs.Math.Nat.{div-div-eq-div-mul, div-eq_of_lt-le, mul-div_cancel, div-mul-le_self, lt-div-mul-add}
 use Rattle.std.proofs.lemmas.Nat.{pow_pos, pow-add, div-add-mod'}
 use Rattle.std.proofs.lemmas.Bool.{false≢true, and_parts, and_from, or_cases, or_left, or_right, leb-true, ltb-true, le-leb, le-ltb, lt-ltb, eqb-true, eq-eqb, cases_eq, false_from_ne_true, not-false}
+use Rattle.std.proofs.Math.Bool.{and-true}
 use Rattle.model_core.specs.Blocks.{Block, block}
 use Rattle.model_core.specs.Elements.{IsIn}
-use Rattle.model_core.proofs.Lists.{find_in, filter_in, in_filter, some_any, any_in, in_left, in_right, in_map, map_in}
+use Rattle.model_core.proofs.Lists.{find_in, filter_in, in_filter, some_any, any_in, in_left, in_right, in_map, map_in, in_append, flat_map_in, in_flat_map}
 use Rattle.model_core.proofs.BlocksByNumber.{aligned_first}
-use Rattle.model_core.proofs.Objects.{in_append}
+use Rattle.model_core.proofs.Room.{in_range, range_in}
 use Rattle.words_core.specs.declared.event.Command.{Command}
 use Rattle.words_core.specs.declared.event.Event.TheVariants as On
 use Rattle.words_core.specs.declared.event.Command.TheVariants as Asked
@@ -29,27 +30,6 @@ use Rattle.promise_core.proofs.Laid.{can_stand_is, empty_slab}
 use Rattle.promise_core.proofs.Reached.{reached_gridded}
 
 -- Lists
-
-pub flat_in : {X Y : Type 0} (f : X → List Y) (y : Y) (xs : List X) → IsIn y (flat_map f xs) → (x : X) × IsIn x xs × IsIn y (f x)
-flat_in f y [] i = elim i [ ]
-flat_in {X} f y (x ∷ xs) i = elim (in_append y (f x) (flat_map f xs) i) [
-  | inl j ↦ (x, inl refl, j)
-  | inr j ↦ let t : (z : X) × IsIn z xs × IsIn y (f z) = flat_in f y xs j in (t.0, inr t.1, t.2)
-]
-
-pub in_flat : {X Y : Type 0} (f : X → List Y) (y : Y) (x : X) (xs : List X) → IsIn x xs → IsIn y (f x) → IsIn y (flat_map f xs)
-in_flat f y x [] i j = elim i [ ]
-in_flat f y x (z ∷ xs) (inl e) j = in_left y (f z) (flat_map f xs) (subst (λ v. IsIn y (f v)) (sym e) j)
-in_flat f y x (z ∷ xs) (inr i) j = in_right y (f z) (flat_map f xs) (in_flat f y x xs i j)
-
-pub range_in : (x a n : ℕ) → IsIn x (range_with_len a n) → (a ≤ x) × (x < a + n)
-range_in x a zero i = elim i [ ]
-range_in x a (suc n) (inl same) = (omega arith, omega arith)
-range_in x a (suc n) (inr i) = let rest = range_in x (a + 1) n i in (omega (arith, rest.0), omega (arith, rest.1))
-
-pub in_row : (x a n : ℕ) → a ≤ x → x < a + n → IsIn x (range_with_len a n)
-in_row x a zero low high = absurd (omega arith)
-in_row x a (suc n) low high = ⊎_elim (λ same. inl same) (λ other. inr (in_row x (a + 1) n (omega arith) (omega arith))) (cases_eq a x)
 
 pub listed_some : {X : Type 0} (x : X) (xs : List X) → IsIn x xs → ltb 0 (length xs) ≡ true
 listed_some x [] i = elim i [ ]
@@ -84,9 +64,9 @@ module _ (order k : ℕ) (of_slot : k ≤ order) (h : Holdings) where
       let low : q / share * share ≤ q = div-mul-le_self q share in
       let high : q < q / share * share + share = lt-div-mul-add (pow_pos (order - k)) in
       listed_some (block f k) (vacant_blocks order h k) (in_filter (is_vacant h) (block f k) (flat_map (blocks_of_slot order k) h.slots)
-      (in_flat (blocks_of_slot order k) (block f k) u.0 h.slots u.1 (subst (λ x. IsIn (block x k) (blocks_of_slot order k u.0)) is
+      (in_flat_map (blocks_of_slot order k) (block f k) u.0 h.slots u.1 (subst (λ x. IsIn (block x k) (blocks_of_slot order k u.0)) is
       (in_map (λ i. block (i * 2 ^ k) k) q (range_with_len (u.0 * share) share)
-      (in_row q (u.0 * share) share (subst (λ v. v * share ≤ q) (sym slot) low) (subst (λ v. q < v * share + share) (sym slot) high)))))
+      (in_range q (u.0 * share) share (subst (λ v. v * share ≤ q) (sym slot) low) (subst (λ v. q < v * share + share) (sym slot) high)))))
       there.1)
 
   vacant_stands : has_room order h k ≡ true → (f : ℕ) × (can_stand order h (block f k) ≡ true)
@@ -94,7 +74,7 @@ module _ (order k : ℕ) (of_slot : k ≤ order) (h : Holdings) where
   vacant_stands e =
       let b : (b : Block) × IsIn b (vacant_blocks order h k) = some_listed (vacant_blocks order h k) e in
       let v = filter_in (is_vacant h) b.0 (flat_map (blocks_of_slot order k) h.slots) b.1 in
-      let u = flat_in (blocks_of_slot order k) b.0 h.slots v.0 in
+      let u = flat_map_in (blocks_of_slot order k) b.0 h.slots v.0 in
       let q = map_in (λ i. block (i * 2 ^ k) k) b.0 (range_with_len (u.0 * share) share) u.2 in
       let r = range_in q.0 (u.0 * share) share q.1 in
       let slot : q.0 / share ≡ u.0 = div-eq_of_lt-le share r.0 (omega (arith, r.1)) in (
@@ -116,10 +96,6 @@ ok_all ((promise, b) ∷ ps) after = go b (ok_all ps after)
     go true e = e
     go false e = refl
 
-and_true : (a : Bool) → (a && true) ≡ a
-and_true true = refl
-and_true false = refl
-
 -- a reply to a tenant's command may be told where each promise is kept
 pub tells_as : (w : Known) (s : State) (t : ℕ) (command : Command) (body : Body) → slice_get w.states t ≡ Some s
     → may_tell w t command body ≡ list_all (λ p. p.1) (kept (On.Tenant t command) (record { addressee = To.Tenant t; body = body }) w s)
@@ -139,14 +115,14 @@ module _ (w : Known) (s : State) (t k : ℕ) (is : slice_get w.states t ≡ Some
   refusal_is = tells_as w s t (Asked.Alloc k) (Say.Refused Refusal.NoFrames) is
       ∙ (ap (λ b. (b && true) && (option_map_or (is_one Refusal.NoFrames) (first_due ((ltb w.order k, Refusal.BadOrder) ∷ [])) true && (not (has_room w.order s.has k) && true))) (eq-eqb t t refl)
       ∙ (ap (λ b. option_map_or (is_one Refusal.NoFrames) (first_due ((b, Refusal.BadOrder) ∷ [])) true && (not (has_room w.order s.has k) && true)) (le-ltb w.order k of_slot)
-      ∙ and_true (not (has_room w.order s.has k))))
+      ∙ and-true (not (has_room w.order s.has k))))
 
   frame_is : (f : ℕ) → may_tell w t (Asked.Alloc k) (Say.Frame f) ≡ can_stand w.order s.has (block f k)
   unfolding due state_after
   frame_is f = tells_as w s t (Asked.Alloc k) (Say.Frame f) is
       ∙ (ap (λ b. (b && true) && (is_none (first_due ((ltb w.order k, Refusal.BadOrder) ∷ [])) && (can_stand w.order s.has (block f k) && true))) (eq-eqb t t refl)
       ∙ (ap (λ b. is_none (first_due ((b, Refusal.BadOrder) ∷ [])) && (can_stand w.order s.has (block f k) && true)) (le-ltb w.order k of_slot)
-      ∙ and_true (can_stand w.order s.has (block f k))))
+      ∙ and-true (can_stand w.order s.has (block f k))))
 
 pub refused_for_cause : RefusedForCause
 refused_for_cause w s t k is of_slot = record {
@@ -166,7 +142,7 @@ module _ (w : Known) (s : State) (t number : ℕ) (c : ToldCache) (is : slice_ge
       && (option_map_or (is_used_up w.order s.has) (cache_told s.has number) false && true))) (eq-eqb t t refl)
       ∙ (ap (λ o. option_map_or (is_one Refusal.NoFrames) (first_due ((is_none o, Refusal.NoCache) ∷ [])) true
       && (option_map_or (is_used_up w.order s.has) o false && true)) told
-      ∙ and_true (is_used_up w.order s.has c)))
+      ∙ and-true (is_used_up w.order s.has c)))
 
   place_is : (place : ℕ) → may_tell w t (Asked.Take number) (Say.Object place) ≡ can_be_taken w.order s.has c place
   unfolding due state_after
@@ -174,7 +150,7 @@ module _ (w : Known) (s : State) (t number : ℕ) (c : ToldCache) (is : slice_ge
       ∙ (ap (λ b. (b && true) && (is_none (first_due ((is_none (cache_told s.has number), Refusal.NoCache) ∷ []))
       && (option_map_or (λ x. can_be_taken w.order s.has x place) (cache_told s.has number) false && true))) (eq-eqb t t refl)
       ∙ (ap (λ o. is_none (first_due ((is_none o, Refusal.NoCache) ∷ [])) && (option_map_or (λ x. can_be_taken w.order s.has x place) o false && true)) told
-      ∙ and_true (can_be_taken w.order s.has c place)))
+      ∙ and-true (can_be_taken w.order s.has c place)))
 
 some_not : {X : Type 0} (p : X → Bool) (xs : List X) → list_all p xs ≡ false → (x : X) × IsIn x xs × (p x ≡ false)
 some_not p [] e = absurd (false≢true (sym e))

@@ -20,7 +20,7 @@ use Rattle.promise_core.proofs.Steps.{in_put}
 
 -- Lists
 
-listed : {X : Type 0} (x : X) (xs : List X) → IsIn x xs → 1 ≤ length xs
+pub listed : {X : Type 0} (x : X) (xs : List X) → IsIn x xs → 1 ≤ length xs
 listed x [] i = elim i [ ]
 listed x (y ∷ ys) i = omega arith
 

@@ -3,6 +3,7 @@ use Rattle.std.proofs.Common.{◌≡◌, ℕ, ◌+◌, ◌<◌, Bool, true, fals
 use Rattle.std.specs.Prelude.{if◌then◌else◌}
 use Rattle.std.specs.List.{list_any}
 use Rattle.std.proofs.lemmas.Bool.{or_right, ltb-false}
+use Rattle.std.proofs.Math.Bool.{and-false}
 use Rattle.model_core.specs.declared.refusals.AllocRefusal.{AllocRefusal}
 use Rattle.model_core.specs.Blocks.{Block, block}
 use Rattle.model_core.specs.Layouts.{pattern_byte}
@@ -13,7 +14,7 @@ use Rattle.model_core.specs.Operations.{refuse, with_block, alloc_at, alloc_step
 use Rattle.model_core.specs.WellFormed.{IsApart, IsWellFormed}
 use Rattle.model_core.specs.Laws.{Object, IsObject, place_of}
 use Rattle.model_core.specs.Elements.{IsIn}
-use Rattle.model_core.proofs.Lists.{each_in, PutIn, put_in, in_right, in_map}
+use Rattle.model_core.proofs.Lists.{each_in, PutIn, put_in, in_right, in_map, in_flat_map}
 use Rattle.model_core.proofs.Apart.{apart_place, apart_turned}
 use Rattle.model_core.proofs.MemoryKept.{any_put}
 use Rattle.model_core.proofs.Chosen.{chosen_apart}
@@ -31,7 +32,7 @@ use Rattle.promise_core.specs.Bytes.{Holder, is_same, without}
 use Rattle.promise_core.specs.State.{State, state_after}
 use Rattle.promise_core.specs.Promises.{due}
 use Rattle.promise_kept.specs.Meets.{holdings_of, is_object_live, Meets, IsKeptBy, IsPromiseKept}
-use Rattle.promise_kept.proofs.Stand.{in_flat, by_need_stands, room_served}
+use Rattle.promise_kept.proofs.Stand.{by_need_stands, room_served}
 use Rattle.promise_kept.proofs.Cells.{all_kept, formed, without_some, without_may}
 use Rattle.promise_kept.proofs.Reaped.{untold, by_need_meets, object_in_slab}
 
@@ -65,7 +66,7 @@ module _ {limit : ℕ} (order k first : ℕ) (s : State) (n : Machine) (w : IsWe
       let in_c : IsIn o.cache n.caches = contains_in n.caches o.cache i.cache_in in
       let in_s : IsIn o.slab o.cache.slabs = contains_in o.cache.slabs o.slab i.slab_in in
       let taken : IsIn (slab_block o.cache o.slab) (model.taken_blocks n) =
-      in_right (slab_block o.cache o.slab) n.blocks _ (in_flat slab_blocks (slab_block o.cache o.slab) o.cache n.caches in_c (in_map (slab_block o.cache) o.slab o.cache.slabs in_s)) in
+      in_right (slab_block o.cache o.slab) n.blocks _ (in_flat_map slab_blocks (slab_block o.cache o.slab) o.cache n.caches in_c (in_map (slab_block o.cache) o.slab o.cache.slabs in_s)) in
       apart_place (place_of o + j) (slab_block o.cache o.slab) (block first k)
       (apart_turned (block first k) (slab_block o.cache o.slab) (each_in (IsApart (block first k)) (slab_block o.cache o.slab) (model.taken_blocks n) (chosen_apart order k first n w.apart is) taken))
       (object_in_slab order n o.cache o.slab o.index j w in_c in_s i.index_in byte_in)
@@ -78,18 +79,13 @@ module _ {limit : ℕ} (order k first : ℕ) (s : State) (n : Machine) (w : IsWe
     lives = λ place cell e sure. let was = without_some (left_there (block first k)) s.cells place cell e in
         lives_on (block first k) s.has cell.holder place (h.lives place cell was.0 sure);
     page_bytes = λ place byte out there. without_may (left_there (block first k)) s.cells Holder.Page place 0 byte
-        (never (in_block place (block first k))) (h.page_bytes place byte out there);
+        (and-false (in_block place (block first k))) (h.page_bytes place byte out there);
     object_bytes = λ o j byte i byte_in there. without_may (left_there (block first k)) s.cells (Holder.Object o.cache.number (place_of o)) (place_of o + j) (pattern_byte o.cache.pattern j) byte
         (ap (λ b. b && true) (outside o j (record { cache_in = i.cache_in; slab_in = i.slab_in; index_in = i.index_in }) byte_in))
         (h.object_bytes o j byte (record { cache_in = i.cache_in; slab_in = i.slab_in; index_in = i.index_in }) byte_in there);
     empty_told = λ r e. absurd (cc);
     free_told = λ r e. absurd (cc);
   }
-    where
-      never : (b : Bool) → (b && false) ≡ false
-      never true = refl
-      never false = refl
-
 module _ (limit order k : ℕ) (m : Machine) (s : State) (w : IsWellFormed limit order m) (h : Meets order s m) where
   too_large : ltb order k ≡ true → IsKeptBy limit order (Asked.Alloc k) s (Say.Refused Refusal.BadOrder) m
   unfolding due state_after

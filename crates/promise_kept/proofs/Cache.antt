@@ -12,10 +12,9 @@ use Rattle.model_core.specs.Operations.{Step, refuse}
 use Rattle.model_core.specs.CacheOperations.{created, next_number, create_step, cache_answer, cache_step}
 use Rattle.model_core.specs.WellFormed.{RisesFrom, IsWellFormed}
 use Rattle.model_core.specs.Elements.{IsIn}
-use Rattle.model_core.proofs.Lists.{PutIn, put_in, in_left, in_right}
+use Rattle.model_core.proofs.Lists.{PutIn, put_in, in_left, in_right, in_append}
 use Rattle.model_core.proofs.MemoryKept.{any_put}
 use Rattle.model_core.proofs.Laid.{in_slab_laid, in_laid}
-use Rattle.model_core.proofs.Objects.{in_append}
 use Rattle.model_core.proofs.ObjectsApart.{contains_in}
 use Rattle.model_core.proofs.PageSteps.{created_laid}
 use Rattle.promise_core.specs.Holdings.{ToldCache, Holdings}

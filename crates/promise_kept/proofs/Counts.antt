@@ -15,30 +15,27 @@ use Rattle.model_core.specs.Operations.{overlaps}
 use Rattle.model_core.specs.CacheOperations.{frames_of}
 use Rattle.model_core.specs.WellFormed.{IsApart, AreApart, IsWellFormed}
 use Rattle.model_core.specs.Elements.{IsIn}
-use Rattle.model_core.proofs.Lists.{each_in, in_filter, some_any, any_in, any_map, any_none, each_from, filter_in, in_map, map_in}
+use Rattle.model_core.proofs.Lists.{each_in, in_filter, some_any, any_in, any_map, any_none, each_from, filter_in, in_map, map_in, in_append, in_flat_map}
 use Rattle.model_core.proofs.Apart.{in_block-from, apart_filter, one_side}
 use Rattle.model_core.proofs.Laid.{Laid, all_laid, laid_block, in_laid, Placed, IsLaidOut, laid_out, blocks_laid}
 use Rattle.model_core.proofs.MemoryKept.{frame_slot}
 use Rattle.model_core.proofs.Split.{is_empty_laid, kept_laid, gone_laid}
 use Rattle.model_core.proofs.PageSteps.{reaped_kept}
-use Rattle.model_core.proofs.Objects.{in_append, IsPageByte, page_apart}
+use Rattle.model_core.proofs.Objects.{IsPageByte, page_apart}
+use Rattle.model_core.proofs.Room.{in_range}
 use Rattle.promise_core.specs.Holdings.{told_blocks, is_vacant, blocks_of_slot, vacant_blocks}
-pub use Rattle.promise_core.proofs.Causes.{in_row}
+use Rattle.promise_core.proofs.Grids.{listed}
 use Rattle.promise_kept.specs.Meets.{holdings_of}
 use Rattle.promise_kept.proofs.Seen.{holdings_reaped}
-use Rattle.promise_kept.proofs.Stand.{in_flat, taken_seen}
+use Rattle.promise_kept.proofs.Stand.{taken_seen}
 
 -- Counting
-
-has_one : {X : Type 0} (x : X) (xs : List X) → IsIn x xs → 1 ≤ length xs
-has_one x [] i = elim i [ ]
-has_one x (y ∷ ys) i = omega arith
 
 -- a list with n numbers in a row is no shorter
 row_fits_in : (n a : ℕ) (ys : List ℕ) → ((x : ℕ) → a ≤ x → x < a + n → IsIn x ys) → n ≤ length ys
 row_fits_in zero a ys all = omega arith
 row_fits_in (suc n) a ys all =
-    let one : 1 ≤ length (filter (λ y. eqb y a) ys) = has_one a (filter (λ y. eqb y a) ys) (in_filter (λ y. eqb y a) a ys (all a (omega arith) (omega arith)) (eq-eqb a a refl)) in
+    let one : 1 ≤ length (filter (λ y. eqb y a) ys) = listed a (filter (λ y. eqb y a) ys) (in_filter (λ y. eqb y a) a ys (all a (omega arith) (omega arith)) (eq-eqb a a refl)) in
     let rest : n ≤ length (filter (λ y. not (eqb y a)) ys) = row_fits_in n (a + 1) (filter (λ y. not (eqb y a)) ys)
     (λ x low high. in_filter (λ y. not (eqb y a)) x ys (all x (omega arith) (omega arith)) (not_from_false (eqb x a) (ne_eqb x a (λ e. absurd (omega arith))))) in
     let both : length (filter (λ y. eqb y a) ys) + length (filter (λ y. not (eqb y a)) ys) ≡ length ys = length-filter_both (λ y. eqb y a) (λ y. not (eqb y a)) (λ x. refl) ys in
@@ -112,8 +109,8 @@ module _ (limit order : ℕ) (m : Machine) (w : IsWellFormed limit order m) wher
       let row : u.0 * 2 ^ (order - 0) ≡ u.0 * 2 ^ order = ap (λ n. u.0 * n) power in
       let same : block (x * 2 ^ 0) 0 ≡ block x 0 = ap (λ f. block f 0) (omega arith) in
       in_filter (is_vacant (holdings_of m)) (block x 0) (flat_map (blocks_of_slot order 0) m.slots)
-      (in_flat (blocks_of_slot order 0) (block x 0) u.0 m.slots u.1 (subst (λ d. IsIn d (blocks_of_slot order 0 u.0)) same
-      (in_map (λ i. block (i * 2 ^ 0) 0) x (range_with_len (u.0 * 2 ^ (order - 0)) (2 ^ (order - 0))) (in_row x (u.0 * 2 ^ (order - 0)) (2 ^ (order - 0)) (omega (arith, low, row)) (omega (arith, high, power, row))))))
+      (in_flat_map (blocks_of_slot order 0) (block x 0) u.0 m.slots u.1 (subst (λ d. IsIn d (blocks_of_slot order 0 u.0)) same
+      (in_map (λ i. block (i * 2 ^ 0) 0) x (range_with_len (u.0 * 2 ^ (order - 0)) (2 ^ (order - 0))) (in_range x (u.0 * 2 ^ (order - 0)) (2 ^ (order - 0)) (omega (arith, low, row)) (omega (arith, high, power, row))))))
       (not_from_false (list_any (overlaps (block x 0)) (told_blocks (holdings_of m))) (any_none (overlaps (block x 0)) (told_blocks (holdings_of m)) (each_from (λ t. overlaps (block x 0) t ≡ false) (told_blocks (holdings_of m))
       (λ t in_t. false_from_ne_true (overlaps (block x 0) t) (λ e. not_taken b t x i in_t has (shares x t e))))))
 

@@ -15,7 +15,7 @@ use Rattle.model_core.specs.CacheOperations.{frames_of, destroy_of, destroy_step
 use Rattle.model_core.specs.WellFormed.{in_slab, IsWellFormed}
 use Rattle.model_core.specs.Laws.{Object, IsObject, place_of}
 use Rattle.model_core.specs.Elements.{IsIn}
-use Rattle.model_core.proofs.Lists.{Found, found, find_in, filter_in, in_filter, any_in, any_map, any_split, some_any, each_map, each_true, in_map}
+use Rattle.model_core.proofs.Lists.{Found, found, find_in, filter_in, in_filter, any_in, any_map, any_split, some_any, each_map, each_true, in_map, in_flat_map}
 use Rattle.model_core.proofs.ObjectsApart.{contains_in}
 use Rattle.model_core.proofs.Laid.{Laid, laid, all_laid, laid_block, in_laid, in_slab_laid, laid_out}
 use Rattle.model_core.proofs.Split.{filter_laid, laid_of, slab_blocks_laid}
@@ -29,15 +29,15 @@ use Rattle.promise_core.specs.Holdings.{vacant_blocks}
 use Rattle.promise_core.specs.Bytes.{Holder, is_object, may_be, without}
 use Rattle.promise_core.specs.State.{State, state_after}
 use Rattle.promise_core.specs.Promises.{due, can_come_back, empty_frames}
+use Rattle.promise_core.proofs.Causes.{listed_some}
 use Rattle.promise_kept.specs.Meets.{told_cache, holdings_of, is_object_live, Meets, IsKeptBy, IsPromiseKept}
 use Rattle.promise_kept.proofs.Seen.{none_live}
-use Rattle.promise_kept.proofs.Stand.{in_flat, one_live, in_contains}
+use Rattle.promise_kept.proofs.Stand.{one_live, in_contains}
 use Rattle.promise_kept.proofs.Cells.{without_some, without_may, fresh_may}
 use Rattle.promise_kept.proofs.Reaped.{slab_no_page, object_in_slab}
 use Rattle.promise_kept.proofs.Live.{apart_in}
 use Rattle.promise_kept.proofs.Known.{seen, seen_is, cache_seen, IsLiveIn, live_told, told_live}
 use Rattle.promise_kept.proofs.Counts.{empty_vacant}
-use Rattle.promise_core.proofs.Causes.{listed_some}
 use Rattle.promise_kept.proofs.Frames.{frames_divide, empty_of, told_frames}
 
 -- a cache without live objects
@@ -98,7 +98,7 @@ module _ (limit order : ℕ) (c : Cache) (m : Machine) (s : State) (w : IsWellFo
       go [] e = or_left (eqb all 0) _ (eq-eqb all 0 (ap (λ ss. frames_of (map (slab_block c) ss)) e))
       go (t ∷ ts) e = or_right (eqb all 0) _ (and_from (leb all (length (vacant_blocks order (holdings_of m) 0))) (list_any (λ x. s.hides x.number && eqb (all % 2 ^ x.order) 0) (filter (λ x. eqb x.number c.number) (map told_cache m.caches)))
           (le-leb all (length (vacant_blocks order (holdings_of m) 0)) (empty_vacant limit order m w (slab_blocks c) (apart_in order c m w in_c)
-          (λ b i. in_flat empty_blocks b c m.caches in_c (subst (IsIn b) (sym blocks_are) i))))
+          (λ b i. in_flat_map empty_blocks b c m.caches in_c (subst (IsIn b) (sym blocks_are) i))))
           (any_in (λ x. s.hides x.number && eqb (all % 2 ^ x.order) 0) (told_cache c) (filter (λ x. eqb x.number c.number) (map told_cache m.caches))
           (in_filter (λ x. eqb x.number c.number) (told_cache c) (map told_cache m.caches) (in_map told_cache c m.caches in_c) (eq-eqb c.number c.number refl))
           (and_from (s.hides c.number) (eqb (all % 2 ^ (layout c).order) 0) (h.hides c t (in_contains c m.caches in_c) (in_contains t c.slabs (subst (IsIn t) (sym e) (inl refl))))
@@ -200,7 +200,7 @@ in_use : (c : Cache) → list_any (λ s. not (is_empty s)) c.slabs ≡ true → 
 in_use c e =
     let t : (t : Slab) × IsIn t c.slabs × (not (is_empty t) ≡ true) = some_any (λ s. not (is_empty s)) c.slabs e in
     let o : (o : LiveObject) × IsIn o (live_in c t.0) × (o.slab ≡ t.0) = one_live c t.0 0 t.0.live (not-false _ (not-true (is_empty t.0) t.2)) in
-    listed_some o.0.place (map (λ o. o.place) (live_objects c)) (in_map (λ o. o.place) o.0 (live_objects c) (in_flat (live_in c) o.0 t.0 c.slabs t.1 o.1))
+    listed_some o.0.place (map (λ o. o.place) (live_objects c)) (in_map (λ o. o.place) o.0 (live_objects c) (in_flat_map (live_in c) o.0 t.0 c.slabs t.1 o.1))
 
 destroy_seen : (limit order number : ℕ) (m : Machine) (s : State) → IsWellFormed limit order m → Meets order s m → Meets order (seen m s) m → IsPromiseKept limit order (Asked.Destroy number) m (seen m s)
 unfolding command_step destroy_step holdings_of due state_after

@@ -6,6 +6,7 @@ use Rattle.std.proofs.Math.Nat.{mul-div_cancel, div-div-eq-div-mul, div-mul-le_s
 use Rattle.std.proofs.lemmas.Nat.{pow_pos, pow-add}
 use Rattle.std.proofs.lemmas.Bool.{and_parts, and_from, eqb-true, eq-eqb, le-leb, false_from_ne_true, not_from_false, ne_eqb}
 use Rattle.std.proofs.lemmas.List.{length-map}
+use Rattle.std.proofs.Math.Bool.{and-true}
 use Rattle.model_core.specs.Blocks.{Block, block, slot_block, Taken, IsTaken, HasFrame}
 use Rattle.model_core.specs.Choice.{is_taken, is_available, is_free, count_below}
 use Rattle.model_core.specs.Numbered.{is_clear}
@@ -16,7 +17,7 @@ use Rattle.model_core.specs.CacheOperations.{frames_of}
 use Rattle.model_core.specs.Reports.{frames_held, frames_taken, frames_free, free_count}
 use Rattle.model_core.specs.WellFormed.{RisesFrom, IsApart, AreApart, IsPlaced, IsWellFormed}
 use Rattle.model_core.specs.Elements.{IsIn}
-use Rattle.model_core.proofs.Lists.{each_in, each_from, each_map, some_any, any_in, any_none, in_filter, in_map, map_in}
+use Rattle.model_core.proofs.Lists.{each_in, each_from, each_map, some_any, any_in, any_none, in_filter, in_map, map_in, in_flat_map}
 use Rattle.model_core.proofs.BlocksByNumber.{number_first, number_of_frame, aligned_first, taken_tells, taken_is, available_tells}
 use Rattle.model_core.proofs.Halves.{clear_at}
 use Rattle.model_core.proofs.Counting.{count_same}
@@ -24,11 +25,12 @@ use Rattle.model_core.proofs.FreeBlocks.{same_bool}
 use Rattle.model_core.proofs.Chosen.{held_below}
 use Rattle.model_core.proofs.Chosen as chosen
 use Rattle.model_core.proofs.MemoryKept.{frame_slot}
+use Rattle.model_core.proofs.TakenSteps.{order_in_is}
+use Rattle.model_core.proofs.Room.{in_range}
 use Rattle.promise_core.specs.Holdings.{told_blocks, is_vacant, blocks_of_slot, vacant_blocks}
 use Rattle.promise_core.specs.Promises.{frames_of_counts}
 use Rattle.promise_kept.specs.Meets.{holdings_of}
-use Rattle.promise_kept.proofs.Counts.{in_row}
-use Rattle.promise_kept.proofs.Stand.{in_flat, order_in_listed, overlap_shares, taken_seen}
+use Rattle.promise_kept.proofs.Stand.{overlap_shares, taken_seen}
 use Rattle.promise_kept.proofs.Below.{is_clear_alone, clear_halves, strided, count_less, in_frames, frame_in, in_frame, in_any, count_blocks, count_listed}
 
 -- Free blocks, by their orders
@@ -62,17 +64,13 @@ module _ (top : ℕ) (held : ℕ → Bool) (taken : Taken) (slots : ℕ) where
       ∙ (ap (λ n. is_clear ok k n && (eqb k top || not (is_clear ok (suc k) (q * 2 ^ k / 2 ^ suc k)))) here
       ∙ ap (λ n. is_clear ok k q && (eqb k top || not (is_clear ok (suc k) n))) around)
 
-  and_true : (a : Bool) → (a && true) ≡ a
-  and_true true = refl
-  and_true false = refl
-
   -- the free blocks from order k on, in blocks of order k, are the clear blocks of that order
   pub free_clear : (d k : ℕ) → k + d ≡ top → frames_of_counts (map free (range_with_len k (suc d))) ≡ count_below (is_clear ok k) (slots * 2 ^ d)
   free_clear zero k e =
       let is : k ≡ top = omega (arith, e) in
       let n : free k ≡ count_below (λ q. free_at k (q * 2 ^ k)) (slots * 2 ^ zero) = numbered k zero e in
       let whole : count_below (λ q. free_at k (q * 2 ^ k)) (slots * 2 ^ zero) ≡ count_below (is_clear ok k) (slots * 2 ^ zero) = count_same (λ q. free_at k (q * 2 ^ k)) (is_clear ok k) (slots * 2 ^ zero)
-      (λ q lt. free_is k q (omega (arith, is)) ∙ (ap (λ b. is_clear ok k q && (b || not (is_clear ok (suc k) (q / 2)))) (eq-eqb k top is) ∙ and_true (is_clear ok k q))) in
+      (λ q lt. free_is k q (omega (arith, is)) ∙ (ap (λ b. is_clear ok k q && (b || not (is_clear ok (suc k) (q / 2)))) (eq-eqb k top is) ∙ and-true (is_clear ok k q))) in
       omega (arith, n, whole)
   free_clear (suc d) k e =
       let rest : frames_of_counts (map free (range_with_len (k + 1) (suc d))) ≡ count_below (is_clear ok (k + 1)) (slots * 2 ^ d) = free_clear d (k + 1) (omega (arith, e)) in
@@ -151,7 +149,7 @@ module _ {limit : ℕ} (order : ℕ) (m : Machine) (w : IsWellFormed limit order
   used_is : (x : ℕ) → is_taken (taken_in m) x ≡ is_used x
   used_is x = same_bool (is_taken (taken_in m) x) (is_used x)
       (λ e. let t : IsTaken (taken_in m) x = taken_tells (taken_in m) x e in
-      any_in (λ b. in_frames b x) (block t.0 t.1) (model.taken_blocks m) (order_in_listed (model.taken_blocks m) t.0 t.1 t.2) (in_frame (block t.0 t.1) x t.3))
+      any_in (λ b. in_frames b x) (block t.0 t.1) (model.taken_blocks m) (order_in_is (model.taken_blocks m) t.0 t.1 t.2) (in_frame (block t.0 t.1) x t.3))
       (λ e. let b : (b : Block) × IsIn b (model.taken_blocks m) × (in_frames b x ≡ true) = some_any (λ b. in_frames b x) (model.taken_blocks m) e in
       taken_is (taken_in m) x (b.0.first, b.0.order, chosen.order_in_listed (model.taken_blocks m) b.0 w.apart b.1, frame_in b.0 x b.2))
 
@@ -203,8 +201,8 @@ module _ {limit : ℕ} (order : ℕ) (m : Machine) (w : IsWellFormed limit order
       let low : q / share * share ≤ q = div-mul-le_self q share in
       let high : q < q / share * share + share = lt-div-mul-add (pow_pos (order - k)) in
       in_filter (is_vacant (holdings_of m)) b (flat_map (blocks_of_slot order k) m.slots)
-      (in_flat (blocks_of_slot order k) b u.0 m.slots u.1 (in_map (λ i. block (i * 2 ^ k) k) q (range_with_len (u.0 * share) share)
-      (in_row q (u.0 * share) share (subst (λ v. v * share ≤ q) (sym slot) low) (subst (λ v. q < v * share + share) (sym slot) high))))
+      (in_flat_map (blocks_of_slot order k) b u.0 m.slots u.1 (in_map (λ i. block (i * 2 ^ k) k) q (range_with_len (u.0 * share) share)
+      (in_range q (u.0 * share) share (subst (λ v. v * share ≤ q) (sym slot) low) (subst (λ v. q < v * share + share) (sym slot) high))))
       (not_from_false (list_any (overlaps b) (told_blocks (holdings_of m))) (any_none (overlaps b) (told_blocks (holdings_of m)) (each_from (λ t. overlaps b t ≡ false) (told_blocks (holdings_of m))
       (λ t in_t. false_from_ne_true (overlaps b t) (λ o. overlap_shares b t o (λ x has other.
       (available_tells order (holds m) (taken_in m) x (free_frame x has)).1

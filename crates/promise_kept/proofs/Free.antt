@@ -13,6 +13,7 @@ use Rattle.model_core.specs.Laws.{place_of}
 use Rattle.model_core.specs.Elements.{IsIn}
 use Rattle.model_core.proofs.Lists.{in_filter, some_any, any_in}
 use Rattle.model_core.proofs.ObjectsApart.{one_key}
+use Rattle.model_core.proofs.TakenSteps.{order_in_is}
 use Rattle.words_core.specs.declared.event.Event.TheVariants as On
 use Rattle.words_core.specs.declared.event.Command.TheVariants as Asked
 use Rattle.words_core.specs.declared.reply.Addressee.TheVariants as To
@@ -24,7 +25,6 @@ use Rattle.promise_core.specs.Bytes.{Holder, is_same, doubted}
 use Rattle.promise_core.specs.State.{State, state_after}
 use Rattle.promise_core.specs.Promises.{due}
 use Rattle.promise_kept.specs.Meets.{holdings_of, is_object_live, Meets, IsKeptBy, IsPromiseKept}
-use Rattle.promise_kept.proofs.Stand.{order_in_listed}
 use Rattle.promise_kept.proofs.Cells.{all_kept, formed, doubt_may, doubt_lives}
 
 -- the page cells of this block
@@ -46,7 +46,7 @@ lives_still first k h rises is Holder.Page place e out =
   where
     go : (b : Block) → IsIn b h.pages → in_block place b ≡ true → (t : Bool) → eqb b.first first ≡ t → list_any (in_block place) (filter (λ x. not (eqb x.first first)) h.pages) ≡ true
     go b i there true same =
-        let one : b ≡ block first k = one_key (λ x. x.first) 0 h.pages b (block first k) rises i (order_in_listed h.pages first k is) (eqb-true b.first first same) in
+        let one : b ≡ block first k = one_key (λ x. x.first) 0 h.pages b (block first k) rises i (order_in_is h.pages first k is) (eqb-true b.first first same) in
         absurd (false≢true (sym out ∙ ap (λ t. t && true) (ap (in_block place) (sym one) ∙ there)))
     go b i there false other = any_in (in_block place) b (filter (λ x. not (eqb x.first first)) h.pages) (in_filter (λ x. not (eqb x.first first)) b h.pages i (ap not other)) there
 lives_still first k h rises is (Holder.Object n p) place e out = e

@@ -28,7 +28,7 @@ use Rattle.promise_kept.proofs.Stand.{in_contains}
 use Rattle.promise_kept.proofs.Live.{IsSlab, slabs_of, same_members, live_rises, IsLivePlace, live_place, place_listed}
 use Rattle.promise_kept.proofs.Flag.{replaced_is, replaced_one, replaced_other, live_after, live_other, WasObject, was_object, caches_told}
 use Rattle.promise_kept.proofs.Cells.{doubt_may, doubt_lives}
-use Rattle.promise_kept.proofs.Known.{seen, seen_is, cache_seen, IsLiveIn, live_told, told_live}
+use Rattle.promise_kept.proofs.Known.{seen, seen_is, cache_seen, live_told, told_live, live_replaced}
 
 abbrev gone : ℕ → List ℕ → List ℕ
 gone place ps = filter (λ p. not (eqb p place)) ps
@@ -77,28 +77,9 @@ module _ (limit order place : ℕ) (c : Cache) (o : LiveObject) (m : Machine) (s
   still_live : (p : ℕ) (holder : Holder) → is_object_live (holdings_of m) holder p ≡ true → is_same (Holder.Object c.number place) holder ≡ false → is_object_live (holdings_of n) holder p ≡ true
   unfolding holdings_of
   still_live p Holder.Page e differs = e
-  still_live p (Holder.Object number first) e differs = told_live n number first p (go (live_told m number first p e))
-    where
-      go : IsLiveIn number first m.caches → IsLiveIn number first n.caches
-      go k = by (cases_eq k.cache.number c.number)
-        where
-          by : (k.cache.number ≡ c.number) ⊎ (k.cache.number ≡ c.number → ⊥) → IsLiveIn number first n.caches
-          by (inl e) =
-              let same : k.cache ≡ c = one_key (λ x. x.number) 0 m.caches k.cache c w.caches_rise k.cache_in in_c e in
-              record {
-                cache = d;
-                cache_in = d_in;
-                number_is = sym e ∙ k.number_is;
-                place = other first (subst (λ x. IsLivePlace x first) same k.place)
-                    (λ f. both_ways (eqb number c.number && eqb first place) differs
-                    (and_from (eqb number c.number) (eqb first place) (eq-eqb number c.number (sym k.number_is ∙ e)) (eq-eqb first place f)));
-              }
-          by (inr ne) = record {
-            cache = k.cache;
-            cache_in = replaced_other (λ x. x.number) d k.cache m.caches k.cache_in (ne_eqb k.cache.number c.number ne);
-            number_is = k.number_is;
-            place = k.place;
-          }
+  still_live p (Holder.Object number first) e differs = told_live n number first p (live_replaced c d m w.caches_rise in_c refl number first (live_told m number first p e)
+      (λ same was. other first was (λ f. both_ways (eqb number c.number && eqb first place) differs
+      (and_from (eqb number c.number) (eqb first place) (eq-eqb number c.number same) (eq-eqb first place f)))))
 
   after : State
   after = record s { has = holdings_of n; cells = doubted (λ p. is_same (Holder.Object c.number place)) s.cells; told = None }

@@ -21,6 +21,7 @@ use Rattle.model_core.proofs.ObjectsApart.{contains_in, one_key}
 use Rattle.model_core.proofs.Constructed.{IsFresh, AllFresh, grown_byte, fresh_grown}
 use Rattle.promise_core.specs.Bytes.{Holder, may_be}
 use Rattle.promise_core.specs.State.{State}
+use Rattle.promise_core.proofs.Steps.{in_put}
 use Rattle.promise_kept.specs.Meets.{told_cache, holdings_of, is_object_live, Meets}
 use Rattle.promise_kept.proofs.Stand.{in_contains}
 use Rattle.promise_kept.proofs.Seen.{none_live}
@@ -30,7 +31,6 @@ use Rattle.promise_kept.proofs.Live.{IsLivePlace}
 use Rattle.promise_kept.proofs.Flag.{replaced_is}
 use Rattle.promise_kept.proofs.Known.{IsLiveIn, live_told}
 use Rattle.promise_kept.proofs.Beside.{is_slab}
-use Rattle.promise_core.proofs.Steps.{in_put}
 use Rattle.promise_kept.proofs.Take.{hidden}
 
 pub none_set : (n : ℕ) → list_any (λ live. live) (replicate n false) ≡ false

@@ -14,16 +14,15 @@ use Rattle.model_core.specs.Slabs.{live_objects}
 use Rattle.model_core.specs.WellFormed.{IsApart, IsCut, IsCache, IsWellFormed}
 use Rattle.model_core.proofs.Layouts.{for_alignment, layouts_fit}
 use Rattle.model_core.specs.Elements.{IsIn}
-use Rattle.model_core.proofs.Lists.{each_in, each_from, any_none, in_map, map_in}
+use Rattle.model_core.proofs.Lists.{each_in, each_from, any_none, in_map, map_in, in_append, flat_map_in}
 use Rattle.model_core.proofs.Apart.{apart_turned, one_holder}
 use Rattle.model_core.proofs.BlocksByNumber.{any_below_is}
 use Rattle.model_core.proofs.Laid.{laid, all_laid, laid_block, Placed, IsLaidOut, laid_out}
 use Rattle.model_core.proofs.CacheSteps.{in_all_laid}
-use Rattle.model_core.proofs.Objects.{in_append}
 use Rattle.promise_core.specs.Holdings.{ToldCache, Holdings, slab_around, told_blocks, can_stand, are_apart, is_grid, can_be_taken}
 use Rattle.promise_core.proofs.Grids.{all_from}
 use Rattle.promise_kept.specs.Meets.{told_cache, holdings_of}
-use Rattle.promise_kept.proofs.Stand.{flat_in, overlap_shares}
+use Rattle.promise_kept.proofs.Stand.{overlap_shares}
 use Rattle.promise_kept.proofs.Live.{IsLivePlace, live_place}
 use Rattle.promise_kept.proofs.Beside.{places_in, less_count, some_count, IsBeside, beside_at, is_slab, slab_here, slab_of_live, beside_is}
 
@@ -96,7 +95,7 @@ module _ {limit : ℕ} (order : ℕ) (c : Cache) (s : Slab) (m : Machine) (w : I
       go (inl j) = apart_turned b (slab_block c s) (each_in (IsApart b) (slab_block c s) (map laid_block (all_laid m.caches))
           (each_in (λ a. Each (IsApart a) (map laid_block (all_laid m.caches))) b m.blocks l.across j) (in_map laid_block (laid c s) (all_laid m.caches) here))
       go (inr j) =
-          let t : (t : ToldCache) × IsIn t (map told_cache m.caches) × IsIn b (map (slab_around t) t.live) = flat_in (λ x. map (slab_around x) x.live) b (map told_cache m.caches) j in
+          let t : (t : ToldCache) × IsIn t (map told_cache m.caches) × IsIn b (map (slab_around t) t.live) = flat_map_in (λ x. map (slab_around x) x.live) b (map told_cache m.caches) j in
           let d : (d : Cache) × IsIn d m.caches × (told_cache d ≡ t.0) = map_in told_cache t.0 m.caches t.1 in
           told d.0 d.1 (subst (λ x. IsIn b (map (slab_around x) x.live)) (sym d.2) t.2)
 

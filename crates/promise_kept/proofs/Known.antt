@@ -1,17 +1,20 @@
 -- What is known of a machine, by its caches.
-use Rattle.std.proofs.Common.{◌≡◌, ℕ, Bool, true, false, ◌&&◌, cond, eqb, List, [], ◌∷◌, map, Some, refl, sym, ap, ◌∙◌, subst}
+use Rattle.std.proofs.Common.{◌≡◌, ℕ, Bool, true, false, ◌&&◌, cond, eqb, List, [], ◌∷◌, map, Some, refl, sym, ap, ◌∙◌, subst, ◌⊎◌, inl, inr}
 use Rattle.std.specs.Prelude.{option_map, find}
 use Rattle.std.specs.List.{list_any}
-use Rattle.std.proofs.lemmas.Bool.{and_parts, and_from, eqb-true, eq-eqb}
+use Rattle.std.proofs.lemmas.Bool.{and_parts, and_from, eqb-true, eq-eqb, cases_eq, ne_eqb}
 use Rattle.model_core.specs.Machine.{Cache, Machine}
-use Rattle.model_core.specs.Slabs.{live_objects}
+use Rattle.model_core.specs.Slabs.{live_objects, with_cache}
 use Rattle.model_core.specs.Elements.{IsIn}
+use Rattle.model_core.specs.WellFormed.{RisesFrom}
 use Rattle.model_core.proofs.Lists.{some_any, any_in, in_map, map_in}
+use Rattle.model_core.proofs.ObjectsApart.{one_key}
 use Rattle.promise_core.specs.Holdings.{ToldCache, Holdings}
 use Rattle.promise_core.specs.Bytes.{Holder}
 use Rattle.promise_core.specs.State.{State}
 use Rattle.promise_kept.specs.Meets.{told_cache, holdings_of, is_object_live}
 use Rattle.promise_kept.proofs.Live.{IsLivePlace, live_place, place_listed}
+use Rattle.promise_kept.proofs.Flag.{replaced_other, replaced_one}
 
 -- the state with what is seen of the machine in place of what it has
 abbrev pub seen : Machine → State → State
@@ -62,3 +65,24 @@ pub told_live : (m : Machine) (number first place : ℕ) → IsLiveIn number fir
 unfolding holdings_of
 told_live m number first place l = any_in (is_told number first) (told_cache l.cache) (map told_cache m.caches) (in_map told_cache l.cache m.caches l.cache_in)
     (and_from (eqb l.cache.number number) (list_any (λ p. eqb p first) (map (λ o. o.place) (live_objects l.cache))) (eq-eqb l.cache.number number l.number_is) (any_place first l.cache l.place))
+
+-- such an object is live too where another cache of its number stands in place of its own
+pub live_replaced : (c d : Cache) (m : Machine) → RisesFrom 0 (map (λ x. x.number) m.caches) → IsIn c m.caches → c.number ≡ d.number → (number first : ℕ) → IsLiveIn number first m.caches
+    → (number ≡ c.number → IsLivePlace c first → IsLivePlace d first) → IsLiveIn number first (with_cache d m).caches
+live_replaced c d m rises in_c same number first k still = go (cases_eq k.cache.number c.number)
+  where
+    go : (k.cache.number ≡ c.number) ⊎ (k.cache.number ≡ c.number → ⊥) → IsLiveIn number first (with_cache d m).caches
+    go (inl e) =
+        let is : k.cache ≡ c = one_key (λ x. x.number) 0 m.caches k.cache c rises k.cache_in in_c e in
+        record {
+          cache = d;
+          cache_in = replaced_one (λ x. x.number) d c m.caches in_c same;
+          number_is = sym same ∙ (sym e ∙ k.number_is);
+          place = still (sym k.number_is ∙ e) (subst (λ x. IsLivePlace x first) is k.place);
+        }
+    go (inr ne) = record {
+      cache = k.cache;
+      cache_in = replaced_other (λ x. x.number) d k.cache m.caches k.cache_in (ne_eqb k.cache.number d.number (λ e. ne (e ∙ sym same)));
+      number_is = k.number_is;
+      place = k.place;
+    }

@@ -6,11 +6,13 @@ use Rattle.std.specs.Option.{option_map_or, option_eq}
 use Rattle.std.proofs.lemmas.Bool.{and_from, and_parts, false≢true, eqb-true, eq-eqb, ne_eqb, cases_eq}
 use Rattle.std.proofs.lemmas.Iterator.Adapters.{position_from-zero}
 use Rattle.std.proofs.lemmas.List.Folds.{find_at}
+use Rattle.std.proofs.Math.Bool.{or-true, and-false}
 use Rattle.model_core.specs.declared.owner.Owner.{Owner}
 use Rattle.model_core.specs.Choice.{count_below}
 use Rattle.model_core.specs.Machine.{least_missing}
 use Rattle.model_core.specs.Owners.{is_of, is_owner}
-use Rattle.model_core.proofs.Counting.{bit}
+use Rattle.model_core.proofs.Counting.{bit, count_none}
+use Rattle.model_core.proofs.Lists.{or_turned}
 use Rattle.world_core.specs.World.{given_up}
 
 abbrev Owners : Type 0
@@ -71,14 +73,7 @@ pub granted_any : (mine : Option Owner → Bool) (xs : Owners) (j : ℕ) (x : Op
     → list_any mine (slice_set xs j x) ≡ (mine x || list_any mine xs)
 granted_any mine [] j x e none = absurd (cc)
 granted_any mine (y ∷ xs) zero x e none = let same : y ≡ None = cc in ap (λ b. mine x || b) (sym (ap (λ b. b || list_any mine xs) (ap mine same ∙ none)))
-granted_any mine (y ∷ xs) (suc j) x e none = ap (λ b. mine y || b) (granted_any mine xs j x e none) ∙ turned (mine y) (mine x) (list_any mine xs)
-  where
-    turned : (a b c : Bool) → (a || (b || c)) ≡ (b || (a || c))
-    turned true true c = refl
-    turned true false c = refl
-    turned false true c = refl
-    turned false false c = refl
-
+granted_any mine (y ∷ xs) (suc j) x e none = ap (λ b. mine y || b) (granted_any mine xs j x e none) ∙ or_turned (mine y) (mine x) (list_any mine xs)
 -- where nobody was, nobody is once others gave up
 pub given_free : (test : Option Owner → Bool) (xs : Owners) (j : ℕ) → slice_get xs j ≡ Some None → slice_get (map (given_up test) xs) j ≡ Some None
 given_free test [] j e = absurd (cc)
@@ -126,11 +121,6 @@ some_free (None ∷ xs) j e = omega arith
 some_free (Some x ∷ xs) zero e = absurd (cc)
 some_free (Some x ∷ xs) (suc j) e = some_free xs j e
 
-count_none : (p : ℕ → Bool) (n : ℕ) → ((v : ℕ) → v < n → p v ≡ false) → count_below p n ≡ 0
-count_none p zero off = refl
-count_none p (suc n) off = let rest : count_below p n ≡ 0 = count_none p n (λ v lt. off v (omega (arith, lt))) in
-    let here : bit (p n) ≡ 0 = ap bit (off n (omega arith)) in omega (arith, rest, here)
-
 count_all : (p : ℕ → Bool) (n : ℕ) → ((v : ℕ) → v < n → p v ≡ true) → count_below p n ≡ n
 count_all p zero on = refl
 count_all p (suc n) on = let rest : count_below p n ≡ n = count_all p n (λ v lt. on v (omega (arith, lt))) in
@@ -151,16 +141,12 @@ count_either p q (suc n) = let rest : count_below (λ v. p v || q v) n ≤ count
 count_slot : (b : Bool) (s n : ℕ) → count_below (λ v. b && eqb s v) n ≤ 1
 count_slot b s zero = omega arith
 count_slot b s (suc n) = ⊎_elim
-    (λ same. let none : count_below (λ v. b && eqb s v) n ≡ 0 = count_none (λ v. b && eqb s v) n (λ v lt. ap (λ c. b && c) (ne_eqb s v (λ e. absurd (omega (arith, e, same, lt)))) ∙ and_false b) in
+    (λ same. let none : count_below (λ v. b && eqb s v) n ≡ 0 = count_none (λ v. b && eqb s v) n (λ v lt. ap (λ c. b && c) (ne_eqb s v (λ e. absurd (omega (arith, e, same, lt)))) ∙ and-false b) in
     let here : bit (b && eqb s n) ≤ 1 = one (b && eqb s n) in omega (arith, none, here))
-    (λ differ. let here : bit (b && eqb s n) ≡ 0 = ap bit (ap (λ c. b && c) (ne_eqb s n differ) ∙ and_false b) in
+    (λ differ. let here : bit (b && eqb s n) ≡ 0 = ap bit (ap (λ c. b && c) (ne_eqb s n differ) ∙ and-false b) in
     let rest : count_below (λ v. b && eqb s v) n ≤ 1 = count_slot b s n in omega (arith, here, rest))
     (cases_eq s n)
   where
-    and_false : (a : Bool) → (a && false) ≡ false
-    and_false true = refl
-    and_false false = refl
-
     one : (a : Bool) → bit a ≤ 1
     one true = omega arith
     one false = omega arith
@@ -184,15 +170,11 @@ pub below_missing : (n v : ℕ) (xs : List ℕ) → n ≤ v → v < least_missin
 below_missing n v [] low lt = absurd (omega (arith, low, lt))
 below_missing n v (x ∷ xs) low lt = go (eqb x n) refl lt (below_missing (n + 1) v xs)
   where
-    or_true : (a : Bool) → (a || true) ≡ true
-    or_true true = refl
-    or_true false = refl
-
     go : (b : Bool) → eqb x n ≡ b → v < (if b then least_missing (n + 1) xs else n) → (n + 1 ≤ v → v < least_missing (n + 1) xs → list_any (λ y. eqb y v) xs ≡ true) → (eqb x v || list_any (λ y. eqb y v) xs) ≡ true
     go false is lt rest = absurd (omega (arith, low, lt))
     go true is lt rest = ⊎_elim
         (λ same. ap (λ b. b || list_any (λ y. eqb y v) xs) (eq-eqb x v (eqb-true x n is ∙ same)))
-        (λ differ. ap (λ b. eqb x v || b) (rest (above differ) lt) ∙ or_true (eqb x v))
+        (λ differ. ap (λ b. eqb x v || b) (rest (above differ) lt) ∙ or-true (eqb x v))
         (cases_eq n v)
       where
         above : n ≢ v → n + 1 ≤ v

@@ -18,7 +18,7 @@ use Rattle.model_core.proofs.Lists.{each_in, find_in, some_any, any_in, map_in}
 use Rattle.model_core.proofs.Apart.{in_block-from}
 use Rattle.model_core.proofs.Laid.{laid, all_laid, in_laid, IsCutLaid, laid_out, in_slab_laid}
 use Rattle.model_core.proofs.CacheSteps.{in_all_laid}
-use Rattle.model_core.proofs.Objects.{IsLive, live_is}
+use Rattle.model_core.proofs.Objects.{IsLive, live_is, within_is}
 use Rattle.model_core.proofs.ObjectsApart.{contains_in, objects_apart}
 use Rattle.promise_core.specs.Holdings.{ToldCache}
 use Rattle.promise_core.specs.Bytes.{Holder, is_same, Cell, may_be, with_bytes, object_with, holder_of}
@@ -27,11 +27,6 @@ use Rattle.promise_kept.specs.Meets.{told_cache, holdings_of, is_object_live, Me
 use Rattle.promise_kept.proofs.Stand.{in_contains}
 use Rattle.promise_kept.proofs.Cells.{is_same_refl}
 use Rattle.promise_kept.proofs.Reaped.{slab_no_page, object_in_slab}
-
-pub within_is : (place len begin size : ℕ) → is_within place len begin size ≡ true → (begin ≤ place) × (place + len ≤ begin + size)
-within_is place len begin size e =
-    let p = and_parts (leb begin place) (leb (place + len) (begin + size)) e in
-    (leb-true begin place p.0, leb-true (place + len) (begin + size) p.1)
 
 -- the range is among the bytes of this live object
 record IsObjects (place len : ℕ) (holder : Holder) (cs : List ToldCache) : Type 0 where

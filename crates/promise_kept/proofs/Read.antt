@@ -15,8 +15,9 @@ use Rattle.model_core.specs.Laws.{place_of}
 use Rattle.model_core.specs.Elements.{IsIn}
 use Rattle.model_core.proofs.Apart.{in_block-from}
 use Rattle.model_core.proofs.Laid.{laid_out, in_slab_laid}
-use Rattle.model_core.proofs.Objects.{IsPageByte, page_apart, reached, reached_mapped}
+use Rattle.model_core.proofs.Objects.{IsPageByte, page_apart, reached, reached_mapped, within_is}
 use Rattle.model_core.proofs.ObjectsApart.{contains_in, one_key}
+use Rattle.model_core.proofs.Lists.{none_of, some_of}
 use Rattle.words_core.specs.declared.event.Event.TheVariants as On
 use Rattle.words_core.specs.declared.event.Command.TheVariants as Asked
 use Rattle.words_core.specs.declared.reply.Addressee.TheVariants as To
@@ -29,8 +30,8 @@ use Rattle.promise_core.specs.State.{State, with_range, state_after}
 use Rattle.promise_core.specs.Promises.{due}
 use Rattle.promise_kept.specs.Meets.{told_cache, holdings_of, Meets, IsKeptBy, IsPromiseKept}
 use Rattle.promise_kept.proofs.Cells.{all_kept, formed}
-use Rattle.promise_kept.proofs.Range.{IsHolder, holder_is, within_is, range_meets}
-use Rattle.promise_kept.proofs.Write.{some_of, none_of, reach_seen}
+use Rattle.promise_kept.proofs.Range.{IsHolder, holder_is, range_meets}
+use Rattle.promise_kept.proofs.Write.{reach_seen}
 
 -- the bytes of a range all of whose places have one
 read_all : (bytes : ℕ → Option ℕ) (place len : ℕ) → ((p : ℕ) → place ≤ p → p < place + len → is_some (bytes p) ≡ true)

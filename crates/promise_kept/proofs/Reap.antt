@@ -11,7 +11,7 @@ use Rattle.model_core.specs.CacheOperations.{frames_of, reap_step}
 use Rattle.model_core.specs.WellFormed.{IsCache, IsWellFormed}
 use Rattle.model_core.specs.Laws.{Object, place_of}
 use Rattle.model_core.specs.Elements.{IsIn}
-use Rattle.model_core.proofs.Lists.{each_in, filter_in, any_in, in_map, map_in}
+use Rattle.model_core.proofs.Lists.{each_in, filter_in, any_in, in_map, map_in, in_flat_map}
 use Rattle.model_core.proofs.ObjectsApart.{contains_in, one_key}
 use Rattle.model_core.proofs.Layouts.{layouts_fit}
 use Rattle.words_core.specs.declared.event.Command.TheVariants as Asked
@@ -24,13 +24,13 @@ use Rattle.promise_core.specs.Holdings.{cache_told, slab_around, vacant_blocks}
 use Rattle.promise_core.specs.Bytes.{Holder, is_object, without}
 use Rattle.promise_core.specs.State.{State, is_in_use, is_in_no_slab, state_after}
 use Rattle.promise_core.specs.Promises.{due, can_come_back, empty_frames}
+use Rattle.promise_core.proofs.Causes.{listed_some}
 use Rattle.promise_kept.specs.Meets.{told_cache, holdings_of, Meets, IsPromiseKept}
-use Rattle.promise_kept.proofs.Stand.{in_flat, one_live, slab_seen, in_contains}
+use Rattle.promise_kept.proofs.Stand.{one_live, slab_seen, in_contains}
 use Rattle.promise_kept.proofs.Cells.{all_kept, without_some, without_may}
 use Rattle.promise_kept.proofs.Reaped.{untold, meets_reaped, object_in_slab}
 use Rattle.promise_kept.proofs.Known.{seen, seen_is, cache_seen}
 use Rattle.promise_kept.proofs.Counts.{empty_vacant, empty_apart}
-use Rattle.promise_core.proofs.Causes.{listed_some}
 use Rattle.promise_kept.proofs.Frames.{IsLeast, least_order, frames_divide, told_frames}
 
 -- the one element that passes is found
@@ -78,7 +78,7 @@ module _ (limit order : ℕ) (m : Machine) (s : State) (w : IsWellFormed limit o
   beside d t in_d in_t =
       let f : IsIn t d.slabs × (not (is_empty t) ≡ true) = filter_in (λ x. not (is_empty x)) t d.slabs in_t in
       let o : (o : LiveObject) × IsIn o (live_in d t) × (o.slab ≡ t) = one_live d t 0 t.live (not-false _ (not-true (is_empty t) f.1)) in
-      (o.0, in_flat (live_in d) o.0 t d.slabs f.0 o.1, o.2)
+      (o.0, in_flat_map (live_in d) o.0 t d.slabs f.0 o.1, o.2)
 
   in_use : (d : Cache) (t : Slab) → IsIn d m.caches → IsIn t (without_empty d).slabs → is_in_use (cache_told (holdings_of m) d.number) ≡ true
   in_use d t in_d in_t =

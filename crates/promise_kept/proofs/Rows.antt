@@ -6,6 +6,7 @@ use Rattle.std.proofs.lemmas.Bool.{and_from, eq-eqb, ne_eqb, false≢true}
 use Rattle.std.proofs.lemmas.List.{length-append, length-map, append-nil}
 use Rattle.std.proofs.lemmas.List.Elements.{filter-append}
 use Rattle.std.proofs.lemmas.List.Sums.{sum_by-cons}
+use Rattle.std.proofs.Math.Bool.{or-true}
 use Rattle.model_core.specs.declared.report.CacheRow.{CacheRow}
 use Rattle.model_core.specs.Blocks.{Block}
 use Rattle.model_core.specs.Machine.{Slab, Cache, Machine, layout, slab_block, slab_blocks}
@@ -169,12 +170,7 @@ module _ {limit : ℕ} (order : ℕ) (c : Cache) (m : Machine) (w : IsWellFormed
     where
       hidden : (ss : List Slab) → ((s : Slab) → IsIn s ss → hides c.number ≡ true) → (eqb (length (filter is_empty ss)) 0 || hides c.number) ≡ true
       hidden [] may = refl
-      hidden (s ∷ ss) may = ap (λ b. eqb (length (filter is_empty (s ∷ ss))) 0 || b) (may s (inl refl)) ∙ or_true (eqb (length (filter is_empty (s ∷ ss))) 0)
-        where
-          or_true : (a : Bool) → (a || true) ≡ true
-          or_true true = refl
-          or_true false = refl
-
+      hidden (s ∷ ss) may = ap (λ b. eqb (length (filter is_empty (s ∷ ss))) 0 || b) (may s (inl refl)) ∙ or-true (eqb (length (filter is_empty (s ∷ ss))) 0)
 -- Orders
 
 abbrev pub is_order : ℕ → Block → Bool

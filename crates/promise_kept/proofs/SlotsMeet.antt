@@ -12,19 +12,18 @@ use Rattle.model_core.specs.Operations as operations
 use Rattle.model_core.specs.WellFormed.{IsWellFormed, in_slab}
 use Rattle.model_core.specs.Laws.{Object, IsObject, place_of}
 use Rattle.model_core.specs.Elements.{IsIn}
-use Rattle.model_core.proofs.Lists.{each_in, each_from, some_any, any_in, any_none, none_any, PutIn, put_in, in_left, in_map, map_in}
+use Rattle.model_core.proofs.Lists.{each_in, each_from, some_any, any_in, any_none, none_any, PutIn, put_in, in_left, in_map, map_in, in_append, flat_map_in}
 use Rattle.model_core.proofs.MemoryKept.{any_put, place_held}
 use Rattle.model_core.proofs.Laid.{laid, all_laid, laid_block, IsLaidOut, laid_out, Placed}
 use Rattle.model_core.proofs.CacheSteps.{in_all_laid}
 use Rattle.model_core.proofs.Constructed.{next_unheld}
-use Rattle.model_core.proofs.Objects.{in_append}
 use Rattle.model_core.proofs.ObjectsApart.{contains_in}
 use Rattle.promise_core.specs.Holdings.{Holdings, told_blocks, is_slot_busy}
 use Rattle.promise_core.specs.Bytes.{Holder, may_be, without}
 use Rattle.promise_core.specs.State.{State, opening_state}
 use Rattle.promise_kept.specs.Meets.{told_cache, holdings_of, is_object_live, Meets}
 use Rattle.promise_kept.proofs.Owning.{below_missing}
-use Rattle.promise_kept.proofs.Stand.{flat_in, taken_seen, in_contains}
+use Rattle.promise_kept.proofs.Stand.{taken_seen, in_contains}
 use Rattle.promise_kept.proofs.Cells.{fresh_may, without_some, without_may}
 use Rattle.promise_kept.proofs.Reaped.{object_in_slab}
 
@@ -126,7 +125,7 @@ module _ {limit : ℕ} (order : ℕ) (m : Machine) (s : State) (w : IsWellFormed
       (λ (page : IsIn b.0 m.blocks). or_left (is_slot_busy order (holdings_of m) u) (list_any (λ c. s.hides c.number) (map told_cache m.caches))
       (ap (λ x. not (not x)) (any_in (overlaps (slot_block order u)) b.0 (told_blocks (holdings_of m)) (in_left b.0 m.blocks _ page) b.2)))
       (λ (slab : IsIn b.0 (flat_map slab_blocks m.caches)).
-      let c : (c : Cache) × IsIn c m.caches × IsIn b.0 (slab_blocks c) = flat_in slab_blocks b.0 m.caches slab in
+      let c : (c : Cache) × IsIn c m.caches × IsIn b.0 (slab_blocks c) = flat_map_in slab_blocks b.0 m.caches slab in
       let x : (x : Slab) × IsIn x c.0.slabs × (slab_block c.0 x ≡ b.0) = map_in (slab_block c.0) b.0 c.0.slabs c.2 in
       or_right (is_slot_busy order (holdings_of m) u) (list_any (λ c. s.hides c.number) (map told_cache m.caches))
       (any_in (λ c. s.hides c.number) (told_cache c.0) (map told_cache m.caches) (in_map told_cache c.0 m.caches c.1) (h.hides c.0 x.0 (in_contains c.0 m.caches c.1) (in_contains x.0 c.0.slabs x.1))))

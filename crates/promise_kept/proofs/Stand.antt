@@ -14,18 +14,19 @@ use Rattle.model_core.specs.Slabs.{LiveObject, live_from, live_in, live_objects,
 use Rattle.model_core.specs.Operations.{overlaps}
 use Rattle.model_core.specs.WellFormed.{IsApart, IsWellFormed}
 use Rattle.model_core.specs.Elements.{IsIn}
-use Rattle.model_core.proofs.Lists.{each_in, each_from, filter_in, any_none, none_any, any_in, in_left, in_right, in_map, map_in}
+use Rattle.model_core.proofs.Lists.{each_in, each_from, filter_in, any_none, none_any, any_in, in_left, in_right, in_map, map_in, in_append, flat_map_in, in_flat_map}
 use Rattle.model_core.proofs.BlocksByNumber.{aligned_first}
 use Rattle.model_core.proofs.Apart.{in_block-true, overlap_from}
 use Rattle.model_core.proofs.Laid.{Laid, laid, all_laid, laid_block, IsCutLaid, IsLaidOut, laid_out}
 use Rattle.model_core.proofs.CacheSteps.{in_all_laid}
-use Rattle.model_core.proofs.Objects.{in_append, IsByteOf, byte_is_of, IsLive, live_is}
+use Rattle.model_core.proofs.Objects.{IsByteOf, byte_is_of, IsLive, live_is}
 use Rattle.model_core.proofs.Chosen.{held_below, chosen_apart, chosen_placed}
 use Rattle.model_core.proofs.ByNeed.{by_need_keeps, by_need_none, by_need_reaps}
 use Rattle.model_core.proofs.PageSteps.{by_need_kept}
 use Rattle.model_core.proofs.Vacant.{IsVacant, some_choice}
+use Rattle.model_core.proofs.Room.{range_in}
+use Rattle.model_core.proofs.TakenSteps.{order_in_is}
 use Rattle.promise_core.specs.Holdings.{slab_around, told_blocks, is_vacant, can_stand, blocks_of_slot, vacant_blocks, has_room}
-pub use Rattle.promise_core.proofs.Causes.{flat_in, in_flat, range_in}
 use Rattle.promise_core.proofs.Grids.{around_is}
 use Rattle.promise_kept.specs.Meets.{told_cache, holdings_of}
 use Rattle.promise_kept.proofs.Seen.{holdings_reaped}
@@ -46,14 +47,6 @@ overlap_shares a b e apart =
     let high : b.first < a.first + 2 ^ a.order = ltb-true b.first (a.first + 2 ^ a.order) p.1 in
     ⊎_elim (λ less. apart b.first (omega arith, high) (omega arith, omega (arith, pow_pos b.order)))
     (λ more. apart a.first (omega arith, omega (arith, pow_pos a.order)) (more, low)) (cases_lt a.first b.first)
-
-pub order_in_listed : (bs : List Block) (f k : ℕ) → order_in bs f ≡ Some k → IsIn (block f k) bs
-order_in_listed [] f k e = absurd (cc)
-order_in_listed (b ∷ bs) f k e = go (eqb b.first f) refl e (order_in_listed bs f k)
-  where
-    go : (t : Bool) → eqb b.first f ≡ t → (if t then Some b.order else order_in bs f) ≡ Some k → (order_in bs f ≡ Some k → IsIn (block f k) bs) → IsIn (block f k) (b ∷ bs)
-    go true is e later = let first : b.first ≡ f = eqb-true b.first f is in let same : b.order ≡ k = cc in inl (ap (λ x. block x b.order) first ∙ ap (λ x. block f x) same)
-    go false is e later = inr (later e)
 
 -- Slabs of live objects
 
@@ -95,8 +88,8 @@ pub taken_seen : {limit : ℕ} (order : ℕ) (m : Machine) (b : Block) → IsWel
 unfolding model.taken_blocks
 taken_seen order m b w i = elim (in_append b m.blocks (flat_map slabs_in_use m.caches) (subst (λ bs. IsIn b bs) (seen_parts m) i)) [
   | inl j ↦ in_left b m.blocks (flat_map slab_blocks m.caches) j
-  | inr j ↦ let c = flat_in slabs_in_use b m.caches j in
-      in_right b m.blocks (flat_map slab_blocks m.caches) (in_flat slab_blocks b c.0 m.caches c.1 (in_use_listed order m b c.0 w c.1 c.2))
+  | inr j ↦ let c = flat_map_in slabs_in_use b m.caches j in
+      in_right b m.blocks (flat_map slab_blocks m.caches) (in_flat_map slab_blocks b c.0 m.caches c.1 (in_use_listed order m b c.0 w c.1 c.2))
 ]
 
 -- a slab that is not empty has a live object
@@ -111,7 +104,7 @@ in_use order m b c w in_c i =
     let s = map_in (slab_block c) b (filter (λ s. not (is_empty s)) c.slabs) i in
     let f = filter_in (λ s. not (is_empty s)) s.0 c.slabs s.1 in
     let o = one_live c s.0 0 s.0.live (not-false _ (not-true _ f.1)) in
-    let in_o : IsIn o.0 (live_objects c) = in_flat (live_in c) o.0 s.0 c.slabs f.0 o.1 in
+    let in_o : IsIn o.0 (live_objects c) = in_flat_map (live_in c) o.0 s.0 c.slabs f.0 o.1 in
     let is : slab_around (told_cache c) o.0.place ≡ b = slab_seen order m c o.0 w in_c in_o ∙ (ap (λ x. slab_block c x) o.2 ∙ s.2) in
     subst (λ x. IsIn x (map (slab_around (told_cache c)) (map (λ o. o.place) (live_objects c)))) is
     (in_map (slab_around (told_cache c)) o.0.place (map (λ o. o.place) (live_objects c)) (in_map (λ o. o.place) o.0 (live_objects c) in_o))
@@ -122,9 +115,9 @@ unfolding model.taken_blocks reaped
 taken_is_seen order m b w i = subst (λ bs. IsIn b bs) (sym (seen_parts m)) (elim (in_append b m.blocks (flat_map slab_blocks (map without_empty m.caches)) i) [
   | inl j ↦ in_left b m.blocks (flat_map slabs_in_use m.caches) j
   | inr j ↦
-      let d = flat_in slab_blocks b (map without_empty m.caches) j in
+      let d = flat_map_in slab_blocks b (map without_empty m.caches) j in
       let c = map_in without_empty d.0 m.caches d.1 in
-      in_right b m.blocks (flat_map slabs_in_use m.caches) (in_flat slabs_in_use b c.0 m.caches c.1 (in_use order m b c.0 w c.1 (subst (λ x. IsIn b (slab_blocks x)) (sym c.2) d.2)))
+      in_right b m.blocks (flat_map slabs_in_use m.caches) (in_flat_map slabs_in_use b c.0 m.caches c.1 (in_use order m b c.0 w c.1 (subst (λ x. IsIn b (slab_blocks x)) (sym c.2) d.2)))
 ])
 
 -- What is chosen
@@ -166,7 +159,7 @@ module _ (order k : ℕ) (of_slot : k ≤ order) where
     slot = any_in (λ v. eqb v (i * 2 ^ k / 2 ^ order)) u m.slots in_u (eq-eqb u (i * 2 ^ k / 2 ^ order) (sym (slot_is u i low high)));
     untaken = λ x has t.
         let b : Block = block t.0 t.1 in
-        let seen : IsIn b (told_blocks (holdings_of m)) = taken_is_seen order m b w (order_in_listed (model.taken_blocks (reaped m)) t.0 t.1 t.2) in
+        let seen : IsIn b (told_blocks (holdings_of m)) = taken_is_seen order m b w (order_in_is (model.taken_blocks (reaped m)) t.0 t.1 t.2) in
         false≢true (sym (each_in (λ c. overlaps (block (i * 2 ^ k) k) c ≡ false) b (told_blocks (holdings_of m)) (none_any (overlaps (block (i * 2 ^ k) k)) (told_blocks (holdings_of m)) (not-true _ e)) seen)
         ∙ overlap_from (block (i * 2 ^ k) k) b x has t.3);
   }
@@ -183,7 +176,7 @@ unserved : {limit : ℕ} (order k : ℕ) (m : Machine) → IsWellFormed limit or
 unfolding vacant_blocks choice reaped holdings_of
 unserved order k m w of_slot none = none_listed _ (λ b i.
     let f = filter_in (is_vacant (holdings_of m)) b (flat_map (blocks_of_slot order k) m.slots) i in
-    let u = flat_in (blocks_of_slot order k) b m.slots f.0 in
+    let u = flat_map_in (blocks_of_slot order k) b m.slots f.0 in
     let q = map_in (λ i. block (i * 2 ^ k) k) b (range_with_len (u.0 * 2 ^ (order - k)) (2 ^ (order - k))) u.2 in
     let r = range_in q.0 (u.0 * 2 ^ (order - k)) (2 ^ (order - k)) q.1 in
     let v = vacant_is order k of_slot m u.0 q.0 w u.1 r.0 r.1 (ap (is_vacant (holdings_of m)) q.2 ∙ f.1) in

@@ -31,7 +31,7 @@ use Rattle.promise_kept.proofs.Cells.{all_kept, formed, without_some, without_ma
 use Rattle.promise_kept.proofs.Reaped.{object_in_slab}
 use Rattle.promise_kept.proofs.Live.{IsLivePlace}
 use Rattle.promise_kept.proofs.Flag.{replaced_is, replaced_one, replaced_other, IsOne, one_place, live_other, WasObject, was_object, caches_told}
-use Rattle.promise_kept.proofs.Known.{seen, cache_seen, IsLiveIn, live_told, told_live}
+use Rattle.promise_kept.proofs.Known.{seen, cache_seen, live_told, told_live, live_replaced}
 use Rattle.promise_kept.proofs.Give.{none_any}
 use Rattle.promise_kept.proofs.TakePlaces.{place_put}
 use Rattle.promise_kept.proofs.Beside.{is_slab, slab_here}
@@ -77,27 +77,8 @@ module _ {limit : ℕ} (order : ℕ) (c : Cache) (s : Slab) (i : ℕ) (m : Machi
   still_live : (p : ℕ) (holder : Holder) → is_object_live (holdings_of m) holder p ≡ true → is_object_live (holdings_of n) holder p ≡ true
   unfolding holdings_of
   still_live p Holder.Page e = e
-  still_live p (Holder.Object number first) e = told_live n number first p (go (live_told m number first p e))
-    where
-      go : IsLiveIn number first m.caches → IsLiveIn number first n.caches
-      go k = by (cases_eq k.cache.number c.number)
-        where
-          by : (k.cache.number ≡ c.number) ⊎ (k.cache.number ≡ c.number → ⊥) → IsLiveIn number first n.caches
-          by (inl e) =
-              let same : k.cache ≡ c = one_key (λ x. x.number) 0 m.caches k.cache c w.caches_rise k.cache_in in_c e in
-              let was : IsLivePlace c first = subst (λ x. IsLivePlace x first) same k.place in
-              record {
-                cache = d;
-                cache_in = d_in;
-                number_is = sym e ∙ k.number_is;
-                place = live_other limit order c s i true m w in_c in_s lt first was (λ f. not_live (subst (IsLivePlace c) f was));
-              }
-          by (inr ne) = record {
-            cache = k.cache;
-            cache_in = replaced_other (λ x. x.number) d k.cache m.caches k.cache_in (ne_eqb k.cache.number c.number ne);
-            number_is = k.number_is;
-            place = k.place;
-          }
+  still_live p (Holder.Object number first) e = told_live n number first p (live_replaced c d m w.caches_rise in_c refl number first (live_told m number first p e)
+      (λ _ was. live_other limit order c s i true m w in_c in_s lt first was (λ f. not_live (subst (IsLivePlace c) f was))))
 
   -- the cells of what is in other slabs, or an object of this one, are left
   page_left : (p : ℕ) → in_slab m p ≡ false → left_beside (told_cache c) place p Holder.Page ≡ false

@@ -6,9 +6,8 @@ use Rattle.model_core.specs.Machine.{Slab, Cache, Machine, put_rising, layout}
 use Rattle.model_core.specs.Slabs.{live_objects, with_cache, with_slab, with_live}
 use Rattle.model_core.specs.WellFormed.{RisesFrom, IsWellFormed}
 use Rattle.model_core.specs.Elements.{IsIn}
-use Rattle.model_core.proofs.Lists.{PutIn, put_in, put_rises, each_from, in_left, in_right}
+use Rattle.model_core.proofs.Lists.{PutIn, put_in, put_rises, each_from, in_left, in_right, in_append}
 use Rattle.model_core.proofs.CacheSteps.{live_kept}
-use Rattle.model_core.proofs.Objects.{in_append}
 use Rattle.promise_kept.proofs.Live.{same_members, live_rises, IsLivePlace, live_place, place_listed}
 use Rattle.promise_core.proofs.Steps.{in_put}
 use Rattle.promise_kept.proofs.Flag.{replaced_one, live_after, live_other, live_this}

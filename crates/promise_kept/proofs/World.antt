@@ -25,7 +25,7 @@ use Rattle.words_core.specs.declared.reply.Refusal.{Refusal}
 use Rattle.words_core.specs.declared.reply.Reply.{Reply}
 use Rattle.world_core.specs.PrivateStep.{command_step}
 use Rattle.world_core.specs.World.{World, given_up}
-use Rattle.world_core.proofs.MachineLists.{slice_get-set_same, slice_get-set_other}
+use Rattle.world_core.proofs.MachineLists.{slice_get-set_same, slice_get-set_other, slice_set-same}
 use Rattle.promise_core.specs.declared.promise.Promise.{Promise}
 use Rattle.promise_core.specs.Holdings.{Holdings}
 use Rattle.promise_core.specs.Holdings as seen
@@ -50,11 +50,6 @@ none_beside [] ys t e is = refl
 none_beside (x ∷ xs) [] t e is = absurd (omega (arith, e))
 none_beside (x ∷ xs) (z ∷ ys) zero e is = absurd (cc)
 none_beside (x ∷ xs) (z ∷ ys) (suc t) e is = none_beside xs ys t (omega (arith, e)) is
-
-set_same : {A : Type 0} (xs : List A) (t : ℕ) (x : A) → slice_get xs t ≡ Some x → slice_set xs t x ≡ xs
-set_same [] t x e = refl
-set_same (y ∷ xs) zero x e = let same : y ≡ x = cc in ap (λ z. z ∷ xs) (sym same)
-set_same (y ∷ xs) (suc t) x e = ap (λ zs. y ∷ zs) (set_same xs t x e)
 
 some_same : {A : Type 0} {x y : A} → Some x ≡ Some y → x ≡ y
 some_same e = cc
@@ -164,7 +159,7 @@ module _ (limit order : ℕ) (w : World) (states : List State) where
       after = now;
       is_allowed = allowed_if event reply now t s s name is_s all stays
           ∙ (ap (λ os. Ok (record { limit = limit; order = order; owners = os; states = slice_set states t s })) owned
-          ∙ ap (λ ss. Ok (record { limit = limit; order = order; owners = w.owners; states = ss })) (set_same states t s is_s));
+          ∙ ap (λ ss. Ok (record { limit = limit; order = order; owners = w.owners; states = ss })) (slice_set-same states t s is_s));
       meets = h;
       others = λ v other. refl;
     }
@@ -362,7 +357,7 @@ module _ (limit order : ℕ) (w : World) (states : List State) where
             refl refl refl refl refl refl
             (and_from _ _ (and_from (eqb t t) (eqb u u) (eq-eqb t t refl) (eq-eqb u u refl)) (ap (λ o. option_map_or is_none o false) free)) refl refl refl) refl;
         meets = subst (λ ms. MeetsWorld limit order (record { limit = limit; order = order; owners = moved u j; states = slice_set states t s }) (record { owners = moved u j; machines = ms }))
-            (set_same w.machines t m is)
+            (slice_set-same w.machines t m is)
             (step_meets t s m m (moved u j) is met formed (length-set (map (given_up (is_owner t u)) w.owners) j (Some (owned_by t u)) ∙ length-map w.owners (given_up (is_owner t u)))
             (moved_mine u j free e) (moved_others u j free));
         others = others_stay (On.Admin (Do.Move t u)) t s refl;

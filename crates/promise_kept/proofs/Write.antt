@@ -8,6 +8,7 @@ use Rattle.model_core.specs.Machine.{Machine}
 use Rattle.model_core.specs.Reach.{in_reach}
 use Rattle.model_core.specs.Operations.{Step, written, write_step}
 use Rattle.model_core.specs.WellFormed.{IsWellFormed}
+use Rattle.model_core.proofs.Lists.{none_of, some_of}
 use Rattle.words_core.specs.declared.event.Event.TheVariants as On
 use Rattle.words_core.specs.declared.event.Command.TheVariants as Asked
 use Rattle.words_core.specs.declared.reply.Addressee.TheVariants as To
@@ -21,14 +22,6 @@ use Rattle.promise_kept.specs.Meets.{Meets, IsKeptBy, IsPromiseKept}
 use Rattle.promise_kept.proofs.Seen.{reach_same}
 use Rattle.promise_kept.proofs.Cells.{all_kept, formed}
 use Rattle.promise_kept.proofs.Range.{range_meets}
-
-pub some_of : {X : Type 0} (o : Option X) → is_some o ≡ true → (x : X) × (o ≡ Some x)
-some_of None e = absurd (false≢true e)
-some_of (Some x) e = (x, refl)
-
-pub none_of : {X : Type 0} (o : Option X) → is_some o ≡ false → o ≡ None
-none_of None e = refl
-none_of (Some x) e = absurd (false≢true (sym e))
 
 -- what holds a range is seen where the range is in reach
 pub reach_seen : (order : ℕ) (m : Machine) (s : State) (place len : ℕ) → Meets order s m → is_some (holder_of s.has place len) ≡ in_reach m place len

@@ -1,7 +1,7 @@
 -- A slab made on a block that was free.
 use Rattle.std.proofs.Common.{◌≡◌, ◌≢◌, ◌↔◌, ℕ, ◌+◌, ◌-◌, ◌*◌, ◌/◌, ◌%◌, ◌^◌, ◌<◌, ◌≤◌, Bool, true, false, zero, suc, cond, ltb, leb, length, Some, None, IsSome, refl, sym, ap, ◌∙◌, subst, ⊎_elim, arith}
 use Rattle.std.specs.Prelude.{Option, is_some, ◌&&◌}
-use Rattle.std.proofs.lemmas.Bool.{cases_eq, false≢true, eq-eqb, ne_eqb, and_parts, leb-true, ltb-true}
+use Rattle.std.proofs.lemmas.Bool.{cases_eq, false≢true, eq-eqb, ne_eqb, and_parts, leb-true, ltb-true, false_from_ne_true}
 use Rattle.std.proofs.lemmas.List.{length-set, get_or-set_same, get_or-set_other}
 use Rattle.std.proofs.lemmas.Nat.{pow_pos, div-add-mod', mod_below}
 use Rattle.std.proofs.Math.Nat.{mul-le-mul_right, lt-div-mul-add}
@@ -27,11 +27,12 @@ use Rattle.machine_changes.specs.Slots.{HoldTogether}
 use Rattle.machine_changes.specs.Steady.{IsSteady}
 use Rattle.machine_changes.specs.Changes.{IsGrown}
 use Rattle.machine_changes.proofs.Lookups.{some_none, some_same}
-use Rattle.machine_changes.proofs.Facts.{under_is, one_stays, record_inside, is_not}
+use Rattle.machine_changes.proofs.Facts.{under_is, one_stays, record_inside}
 use Rattle.machine_changes.proofs.Grown.{none_set, grown_shows}
 use Rattle.machine_changes.proofs.Steady.{within, in_table, tenant_is}
 use Rattle.model_core.proofs.FreeBlocks.{reserved_is_untaken}
 use Rattle.model_core.proofs.Chosen.{choices_meet}
+use Rattle.model_core.proofs.Lists.{some_of}
 use Rattle.machine_changes.proofs.Taken.{taken_meets}
 use Rattle.slab_core.specs.Calls.{IsConstructed}
 use Rattle.slab_core.specs.Room.{HasFreeBlock}
@@ -43,10 +44,6 @@ use Rattle.slab_core.proofs.ReturnCache.{among_all}
 no_place : (o : Option (ℕ × ℕ)) → ((head key : ℕ) → o ≡ Some (head, key) → ⊥) → o ≡ None
 no_place None none = refl
 no_place (Some p) none = absurd (none p.0 p.1 refl)
-
-pub something : {A : Type 0} (o : Option A) → is_some o ≡ true → (x : A) × (o ≡ Some x)
-something None e = absurd (false≢true e)
-something (Some x) e = (x, refl)
 
 -- a slab is made exactly where a block is free for it
 pub none_free : (b : buddies.Content) (t k : ℕ) → IsWithout b.top (buddies.is_held (buddies.holding_of t b)) (buddies.taken_of (buddies.holding_of t b)) k
@@ -156,7 +153,7 @@ module _ {r : spaces.Content} {b : buddies.Content} {s : Content} {t c : ℕ} {c
   frame_within : f < length (buddies.holding_of t b).taken
   frame_within =
       let top = b.top in
-      let there = something (buddies.superblock_at (buddies.holding_of t b) (f / 2 ^ b.top)) (free.1 f (has_first (block f k))).0 in
+      let there = some_of (buddies.superblock_at (buddies.holding_of t b) (f / 2 ^ b.top)) (free.1 f (has_first (block f k))).0 in
       let slot : f / 2 ^ b.top < b.superblocks = subst (λ x. f / 2 ^ b.top < x) (chosen.parts.buddy.sizes.slots t known) (within _ _ there.0 there.1) in
       let below : f < f / 2 ^ b.top * 2 ^ b.top + 2 ^ b.top = lt-div-mul-add (pow_pos b.top) in
       omega (arith, below, mul-le-mul_right (2 ^ b.top) slot, chosen.parts.buddy.sizes.taken t known)
@@ -319,7 +316,7 @@ module _ {r : spaces.Content} {b : buddies.Content} {s : Content} {t c : ℕ} {c
         (λ i less. subst (λ u. is_live r' u other (kept_at s.kept x) key i ≡ is_live r u other (kept_at s.kept x) key i) (sym e)
         (one_stays r r' t other (kept_at s.kept x) key i
         (λ _ j low. ap byte_or_zero (built.bytes (4096 * key + 4064 + j)
-        (is_not (is_inside (4096 * key + 4064 + j) f cache) (λ inside.
+        (false_from_ne_true (is_inside (4096 * key + 4064 + j) f cache) (λ inside.
         untaken ((4096 * key + 4064 + j) / 4096) (in_block-true (4096 * key + 4064 + j) (block f k) inside) (
           key,
           (layout_numbers there.1).order,

@@ -21,9 +21,6 @@ module _ (r r' : spaces.Content) (b : buddies.Content) (s s' : Content) (t c f n
   pub tenant_now : IsTenant s' t
   tenant_now = subst (λ (x : Content). IsTenant x t) (sym k.turned.tables) (let all = k.agree.tenants in let less = k.tenant in omega arith)
 
-  pub cached_now : cache_at s' t c ≡ Some cache
-  cached_now = ap (λ (x : Content). cache_at x t c) k.turned.tables ∙ k.slab.cached
-
   pub node_now : n < length s'.lists.places
   node_now = subst (λ (x : Content). n < length x.lists.places) (sym k.turned.tables) (node_within r s t c f n cache k.slab)
 

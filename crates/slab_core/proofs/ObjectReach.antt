@@ -2,7 +2,7 @@
 use Rattle.std.proofs.Common.{◌≡◌, ℕ, ◌+◌, ◌-◌, ◌*◌, ◌/◌, ◌^◌, ◌<◌, ◌≤◌, true, false, Some, refl, sym, ap, ◌∙◌, subst, arith}
 use Rattle.std.specs.Prelude.{◌&&◌, nat_lt}
 use Rattle.std.specs.List.{list_any}
-use Rattle.std.proofs.lemmas.Bool.{false≢true, and_parts, and_from, lt-ltb, ltb-true}
+use Rattle.std.proofs.lemmas.Bool.{false≢true, and_parts, and_from, lt-ltb, ltb-true, false_from_ne_true}
 use Rattle.std.proofs.lemmas.Nat.{row_fits}
 use Rattle.model_core.specs.Blocks.{block, HasFrame, IsTaken}
 use Rattle.model_core.specs.Layouts.{object_place}
@@ -17,7 +17,7 @@ use Rattle.machine_changes.specs.Shows.{node_of, has_slab, is_live, IsSlab, Show
 use Rattle.machine_changes.specs.Steady.{IsSteady}
 use Rattle.machine_changes.specs.Changes.{Found, found}
 use Rattle.machine_changes.specs.Objects.{IsLiveObject, HasRange, HasNone}
-use Rattle.machine_changes.proofs.Facts.{is_not, has_it, one_slab}
+use Rattle.machine_changes.proofs.Facts.{has_it, one_slab}
 use Rattle.machine_changes.proofs.Objects.{fit_of}
 use Rattle.machine_changes.proofs.PageReach.{object_tells, object_from}
 use Rattle.slab_core.proofs.ObjectFinding.{in_frame}
@@ -116,4 +116,4 @@ module _ (r : spaces.Content) (b : buddies.Content) (s : Content) (t place len :
       object_tells r b s t place len m st h (ltb-true 0 len both.0) both.1
 
   pub in_none : HasNone r s t place len → (nat_lt 0 len && list_any (within_objects place len) m.caches) ≡ false
-  in_none none = is_not _ (λ e. let there = from_machine e in none there.0 there.1)
+  in_none none = false_from_ne_true _ (λ e. let there = from_machine e in none there.0 there.1)

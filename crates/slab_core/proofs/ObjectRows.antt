@@ -32,9 +32,6 @@ same_row a b c d e = cc
 
 module _ (r : spaces.Content) (b : buddies.Content) (s : Content) (t c : ℕ) (m : Machine) (cache : own.Cache) (x : Cache) (w : IsSlabs s) (hold : ListsHold s)
     (a : Agree r b s) (st : IsSteady r b s t) (h : ShowsMachine r b s t m) (cached : cache_at s t c ≡ Some cache) (ex : cache_of m c ≡ Some x) where
-  live_at : ℕ → ℕ
-  live_at n = (kept_at s.kept n).live
-
   -- the slabs of a kind
   pub kind_counted : (kind : ℕ) → kind < 3 → length (keys_of s.lists.places (head_of t c kind)) ≡ length (filter (is_kind kind) x.slabs)
   kind_counted kind less = ap length (hold r b t c kind m x a st h ex less) ∙ length-map (filter (is_kind kind) x.slabs) (λ y. y.first)

@@ -24,11 +24,12 @@ use Rattle.machine_changes.proofs.Lookups.{some_none}
 use Rattle.model_core.proofs.Vacant.{IsVacant, some_choice}
 use Rattle.machine_changes.proofs.Steady.{within}
 use Rattle.model_core.proofs.FreeBlocks.{reserved_is_untaken}
+use Rattle.model_core.proofs.Lists.{some_of}
 use Rattle.machine_changes.proofs.Reserved.{reserved_shows}
+use Rattle.machine_changes.proofs.PageHoldings.{same_space}
 use Rattle.slab_core.specs.Room.{HasFreeBlock}
 use Rattle.slab_core.specs.Lending.{IsPageAt}
-use Rattle.slab_core.proofs.GrowOne.{something, choice_some, choice_none}
-use Rattle.machine_changes.proofs.PageHoldings.{same_space}
+use Rattle.slab_core.proofs.GrowOne.{choice_some, choice_none}
 use Rattle.slab_core.proofs.ReturnMany.{spares_none}
 
 no_order : (o : Option ℕ) → ((k : ℕ) → o ≡ Some k → ⊥) → o ≡ None
@@ -45,7 +46,7 @@ module _ (b : buddies.Content) (t : ℕ) where
   -- a held slot is one of the table
   held_within : (u : ℕ) → held u ≡ true → u < length (buddies.holding_of t b).slots
   held_within u e =
-      let there = something (buddies.superblock_at (buddies.holding_of t b) u) e in within (buddies.holding_of t b).slots u there.0 there.1
+      let there = some_of (buddies.superblock_at (buddies.holding_of t b) u) e in within (buddies.holding_of t b).slots u there.0 there.1
 
   -- where a block is vacant, some free block is large enough
   pub vacant_free : (f k : ℕ) → IsVacant b.top held taken f k → HasFreeBlock b t k

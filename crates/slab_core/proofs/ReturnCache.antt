@@ -2,7 +2,7 @@
 use Rattle.std.proofs.Common.{◌≡◌, ◌≢◌, ℕ, ◌+◌, ◌/◌, ◌%◌, ◌<◌, Bool, true, false, not, cond, eqb, List, [], ◌∷◌, ◌++◌, map, length, append-nil, Some, None, refl, sym, ap, ◌∙◌, subst, inl, inr, ⊎_elim, arith}
 use Rattle.std.specs.Prelude.{Option, option_map, filter, flat_map, Ok, ◌&&◌, if◌then◌else◌}
 use Rattle.std.specs.List.{list_any}
-use Rattle.std.proofs.lemmas.Bool.{cases_eq, cases_Bool, eqb-true, eq-eqb, ne_eqb, not-false}
+use Rattle.std.proofs.lemmas.Bool.{cases_eq, cases_Bool, eqb-true, eq-eqb, ne_eqb, not-false, false_from_ne_true}
 use Rattle.std.proofs.lemmas.List.{set-get_or}
 use Rattle.model_core.specs.Blocks.{Block}
 use Rattle.model_core.specs.Machine.{Slab, Cache, Machine, slab_block, slab_blocks}
@@ -25,7 +25,7 @@ use Rattle.machine_changes.specs.Keeps.{Spares}
 use Rattle.machine_changes.specs.Steady.{IsSteady}
 use Rattle.machine_changes.specs.Changes.{IsReturned, kept_slabs, gone_blocks, returned}
 use Rattle.machine_changes.proofs.Lookups.{some_none, some_same, at, at_here, at_past, in_found, found_key, found_mapped, found_kept}
-use Rattle.machine_changes.proofs.Facts.{is_not, cache_shown, slab_of_machine, none_mapped}
+use Rattle.machine_changes.proofs.Facts.{cache_shown, slab_of_machine, none_mapped}
 use Rattle.machine_changes.proofs.Steady.{in_table, placed_as}
 use Rattle.machine_changes.proofs.ByKind.{to_list, from_list}
 use Rattle.machine_changes.proofs.Returned.{returned_shows}
@@ -169,7 +169,7 @@ module _ (r : spaces.Content) (b : buddies.Content) (s : Content) (t c : ℕ) (c
         (ap (λ n. (kept_at s.kept n).live) (sym node) ∙ any.empty)
 
     others : (z : Cache) (y : Slab) → IsIn z m.caches → z.number ≢ c → IsIn y z.slabs → gone y.first ≡ false
-    others z y i differ j = is_not (gone y.first) (λ e.
+    others z y i differ j = false_from_ne_true (gone y.first) (λ e.
         let ez : cache_of m z.number ≡ Some z = in_found (λ v. v.number) 0 z m.caches h.caches_rise i in
         let is = slab_of_machine r b s t m h z.number y.first z y ez (in_found (λ v. v.first) 0 y z.slabs (h.slabs_rise z.number z ez) j) in
         let p = placed_as r s t z.number y.first is.node is.kept is.slab in

@@ -1,7 +1,7 @@
 -- Slabs without live objects given back one after the other, until none is left.
 use Rattle.std.proofs.Common.{◌≡◌, ℕ, ◌+◌, ◌/◌, ◌%◌, ◌<◌, Bool, true, false, cond, eqb, ◌||◌, length, Some, None, refl, sym, ap, ◌∙◌, subst, ◌⊎◌, inl, inr, ⊎_elim, arith}
 use Rattle.std.specs.Prelude.{Option, ◌==◌, ◌&&◌}
-use Rattle.std.proofs.lemmas.Bool.{cases_eq, cases_lt, false≢true, eqb-true, eq-eqb, and_parts, and_from}
+use Rattle.std.proofs.lemmas.Bool.{cases_eq, cases_lt, false≢true, eqb-true, eq-eqb, and_parts, and_from, false_from_ne_true}
 use Rattle.std.proofs.lemmas.List.{set-set, set-get_or, set_past, get_or-set_same, get_or-set_other}
 use Rattle.model_core.specs.declared.limits.TheConstants.{MOST_CACHES}
 use Rattle.klist_core.specs.Places.{place_at, IsEmpty}
@@ -19,7 +19,7 @@ use Rattle.space_core.specs.Laws.{IsOneToOne}
 use Rattle.space_core.proofs.Reading.{same_twice}
 use Rattle.machine_changes.specs.Changes.{IsReturned}
 use Rattle.machine_changes.proofs.Lookups.{some_none, some_same}
-use Rattle.machine_changes.proofs.Facts.{is_not, slab_of_machine}
+use Rattle.machine_changes.proofs.Facts.{slab_of_machine}
 use Rattle.machine_changes.proofs.Flags.{any_counts}
 use Rattle.model_core.specs.Machine.{Slab, Cache, Machine}
 use Rattle.model_core.specs.Slabs.{cache_of, slab_of, is_empty}
@@ -27,9 +27,9 @@ use Rattle.machine_changes.proofs.Returned.{node_same}
 use Rattle.machine_changes.proofs.Untouched
 use Rattle.machine_changes.proofs.Steady.{IsInTable, in_table, placed_as, slab_from, slab_listed, counted}
 use Rattle.machine_changes.proofs.Twice.{twice}
+use Rattle.machine_changes.proofs.PageHoldings.{same_space}
 use Rattle.slab_core.specs.Calls.{is_of_these, is_idle, idle_at}
 use Rattle.slab_core.proofs.BuildCreate.{bare_without}
-use Rattle.machine_changes.proofs.PageHoldings.{same_space}
 use Rattle.slab_core.proofs.Building.{banks_twice, spare_twice}
 
 or_cases : (v w : Bool) → (v || w) ≡ true → (v ≡ true) ⊎ (w ≡ true)
@@ -199,7 +199,7 @@ module _ (these : ℕ → Bool) (r r' : spaces.Content) (b b' : buddies.Content)
     where
       same : (f : ℕ) (v : Bool) → g.gone f ≡ v → g.gone f ≡ idle_at these r s t f
       same f true e = e ∙ sym (g.only f e)
-      same f false e = e ∙ sym (is_not (idle_at these r s t f) (λ idle.
+      same f false e = e ∙ sym (false_from_ne_true (idle_at these r s t f) (λ idle.
           let i = idle_tells these r s t f idle in
           let stays : place_at s'.lists.places i.node ≡ Some (i.head, i.key) =
           k.lists f i.node i.under ∙ ap (λ v. cond v None (place_at s.lists.places i.node)) e ∙ i.place in

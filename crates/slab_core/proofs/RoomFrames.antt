@@ -50,32 +50,6 @@ module _ (r : spaces.Content) (b : buddies.Content) (s : Content) (t : ℕ) (st 
         within = subst (λ j. HasFrame (block f j) x) order has;
       }
 
-  -- where no taken block begins at a border, the frame is not taken, and the next is a border
-  module _ (f : ℕ) (none : buddies.taken_of (buddies.holding_of t b) f ≡ None) (border : IsBorder b t f) where
-    nothing_begins : (g j : ℕ) → buddies.taken_of (buddies.holding_of t b) g ≡ Some j → f ≤ g → g ≤ f → ⊥
-    nothing_begins g j is low high =
-        let same : g ≡ f = omega arith in
-        some_none (sym is ∙ ap (buddies.taken_of (buddies.holding_of t b)) same ∙ none)
-
-    border_next : IsBorder b t (f + 1)
-    border_next g j is less = ⊎_elim
-        (λ before. let ends = border g j is before in omega arith)
-        (λ from. absurd (nothing_begins g j is from (omega arith)))
-        (cases_lt g f)
-
-    untaken_at : IsUnusedFrame r b s t f
-    untaken_at (g, j, is, has) = ⊎_elim
-        (λ before. let ends = border g j is before in let high = has.1 in absurd (omega arith))
-        (λ from. absurd (nothing_begins g j is from has.0))
-        (cases_lt g f)
-
-    pub unused_one : IsUnusedTo r b s t f (f + 1)
-    unused_one = record {
-      some = omega arith;
-      unused = λ x from to. let same : f ≡ x = omega arith in subst (IsUnusedFrame r b s t) same untaken_at;
-      border = border_next;
-    }
-
   -- a taken block that begins at a border ends at one
   module _ (f k : ℕ) (taken : buddies.taken_of (buddies.holding_of t b) f ≡ Some k) (border : IsBorder b t f) where
     border_past : IsBorder b t (f + 2 ^ k)

@@ -7,10 +7,10 @@ use Rattle.model_core.specs.Blocks.{block}
 use Rattle.model_core.specs.Choice.{is_free, count_below}
 use Rattle.model_core.proofs.Choosing.{free_is_tested}
 use Rattle.model_core.proofs.Counting.{bit}
+use Rattle.model_core.proofs.Lists.{some_of}
 use Rattle.buddy_core.specs.Content as buddies
 use Rattle.buddy_core.proofs.Counting.{count_some}
 use Rattle.machine_changes.proofs.Steady.{within}
-use Rattle.slab_core.proofs.GrowOne.{something}
 use Rattle.slab_core.specs.Room.{HasFreeBlock}
 
 -- where some are counted, one passes
@@ -26,7 +26,7 @@ some_counted p (suc n) some = go (p n) refl some (some_counted p n)
 pub held_within : (b : buddies.Content) (t u : ℕ) → buddies.IsSized b → t < length b.tenants
     → buddies.is_held (buddies.holding_of t b) u ≡ true → u < b.superblocks
 held_within b t u sized lt held =
-    let is = something (buddies.superblock_at (buddies.holding_of t b) u) held in
+    let is = some_of (buddies.superblock_at (buddies.holding_of t b) u) held in
     let less : u < length (buddies.holding_of t b).slots = within (buddies.holding_of t b).slots u is.0 is.1 in
     omega (arith, less, sized.slots t lt)
 

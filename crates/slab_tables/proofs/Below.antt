@@ -3,8 +3,8 @@ use Rattle.std.proofs.Common.{◌≡◌, ℕ, ◌*◌, ◌/◌, ◌%◌, ◌<◌
 use Rattle.std.proofs.lemmas.Bool.{cases_eq}
 use Rattle.std.proofs.lemmas.List.{length-set, length-replicate, get_or-set_same, get_or-set_other}
 use Rattle.model_core.specs.declared.limits.TheConstants.{MOST_CACHES}
+use Rattle.model_core.proofs.Lists.{everywhere}
 use Rattle.slab_tables.specs.declared.cache.Cache.{Cache}
-use Rattle.klist_core.proofs.Fresh.{same_everywhere}
 use Rattle.slab_tables.specs.Content.{AreBelow, cache_in, index_of_cache}
 
 -- one cache is replaced: by none, where the number is not above it
@@ -64,8 +64,8 @@ below_more cs bs t c b o lt over from few a =
 pub below_opening : (tenants : ℕ) → AreBelow (replicate (MOST_CACHES * tenants) None) (replicate tenants 0)
 below_opening tenants = record {
   tenants = length-replicate (MOST_CACHES * tenants) uncached ∙ ap (λ n. MOST_CACHES * n) (sym (length-replicate tenants zero_of));
-  few = λ t. let e = same_everywhere zero_of tenants t in omega arith;
-  none = λ n le. same_everywhere uncached (MOST_CACHES * tenants) n;
+  few = λ t. let e = everywhere zero_of tenants t in omega arith;
+  none = λ n le. everywhere uncached (MOST_CACHES * tenants) n;
 }
   where
     uncached : Option Cache

@@ -6,12 +6,12 @@ use Rattle.std.proofs.lemmas.List.{length-set, length-replicate, get_or-set_same
 use Rattle.klist_core.specs.Places.{place_at}
 use Rattle.klist_core.proofs.Tables.{placed_within}
 use Rattle.model_core.specs.declared.limits.TheConstants.{MOST_CACHES, MOST_ORDER, MOST_SUPERBLOCKS, MOST_TENANTS}
+use Rattle.model_core.proofs.Lists.{everywhere}
 use Rattle.slab_tables.specs.declared.cache.Cache.{Cache}
 use Rattle.slab_tables.specs.declared.cache.Kept.{Kept}
 use Rattle.slab_tables.specs.Content.{Content, IsSlabs, IsListed, IsTableCache, IsTenant, IsPlacedIn, blank, kept_at, cache_in, cache_at, index_of_cache, head_of, layout_numbers, kind_of, is_of_index, live_total, empty_tables}
 use Rattle.slab_tables.specs.Changes.{fresh_kept, made_more, with_new_slab, with_count, with_outside, without_slab, with_cache}
 use Rattle.slab_tables.proofs.Totals.{part, total_set, part_within, total_none, total_few}
-use Rattle.klist_core.proofs.Fresh.{same_everywhere}
 use Rattle.slab_tables.proofs.Reading.{same_cache, same_place, IsCached, cached, cache_within, placed_at, head_parts, listed, few_live, kind_below, kind_fresh}
 
 -- a slab in this place, of which this is kept, is in order
@@ -292,10 +292,10 @@ slabs_opening top superblocks tenants order few_superblocks few_tenants = record
   few = omega (arith, length-replicate (MOST_CACHES * tenants) uncached);
   heads = omega (arith, length-replicate (MOST_CACHES * tenants) uncached);
   totals = length-replicate (MOST_CACHES * tenants) 0 ∙ sym (length-replicate (MOST_CACHES * tenants) uncached);
-  fits = λ n c e. absurd (let f : ◌≡◌ {A = Option Cache} None (Some c) = sym (same_everywhere uncached (MOST_CACHES * tenants) n) ∙ e in cc);
-  standing = λ node head key e. absurd (let f : ◌≡◌ {A = Option (ℕ × ℕ)} None (Some (head, key)) = sym (same_everywhere unplaced nodes node) ∙ e in cc);
-  counted = λ n below. same_everywhere 0 (MOST_CACHES * tenants) n
-      ∙ sym (total_none n (replicate nodes unplaced) (replicate nodes blank) (λ i. ap (is_of_index n) (same_everywhere unplaced nodes i)));
+  fits = λ n c e. absurd (let f : ◌≡◌ {A = Option Cache} None (Some c) = sym (everywhere uncached (MOST_CACHES * tenants) n) ∙ e in cc);
+  standing = λ node head key e. absurd (let f : ◌≡◌ {A = Option (ℕ × ℕ)} None (Some (head, key)) = sym (everywhere unplaced nodes node) ∙ e in cc);
+  counted = λ n below. everywhere 0 (MOST_CACHES * tenants) n
+      ∙ sym (total_none n (replicate nodes unplaced) (replicate nodes blank) (λ i. ap (is_of_index n) (everywhere unplaced nodes i)));
 }
   where
     nodes : ℕ

@@ -1,5 +1,5 @@
 -- The element at one index of a list of which one element was replaced, and of copies of one element.
-use Rattle.std.proofs.Common.{◌≡◌, ℕ, zero, suc, ◌<◌, ◌≢◌, List, [], ◌∷◌, Some, slice_get, slice_set, replicate, refl, ap, arith}
+use Rattle.std.proofs.Common.{◌≡◌, ℕ, zero, suc, ◌<◌, ◌≢◌, List, [], ◌∷◌, Some, slice_get, slice_set, replicate, refl, ap, sym, arith}
 
 pub slice_get-set_same : {A : Type 0} (xs : List A) (i : ℕ) (x y : A) → slice_get xs i ≡ Some x → slice_get (slice_set xs i y) i ≡ Some y
 slice_get-set_same [] i x y h = cc
@@ -12,6 +12,11 @@ slice_get-set_other (z ∷ zs) zero zero y other = absurd (other refl)
 slice_get-set_other (z ∷ zs) zero (suc j) y other = refl
 slice_get-set_other (z ∷ zs) (suc i) zero y other = refl
 slice_get-set_other (z ∷ zs) (suc i) (suc j) y other = slice_get-set_other zs i j y (λ e. other (ap suc e))
+
+pub slice_set-same : {A : Type 0} (xs : List A) (i : ℕ) (x : A) → slice_get xs i ≡ Some x → slice_set xs i x ≡ xs
+slice_set-same [] i x h = refl
+slice_set-same (z ∷ zs) zero x h = let same : z ≡ x = cc in ap (λ y. y ∷ zs) (sym same)
+slice_set-same (z ∷ zs) (suc i) x h = ap (λ ys. z ∷ ys) (slice_set-same zs i x h)
 
 pub slice_get-replicate : {A : Type 0} (n i : ℕ) (x : A) → i < n → slice_get (replicate n x) i ≡ Some x
 slice_get-replicate zero i x h = absurd (omega arith)

@@ -8,7 +8,7 @@ use Rattle.std.proofs.lemmas.List.Elements.{filter-append}
 use Rattle.std.proofs.lemmas.Grind.{flat_map-append}
 use Rattle.std.proofs.lemmas.Option.{slice_get_within}
 use Rattle.std.proofs.lemmas.Fmt.{decimal_injective}
-use Rattle.std.proofs.lemmas.Bool.{cases_eq}
+use Rattle.std.proofs.lemmas.Bool.{cases_eq, false_from_ne_true}
 use Rattle.model_core.specs.Machine.{Machine, empty_machine, holds}
 use Rattle.model_core.specs.Operations.{take_back_step}
 use Rattle.model_core.specs.declared.refusals.TakeBackRefusal.{TakeBackRefusal}
@@ -153,14 +153,10 @@ IsSmall Admin = Unit {0}
 IsSmall Nobody = Unit {0}
 IsSmall (Tenant named) = named < 2 ^ 64
 
-false_unless : (b : Bool) → (b ≡ true → ⊥) → b ≡ false
-false_unless true h = absurd (h refl)
-false_unless false h = refl
-
 row_of_other : (t named : ℕ) (row : List ℕ) → t < 2 ^ 64 → named < 2 ^ 64 → named ≢ t → tells t ((decimal named ++ codes "> ") ++ row) ≡ false
 row_of_other t named row small small' other =
     ap (tells t) (append_assoc (decimal named) (codes "> ") row)
-    ∙ false_unless (tells t (decimal named ++ (codes "> " ++ row))) (λ found.
+    ∙ false_from_ne_true (tells t (decimal named ++ (codes "> " ++ row))) (λ found.
     other (sym (decimal_injective t named small small'
     (starts_number (decimal named) (decimal t) (32 ∷ []) (32 ∷ row) (decimal_digits named) (decimal_digits t) found))))
 

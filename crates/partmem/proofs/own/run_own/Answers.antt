@@ -1,7 +1,7 @@
 use Rattle.std.proofs.Common.{[], refl, arith, rules}
 use Rattle.partmem.proofs.Keeping.{own_written, own_traced, own_reached, own_ends}
-use Rattle.partmem.proofs.Writing.{booted, flushed, nothing_of}
-use Rattle.streams.proofs.MoveLemmas.{consumes_nothing, appends_nothing}
+use Rattle.partmem.proofs.Writing.{booted, nothing_of}
+use Rattle.streams.proofs.MoveLemmas.{consumes_nothing, appends_nothing, appends_kept}
 use Rattle.partmem.proofs.own.run_own.Goals as goal
 
 pub returns-clause-kept : goal.returns-clause-kept
@@ -10,7 +10,7 @@ returns-clause-kept g c =
     let ran = said.kept in
     let stays = c.shown_stays.ensures.lines in
     let new = booted c.args.machine.now c.in-Ok.kernel c.in-Ok.ensures.parts c.in-Ok.ensures.shows in
-    let appended = flushed _ _ _ ran.1 ran.3 c.flush-flushed.ensures.bytes in
+    let appended = appends_kept _ _ _ ran.1 ran.3 c.flush-flushed.ensures.bytes in
     rw (c.after_flush.ensures, c.outcome_of_kept.ensures, c.send_failed.ensures) (
       ran.0,
       ran.1,

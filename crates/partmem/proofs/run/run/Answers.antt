@@ -1,8 +1,8 @@
 use Rattle.std.proofs.Common.{[], refl, arith, rules}
 use Rattle.partmem.proofs.Promising.{promises_kept}
-use Rattle.partmem.proofs.Writing.{booted, answers, given_so_far, traced, flushed, tallied, reached, ends, nothing_of}
+use Rattle.partmem.proofs.Writing.{booted, answers, given_so_far, traced, tallied, reached, ends, nothing_of}
 use Rattle.partmem.proofs.Noting.{noted}
-use Rattle.streams.proofs.MoveLemmas.{consumes_nothing, appends_nothing}
+use Rattle.streams.proofs.MoveLemmas.{consumes_nothing, appends_nothing, appends_kept}
 use Rattle.partmem.proofs.run.run.Goals as goal
 
 pub returns-clause-ran : goal.returns-clause-ran
@@ -11,7 +11,7 @@ returns-clause-ran g c =
     let ran = said.ran in
     let stays = c.shown_stays.ensures.shown in
     let new = booted c.args.machine.now c.in-Ok.kernel c.in-Ok.ensures.parts c.in-Ok.ensures.shows in
-    let appended = flushed _ _ _ ran.1 ran.3 c.flush-flushed.ensures.bytes in
+    let appended = appends_kept _ _ _ ran.1 ran.3 c.flush-flushed.ensures.bytes in
     rw (c.after_flush.ensures, c.outcome_of.ensures, c.tally_of.ensures, c.unwritten.ensures, c.send_failed.ensures) (
       ran.0,
       ran.1,
