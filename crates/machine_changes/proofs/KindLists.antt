@@ -3,11 +3,11 @@ use Rattle.std.proofs.Common.{List, [], ◌∷◌, map, subst, inl, inr}
 use Rattle.std.specs.Prelude.{filter}
 use Rattle.model_core.specs.Elements.{IsIn}
 use Rattle.model_core.proofs.Lists.{filter_in, in_filter, filter_rises, in_map, map_in}
+use Rattle.model_core.proofs.Rising.{same_members}
 use Rattle.klist_core.specs.Lists as lists
 use Rattle.klist_core.proofs.Listing.{IsAmong, list_rises, in_list, listed, key_among, among_keys}
 use Rattle.slab_tables.specs.Content.{head_of}
 use Rattle.machine_changes.specs.Laws.{is_kind, KindsHold}
-use Rattle.machine_changes.proofs.Members.{same_rising}
 use Rattle.machine_changes.proofs.ByKind.{to_list, from_list}
 
 -- what is among the elements is in the list
@@ -23,7 +23,7 @@ in_among x (y ∷ ys) (inr i) = inr (in_among x ys i)
 
 pub kinds_hold : KindsHold
 kinds_hold s w table r b t c kind m x a st h ex less =
-    same_rising 0 (lists.keys_of s.lists.places (head_of t c kind)) (map (λ y. y.first) (filter (is_kind kind) x.slabs))
+    same_members 0 (lists.keys_of s.lists.places (head_of t c kind)) (map (λ y. y.first) (filter (is_kind kind) x.slabs))
     (list_rises (head_of t c kind) 0 s.lists.places (record { apart = λ i j k. table.apart i j (head_of t c kind) k }))
     (filter_rises (λ y. y.first) (is_kind kind) 0 x.slabs (h.slabs_rise c x ex))
     (λ u i.

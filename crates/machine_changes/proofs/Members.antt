@@ -1,4 +1,4 @@
--- What is in mapped lists, what a search finds, and lists that rise.
+-- What a search finds.
 use Rattle.std.proofs.Common.{◌≡◌, ◌≢◌, ℕ, ◌+◌, ◌≤◌, Bool, true, false, cond, List, [], ◌∷◌, map, Some, None, refl, sym, ap, ◌∙◌, subst, ◌⊎◌, inl, inr, ⊎_elim, arith}
 use Rattle.std.specs.Prelude.{find, flat_map}
 use Rattle.std.proofs.lemmas.Bool.{false≢true}
@@ -6,10 +6,6 @@ use Rattle.model_core.specs.WellFormed.{RisesFrom}
 use Rattle.model_core.specs.Elements.{IsIn}
 use Rattle.model_core.proofs.Lists.{in_left, in_right, in_append}
 use Rattle.machine_changes.proofs.Lookups.{some_none, key_above}
-
--- Mapped lists
-
--- What a search finds
 
 -- what passes is found, or something before it
 pub some_found : {X : Type 0} (p : X → Bool) (x : X) (xs : List X) → IsIn x xs → p x ≡ true → find p xs ≢ None
@@ -41,33 +37,3 @@ find_least {X} key p n y (x ∷ xs) (low, rises) i e least =
         absurd (omega arith)
     go false is (inl same) more = absurd (false≢true (sym is ∙ ap p same ∙ e))
     go false is (inr j) more = more j
-
--- Numbers that rise
-
-pub from_bound : (n u : ℕ) (xs : List ℕ) → RisesFrom n xs → IsIn u xs → n ≤ u
-from_bound n u [] rises i = elim i [ ]
-from_bound n u (x ∷ xs) (low, rises) (inl same) = omega arith
-from_bound n u (x ∷ xs) (low, rises) (inr i) = let above : x + 1 ≤ u = from_bound (x + 1) u xs rises i in omega arith
-
--- two rising lists with the same elements are one
-pub same_rising : (n : ℕ) (xs ys : List ℕ) → RisesFrom n xs → RisesFrom n ys → ((u : ℕ) → IsIn u xs → IsIn u ys) → ((u : ℕ) → IsIn u ys → IsIn u xs) → xs ≡ ys
-same_rising n [] [] r r' to from = refl
-same_rising n [] (y ∷ ys) r r' to from = elim (from y (inl refl)) [ ]
-same_rising n (x ∷ xs) [] r r' to from = elim (to x (inl refl)) [ ]
-same_rising n (x ∷ xs) (y ∷ ys) (low, r) (low', r') to from = heads (to x (inl refl)) (from y (inl refl)) (same_rising (x + 1) xs ys r)
-  where
-    More : Type 0
-    More = RisesFrom (x + 1) ys → ((u : ℕ) → IsIn u xs → IsIn u ys) → ((u : ℕ) → IsIn u ys → IsIn u xs) → xs ≡ ys
-
-    tails : y ≡ x → More → (x ∷ xs) ≡ (y ∷ ys)
-    tails same more =
-        ap (λ (z : ℕ). z ∷ xs) (sym same)
-        ∙ ap (λ (zs : List ℕ). y ∷ zs)
-        (more (subst (λ k. RisesFrom (k + 1) ys) same r')
-        (λ u i. let above = from_bound (x + 1) u xs r i in elim (to u (inr i)) [ inl is ↦ absurd (omega arith) | inr j ↦ j ])
-        (λ u i. let above = from_bound (y + 1) u ys r' i in elim (from u (inr i)) [ inl is ↦ absurd (omega arith) | inr j ↦ j ]))
-
-    heads : (y ≡ x) ⊎ IsIn x ys → (x ≡ y) ⊎ IsIn y xs → More → (x ∷ xs) ≡ (y ∷ ys)
-    heads (inl same) _ more = tails same more
-    heads (inr i) (inl same) more = tails (sym same) more
-    heads (inr i) (inr j) more = let up = from_bound (y + 1) x ys r' i in let down = from_bound (x + 1) y xs r j in absurd (omega arith)

@@ -19,6 +19,19 @@ use Rattle.machine_changes.proofs.SlotAgreed.{IsLocal, agree_of}
 use Rattle.machine_changes.proofs.SlotBare.{tenant_of, slab_there}
 use Rattle.machine_changes.proofs.SlotEmpty.{empty_shows, none_in}
 
+-- the caches of another tenant are those of its numbers
+pub same_cache : (s' s : Content) (t v c : ℕ) → ((i : ℕ) → (i / MOST_CACHES ≡ t → ⊥) → cache_in s'.caches i ≡ cache_in s.caches i) → v ≢ t → cache_at s' v c ≡ cache_at s v c
+same_cache s' s t v c stays differ = ⊎_elim below above (cases_lt c MOST_CACHES)
+  where
+    below : c < MOST_CACHES → cache_at s' v c ≡ cache_at s v c
+    below less = ap (λ o. cond (ltb c MOST_CACHES) o None)
+        (stays (index_of_cache v c) (λ e. differ (let is : index_of_cache v c / MOST_CACHES ≡ v = omega arith in sym is ∙ e)))
+
+    above : MOST_CACHES ≤ c → cache_at s' v c ≡ cache_at s v c
+    above more =
+        ap (λ w. cond w (cache_in s'.caches (index_of_cache v c)) None) (le-ltb c MOST_CACHES more)
+        ∙ sym (ap (λ w. cond w (cache_in s.caches (index_of_cache v c)) None) (le-ltb c MOST_CACHES more))
+
 -- a place that is not gone was there, in a list of another cache
 pub unless_some : (gone : ℕ → Bool) (place : Option (ℕ × ℕ)) (p : ℕ × ℕ) → unless_gone gone place ≡ Some p → (place ≡ Some p) × (gone (p.0 / 3) ≡ false)
 unless_some gone None p e = absurd (some_none (sym e))
@@ -46,16 +59,7 @@ module _ (r r' : spaces.Content) (b : buddies.Content) (s s' : Content) (t : ℕ
   cache_stays i differ = k.caches i ∙ ap (λ v. cond v None (cache_in s.caches i)) (ne_eqb (i / MOST_CACHES) t differ)
 
   cache_other : (v c : ℕ) → v ≢ t → cache_at s' v c ≡ cache_at s v c
-  cache_other v c differ = ⊎_elim below above (cases_lt c MOST_CACHES)
-    where
-      below : c < MOST_CACHES → cache_at s' v c ≡ cache_at s v c
-      below less = ap (λ o. cond (ltb c MOST_CACHES) o None)
-          (cache_stays (index_of_cache v c) (λ e. differ (let is : index_of_cache v c / MOST_CACHES ≡ v = omega arith in sym is ∙ e)))
-
-      above : MOST_CACHES ≤ c → cache_at s' v c ≡ cache_at s v c
-      above more =
-          ap (λ w. cond w (cache_in s'.caches (index_of_cache v c)) None) (le-ltb c MOST_CACHES more)
-          ∙ sym (ap (λ w. cond w (cache_in s.caches (index_of_cache v c)) None) (le-ltb c MOST_CACHES more))
+  cache_other v c differ = same_cache s' s t v c cache_stays differ
 
   place_stays : (v f n : ℕ) → v ≢ t → node_of s.top r.slots v f ≡ Some n → place_at s'.lists.places n ≡ place_at s.lists.places n
   place_stays v f n differ under = k.places n ∙ go (place_at s.lists.places n) refl

@@ -99,15 +99,18 @@ grant_kept order m w =
     (subst (λ us. IsLaidOut order us m.blocks (all_laid m.caches) m.bytes) p.was (laid_out order m w))))
 
 -- a block in a slot makes it busy
-not_in_slot : (order slot : ℕ) (b : Block) → overlaps (slot_block order slot) b ≡ false → b.first / 2 ^ order ≢ slot
-not_in_slot order slot b e same = false≢true (sym e ∙ and_from (ltb (slot * 2 ^ order) (b.first + 2 ^ b.order)) (ltb b.first (slot * 2 ^ order + 2 ^ order))
-    (lt-ltb (slot * 2 ^ order) (b.first + 2 ^ b.order) (omega (arith, low, pow_pos b.order))) (lt-ltb b.first (slot * 2 ^ order + 2 ^ order) high))
+pub in_slot_overlaps : (order slot : ℕ) (b : Block) → b.first / 2 ^ order ≡ slot → overlaps (slot_block order slot) b ≡ true
+in_slot_overlaps order slot b same = and_from (ltb (slot * 2 ^ order) (b.first + 2 ^ b.order)) (ltb b.first (slot * 2 ^ order + 2 ^ order))
+    (lt-ltb (slot * 2 ^ order) (b.first + 2 ^ b.order) (omega (arith, low, pow_pos b.order))) (lt-ltb b.first (slot * 2 ^ order + 2 ^ order) high)
   where
     low : slot * 2 ^ order ≤ b.first
     low = subst (λ n. n * 2 ^ order ≤ b.first) same (div-mul-le_self b.first (2 ^ order))
 
     high : b.first < slot * 2 ^ order + 2 ^ order
     high = subst (λ n. b.first < n * 2 ^ order + 2 ^ order) same (lt-div-mul-add (pow_pos order))
+
+not_in_slot : (order slot : ℕ) (b : Block) → overlaps (slot_block order slot) b ≡ false → b.first / 2 ^ order ≢ slot
+not_in_slot order slot b e same = false≢true (sym e ∙ in_slot_overlaps order slot b same)
 
 -- no taken block lies in a slot that is not busy
 pub not_busy : (order slot : ℕ) (m : Machine) → is_busy order m slot ≡ false → Each (λ b. b.first / 2 ^ order ≢ slot) (m.blocks ++ map laid_block (all_laid m.caches))

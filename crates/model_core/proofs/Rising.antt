@@ -2,10 +2,12 @@
 use Rattle.std.proofs.Common.{◌≡◌, ◌≢◌, ℕ, ◌+◌, ◌<◌, Bool, true, false, ◌||◌, eqb, List, [], ◌∷◌, ◌++◌, Option, Some, None, refl, sym, ap, ◌∙◌, subst, inl, inr, ⊎_elim, arith}
 use Rattle.std.specs.Prelude.{if◌then◌else◌}
 use Rattle.std.specs.List.{list_any, AllByRecursion as Each}
-use Rattle.std.proofs.lemmas.Bool.{cases_eq, cases_lt, eqb-true, eqb-false, eq-eqb, ne_eqb, or_left, false≢true}
+use Rattle.std.proofs.lemmas.Bool.{cases_eq, cases_lt, eqb-true, eqb-false, eq-eqb, ne_eqb, or_left, false≢true, false_from_ne_true, both_ways}
 use Rattle.model_core.specs.Blocks.{Block, with_taken}
 use Rattle.model_core.specs.Machine.{order_in}
 use Rattle.model_core.specs.WellFormed.{RisesFrom}
+use Rattle.model_core.specs.Elements.{IsIn}
+use Rattle.model_core.proofs.Lists.{some_any, any_in}
 
 -- u is one of the numbers
 abbrev pub has : ℕ → List ℕ → Bool
@@ -48,6 +50,20 @@ same_rising n (x ∷ xs) (y ∷ ys) (low, rises) (low', rises') same =
     (λ le. absurd (higher_head y x ys xs (omega (arith, differ)) rises (sym (same y))))
     (cases_lt x y))
     (cases_eq x y)
+
+in_has : (u : ℕ) (xs : List ℕ) → IsIn u xs → has u xs ≡ true
+in_has u xs i = any_in (λ v. eqb v u) u xs i (eq-eqb u u refl)
+
+has_in : (u : ℕ) (xs : List ℕ) → has u xs ≡ true → IsIn u xs
+has_in u xs e = let r : (v : ℕ) × IsIn v xs × (eqb v u ≡ true) = some_any (λ v. eqb v u) xs e in subst (λ v. IsIn v xs) (eqb-true r.0 u r.2) r.1
+
+-- two rising lists with the same members are one
+pub same_members : (n : ℕ) (xs ys : List ℕ) → RisesFrom n xs → RisesFrom n ys → ((u : ℕ) → IsIn u xs → IsIn u ys) → ((u : ℕ) → IsIn u ys → IsIn u xs) → xs ≡ ys
+same_members n xs ys r q there back = same_rising n xs ys r q (λ u. go u (has u ys) refl)
+  where
+    go : (u : ℕ) (b : Bool) → has u ys ≡ b → has u xs ≡ has u ys
+    go u true e = in_has u xs (back u (has_in u ys e)) ∙ sym e
+    go u false e = false_from_ne_true (has u xs) (λ t. both_ways (has u ys) e (in_has u ys (there u (has_in u xs t)))) ∙ sym e
 
 -- Blocks
 

@@ -11,8 +11,9 @@ use Rattle.model_core.specs.Layouts.{is_size, is_alignment}
 use Rattle.model_core.specs.Machine.{put_rising}
 use Rattle.model_core.specs.Operations.{overlaps}
 use Rattle.model_core.specs.Elements.{IsIn}
-use Rattle.model_core.proofs.Lists.{find_in, filter_in, in_filter, some_any, any_in, in_left, in_right, map_in, in_map}
+use Rattle.model_core.proofs.Lists.{find_in, filter_in, in_filter, some_any, any_in, in_left, in_right, map_in, in_map, none_of}
 use Rattle.model_core.proofs.Apart.{overlap_from, has_first}
+use Rattle.model_core.proofs.PageSteps.{in_slot_overlaps}
 use Rattle.words_core.specs.declared.event.Event.{Event}
 use Rattle.words_core.specs.declared.event.Event.TheVariants as On
 use Rattle.words_core.specs.declared.event.AdminCommand.TheVariants as Do
@@ -51,10 +52,6 @@ none_found {X} p x (y ∷ ys) e i = go (p y) refl e i (none_found p x ys)
     go true is e j ih = absurd (cc)
     go false is e (inl same) ih = subst (λ z. p z ≡ false) same is
     go false is e (inr j) ih = ih e j
-
-is_none_of : {X : Type 0} (o : Option X) → is_none o ≡ true → o ≡ None
-is_none_of None e = refl
-is_none_of (Some x) e = absurd (false≢true e)
 
 -- What has frames, and that it lies apart
 
@@ -234,7 +231,7 @@ cache_laid : (order : ℕ) (h : Holdings) (new : ToldCache) → new.live ≡ [] 
 cache_laid order h new empty l none = fewer order h (record h { caches = put_rising (λ x. x.number) new h.caches }) l used (λ by b u held. held) numbers
   where
     other : (c : ToldCache) → IsIn c h.caches → c.number ≡ new.number → ⊥
-    other c i e = false≢true (sym (none_found (λ y. y.number == new.number) c h.caches (is_none_of _ none) i) ∙ eq-eqb _ _ e)
+    other c i e = false≢true (sym (none_found (λ y. y.number == new.number) c h.caches (none_of _ (not-true _ none)) i) ∙ eq-eqb _ _ e)
 
     numbers : HaveOwnNumbers (record h { caches = put_rising (λ x. x.number) new h.caches })
     numbers c d i j e = elim (in_put (λ x. x.number) new c h.caches i) [
@@ -265,16 +262,6 @@ grant_laid order u h l = fewer order h (record h { slots = put_rising (λ v. v) 
     same_used : (by : Option ℕ) (b : Block) → Used (record h { slots = put_rising (λ v. v) u h.slots }) by b → Used h by b
     same_used None b i = i
     same_used (Some n) b i = i
-
-in_slot_overlaps : (order slot : ℕ) (b : Block) → b.first / 2 ^ order ≡ slot → overlaps (slot_block order slot) b ≡ true
-in_slot_overlaps order slot b same = and_from _ _
-    (lt-ltb (slot * 2 ^ order) (b.first + 2 ^ b.order) (omega (arith, low, pow_pos b.order))) (lt-ltb b.first (slot * 2 ^ order + 2 ^ order) high)
-  where
-    low : slot * 2 ^ order ≤ b.first
-    low = subst (λ n. n * 2 ^ order ≤ b.first) same (div-mul-le_self b.first (2 ^ order))
-
-    high : b.first < slot * 2 ^ order + 2 ^ order
-    high = subst (λ n. b.first < n * 2 ^ order + 2 ^ order) same (lt-div-mul-add (pow_pos order))
 
 take_back_laid : (order u : ℕ) (h : Holdings) → is_slot_busy order h u ≡ false → IsLaid order h → IsLaid order (record h { slots = filter (λ v. not (v == u)) h.slots })
 take_back_laid order u h idle l = fewer order h (record h { slots = filter (λ v. not (v == u)) h.slots }) l same_used held l.numbers

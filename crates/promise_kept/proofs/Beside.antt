@@ -15,10 +15,11 @@ use Rattle.model_core.proofs.Laid.{Laid, laid, all_laid, laid_block, IsCutLaid, 
 use Rattle.model_core.proofs.CacheSteps.{in_all_laid}
 use Rattle.model_core.proofs.Objects.{IsByteOf, byte_is_of}
 use Rattle.model_core.proofs.ObjectsApart.{one_key}
+use Rattle.model_core.proofs.Rising.{same_members}
 use Rattle.promise_core.specs.Holdings.{slab_around, live_beside}
 use Rattle.promise_kept.specs.Meets.{told_cache}
 use Rattle.promise_core.proofs.Grids.{around_is}
-use Rattle.promise_kept.proofs.Live.{IsSlab, slabs_of, slabs_rise, same_members, live_rises, IsLivePlace, live_place, place_listed}
+use Rattle.promise_kept.proofs.Live.{IsSlab, slabs_of, slabs_rise, live_rises, IsLivePlace, live_place, place_listed}
 
 -- the cache with this slab alone
 abbrev pub alone : Cache → Slab → Cache

@@ -16,6 +16,7 @@ use Rattle.model_core.proofs.ObjectsApart.{contains_in, one_key}
 use Rattle.model_core.proofs.CacheSteps.{live_kept}
 use Rattle.model_core.proofs.SlabsLeave.{flagged_same}
 use Rattle.model_core.proofs.Objects.{IsLive, live_is}
+use Rattle.model_core.proofs.Rising.{same_members}
 use Rattle.words_core.specs.declared.event.Command.TheVariants as Asked
 use Rattle.words_core.specs.declared.reply.Body.TheVariants as Say
 use Rattle.world_core.specs.PrivateStep.{command_step, give_body}
@@ -25,7 +26,7 @@ use Rattle.promise_core.specs.State.{State, state_after}
 use Rattle.promise_core.specs.Promises.{due}
 use Rattle.promise_kept.specs.Meets.{told_cache, holdings_of, is_object_live, Meets, IsKeptBy, IsPromiseKept}
 use Rattle.promise_kept.proofs.Stand.{in_contains}
-use Rattle.promise_kept.proofs.Live.{IsSlab, slabs_of, same_members, live_rises, IsLivePlace, live_place, place_listed}
+use Rattle.promise_kept.proofs.Live.{IsSlab, slabs_of, live_rises, IsLivePlace, live_place, place_listed}
 use Rattle.promise_kept.proofs.Flag.{replaced_is, replaced_one, replaced_other, live_after, live_other, WasObject, was_object, caches_told}
 use Rattle.promise_kept.proofs.Cells.{doubt_may, doubt_lives}
 use Rattle.promise_kept.proofs.Known.{seen, seen_is, cache_seen, live_told, told_live, live_replaced}

@@ -11,25 +11,10 @@ use Rattle.model_core.specs.WellFormed.{RisesFrom, IsApart, AreApart, IsCut, IsC
 use Rattle.model_core.proofs.Layouts.{layouts_fit}
 use Rattle.model_core.specs.Elements.{IsIn}
 use Rattle.model_core.proofs.Lists.{each_in, each_true, each_both, each_weaker, each_unmap, some_any, any_in, map_append, rises_more, rises_above, in_left, in_right, map_in}
-use Rattle.model_core.proofs.Rising.{has, same_rising}
 use Rattle.model_core.proofs.Apart.{apart_parts, has_first}
 use Rattle.model_core.proofs.Objects.{IsLive, live_is}
 
 -- Lists
-
-in_has : (u : ℕ) (xs : List ℕ) → IsIn u xs → has u xs ≡ true
-in_has u xs i = any_in (λ v. eqb v u) u xs i (eq-eqb u u refl)
-
-has_in : (u : ℕ) (xs : List ℕ) → has u xs ≡ true → IsIn u xs
-has_in u xs e = let r : (v : ℕ) × IsIn v xs × (eqb v u ≡ true) = some_any (λ v. eqb v u) xs e in subst (λ v. IsIn v xs) (eqb-true r.0 u r.2) r.1
-
--- two rising lists with the same members are one
-pub same_members : (n : ℕ) (xs ys : List ℕ) → RisesFrom n xs → RisesFrom n ys → ((u : ℕ) → IsIn u xs → IsIn u ys) → ((u : ℕ) → IsIn u ys → IsIn u xs) → xs ≡ ys
-same_members n xs ys r q there back = same_rising n xs ys r q (λ u. go u (has u ys) refl)
-  where
-    go : (u : ℕ) (b : Bool) → has u ys ≡ b → has u xs ≡ has u ys
-    go u true e = in_has u xs (back u (has_in u ys e)) ∙ sym e
-    go u false e = false_from_ne_true (has u xs) (λ t. both_ways (has u ys) e (in_has u ys (there u (has_in u xs t)))) ∙ sym e
 
 pub rises_append : (n k : ℕ) (xs ys : List ℕ) → RisesFrom n xs → Each (λ x. x < k) xs → n ≤ k → RisesFrom k ys → RisesFrom n (xs ++ ys)
 rises_append n k [] ys r below le q = rises_more k n ys le q

@@ -8,9 +8,10 @@ use Rattle.model_core.specs.WellFormed.{RisesFrom, IsWellFormed}
 use Rattle.model_core.specs.Elements.{IsIn}
 use Rattle.model_core.proofs.Lists.{PutIn, put_in, put_rises, each_from, in_left, in_right, in_append}
 use Rattle.model_core.proofs.CacheSteps.{live_kept}
-use Rattle.promise_kept.proofs.Live.{same_members, live_rises, IsLivePlace, live_place, place_listed}
-use Rattle.promise_core.proofs.Steps.{in_put}
+use Rattle.model_core.proofs.Rising.{same_members}
+use Rattle.promise_kept.proofs.Live.{live_rises, IsLivePlace, live_place, place_listed}
 use Rattle.promise_kept.proofs.Flag.{replaced_one, live_after, live_other, live_this}
+use Rattle.promise_core.proofs.Steps.{in_put}
 
 has_put : (u p : ℕ) (ps : List ℕ) → (p ≡ u) ⊎ IsIn u ps → IsIn u (put_rising (λ x. x) p ps)
 has_put u p ps i = let k : PutIn (λ x. x) p ps = put_in (λ x. x) p ps in subst (IsIn u) (sym k.is) (go k i)

@@ -17,6 +17,7 @@ use Rattle.machine_changes.specs.Keeps.{Keeps, Spares}
 use Rattle.machine_changes.proofs.Facts.{same_below}
 use Rattle.machine_changes.proofs.Steady.{one_owner}
 use Rattle.machine_changes.proofs.Untouched.{node_same}
+use Rattle.machine_changes.proofs.SlotEmptied.{same_cache}
 
 -- only what tenant t has changed, and of the nodes only this one, which lies under frame `first`
 pub record IsLocal (r r' : spaces.Content) (b b' : buddies.Content) (s s' : Content) (t first node : ℕ) : Type 0 where
@@ -51,16 +52,7 @@ agreed_still r r' b b' s s' node head key cache few g under taken kept live = re
 module _ (r r' : spaces.Content) (b b' : buddies.Content) (s s' : Content) (t first node : ℕ) (k : IsLocal r r' b b' s s' t first node)
     (apart : IsOneToOne r) where
   cache_other : (u c : ℕ) → u ≢ t → cache_at s' u c ≡ cache_at s u c
-  cache_other u c differ = ⊎_elim below above (cases_lt c MOST_CACHES)
-    where
-      below : c < MOST_CACHES → cache_at s' u c ≡ cache_at s u c
-      below less = ap (λ o. cond (ltb c MOST_CACHES) o None)
-          (k.caches (index_of_cache u c) (λ e. differ (let h : index_of_cache u c / MOST_CACHES ≡ u = omega arith in sym h ∙ e)))
-
-      above : MOST_CACHES ≤ c → cache_at s' u c ≡ cache_at s u c
-      above more =
-          ap (λ v. cond v (cache_in s'.caches (index_of_cache u c)) None) (le-ltb c MOST_CACHES more)
-          ∙ sym (ap (λ v. cond v (cache_in s.caches (index_of_cache u c)) None) (le-ltb c MOST_CACHES more))
+  cache_other u c differ = same_cache s' s t u c k.caches differ
 
   not_here : (u f n : ℕ) → u ≢ t → node_of s.top r.slots u f ≡ Some n → n ≢ node
   not_here u f n differ e same =
