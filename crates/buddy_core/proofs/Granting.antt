@@ -1,14 +1,15 @@
 -- A superblock under no slot comes under an empty one.
-use Rattle.std.proofs.Common.{◌≡◌, ◌⊎◌, inl, inr, sym, ◌∙◌, ap, subst, ℕ, ◌+◌, ◌*◌, ◌/◌, ◌%◌, ◌^◌, ◌<◌, ◌≤◌, true, Option, Some, None, List, length, get_or, set, replicate, arith, length-set}
+use Rattle.std.proofs.Common.{◌≡◌, ◌⊎◌, inl, inr, sym, ◌∙◌, ap, subst, ℕ, ◌+◌, ◌*◌, ◌/◌, ◌%◌, ◌^◌, ◌<◌, ◌≤◌, true, Option, Some, None, List, length, get_or, set, arith, length-set}
 use Rattle.std.specs.Prelude.{slice_index, is_some}
-use Rattle.std.proofs.lemmas.List.{get_or-set_same, get_or-set_other, get_or_past, get_or-replicate, length-replicate}
+use Rattle.std.proofs.lemmas.List.{get_or-set_same, get_or-set_other}
 use Rattle.std.proofs.lemmas.Option.{none-some, same_Some}
 use Rattle.std.proofs.lemmas.Nat.{div-mul-add, pow_pos}
 use Rattle.std.proofs.Math.Nat.{mul-div_cancel}
-use Rattle.std.proofs.lemmas.Bool.{cases_lt, cases_eq, both_ways}
+use Rattle.std.proofs.lemmas.Bool.{cases_eq, both_ways}
 use Rattle.model_core.specs.Blocks.{block, Taken, IsSound}
 use Rattle.model_core.specs.Choice.{is_available, is_free, count_below}
 use Rattle.model_core.proofs.Joining.{grant_stays_sound}
+use Rattle.model_core.proofs.Lists.{everywhere}
 use Rattle.buddy_core.specs.Tree.{Shows}
 use Rattle.buddy_core.specs.Stored.{StoredSuperblock, StoredTenant, superblock_of, stored_tenant, superblock_at, held_by, order_under, taken_by, holding_shown}
 use Rattle.buddy_core.specs.Kept.{IsKept, IsTenantKept, available_in}
@@ -17,14 +18,6 @@ use Rattle.buddy_core.proofs.TenantChanged.{IsChange}
 use Rattle.buddy_core.proofs.Counting.{count_kept, count_split}
 use Rattle.buddy_core.proofs.TreeSlots.{shows_same}
 use Rattle.buddy_core.proofs.SlotSteps.{IsOneMore, IsSlotStep, slot_out, available_there, taken_same, taken_blocks_same, holding_same, shows_other, begins_in}
-
--- nothing stands in a list of None
-pub none_there : (n y : ℕ) → get_or (replicate {A = Option ℕ} n None) y None ≡ None
-none_there n y = go (cases_lt y n)
-  where
-    go : (y < n) ⊎ (n ≤ y) → get_or (replicate {A = Option ℕ} n None) y None ≡ None
-    go (inl lt) = get_or-replicate n y None None lt
-    go (inr past) = get_or_past (replicate {A = Option ℕ} n None) y None (subst (λ l. l ≤ y) (sym (length-replicate {A = Option ℕ} n None)) past)
 
 module _ (top : ℕ) (superblocks : List StoredSuperblock) (tenants : List StoredTenant) (kept : IsKept top superblocks tenants) (t : ℕ) (listed : t < length tenants) (slot m : ℕ)
     (slot_lt : slot < length superblocks) (m_lt : m < length superblocks) (empty : superblock_at (stored_tenant t tenants) slot ≡ None) (unused : (v w : ℕ) → superblock_at (stored_tenant v tenants) w ≡ Some m → ⊥)
@@ -49,7 +42,7 @@ module _ (top : ℕ) (superblocks : List StoredSuperblock) (tenants : List Store
   slot_other v ne = get_or-set_other (stored_tenant t tenants).slots slot v (Some m) None ne
 
   none_in : (y : ℕ) → get_or s.orders y None ≡ None
-  none_in y = ap (λ (os : List (Option ℕ)). get_or os y None) (s_orders ∙ ap (λ (z : StoredSuperblock). z.orders) (kept.bare m m_lt unused)) ∙ none_there (2 ^ top) y
+  none_in y = ap (λ (os : List (Option ℕ)). get_or os y None) (s_orders ∙ ap (λ (z : StoredSuperblock). z.orders) (kept.bare m m_lt unused)) ∙ everywhere None (2 ^ top) y
 
   step : IsSlotStep top superblocks (stored_tenant t tenants) m slot s granted
   step = record {

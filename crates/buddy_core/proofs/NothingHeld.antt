@@ -12,15 +12,15 @@ use Rattle.model_core.specs.declared.limits.TheConstants.{MOST_ORDER, MOST_SUPER
 use Rattle.model_core.specs.Choice.{is_free}
 use Rattle.model_core.proofs.Choosing.{free_is_tested}
 use Rattle.model_core.proofs.Counting.{count_none}
+use Rattle.model_core.proofs.Lists.{everywhere}
 use Rattle.buddy_core.specs.Content.{Holding, Content, nothing_held, empty_buddy, has_order, taken_block_count}
 use Rattle.buddy_core.specs.Stored.{StoredSuperblock, StoredTenant, bare_superblock, bare_tenant, superblock_of, stored_tenant, superblock_at, held_by, order_under, taken_by, holding_shown, content_shown}
 use Rattle.buddy_core.specs.Kept.{IsKept, IsTenantKept, HasTenantSizes}
 use Rattle.buddy_core.proofs.ContentShown.{blank_of, bare_of}
-use Rattle.buddy_core.proofs.Granting.{none_there}
 
 module _ (top : ℕ) (superblocks : List StoredSuperblock) where
   pub no_slot : (n v : ℕ) → superblock_at (bare_tenant top n) v ≡ None
-  no_slot n v = none_there n v
+  no_slot n v = everywhere None n v
 
   begins_none : (n f : ℕ) → taken_by top superblocks (bare_tenant top n) f ≡ None
   begins_none n f = ap (λ o. order_under superblocks o (f % 2 ^ top)) (no_slot n (f / 2 ^ top))
@@ -72,7 +72,7 @@ module _ (top superblocks tenants : ℕ) where
   any_slot t u = go (cases_lt t tenants)
     where
       go : (t < tenants) ⊎ (tenants ≤ t) → superblock_at (stored_tenant t (replicate tenants (bare_tenant top superblocks))) u ≡ None
-      go (inl lt) = ap (λ r. superblock_at r u) (get_or-replicate tenants t (bare_tenant top superblocks) blank_of lt) ∙ none_there superblocks u
+      go (inl lt) = ap (λ r. superblock_at r u) (get_or-replicate tenants t (bare_tenant top superblocks) blank_of lt) ∙ everywhere None superblocks u
       go (inr past) = ap (λ r. superblock_at r u) (get_or_past (replicate tenants (bare_tenant top superblocks)) t blank_of (subst (λ n. n ≤ t) (sym (length-replicate tenants (bare_tenant top superblocks))) past))
 
   superblock_is : (m : ℕ) → m < length (replicate superblocks (bare_superblock top)) → superblock_of m (replicate superblocks (bare_superblock top)) ≡ bare_superblock top

@@ -5,6 +5,7 @@ use Rattle.std.proofs.lemmas.List.{get_or-set_same, get_or-set_other}
 use Rattle.std.proofs.lemmas.Option.{none-some, same_Some}
 use Rattle.std.proofs.lemmas.Bool.{cases_lt, cases_eq}
 use Rattle.model_core.specs.declared.limits.TheConstants.{MOST_SUPERBLOCKS, MOST_TENANTS}
+use Rattle.model_core.proofs.Lists.{everywhere}
 use Rattle.buddy_core.specs.Content.{with_holding, nothing_held}
 use Rattle.buddy_core.specs.Stored.{StoredSuperblock, StoredTenant, bare_superblock, bare_tenant, superblock_of, stored_tenant, superblock_at, taken_by, content_shown}
 use Rattle.buddy_core.specs.Roots.{HasBit}
@@ -13,7 +14,6 @@ use Rattle.buddy_core.specs.Kept.{IsKept, IsTenantKept}
 use Rattle.buddy_core.proofs.ContentShown.{taken_as_before, blank_of, bare_of, content_replaced, slot_within}
 use Rattle.buddy_core.proofs.Bounding.{bounded_still}
 use Rattle.buddy_core.proofs.TenantChanged.{tenant_stays}
-use Rattle.buddy_core.proofs.Granting.{none_there}
 use Rattle.buddy_core.proofs.NothingHeld.{blank_kept, blank_holding}
 
 -- the superblocks under the first n slots of the tenant are cleared, and no others
@@ -103,7 +103,7 @@ module _ (top : ℕ) (superblocks : List StoredSuperblock) (tenants : List Store
 
   -- the tenant has no slot afterwards
   none_here : (v u i : ℕ) → v ≡ t → superblock_at (stored_tenant v (set tenants t (bare_tenant top (length superblocks)))) u ≡ Some i → ⊥
-  none_here v u i e at = none-some i (sym (none_there (length superblocks) u) ∙ sym (ap (λ r. superblock_at r u) (tenant_here v e)) ∙ at)
+  none_here v u i e at = none-some i (sym (everywhere None (length superblocks) u) ∙ sym (ap (λ r. superblock_at r u) (tenant_here v e)) ∙ at)
 
   was : (v u i : ℕ) → superblock_at (stored_tenant v (set tenants t (bare_tenant top (length superblocks)))) u ≡ Some i → (v ≡ t) ⊎ (v ≡ t → ⊥) → superblock_at (stored_tenant v tenants) u ≡ Some i
   was v u i at (inl e) = absurd (none_here v u i e at)

@@ -1,9 +1,6 @@
 -- A superblock without owner is given to a tenant.
-use Rattle.std.proofs.Common.{◌≡◌, ℕ, ◌<◌, true, false, Option, Some, None, is_none, position, length, slice_set, refl, sym, ap, subst, arith, ◌≤◌, slice_get, ◌∙◌}
-use Rattle.std.proofs.lemmas.Bool.{false≢true}
-use Rattle.std.proofs.lemmas.List.Quantifiers.{position-Some}
+use Rattle.std.proofs.Common.{◌≡◌, ℕ, ◌<◌, false, Some, None, is_none, position, length, slice_set, refl, sym, ap, subst, arith, ◌≤◌, slice_get, ◌∙◌}
 use Rattle.std.proofs.lemmas.Option.{slice_get_past}
-use Rattle.model_core.specs.declared.owner.Owner.{Owner}
 use Rattle.model_core.specs.Operations.{after_grant, next_slot}
 use Rattle.model_core.specs.Owners.{owned_by}
 use Rattle.space_core.specs.Content as spaces

@@ -1,5 +1,5 @@
 -- A slot is moved to a superblock without owner.
-use Rattle.std.proofs.Common.{◌≡◌, ℕ, ◌<◌, true, false, Some, None, is_none, length, position, slice_set, refl, ap, arith, zero, suc, ◌≤◌, Option, is_some, IsSome, List, [], ◌∷◌, map, slice_get, sym, ◌∙◌, subst}
+use Rattle.std.proofs.Common.{◌≡◌, ℕ, ◌<◌, true, false, Some, None, is_none, length, position, slice_set, refl, ap, arith, ◌≤◌, Option, is_some, IsSome, List, [], map, slice_get, sym, ◌∙◌, subst}
 use Rattle.std.proofs.lemmas.List.{length-set}
 use Rattle.std.proofs.lemmas.Option.{slice_get_past}
 use Rattle.model_core.specs.Owners.{owned_by, is_owner}

@@ -1,12 +1,11 @@
 -- Lists of blocks that rise by first frame.
-use Rattle.std.proofs.Common.{◌≡◌, ℕ, Bool, true, false, not, cond, eqb, List, map, Some, None, refl, sym, ap, ◌∙◌, subst}
+use Rattle.std.proofs.Common.{◌≡◌, ℕ, Bool, true, false, not, cond, List, map, Some, None, refl, sym, ap, ◌∙◌}
 use Rattle.std.specs.Prelude.{Option, option_map, filter, ◌==◌}
-use Rattle.model_core.specs.Blocks.{Block, block}
+use Rattle.model_core.specs.Blocks.{Block}
 use Rattle.model_core.specs.Machine.{order_in}
 use Rattle.model_core.specs.WellFormed.{RisesFrom}
 use Rattle.model_core.specs.Elements.{IsIn}
-use Rattle.model_core.proofs.Lists.{find_in}
-use Rattle.machine_changes.proofs.Lookups.{some_none, some_same, at, found_key, found_kept, in_found}
+use Rattle.machine_changes.proofs.Lookups.{at, found_kept, in_found}
 use Rattle.machine_changes.proofs.Reserved.{order_found}
 
 order_of : (b : Bool) (o : Option Block) → option_map (λ x. x.order) (cond b None o) ≡ cond b None (option_map (λ x. x.order) o)

@@ -1,5 +1,5 @@
 -- An object that was not handed out since its slab was made is in constructed state.
-use Rattle.std.proofs.Common.{◌≡◌, ◌≢◌, ℕ, zero, suc, ◌+◌, ◌-◌, ◌*◌, ◌/◌, ◌%◌, ◌^◌, ◌<◌, Bool, true, false, not, ◌&&◌, eqb, ltb, leb, List, ◌∷◌, ◌++◌, map, length, get_or, replicate, Option, Some, None, refl, sym, ap, ◌∙◌, subst, ◌⊎◌, inl, inr, arith}
+use Rattle.std.proofs.Common.{◌≡◌, ◌≢◌, ℕ, ◌+◌, ◌-◌, ◌*◌, ◌/◌, ◌%◌, ◌^◌, ◌<◌, Bool, true, false, not, ◌&&◌, eqb, ltb, leb, List, ◌∷◌, ◌++◌, map, length, get_or, Option, Some, None, refl, sym, ap, ◌∙◌, subst, ◌⊎◌, inl, inr, arith}
 use Rattle.std.specs.Prelude.{if◌then◌else◌, filter, slice_set, slice_get}
 use Rattle.std.specs.List.{list_any, AllByRecursion as Each}
 use Rattle.std.proofs.lemmas.List.{length-replicate, get_or-set_same, get_or-set_other}
@@ -13,7 +13,7 @@ use Rattle.model_core.specs.Operations.{written, next_slot, after_grant, is_busy
 use Rattle.model_core.specs.WellFormed.{IsApart, AreApart, IsCache, IsWellFormed}
 use Rattle.model_core.proofs.Layouts.{layouts_fit}
 use Rattle.model_core.specs.Elements.{IsIn}
-use Rattle.model_core.proofs.Lists.{each_right, each_put, each_less, each_middle, each_weaker, each_in, each_from, each_unmap, each_filter, any_in, any_map, none_any, any_none, filter_in, Found, found, least_is_missing}
+use Rattle.model_core.proofs.Lists.{each_right, each_put, each_less, each_middle, each_weaker, each_in, each_from, each_unmap, each_filter, any_in, any_map, none_any, any_none, filter_in, Found, found, least_is_missing, everywhere}
 use Rattle.model_core.proofs.Apart.{apart_turned, in_block-true, apart_place, one_holder, one_side}
 use Rattle.model_core.proofs.Laid.{Laid, laid, all_laid, laid_layout, laid_block, in_laid, Placed, IsCutLaid, IsLaidOut, taken_laid, laid_out}
 use Rattle.model_core.proofs.MemoryKept.{with_flags, frame_slot, place_held}
@@ -121,11 +121,6 @@ fresh_byte_is : (c : Cache) (s : Slab) (place : ℕ) → in_object (layout c) c.
 unfolding fresh_byte
 fresh_byte_is c s place e = ap (λ b. if b then Some (pattern_byte c.pattern ((place - FRAME_BYTES * s.first - s.colour) % (layout c).chunk)) else None) e
 
-all_false : (n i : ℕ) → get_or (replicate n false) i false ≡ false
-all_false zero i = refl
-all_false (suc n) zero = refl
-all_false (suc n) (suc i) = all_false n i
-
 -- the byte at a place after growth
 pub grown_byte : (first : ℕ) (c : Cache) (m : Machine) (place : ℕ) (b : Bool) → in_block place (slab_block c (new_slab c first)) ≡ b
     → (grown first c m).bytes place ≡ (if b then fresh_byte c (new_slab c first) place else m.bytes place)
@@ -151,7 +146,7 @@ fresh_grown order place first c m w in_c e h =
     let cut : IsCutLaid l = record { fit = layouts_fit c.size c.align is_c.sized is_c.aligned; count = length-replicate {A = Bool} (layout c).count false; colour_is = (c.made, refl) } in
     subst (Each (IsFresh (grown first c m).bytes place)) (sym g.is) (each_put (IsFresh (grown first c m).bytes place) g.xs g.ys l (subst (Each (IsFresh (grown first c m).bytes place)) g.was old)
     (λ i lt at. (
-      all_false (layout c).count i,
+      everywhere false (layout c).count i,
       λ j in_size.
           let b : IsByteOf l i j (place + j) = byte_is_of l cut i j (place + j) (byte_at l i j place lt in_size at) in
           grown_byte first c m (place + j) true b.in_slab ∙ (fresh_byte_is c (new_slab c first) (place + j) b.in_one ∙ ap (λ n. Some (pattern_byte c.pattern n)) b.byte_is),

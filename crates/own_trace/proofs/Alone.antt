@@ -1,7 +1,7 @@
 -- A tenant's own list, run alone on a machine of as many superblocks, is the same own list there.
 use Rattle.std.proofs.Common.{◌≡◌, ℕ, ◌+◌, ◌*◌, ◌^◌, ◌<◌, ◌≤◌, Bool, true, false, cond, ◌==◌, ◌&&◌, List, [], ◌∷◌, ◌++◌, length, map, filter, Option, Some, None, Result, Ok, Err, is_none, position, slice_get, refl, ap, sym, subst, ◌∙◌, arith}
 use Rattle.std.specs.Prelude.{if◌then◌else◌, slice_set}
-use Rattle.std.specs.List.{list_all, onto_first, AllByRecursion as Each}
+use Rattle.std.specs.List.{list_all, onto_first}
 use Rattle.std.proofs.lemmas.Bool.{eqb-true, false≢true}
 use Rattle.std.proofs.lemmas.List.{append-nil, length-map, length-set}
 use Rattle.model_core.specs.Machine.{Machine, empty_machine}
@@ -29,7 +29,7 @@ use Rattle.promise_core.specs.State.{Known}
 use Rattle.promise_kept.specs.MeetsWorld.{MeetsWorld}
 use Rattle.promise_kept.specs.WorldLaws.{CanBeAsked}
 use Rattle.promise_kept.proofs.Owning.{pool_first}
-use Rattle.promise_kept.proofs.WorldSteps.{event_kept, lines_asked, read_asked, opening_meets}
+use Rattle.promise_kept.proofs.WorldSteps.{event_kept, read_asked, opening_meets}
 use Rattle.replay_core.specs.Standing.{AreLines}
 use Rattle.replay_core.proofs.LineLemmas.{lines_cut}
 use Rattle.own_trace.specs.Kept.{RunLine, run_lines, has_entry, is_own_line, own_lines, own_trace}

@@ -1,7 +1,6 @@
 -- The lines that are kept, and their entries.
-use Rattle.std.proofs.Common.{◌≡◌, ℕ, ◌≤◌, true, false, cond, inl, inr, List, [], ◌∷◌, ◌++◌, length, map, filter, refl, ap, sym, ◌∙◌, append_assoc}
+use Rattle.std.proofs.Common.{◌≡◌, ℕ, true, false, cond, List, [], ◌∷◌, ◌++◌, map, filter, refl, ap, sym, ◌∙◌, append_assoc}
 use Rattle.std.specs.List.{flat_map}
-use Rattle.std.proofs.lemmas.Bool.{cases_lt}
 use Rattle.std.proofs.lemmas.List.{append-nil}
 use Rattle.std.proofs.lemmas.List.Elements.{filter-append}
 use Rattle.words_core.specs.declared.event.Event.{Event}
@@ -14,7 +13,6 @@ use Rattle.world_core.specs.Output.{event_in, events_of, with_line_feeds}
 use Rattle.world_core.specs.Laws.{opening_history}
 use Rattle.world_core.proofs.Showing.{with_line_feeds-append}
 use Rattle.world_core.proofs.Worlds.{world_both}
-use Rattle.replay_core.proofs.PendingLemmas.{overlong}
 use Rattle.own_trace.specs.Kept.{RunLine, run_lines, has_entry, is_own_line, own_lines, own_text}
 use Rattle.own_trace.specs.Laws.{KeptAreOwnList}
 

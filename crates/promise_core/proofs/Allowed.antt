@@ -1,5 +1,6 @@
 -- What an allowed reply is: each promise is kept, and what is known after it.
-use Rattle.std.proofs.Common.{◌&&◌, ◌≡◌, Bool, true, false, List, [], ◌∷◌, Option, Some, None, Result, Ok, is_some, unwrap_or, slice_get, refl, ap, ◌∙◌, ◌⊎◌, inl, inr}
+use Rattle.std.proofs.Common.{◌≡◌, Bool, true, false, List, [], ◌∷◌, Option, Some, None, Result, Ok, unwrap_or, slice_get, refl, ap, ◌∙◌, ◌⊎◌, inl, inr}
+use Rattle.std.proofs.lemmas.Bool.{and_parts}
 use Rattle.std.specs.Option.{option_map_or}
 use Rattle.std.specs.List.{AllByRecursion as Each}
 use Rattle.words_core.specs.declared.event.Event.{Event}
@@ -46,10 +47,6 @@ pub record IsNoTenant (event : Event) (reply : Reply) (w v : Known) : Type 0 whe
   pub said : is_no_tenant reply.body ≡ true
   pub is : v ≡ w
 
-and_second : (x y : Bool) → (x && y) ≡ true → y ≡ true
-and_second true y e = e
-and_second false y e = absurd (cc)
-
 pub allowed_is : (event : Event) (reply : Reply) (w v : Known) → allowed event reply w ≡ Ok v → IsNoTenant event reply w v ⊎ IsAllowed event reply w v
 unfolding allowed
 allowed_is event reply w v = go (state_for event w) refl
@@ -61,7 +58,7 @@ allowed_is event reply w v = go (state_for event w) refl
     go (Some s) here e =
         let all = all_kept (kept event reply w s) (known_after event reply.body w (unwrap_or (state_after w.order event reply.body s) s)) v e in
         let k = all.0 in
-        let some : (a : State) × (state_after w.order event reply.body s ≡ Some a) = some_of (state_after w.order event reply.body s) (and_second _ _ k.0) in
+        let some : (a : State) × (state_after w.order event reply.body s ≡ Some a) = some_of (state_after w.order event reply.body s) ((and_parts _ _ k.0).1) in
         inr (record {
           state = s;
           here = here;

@@ -1,15 +1,15 @@
 -- A block is refused for want of frames just where none can stand, and an object just where no place is left for it.
-use Rattle.std.proofs.Common.{◌≡◌, ℕ, zero, suc, ◌+◌, ◌-◌, ◌*◌, ◌/◌, ◌%◌, ◌^◌, ◌<◌, ◌≤◌, Bool, true, false, not, ◌&&◌, eqb, ltb, leb, List, [], ◌∷◌, length, Some, Err, slice_get, refl, sym, ap, ◌∙◌, subst, inl, inr, ⊎_elim, arith}
+use Rattle.std.proofs.Common.{◌≡◌, ℕ, ◌+◌, ◌-◌, ◌*◌, ◌/◌, ◌%◌, ◌^◌, ◌<◌, ◌≤◌, Bool, true, false, not, ◌&&◌, eqb, ltb, leb, List, [], ◌∷◌, length, Some, Err, slice_get, refl, sym, ap, ◌∙◌, subst, inl, inr, arith}
 use Rattle.std.specs.Prelude.{if◌then◌else◌, flat_map, is_ok, is_none}
 use Rattle.std.specs.List.{list_all, range_with_len}
 use Rattle.std.specs.Option.{option_map_or}
 use Rattle.std.proofs.Math.Nat.{div-div-eq-div-mul, div-eq_of_lt-le, mul-div_cancel, div-mul-le_self, lt-div-mul-add}
 use Rattle.std.proofs.lemmas.Nat.{pow_pos, pow-add, div-add-mod'}
-use Rattle.std.proofs.lemmas.Bool.{false≢true, and_parts, and_from, or_cases, or_left, or_right, leb-true, ltb-true, le-leb, le-ltb, lt-ltb, eqb-true, eq-eqb, cases_eq, false_from_ne_true, not-false}
+use Rattle.std.proofs.lemmas.Bool.{false≢true, and_parts, and_from, or_cases, or_left, or_right, leb-true, ltb-true, le-leb, le-ltb, lt-ltb, eqb-true, eq-eqb, false_from_ne_true, not-false}
 use Rattle.std.proofs.Math.Bool.{and-true}
 use Rattle.model_core.specs.Blocks.{Block, block}
 use Rattle.model_core.specs.Elements.{IsIn}
-use Rattle.model_core.proofs.Lists.{find_in, filter_in, in_filter, some_any, any_in, in_left, in_right, in_map, map_in, in_append, flat_map_in, in_flat_map}
+use Rattle.model_core.proofs.Lists.{find_in, filter_in, in_filter, some_any, any_in, in_map, map_in, flat_map_in, in_flat_map}
 use Rattle.model_core.proofs.BlocksByNumber.{aligned_first}
 use Rattle.model_core.proofs.Room.{in_range, range_in}
 use Rattle.words_core.specs.declared.event.Command.{Command}

@@ -86,6 +86,7 @@ module _ {limit : ℕ} (order k first : ℕ) (s : State) (n : Machine) (w : IsWe
     empty_told = λ r e. absurd (cc);
     free_told = λ r e. absurd (cc);
   }
+
 module _ (limit order k : ℕ) (m : Machine) (s : State) (w : IsWellFormed limit order m) (h : Meets order s m) where
   too_large : ltb order k ≡ true → IsKeptBy limit order (Asked.Alloc k) s (Say.Refused Refusal.BadOrder) m
   unfolding due state_after

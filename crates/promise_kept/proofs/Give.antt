@@ -3,7 +3,7 @@ use Rattle.std.proofs.Common.{◌≡◌, ℕ, ◌+◌, ◌<◌, Bool, true, fals
 use Rattle.std.specs.Prelude.{option_map, find, filter, Contains}
 use Rattle.std.specs.List.{list_any}
 use Rattle.std.proofs.lemmas.List.{map-id}
-use Rattle.std.proofs.lemmas.Bool.{eqb-true, eqb-false, eq-eqb, ne_eqb, false≢true, cases_eq, not-true, not_from_false, and_from, both_ways}
+use Rattle.std.proofs.lemmas.Bool.{eqb-true, eqb-false, eq-eqb, ne_eqb, false≢true, not-true, not_from_false, and_from, both_ways}
 use Rattle.model_core.specs.Layouts.{object_place, pattern_byte}
 use Rattle.model_core.specs.Machine.{Slab, Cache, Machine, layout}
 use Rattle.model_core.specs.Slabs.{LiveObject, live_objects, cache_of, with_cache, with_slab, with_live}
@@ -27,7 +27,7 @@ use Rattle.promise_core.specs.Promises.{due}
 use Rattle.promise_kept.specs.Meets.{told_cache, holdings_of, is_object_live, Meets, IsKeptBy, IsPromiseKept}
 use Rattle.promise_kept.proofs.Stand.{in_contains}
 use Rattle.promise_kept.proofs.Live.{IsSlab, slabs_of, live_rises, IsLivePlace, live_place, place_listed}
-use Rattle.promise_kept.proofs.Flag.{replaced_is, replaced_one, replaced_other, live_after, live_other, WasObject, was_object, caches_told}
+use Rattle.promise_kept.proofs.Flag.{replaced_is, replaced_one, live_after, live_other, WasObject, was_object, caches_told}
 use Rattle.promise_kept.proofs.Cells.{doubt_may, doubt_lives}
 use Rattle.promise_kept.proofs.Known.{seen, seen_is, cache_seen, live_told, told_live, live_replaced}
 

@@ -1,8 +1,8 @@
 -- Live objects by their first places: they rise, and each is that of a live flag.
-use Rattle.std.proofs.Common.{◌≡◌, ℕ, zero, suc, ◌+◌, ◌*◌, ◌^◌, ◌<◌, ◌≤◌, Bool, true, false, eqb, List, [], ◌∷◌, ◌++◌, map, length, get_or, refl, sym, ap, ◌∙◌, subst, ◌⊎◌, inl, inr, arith}
+use Rattle.std.proofs.Common.{◌≡◌, ℕ, zero, suc, ◌+◌, ◌*◌, ◌^◌, ◌<◌, ◌≤◌, Bool, true, false, List, [], ◌∷◌, ◌++◌, map, length, get_or, sym, ap, ◌∙◌, subst, ◌⊎◌, inl, inr, arith}
 use Rattle.std.specs.Prelude.{flat_map}
 use Rattle.std.specs.List.{AllByRecursion as Each}
-use Rattle.std.proofs.lemmas.Bool.{eqb-true, eq-eqb, false_from_ne_true, both_ways, cases_lt}
+use Rattle.std.proofs.lemmas.Bool.{cases_lt}
 use Rattle.std.proofs.lemmas.Nat.{row_fits}
 use Rattle.model_core.specs.Layouts.{object_place, IsFit}
 use Rattle.model_core.specs.Machine.{Slab, Cache, Machine, layout, slab_block, slab_blocks, taken_blocks}
@@ -10,7 +10,7 @@ use Rattle.model_core.specs.Slabs.{LiveObject, live_from, live_in, live_objects}
 use Rattle.model_core.specs.WellFormed.{RisesFrom, IsApart, AreApart, IsCut, IsCache, IsWellFormed}
 use Rattle.model_core.proofs.Layouts.{layouts_fit}
 use Rattle.model_core.specs.Elements.{IsIn}
-use Rattle.model_core.proofs.Lists.{each_in, each_true, each_both, each_weaker, each_unmap, some_any, any_in, map_append, rises_more, rises_above, in_left, in_right, map_in}
+use Rattle.model_core.proofs.Lists.{each_in, each_true, each_both, each_weaker, each_unmap, map_append, rises_more, rises_above, in_left, in_right, map_in}
 use Rattle.model_core.proofs.Apart.{apart_parts, has_first}
 use Rattle.model_core.proofs.Objects.{IsLive, live_is}
 

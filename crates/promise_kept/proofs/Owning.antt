@@ -74,6 +74,7 @@ pub granted_any : (mine : Option Owner → Bool) (xs : Owners) (j : ℕ) (x : Op
 granted_any mine [] j x e none = absurd (cc)
 granted_any mine (y ∷ xs) zero x e none = let same : y ≡ None = cc in ap (λ b. mine x || b) (sym (ap (λ b. b || list_any mine xs) (ap mine same ∙ none)))
 granted_any mine (y ∷ xs) (suc j) x e none = ap (λ b. mine y || b) (granted_any mine xs j x e none) ∙ or_turned (mine y) (mine x) (list_any mine xs)
+
 -- where nobody was, nobody is once others gave up
 pub given_free : (test : Option Owner → Bool) (xs : Owners) (j : ℕ) → slice_get xs j ≡ Some None → slice_get (map (given_up test) xs) j ≡ Some None
 given_free test [] j e = absurd (cc)

@@ -171,6 +171,7 @@ module _ {limit : ℕ} (order : ℕ) (c : Cache) (m : Machine) (w : IsWellFormed
       hidden : (ss : List Slab) → ((s : Slab) → IsIn s ss → hides c.number ≡ true) → (eqb (length (filter is_empty ss)) 0 || hides c.number) ≡ true
       hidden [] may = refl
       hidden (s ∷ ss) may = ap (λ b. eqb (length (filter is_empty (s ∷ ss))) 0 || b) (may s (inl refl)) ∙ or-true (eqb (length (filter is_empty (s ∷ ss))) 0)
+
 -- Orders
 
 abbrev pub is_order : ℕ → Block → Bool

@@ -1,14 +1,14 @@
 -- The taken blocks that are seen of a machine, and what can stand beside them.
 use Rattle.std.proofs.Common.{◌≡◌, ℕ, suc, ◌+◌, ◌-◌, ◌*◌, ◌/◌, ◌%◌, ◌^◌, ◌<◌, ◌≤◌, Bool, true, false, not, eqb, ltb, List, [], ◌∷◌, ◌++◌, map, length, Option, Some, None, refl, sym, ap, ◌∙◌, subst, inl, inr, ⊎_elim, arith}
-use Rattle.std.specs.Prelude.{if◌then◌else◌, filter, flat_map, is_some, option_map, Contains}
+use Rattle.std.specs.Prelude.{filter, flat_map, is_some, option_map, Contains}
 use Rattle.std.specs.List.{list_any, range_with_len, AllByRecursion as Each}
 use Rattle.std.proofs.Math.Nat.{div-div-eq-div-mul, div-eq_of_lt-le, mul-div_cancel}
 use Rattle.std.proofs.lemmas.Nat.{pow_pos, pow-add}
-use Rattle.std.proofs.lemmas.Bool.{false≢true, and_parts, and_from, not-true, not-false, not_from_false, false_from_ne_true, ltb-true, le-leb, eqb-true, eq-eqb, cases_lt}
+use Rattle.std.proofs.lemmas.Bool.{false≢true, and_parts, and_from, not-true, not-false, not_from_false, false_from_ne_true, ltb-true, le-leb, eq-eqb, cases_lt}
 use Rattle.model_core.specs.Blocks.{Block, block}
 use Rattle.model_core.specs.Choice.{choose}
 use Rattle.model_core.specs.Layouts.{object_place}
-use Rattle.model_core.specs.Machine.{Slab, Cache, Machine, holds, beyond, layout, slab_block, slab_blocks, order_in, taken_in, choice}
+use Rattle.model_core.specs.Machine.{Slab, Cache, Machine, holds, beyond, layout, slab_block, slab_blocks, taken_in, choice}
 use Rattle.model_core.specs.Machine as model
 use Rattle.model_core.specs.Slabs.{LiveObject, live_from, live_in, live_objects, is_empty, without_empty, reaped, by_need, choice_by_need}
 use Rattle.model_core.specs.Operations.{overlaps}

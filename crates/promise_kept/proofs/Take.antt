@@ -3,7 +3,7 @@ use Rattle.std.proofs.Common.{◌≡◌, ℕ, ◌+◌, ◌/◌, ◌<◌, Bool, t
 use Rattle.std.specs.Prelude.{find, is_none, option_map, Contains}
 use Rattle.std.specs.List.{list_all}
 use Rattle.std.specs.Option.{option_map_or}
-use Rattle.std.proofs.lemmas.Bool.{eq-eqb, eqb-true, ne_eqb, false≢true, cases_eq, and_from, or_left, or_right}
+use Rattle.std.proofs.lemmas.Bool.{eq-eqb, eqb-true, false≢true, cases_eq, and_from, or_left, or_right}
 use Rattle.model_core.specs.Layouts.{object_place, pattern_byte}
 use Rattle.model_core.specs.Machine.{Slab, Cache, Machine, in_block, layout, slab_block, put_rising}
 use Rattle.model_core.specs.Slabs.{cache_of, with_cache, with_slab, with_live}
@@ -30,7 +30,7 @@ use Rattle.promise_kept.proofs.Stand.{in_contains}
 use Rattle.promise_kept.proofs.Cells.{all_kept, formed, without_some, without_may}
 use Rattle.promise_kept.proofs.Reaped.{object_in_slab}
 use Rattle.promise_kept.proofs.Live.{IsLivePlace}
-use Rattle.promise_kept.proofs.Flag.{replaced_is, replaced_one, replaced_other, IsOne, one_place, live_other, WasObject, was_object, caches_told}
+use Rattle.promise_kept.proofs.Flag.{replaced_is, replaced_one, IsOne, one_place, live_other, WasObject, was_object, caches_told}
 use Rattle.promise_kept.proofs.Known.{seen, cache_seen, live_told, told_live, live_replaced}
 use Rattle.promise_kept.proofs.Give.{none_any}
 use Rattle.promise_kept.proofs.TakePlaces.{place_put}

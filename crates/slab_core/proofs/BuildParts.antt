@@ -1,6 +1,6 @@
 -- Parts of which one tenant's share changed, at one node: all others are spared, and what agreed still agrees.
-use Rattle.std.proofs.Common.{◌≡◌, ◌≢◌, ℕ, ◌+◌, ◌*◌, ◌/◌, ◌%◌, ◌^◌, ◌<◌, ◌≤◌, cond, ltb, length, Some, None, sym, ap, ◌∙◌, subst, ⊎_elim, arith}
-use Rattle.std.proofs.lemmas.Bool.{cases_eq, cases_lt, le-ltb}
+use Rattle.std.proofs.Common.{◌≡◌, ◌≢◌, ℕ, ◌+◌, ◌*◌, ◌/◌, ◌%◌, ◌^◌, ◌<◌, ◌≤◌, cond, length, Some, sym, ap, ◌∙◌, subst, ⊎_elim, arith}
+use Rattle.std.proofs.lemmas.Bool.{cases_eq}
 use Rattle.std.proofs.lemmas.List.{length-set}
 use Rattle.model_core.specs.Layouts.{is_small}
 use Rattle.model_core.specs.declared.limits.TheConstants.{MOST_CACHES}
@@ -10,7 +10,7 @@ use Rattle.space_core.specs.Laws.{IsSameFor, IsOneToOne, SpareStays}
 use Rattle.buddy_core.specs.Content as buddies
 use Rattle.buddy_core.proofs.Holdings.{other_holding}
 use Rattle.slab_tables.specs.declared.cache.Cache as own
-use Rattle.slab_tables.specs.Content.{Content, IsSlabs, kept_at, cache_in, cache_at, index_of_cache, layout_numbers}
+use Rattle.slab_tables.specs.Content.{Content, IsSlabs, kept_at, cache_in, cache_at, layout_numbers}
 use Rattle.machine_changes.specs.Records.{is_set, count_true}
 use Rattle.machine_changes.specs.Shows.{node_of, byte_or_zero, is_live, live_of, IsAgreed, Agree}
 use Rattle.machine_changes.specs.Keeps.{Keeps, Spares}

@@ -1,9 +1,9 @@
 -- A slab of which one object was turned, counted anew.
-use Rattle.std.proofs.Common.{◌≡◌, ℕ, ◌<◌, ◌≤◌, Bool, false, Some, length, sym, ap, ◌∙◌, subst, arith}
+use Rattle.std.proofs.Common.{◌≡◌, ℕ, ◌<◌, ◌≤◌, Bool, false, length, sym, ap, subst, arith}
 use Rattle.space_core.specs.Content as spaces
 use Rattle.buddy_core.specs.Content as buddies
 use Rattle.slab_tables.specs.declared.cache.Cache as own
-use Rattle.slab_tables.specs.Content.{Content, IsTenant, IsPlacedIn, kept_at, cache_at, layout_numbers}
+use Rattle.slab_tables.specs.Content.{Content, IsTenant, IsPlacedIn, kept_at, layout_numbers}
 use Rattle.slab_tables.specs.Changes.{with_count}
 use Rattle.machine_changes.specs.Shows.{Agree}
 use Rattle.machine_changes.specs.Keeps.{Spares}

@@ -1,5 +1,5 @@
 -- Frames that are not taken, or lie in empty slabs.
-use Rattle.std.proofs.Common.{◌≡◌, ℕ, ◌+◌, ◌/◌, ◌^◌, ◌<◌, ◌≤◌, true, false, Some, None, refl, sym, ap, ◌∙◌, subst, ⊎_elim, arith}
+use Rattle.std.proofs.Common.{◌≡◌, ℕ, ◌+◌, ◌/◌, ◌^◌, ◌<◌, ◌≤◌, true, false, Some, refl, sym, ap, ◌∙◌, subst, ⊎_elim, arith}
 use Rattle.std.proofs.Math.Nat.{pow-le-pow_right}
 use Rattle.std.proofs.lemmas.Bool.{false≢true, cases_lt}
 use Rattle.std.proofs.lemmas.Nat.{pow_pos}
@@ -12,7 +12,7 @@ use Rattle.slab_tables.specs.Content.{Content, IsSlabs, layout_numbers, head_of}
 use Rattle.machine_changes.specs.Shows.{Agree}
 use Rattle.machine_changes.specs.Steady.{IsSteady}
 use Rattle.machine_changes.specs.Room.{IsIdle}
-use Rattle.machine_changes.proofs.Lookups.{some_none, some_same}
+use Rattle.machine_changes.proofs.Lookups.{some_same}
 use Rattle.machine_changes.proofs.Steady.{placed_as}
 use Rattle.slab_core.specs.Calls.{idle_at}
 use Rattle.slab_core.specs.Room.{IsUnusedFrame, IsBorder, IsUnusedTo}

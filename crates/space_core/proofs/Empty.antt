@@ -7,22 +7,15 @@ use Rattle.model_core.specs.declared.owner.Owner.{Owner}
 use Rattle.model_core.specs.Owners.{is_of}
 use Rattle.model_core.specs.declared.limits.TheConstants.{MOST_ORDER, MOST_SUPERBLOCKS, MOST_TENANTS}
 use Rattle.model_core.specs.declared.limits.TheConstants.{FRAME_BYTES}
+use Rattle.model_core.proofs.Lists.{everywhere}
 use Rattle.space_core.specs.Content.{IsSpace, empty_space, superblock_at}
-
--- copies of the default read as the default everywhere
-pub get_or-copies : {A : Type 0} (n i : ℕ) (d : A) → get_or (replicate n d) i d ≡ d
-get_or-copies n i d =
-    elim (cases_lt i n) [
-      | inl lt ↦ get_or-replicate n i d d lt
-      | inr past ↦ get_or_past (replicate n d) i d (omega (arith, length-replicate n d))
-    ]
 
 no_superblock : (tenants n t u : ℕ) → superblock_at (replicate tenants (replicate n None)) t u ≡ None
 no_superblock tenants n t u =
     let none : Option ℕ = None in
     let row = replicate n none in
     elim (cases_lt t tenants) [
-      | inl lt ↦ ap (λ (r : List (Option ℕ)). get_or r u None) (get_or-replicate tenants t row [] lt) ∙ get_or-copies n u None
+      | inl lt ↦ ap (λ (r : List (Option ℕ)). get_or r u None) (get_or-replicate tenants t row [] lt) ∙ everywhere None n u
       | inr past ↦ ap (λ (r : List (Option ℕ)). get_or r u None) (get_or_past (replicate tenants row) t [] (omega (arith, length-replicate tenants row)))
     ]
 
@@ -46,7 +39,7 @@ empty_space-IsSpace unit n tenants some small few short =
       flagged = length-replicate n false ∙ sym (length-replicate n nobody);
       rows = λ t lt. ap length (get_or-replicate tenants t row [] (omega (arith, length-replicate tenants row))) ∙ (length-replicate n none ∙ sym (length-replicate n nobody));
       sized = λ m lt. ap length (get_or-replicate n m zeroes [] (omega (arith, length-replicate n zeroes))) ∙ length-replicate unit 0;
-      agree = λ t u m. (λ under. let free = no_superblock tenants n t u in absurd (cc), λ owned. let free = get_or-copies n m nobody in absurd (cc));
+      agree = λ t u m. (λ under. let free = no_superblock tenants n t u in absurd (cc), λ owned. let free = everywhere nobody n m in absurd (cc));
       counted = λ t lt. ap (count_by is_some) (get_or-replicate tenants t row [] (omega (arith, length-replicate tenants row))) ∙ (count_by-copies is_some n none refl ∙ sym (count_by-copies (is_of t) n nobody refl));
       spare = λ m lt ownerless unmarked. get_or-replicate n m zeroes [] (omega (arith, length-replicate n zeroes));
     }

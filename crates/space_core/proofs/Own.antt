@@ -13,9 +13,9 @@ use Rattle.space_core.proofs.BankLemmas.{with_bank, with_banks}
 use Rattle.space_core.proofs.Changed.{same_parts, tenant-lt}
 use Rattle.space_core.proofs.Mapping.{superblock-lt, within_from_some}
 use Rattle.space_core.proofs.Mapped.{if_true, if_false, superblock_at-with_entry, superblock_at_other-with_entry}
-use Rattle.space_core.proofs.Empty.{get_or-copies}
 use Rattle.space_core.proofs.Reading.{reads_same, bank_kept, not_unowned}
 use Rattle.space_core.proofs.Places.{place-add, same_slot, get_or-slice_range, put_within-before, put_within-at, put_within-after}
+use Rattle.model_core.proofs.Lists.{everywhere}
 
 test_inside : (a p e : ℕ) → a ≤ p → p < e → (nat_le a p && nat_lt p e) ≡ true
 test_inside a p e low high = grind (arith, nat_tests)
@@ -151,7 +151,7 @@ own_grant {s} facts t u m tenant slot within unowned p =
       | inl same ↦
           byte_is (with_grant s t u m) t p i m (ap (superblock_at (with_entry s.slots t u (Some m)) t) same ∙ superblock_at-with_entry s.slots t u (Some m) tenant short) refl
           ∙ (ap (λ (ys : List ℕ). Some (get_or ys i 0)) (get_or-set_same s.banks m zeroes [] (omega (arith, facts.paired)))
-          ∙ (ap Some (get_or-copies s.unit i 0) ∙ sym (if_true (p / s.unit == u) _ _ (grind (arith, nat_tests)))))
+          ∙ (ap Some (everywhere 0 s.unit i) ∙ sym (if_true (p / s.unit == u) _ _ (grind (arith, nat_tests)))))
       | inr differ ↦
           ap (byte_under (set s.banks m zeroes) i) (superblock_at_other-with_entry s.slots t u (Some m) t (p / s.unit) tenant (λ e. differ e.1))
           ∙ (byte_under_kept s.banks (set s.banks m zeroes) i (superblock_at s.slots t (p / s.unit)) (λ n e. get_or-set_other s.banks m n zeroes [] (λ same. let owned = (facts.agree t (p / s.unit) n).0 e in let here = ap (owner_at s.owners) same in absurd (cc)))

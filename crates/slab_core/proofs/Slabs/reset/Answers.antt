@@ -7,7 +7,6 @@ use Rattle.slab_tables.specs.Content.{Content, kept_at, cache_in}
 use Rattle.slab_tables.specs.Changes.{IsReset}
 use Rattle.machine_changes.specs.Records.{count_true}
 use Rattle.machine_changes.specs.Shows.{node_of, is_live, live_of, Agree}
-use Rattle.machine_changes.proofs.Lookups.{some_none, some_same}
 use Rattle.machine_changes.proofs.SlotEmptied.{unless_some}
 use Rattle.slab_core.proofs.Slabs.reset.Goals as goal
 
