@@ -22,11 +22,11 @@ status_of BadOnly = 2
 status_of NoMemory = 3
 
 -- a line that a program prints
-abbrev pub told_text : Text → Text → Text
-told_text program text = program ++ (codes ": " ++ text)
+abbrev pub message : Text → Text → Text
+message program text = program ++ (codes ": " ++ text)
 
 abbrev pub line_of : Line → Text
-line_of line = told_text line.program.now line.text.now
+line_of line = message line.program.now line.text.now
 
 -- the line on standard error, if the outcome has a fixed one; `unread` and `unwritten` are the program's words for its input and
 -- its output
@@ -34,11 +34,11 @@ abbrev pub outcome_text : (program unread unwritten : Text) → Outcome → Opti
 outcome_text program unread unwritten Done = None
 outcome_text program unread unwritten (Help text) = None
 outcome_text program unread unwritten (Version text) = None
-outcome_text program unread unwritten Unreadable = Some (told_text program unread)
-outcome_text program unread unwritten Unwritable = Some (told_text program unwritten)
+outcome_text program unread unwritten Unreadable = Some (message program unread)
+outcome_text program unread unwritten Unwritable = Some (message program unwritten)
 outcome_text program unread unwritten (BadLine text) = None
-outcome_text program unread unwritten BadOnly = Some (told_text program (codes "--only names no tenant"))
-outcome_text program unread unwritten NoMemory = Some (told_text program (codes "not enough memory"))
+outcome_text program unread unwritten BadOnly = Some (message program (codes "--only names no tenant"))
+outcome_text program unread unwritten NoMemory = Some (message program (codes "not enough memory"))
 
 -- the outcome of a replay
 abbrev pub outcome_of : Result Tally ReplayError → Outcome
