@@ -5,10 +5,10 @@ ghost use Rattle.words_core.specs.Texts.{number_of_refusal};
 ghost use Rattle.run_notes.specs.Notes.{no_notes, times_of, with_refusal};
 
 use crate::faults::{FaultyLine, MOST_FAULTS};
-use crate::refusals::{REFUSALS, Refused};
+use crate::refusals::Refused;
 use arrayvec::ArrayVec;
 use replay_core::Notes;
-use words_core::{LineFault, Refusal};
+use words_core::{LineFault, REFUSALS, Refusal};
 
 /// The first faulty lines of a trace, and how often each refusal was answered.
 #[derive(Drop)]

@@ -3,25 +3,6 @@
 use std::fmt;
 use words_core::Refusal;
 
-/// All refusals, by rising number, from 1 on.
-pub(crate) const REFUSALS: [Refusal; 15] = [
-    Refusal::NoFrames,
-    Refusal::BadOrder,
-    Refusal::NotABlock,
-    Refusal::OutOfReach,
-    Refusal::BadLength,
-    Refusal::BadSize,
-    Refusal::BadAlign,
-    Refusal::NoCacheSlot,
-    Refusal::NoCache,
-    Refusal::CacheInUse,
-    Refusal::NotAnObject,
-    Refusal::NoTenant,
-    Refusal::PoolEmpty,
-    Refusal::NoSlot,
-    Refusal::SlotBusy,
-];
-
 /// The greatest number of a refusal.
 pub const MOST_NUMBER: u8 = 15;
 

@@ -1,12 +1,12 @@
 //! What is printed of notes.
 
 use crate::notes::RunNotes;
-use crate::refusals::{MOST_NUMBER, REFUSALS};
+use crate::refusals::MOST_NUMBER;
 use replay_core::Notes;
 use std::alloc::{AllocError, Global};
 use std::process::Abort;
 use std::test::Fail;
-use words_core::LineFault;
+use words_core::{LineFault, REFUSALS};
 
 /// All that is printed, a line for each note.
 fn text_of(alloc: Global, notes: &RunNotes) -> Result<String, AllocError> {

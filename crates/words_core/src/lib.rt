@@ -24,6 +24,6 @@ pub use answer::{Answer, MOST_ANSWER_BYTES, SHORT_ANSWER_BYTES, write_answer, wr
 pub use event::{AdminCommand, Command, Event, LineFault, Request};
 pub use laws::one_case;
 pub use line::{MOST_LINE_BYTES, read_line};
-pub use reply::{Addressee, Body, OWNERS, Refusal, Reply};
+pub use reply::{Addressee, Body, OWNERS, REFUSALS, Refusal, Reply};
 pub use report::{CACHES, ORDERS, Report};
 pub use text::{MOST_REPLY_BYTES, MOST_ROWS, Table, rows, write_line, write_row};

@@ -121,6 +121,25 @@ pub enum Refusal {
     SlotBusy,
 }
 
+/// All refusals, by their numbers from 1 on.
+pub const REFUSALS: [Refusal; 15] = [
+    Refusal::NoFrames,
+    Refusal::BadOrder,
+    Refusal::NotABlock,
+    Refusal::OutOfReach,
+    Refusal::BadLength,
+    Refusal::BadSize,
+    Refusal::BadAlign,
+    Refusal::NoCacheSlot,
+    Refusal::NoCache,
+    Refusal::CacheInUse,
+    Refusal::NotAnObject,
+    Refusal::NoTenant,
+    Refusal::PoolEmpty,
+    Refusal::NoSlot,
+    Refusal::SlotBusy,
+];
+
 impl Refusal {
     ghost use Rattle.words_core.specs.Texts.{number_of_refusal, name_of_refusal};
 
