@@ -10,6 +10,7 @@ use Rattle.words_core.specs.declared.event.Event.TheVariants.{Tenant}
 use Rattle.quick_core.specs.Lines.{ReadsAs}
 use Rattle.kernel_core.specs.Content.{KernelContent}
 use Rattle.replay_core.specs.Standing.{IsOneLine}
+use Rattle.std.proofs.lemmas.Option.{same_Some}
 use Rattle.partmem_c.specs.Lines.{has_line_feed, AnswersLine}
 
 neither : (x y : Bool) → (x || y) ≡ false → (x ≡ false) × (y ≡ false)
@@ -96,16 +97,13 @@ found_end k (b ∷ line) rest none =
     let facts = neither (b == 10) (has_line_feed line) none in
     rw facts.0 (found_end (k + 1) line rest facts.1 ∙ ap (λ n. Some n) (omega arith))
 
-some_same : (n m : ℕ) → Some n ≡ Some m → n ≡ m
-some_same n m same = cc
-
 -- what is read of these bytes is what the line reads as
 pub line_reads : (line rest bytes : List ℕ) (tenant : ℕ) (command : Command) (len : ℕ) → has_line_feed line ≡ false
     → bytes ≡ line ++ 10 ∷ rest → ReadsAs bytes tenant command len → reading_of line ≡ Ok (Some (Tenant tenant command))
 line_reads line rest bytes tenant command len none are read =
     let at : position (λ b. b == 10) bytes ≡ Some (length line) =
     ap (position (λ b. b == 10)) are ∙ position_from-zero (λ b. b == 10) (line ++ 10 ∷ rest) ∙ found_end 0 line rest none ∙ ap (λ n. Some n) (omega arith) in
-    let end : len - 1 ≡ length line = some_same _ _ (sym read.ended ∙ at) in
+    let end : len - 1 ≡ length line = same_Some _ _ (sym read.ended ∙ at) in
     ap reading_of (sym (ap (take (len - 1)) are ∙ ap (λ n. take n (line ++ 10 ∷ rest)) end ∙ take-front line (10 ∷ rest))) ∙ read.reading
 
 -- a line that was read so is answered so
@@ -131,7 +129,7 @@ found_none k (b ∷ line) rest found =
   where
     go : (test : Bool) → (position_from (λ b. b == 10) (k + 1) (line ++ rest) ≡ Some (k + length (b ∷ line)) → has_line_feed line ≡ false)
         → cond test (Some k) (position_from (λ b. b == 10) (k + 1) (line ++ rest)) ≡ Some (k + length (b ∷ line)) → (test || has_line_feed line) ≡ false
-    go true later e = absurd (no_longer k (length line) (some_same _ _ e))
+    go true later e = absurd (no_longer k (length line) (same_Some _ _ e))
     go false later e = later e
 
 pub line_ended : (line rest bytes : List ℕ) (tenant : ℕ) (command : Command) (len : ℕ) → len ≡ length line + 1

@@ -1,5 +1,5 @@
 -- An event as numbers, and its answer as numbers.
-use Rattle.std.specs.Prelude.{◌≡◌, ℕ, ◌+◌, ◌==◌, nat_lt, nat_le, not, ◌&&◌, List, [], ◌++◌, length, drop, if◌then◌else◌, Option, Some, None, is_some, is_none, option_map}
+use Rattle.std.specs.Prelude.{◌≡◌, ℕ, ◌+◌, ◌==◌, nat_lt, nat_le, Bool, not, ◌&&◌, ◌||◌, List, [], ◌++◌, length, drop, if◌then◌else◌, Option, Some, None, is_some, is_none, option_map}
 use Rattle.arrayvec.specs.ArrayVec.{ArrayVec}
 use Rattle.words_core.specs.declared.event.Event.{Event}
 use Rattle.words_core.specs.declared.event.Event.TheVariants as On
@@ -49,6 +49,12 @@ requested_command a bytes =
     else (if a.kind == request.REAP then Some Ask.Reap
     else (if a.kind == request.REPORT then Some Ask.Report
     else None)))))))))
+
+-- a kind of command that takes no bytes and is answered none
+abbrev pub is_plain : ℕ → Bool
+is_plain kind =
+    kind == request.ALLOC || (kind == request.FREE || (kind == request.TAKE || (kind == request.GIVE
+    || (kind == request.DESTROY || kind == request.REAP))))
 
 -- the event that the numbers and bytes say, if they say one
 abbrev pub requested_event : RequestNumbers → List ℕ → Option Event

@@ -1,6 +1,6 @@
 //! Events run one at a time, without words: as numbers.
 
-ghost use Rattle.std.specs.Prelude.{◌≡◌, ◌≢◌, ◌<◌, ◌≤◌, ◌^◌, ℕ, false, List, length, Some, IfSome, is_some, if◌then◌else◌};
+ghost use Rattle.std.specs.Prelude.{◌≡◌, ◌≢◌, ◌<◌, ◌≤◌, ◌^◌, ℕ, true, false, List, length, Some, IfSome, is_some, if◌then◌else◌};
 ghost use Rattle.words_core.specs.Requests.{command_of, IsAskable, asks_bytes};
 ghost use Rattle.words_core.specs.declared.event.Event.TheVariants as Event;
 ghost use Rattle.words_core.specs.declared.event.Event.TheVariants.{Tenant};
@@ -9,7 +9,7 @@ ghost use Rattle.words_core.specs.declared.event.AdminCommand.TheVariants as Adm
 ghost use Rattle.kernel_core.specs.Steps.{HasPattern};
 ghost use Rattle.partmem_c.specs.Events.{requested_event, machine_status, status_of_event, event_status, AnswersEvent, RunsEvent};
 ghost use Rattle.partmem_c.specs.Events.{RunsApart, TellsNothing, ChangesNothing};
-ghost use Rattle.partmem_c.specs.Events.{some_bytes, admin_command_of, requested_command};
+ghost use Rattle.partmem_c.specs.Events.{some_bytes, admin_command_of, requested_command, is_plain};
 
 use crate::kinds::NOTHING;
 use crate::lines::put;
@@ -186,10 +186,10 @@ pub extern "C" fn partmem_event(
 {
     match kind_with_buffer(request.kind, buffer.len()) {
         NOTHING => status_without_buffer(machine, request, bytes),
-        ALLOC => alloc_event(alloc, machine, request, reply),
-        FREE => free_event(alloc, machine, request, reply),
-        TAKE => take_event(alloc, machine, request, reply),
-        GIVE => give_event(alloc, machine, request, reply),
+        ALLOC => plain_event::<ALLOC>(alloc, machine, request, reply),
+        FREE => plain_event::<FREE>(alloc, machine, request, reply),
+        TAKE => plain_event::<TAKE>(alloc, machine, request, reply),
+        GIVE => plain_event::<GIVE>(alloc, machine, request, reply),
         _ => event_in_first(alloc, machine, request, bytes, reply, buffer),
     }
 }
@@ -223,95 +223,49 @@ fn status_without_buffer(machine: &Machine, request: &RequestNumbers, bytes: &[u
     }
 }
 
-/// [`partmem_event`] of one kind; out of line, as each kind is, so that it saves only the registers that it needs. Each tests for
-/// itself that there is a machine: a call whose answer is not always the same can be the last thing that is done.
+/// [`partmem_event`] of a kind that neither uses bytes nor returns some.
+///
+/// Each kind has one of its own, out of line, so that it saves only the registers that it needs. It tests for itself that there
+/// is a machine: a call whose answer is not always the same can be the last thing that is done.
 #[inline(never)]
-fn alloc_event(
+fn plain_event<const KIND: u32>(
     alloc: Global,
     machine: &mut Machine,
     request: &RequestNumbers,
     reply: &mut ReplyNumbers,
 ) -> u32
-    requires kind { request.now.kind ≡ ALLOC }
+    requires kind { request.now.kind ≡ KIND }
+    requires plain { is_plain KIND ≡ true }
     ensures status { result ≡ machine_status machine.old.slot.held }
     ensures done { result ≡ DONE → RunsApart machine.old.slot.held machine.new.slot.held request.now reply.new }
     ensures not_done { result ≢ DONE → TellsNothing machine.old.slot.held machine.new.slot.held reply.old reply.new }
 {
-    let order = request.first;
-    ask(
-        alloc,
-        machine,
-        request.tenant,
-        Request::Alloc { order },
-        reply,
-    )
+    let command = plain_request(KIND, request);
+    ask(alloc, machine, request.tenant, command, reply)
 }
 
-#[inline(never)]
-fn free_event(
-    alloc: Global,
-    machine: &mut Machine,
-    request: &RequestNumbers,
-    reply: &mut ReplyNumbers,
-) -> u32
-    requires kind { request.now.kind ≡ FREE }
-    ensures status { result ≡ machine_status machine.old.slot.held }
-    ensures done { result ≡ DONE → RunsApart machine.old.slot.held machine.new.slot.held request.now reply.new }
-    ensures not_done { result ≢ DONE → TellsNothing machine.old.slot.held machine.new.slot.held reply.old reply.new }
+/// The command of such a kind, which the compiler knows from `kind`.
+#[inline(always)]
+fn plain_request(kind: u32, request: &RequestNumbers) -> Request<'static>
+    requires kind { request.now.kind ≡ kind }
+    requires plain { is_plain kind ≡ true }
+    ensures askable { IsAskable result }
+    ensures apart { asks_bytes result ≡ false }
+    ensures says { (bytes : List ℕ) → requested_event request.now bytes ≡ Some (Tenant request.now.tenant (command_of result)) }
 {
-    let frame = request.first;
-    ask(
-        alloc,
-        machine,
-        request.tenant,
-        Request::Free { frame },
-        reply,
-    )
-}
-
-#[inline(never)]
-fn take_event(
-    alloc: Global,
-    machine: &mut Machine,
-    request: &RequestNumbers,
-    reply: &mut ReplyNumbers,
-) -> u32
-    requires kind { request.now.kind ≡ TAKE }
-    ensures status { result ≡ machine_status machine.old.slot.held }
-    ensures done { result ≡ DONE → RunsApart machine.old.slot.held machine.new.slot.held request.now reply.new }
-    ensures not_done { result ≢ DONE → TellsNothing machine.old.slot.held machine.new.slot.held reply.old reply.new }
-{
-    let cache = request.first;
-    ask(
-        alloc,
-        machine,
-        request.tenant,
-        Request::Take { cache },
-        reply,
-    )
-}
-
-#[inline(never)]
-fn give_event(
-    alloc: Global,
-    machine: &mut Machine,
-    request: &RequestNumbers,
-    reply: &mut ReplyNumbers,
-) -> u32
-    requires kind { request.now.kind ≡ GIVE }
-    ensures status { result ≡ machine_status machine.old.slot.held }
-    ensures done { result ≡ DONE → RunsApart machine.old.slot.held machine.new.slot.held request.now reply.new }
-    ensures not_done { result ≢ DONE → TellsNothing machine.old.slot.held machine.new.slot.held reply.old reply.new }
-{
-    let cache = request.first;
-    let place = request.second;
-    ask(
-        alloc,
-        machine,
-        request.tenant,
-        Request::Give { cache, place },
-        reply,
-    )
+    let first = request.first;
+    let second = request.second;
+    match kind {
+        ALLOC => Request::Alloc { order: first },
+        FREE => Request::Free { frame: first },
+        TAKE => Request::Take { cache: first },
+        GIVE => Request::Give {
+            cache: first,
+            place: second,
+        },
+        DESTROY => Request::Destroy { cache: first },
+        _ => Request::Reap,
+    }
 }
 
 #[inline(always)]
@@ -387,8 +341,8 @@ fn other_event(
         READ => read_event(alloc, machine, request, reply, buffer),
         WRITE => write_event(alloc, machine, request, bytes, reply),
         CACHE => cache_event(alloc, machine, request, bytes, reply),
-        DESTROY => destroy_event(alloc, machine, request, reply),
-        REAP => reap_event(alloc, machine, request, reply),
+        DESTROY => plain_event::<DESTROY>(alloc, machine, request, reply),
+        REAP => plain_event::<REAP>(alloc, machine, request, reply),
         _ => rare_event(alloc, machine, request, bytes, reply, buffer),
     }
 }
@@ -484,45 +438,6 @@ pub(crate) fn status_of_none(machine: &Machine) -> u32
     } else {
         NO_MACHINE
     }
-}
-
-#[cold]
-#[inline(never)]
-fn destroy_event(
-    alloc: Global,
-    machine: &mut Machine,
-    request: &RequestNumbers,
-    reply: &mut ReplyNumbers,
-) -> u32
-    requires kind { request.now.kind ≡ DESTROY }
-    ensures status { result ≡ machine_status machine.old.slot.held }
-    ensures done { result ≡ DONE → RunsApart machine.old.slot.held machine.new.slot.held request.now reply.new }
-    ensures not_done { result ≢ DONE → TellsNothing machine.old.slot.held machine.new.slot.held reply.old reply.new }
-{
-    let cache = request.first;
-    ask(
-        alloc,
-        machine,
-        request.tenant,
-        Request::Destroy { cache },
-        reply,
-    )
-}
-
-#[cold]
-#[inline(never)]
-fn reap_event(
-    alloc: Global,
-    machine: &mut Machine,
-    request: &RequestNumbers,
-    reply: &mut ReplyNumbers,
-) -> u32
-    requires kind { request.now.kind ≡ REAP }
-    ensures status { result ≡ machine_status machine.old.slot.held }
-    ensures done { result ≡ DONE → RunsApart machine.old.slot.held machine.new.slot.held request.now reply.new }
-    ensures not_done { result ≢ DONE → TellsNothing machine.old.slot.held machine.new.slot.held reply.old reply.new }
-{
-    ask(alloc, machine, request.tenant, Request::Reap, reply)
 }
 
 /// [`partmem_event`] of any event.

@@ -176,6 +176,9 @@ const READ: usize = 4;
 
 const WRITE: usize = 5;
 
+/// All others.
+const RARE: usize = 6;
+
 /// Runs a request, and writes what it is answered over the first bytes of `buffer`; answers how many they are.
 #[inline(always)]
 fn answer_request(
@@ -233,7 +236,7 @@ fn answer_as<const COMMAND: usize>(
     }
 }
 
-/// [`answer_request`] for all others.
+/// [`answer_as`] of a command that no load is made of.
 #[inline(never)]
 fn answer_apart(tenant: u32, request: Request<'_>, kernel: &mut Kernel, buffer: &mut [u8]) -> usize
     requires askable { IsAskable request }
@@ -241,10 +244,7 @@ fn answer_apart(tenant: u32, request: Request<'_>, kernel: &mut Kernel, buffer: 
     ensures { PutsAnswer kernel.old (Ok (Some (Tenant tenant (command_of request.entry)))) kernel.new
         buffer.old buffer.new result }
 {
-    match kernel.ask(tenant, request) {
-        Some((t, answer)) => put_answer(t, answer, buffer),
-        None => put_no_tenant(buffer),
-    }
+    answer_as::<RARE>(tenant, request, kernel, buffer)
 }
 
 /// Writes what a tenant is answered over the first bytes of `buffer`, and answers how many they are; so do the others.
