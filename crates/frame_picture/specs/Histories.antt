@@ -19,8 +19,8 @@ abbrev pub columns_of : History → List Column
 columns_of h = take h.kept h.columns.items
 
 -- how many columns there is room for
-abbrev pub room_of : History → ℕ
-room_of h = vec_len h.columns
+abbrev pub most_columns_of : History → ℕ
+most_columns_of h = vec_len h.columns
 
 -- how many lines a column stands for
 abbrev pub width_of : History → ℕ
@@ -39,7 +39,7 @@ pub record SameShape (old new : History) : Type 0 where
   pub order : drawn_order new ≡ drawn_order old
   pub superblocks : superblocks_of new ≡ superblocks_of old
   pub tenants : tenants_of new ≡ tenants_of old
-  pub room : room_of new ≡ room_of old
+  pub room : most_columns_of new ≡ most_columns_of old
   pub refused : refusals_of new ≡ refusals_of old
 
 -- After so many lines, each line that is a multiple of the width has a column, and no other line has one.

@@ -31,9 +31,9 @@ abbrev pub refused_in : ℕ → Option Column → ℕ
 refused_in t None = 0
 refused_in t (Some column) = slice_index_or column.refused.items t 0
 
-abbrev pub refused_at : List Column → ℕ → ℕ → ℕ
-refused_at columns t n = refused_in t (slice_get columns n)
+abbrev pub refused_until : List Column → ℕ → ℕ → ℕ
+refused_until columns t n = refused_in t (slice_get columns n)
 
 abbrev pub refused_before : List Column → ℕ → ℕ → ℕ
 refused_before columns t zero = 0
-refused_before columns t (suc n) = refused_at columns t n
+refused_before columns t (suc n) = refused_until columns t n

@@ -76,14 +76,14 @@ pub struct History {
 impl History {
     ghost use Rattle.frame_picture.specs.declared.history.Column.{Column};
     ghost use Rattle.frame_picture.specs.Columns.{IsColumnAfter};
-    ghost use Rattle.frame_picture.specs.Histories.{drawn_order, superblocks_of, tenants_of, columns_of, room_of, width_of, line_count, refusals_of, SameShape, IsEven};
+    ghost use Rattle.frame_picture.specs.Histories.{drawn_order, superblocks_of, tenants_of, columns_of, most_columns_of, width_of, line_count, refusals_of, SameShape, IsEven};
 
     /// No line has been run yet; there is room for so many columns.
     pub fn new(alloc: Global, kernel: &Kernel, room: u32) -> Result<History, AllocError>
         ensures order { IfOk result (λ history. drawn_order history ≡ kernel.now.order) }
         ensures superblocks { IfOk result (λ history. superblocks_of history ≡ kernel.now.superblocks) }
         ensures tenants { IfOk result (λ history. tenants_of history ≡ kernel.now.tenants) }
-        ensures room { IfOk result (λ history. room_of history ≡ room) }
+        ensures room { IfOk result (λ history. most_columns_of history ≡ room) }
         ensures lines { IfOk result (λ history. line_count history ≡ 0) }
         ensures width { IfOk result (λ history. width_of history ≡ 1) }
         ensures even { IfOk result (λ history. IsEven (columns_of history) (width_of history) (line_count history)) }
@@ -130,7 +130,7 @@ impl History {
 
     /// How many columns there is room for.
     pub fn room(&self) -> usize
-        ensures { result ≡ room_of self.now }
+        ensures { result ≡ most_columns_of self.now }
     {
         self.columns.len()
     }
@@ -138,7 +138,7 @@ impl History {
     /// The columns in use.
     pub fn columns(&self) -> &[Column]
         ensures all { result.now ≡ columns_of self.now }
-        ensures fit { length result.now ≤ room_of self.now }
+        ensures fit { length result.now ≤ most_columns_of self.now }
     {
         &self.columns[..self.kept]
     }
@@ -176,7 +176,7 @@ impl History {
         ensures counted { line_count self.old < u32.MAX → line_count self.new ≡ line_count self.old + 1 }
         ensures sizes { SameShape self.old self.new }
         ensures width { width_of self.old ≤ width_of self.new }
-        ensures full { (width_of self.new ≡ width_of self.old) ⊎ (length (columns_of self.old) ≡ room_of self.old) }
+        ensures full { (width_of self.new ≡ width_of self.old) ⊎ (length (columns_of self.old) ≡ most_columns_of self.old) }
         ensures even { line_count self.old < 2 ^ 30 → IsEven (columns_of self.old) (width_of self.old) (line_count self.old)
             → IsEven (columns_of self.new) (width_of self.new) (line_count self.new) }
         ensures shown { (i : ℕ) (column : Column) → slice_get (columns_of self.new) i ≡ Some column
@@ -195,13 +195,13 @@ impl History {
         ensures lines { line_count self.new ≡ line_count self.old }
         ensures sizes { SameShape self.old self.new }
         ensures width { width_of self.old ≤ width_of self.new }
-        ensures full { (width_of self.new ≡ width_of self.old) ⊎ (length (columns_of self.old) ≡ room_of self.old) }
+        ensures full { (width_of self.new ≡ width_of self.old) ⊎ (length (columns_of self.old) ≡ most_columns_of self.old) }
         ensures shown { (i : ℕ) (column : Column) → slice_get (columns_of self.new) i ≡ Some column
             → (k : ℕ) × (slice_get (columns_of self.old) k ≡ Some column) }
         ensures even { line ≡ line_count self.old + 1 → line ≤ 2 ^ 30 → IsEven (columns_of self.old) (width_of self.old) (line_count self.old)
             → IsEven (columns_of self.new) (width_of self.new) (line_count self.new) }
         ensures due { line ≡ line_count self.old + 1 → IsEven (columns_of self.old) (width_of self.old) (line_count self.old)
-            → line ≤ 2 ^ 30 → line % width_of self.new ≡ 0 → length (columns_of self.new) < room_of self.new }
+            → line ≤ 2 ^ 30 → line % width_of self.new ≡ 0 → length (columns_of self.new) < most_columns_of self.new }
     {
         if line % self.width == 0 && self.kept >= self.columns.len() {
             self.halve();
@@ -213,7 +213,7 @@ impl History {
         ensures lines { line_count self.new ≡ line_count self.old }
         ensures sizes { SameShape self.old self.new }
         ensures width { width_of self.old ≤ width_of self.new }
-        ensures full { (width_of self.new ≡ width_of self.old) ⊎ (length (columns_of self.old) ≡ room_of self.old) }
+        ensures full { (width_of self.new ≡ width_of self.old) ⊎ (length (columns_of self.old) ≡ most_columns_of self.old) }
         ensures shown { (i : ℕ) (column : Column) → slice_get (columns_of self.new) i ≡ Some column
             → ((k : ℕ) × (slice_get (columns_of self.old) k ≡ Some column)) ⊎ IsColumnAfter kernel.now (line_count self.new) (refusals_of self.new) column }
     {
@@ -231,10 +231,10 @@ impl History {
         ensures lines { line_count self.new ≡ line_count self.old }
         ensures sizes { SameShape self.old self.new }
         ensures width { width_of self.new ≡ width_of self.old }
-        ensures one { length (columns_of self.old) < room_of self.old → length (columns_of self.new) ≡ length (columns_of self.old) + 1 }
-        ensures none { room_of self.old ≤ length (columns_of self.old) → columns_of self.new ≡ columns_of self.old }
+        ensures one { length (columns_of self.old) < most_columns_of self.old → length (columns_of self.new) ≡ length (columns_of self.old) + 1 }
+        ensures none { most_columns_of self.old ≤ length (columns_of self.old) → columns_of self.new ≡ columns_of self.old }
         ensures before { (i : ℕ) → i < length (columns_of self.old) → slice_get (columns_of self.new) i ≡ slice_get (columns_of self.old) i }
-        ensures last { (column : Column) → length (columns_of self.old) < room_of self.old
+        ensures last { (column : Column) → length (columns_of self.old) < most_columns_of self.old
             → slice_get (columns_of self.new) (length (columns_of self.old)) ≡ Some column → IsColumnAfter kernel.now (line_count self.old) (refusals_of self.old) column }
     {
         if let Some(column) = self.columns.get_mut(self.kept) {

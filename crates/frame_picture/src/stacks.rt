@@ -3,7 +3,7 @@
 ghost use Rattle.std.specs.Prelude.{◌≡◌, ◌≢◌, ◌-◌, ◌*◌, ◌^◌, ◌<◌, ◌≤◌, ℕ, Some, length, slice_get, MatchOption};
 ghost use Rattle.frame_picture.specs.declared.history.Column.{Column};
 ghost use Rattle.frame_picture.specs.declared.history.Figures.{Figures};
-ghost use Rattle.frame_picture.specs.Stacks.{frames_of_orders, free_in_column, free_before, refused_at, refused_before};
+ghost use Rattle.frame_picture.specs.Stacks.{frames_of_orders, free_in_column, free_before, refused_until, refused_before};
 
 use crate::history::{Column, Figures, ORDERS};
 
@@ -99,7 +99,7 @@ pub fn most_free(columns: &[Column], t: u8) -> u64
 
 /// How many requests of tenant `t` were refused for want of frames in the lines of a column.
 pub fn refused_in(columns: &[Column], t: u8, column: usize) -> u32
-    ensures { result ≡ refused_at columns.now t column - refused_before columns.now t column }
+    ensures { result ≡ refused_until columns.now t column - refused_before columns.now t column }
 {
     let before = if column == 0 {
         0
@@ -111,7 +111,7 @@ pub fn refused_in(columns: &[Column], t: u8, column: usize) -> u32
 
 /// How many had been refused up to a column.
 pub fn refused_at(columns: &[Column], t: u8, column: usize) -> u32
-    ensures { result ≡ refused_at columns.now t column }
+    ensures { result ≡ refused_until columns.now t column }
 {
     match columns.get(column) {
         Some(column) => column.refused.get(t as usize).copied().unwrap_or(0),

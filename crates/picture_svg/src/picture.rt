@@ -1,7 +1,7 @@
 //! The picture of a trace, in SVG.
 
 ghost use Rattle.std.specs.Prelude.{◌≡◌, ◌+◌, ◌<◌, IfOk, IfSome, IfNone, vec_len};
-ghost use Rattle.frame_picture.specs.Histories.{room_of, tenants_of};
+ghost use Rattle.frame_picture.specs.Histories.{most_columns_of, tenants_of};
 
 use crate::svg::{HEAD, band_height, draw_band, draw_head, draw_opening};
 use frame_picture::grid::Grid;
@@ -28,7 +28,7 @@ impl Picture {
     pub fn new(alloc: Global, history: &History, only: Option<u8>) -> Result<Picture, AllocError>
         ensures one { IfOk result (λ picture. IfSome only (λ t. t < 255 → (picture.first ≡ t) × (picture.end ≡ t + 1))) }
         ensures all { IfOk result (λ picture. IfNone only ((picture.first ≡ 0) × (picture.end ≡ tenants_of history.now))) }
-        ensures room { IfOk result (λ picture. vec_len picture.cells ≡ room_of history.now) }
+        ensures room { IfOk result (λ picture. vec_len picture.cells ≡ most_columns_of history.now) }
     {
         let (first, end) = match only {
             Some(t) => (t, t.saturating_add(1)),

@@ -1,7 +1,7 @@
 use Rattle.std.proofs.Common.{◌≡◌, ℕ, ◌+◌, ◌%◌, ◌^◌, ◌≤◌, ap, refl, subst, sym, ◌∙◌, arith, ◌⊎◌, inl, inr, Some, slice_get}
 use Rattle.frame_picture.specs.declared.history.Column.{Column}
 use Rattle.frame_picture.specs.Columns.{IsColumnAfter}
-use Rattle.frame_picture.specs.Histories.{columns_of, width_of, line_count, refusals_of, room_of}
+use Rattle.frame_picture.specs.Histories.{columns_of, width_of, line_count, refusals_of, most_columns_of}
 use Rattle.frame_picture.proofs.Even.{waits, keeps, moved}
 use Rattle.frame_picture.proofs.Filling.{old_or_new}
 use Rattle.frame_picture.proofs.history.History.add_line.Goals as goal
@@ -23,7 +23,7 @@ pub returns-then-line-self-eq0-clause-shown : goal.returns-then-line-self-eq0-cl
 returns-then-line-self-eq0-clause-shown c = λ i column there.
     told column
     (old_or_new (IsColumnAfter c.args.kernel.now c.saturating_add-line.result (refusals_of c.make_room.new.self)) (columns_of c.make_room.new.self) (columns_of c.keep.new.self)
-    (room_of c.make_room.new.self) c.keep.ensures.one c.keep.ensures.none c.keep.ensures.before
+    (most_columns_of c.make_room.new.self) c.keep.ensures.one c.keep.ensures.none c.keep.ensures.before
     (λ x free at. c.keep.ensures.last x free at) i column there)
   where
     told : (column : Column)
