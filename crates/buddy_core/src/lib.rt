@@ -8,6 +8,21 @@
 //!
 //! Contracts see a [`Buddy`] as the slots and the taken blocks of each tenant. Behind them each
 //! superblock has a tree of words that tells the orders of the free blocks inside each of its blocks.
+//!
+//! # Example
+//!
+//! ```
+//! use buddy_core::Buddy;
+//!
+//! // Two superblocks of 2^3 frames, and one tenant, who gets superblock 1 as slot 0.
+//! let mut buddy = Buddy::new(rt.alloc(), 3, 2, 1)?;
+//! buddy.add_slot(0, 0, 1);
+//! assert_eq!(rt; buddy.free_count(0, 3), 1);
+//! assert_eq!(rt; buddy.reserve(0, 0), Some(0));
+//! assert_eq!(rt; buddy.free_count(0, 2), 1);
+//! assert_eq!(rt; buddy.release(0, 0), Some(0));
+//! assert_eq!(rt; buddy.free_count(0, 3), 1);
+//! ```
 #![tactic(auto)]
 
 ghost use Rattle.std.specs.Prelude.{◌≡◌, ℕ, ◌+◌, ◌*◌, ◌/◌, ◌%◌, ◌^◌, ◌<◌, ◌≤◌, Some, None, List, length, slice_index, slice_index_or, MatchOption, IfOk, OnOk, OnErr, IfNone, IfSome, OnSome, IsSome};

@@ -7,6 +7,9 @@
 //! # Example
 //!
 //! ```
+//! use kernel_core::{Config, Kernel};
+//! use words_core::{Addressee, AdminCommand, Body, Command, Event, Refusal};
+//!
 //! let config = Config { order: 3, superblocks: 2, tenants: 2 };
 //! let mut kernel = Kernel::boot(rt.alloc(), config)?;
 //! let granted = kernel.step(&Event::Admin(AdminCommand::Grant { tenant: 0 }));
@@ -18,9 +21,8 @@
 //! assert_eq!(rt; refused.body, Body::Refused(Refusal::NoFrames));
 //! ```
 //!
-//! Another crate has the line `NAME: kernel_core words_core` in crates.txt, and
-//! `use kernel_core::{Config, Kernel};` and `use words_core::{Addressee, AdminCommand, Body, Command, Event, Refusal};`.
-//! `step` asks for a proof that the pattern of a cache has a byte; of other commands it follows from their form.
+//! The crate that does this has the line `NAME: kernel_core words_core` in `crates.txt`. `step` requires that the pattern of a
+//! cache has a byte; for other commands this follows from their form.
 #![tactic(auto)]
 
 mod caches;

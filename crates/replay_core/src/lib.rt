@@ -1,5 +1,20 @@
 //! Traces in, replies out: bytes in pieces to bytes in pieces, through the kernel, whatever the pieces are and wherever
 //! an end fails.
+//!
+//! # Example
+//!
+//! ```
+//! use kernel_core::{Config, Kernel};
+//! use replay_core::{ReaderFeed, WriterDrain, replay};
+//!
+//! let config = Config { order: 3, superblocks: 2, tenants: 2 };
+//! let mut kernel = Kernel::boot(rt.alloc(), config)?;
+//! let mut feed = ReaderFeed::new(b"admin grant 0\n0 alloc 1\n".as_slice());
+//! let mut replies = Vec::new(rt.alloc());
+//! replay(&mut kernel, &mut feed, &mut WriterDrain::new(&mut replies), None)?;
+//! let lines = b"admin> granted 0 slot 0 superblock 0\n0> frame 0\n";
+//! assert_eq!(rt; replies.as_slice(), lines.as_slice());
+//! ```
 #![tactic(auto)]
 
 mod answer_line;

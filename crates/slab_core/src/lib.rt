@@ -7,6 +7,25 @@
 //! caches show for it, and to spare all other tenants.
 //!
 //! Only [`Slabs::new`] allocates.
+//!
+//! # Example
+//!
+//! ```
+//! use buddy_core::Buddy;
+//! use layout_core::{Layout, Pattern};
+//! use slab_core::Slabs;
+//! use space_core::Space;
+//!
+//! let mut space = Space::new(rt.alloc(), 3, 2, 2)?;
+//! let mut buddy = Buddy::new(rt.alloc(), 3, 2, 2)?;
+//! let mut slabs = Slabs::new(rt.alloc(), 3, 2, 2)?;
+//! let (slot, superblock) = space.grant(0)?;
+//! buddy.add_slot(0, slot, superblock);
+//! let pattern = Pattern::new(b"\xa5").unwrap();
+//! slabs.create(0, Layout::of(200, 8)?, pattern);
+//! assert_eq!(rt; slabs.take(&mut space, &mut buddy, 0, 0), Ok(0));
+//! assert_eq!(rt; space.window(0, 0, 2), Some([0xa5, 0xa5].as_slice()));
+//! ```
 #![tactic(auto)]
 
 ghost use Rattle.std.specs.Prelude.{◌≡◌, ℕ, ◌≤◌, IfOk};

@@ -4,6 +4,20 @@
 //! writes one line of a [`Reply`]. A [`Request`] is a tenant's command that is borrowed, and an
 //! [`Answer`] a reply of one line in few bytes, which [`write_answer`] writes. No call of this
 //! crate allocates.
+//!
+//! # Example
+//!
+//! ```
+//! use arrayvec::ArrayVec;
+//! use words_core::{Addressee, Body, Command, Event, Reply, read_line, write_line};
+//!
+//! let event = read_line(b"0 alloc 2")?;
+//! assert_eq!(rt; event, Some(Event::Tenant(0, Command::Alloc { order: 2 })));
+//! let reply = Reply { addressee: Addressee::Tenant(0), body: Body::Frame(4) };
+//! let mut line = ArrayVec::new();
+//! write_line(&reply, 0, &mut line);
+//! assert_eq!(rt; line.as_slice(), b"0> frame 4\n".as_slice());
+//! ```
 #![tactic(auto)]
 
 mod answer;
