@@ -9,7 +9,7 @@ use Rattle.model_core.specs.Machine.{in_block}
 use Rattle.promise_core.specs.Bytes.{Holder, Cell, Cells, is_object, is_same, doubted, without, with_bytes}
 use Rattle.promise_core.specs.Holdings.{ToldCache, slab_around, are_apart}
 use Rattle.promise_core.specs.State.{with_object}
-use Rattle.judge_bytes.specs.Left.{Left, left_slots, has_place, Becomes}
+use Rattle.judge_bytes.specs.Left.{Left, left_slots, has_place, Becomes, left_at}
 use Rattle.judge_bytes.specs.Inside.{StaysNear, IsNear, IsHolderNear, AreSlots, AreStepped, within, doubted_of, removed_of}
 use Rattle.judge_bytes.proofs.Stepping.{becomes}
 use Rattle.judge_bytes.proofs.Places.{in_frames, in_all}
@@ -118,9 +118,9 @@ pub given : (old new : Left) (reach : List ℕ) (number first begin end : ℕ) �
     → Becomes old (left_slots old) (doubted (λ place. is_same (Holder.Object number first))) new
 given old new reach number first begin end are is_begin is_end e after =
     becomes old new (within begin end (doubted_of (is_same (Holder.Object number first)))) (doubted (λ place. is_same (Holder.Object number first))) e after
-    (λ place cells low at. ap (λ (b : ℕ). within b end (doubted_of (is_same (Holder.Object number first))) place (cells place)) is_begin
-    ∙ doubted_object reach number first end place cells (subst (IsNear reach place) at (are.near place)) (far place low))
-    (λ place cells off. doubted_none (λ place. is_same (Holder.Object number first)) place cells)
+    (λ place low. ap (λ (b : ℕ). within b end (doubted_of (is_same (Holder.Object number first))) place (left_at old place)) is_begin
+    ∙ doubted_object reach number first end place (left_at old) (are.near place) (far place low))
+    (λ place off. doubted_none (λ place. is_same (Holder.Object number first)) place (left_at old))
   where
     far : (place : ℕ) → place < 2 ^ 32 → place < first + slice_index reach number → place < end
     far place low near = omega arith
@@ -139,25 +139,24 @@ put_there holder begin bytes from end is_from is_end place cells =
     go false = refl
 
 -- what is left then
-pub put : (old new : Left) (holder : Holder) (begin : ℕ) (bytes told : List ℕ) (from end : ℕ) → bytes ≡ told → from ≡ begin → end ≡ begin + length bytes
-    → new.order ≡ old.order → ((j : ℕ) → j < length told → has_place old (begin + j) ≡ true)
+pub put : (old new : Left) (holder : Holder) (begin : ℕ) (bytes : List ℕ) (from end : ℕ) → from ≡ begin → end ≡ begin + length bytes
+    → new.order ≡ old.order → ((j : ℕ) → j < length bytes → has_place old (begin + j) ≡ true)
     → AreStepped old.order (within from end (λ place cell. with_bytes holder begin bytes (λ _. cell) place)) old.slots new.slots
-    → Becomes old (left_slots old) (with_bytes holder begin told) new
-put old new holder begin bytes told from end is_told is_from is_end e held after =
-    becomes old new (within from end (λ place cell. with_bytes holder begin bytes (λ _. cell) place)) (with_bytes holder begin told) e after
-    (λ place cells low at. put_there holder begin bytes from end is_from is_end place cells
-    ∙ ap (λ (bs : List ℕ). with_bytes holder begin bs cells place) is_told)
-    (λ place cells off none. outside place cells off none (leb begin place && ltb place (begin + length told)) refl)
+    → Becomes old (left_slots old) (with_bytes holder begin bytes) new
+put old new holder begin bytes from end is_from is_end e held after =
+    becomes old new (within from end (λ place cell. with_bytes holder begin bytes (λ _. cell) place)) (with_bytes holder begin bytes) e after
+    (λ place low. put_there holder begin bytes from end is_from is_end place (left_at old))
+    (λ place off none. outside place off none (leb begin place && ltb place (begin + length bytes)) refl)
   where
-    outside : (place : ℕ) (cells : Cells) → has_place old place ≡ false → cells place ≡ None → (b : Bool) → (leb begin place && ltb place (begin + length told)) ≡ b
-        → (if b then Some (record { holder = holder; byte = get_or told (place - begin) 0; sure = true }) else cells place) ≡ None
-    outside place cells off none true inside =
+    outside : (place : ℕ) → has_place old place ≡ false → left_at old place ≡ None → (b : Bool) → (leb begin place && ltb place (begin + length bytes)) ≡ b
+        → (if b then Some (record { holder = holder; byte = get_or bytes (place - begin) 0; sure = true }) else left_at old place) ≡ None
+    outside place off none true inside =
         let parts = and_parts _ _ inside in
         let low : begin ≤ place = leb-true begin place parts.0 in
-        let high : place < begin + length told = ltb-true place (begin + length told) parts.1 in
+        let high : place < begin + length bytes = ltb-true place (begin + length bytes) parts.1 in
         let back : begin + (place - begin) ≡ place = omega (arith, low) in
         absurd (false≢true (sym off ∙ subst (λ p. has_place old p ≡ true) back (held (place - begin) (omega (arith, low, high)))))
-    outside place cells off none false inside = none
+    outside place off none false inside = none
 
 near_more : (reach more : List ℕ) (place : ℕ) (cell : Option Cell) → ((n : ℕ) → slice_index reach n ≤ slice_index more n)
     → IsNear reach place cell → IsNear more place cell

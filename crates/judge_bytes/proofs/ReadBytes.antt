@@ -1,24 +1,13 @@
 -- What may be read.
-use Rattle.std.proofs.Common.{◌≡◌, ℕ, suc, ◌+◌, ◌-◌, ◌^◌, ◌<◌, ◌≤◌, Bool, true, false, leb, List, [], ◌∷◌, length, get_or, drop, Option, Some, None, inl, inr, refl, sym, ap, ◌∙◌, subst, arith}
+use Rattle.std.proofs.Common.{◌≡◌, ℕ, ◌+◌, ◌<◌, ◌≤◌, Bool, true, false, leb, List, [], ◌∷◌, length, get_or, drop, Option, Some, None, refl, sym, ap, ◌∙◌, arith}
 use Rattle.std.specs.Prelude.{if◌then◌else◌, ◌&&◌, not, find, nat_lt}
 use Rattle.std.specs.List.{list_any}
 use Rattle.std.specs.Option.{option_map_or}
-use Rattle.std.proofs.lemmas.Bool.{leb-true, cases_lt}
+use Rattle.std.proofs.lemmas.Bool.{leb-true}
 use Rattle.std.proofs.lemmas.List.{at_drop_more}
 use Rattle.model_core.specs.Reach.{is_within, within_block}
 use Rattle.promise_core.specs.Holdings.{Holdings, ToldCache}
-use Rattle.promise_core.specs.Bytes.{Holder, Cell, Cells, may_be, may_all_be, told_fresh_byte, object_with, holder_of}
-
--- the same bytes may be read where the same was left
-pub same_read : (h : Holdings) (f g : Cells) (holder : Holder) (place : ℕ) (bytes : List ℕ)
-    → ((j : ℕ) → j < length bytes → f (place + j) ≡ g (place + j)) → may_all_be h f holder place bytes ≡ may_all_be h g holder place bytes
-same_read h f g holder place [] same = refl
-same_read h f g holder place (byte ∷ bytes) same =
-    let here : f place ≡ g place = subst (λ (p : ℕ). f p ≡ g p) (omega arith) (same 0 (omega arith)) in
-    let rest : may_all_be h f holder (place + 1) bytes ≡ may_all_be h g holder (place + 1) bytes = same_read h f g holder (place + 1) bytes
-    (λ j lt. subst (λ (p : ℕ). f p ≡ g p) (omega arith) (same (suc j) (omega arith))) in
-    ap (λ (c : Option Cell). may_be holder (told_fresh_byte h holder place) c byte && may_all_be h f holder (place + 1) bytes) here
-    ∙ ap (λ (t : Bool). may_be holder (told_fresh_byte h holder place) (g place) byte && t) rest
+use Rattle.promise_core.specs.Bytes.{Holder, Cells, may_be, may_all_be, told_fresh_byte, object_with, holder_of}
 
 -- one byte more
 pub read_more : (h : Holdings) (f : Cells) (holder : Holder) (place i : ℕ) (bytes : List ℕ) (byte : ℕ) → i < length bytes → byte ≡ get_or bytes i byte
@@ -59,11 +48,3 @@ begins h place len number first e = go (not (nat_lt 0 len)) (list_any (within_bl
     go true b e = cc
     go false true e = cc
     go false false e = object_with_begins place len number first h.caches e
-
--- a range of low places ends by 2 ^ 32
-pub range_low : (has : ℕ → Bool) (place len : ℕ) → ((p : ℕ) → has p ≡ true → p < 2 ^ 32) → ((j : ℕ) → j < len → has (place + j) ≡ true)
-    → place < 2 ^ 32 → place + len ≤ 2 ^ 32
-range_low has place len low all at = elim (cases_lt 0 len) [
-  | inl h ↦ (let last = low (place + (len - 1)) (all (len - 1) (omega arith)) in omega (arith, last, h))
-  | inr h ↦ omega (arith, at, h)
-]

@@ -6,8 +6,8 @@ use Rattle.std.specs.Option.{option_and_then}
 use Rattle.std.proofs.lemmas.Bool.{eqb-true, eqb-false, cases_lt}
 use Rattle.std.proofs.lemmas.List.{get_or-replicate, get_or_past, length-replicate}
 use Rattle.model_core.specs.Machine.{slot_of}
-use Rattle.promise_core.specs.Bytes.{Cell, Cells, without}
-use Rattle.judge_bytes.specs.Left.{LeftSlot, Left, slot_places, left_in, slots_in, left_slots, AreLeft, Becomes}
+use Rattle.promise_core.specs.Bytes.{Cell, without}
+use Rattle.judge_bytes.specs.Left.{LeftSlot, Left, slot_places, left_in, slots_in, left_slots, Becomes, left_at}
 use Rattle.judge_bytes.specs.Inside.{IsNear, IsSlotWhole, AreSlots}
 use Rattle.judge_bytes.proofs.Stepping.{none_left}
 use Rattle.judge_bytes.proofs.Changes.{near_removed}
@@ -74,8 +74,7 @@ pub taken_back : (old : Left) (u : ℕ) → Becomes old (filter (λ v. not (v ==
 taken_back old u = record {
   order = refl;
   slots = slots_less u old.slots;
-  cells = λ cells are place. left_less old.order u place old.slots
-      ∙ ap (option_and_then (λ (cell : Cell). if slot_of old.order place == u then None else Some cell)) (are place);
+  cells = λ i place. left_less old.order u place old.slots i;
 }
 
 -- a slot at which nothing was left
@@ -105,11 +104,11 @@ pub granted : (old : Left) (u : ℕ) → list_any (λ v. v == u) (left_slots old
 granted old u new = record {
   order = refl;
   slots = refl;
-  cells = λ cells are place. go cells are place (u == slot_of old.order place) refl;
+  cells = λ i place. go place (u == slot_of old.order place) refl i;
 }
   where
-    go : (cells : Cells) → AreLeft old cells → (place : ℕ) (b : Bool) → (u == slot_of old.order place) ≡ b
-        → (if b then get_or (replicate (slot_places old.order) None) (place - u * slot_places old.order) None else left_in old.order old.slots place) ≡ cells place
-    go cells are place true is = fresh_at (slot_places old.order) (place - u * slot_places old.order)
-        ∙ (sym (none_left old.order place old.slots (subst (λ n. list_any (λ v. v == n) (left_slots old) ≡ false) (eqb-true u (slot_of old.order place) is) new)) ∙ are place)
-    go cells are place false is = are place
+    go : (place : ℕ) (b : Bool) → (u == slot_of old.order place) ≡ b
+        → (if b then get_or (replicate (slot_places old.order) None) (place - u * slot_places old.order) None else left_in old.order old.slots place) ≡ left_at old place
+    go place true is = fresh_at (slot_places old.order) (place - u * slot_places old.order)
+        ∙ sym (none_left old.order place old.slots (subst (λ n. list_any (λ v. v == n) (left_slots old) ≡ false) (eqb-true u (slot_of old.order place) is) new))
+    go place false is = refl

@@ -5,7 +5,7 @@ use Rattle.std.specs.List.{list_any, AllByRecursion}
 use Rattle.std.proofs.lemmas.Bool.{eqb-true, eq-eqb, false≢true}
 use Rattle.model_core.specs.Machine.{slot_of}
 use Rattle.promise_core.specs.Bytes.{Cell, Cells}
-use Rattle.judge_bytes.specs.Left.{LeftSlot, Left, slot_places, left_in, slots_in, left_slots, has_place, AreLeft, Becomes}
+use Rattle.judge_bytes.specs.Left.{LeftSlot, Left, slot_places, left_in, slots_in, left_slots, has_place, Becomes, left_at}
 use Rattle.judge_bytes.specs.Inside.{CellStep, IsNear, StaysNear, IsSlotWhole, AreSlots, IsStepped, AreStepped, within}
 use Rattle.std.proofs.lemmas.List.{at_drop_more}
 use Rattle.judge_bytes.proofs.Places.{inside_slot, inside_behind}
@@ -90,19 +90,19 @@ near_within begin end step keeps reach place cell near = go (leb begin place && 
 
 -- the relation of what was left before and after
 pub becomes : (old new : Left) (step : CellStep) (change : Cells → Cells) → new.order ≡ old.order → AreStepped old.order step old.slots new.slots
-    → ((place : ℕ) (cells : Cells) → place < 2 ^ 32 → left_in old.order old.slots place ≡ cells place → step place (cells place) ≡ change cells place)
-    → ((place : ℕ) (cells : Cells) → has_place old place ≡ false → cells place ≡ None → change cells place ≡ None)
+    → ((place : ℕ) → place < 2 ^ 32 → step place (left_at old place) ≡ change (left_at old) place)
+    → ((place : ℕ) → has_place old place ≡ false → left_at old place ≡ None → change (left_at old) place ≡ None)
     → Becomes old (left_slots old) change new
 becomes old new step change e after same none = record {
   order = e;
   slots = after.slots;
-  cells = λ cells are place. subst (λ (o : ℕ). left_in o new.slots place ≡ change cells place) (sym e) (go cells are place (has_place old place) refl);
+  cells = λ i place. subst (λ (o : ℕ). left_in o new.slots place ≡ change (left_at old) place) (sym e) (go place (has_place old place) refl) i;
 }
   where
-    go : (cells : Cells) → AreLeft old cells → (place : ℕ) (b : Bool) → has_place old place ≡ b → left_in old.order new.slots place ≡ change cells place
-    go cells are place true has = let at = after.cells place has in at.1 ∙ (ap (step place) (are place) ∙ same place cells at.0 (are place))
-    go cells are place false off = none_left old.order place new.slots (ap (list_any (λ u. u == slot_of old.order place)) after.slots ∙ off)
-        ∙ sym (none place cells off (sym (are place) ∙ none_left old.order place old.slots off))
+    go : (place : ℕ) (b : Bool) → has_place old place ≡ b → left_in old.order new.slots place ≡ change (left_at old) place
+    go place true has = let at = after.cells place has in at.1 ∙ same place at.0
+    go place false off = none_left old.order place new.slots (ap (list_any (λ u. u == slot_of old.order place)) after.slots ∙ off)
+        ∙ sym (none place off (none_left old.order place old.slots off))
 
 -- the slots from one on that has the place, or has it not
 pub found_slot : (order place i : ℕ) (ss : List LeftSlot) (s : LeftSlot) → i < length ss → s ≡ get_or ss i s → (s.slot == slot_of order place) ≡ true

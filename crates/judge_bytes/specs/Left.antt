@@ -39,12 +39,8 @@ left_slots left = slots_in left.slots
 abbrev pub has_place : Left → ℕ → Bool
 has_place left place = list_any (λ u. u == slot_of left.order place) (left_slots left)
 
--- at each place that was left which these cells tell: nothing, where the place is of no slot
-abbrev pub AreLeft : Left → Cells → Type 0
-AreLeft left cells = (place : ℕ) → left_at left place ≡ cells place
-
--- then the slots are these, and whatever was left before, it is what `change` makes of it
+-- then the slots are these, and what was left is what `change` makes of it
 pub record Becomes (old : Left) (held : List ℕ) (change : Cells → Cells) (new : Left) : Type 0 where
   pub order : new.order ≡ old.order
   pub slots : left_slots new ≡ held
-  pub cells : (cells : Cells) → AreLeft old cells → AreLeft new (change cells)
+  pub cells : left_at new ≡ change (left_at old)

@@ -18,9 +18,7 @@ use crate::slots::{change_slots, drop_slot, kept_from, left_in, places_of};
 use crate::tests_of_holders::{
     IsElse, IsInNoSlab, IsNoPage, IsNotBeside, IsObject, IsOfCache, IsPage,
 };
-use arrayvec::ArrayVec;
 use judge_core::{FrameBlock, Held, LeftByte, RangeHolder};
-use model_core::limits::MOST_BYTES;
 use std::alloc::{AllocError, Global};
 use std::marker::Model;
 
@@ -96,12 +94,11 @@ impl LeftBytes {
     }
 
     /// These bytes of the holder are told or written, from a place on, all of them in slots that the tenant holds.
-    pub fn put(&mut self, holder: RangeHolder, place: u32, bytes: &ArrayVec<u8, MOST_BYTES>)
-        requires held { (j : ℕ) → j < length bytes.now.items → has_place self.old (place + j) ≡ true }
+    pub fn put(&mut self, holder: RangeHolder, place: u32, bytes: &[u8])
+        requires held { (j : ℕ) → j < length bytes.now → has_place self.old (place + j) ≡ true }
         requires near { (number first : ℕ) → shown_holder holder ≡ Holder.Object number first → first ≤ place }
-        ensures { Becomes self.old (left_slots self.old) (with_bytes (shown_holder holder) place bytes.now.items) self.new }
+        ensures { Becomes self.old (left_slots self.old) (with_bytes (shown_holder holder) place bytes.now) self.new }
     {
-        let bytes = bytes.as_slice();
         let begin = u64::from(place);
         let end = begin + bytes.len() as u64;
         extend_reach(&mut self.reach, holder, end);

@@ -3,32 +3,23 @@
 ghost use Rattle.std.specs.Prelude.{◌≡◌, ℕ, ◌+◌, ◌^◌, ◌<◌, ◌≤◌, true, length, option_map};
 ghost use Rattle.std.specs.Option.{option_copied};
 ghost use Rattle.promise_core.specs.Holdings.{Holdings};
-ghost use Rattle.promise_core.specs.Bytes.{Cells, may_all_be, may_be, told_fresh_byte};
+ghost use Rattle.promise_core.specs.Bytes.{may_all_be, may_be, told_fresh_byte};
 ghost use Rattle.judge_core.specs.Holders.{shown_holder, shown_cell};
-ghost use Rattle.judge_bytes.specs.Left.{left_at, has_place, AreLeft};
+ghost use Rattle.judge_bytes.specs.Left.{left_at, has_place};
 ghost use Rattle.judge_bytes.specs.Inside.{AreFrom, cache_of};
 
 use crate::kept::KeptByte;
 use crate::left::LeftBytes;
-use arrayvec::ArrayVec;
 use judge_core::{Held, HeldCache, LeftByte, RangeHolder};
-use model_core::limits::MOST_BYTES;
 
 impl LeftBytes {
     /// Whether these bytes may be read of the holder from a place on, all of them in slots that the tenant holds.
-    pub fn may_read(
-        &self,
-        held: &Held,
-        holder: RangeHolder,
-        place: u32,
-        bytes: &ArrayVec<u8, MOST_BYTES>,
-    ) -> bool
-        requires { (j : ℕ) → j < length bytes.now.items → has_place self.now (place + j) ≡ true }
-        ensures { (cells : Cells) → AreLeft self.now cells
-            → result ≡ may_all_be held.now cells (shown_holder holder) place bytes.now.items }
+    pub fn may_read(&self, held: &Held, holder: RangeHolder, place: u32, bytes: &[u8]) -> bool
+        requires { (j : ℕ) → j < length bytes.now → has_place self.now (place + j) ≡ true }
+        ensures { result ≡ may_all_be held.now (left_at self.now) (shown_holder holder) place bytes.now }
     {
         self.places_are_low();
-        self.may_read_all(held, holder, place, bytes.as_slice())
+        self.may_read_all(held, holder, place, bytes)
     }
 
     // It stands apart so that the loop over the bytes has all registers.

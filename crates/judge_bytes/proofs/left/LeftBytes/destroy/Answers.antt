@@ -1,3 +1,4 @@
+use Rattle.judge_bytes.specs.Left.{left_at}
 use Rattle.std.proofs.Common.{eqb}
 use Rattle.promise_core.specs.Bytes.{is_object}
 use Rattle.judge_bytes.proofs.Stepping.{becomes}
@@ -9,5 +10,5 @@ change-requires c = near_removed (is_object (λ n p. eqb n c.args.number))
 
 pub returns : goal.returns
 returns c = becomes c.args.self.now c.change.new.self _ _ c.change.ensures.order c.change.ensures.slots
-    (λ place cells lt at. removed_all (is_object (λ n p. eqb n c.args.number)) place cells lt)
-    (λ place cells off. without_none (λ place. is_object (λ n p. eqb n c.args.number)) place cells)
+    (λ place lt. removed_all (is_object (λ n p. eqb n c.args.number)) place (left_at c.args.self.now) lt)
+    (λ place off. without_none (λ place. is_object (λ n p. eqb n c.args.number)) place (left_at c.args.self.now))

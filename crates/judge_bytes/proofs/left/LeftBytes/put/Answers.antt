@@ -14,7 +14,7 @@ invariant_of-self c =
     let ss = c.self.inside.slots.items in
     let ts = c.change_slots.new.slots in
     let order = c.self.inside.order in
-    let bytes = c.as_slice-bytes.result.now in
+    let bytes = c.args.bytes.now in
     let after = subst (λ (xs : List LeftSlot). AreStepped order (within c.from-begin.result (c.from-begin.result + length bytes)
     (λ place cell. with_bytes (shown_holder c.args.holder) c.args.place bytes (λ _. cell) place)) xs ts) c.deref_mut.ensures.value c.change_slots.ensures in
     let items = with_items_is c.self.inside.slots ts (omega (arith, ap length c.deref_mut.ensures.value, c.self.inside.slots.ok.0)) in (
@@ -30,14 +30,14 @@ returns c =
     let ss = c.self.inside.slots.items in
     let ts = c.change_slots.new.slots in
     let order = c.self.inside.order in
-    let bytes = c.as_slice-bytes.result.now in
+    let bytes = c.args.bytes.now in
     let items = with_items_is c.self.inside.slots ts (omega (arith, ap length c.deref_mut.ensures.value, c.self.inside.slots.ok.0)) in
     let after = subst (λ (xs : List LeftSlot). AreStepped order (within c.from-begin.result (c.from-begin.result + length bytes)
     (λ place cell. with_bytes (shown_holder c.args.holder) c.args.place bytes (λ _. cell) place)) xs ts) c.deref_mut.ensures.value c.change_slots.ensures in
     let new : Left = record { order = order; slots = (with_items c.self.inside.slots ts).items } in
     let stepped = subst (λ (xs : List LeftSlot). AreStepped order (within c.from-begin.result (c.from-begin.result + length bytes)
     (λ place cell. with_bytes (shown_holder c.args.holder) c.args.place bytes (λ _. cell) place)) ss xs) (sym items) after in
-    let held = subst (λ (old : Left). (j : ℕ) → j < length c.args.bytes.now.items → has_place old (c.args.place + j) ≡ true) (sym c.self.view_is) c.requires.held in
-    subst (λ (old : Left). Becomes old (left_slots old) (with_bytes (shown_holder c.args.holder) c.args.place c.args.bytes.now.items) new) c.self.view_is
-    (put (record { order = order; slots = ss }) new (shown_holder c.args.holder) c.args.place bytes c.args.bytes.now.items c.from-begin.result (c.from-begin.result + length bytes)
-    c.as_slice-bytes.ensures.value c.from-begin.ensures (omega (arith, c.from-begin.ensures)) refl held stepped)
+    let held = subst (λ (old : Left). (j : ℕ) → j < length c.args.bytes.now → has_place old (c.args.place + j) ≡ true) (sym c.self.view_is) c.requires.held in
+    subst (λ (old : Left). Becomes old (left_slots old) (with_bytes (shown_holder c.args.holder) c.args.place c.args.bytes.now) new) c.self.view_is
+    (put (record { order = order; slots = ss }) new (shown_holder c.args.holder) c.args.place bytes c.from-begin.result (c.from-begin.result + length bytes)
+    c.from-begin.ensures (omega (arith, c.from-begin.ensures)) refl held stepped)

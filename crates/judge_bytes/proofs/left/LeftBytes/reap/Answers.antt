@@ -1,3 +1,4 @@
+use Rattle.judge_bytes.specs.Left.{left_at}
 use Rattle.promise_core.specs.Bytes.{is_object}
 use Rattle.promise_core.specs.State.{is_in_no_slab}
 use Rattle.judge_bytes.proofs.Stepping.{becomes}
@@ -9,5 +10,5 @@ change-requires c = near_removed (is_object (is_in_no_slab c.args.held.now))
 
 pub returns : goal.returns
 returns c = becomes c.args.self.now c.change.new.self _ _ c.change.ensures.order c.change.ensures.slots
-    (λ place cells lt at. removed_all (is_object (is_in_no_slab c.args.held.now)) place cells lt)
-    (λ place cells off. without_none (λ place. is_object (is_in_no_slab c.args.held.now)) place cells)
+    (λ place lt. removed_all (is_object (is_in_no_slab c.args.held.now)) place (left_at c.args.self.now) lt)
+    (λ place off. without_none (λ place. is_object (is_in_no_slab c.args.held.now)) place (left_at c.args.self.now))

@@ -1,7 +1,7 @@
 use Rattle.std.proofs.Common.{◌≡◌, ℕ, ◌+◌, ◌-◌, ◌^◌, min, max, ap, ◌∙◌, subst, arith}
 use Rattle.std.specs.Prelude.{slice_index}
-use Rattle.judge_bytes.specs.Left.{Left}
-use Rattle.judge_bytes.specs.Inside.{IsNear, AreSlots, AreStepped, within, removed_of}
+use Rattle.judge_bytes.specs.Left.{Left, left_at}
+use Rattle.judge_bytes.specs.Inside.{AreSlots, AreStepped, within, removed_of}
 use Rattle.judge_bytes.proofs.Stepping.{becomes, stepped_twice}
 use Rattle.judge_bytes.proofs.Changes.{near_removed, object_none, not_beside, elsewhere, taken_twice}
 use Rattle.judge_bytes.proofs.left.LeftBytes.take.Goals as goal
@@ -26,7 +26,7 @@ returns c = λ cache is_number is_size is_slab.
     c.min.ensures ∙ ap (λ (n : ℕ). min c.end_byte-end.result n) (c.saturating_add-high.ensures ∙ ap (λ (n : ℕ). min n (2 ^ 64 - 1)) far) in
     becomes old c.change-2.new.self _ _ (c.change-2.ensures.order ∙ c.change.ensures.order)
     (stepped_twice old.order _ _ old.slots c.change.new.self.slots c.change-2.new.self.slots c.change.ensures.slots after)
-    (λ place cells small at. taken_twice c.self.inside.reach c.args.number c.args.first c.args.size c.args.slab.now c.first_byte-begin.result
+    (λ place small. taken_twice c.self.inside.reach c.args.number c.args.first c.args.size c.args.slab.now c.first_byte-begin.result
     c.end_byte-end.result c.max.result c.min.result c.first_byte-begin.ensures.value c.end_byte-end.ensures.value low high cache is_number is_size is_slab
-    place cells small (subst (IsNear c.self.inside.reach place) at (are.near place)))
-    (λ place cells off. object_none c.args.first cache place cells)
+    place (left_at old) small (are.near place))
+    (λ place off. object_none c.args.first cache place (left_at old))
