@@ -1,12 +1,13 @@
 -- The verdict on a reply, and what is known after it: by whom it is for, and by the verdict on its body.
-use Rattle.std.proofs.Common.{◌≡◌, ℕ, zero, suc, ◌<◌, Bool, true, false, ◌&&◌, List, [], ◌∷◌, length, drop, Option, Some, None, Result, Ok, Err, is_some, unwrap_or, slice_get, slice_set, refl, ap, sym, subst, ◌∙◌, inl, inr, arith}
-use Rattle.std.specs.Prelude.{if◌then◌else◌}
+use Rattle.std.proofs.Common.{◌≡◌, ℕ, zero, suc, ◌<◌, Bool, true, false, ◌&&◌, List, [], ◌∷◌, length, drop, map, Option, Some, None, Result, Ok, Err, is_some, unwrap_or, slice_get, slice_set, refl, ap, sym, subst, ◌∙◌, inl, inr, arith}
+use Rattle.std.specs.Prelude.{if◌then◌else◌, option_map}
 use Rattle.std.specs.Option.{option_map_or}
 use Rattle.std.proofs.lemmas.Bool.{cases_eq}
-use Rattle.std.proofs.lemmas.List.{length-set}
+use Rattle.std.proofs.lemmas.List.{length-set, map-set, set-get_or}
+use Rattle.std.proofs.lemmas.Option.{get_or_from_slice_get, slice_get-map}
+use Rattle.model_core.specs.declared.limits.TheConstants.{MOST_CACHES}
 use Rattle.model_core.specs.declared.owner.Owner.{Owner}
 use Rattle.words_core.specs.declared.event.Event.{Event}
-use Rattle.words_core.specs.declared.event.Command.{Command}
 use Rattle.words_core.specs.declared.event.Event.TheVariants as On
 use Rattle.words_core.specs.declared.event.AdminCommand.TheVariants as Do
 use Rattle.words_core.specs.declared.reply.Body.{Body}
@@ -15,46 +16,22 @@ use Rattle.world_core.proofs.MachineLists.{slice_get-set_other}
 use Rattle.promise_core.specs.declared.promise.Promise.{Promise}
 use Rattle.promise_core.specs.State.{State, Known, opening_state, state_after, owners_after}
 use Rattle.promise_core.specs.Promises.{is_for, is_no_tenant, named, known_after, verdict, kept, judged, allowed}
-use Rattle.judge_replies.specs.Verdicts.{broken, verdict_on}
-use Rattle.judge.specs.Showing.{Seen, ShowsState, FitsKnown, IsJudged}
-use Rattle.judge.specs.Machine.{SeenMachine, ShowsKnown, IsVerdict}
-use Rattle.judge.specs.Adding.{IsKeptAddition, IsAllowedAddition}
+use Rattle.judge.specs.declared.verdict.Failure.{Failure}
+use Rattle.judge.specs.declared.verdict.Failure.TheVariants as Of
+use Rattle.judge.specs.Verdicts.{broken, verdict_on}
+use Rattle.judge.specs.Seen.{Seen, state_of}
+use Rattle.judge.specs.Machine.{SeenMachine, known_of}
+use Rattle.judge.specs.Sizes.{FitsLimits}
+use Rattle.judge.specs.Judged.{failing, verdict_at, IsVerdictFor, AreOwnersAfter, IsJudged}
+use Rattle.judge.proofs.Owning.{opened}
+use Rattle.judge.proofs.Verdicts.{formless}
 
 -- Lists
-
-beside : {A B : Type 0} (xs : List A) (ys : List B) (t : ℕ) (y : B) → length xs ≡ length ys → slice_get ys t ≡ Some y → (x : A) × (slice_get xs t ≡ Some x)
-beside xs [] t y e is = absurd (cc)
-beside [] (z ∷ ys) t y e is = absurd (omega (arith, e))
-beside (x ∷ xs) (z ∷ ys) zero y e is = (x, refl)
-beside (x ∷ xs) (z ∷ ys) (suc t) y e is = beside xs ys t y (omega (arith, e)) is
-
-some_at : {A : Type 0} (xs : List A) (t : ℕ) → t < length xs → (x : A) × (slice_get xs t ≡ Some x)
-some_at [] t lt = absurd (omega arith)
-some_at (x ∷ xs) zero lt = (x, refl)
-some_at (x ∷ xs) (suc t) lt = some_at xs t (omega (arith, lt))
-
-none_beside : {A B : Type 0} (xs : List A) (ys : List B) (t : ℕ) → length xs ≡ length ys → slice_get ys t ≡ None → slice_get xs t ≡ None
-none_beside [] ys t e is = refl
-none_beside (x ∷ xs) [] t e is = absurd (omega (arith, e))
-none_beside (x ∷ xs) (z ∷ ys) zero e is = absurd (cc)
-none_beside (x ∷ xs) (z ∷ ys) (suc t) e is = none_beside xs ys t (omega (arith, e)) is
 
 pub set_is : {X : Type 0} (xs : List X) (i : ℕ) (x y : X) → slice_get (slice_set xs i y) i ≡ Some x → y ≡ x
 set_is [] i x y e = absurd (cc)
 set_is (z ∷ zs) zero x y e = cc
 set_is (z ∷ zs) (suc i) x y e = set_is zs i x y e
-
--- where one tenant and its state are others, and these are shown
-set_shown : (xs : List Seen) (ss : List State) (t : ℕ) (z : Seen) (n : State) → ShowsState z n
-    → ((k : ℕ) (y : Seen) (s : State) → slice_get xs k ≡ Some y → slice_get ss k ≡ Some s → ShowsState y s)
-    → (k : ℕ) (y : Seen) (s : State) → slice_get (slice_set xs t z) k ≡ Some y → slice_get (slice_set ss t n) k ≡ Some s → ShowsState y s
-set_shown xs ss t z n sh all k y s a b = elim (cases_eq t k) [
-  | inl same ↦
-      let at : slice_get (slice_set xs k z) k ≡ Some y = subst (λ i. slice_get (slice_set xs i z) k ≡ Some y) same a in
-      let of : slice_get (slice_set ss k n) k ≡ Some s = subst (λ i. slice_get (slice_set ss i n) k ≡ Some s) same b in
-      subst (λ v. ShowsState v s) (set_is xs k y z at) (subst (ShowsState z) (set_is ss k s n of) sh)
-  | inr other ↦ all k y s (sym (slice_get-set_other xs t k z other) ∙ a) (sym (slice_get-set_other ss t k n other) ∙ b)
-]
 
 -- Verdicts
 
@@ -90,119 +67,131 @@ module _ (event : Event) (reply : Reply) (w : Known) where
       verdict_is (kept event reply w s) after
       ∙ ap (λ b. turn (broken ((Promise.Form, b && is_some (state_after w.order event reply.body s)) ∷ drop 1 (kept event reply w s))) after) right
 
+-- where nothing is changed
+pub unchanged : (event : Event) (reply : Reply) (x : SeenMachine) (v : Result (Unit {0}) Promise) → allowed event reply (known_of x) ≡ turn v (known_of x)
+    → IsJudged event reply x x (failing v)
+unchanged event reply x (Ok u) is = (is, record { order = refl; superblocks = refl; tenants = refl })
+unchanged event reply x (Err promise) is = (is, refl)
+
 -- A tenant that does not exist
 
-pub stranger : (event : Event) (reply : Reply) (x : SeenMachine) (t : ℕ) (v : Result (Unit {0}) Promise) (w : Known) → named event ≡ Some t
-    → slice_get x.tenants t ≡ None → v ≡ broken ((Promise.Form, is_for event false reply.addressee) ∷ (Promise.Refusals, is_no_tenant reply.body) ∷ [])
-    → ShowsKnown x w → IsVerdict v (allowed event reply w) x
-stranger event reply x t v w name none is shown = go v
-    (found event reply w t None name (none_beside w.states x.tenants t shown.many none)
-    ∙ (verdict_is ((Promise.Form, is_for event false reply.addressee) ∷ (Promise.Refusals, is_no_tenant reply.body) ∷ []) w ∙ ap (λ r. turn r w) (sym is)))
-  where
-    go : (v : Result (Unit {0}) Promise) → allowed event reply w ≡ turn v w → IsVerdict v (allowed event reply w) x
-    go (Ok u) e = (w, e, shown)
-    go (Err promise) e = e
+pub stranger : (event : Event) (reply : Reply) (x : SeenMachine) (t : ℕ) → named event ≡ Some t → slice_get x.tenants t ≡ None
+    → allowed event reply (known_of x)
+    ≡ turn (broken ((Promise.Form, is_for event false reply.addressee) ∷ (Promise.Refusals, is_no_tenant reply.body) ∷ [])) (known_of x)
+stranger event reply x t name none = found event reply (known_of x) t None name (slice_get-map state_of x.tenants t ∙ ap (option_map state_of) none)
+    ∙ verdict_is ((Promise.Form, is_for event false reply.addressee) ∷ (Promise.Refusals, is_no_tenant reply.body) ∷ []) (known_of x)
 
 -- A tenant that does
 
-pub misled : (event : Event) (reply : Reply) (x : SeenMachine) (t : ℕ) (w : Known) → named event ≡ Some t → t < length x.tenants
-    → is_for event true reply.addressee ≡ false → ShowsKnown x w → allowed event reply w ≡ Err Promise.Form
-misled event reply x t w name within wrong shown =
-    let s : (s : State) × (slice_get w.states t ≡ Some s) = some_at w.states t (let many = shown.many in omega (arith, many, within)) in
-    found event reply w t (Some s.0) name s.1 ∙ astray event reply w s.0 wrong
+some_at : {A : Type 0} (xs : List A) (t : ℕ) → t < length xs → (x : A) × (slice_get xs t ≡ Some x)
+some_at [] t lt = absurd (omega arith)
+some_at (x ∷ xs) zero lt = (x, refl)
+some_at (x ∷ xs) (suc t) lt = some_at xs t (omega (arith, lt))
 
--- the machine after it
-abbrev pub followed : Event → Body → SeenMachine → ℕ → Seen → SeenMachine
-followed event body x t z =
-    record { order = x.order; owners = owners_after event body x.owners; tenants = slice_set x.tenants t z }
+pub misled : (event : Event) (reply : Reply) (x : SeenMachine) (t : ℕ) → named event ≡ Some t → t < length x.tenants
+    → is_for event true reply.addressee ≡ false → allowed event reply (known_of x) ≡ Err Promise.Form
+misled event reply x t name within wrong =
+    let y : (y : Seen) × (slice_get x.tenants t ≡ Some y) = some_at x.tenants t within in
+    found event reply (known_of x) t (Some (state_of y.0)) name (slice_get-map state_of x.tenants t ∙ ap (option_map state_of) y.1) ∙ astray event reply (known_of x) (state_of y.0) wrong
 
-module _ (event : Event) (reply : Reply) (x : SeenMachine) (t : ℕ) (y z : Seen) (w : Known) (name : named event ≡ Some t)
-    (right : is_for event true reply.addressee ≡ true) (here : slice_get x.tenants t ≡ Some y) (order : y.left.order ≡ x.order) (shown : ShowsKnown x w) where
-  state : (s : State) × (slice_get w.states t ≡ Some s)
-  state = beside w.states x.tenants t y shown.many here
+-- a reply that is none to the event
+pub misjudged : (event : Event) (reply : Reply) (x : SeenMachine) (t : ℕ) → named event ≡ Some t → t < length x.tenants
+    → is_for event true reply.addressee ≡ true → ((s : State) → state_after x.order event reply.body s ≡ None)
+    → IsJudged event reply x x (Err (Of.Broken Promise.Form))
+misjudged event reply x t name within right none =
+    let y : (y : Seen) × (slice_get x.tenants t ≡ Some y) = some_at x.tenants t within in
+    let s : State = state_of y.0 in
+    let after : Known = known_after event reply.body (known_of x) (unwrap_or (state_after x.order event reply.body s) s) in (
+      found event reply (known_of x) t (Some s) name (slice_get-map state_of x.tenants t ∙ ap (option_map state_of) y.1)
+          ∙ (addressed event reply (known_of x) s right ∙ ap (λ v. turn v after) (formless event reply.body (known_of x) s (none s))),
+      refl,
+    )
 
-  fits : FitsKnown y x.owners w
-  fits = record { limit = shown.limit; order = shown.order ∙ sym order; owned = shown.owned }
+-- the machine where one tenant is another, and the owners are others
+abbrev pub with_tenant : SeenMachine → List (Option Owner) → ℕ → Seen → SeenMachine
+with_tenant x owners t z = record { order = x.order; owners = owners; tenants = slice_set x.tenants t z }
 
-  at : (s : State) → slice_get w.states t ≡ Some s → ShowsState y s
-  at s is = shown.states t y s here is
-
-  after : State → Known
-  after next = record w { owners = owners_after event reply.body w.owners; states = slice_set w.states t next }
-
-  shows : (next : State) → ShowsState z next → ShowsKnown (followed event reply.body x t z) (after next)
-  unfolding after
-  shows next sh = record {
-    limit = shown.limit;
-    order = shown.order;
-    owned = ap (owners_after event reply.body) shown.owned;
-    many = length-set w.states t next ∙ (shown.many ∙ sym (length-set x.tenants t z));
-    states = set_shown x.tenants w.states t z next sh shown.states;
-  }
-
-  is_after : (s next : State) → state_after w.order event reply.body s ≡ Some next
-      → known_after event reply.body w (unwrap_or (state_after w.order event reply.body s) s) ≡ after next
-  unfolding after
-  is_after s next e = ap (λ o. known_after event reply.body w (unwrap_or o s)) e
-      ∙ ap (λ o. record w { owners = owners_after event reply.body w.owners; states = option_map_or (λ u. slice_set w.states u next) o w.states }) name
-
-  allowed_as : (v : Result (Unit {0}) Promise) (s : State) → slice_get w.states t ≡ Some s → v ≡ verdict_on event reply.body w s
-      → allowed event reply w ≡ turn v (known_after event reply.body w (unwrap_or (state_after w.order event reply.body s) s))
-  allowed_as v s is same = found event reply w t (Some s) name is ∙ (addressed event reply w s right
-      ∙ ap (λ r. turn r (known_after event reply.body w (unwrap_or (state_after w.order event reply.body s) s))) (sym same))
-
-  -- the verdict on the tenant is that on the machine
-  pub tenant_judged : (v : Result (Unit {0}) Promise) (new : SeenMachine) → IsJudged event reply.body x.owners y z v
-      → (v ≡ Ok tt → new ≡ followed event reply.body x t z) → IsVerdict v (allowed event reply w) new
-  tenant_judged (Ok u) new judged is =
-      let s : State = state.0 in
-      let at_t : slice_get w.states t ≡ Some s = state.1 in
-      let sh : ShowsState y s = at s at_t in
-      let f = (judged.kept refl).states s sh in
-      let next : state_after w.order event reply.body s ≡ Some f.0 = ap (λ k. state_after k event reply.body s) fits.order ∙ f.1 in (
-        after f.0,
-        allowed_as (Ok u) s at_t (judged.same w s fits sh) ∙ ap (λ k. Ok k) (is_after s f.0 next),
-        subst (λ m. ShowsKnown m (after f.0)) (sym (is refl)) (shows f.0 f.2),
-      )
-  tenant_judged (Err promise) new judged is =
-      let s : State = state.0 in
-      let at_t : slice_get w.states t ≡ Some s = state.1 in
-      allowed_as (Err promise) s at_t (judged.same w s fits (at s at_t))
-
-  -- a reply that keeps every promise is allowed
-  kept_allowed : ((s : State) → FitsKnown y x.owners w → ShowsState y s → verdict_on event reply.body w s ≡ Ok tt)
-      → (next : Known) × (allowed event reply w ≡ Ok next)
-  kept_allowed kept =
-      let s : State = state.0 in (
-        known_after event reply.body w (unwrap_or (state_after w.order event reply.body s) s),
-        allowed_as (Ok tt) s state.1 (sym (kept s fits (at s state.1))),
-      )
-
-pub addition_allowed : (event : Event) (reply : Reply) (x : SeenMachine) (t : ℕ) (y : Seen) → named event ≡ Some t
-    → is_for event true reply.addressee ≡ true → slice_get x.tenants t ≡ Some y → y.left.order ≡ x.order
-    → IsKeptAddition event reply.body x.owners y → IsAllowedAddition event reply x
-addition_allowed event reply x t y name right here order is = record {
-  adds = is.adds;
-  allowed = λ w shown. kept_allowed event reply x t y y w name right here order shown (λ s fits sh. is.kept w s fits sh);
+pub still_fits : (x : SeenMachine) (owners : List (Option Owner)) (t : ℕ) (y z : Seen) → FitsLimits x → length owners ≡ length x.owners
+    → slice_get x.tenants t ≡ Some y → z.left.order ≡ y.left.order → FitsLimits (with_tenant x owners t z)
+still_fits x owners t y z fits many here same = record {
+  small = fits.small;
+  few = let few = fits.few in omega (arith, many, few);
+  ordered = λ k v at. elim (cases_eq t k) [
+    | inl is ↦
+        let z_is : z ≡ v = set_is x.tenants k v z (subst (λ i. slice_get (slice_set x.tenants i z) k ≡ Some v) is at) in
+        sym (ap (λ (s : Seen). s.left.order) z_is) ∙ (same ∙ fits.ordered t y here)
+    | inr other ↦ fits.ordered k v (sym (slice_get-set_other x.tenants t k z other) ∙ at)
+  ];
 }
 
--- .. and only its own command
-tenant_owns : (t : ℕ) (command : Command) (body : Body) (os : List (Option Owner)) → owners_after (On.Tenant t command) body os ≡ os
-unfolding owners_after
-tenant_owns t command body os = refl
+-- nothing changed
+as_before : (x : SeenMachine) (t : ℕ) (y z : Seen) (owners : List (Option Owner)) → slice_get x.tenants t ≡ Some y → z ≡ y → owners ≡ x.owners
+    → with_tenant x owners t z ≡ x
+as_before x t y z owners here same is =
+    let at : slice_set x.tenants t y ≡ x.tenants = ap (slice_set x.tenants t) (sym (get_or_from_slice_get x.tenants t y y here)) ∙ set-get_or x.tenants t y in
+    λ i. record { order = x.order; owners = is i; tenants = (ap (slice_set x.tenants t) same ∙ at) i }
 
-pub command_judged : (t : ℕ) (command : Command) (reply : Reply) (x : SeenMachine) (y z : Seen) (v : Result (Unit {0}) Promise) (w : Known)
-    → is_for (On.Tenant t command) true reply.addressee ≡ true → slice_get x.tenants t ≡ Some y → y.left.order ≡ x.order → ShowsKnown x w
-    → IsJudged (On.Tenant t command) reply.body x.owners y z v
-    → IsVerdict v (allowed (On.Tenant t command) reply w) (record { order = x.order; owners = x.owners; tenants = slice_set x.tenants t z })
-command_judged t command reply x y z v w right here order shown judged =
-    tenant_judged (On.Tenant t command) reply x t y z w refl right here order shown v
-    (record { order = x.order; owners = x.owners; tenants = slice_set x.tenants t z }) judged
-    (λ ok i. record { order = x.order; owners = sym (tenant_owns t command reply.body x.owners) i; tenants = slice_set x.tenants t z })
+module _ (event : Event) (reply : Reply) (x : SeenMachine) (t : ℕ) (y z : Seen) (name : named event ≡ Some t)
+    (right : is_for event true reply.addressee ≡ true) (here : slice_get x.tenants t ≡ Some y) (order : y.left.order ≡ x.order) where
+  -- the tenant's verdict is the one on the machine's reply
+  on_tenant : (v : Result (Unit {0}) Promise) → verdict_at event reply.body (known_of x) y ≡ v
+      → allowed event reply (known_of x)
+      ≡ turn v (known_after event reply.body (known_of x) (unwrap_or (state_after x.order event reply.body (state_of y)) (state_of y)))
+  on_tenant v is = found event reply (known_of x) t (Some (state_of y)) name (slice_get-map state_of x.tenants t ∙ ap (option_map state_of) here)
+      ∙ (addressed event reply (known_of x) (state_of y) right
+      ∙ ap (λ r. turn r (known_after event reply.body (known_of x) (unwrap_or (state_after x.order event reply.body (state_of y)) (state_of y))))
+      ((λ i. verdict_on event reply.body (record (known_of x) { order = sym order i }) (state_of y)) ∙ is))
+
+  is_after : state_after y.left.order event reply.body (state_of y) ≡ Some (state_of z)
+      → known_after event reply.body (known_of x) (unwrap_or (state_after x.order event reply.body (state_of y)) (state_of y))
+      ≡ known_of (with_tenant x (owners_after event reply.body x.owners) t z)
+  is_after e = ap (λ k. known_after event reply.body (known_of x) (unwrap_or (state_after k event reply.body (state_of y)) (state_of y))) (sym order)
+      ∙ (ap (λ o. known_after event reply.body (known_of x) (unwrap_or o (state_of y))) e
+      ∙ (λ i. record {
+        limit = MOST_CACHES;
+        order = x.order;
+        owners = owners_after event reply.body x.owners;
+        states = (ap (λ o. option_map_or (λ u. slice_set (map state_of x.tenants) u (state_of z)) o (map state_of x.tenants)) name
+            ∙ sym (map-set state_of x.tenants t z)) i;
+      }))
+
+  -- the same after a command that may change the owners
+  pub tenant_judged : (result : Result (Unit {0}) Failure) (owners : List (Option Owner)) → IsVerdictFor event reply.body (known_of x) y z result
+      → length (owners_after event reply.body x.owners) ≡ length x.owners → AreOwnersAfter event reply.body x.owners owners result
+      → IsJudged event reply x (with_tenant x owners t z) result
+  tenant_judged (Ok u) owners f many is = (
+    on_tenant (Ok tt) f.kept ∙ ap (λ k. Ok k) (is_after f.state ∙ ap (λ os. known_of (with_tenant x os t z)) (sym is)),
+    record { order = refl; superblocks = ap length is ∙ many; tenants = length-set x.tenants t z },
+  )
+  tenant_judged (Err (Of.Broken promise)) owners (is_not, same) many is = (on_tenant (Err promise) is_not, as_before x t y z owners here same is)
+  tenant_judged (Err (Of.Memory e)) owners ((kept, adds), same) many is = (
+    record {
+      adds = adds;
+      allowed = λ w shown. (
+        known_after event reply.body (known_of x) (unwrap_or (state_after x.order event reply.body (state_of y)) (state_of y)),
+        subst (λ k. allowed event reply k
+            ≡ Ok (known_after event reply.body (known_of x) (unwrap_or (state_after x.order event reply.body (state_of y)) (state_of y)))) (sym shown) (on_tenant (Ok tt) kept),
+      );
+    },
+    as_before x t y z owners here same is,
+  )
+
+-- The tenant keeps the order of a slot, and the owners their number, whatever came of the command
+
+pub order_kept : (event : Event) (body : Body) (w : Known) (y z : Seen) (result : Result (Unit {0}) Failure) → IsVerdictFor event body w y z result
+    → z.left.order ≡ y.left.order
+order_kept event body w y z (Ok u) f = f.order
+order_kept event body w y z (Err (Of.Broken promise)) f = ap (λ (s : Seen). s.left.order) f.1
+order_kept event body w y z (Err (Of.Memory e)) f = ap (λ (s : Seen). s.left.order) f.1
+
+pub as_many_owners : (event : Event) (body : Body) (old new : List (Option Owner)) (result : Result (Unit {0}) Failure)
+    → length (owners_after event body old) ≡ length old → AreOwnersAfter event body old new result → length new ≡ length old
+as_many_owners event body old new (Ok u) many is = ap length is ∙ many
+as_many_owners event body old new (Err e) many is = ap length is
 
 -- The pool
 
-unnamed : (event : Event) → named event ≡ None → event ≡ On.Admin Do.Pool
+pub unnamed : (event : Event) → named event ≡ None → event ≡ On.Admin Do.Pool
 unnamed (On.Tenant t command) none = absurd (cc)
 unnamed (On.Admin (Do.Grant t)) none = absurd (cc)
 unnamed (On.Admin (Do.TakeBack t u)) none = absurd (cc)
@@ -210,36 +199,36 @@ unnamed (On.Admin (Do.Reset t)) none = absurd (cc)
 unnamed (On.Admin (Do.Move t u)) none = absurd (cc)
 unnamed (On.Admin Do.Pool) none = refl
 
-module _ (reply : Reply) (x : SeenMachine) (w : Known) (shown : ShowsKnown x w) where
-  pool_astray : is_for (On.Admin Do.Pool) true reply.addressee ≡ false → allowed (On.Admin Do.Pool) reply w ≡ Err Promise.Form
-  unfolding allowed
-  pool_astray wrong = astray (On.Admin Do.Pool) reply w opening_state wrong
+pub pool_astray : (reply : Reply) (x : SeenMachine) → is_for (On.Admin Do.Pool) true reply.addressee ≡ false
+    → allowed (On.Admin Do.Pool) reply (known_of x) ≡ Err Promise.Form
+unfolding allowed
+pool_astray reply x wrong = astray (On.Admin Do.Pool) reply (known_of x) opening_state wrong
 
-  pool_allowed : is_for (On.Admin Do.Pool) true reply.addressee ≡ true
-      → allowed (On.Admin Do.Pool) reply w ≡ turn (verdict_on (On.Admin Do.Pool) reply.body w opening_state) w
-  unfolding allowed owners_after
-  pool_allowed right = addressed (On.Admin Do.Pool) reply w opening_state right
+pub pool_judged : (reply : Reply) (x : SeenMachine) (v : Result (Unit {0}) Promise) → is_for (On.Admin Do.Pool) true reply.addressee ≡ true
+    → v ≡ verdict_on (On.Admin Do.Pool) reply.body (known_of x) opening_state → IsJudged (On.Admin Do.Pool) reply x x (failing v)
+unfolding allowed owners_after
+pool_judged reply x v right is = unchanged (On.Admin Do.Pool) reply x v
+    (addressed (On.Admin Do.Pool) reply (known_of x) opening_state right ∙ ap (λ r. turn r (known_of x)) (sym is))
 
-  pool_judged : (owners : List (Option Owner)) (v : Result (Unit {0}) Promise) → owners ≡ x.owners → is_for (On.Admin Do.Pool) true reply.addressee ≡ true
-      → v ≡ verdict_on (On.Admin Do.Pool) reply.body (record w { owners = owners }) opening_state
-      → IsVerdict v (allowed (On.Admin Do.Pool) reply w) x
-  pool_judged owners v same right is = go v (pool_allowed right
-      ∙ ap (λ r. turn r w) ((λ i. verdict_on (On.Admin Do.Pool) reply.body (record w { owners = (shown.owned ∙ sym same) i }) opening_state) ∙ sym is))
-    where
-      go : (v : Result (Unit {0}) Promise) → allowed (On.Admin Do.Pool) reply w ≡ turn v w → IsVerdict v (allowed (On.Admin Do.Pool) reply w) x
-      go (Ok u) e = (w, e, shown)
-      go (Err promise) e = e
+-- by an answer, which no tenant is asked for
+pub pool_answered : (reply : Reply) (x : SeenMachine) (result : Result (Unit {0}) Failure) → is_for (On.Admin Do.Pool) true reply.addressee ≡ true
+    → ((w : Known) (y : Seen) → IsVerdictFor (On.Admin Do.Pool) reply.body w y y result) → IsJudged (On.Admin Do.Pool) reply x x result
+pool_answered reply x result right judged = go result (judged (known_of x) nobody)
+  where
+    nobody : Seen
+    nobody = record { has = record { slots = []; pages = []; caches = [] }; left = record { order = x.order; slots = [] }; hides = []; told = None }
 
-pub unnamed_astray : (event : Event) (reply : Reply) (x : SeenMachine) (w : Known) → named event ≡ None → ShowsKnown x w
-    → is_for event true reply.addressee ≡ false → allowed event reply w ≡ Err Promise.Form
-unnamed_astray event reply x w none shown wrong =
-    let is : event ≡ On.Admin Do.Pool = unnamed event none in
-    subst (λ e. allowed e reply w ≡ Err Promise.Form) (sym is) (pool_astray reply x w shown (subst (λ e. is_for e true reply.addressee ≡ false) is wrong))
+    verdict_is_at : (v : Result (Unit {0}) Promise) → verdict_at (On.Admin Do.Pool) reply.body (known_of x) nobody ≡ v
+        → v ≡ verdict_on (On.Admin Do.Pool) reply.body (known_of x) opening_state
+    verdict_is_at v is = sym is ∙ ap (verdict_on (On.Admin Do.Pool) reply.body (known_of x)) (opened nobody x.order refl refl (λ n. refl) refl)
 
-pub unnamed_judged : (event : Event) (reply : Reply) (x : SeenMachine) (owners : List (Option Owner)) (v : Result (Unit {0}) Promise) (w : Known)
-    → named event ≡ None → ShowsKnown x w → owners ≡ x.owners → is_for event true reply.addressee ≡ true
-    → v ≡ verdict_on (On.Admin Do.Pool) reply.body (record w { owners = owners }) opening_state → IsVerdict v (allowed event reply w) x
-unnamed_judged event reply x owners v w none shown same right judged =
-    let is : event ≡ On.Admin Do.Pool = unnamed event none in
-    subst (λ e. IsVerdict v (allowed e reply w) x) (sym is)
-    (pool_judged reply x w shown owners v same (subst (λ e. is_for e true reply.addressee ≡ true) is right) judged)
+    go : (result : Result (Unit {0}) Failure) → IsVerdictFor (On.Admin Do.Pool) reply.body (known_of x) nobody nobody result → IsJudged (On.Admin Do.Pool) reply x x result
+    go (Ok u) f = pool_judged reply x (Ok tt) right (verdict_is_at (Ok tt) f.kept)
+    go (Err (Of.Broken promise)) f = pool_judged reply x (Err promise) right (verdict_is_at (Err promise) f.0)
+    go (Err (Of.Memory e)) f = (
+      record {
+        adds = f.0.1;
+        allowed = λ w shown. (known_of x, subst (λ k. allowed (On.Admin Do.Pool) reply k ≡ Ok (known_of x)) (sym shown) (pool_judged reply x (Ok tt) right (verdict_is_at (Ok tt) f.0.0)).0);
+      },
+      refl,
+    )

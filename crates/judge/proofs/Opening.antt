@@ -1,10 +1,8 @@
 -- The machine before the first event.
-use Rattle.std.proofs.Common.{◌≡◌, ℕ, zero, suc, List, [], ◌∷◌, ◌++◌, length, replicate, Some, None, slice_get, refl, sym, subst, ◌∙◌}
-use Rattle.std.proofs.lemmas.List.{length-replicate}
+use Rattle.std.proofs.Common.{◌≡◌, ℕ, zero, suc, List, [], ◌∷◌, ◌++◌, length, map, replicate, Some, None, slice_get, refl, ap, sym, subst, ◌∙◌}
 use Rattle.model_core.specs.declared.limits.TheConstants.{MOST_CACHES}
 use Rattle.promise_core.specs.State.{opening_state, opening}
-use Rattle.promise_core.proofs.Steps.{replicated}
-use Rattle.judge.specs.Showing.{Seen, ShowsState, IsOpeningTenant}
+use Rattle.judge.specs.Seen.{Seen, state_of, IsOpeningTenant}
 use Rattle.judge.specs.Machine.{SeenMachine, ShowsKnown}
 
 -- one more tenant
@@ -18,12 +16,14 @@ each_more P (x ∷ xs) z each new (suc k) y at = each_more P xs z (λ i v here. 
 pub opening_shown : (order superblocks tenants : ℕ) (x : SeenMachine) → x.order ≡ order → x.owners ≡ replicate superblocks None → length x.tenants ≡ tenants
     → ((k : ℕ) (y : Seen) → slice_get x.tenants k ≡ Some y → IsOpeningTenant order y) → ShowsKnown x (opening MOST_CACHES order superblocks tenants)
 unfolding opening
-opening_shown order superblocks tenants x sized none many each = record {
-  limit = refl;
-  order = sym sized;
-  owned = sym none;
-  many = length-replicate tenants opening_state ∙ sym many;
-  states = λ t y s at of.
-      let is : s ≡ opening_state = replicated tenants t opening_state s of in
-      subst (ShowsState y) (sym is) (each t y at).shown;
+opening_shown order superblocks tenants x sized none many each i = record {
+  limit = MOST_CACHES;
+  order = sym sized i;
+  owners = sym none i;
+  states = (ap (λ n. replicate n opening_state) (sym many) ∙ all_opening x.tenants (λ k y at. (each k y at).state)) i;
 }
+  where
+    all_opening : (ys : List Seen) → ((k : ℕ) (y : Seen) → slice_get ys k ≡ Some y → state_of y ≡ opening_state) → replicate (length ys) opening_state ≡ map state_of ys
+    all_opening [] each = refl
+    all_opening (y ∷ ys) each = (λ i. sym (each 0 y refl) i ∷ replicate (length ys) opening_state)
+        ∙ ap (λ ss. state_of y ∷ ss) (all_opening ys (λ k z at. each (suc k) z at))

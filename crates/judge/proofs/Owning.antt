@@ -1,25 +1,34 @@
--- What the state after each reply to the administrator is, and that it is shown.
-use Rattle.std.proofs.Common.{◌≡◌, ℕ, ◌+◌, ◌*◌, ◌^◌, ◌≤◌, Bool, true, false, not, List, [], ◌∷◌, replicate, Some, None, refl, ap, sym, subst, ◌∙◌, arith}
-use Rattle.std.specs.Prelude.{◌==◌, ◌&&◌, ◌||◌, filter, if◌then◌else◌, nat_lt, slice_index_or}
+-- What is kept after the answer to each command of the administrator.
+use Rattle.std.proofs.Common.{◌≡◌, ℕ, ◌+◌, ◌*◌, ◌^◌, ◌≤◌, Bool, true, false, not, List, [], ◌∷◌, map, length, replicate, slice_set, Option, Some, None, Ok, Err, refl, ap, sym, subst, ◌∙◌, arith}
+use Rattle.std.specs.Prelude.{Result, ◌==◌, ◌&&◌, ◌||◌, filter, if◌then◌else◌, nat_lt, slice_index_or}
 use Rattle.std.specs.List.{list_any}
 use Rattle.std.proofs.lemmas.Grind.{common_steps}
+use Rattle.std.proofs.lemmas.List.{length-set, length-map}
 use Rattle.std.proofs.lemmas.Bool.{and_parts, eqb-true, eq-eqb, ne_eqb, eqb-false, false≢true, leb-true, not-true}
 use Rattle.model_core.specs.Machine.{slot_of, put_rising}
+use Rattle.model_core.specs.Owners.{owned_by, is_of, is_owner}
 use Rattle.model_core.specs.declared.limits.TheConstants.{FRAME_BYTES, MOST_ORDER}
+use Rattle.model_core.specs.declared.owner.Owner.{Owner}
+use Rattle.words_core.specs.declared.event.Event.{Event}
 use Rattle.words_core.specs.declared.event.Event.TheVariants as On
+use Rattle.words_core.specs.declared.event.Command.{Command}
+use Rattle.words_core.specs.declared.reply.Refusal.{Refusal}
+use Rattle.words_core.specs.declared.event.AdminCommand.{AdminCommand}
 use Rattle.words_core.specs.declared.event.AdminCommand.TheVariants as Do
 use Rattle.words_core.specs.declared.reply.Body.{Body}
 use Rattle.words_core.specs.declared.reply.Body.TheVariants as Say
 use Rattle.promise_core.specs.Bytes.{Cells, without}
 use Rattle.promise_core.specs.Holdings.{Holdings, has_slot}
-use Rattle.promise_core.specs.State.{opening_state, state_after}
+use Rattle.promise_core.specs.State.{Known, opening_state, state_after, owners_after}
 use Rattle.promise_core.proofs.Laid.{nothing_laid, nothing_gridded}
-use Rattle.judge_replies.proofs.OnSlots.{no_move, no_pool}
+use Rattle.world_core.specs.World.{given_up}
 use Rattle.judge_bytes.specs.Left.{Left, left_slots, left_at, Becomes}
-use Rattle.judge.specs.Showing.{Seen, state_with, ShowsState, Follows}
-use Rattle.judge.specs.Inside.{LieInSlots, known_by, IsKeptReply}
-use Rattle.judge.proofs.Keeping.{next, unanswered}
-use Rattle.judge.proofs.Following.{changed, follows}
+use Rattle.judge.specs.Seen.{Seen, state_of}
+use Rattle.judge.specs.Inside.{LieInSlots}
+use Rattle.judge.specs.declared.verdict.Failure.{Failure}
+use Rattle.judge.specs.Judged.{verdict_at, IsFollowed, AreOwnersAfter}
+use Rattle.judge.proofs.Keeping.{kept_all}
+use Rattle.judge.proofs.Following.{changed}
 
 -- Nothing
 
@@ -27,12 +36,9 @@ pub none_marked : (n k : ℕ) → slice_index_or (replicate k false) n false ≡
 none_marked n k = grind (arith, common_steps)
 
 pub opened : (x : Seen) (order : ℕ) → x.has ≡ record { slots = []; pages = []; caches = [] } → x.left ≡ record { order = order; slots = [] }
-    → ((n : ℕ) → slice_index_or x.hides n false ≡ false) → x.told ≡ None → ShowsState x opening_state
+    → ((n : ℕ) → slice_index_or x.hides n false ≡ false) → x.told ≡ None → state_of x ≡ opening_state
 unfolding opening_state
-opened x order has left hides told = record {
-  cells = λ place. ap (λ l. left_at l place) left;
-  rest = λ i. record { has = sym has i; cells = λ place. None; hides = λ n. sym (hides n) i; told = sym told i };
-}
+opened x order has left hides told i = record { has = has i; cells = left_at (left i); hides = λ n. hides n i; told = told i }
 
 pub nothing_sound : (order : ℕ) (h : Holdings) (l : Left) → order ≤ MOST_ORDER → h ≡ record { slots = []; pages = []; caches = [] }
     → l ≡ record { order = order; slots = [] } → LieInSlots h l
@@ -67,20 +73,25 @@ pub slots_granted : (old new : Seen) (u : ℕ) (change : Cells → Cells) → Li
 slots_granted old new u change sound becomes same n = ap (list_any (λ v. v == n)) becomes.slots ∙ (ap (λ r. u == n || r) (sound.slots n)
     ∙ (sym (any_put (λ v. v == n) u old.has.slots) ∙ sym (ap (list_any (λ v. v == n)) same)))
 
-pub granted : (t told u m : ℕ) (old : Seen) (h : Holdings) (l : Left) → h ≡ record old.has { slots = put_rising (λ v. v) u old.has.slots }
-    → Becomes old.left (u ∷ left_slots old.left) (λ cells. cells) l → Follows (On.Admin (Do.Grant t)) (Say.Granted told u m) old (changed old h l)
+pub granted : (t told u m : ℕ) (w : Known) (old : Seen) (h : Holdings) (l : Left) → verdict_at (On.Admin (Do.Grant t)) (Say.Granted told u m) w old ≡ Ok tt
+    → h ≡ record old.has { slots = put_rising (λ v. v) u old.has.slots }
+    → Becomes old.left (u ∷ left_slots old.left) (λ cells. cells) l
+    → IsFollowed (On.Admin (Do.Grant t)) (Say.Granted told u m) w old (changed old h l)
 unfolding state_after
-granted t told u m old h l has left = follows (On.Admin (Do.Grant t)) (Say.Granted told u m) old (changed old h l) (λ cells. cells) (u ∷ left_slots old.left) left
-    (λ cells i. Some (record { has = sym has i; cells = cells; hides = λ n. slice_index_or old.hides n false; told = None }))
+granted t told u m w old h l kept has left = record {
+  kept = kept;
+  order = left.order;
+  state = λ i. Some (record { has = sym has i; cells = sym left.cells i; hides = λ n. slice_index_or old.hides n false; told = None });
+}
 
 -- what is granted is new, and its places are below 2 ^ 32
 pub record IsNewSlot (u : ℕ) (x : Seen) : Type 0 where
   pub new : has_slot x.has u ≡ false
   pub low : (u + 1) * 2 ^ x.left.order * FRAME_BYTES ≤ 2 ^ 32
 
-pub new_slot : (t told u m : ℕ) (x : Seen) → IsKeptReply (On.Admin (Do.Grant t)) (Say.Granted told u m) x → IsNewSlot u x
-new_slot t told u m x (os, ok) =
-    let n = next (On.Admin (Do.Grant t)) (Say.Granted told u m) (known_by os x.left.order) (state_with x (left_at x.left)) ok in
+pub new_slot : (t told u m : ℕ) (w : Known) (x : Seen) → verdict_at (On.Admin (Do.Grant t)) (Say.Granted told u m) w x ≡ Ok tt → IsNewSlot u x
+new_slot t told u m w x kept =
+    let n = kept_all (On.Admin (Do.Grant t)) (Say.Granted told u m) w x kept in
     let p = and_parts _ _ (and_parts _ _ n.owners).1 in
     record { new = not-true (has_slot x.has u) p.0; low = leb-true ((u + 1) * 2 ^ x.left.order * FRAME_BYTES) (2 ^ 32) p.1 }
 
@@ -140,37 +151,95 @@ pub slots_taken : (old new : Seen) (u : ℕ) (change : Cells → Cells) → LieI
 slots_taken old new u change sound becomes same n = ap (list_any (λ v. v == n)) becomes.slots ∙ (any_dropped u n (left_slots old.left)
     ∙ (ap (λ r. not (n == u) && r) (sound.slots n) ∙ (sym (any_dropped u n old.has.slots) ∙ sym (ap (list_any (λ v. v == n)) same))))
 
-pub taken_back : (t u m : ℕ) (old : Seen) (h : Holdings) (l : Left) → h ≡ record old.has { slots = filter (λ v. not (v == u)) old.has.slots }
+pub taken_back : (t u m : ℕ) (w : Known) (old : Seen) (h : Holdings) (l : Left) → verdict_at (On.Admin (Do.TakeBack t u)) (Say.TakenBack m) w old ≡ Ok tt
+    → h ≡ record old.has { slots = filter (λ v. not (v == u)) old.has.slots }
     → Becomes old.left (filter (λ v. not (v == u)) (left_slots old.left)) (without (λ place holder. slot_of old.left.order place == u)) l
-    → Follows (On.Admin (Do.TakeBack t u)) (Say.TakenBack m) old (changed old h l)
+    → IsFollowed (On.Admin (Do.TakeBack t u)) (Say.TakenBack m) w old (changed old h l)
 unfolding state_after
-taken_back t u m old h l has left = follows (On.Admin (Do.TakeBack t u)) (Say.TakenBack m) old (changed old h l) _
-    (filter (λ v. not (v == u)) (left_slots old.left)) left
-    (λ cells i. Some (record {
-      has = sym has i;
-      cells = without (λ place holder. slot_of old.left.order place == u) cells;
-      hides = λ n. slice_index_or old.hides n false;
-      told = None;
-    }))
+taken_back t u m w old h l kept has left = record {
+  kept = kept;
+  order = left.order;
+  state = λ i. Some (record { has = sym has i; cells = sym left.cells i; hides = λ n. slice_index_or old.hides n false; told = None });
+}
 
 -- A reset
 
-pub emptied : (t told m : ℕ) (old new : Seen) → new.has ≡ record { slots = []; pages = []; caches = [] } → new.left ≡ record old.left { slots = [] }
-    → ((n : ℕ) → slice_index_or new.hides n false ≡ false) → new.told ≡ None → Follows (On.Admin (Do.Reset t)) (Say.WasReset told m) old new
+pub emptied : (t told m : ℕ) (w : Known) (old new : Seen) → verdict_at (On.Admin (Do.Reset t)) (Say.WasReset told m) w old ≡ Ok tt
+    → new.has ≡ record { slots = []; pages = []; caches = [] } → new.left ≡ record old.left { slots = [] }
+    → ((n : ℕ) → slice_index_or new.hides n false ≡ false) → new.told ≡ None → IsFollowed (On.Admin (Do.Reset t)) (Say.WasReset told m) w old new
 unfolding state_after
-emptied t told m old new has left hides none = record {
+emptied t told m w old new kept has left hides none = record {
+  kept = kept;
   order = ap (λ (l : Left). l.order) left;
-  states = λ s sh. (opening_state, refl, opened new old.left.order has left hides none);
+  state = ap (λ s. Some s) (sym (opened new old.left.order has left hides none));
 }
 
--- Nothing changes
+-- A move
 
-pub moved : (t u : ℕ) (body : Body) (x : Seen) → IsKeptReply (On.Admin (Do.Move t u)) body x → Follows (On.Admin (Do.Move t u)) body x x
+pub moved : (t u told slot m : ℕ) (w : Known) (x : Seen) → verdict_at (On.Admin (Do.Move t u)) (Say.Moved told slot m) w x ≡ Ok tt
+    → IsFollowed (On.Admin (Do.Move t u)) (Say.Moved told slot m) w x x
 unfolding state_after
-moved t u (Say.Moved a b m) x k = record { order = refl; states = λ s sh. (s, refl, sh) }
-moved t u body x k = unanswered (On.Admin (Do.Move t u)) body x k (λ refused w s. no_move t u w s body (λ a b m e. absurd (cc)) refused)
+moved t u told slot m w x kept = record { kept = kept; order = refl; state = refl }
 
-pub pooled : (body : Body) (x : Seen) → IsKeptReply (On.Admin Do.Pool) body x → Follows (On.Admin Do.Pool) body x x
-unfolding state_after
-pooled (Say.Owners os) x k = record { order = refl; states = λ s sh. (s, refl, sh) }
-pooled body x k = unanswered (On.Admin Do.Pool) body x k (λ refused w s. no_pool w s body (λ os e. absurd (cc)) refused)
+-- Who owns each superblock then: that of the tenant and the slot that were asked for
+
+pub owner_granted : (t told u m : ℕ) (w : Known) (x : Seen) (os : List (Option Owner))
+    → verdict_at (On.Admin (Do.Grant t)) (Say.Granted told u m) w x ≡ Ok tt
+    → slice_set os m (Some (owned_by told u)) ≡ owners_after (On.Admin (Do.Grant t)) (Say.Granted told u m) os
+unfolding owners_after
+owner_granted t told u m w x os kept =
+    let n = kept_all (On.Admin (Do.Grant t)) (Say.Granted told u m) w x kept in
+    ap (λ i. slice_set os m (Some (owned_by i u))) (eqb-true told t (and_parts _ _ (and_parts _ _ n.owners).0).0)
+
+pub owner_moved : (t u told slot m : ℕ) (w : Known) (x : Seen) (os : List (Option Owner))
+    → verdict_at (On.Admin (Do.Move t u)) (Say.Moved told slot m) w x ≡ Ok tt
+    → slice_set (map (given_up (is_owner t u)) os) m (Some (owned_by told slot)) ≡ owners_after (On.Admin (Do.Move t u)) (Say.Moved told slot m) os
+unfolding owners_after
+owner_moved t u told slot m w x os kept =
+    let n = kept_all (On.Admin (Do.Move t u)) (Say.Moved told slot m) w x kept in
+    let both = and_parts _ _ (and_parts _ _ n.owners).0 in
+    λ i. slice_set (map (given_up (is_owner t u)) os) m (Some (owned_by (eqb-true told t both.0 i) (eqb-true slot u both.1 i)))
+
+pub owners_dropped : (t u m : ℕ) (os : List (Option Owner)) → map (given_up (is_owner t u)) os ≡ owners_after (On.Admin (Do.TakeBack t u)) (Say.TakenBack m) os
+unfolding owners_after
+owners_dropped t u m os = refl
+
+pub owners_emptied : (t told m : ℕ) (os : List (Option Owner)) → map (given_up (is_of t)) os ≡ owners_after (On.Admin (Do.Reset t)) (Say.WasReset told m) os
+unfolding owners_after
+owners_emptied t told m os = refl
+
+-- .. and after a refusal who did before
+pub owners_refused : (event : Event) (r : Refusal) (os : List (Option Owner)) (result : Result (Unit {0}) Failure) → AreOwnersAfter event (Say.Refused r) os os result
+unfolding owners_after
+owners_refused (On.Tenant t command) r os (Ok u) = refl
+owners_refused (On.Admin (Do.Grant t)) r os (Ok u) = refl
+owners_refused (On.Admin (Do.TakeBack t u)) r os (Ok v) = refl
+owners_refused (On.Admin (Do.Reset t)) r os (Ok u) = refl
+owners_refused (On.Admin (Do.Move t u)) r os (Ok v) = refl
+owners_refused (On.Admin Do.Pool) r os (Ok u) = refl
+owners_refused event r os (Err e) = refl
+
+pub owners_told : (body : Body) (os : List (Option Owner)) (result : Result (Unit {0}) Failure) → AreOwnersAfter (On.Admin Do.Pool) body os os result
+unfolding owners_after
+owners_told body os (Ok u) = refl
+owners_told body os (Err e) = refl
+
+-- a command of a tenant changes none
+pub owners_kept : (t : ℕ) (command : Command) (body : Body) (os : List (Option Owner)) → owners_after (On.Tenant t command) body os ≡ os
+unfolding owners_after
+owners_kept t command body os = refl
+
+pub are_kept : (t : ℕ) (command : Command) (body : Body) (os : List (Option Owner)) (result : Result (Unit {0}) Failure) → AreOwnersAfter (On.Tenant t command) body os os result
+are_kept t command body os (Ok u) = sym (owners_kept t command body os)
+are_kept t command body os (Err e) = refl
+
+-- There are as many
+
+pub as_many : (command : AdminCommand) (body : Body) (os : List (Option Owner)) → length (owners_after (On.Admin command) body os) ≡ length os
+unfolding owners_after
+as_many (Do.Grant t) (Say.Granted named u m) os = length-set os m (Some (owned_by t u))
+as_many (Do.TakeBack t u) (Say.TakenBack m) os = length-map os (given_up (is_owner t u))
+as_many (Do.Reset t) (Say.WasReset named m) os = length-map os (given_up (is_of t))
+as_many (Do.Move t u) (Say.Moved named told m) os =
+    length-set (map (given_up (is_owner t u)) os) m (Some (owned_by t u)) ∙ length-map os (given_up (is_owner t u))
+as_many command body os = refl

@@ -1,48 +1,65 @@
--- What is known, as it is kept: a verdict on it is the verdict on what is known.
-use Rattle.std.proofs.Common.{◌≡◌, ℕ, Bool, false, List, Option, sym, ◌∙◌}
-use Rattle.std.specs.Prelude.{slice_index_or}
-use Rattle.model_core.specs.declared.limits.TheConstants.{MOST_CACHES}
-use Rattle.model_core.specs.declared.owner.Owner.{Owner}
+-- Verdicts after which nothing is changed.
+use Rattle.std.proofs.Common.{◌≡◌, false, Some, None, Option, Ok, Err, is_some, refl, ap, sym, subst, ◌∙◌}
+use Rattle.std.specs.Prelude.{Bool, Result, ◌∷◌, drop}
 use Rattle.words_core.specs.declared.event.Event.{Event}
-use Rattle.words_core.specs.declared.report.Report.{Report}
+use Rattle.words_core.specs.declared.event.Event.TheVariants as On
+use Rattle.words_core.specs.declared.event.AdminCommand.TheVariants as Do
+use Rattle.words_core.specs.declared.event.Command.TheVariants as Asked
+use Rattle.words_core.specs.declared.reply.Addressee.TheVariants as To
 use Rattle.words_core.specs.declared.reply.Body.{Body}
-use Rattle.promise_core.specs.State.{State, Known}
-use Rattle.judge_replies.specs.Verdicts.{verdict_on}
-use Rattle.judge.specs.Showing.{Seen, ShowsState, FitsKnown}
+use Rattle.words_core.specs.declared.reply.Body.TheVariants as Say
+use Rattle.words_core.specs.declared.reply.Refusal.{Refusal}
+use Rattle.promise_core.specs.declared.promise.Promise.{Promise}
+use Rattle.promise_core.specs.Promises.{due, room, busy, kept}
+use Rattle.promise_core.specs.State.{State, Known, state_after}
+use Rattle.judge.specs.declared.verdict.Failure.{Failure}
+use Rattle.judge.specs.declared.verdict.Failure.TheVariants as Of
+use Rattle.judge.specs.Verdicts.{broken, on_refusal, verdict_on}
+use Rattle.judge.specs.Seen.{Seen, state_of}
+use Rattle.judge.specs.Judged.{known_at, verdict_at, failing, IsVerdictFor}
 
-pub with_has : (x : Seen) (s : State) → ShowsState x s → record s { has = x.has } ≡ s
-with_has x s sh = sym (λ i. record s { has = (sh.rest i).has })
+-- after a verdict on a reply that changes nothing
+pub settled : (event : Event) (body : Body) (w : Known) (x : Seen) (result : Result (Unit {0}) Failure) → result ≡ failing (verdict_at event body w x)
+    → state_after x.left.order event body (state_of x) ≡ Some (state_of x) → IsVerdictFor event body w x x result
+settled event body w x result is stays = subst (IsVerdictFor event body w x x) (sym is) (go (verdict_at event body w x) refl)
+  where
+    go : (v : Result (Unit {0}) Promise) → verdict_at event body w x ≡ v → IsVerdictFor event body w x x (failing v)
+    go (Ok u) same = record { kept = same; order = refl; state = stays }
+    go (Err promise) same = (same, refl)
 
--- by what is kept of the tenant
-module _ (event : Event) (body : Body) (x : Seen) (owners : List (Option Owner)) (w : Known) (s : State) (fits : FitsKnown x owners w) (sh : ShowsState x s) where
-  pub at_has : verdict_on event body w (record s { has = x.has }) ≡ verdict_on event body w s
-  at_has = sym (λ i. verdict_on event body w (record s { has = (sh.rest i).has }))
+-- after what is no reply to the command
+pub formless : (event : Event) (body : Body) (w : Known) (s : State) → state_after w.order event body s ≡ None → verdict_on event body w s ≡ Err Promise.Form
+formless event body w s none =
+    ap (λ o. broken ((Promise.Form, is_some o) ∷ drop 1 (kept event (record { addressee = To.Nobody; body = body }) w s))) none
 
-  pub at_order : (order : ℕ) → order ≡ x.left.order → verdict_on event body (record w { order = order }) (record s { has = x.has }) ≡ verdict_on event body w s
-  at_order order e = sym (λ i. verdict_on event body (record w { order = (fits.order ∙ sym e) i }) (record s { has = (sh.rest i).has }))
+pub misfit : (event : Event) (body : Body) (w : Known) (x : Seen) → state_after x.left.order event body (state_of x) ≡ None
+    → IsVerdictFor event body w x x (Err (Of.Broken Promise.Form))
+misfit event body w x none = (formless event body (known_at x w) (state_of x) none, refl)
 
-  pub at_limit : (order : ℕ) → order ≡ x.left.order
-      → verdict_on event body (record w { limit = MOST_CACHES; order = order }) (record s { has = x.has }) ≡ verdict_on event body w s
-  at_limit order e = sym (λ i. verdict_on event body (record w { limit = fits.limit i; order = (fits.order ∙ sym e) i }) (record s { has = (sh.rest i).has }))
+-- after a refusal
+refusal_is : (event : Event) (r : Refusal) (w : Known) (s : State) → verdict_on event (Say.Refused r) w s
+    ≡ on_refusal r (due event w s) (room event (Say.Refused Refusal.NoFrames) w s) (busy event (Say.Refused Refusal.SlotBusy) w s)
+unfolding state_after
+refusal_is (On.Tenant t (Asked.Alloc k)) Refusal.NoFrames w s = refl
+refusal_is (On.Tenant t (Asked.Take number)) Refusal.NoFrames w s = refl
+refusal_is (On.Admin (Do.TakeBack t u)) Refusal.SlotBusy w s = refl
+refusal_is event Refusal.NoFrames w s = refl
+refusal_is event Refusal.SlotBusy w s = refl
+refusal_is event r w s = refl
 
-  pub at_all : (order : ℕ) (marks : List Bool) (told : Option Report) → order ≡ x.left.order → marks ≡ x.hides → told ≡ x.told
-      → verdict_on event body (record w { order = order }) (record s { has = x.has; hides = λ n. slice_index_or marks n false; told = told }) ≡ verdict_on event body w s
-  at_all order marks told e m r = (λ i. verdict_on event body (record w { order = order })
-      (record s { has = x.has; hides = λ n. slice_index_or (m i) n false; told = r i }))
-      ∙ sym (λ i. verdict_on event body (record w { order = (fits.order ∙ sym e) i }) (record s { has = (sh.rest i).has; hides = (sh.rest i).hides; told = (sh.rest i).told }))
+pub refused : (event : Event) (r : Refusal) (w : Known) (x : Seen) (result : Result (Unit {0}) Failure) (asked : Option Refusal) (full taken : Bool)
+    → result ≡ failing (on_refusal r asked full taken) → asked ≡ due event (known_at x w) (state_of x)
+    → full ≡ room event (Say.Refused Refusal.NoFrames) (known_at x w) (state_of x)
+    → taken ≡ busy event (Say.Refused Refusal.SlotBusy) (known_at x w) (state_of x) → IsVerdictFor event (Say.Refused r) w x x result
+unfolding state_after
+refused event r w x result asked full taken is is_due is_full is_taken = settled event (Say.Refused r) w x result
+    (is ∙ ap failing ((λ i. on_refusal r (is_due i) (is_full i) (is_taken i)) ∙ sym (refusal_is event r (known_at x w) (state_of x)))) refl
 
-  pub at_owners : (order : ℕ) → order ≡ x.left.order
-      → verdict_on event body (record w { order = order; owners = owners }) (record s { has = x.has }) ≡ verdict_on event body w s
-  at_owners order e = sym (λ i. verdict_on event body (record w { order = (fits.order ∙ sym e) i; owners = fits.owned i }) (record s { has = (sh.rest i).has }))
+-- where another refusal is due, it is not asked whether there is room, or whether the slot is busy
+pub late : (r : Refusal) (full : Bool) → on_refusal r (Some Refusal.BadOrder) false false ≡ on_refusal r (Some Refusal.BadOrder) full false
+late Refusal.NoFrames full = refl
+late r full = refl
 
-  pub at_owned : verdict_on event body (record w { owners = owners }) (record s { has = x.has }) ≡ verdict_on event body w s
-  at_owned = sym (λ i. verdict_on event body (record w { owners = fits.owned i }) (record s { has = (sh.rest i).has }))
-
-  pub at_pool : verdict_on event body (record w { owners = owners }) s ≡ verdict_on event body w s
-  at_pool = sym (λ i. verdict_on event body (record w { owners = fits.owned i }) s)
-
-  pub at_marks : (order : ℕ) (marks : List Bool) → order ≡ x.left.order → marks ≡ x.hides
-      → verdict_on event body (record w { order = order; owners = owners }) (record s { has = x.has; hides = λ n. slice_index_or marks n false }) ≡ verdict_on event body w s
-  at_marks order marks e m = (λ i. verdict_on event body (record w { order = order; owners = owners })
-      (record s { has = x.has; hides = λ n. slice_index_or (m i) n false }))
-      ∙ sym (λ i. verdict_on event body (record w { order = (fits.order ∙ sym e) i; owners = fits.owned i }) (record s { has = (sh.rest i).has; hides = (sh.rest i).hides }))
+pub late_busy : (r : Refusal) (busy : Bool) → on_refusal r (Some Refusal.NoSlot) false false ≡ on_refusal r (Some Refusal.NoSlot) false busy
+late_busy Refusal.SlotBusy busy = refl
+late_busy r busy = refl

@@ -1,5 +1,7 @@
-pub mod Showing
+pub mod Verdicts
+pub mod Seen
 pub mod Inside
 pub mod Machine
 pub mod Adding
 pub mod Sizes
+pub mod Judged

@@ -1,7 +1,7 @@
 -- The sizes of what is kept of a machine.
 use Rattle.std.specs.Prelude.{◌≡◌, ℕ, ◌≤◌, Some, length, slice_get}
 use Rattle.model_core.specs.declared.limits.TheConstants.{MOST_ORDER, MOST_SUPERBLOCKS}
-use Rattle.judge.specs.Showing.{Seen}
+use Rattle.judge.specs.Seen.{Seen}
 use Rattle.judge.specs.Machine.{SeenMachine}
 
 -- within the limits, and slots have as many frames at every tenant

@@ -5,11 +5,12 @@ ghost use Rattle.words_core.specs.declared.event.Command.{Command as Asked};
 ghost use Rattle.words_core.specs.declared.event.Event.TheVariants as On;
 ghost use Rattle.promise_core.specs.declared.promise.Promise.{Promise};
 ghost use Rattle.promise_core.specs.Promises.{is_for, is_no_tenant, named};
-ghost use Rattle.judge_replies.specs.Verdicts.{broken};
+ghost use Rattle.words_core.specs.Requests.{body_of_answer};
+ghost use Rattle.judge.specs.Verdicts.{broken};
 
-use judge_replies::Verdict;
+use crate::verdict::Verdict;
 use promise_core::promise::Promise;
-use words_core::{Addressee, AdminCommand, Body, Event, Refusal, Reply};
+use words_core::{Addressee, AdminCommand, Answer, Event, Refusal};
 
 /// The tenant that the event names, be there such a tenant or not.
 pub(crate) fn tenant_named(event: &Event) -> Option<u32>
@@ -47,25 +48,24 @@ fn is_for_tenant(t: u32, exists: bool, addressee: Addressee) -> bool
 }
 
 /// The verdict on the reply to an event that names a tenant that does not exist.
-pub(crate) fn judge_stranger(event: &Event, reply: &Reply) -> Verdict
-    ensures { result ≡ broken ((Promise.Form, is_for event.now false reply.now.addressee)
-        ∷ (Promise.Refusals, is_no_tenant reply.now.body) ∷ []) }
+pub(crate) fn judge_stranger(event: &Event, addressee: Addressee, is_no_tenant: bool) -> Verdict
+    ensures { result ≡ broken ((Promise.Form, is_for event.now false addressee) ∷ (Promise.Refusals, is_no_tenant) ∷ []) }
 {
-    if !is_for(event, false, reply.addressee) {
+    if !is_for(event, false, addressee) {
         Err(Promise::Form)
-    } else if says_no_tenant(&reply.body) {
+    } else if is_no_tenant {
         Ok(())
     } else {
         Err(Promise::Refusals)
     }
 }
 
-/// Whether the reply says that there is no such tenant.
-fn says_no_tenant(body: &Body) -> bool
-    ensures { result ≡ is_no_tenant body.now }
+/// Whether the answer is that there is no such tenant.
+pub(crate) fn says_no_tenant(answer: &Answer<'_>) -> bool
+    ensures { result ≡ is_no_tenant (body_of_answer answer.now) }
 {
-    match body {
-        Body::Refused(refusal) => refusal.number() == Refusal::NoTenant.number(),
+    match answer {
+        Answer::Refused(refusal) => refusal.number() == Refusal::NoTenant.number(),
         _ => false,
     }
 }

@@ -1,135 +1,344 @@
-//! Verdicts on replies to the administrator, and what is known after them. `owners` is who owns each superblock.
+//! Commands of the administrator about a tenant. `owners` is who owns each superblock.
 
-ghost use Rattle.std.specs.Prelude.{◌≡◌, ◌≤◌, ℕ, true, IfOk, OnOk, OnErr};
+ghost use Rattle.std.specs.Prelude.{◌≡◌, ◌≤◌, ◌<◌, ◌+◌, ◌*◌, ◌^◌, nat_le, ◌&&◌, ◌||◌, ℕ, false, not, [], ◌∷◌, slice_index_or};
+ghost use Rattle.std.specs.List.{list_any};
+ghost use Rattle.model_core.specs.declared.limits.TheConstants.{FRAME_BYTES};
+ghost use Rattle.words_core.specs.Requests.{body_of_answer};
 ghost use Rattle.words_core.specs.declared.event.Event.TheVariants as On;
 ghost use Rattle.words_core.specs.declared.event.AdminCommand.TheVariants as Do;
+ghost use Rattle.words_core.specs.declared.reply.Refusal.{Refusal};
 ghost use Rattle.words_core.specs.declared.reply.Body.TheVariants as Say;
+ghost use Rattle.promise_core.specs.Holdings.{has_slot, is_slot_busy};
 ghost use Rattle.promise_core.specs.State.{State, Known};
-ghost use Rattle.judge_replies.specs.Verdicts.{verdict_on};
-ghost use Rattle.judge.specs.Adding.{is_addition, IsKeptAddition};
-ghost use Rattle.judge.specs.Inside.{IsKeptReply};
-ghost use Rattle.judge.specs.Showing.{ShowsState, FitsKnown, Follows, IsJudged};
+ghost use Rattle.promise_core.specs.Promises.{due, first_due};
+ghost use Rattle.judge.specs.Judged.{IsVerdictFor, AreOwnersAfter, known_at, verdict_at};
+ghost use Rattle.judge.specs.Seen.{Seen, state_of};
 
+use crate::owners::{
+    are_all_owned, are_counted, give_up_all, give_up_slot, is_granted_to, is_owned_by,
+    is_slot_named, is_unowned, set_owner,
+};
 use crate::tenant::Tenant;
-use judge_replies::{Verdict, judge_grant, judge_move, judge_pool, judge_reset, judge_take_back};
+use crate::verdict::{Failure, Verdict, both, on_answer, on_refusal};
+use model_core::limits::FRAME_BYTES;
 use model_core::owner::Owner;
-use std::alloc::AllocError;
-use words_core::{AdminCommand, Body, CACHES};
+use promise_core::promise::Promise;
+use words_core::{Answer, CACHES, Refusal};
 
 impl Tenant {
-    /// The verdict on a reply of this body to a command of the administrator that names the tenant, and what is known is as it is
-    /// after it; after a breach it is as before. Fails where memory runs out, and then nothing is changed.
-    pub fn judge_admin(
+    /// Judges and follows the reply to a grant to the tenant, which has number `t`.
+    pub(crate) fn grant(
         &mut self,
-        owners: &[Option<Owner>],
-        command: &AdminCommand,
-        body: &Body,
-    ) -> Result<Verdict, AllocError>
-        ensures judged { IfOk result (λ verdict.
-            IsJudged (On.Admin command.now) body.now owners.now self.old self.new verdict) }
-        ensures failed { OnErr result (self.new ≡ self.old) }
-        ensures memory { OnErr result (IsKeptAddition (On.Admin command.now) body.now owners.now self.old) }
+        owners: &mut [Option<Owner>],
+        t: u32,
+        answer: &Answer<'_>,
+    ) -> Result<(), Failure>
+        ensures judged { (w : Known) → IsVerdictFor (On.Admin (Do.Grant t)) (body_of_answer answer.now)
+            (record w { owners = owners.old }) self.old self.new result }
+        ensures owners { AreOwnersAfter (On.Admin (Do.Grant t)) (body_of_answer answer.now) owners.old owners.new result }
     {
-        match self.admin_verdict(owners, command, body) {
-            Ok(()) => {
-                self.follow_admin(command, body)?;
-                Ok(Ok(()))
-            }
-            Err(promise) => Ok(Err(promise)),
+        match answer {
+            Answer::Granted {
+                tenant,
+                slot,
+                superblock,
+            } => self.add_superblock(owners, t, *tenant, *slot, *superblock),
+            Answer::Refused(refusal) => on_refusal(*refusal, due_of_grant(owners), false, false),
+            _ => Err(Failure::Broken(Promise::Form)),
         }
     }
 
-    /// The verdict on such a reply.
-    fn admin_verdict(
+    /// The tenant of number `tenant` is granted the superblock under the slot.
+    fn add_superblock(
+        &mut self,
+        owners: &mut [Option<Owner>],
+        t: u32,
+        tenant: u8,
+        slot: u16,
+        superblock: u16,
+    ) -> Result<(), Failure>
+        ensures judged { (w : Known) → IsVerdictFor (On.Admin (Do.Grant t)) (Say.Granted tenant slot superblock)
+            (record w { owners = owners.old }) self.old self.new result }
+        ensures owners { AreOwnersAfter (On.Admin (Do.Grant t)) (Say.Granted tenant slot superblock) owners.old owners.new result }
+    {
+        self.judge_granted(owners, t, tenant, slot, superblock)?;
+        self.held.grant(slot)?;
+        if let Err(error) = self.left.grant(slot) {
+            self.held.take_back(u32::from(slot));
+            return Err(Failure::Memory(error));
+        }
+        self.told = None;
+        set_owner(owners, superblock, tenant, slot);
+        Ok(())
+    }
+
+    /// The verdict on that.
+    fn judge_granted(
         &self,
         owners: &[Option<Owner>],
-        command: &AdminCommand,
-        body: &Body,
+        t: u32,
+        tenant: u8,
+        slot: u16,
+        superblock: u16,
     ) -> Verdict
-        ensures { (w : Known) (s : State) → FitsKnown self.now owners.now w → ShowsState self.now s
-            → result ≡ verdict_on (On.Admin command.now) body.now w s }
+        ensures { (w : Known) → result ≡ verdict_at (On.Admin (Do.Grant t)) (Say.Granted tenant slot superblock)
+            (record w { owners = owners.now }) self.now }
     {
-        let order = self.left.order();
-        match command {
-            AdminCommand::Grant { tenant } => judge_grant(&self.held, order, owners, *tenant, body),
-            AdminCommand::TakeBack { tenant, slot } => {
-                let hides = &self.hides;
-                judge_take_back(&self.held, order, owners, hides, *tenant, *slot, body)
-            }
-            AdminCommand::Reset { tenant } => judge_reset(owners, *tenant, body),
-            AdminCommand::Move { tenant, slot } => {
-                judge_move(&self.held, owners, *tenant, *slot, body)
-            }
-            AdminCommand::Pool => judge_pool(owners, body),
+        let is_granted = is_granted_to(owners, t, tenant, superblock);
+        on_answer(
+            due_of_grant(owners),
+            Promise::Owners,
+            both(is_granted, self.is_new_slot(slot)),
+        )
+    }
+
+    /// Whether the slot is not held, and its places are below `2^32`.
+    fn is_new_slot(&self, slot: u16) -> bool
+        ensures { result ≡ (not (has_slot self.now.has slot)
+            && nat_le ((slot + 1) * 2 ^ self.now.left.order * FRAME_BYTES) (2 ^ 32)) }
+    {
+        let end = (u64::from(slot) + 1) * (1u64 << self.left.order()) * u64::from(FRAME_BYTES);
+        !self.held.has_slot(slot.into()) && end <= 1u64 << 32
+    }
+
+    /// Judges and follows the reply to taking a slot back from the tenant, which has number `t`.
+    pub(crate) fn take_back(
+        &mut self,
+        owners: &mut [Option<Owner>],
+        t: u32,
+        slot: u32,
+        answer: &Answer<'_>,
+    ) -> Result<(), Failure>
+        ensures judged { (w : Known) → IsVerdictFor (On.Admin (Do.TakeBack t slot)) (body_of_answer answer.now)
+            (record w { owners = owners.old }) self.old self.new result }
+        ensures owners { AreOwnersAfter (On.Admin (Do.TakeBack t slot)) (body_of_answer answer.now) owners.old owners.new result }
+    {
+        match answer {
+            Answer::TakenBack(superblock) => self.drop_superblock(owners, t, slot, *superblock),
+            Answer::Refused(refusal) => self.judge_slot_kept(slot, *refusal),
+            _ => Err(Failure::Broken(Promise::Form)),
         }
     }
 
-    /// What is known after a reply that keeps each promise. Fails where memory runs out, and then nothing is changed.
-    fn follow_admin(&mut self, command: &AdminCommand, body: &Body) -> Result<(), AllocError>
-        requires { IsKeptReply (On.Admin command.now) body.now self.old }
-        ensures followed { OnOk result (Follows (On.Admin command.now) body.now self.old self.new) }
-        ensures failed { OnErr result (self.new ≡ self.old) }
-        ensures memory { OnErr result (is_addition body.now ≡ true) }
+    /// The superblock under the slot is taken back.
+    fn drop_superblock(
+        &mut self,
+        owners: &mut [Option<Owner>],
+        t: u32,
+        slot: u32,
+        superblock: u16,
+    ) -> Result<(), Failure>
+        ensures judged { (w : Known) → IsVerdictFor (On.Admin (Do.TakeBack t slot)) (Say.TakenBack superblock)
+            (record w { owners = owners.old }) self.old self.new result }
+        ensures owners { AreOwnersAfter (On.Admin (Do.TakeBack t slot)) (Say.TakenBack superblock) owners.old owners.new result }
     {
-        match command {
-            AdminCommand::Grant { tenant } => self.after_grant(*tenant, body),
-            AdminCommand::TakeBack { tenant, slot } => {
-                self.after_take_back(*tenant, *slot, body);
-                Ok(())
+        self.judge_taken_back(owners, t, slot, superblock)?;
+        self.held.take_back(slot);
+        self.left.take_back(slot);
+        self.told = None;
+        give_up_slot(owners, t, slot);
+        Ok(())
+    }
+
+    /// The verdict on that.
+    fn judge_taken_back(
+        &self,
+        owners: &[Option<Owner>],
+        t: u32,
+        slot: u32,
+        superblock: u16,
+    ) -> Verdict
+        ensures { (w : Known) → result ≡ verdict_at (On.Admin (Do.TakeBack t slot)) (Say.TakenBack superblock)
+            (record w { owners = owners.now }) self.now }
+    {
+        let is_owned = is_owned_by(owners, superblock, t, slot);
+        on_answer(self.due_of_take_back(slot), Promise::Owners, is_owned)
+    }
+
+    /// Judges a refusal of that.
+    fn judge_slot_kept(&self, slot: u32, refusal: Refusal) -> Result<(), Failure>
+        ensures { (t : ℕ) (w : Known)
+            → IsVerdictFor (On.Admin (Do.TakeBack t slot)) (Say.Refused refusal) w self.now self.now result }
+    {
+        match self.held.held_slot(slot) {
+            Some(slot) => {
+                let is_busy = self.held.is_slot_busy(self.left.order(), slot);
+                let may_be_busy = self.may_be_busy(is_busy);
+                on_refusal(refusal, due_where_busy(is_busy), false, may_be_busy)
             }
-            AdminCommand::Reset { tenant } => {
-                self.after_reset(*tenant, body);
-                Ok(())
-            }
-            AdminCommand::Move { .. } => Ok(()),
-            AdminCommand::Pool => Ok(()),
+            None => on_refusal(refusal, Some(Refusal::NoSlot), false, false),
         }
     }
 
-    /// What is known after the reply to a grant to tenant `t`, which keeps each promise. Fails where memory runs out, and then
-    /// nothing is changed.
-    fn after_grant(&mut self, t: u32, body: &Body) -> Result<(), AllocError>
-        requires { IsKeptReply (On.Admin (Do.Grant t)) body.now self.old }
-        ensures followed { OnOk result (Follows (On.Admin (Do.Grant t)) body.now self.old self.new) }
-        ensures failed { OnErr result (self.new ≡ self.old) }
-        ensures memory { OnErr result (is_addition body.now ≡ true) }
+    /// Whether a slot may be busy, of which a frame is taken or not: a slab without live objects may stand in it.
+    fn may_be_busy(&self, is_busy: bool) -> bool
+        ensures { result ≡ (is_busy || list_any (λ c. slice_index_or self.now.hides c.number false) self.now.has.caches) }
     {
-        match body {
-            Body::Granted { slot, .. } => {
-                self.held.grant(*slot)?;
-                if let Err(error) = self.left.grant(*slot) {
-                    self.held.take_back(u32::from(*slot));
-                    return Err(error);
-                }
-                self.told = None;
-                Ok(())
+        is_busy || self.held.hides_some(&self.hides)
+    }
+
+    /// The refusal that taking a slot back has to get.
+    fn due_of_take_back(&self, slot: u32) -> Option<Refusal>
+        ensures { (t : ℕ) (w : Known) → result ≡ due (On.Admin (Do.TakeBack t slot)) (known_at self.now w) (state_of self.now) }
+    {
+        match self.held.held_slot(slot) {
+            Some(slot) => due_where_busy(self.held.is_slot_busy(self.left.order(), slot)),
+            None => Some(Refusal::NoSlot),
+        }
+    }
+
+    /// Judges and follows the reply to a reset of the tenant, which has number `t`.
+    pub(crate) fn reset(
+        &mut self,
+        owners: &mut [Option<Owner>],
+        t: u32,
+        answer: &Answer<'_>,
+    ) -> Result<(), Failure>
+        ensures judged { (w : Known) → IsVerdictFor (On.Admin (Do.Reset t)) (body_of_answer answer.now)
+            (record w { owners = owners.old }) self.old self.new result }
+        ensures owners { AreOwnersAfter (On.Admin (Do.Reset t)) (body_of_answer answer.now) owners.old owners.new result }
+    {
+        match answer {
+            Answer::WasReset {
+                tenant,
+                superblocks,
+            } => self.drop_all(owners, t, *tenant, *superblocks),
+            Answer::Refused(refusal) => on_refusal(*refusal, None, false, false),
+            _ => Err(Failure::Broken(Promise::Form)),
+        }
+    }
+
+    /// All is taken back from the tenant of number `tenant`, which had so many superblocks.
+    fn drop_all(
+        &mut self,
+        owners: &mut [Option<Owner>],
+        t: u32,
+        tenant: u8,
+        superblocks: u16,
+    ) -> Result<(), Failure>
+        ensures judged { (w : Known) → IsVerdictFor (On.Admin (Do.Reset t)) (Say.WasReset tenant superblocks)
+            (record w { owners = owners.old }) self.old self.new result }
+        ensures owners { AreOwnersAfter (On.Admin (Do.Reset t)) (Say.WasReset tenant superblocks) owners.old owners.new result }
+    {
+        judge_reset(owners, t, tenant, superblocks)?;
+        self.held.reset();
+        self.left.reset();
+        self.hides = [false; CACHES];
+        self.told = None;
+        give_up_all(owners, t);
+        Ok(())
+    }
+
+    /// Judges and follows the reply to a move of a slot of the tenant, which has number `t`.
+    pub(crate) fn move_slot(
+        &self,
+        owners: &mut [Option<Owner>],
+        t: u32,
+        slot: u32,
+        answer: &Answer<'_>,
+    ) -> Result<(), Failure>
+        ensures judged { (w : Known) → IsVerdictFor (On.Admin (Do.Move t slot)) (body_of_answer answer.now)
+            (record w { owners = owners.old }) self.now self.now result }
+        ensures owners { AreOwnersAfter (On.Admin (Do.Move t slot)) (body_of_answer answer.now) owners.old owners.new result }
+    {
+        match answer {
+            Answer::Moved {
+                tenant,
+                slot: told,
+                superblock,
+            } => self.put_over(owners, t, slot, *tenant, *told, *superblock),
+            Answer::Refused(refusal) => {
+                on_refusal(*refusal, self.due_of_move(owners, slot), false, false)
             }
-            _ => Ok(()),
+            _ => Err(Failure::Broken(Promise::Form)),
         }
     }
 
-    /// What is known after the reply to taking a slot back from tenant `t`, which keeps each promise.
-    fn after_take_back(&mut self, t: u32, slot: u32, body: &Body)
-        requires { IsKeptReply (On.Admin (Do.TakeBack t slot)) body.now self.old }
-        ensures { Follows (On.Admin (Do.TakeBack t slot)) body.now self.old self.new }
+    /// The slot `told` of the tenant of number `tenant` is put over the superblock.
+    fn put_over(
+        &self,
+        owners: &mut [Option<Owner>],
+        t: u32,
+        slot: u32,
+        tenant: u8,
+        told: u16,
+        superblock: u16,
+    ) -> Result<(), Failure>
+        ensures judged { (w : Known) → IsVerdictFor (On.Admin (Do.Move t slot)) (Say.Moved tenant told superblock)
+            (record w { owners = owners.old }) self.now self.now result }
+        ensures owners { AreOwnersAfter (On.Admin (Do.Move t slot)) (Say.Moved tenant told superblock) owners.old owners.new result }
     {
-        if let Body::TakenBack(_) = body {
-            self.held.take_back(slot);
-            self.left.take_back(slot);
-            self.told = None;
-        }
+        self.judge_moved(owners, t, slot, tenant, told, superblock)?;
+        give_up_slot(owners, t, slot);
+        set_owner(owners, superblock, tenant, told);
+        Ok(())
     }
 
-    /// What is known after the reply to a reset of tenant `t`, which keeps each promise.
-    fn after_reset(&mut self, t: u32, body: &Body)
-        requires { IsKeptReply (On.Admin (Do.Reset t)) body.now self.old }
-        ensures { Follows (On.Admin (Do.Reset t)) body.now self.old self.new }
+    /// The verdict on that.
+    fn judge_moved(
+        &self,
+        owners: &[Option<Owner>],
+        t: u32,
+        slot: u32,
+        tenant: u8,
+        told: u16,
+        superblock: u16,
+    ) -> Verdict
+        ensures { (w : Known) → result ≡ verdict_at (On.Admin (Do.Move t slot)) (Say.Moved tenant told superblock)
+            (record w { owners = owners.now }) self.now }
     {
-        if let Body::WasReset { .. } = body {
-            self.held.reset();
-            self.left.reset();
-            self.hides = [false; CACHES];
-            self.told = None;
+        let is_named = is_slot_named(t, slot, tenant, told);
+        let is_right = both(is_named, is_unowned(owners, superblock));
+        on_answer(self.due_of_move(owners, slot), Promise::Owners, is_right)
+    }
+
+    /// The refusal that a move has to get.
+    #[tactic(auto, unfolding(promise_core::specs::Promises::due))]
+    fn due_of_move(&self, owners: &[Option<Owner>], slot: u32) -> Option<Refusal>
+        ensures { (t : ℕ) (w : Known) → result
+            ≡ due (On.Admin (Do.Move t slot)) (known_at self.now (record w { owners = owners.now })) (state_of self.now) }
+    {
+        if !self.held.has_slot(slot) {
+            Some(Refusal::NoSlot)
+        } else if are_all_owned(owners) {
+            Some(Refusal::PoolEmpty)
+        } else {
+            None
         }
+    }
+}
+
+/// The verdict on the answer to a reset of tenant `t`.
+fn judge_reset(owners: &[Option<Owner>], t: u32, tenant: u8, superblocks: u16) -> Verdict
+    ensures { (w : Known) (x : Seen) → result ≡ verdict_at (On.Admin (Do.Reset t)) (Say.WasReset tenant superblocks)
+        (record w { owners = owners.now }) x }
+{
+    on_answer(
+        None,
+        Promise::Owners,
+        are_counted(owners, t, tenant, superblocks),
+    )
+}
+
+/// The refusal that a grant has to get.
+#[tactic(auto, unfolding(promise_core::specs::Promises::due))]
+fn due_of_grant(owners: &[Option<Owner>]) -> Option<Refusal>
+    ensures { (t : ℕ) (w : Known) (s : State) → result ≡ due (On.Admin (Do.Grant t)) (record w { owners = owners.now }) s }
+{
+    if are_all_owned(owners) {
+        Some(Refusal::PoolEmpty)
+    } else {
+        None
+    }
+}
+
+/// The refusal that taking back a held slot has to get.
+fn due_where_busy(is_busy: bool) -> Option<Refusal>
+    ensures { result ≡ first_due ((is_busy, Refusal.SlotBusy) ∷ []) }
+{
+    if is_busy {
+        Some(Refusal::SlotBusy)
+    } else {
+        None
     }
 }

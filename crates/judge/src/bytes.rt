@@ -1,116 +1,165 @@
-//! What a read may tell, and what is known after replies to reads and writes.
+//! Commands about bytes.
 
-ghost use Rattle.std.specs.Prelude.{◌≡◌, ◌≤◌, ◌==◌, ◌&&◌, ℕ, false, length, option_map};
-ghost use Rattle.std.specs.Option.{option_map_or};
+ghost use Rattle.std.specs.Prelude.{◌≡◌, ◌≤◌, ◌<◌, ◌&&◌, nat_le, ℕ, Some, IfOk, is_none, not, length};
+ghost use Rattle.words_core.specs.Requests.{body_of_answer};
 ghost use Rattle.words_core.specs.declared.event.Event.TheVariants as On;
 ghost use Rattle.words_core.specs.declared.event.Command.TheVariants as Asked;
-ghost use Rattle.promise_core.specs.Bytes.{holder_of, may_all_be};
+ghost use Rattle.words_core.specs.declared.reply.Body.TheVariants as Say;
+ghost use Rattle.promise_core.specs.Bytes.{holder_of};
 ghost use Rattle.promise_core.specs.State.{State, Known};
+ghost use Rattle.promise_core.specs.Promises.{due};
 ghost use Rattle.judge_core.specs.Holders.{shown_holder};
-ghost use Rattle.judge_replies.specs.Verdicts.{verdict_on};
-ghost use Rattle.judge.specs.Inside.{IsKeptReply, holder_asked};
-ghost use Rattle.judge.specs.Showing.{ShowsState, Follows};
+ghost use Rattle.judge.specs.Judged.{IsVerdictFor, known_at, verdict_at, verdict_of};
+ghost use Rattle.judge.specs.Seen.{state_of};
 
 use crate::tenant::Tenant;
+use crate::verdict::{Failure, on_refusal};
 use arrayvec::ArrayVec;
 use judge_core::RangeHolder;
-use judge_replies::{Verdict, due_of_read, judge_no_read, on_answer};
 use model_core::limits::MOST_BYTES;
 use promise_core::promise::Promise;
-use words_core::{Body, Command};
+use words_core::{Answer, Refusal};
 
 impl Tenant {
-    /// The live page block or live object that has all bytes which the command reads or writes.
-    pub(crate) fn holder_asked(&self, command: &Command) -> Option<RangeHolder>
-        ensures { option_map shown_holder result ≡ holder_asked command.now self.now.has }
+    /// Judges and follows the reply to a read of `len` bytes from a place on.
+    pub(crate) fn read(&mut self, place: u32, len: u32, answer: &Answer<'_>) -> Result<(), Failure>
+        ensures { (t : ℕ) (w : Known)
+            → IsVerdictFor (On.Tenant t (Asked.Read place len)) (body_of_answer answer.now) w self.old self.new result }
     {
-        match command {
-            Command::Read { place, len } => self.held.holder_of(*place, *len),
-            Command::Write { place, bytes } => self.held.holder_of(*place, bytes.len() as u32),
-            _ => None,
-        }
-    }
-
-    /// The verdict on the reply to a read of `len` bytes from a place on, whose holder this is.
-    pub(crate) fn judge_read(
-        &self,
-        place: u32,
-        len: u32,
-        holder: Option<RangeHolder>,
-        body: &Body,
-    ) -> Verdict
-        requires { option_map shown_holder holder ≡ holder_of self.now.has place len }
-        ensures { (t : ℕ) (w : Known) (s : State) → ShowsState self.now s
-            → result ≡ verdict_on (On.Tenant t (Asked.Read place len)) body.now w s }
-    {
-        match body {
-            Body::Bytes(bytes) => {
-                let due = due_of_read(holder.is_some(), len);
-                let is_right = self.may_tell(place, len, holder, bytes);
-                on_answer(due, Promise::Bytes, is_right)
+        match answer {
+            Answer::Bytes(bytes) => self.read_bytes(place, len, bytes),
+            Answer::Refused(refusal) => {
+                on_refusal(*refusal, self.due_of_read(place, len), false, false)
             }
-            Body::Refused(refusal) => judge_no_read(holder.is_some(), len, *refusal),
-            _ => Err(Promise::Form),
+            _ => Err(Failure::Broken(Promise::Form)),
         }
     }
 
-    /// Whether a read of `len` bytes from a place on, whose holder this is, may tell these.
-    fn may_tell(
-        &self,
-        place: u32,
-        len: u32,
-        holder: Option<RangeHolder>,
-        bytes: &ArrayVec<u8, MOST_BYTES>,
-    ) -> bool
-        requires { option_map shown_holder holder ≡ holder_of self.now.has place len }
-        ensures { (s : State) → ShowsState self.now s → result ≡ (length bytes.now.items == len
-            && option_map_or (λ holder. may_all_be s.has s.cells holder place bytes.now.items) (holder_of s.has place len)
-            false) }
+    /// These bytes are read.
+    fn read_bytes(&mut self, place: u32, len: u32, bytes: &[u8]) -> Result<(), Failure>
+        ensures { (t : ℕ) (w : Known) → IsVerdictFor (On.Tenant t (Asked.Read place len)) (Say.Bytes (record { items = bytes.now }))
+            w self.old self.new result }
     {
+        let holder = self.holder_read(place, len, bytes)?;
+        self.left.put(holder, place, bytes);
+        Ok(())
+    }
+
+    /// What has the bytes, if they may be read.
+    fn holder_read(&self, place: u32, len: u32, bytes: &[u8]) -> Result<RangeHolder, Promise>
+        ensures judged { (t : ℕ) (w : Known) → verdict_of result
+            ≡ verdict_at (On.Tenant t (Asked.Read place len)) (Say.Bytes (record { items = bytes.now })) w self.now }
+        ensures is { IfOk result (λ holder. (holder_of self.now.has place len ≡ Some (shown_holder holder)) × (length bytes.now ≡ len)) }
+    {
+        let Some(holder) = self.held.holder_of(place, len) else {
+            return Err(Promise::Refusals);
+        };
+        if !is_length(len) {
+            return Err(Promise::Refusals);
+        }
         if bytes.len() != len as usize {
-            return false;
+            return Err(Promise::Bytes);
         }
-        match holder {
-            Some(holder) => self.left.may_read(&self.held, holder, place, bytes),
-            None => false,
+        if !self.left.may_read(&self.held, holder, place, bytes) {
+            return Err(Promise::Bytes);
         }
+        Ok(holder)
     }
 
-    /// What is known after the reply to a read of `len` bytes from a place on, whose holder this is, which keeps each promise.
-    pub(crate) fn after_read(
-        &mut self,
-        place: u32,
-        len: u32,
-        holder: Option<RangeHolder>,
-        body: &Body,
-    )
-        requires holder { option_map shown_holder holder ≡ holder_of self.old.has place len }
-        requires kept { (t : ℕ) → IsKeptReply (On.Tenant t (Asked.Read place len)) body.now self.old }
-        ensures { (t : ℕ) → Follows (On.Tenant t (Asked.Read place len)) body.now self.old self.new }
+    /// The refusal that a read has to get.
+    #[tactic(auto, unfolding(promise_core::specs::Promises::due))]
+    fn due_of_read(&self, place: u32, len: u32) -> Option<Refusal>
+        ensures { (t : ℕ) (w : Known)
+            → result ≡ due (On.Tenant t (Asked.Read place len)) (known_at self.now w) (state_of self.now) }
     {
-        if let Body::Bytes(bytes) = body {
-            if let Some(holder) = holder {
-                self.left.put(holder, place, bytes);
-            }
+        if !is_length(len) {
+            Some(Refusal::BadLength)
+        } else if !self.is_in_reach(place, len) {
+            Some(Refusal::OutOfReach)
+        } else {
+            None
         }
     }
 
-    /// What is known after the reply to a write of these bytes from a place on, whose holder this is, which keeps each promise.
-    pub(crate) fn after_write(
+    /// Whether a live page block or a live object has the bytes.
+    fn is_in_reach(&self, place: u32, len: u32) -> bool
+        ensures { is_none (holder_of self.now.has place len) ≡ not result }
+    {
+        self.held.holder_of(place, len).is_some()
+    }
+
+    /// Judges and follows the reply to a write of these bytes from a place on.
+    pub(crate) fn write(
         &mut self,
         place: u32,
         bytes: &ArrayVec<u8, MOST_BYTES>,
-        holder: Option<RangeHolder>,
-        body: &Body,
-    )
-        requires holder { option_map shown_holder holder ≡ holder_of self.old.has place (length bytes.now.items) }
-        requires kept { (t : ℕ) → IsKeptReply (On.Tenant t (Asked.Write place bytes.now)) body.now self.old }
-        ensures { (t : ℕ) → Follows (On.Tenant t (Asked.Write place bytes.now)) body.now self.old self.new }
+        answer: &Answer<'_>,
+    ) -> Result<(), Failure>
+        ensures { (t : ℕ) (w : Known)
+            → IsVerdictFor (On.Tenant t (Asked.Write place bytes.now)) (body_of_answer answer.now) w self.old self.new result }
     {
-        if let Body::Written(_) = body {
-            if let Some(holder) = holder {
-                self.left.put(holder, place, bytes);
+        match answer {
+            Answer::Written(count) => self.write_bytes(place, bytes, *count),
+            Answer::Refused(refusal) => {
+                on_refusal(*refusal, self.due_of_write(place, bytes), false, false)
             }
+            _ => Err(Failure::Broken(Promise::Form)),
         }
     }
+
+    /// So many of these bytes are written.
+    fn write_bytes(
+        &mut self,
+        place: u32,
+        bytes: &ArrayVec<u8, MOST_BYTES>,
+        count: u32,
+    ) -> Result<(), Failure>
+        ensures { (t : ℕ) (w : Known)
+            → IsVerdictFor (On.Tenant t (Asked.Write place bytes.now)) (Say.Written count) w self.old self.new result }
+    {
+        let holder = self.holder_written(place, bytes, count)?;
+        self.left.put(holder, place, bytes.as_slice());
+        Ok(())
+    }
+
+    /// What has the bytes, if so many of them may be written.
+    fn holder_written(
+        &self,
+        place: u32,
+        bytes: &ArrayVec<u8, MOST_BYTES>,
+        count: u32,
+    ) -> Result<RangeHolder, Promise>
+        ensures judged { (t : ℕ) (w : Known)
+            → verdict_of result ≡ verdict_at (On.Tenant t (Asked.Write place bytes.now)) (Say.Written count) w self.now }
+        ensures is { IfOk result (λ holder. (holder_of self.now.has place count ≡ Some (shown_holder holder))
+            × (length bytes.now.items ≡ count)) }
+    {
+        let Some(holder) = self.held.holder_of(place, bytes.len() as u32) else {
+            return Err(Promise::Refusals);
+        };
+        if bytes.len() != count as usize {
+            return Err(Promise::Bytes);
+        }
+        Ok(holder)
+    }
+
+    /// The refusal that a write has to get.
+    #[tactic(auto, unfolding(promise_core::specs::Promises::due))]
+    fn due_of_write(&self, place: u32, bytes: &ArrayVec<u8, MOST_BYTES>) -> Option<Refusal>
+        ensures { (t : ℕ) (w : Known)
+            → result ≡ due (On.Tenant t (Asked.Write place bytes.now)) (known_at self.now w) (state_of self.now) }
+    {
+        if self.is_in_reach(place, bytes.len() as u32) {
+            None
+        } else {
+            Some(Refusal::OutOfReach)
+        }
+    }
+}
+
+/// Whether so many bytes may be read.
+fn is_length(len: u32) -> bool
+    ensures { result ≡ (nat_le 1 len && nat_le len MOST_BYTES) }
+{
+    1 <= len && len as usize <= MOST_BYTES
 }

@@ -1,123 +1,202 @@
-//! Verdicts on replies to a tenant, and what is kept after them.
+//! Verdicts on replies to any event, and what is kept of the machine after them.
 
-ghost use Rattle.std.specs.Prelude.{◌≡◌, ◌≤◌, ℕ, true, List, Option, Ok, IfOk, OnOk, OnErr, option_map};
-ghost use Rattle.model_core.specs.declared.owner.Owner.{Owner as Owning};
+ghost use Rattle.std.specs.Prelude.{◌≡◌, ◌<◌, ℕ, Some, None, Ok, Err, true, IfOk, OnErr, length};
+ghost use Rattle.words_core.specs.Requests.{HasFewBytes, body_of_answer, is_table, reply_to};
 ghost use Rattle.words_core.specs.declared.event.Event.TheVariants as On;
-ghost use Rattle.promise_core.specs.State.{State, Known};
-ghost use Rattle.judge_core.specs.Holders.{shown_holder};
-ghost use Rattle.judge_replies.specs.Verdicts.{verdict_on};
-ghost use Rattle.judge.specs.Adding.{is_addition, IsKeptAddition};
-ghost use Rattle.judge.specs.Inside.{IsKeptReply, holder_asked};
-ghost use Rattle.judge.specs.Showing.{ShowsState, FitsKnown, Follows, IsJudged};
+ghost use Rattle.words_core.specs.declared.reply.Body.TheVariants as Say;
+ghost use Rattle.promise_core.specs.declared.promise.Promise.{Promise};
+ghost use Rattle.promise_core.specs.State.{Known};
+ghost use Rattle.promise_core.specs.Promises.{allowed, is_for, named};
+ghost use Rattle.judge.specs.Adding.{IsAllowedAddition};
+ghost use Rattle.judge.specs.Judged.{IsJudged, failing};
+ghost use Rattle.judge.specs.Machine.{ShowsKnown, IsVerdict};
+ghost use Rattle.judge.specs.Sizes.{KeepsSizes};
 
-use crate::coming::{judge_destroy, judge_reap};
-use crate::report::judge_report;
-use crate::tenant::Tenant;
-use judge_core::RangeHolder;
-use judge_replies::{
-    Verdict, judge_alloc, judge_cache, judge_free, judge_give, judge_take, judge_write,
-};
+use crate::addressing::{is_for, judge_stranger, says_no_tenant, tenant_named};
+use crate::machine::Machine;
+use crate::owners::judge_pool;
+use crate::tenant::judge_no_table;
+use crate::verdict::{Failure, Verdict, followed};
+use promise_core::promise::Promise;
 use std::alloc::AllocError;
-use words_core::{Body, Command};
+use words_core::{Addressee, AdminCommand, Answer, Body, Command, Event, Reply};
 
-impl Tenant {
-    /// The verdict on a reply of this body to the tenant's command, and what is known is as it is after it; after a breach it is
-    /// as before. Fails where memory runs out, and then nothing is changed.
-    pub fn judge(&mut self, command: &Command, body: &Body) -> Result<Verdict, AllocError>
-        ensures judged { IfOk result (λ verdict. (t : ℕ) (owners : List (Option Owning))
-            → IsJudged (On.Tenant t command.now) body.now owners self.old self.new verdict) }
-        ensures failed { OnErr result (self.new ≡ self.old) }
-        ensures memory { OnErr result ((t : ℕ) (owners : List (Option Owning))
-            → IsKeptAddition (On.Tenant t command.now) body.now owners self.old) }
-    {
-        let holder = self.holder_asked(command);
-        match self.verdict(command, holder, body) {
-            Ok(()) => {
-                self.follow(command, holder, body)?;
-                Ok(Ok(()))
-            }
-            Err(promise) => Ok(Err(promise)),
-        }
-    }
-
-    /// The verdict on such a reply, where this is the holder of the bytes that the command reads or writes.
-    fn verdict(&self, command: &Command, holder: Option<RangeHolder>, body: &Body) -> Verdict
-        requires { option_map shown_holder holder ≡ holder_asked command.now self.now.has }
-        ensures { (t : ℕ) (owners : List (Option Owning)) (w : Known) (s : State)
-            → FitsKnown self.now owners w → ShowsState self.now s → result ≡ verdict_on (On.Tenant t command.now) body.now w s }
-    {
-        let order = self.left.order();
-        let told = self.told.as_ref();
-        match command {
-            Command::Alloc { order: k } => judge_alloc(&self.held, order, *k, body),
-            Command::Free { frame } => judge_free(&self.held, *frame, body),
-            Command::Read { place, len } => self.judge_read(*place, *len, holder, body),
-            Command::Write { bytes, .. } => judge_write(holder.is_some(), bytes, body),
-            Command::Cache {
-                size,
-                align,
-                pattern,
-            } => judge_cache(&self.held, order, *size, *align, pattern, body),
-            Command::Destroy { cache } => {
-                judge_destroy(&self.held, order, &self.hides, told, *cache, body)
-            }
-            Command::Take { cache } => judge_take(&self.held, order, *cache, body),
-            Command::Give { cache, place } => judge_give(&self.held, *cache, *place, body),
-            Command::Reap => judge_reap(&self.held, order, &self.hides, told, body),
-            Command::Report => judge_report(&self.held, order, &self.hides, told, body),
-        }
-    }
-
-    /// What is known after a reply that keeps each promise, where this is the holder of the bytes that the command reads or
-    /// writes. Fails where memory runs out, and then nothing is changed.
-    fn follow(
+impl Machine {
+    /// Returns the verdict on the answer to the event, which is for the addressee; what is known is as it is after it. After a
+    /// breach, and where memory runs out, nothing is changed.
+    pub fn judge(
         &mut self,
-        command: &Command,
-        holder: Option<RangeHolder>,
-        body: &Body,
-    ) -> Result<(), AllocError>
-        requires holder { option_map shown_holder holder ≡ holder_asked command.now self.old.has }
-        requires kept { (t : ℕ) → IsKeptReply (On.Tenant t command.now) body.now self.old }
-        ensures followed { OnOk result ((t : ℕ) → Follows (On.Tenant t command.now) body.now self.old self.new) }
+        event: &Event,
+        addressee: Addressee,
+        answer: &Answer<'_>,
+    ) -> Result<Verdict, AllocError>
+        requires { HasFewBytes answer.now }
+        ensures judged { IfOk result (λ verdict. (w : Known) → ShowsKnown self.old w
+            → IsVerdict verdict (allowed event.now (reply_to addressee answer.now) w) self.new) }
+        ensures broken { (promise : Promise) → result ≡ Ok (Err promise) → self.new ≡ self.old }
         ensures failed { OnErr result (self.new ≡ self.old) }
-        ensures memory { OnErr result (is_addition body.now ≡ true) }
+        ensures memory { OnErr result (IsAllowedAddition event.now (reply_to addressee answer.now) self.old) }
+        ensures sizes { KeepsSizes self.old self.new }
     {
-        match command {
-            Command::Alloc { order } => self.after_alloc(*order, body),
-            Command::Free { frame } => {
-                self.after_free(*frame, body);
-                Ok(())
-            }
-            Command::Read { place, len } => {
-                self.after_read(*place, *len, holder, body);
-                Ok(())
-            }
-            Command::Write { place, bytes } => {
-                self.after_write(*place, bytes, holder, body);
-                Ok(())
-            }
-            Command::Cache {
-                size,
-                align,
-                pattern,
-            } => self.after_cache(*size, *align, pattern, body),
-            Command::Destroy { cache } => {
-                self.after_destroy(*cache, body);
-                Ok(())
-            }
-            Command::Take { cache } => self.after_take(*cache, body),
-            Command::Give { cache, place } => {
-                self.after_give(*cache, *place, body);
-                Ok(())
-            }
-            Command::Reap => {
-                self.after_reap(body);
-                Ok(())
-            }
-            Command::Report => {
-                self.after_report(body);
-                Ok(())
-            }
+        match self.judge_answer(event, addressee, answer) {
+            Ok(()) => Ok(Ok(())),
+            Err(Failure::Broken(promise)) => Ok(Err(promise)),
+            Err(Failure::Memory(error)) => Err(error),
+        }
+    }
+
+    /// The same, as a failure where the answer is not followed.
+    fn judge_answer(
+        &mut self,
+        event: &Event,
+        addressee: Addressee,
+        answer: &Answer<'_>,
+    ) -> Result<(), Failure>
+        ensures { IsJudged event.now (reply_to addressee answer.now) self.old self.new result }
+    {
+        match tenant_named(event) {
+            Some(t) => self.judge_named(t, event, addressee, answer),
+            None => self.judge_unnamed(event, addressee, answer),
+        }
+    }
+
+    /// The same for an event that names tenant `t`.
+    fn judge_named(
+        &mut self,
+        t: u32,
+        event: &Event,
+        addressee: Addressee,
+        answer: &Answer<'_>,
+    ) -> Result<(), Failure>
+        requires { named event.now ≡ Some t }
+        ensures { IsJudged event.now (reply_to addressee answer.now) self.old self.new result }
+    {
+        if t as usize >= self.tenants.len() {
+            return followed(judge_stranger(event, addressee, says_no_tenant(answer)));
+        }
+        if !is_for(event, true, addressee) {
+            return Err(Failure::Broken(Promise::Form));
+        }
+        match event {
+            Event::Tenant(_, command) => self.judge_tenant(t, command, addressee, answer),
+            Event::Admin(command) => self.judge_admin(t, command, addressee, answer),
+        }
+    }
+
+    /// The same for an event that names no tenant.
+    fn judge_unnamed(
+        &self,
+        event: &Event,
+        addressee: Addressee,
+        answer: &Answer<'_>,
+    ) -> Result<(), Failure>
+        requires { named event.now ≡ None }
+        ensures { IsJudged event.now (reply_to addressee answer.now) self.now self.now result }
+    {
+        if !is_for(event, true, addressee) {
+            return Err(Failure::Broken(Promise::Form));
+        }
+        judge_no_table(answer)
+    }
+
+    /// The same for a command of tenant `t`, where the answer is for whom it has to be.
+    fn judge_tenant(
+        &mut self,
+        t: u32,
+        command: &Command,
+        addressee: Addressee,
+        answer: &Answer<'_>,
+    ) -> Result<(), Failure>
+        requires tenant { t < length self.old.tenants }
+        requires addressee { is_for (On.Tenant t command.now) true addressee ≡ true }
+        ensures { IsJudged (On.Tenant t command.now) (reply_to addressee answer.now) self.old self.new result }
+    {
+        self.tenants[t as usize].judge(command, answer)
+    }
+
+    /// The same for a command of the administrator that names tenant `t`.
+    fn judge_admin(
+        &mut self,
+        t: u32,
+        command: &AdminCommand,
+        addressee: Addressee,
+        answer: &Answer<'_>,
+    ) -> Result<(), Failure>
+        requires tenant { t < length self.old.tenants }
+        requires named { named (On.Admin command.now) ≡ Some t }
+        requires addressee { is_for (On.Admin command.now) true addressee ≡ true }
+        ensures { IsJudged (On.Admin command.now) (reply_to addressee answer.now) self.old self.new result }
+    {
+        self.tenants[t as usize].judge_admin(&mut self.owners, command, answer)
+    }
+
+    /// Returns the verdict on a report or a table of owners in reply to the event; what is known is as it is after it. After a
+    /// breach nothing is changed.
+    #[cold]
+    #[inline(never)]
+    pub fn judge_table(&mut self, event: &Event, reply: &Reply) -> Verdict
+        requires { is_table reply.now.body ≡ true }
+        ensures judged { (w : Known) → ShowsKnown self.old w → IsVerdict result (allowed event.now reply.now w) self.new }
+        ensures broken { (promise : Promise) → result ≡ Err promise → self.new ≡ self.old }
+        ensures sizes { KeepsSizes self.old self.new }
+    {
+        self.judge_rows(event, reply)
+    }
+
+    /// The same, as one fact.
+    fn judge_rows(&mut self, event: &Event, reply: &Reply) -> Verdict
+        requires { is_table reply.now.body ≡ true }
+        ensures { IsJudged event.now reply.now self.old self.new (failing result) }
+    {
+        match tenant_named(event) {
+            Some(t) => self.judge_rows_for(t, event, reply),
+            None => self.judge_owners(event, reply),
+        }
+    }
+
+    /// The same for an event that names tenant `t`.
+    fn judge_rows_for(&mut self, t: u32, event: &Event, reply: &Reply) -> Verdict
+        requires table { is_table reply.now.body ≡ true }
+        requires named { named event.now ≡ Some t }
+        ensures { IsJudged event.now reply.now self.old self.new (failing result) }
+    {
+        if t as usize >= self.tenants.len() {
+            return judge_stranger(event, reply.addressee, false);
+        }
+        if !is_for(event, true, reply.addressee) {
+            return Err(Promise::Form);
+        }
+        match event {
+            Event::Tenant(_, command) => self.judge_report(t, command, reply),
+            Event::Admin(_) => Err(Promise::Form),
+        }
+    }
+
+    /// The same for a command of tenant `t`, where the reply is for whom it has to be.
+    fn judge_report(&mut self, t: u32, command: &Command, reply: &Reply) -> Verdict
+        requires table { is_table reply.now.body ≡ true }
+        requires tenant { t < length self.old.tenants }
+        requires addressee { is_for (On.Tenant t command.now) true reply.now.addressee ≡ true }
+        ensures { IsJudged (On.Tenant t command.now) reply.now self.old self.new (failing result) }
+    {
+        match &reply.body {
+            Body::Report(report) => self.tenants[t as usize].judge_rows(command, report),
+            _ => Err(Promise::Form),
+        }
+    }
+
+    /// The same for an event that names no tenant.
+    fn judge_owners(&self, event: &Event, reply: &Reply) -> Verdict
+        requires table { is_table reply.now.body ≡ true }
+        requires named { named event.now ≡ None }
+        ensures { IsJudged event.now reply.now self.now self.now (failing result) }
+    {
+        if !is_for(event, true, reply.addressee) {
+            return Err(Promise::Form);
+        }
+        match &reply.body {
+            Body::Owners(told) => judge_pool(&self.owners, told),
+            _ => Err(Promise::Form),
         }
     }
 }

@@ -5,24 +5,21 @@
 
 mod addressing;
 mod administrator;
-mod answer;
 mod bytes;
 mod caches;
 mod coming;
 mod counts;
-mod figures;
 mod judging;
 mod machine;
 mod marks;
 mod objects;
 mod owners;
 mod pages;
-mod replies;
 mod report;
 mod rows;
 mod taken;
 mod tenant;
+mod verdict;
 
-pub use judge_replies::Verdict;
 pub use machine::Machine;
-pub use tenant::Tenant;
+pub use verdict::Verdict;

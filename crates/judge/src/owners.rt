@@ -1,82 +1,127 @@
-//! Who owns which superblock after a reply to the administrator.
+//! Who owns which superblock.
 
-ghost use Rattle.std.specs.Prelude.{◌≡◌, map, slice_set, Some};
+ghost use Rattle.std.specs.Prelude.{◌≡◌, ◌==◌, ◌&&◌, ℕ, Option, Some, false, is_none, is_some, count_by, length, map, slice_set};
+ghost use Rattle.std.specs.List.{list_all, slice_get, zip};
+ghost use Rattle.std.specs.Option.{option_map_or, option_eq};
 ghost use Rattle.model_core.specs.Owners.{owned_by, is_of, is_owner};
 ghost use Rattle.words_core.specs.declared.event.Event.TheVariants as On;
 ghost use Rattle.words_core.specs.declared.event.AdminCommand.TheVariants as Do;
+ghost use Rattle.words_core.specs.declared.reply.Body.TheVariants as Say;
 ghost use Rattle.world_core.specs.World.{given_up};
-ghost use Rattle.promise_core.specs.State.{owners_after};
-ghost use Rattle.judge.specs.Inside.{IsKeptReply};
-ghost use Rattle.judge.specs.Showing.{Seen};
+ghost use Rattle.promise_core.specs.State.{State, Known};
+ghost use Rattle.judge.specs.Verdicts.{verdict_on};
 
+use crate::verdict::{Verdict, on_answer};
+use arrayvec::ArrayVec;
 use model_core::owner::Owner;
-use words_core::{AdminCommand, Body};
+use promise_core::promise::Promise;
+use words_core::OWNERS;
 
-/// The owners after a reply of this body to the command, which keeps each promise.
-pub(crate) fn follow_owners(owners: &mut [Option<Owner>], command: &AdminCommand, body: &Body)
-    requires { (x : Seen) × IsKeptReply (On.Admin command.now) body.now x }
-    ensures { owners.new ≡ owners_after (On.Admin command.now) body.now owners.old }
+/// Whether a reset of tenant `t` may tell this tenant and so many superblocks.
+pub(crate) fn are_counted(owners: &[Option<Owner>], t: u32, tenant: u8, superblocks: u16) -> bool
+    ensures { result ≡ (tenant == t && superblocks == count_by (is_of t) owners.now) }
 {
-    match command {
-        AdminCommand::Grant { tenant } => follow_grant(owners, *tenant, body),
-        AdminCommand::TakeBack { tenant, slot } => follow_take_back(owners, *tenant, *slot, body),
-        AdminCommand::Reset { tenant } => follow_reset(owners, *tenant, body),
-        AdminCommand::Move { tenant, slot } => follow_move(owners, *tenant, *slot, body),
-        AdminCommand::Pool => {}
+    u32::from(tenant) == t && usize::from(superblocks) == count_of(owners, t)
+}
+
+/// Whether a grant to tenant `t` may tell this tenant and this superblock.
+pub(crate) fn is_granted_to(owners: &[Option<Owner>], t: u32, tenant: u8, superblock: u16) -> bool
+    ensures { result ≡ (tenant == t && option_map_or is_none (slice_get owners.now superblock) false) }
+{
+    u32::from(tenant) == t && is_unowned(owners, superblock)
+}
+
+/// Whether a move of a slot of tenant `t` may tell this tenant and this slot.
+pub(crate) fn is_slot_named(t: u32, slot: u32, tenant: u8, told: u16) -> bool
+    ensures { result ≡ (tenant == t && told == slot) }
+{
+    u32::from(tenant) == t && u32::from(told) == slot
+}
+
+/// How many superblocks the tenant owns.
+fn count_of(owners: &[Option<Owner>], t: u32) -> usize
+    ensures { result ≡ count_by (is_of t) owners.now }
+{
+    owners.iter().filter(|owner| is_of(**owner, t)).count()
+}
+
+/// Whether the superblock is the tenant's.
+fn is_of(owner: Option<Owner>, t: u32) -> bool
+    ensures { result ≡ is_of t owner }
+{
+    match owner {
+        Some(owner) => u32::from(owner.tenant) == t,
+        None => false,
     }
 }
 
-/// The owners after the reply to a grant to tenant `t`, which keeps each promise.
-fn follow_grant(owners: &mut [Option<Owner>], t: u32, body: &Body)
-    requires { (x : Seen) × IsKeptReply (On.Admin (Do.Grant t)) body.now x }
-    ensures { owners.new ≡ owners_after (On.Admin (Do.Grant t)) body.now owners.old }
+/// Whether every superblock has an owner.
+pub(crate) fn are_all_owned(owners: &[Option<Owner>]) -> bool
+    ensures { result ≡ list_all is_some owners.now }
 {
-    if let Body::Granted {
-        tenant,
-        slot,
-        superblock,
-    } = body
-    {
-        set_owner(owners, *superblock, *tenant, *slot);
+    owners.iter().all(|owner| owner.is_some())
+}
+
+/// Whether there is such a superblock, and it is the tenant's, under this slot.
+pub(crate) fn is_owned_by(owners: &[Option<Owner>], superblock: u16, t: u32, slot: u32) -> bool
+    ensures { result ≡ option_map_or (is_owner t slot) (slice_get owners.now superblock) false }
+{
+    match owners.get(usize::from(superblock)) {
+        Some(Some(owner)) => u32::from(owner.tenant) == t && u32::from(owner.slot) == slot,
+        Some(None) => false,
+        None => false,
     }
 }
 
-/// The owners after the reply to taking a slot back from tenant `t`.
-fn follow_take_back(owners: &mut [Option<Owner>], t: u32, slot: u32, body: &Body)
-    ensures { owners.new ≡ owners_after (On.Admin (Do.TakeBack t slot)) body.now owners.old }
+/// Whether there is such a superblock, and nobody owns it.
+pub(crate) fn is_unowned(owners: &[Option<Owner>], superblock: u16) -> bool
+    ensures { result ≡ option_map_or is_none (slice_get owners.now superblock) false }
 {
-    if let Body::TakenBack(_) = body {
-        give_up_slot(owners, t, slot);
+    match owners.get(usize::from(superblock)) {
+        Some(owner) => owner.is_none(),
+        None => false,
     }
 }
 
-/// The owners after the reply to a reset of tenant `t`.
-fn follow_reset(owners: &mut [Option<Owner>], t: u32, body: &Body)
-    ensures { owners.new ≡ owners_after (On.Admin (Do.Reset t)) body.now owners.old }
+/// The verdict on a table of the owners.
+pub(crate) fn judge_pool(
+    owners: &[Option<Owner>],
+    told: &ArrayVec<Option<Owner>, OWNERS>,
+) -> Verdict
+    ensures { (w : Known) (s : State) → result
+        ≡ verdict_on (On.Admin Do.Pool) (Say.Owners told.now) (record w { owners = owners.now }) s }
 {
-    if let Body::WasReset { .. } = body {
-        give_up_all(owners, t);
-    }
+    on_answer(None, Promise::Owners, are_told(owners, told))
 }
 
-/// The owners after the reply to a move of a slot of tenant `t`, which keeps each promise.
-fn follow_move(owners: &mut [Option<Owner>], t: u32, slot: u32, body: &Body)
-    requires { (x : Seen) × IsKeptReply (On.Admin (Do.Move t slot)) body.now x }
-    ensures { owners.new ≡ owners_after (On.Admin (Do.Move t slot)) body.now owners.old }
+/// Whether these are told as they are.
+fn are_told(owners: &[Option<Owner>], told: &ArrayVec<Option<Owner>, OWNERS>) -> bool
+    ensures { result ≡ (length told.now.items == length owners.now
+        && list_all (λ p. option_eq (λ x y. x.tenant == y.tenant && x.slot == y.slot) p.0 p.1) (zip told.now.items owners.now)) }
 {
-    if let Body::Moved {
-        tenant,
-        slot: told,
-        superblock,
-    } = body
-    {
-        give_up_slot(owners, t, slot);
-        set_owner(owners, *superblock, *tenant, *told);
+    told.len() == owners.len() && are_same(owners, told.as_slice())
+}
+
+fn are_same(owners: &[Option<Owner>], told: &[Option<Owner>]) -> bool
+    ensures { result ≡ list_all (λ p. option_eq (λ x y. x.tenant == y.tenant && x.slot == y.slot) p.0 p.1)
+        (zip told.now owners.now) }
+{
+    told.iter().zip(owners).all(|(a, b)| is_same(*a, *b))
+}
+
+/// Whether both are nobody, or the same slot of the same tenant.
+fn is_same(a: Option<Owner>, b: Option<Owner>) -> bool
+    ensures { result ≡ option_eq (λ x y. x.tenant == y.tenant && x.slot == y.slot) a b }
+{
+    match (a, b) {
+        (Some(a), Some(b)) => a.tenant == b.tenant && a.slot == b.slot,
+        (None, None) => true,
+        _ => false,
     }
 }
 
 /// The superblock is the tenant's, under this slot; nothing changes where there is no such superblock.
-fn set_owner(owners: &mut [Option<Owner>], superblock: u16, tenant: u8, slot: u16)
+pub(crate) fn set_owner(owners: &mut [Option<Owner>], superblock: u16, tenant: u8, slot: u16)
     ensures { owners.new ≡ slice_set owners.old superblock (Some (owned_by tenant slot)) }
 {
     let i = usize::from(superblock);
@@ -86,7 +131,7 @@ fn set_owner(owners: &mut [Option<Owner>], superblock: u16, tenant: u8, slot: u1
 }
 
 /// The superblock under this slot of tenant `t` is nobody's.
-fn give_up_slot(owners: &mut [Option<Owner>], t: u32, slot: u32)
+pub(crate) fn give_up_slot(owners: &mut [Option<Owner>], t: u32, slot: u32)
     ensures { owners.new ≡ map (given_up (is_owner t slot)) owners.old }
 {
     for owner in owners.iter_mut() {
@@ -95,7 +140,7 @@ fn give_up_slot(owners: &mut [Option<Owner>], t: u32, slot: u32)
 }
 
 /// No superblock is tenant `t`'s.
-fn give_up_all(owners: &mut [Option<Owner>], t: u32)
+pub(crate) fn give_up_all(owners: &mut [Option<Owner>], t: u32)
     ensures { owners.new ≡ map (given_up (is_of t)) owners.old }
 {
     for owner in owners.iter_mut() {

@@ -1,5 +1,5 @@
-//! Verdicts on replies to a report. Slots have `2^order` frames; by number of a cache `hides` is whether a slab without live
-//! objects may stand; `told` is the last report, while it has to stand.
+//! A report. Slots have `2^order` frames; by number of a cache `hides` is whether a slab without live objects may stand; `told`
+//! is the last report, while it has to stand.
 
 ghost use Rattle.std.specs.Prelude.{◌≡◌, ℕ, ◌+◌, ◌*◌, ◌^◌, ◌≤◌, ◌<◌, ◌==◌, ◌&&◌, nat_le, map, drop, length, slice_index, slice_index_or, false, true};
 ghost use Rattle.std.specs.List.{list_all, range_with_len, zip};
@@ -12,39 +12,51 @@ ghost use Rattle.words_core.specs.declared.reply.Body.TheVariants as Say;
 ghost use Rattle.promise_core.specs.Holdings.{vacant_blocks};
 ghost use Rattle.promise_core.specs.State.{State, Known};
 ghost use Rattle.promise_core.specs.Promises.{report, frames_of_counts, is_row, told_count};
-ghost use Rattle.judge_replies.specs.Verdicts.{verdict_on};
+ghost use Rattle.judge.specs.Judged.{IsVerdictFor, failing, verdict_at};
 
-use crate::answer::on_answer;
 use crate::counts::{
     count_at, frames_from, frames_of_counts, free_counts, greatest, split_share, taken_counts,
 };
 use crate::rows::are_rows;
 use crate::taken::are_taken;
+use crate::tenant::Tenant;
+use crate::verdict::{Verdict, on_still_answer};
+use arrayvec::ArrayVec;
 use judge_core::Held;
-use judge_replies::{Verdict, on_refusal};
 use model_core::report::{CacheRow, OrderRow};
 use promise_core::promise::Promise;
-use words_core::{Body, CACHES, ORDERS, Report};
+use words_core::{CACHES, Command, ORDERS, Report};
 
-/// The verdict on the reply to a report.
-pub(crate) fn judge_report(
-    held: &Held,
-    order: u8,
-    hides: &[bool],
-    told: Option<&Report>,
-    body: &Body,
-) -> Verdict
-    requires { order ≤ MOST_ORDER }
-    ensures { (t : ℕ) (w : Known) (s : State) → result ≡ verdict_on (On.Tenant t Asked.Report) body.now (record w { order = order })
-        (record s { has = held.now; hides = λ n. slice_index_or hides.now n false; told = option_copied told.entry }) }
-{
-    match body {
-        Body::Report(report) => {
-            let is_right = tells_state(held, order, hides, report);
-            on_answer(None, Promise::Report, is_right, tells_same(told, report))
+impl Tenant {
+    /// Judges and follows a report. It stands apart since a function clears space for a report that it copies when it is entered.
+    #[inline(never)]
+    fn report(&mut self, report: &Report) -> Verdict
+        ensures { (t : ℕ) (w : Known)
+            → IsVerdictFor (On.Tenant t Asked.Report) (Say.Report report.now) w self.old self.new (failing result) }
+    {
+        self.judge_report(report)?;
+        self.told = Some(copy_of(report));
+        Ok(())
+    }
+
+    /// The same of a reply to any command.
+    pub(crate) fn judge_rows(&mut self, command: &Command, report: &Report) -> Verdict
+        ensures { (t : ℕ) (w : Known)
+            → IsVerdictFor (On.Tenant t command.now) (Say.Report report.now) w self.old self.new (failing result) }
+    {
+        match command {
+            Command::Report => self.report(report),
+            _ => Err(Promise::Form),
         }
-        Body::Refused(refusal) => on_refusal(*refusal, None, false, false),
-        _ => Err(Promise::Form),
+    }
+
+    /// The verdict on a report.
+    fn judge_report(&self, report: &Report) -> Verdict
+        ensures { (t : ℕ) (w : Known) → result ≡ verdict_at (On.Tenant t Asked.Report) (Say.Report report.now) w self.now }
+    {
+        let is_right = tells_state(&self.held, self.left.order(), &self.hides, report);
+        let is_still = tells_same(self.told.as_ref(), report);
+        on_still_answer(None, Promise::Report, is_right, is_still)
     }
 }
 
@@ -201,4 +213,39 @@ fn are_as_empty(before: &[CacheRow], now: &[CacheRow]) -> bool
     ensures { result ≡ list_all (λ p. p.0.empty == p.1.empty) (zip before.now now.now) }
 {
     before.iter().zip(now).all(|(a, b)| a.empty == b.empty)
+}
+
+/// The same report.
+fn copy_of(report: &Report) -> Report
+    ensures { result ≡ report.now }
+{
+    Report {
+        frames: report.frames,
+        live: report.live,
+        free: report.free,
+        top: report.top,
+        split: report.split,
+        orders: copy_of_orders(&report.orders),
+        caches: copy_of_caches(&report.caches),
+    }
+}
+
+/// The same rows.
+fn copy_of_orders(rows: &ArrayVec<OrderRow, ORDERS>) -> ArrayVec<OrderRow, ORDERS>
+    ensures { result ≡ rows.now }
+{
+    let mut copy = ArrayVec::new();
+    let taken = copy.try_extend_from_slice(rows.as_slice());
+    prove!(taken.is_ok());
+    copy
+}
+
+/// The same rows.
+fn copy_of_caches(rows: &ArrayVec<CacheRow, CACHES>) -> ArrayVec<CacheRow, CACHES>
+    ensures { result ≡ rows.now }
+{
+    let mut copy = ArrayVec::new();
+    let taken = copy.try_extend_from_slice(rows.as_slice());
+    prove!(taken.is_ok());
+    copy
 }

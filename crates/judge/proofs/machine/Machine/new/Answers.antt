@@ -1,5 +1,5 @@
 use Rattle.std.proofs.Common.{[], ◌∷◌, length, length-append, refl, ap, rules, arith}
-use Rattle.judge.specs.Showing.{IsOpeningTenant}
+use Rattle.judge.specs.Seen.{IsOpeningTenant}
 use Rattle.judge.specs.Machine.{SeenMachine}
 use Rattle.judge.proofs.Opening.{each_more, opening_shown}
 use Rattle.judge.proofs.machine.Machine.new.Goals as goal

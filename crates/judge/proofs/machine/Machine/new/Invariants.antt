@@ -1,5 +1,5 @@
 use Rattle.std.proofs.Common.{◌≡◌, ℕ, Some, length, slice_get}
-use Rattle.judge.specs.Showing.{Seen, IsOpeningTenant}
+use Rattle.judge.specs.Seen.{Seen, IsOpeningTenant}
 use Rattle.judge.proofs.machine.Machine.new.Given as goal
 
 abbrev pub invariant-loop-tenant : goal.invariant-loop-tenant

@@ -1,24 +1,31 @@
-use Rattle.std.proofs.Common.{refl, sym, ◌∙◌}
+use Rattle.std.proofs.Common.{sym, subst}
+use Rattle.words_core.specs.Requests.{body_of_answer}
 use Rattle.words_core.specs.declared.event.Event.TheVariants as On
-use Rattle.judge_bytes.specs.Left.{left_at}
-use Rattle.judge.specs.Showing.{state_with}
-use Rattle.judge.specs.Inside.{known_by}
-use Rattle.judge.specs.Adding.{IsKeptAddition}
-use Rattle.judge.proofs.Keeping.{shown}
-use Rattle.judge.proofs.Sizes.{at_err}
+use Rattle.judge.specs.Judged.{IsVerdictFor}
+use Rattle.judge.specs.Judged.{AreOwnersAfter}
+use Rattle.judge.proofs.Owning.{owners_told}
 use Rattle.judge.proofs.tenant.Tenant.judge_admin.Goals as goal
 
-pub follow_admin-requires : goal.follow_admin-requires
-follow_admin-requires c =
-    let x = c.args.self.now in (
-      c.args.owners.now,
-      sym (c.admin_verdict.ensures (known_by c.args.owners.now x.left.order) (state_with x (left_at x.left))
-          (record { limit = refl; order = refl; owned = refl }) (shown x)) ∙ c.in-Ok.is,
-    )
+pub returns-in-Grant-clause-judged : goal.returns-in-Grant-clause-judged
+returns-in-Grant-clause-judged c w = subst (λ m. IsVerdictFor (On.Admin m) (body_of_answer c.args.answer.now) (record w { owners = c.args.owners.now }) c.args.self.now c.grant.new.self c.grant.result)
+    (sym c.in-Grant.is) (c.grant.ensures.judged w)
 
-pub returns-in_err-follow_admin-in-Ok-clause-memory : goal.returns-in_err-follow_admin-in-Ok-clause-memory
-returns-in_err-follow_admin-in-Ok-clause-memory c =
-    let is : IsKeptAddition (On.Admin c.args.command.now) c.args.body.now c.args.owners.now c.args.self.now = record {
-      adds = c.in_err-follow_admin-in-Ok.ensures.memory;
-      kept = λ w s fits shows. sym (c.admin_verdict.ensures w s fits shows) ∙ c.in-Ok.is;
-    } in at_err _ _ is
+pub returns-in-TakeBack-clause-judged : goal.returns-in-TakeBack-clause-judged
+returns-in-TakeBack-clause-judged c w = subst (λ m. IsVerdictFor (On.Admin m) (body_of_answer c.args.answer.now) (record w { owners = c.args.owners.now }) c.args.self.now c.take_back.new.self c.take_back.result)
+    (sym c.in-TakeBack.is) (c.take_back.ensures.judged w)
+
+pub returns-in-Reset-clause-judged : goal.returns-in-Reset-clause-judged
+returns-in-Reset-clause-judged c w = subst (λ m. IsVerdictFor (On.Admin m) (body_of_answer c.args.answer.now) (record w { owners = c.args.owners.now }) c.args.self.now c.reset.new.self c.reset.result)
+    (sym c.in-Reset.is) (c.reset.ensures.judged w)
+
+pub returns-in-Move-clause-judged : goal.returns-in-Move-clause-judged
+returns-in-Move-clause-judged c w = subst (λ m. IsVerdictFor (On.Admin m) (body_of_answer c.args.answer.now) (record w { owners = c.args.owners.now }) c.args.self.now c.args.self.now c.move_slot.result)
+    (sym c.in-Move.is) (c.move_slot.ensures.judged w)
+
+pub returns-in-Pool-clause-judged : goal.returns-in-Pool-clause-judged
+returns-in-Pool-clause-judged c w = subst (λ m. IsVerdictFor (On.Admin m) (body_of_answer c.args.answer.now) (record w { owners = c.args.owners.now }) c.args.self.now c.args.self.now c.judge_no_table.result)
+    (sym c.in-Pool.is) (c.judge_no_table.ensures.pool (record w { owners = c.args.owners.now }) c.args.self.now)
+
+pub returns-in-Pool-clause-owners : goal.returns-in-Pool-clause-owners
+returns-in-Pool-clause-owners c = subst (λ m. AreOwnersAfter (On.Admin m) (body_of_answer c.args.answer.now) c.args.owners.now c.args.owners.now c.judge_no_table.result) (sym c.in-Pool.is)
+    (owners_told (body_of_answer c.args.answer.now) c.args.owners.now c.judge_no_table.result)

@@ -1,7 +1,6 @@
-use Rattle.std.proofs.Common.{refl, ap}
-use Rattle.judge.specs.Showing.{Seen}
-use Rattle.std.proofs.Common.{None, replicate, false}
+use Rattle.std.proofs.Common.{None, replicate, false, refl, ap}
 use Rattle.judge_bytes.specs.Left.{Left}
+use Rattle.judge.specs.Seen.{Seen}
 use Rattle.judge.proofs.Owning.{opened, none_marked}
 use Rattle.judge.proofs.tenant.Tenant.new.Goals as goal
 
@@ -10,5 +9,5 @@ returns c =
     let x : Seen = record { has = c.in_ok-new.field-0; left = c.new-2.result; hides = replicate 32 false; told = None } in
     record {
       sized = ap (λ (l : Left). l.order) c.new-2.ensures;
-      shown = opened x c.args.order c.in_ok-new.ensures c.new-2.ensures (λ n. none_marked n 32) refl;
+      state = opened x c.args.order c.in_ok-new.ensures c.new-2.ensures (λ n. none_marked n 32) refl;
     }

@@ -1,0 +1,155 @@
+-- Answers that are none to the command.
+use Rattle.std.proofs.Common.{◌≡◌, ℕ, true, false, Option, Some, None, refl}
+use Rattle.words_core.specs.declared.event.AdminCommand.{AdminCommand}
+use Rattle.words_core.specs.declared.event.Command.{Command}
+use Rattle.words_core.specs.declared.report.Report.{Report}
+use Rattle.promise_core.specs.Promises.{named, is_no_tenant}
+use Rattle.arrayvec.specs.ArrayVec.{ArrayVec}
+use Rattle.words_core.specs.Requests.{body_of_answer, is_table}
+use Rattle.words_core.specs.declared.answer.Answer.{Answer}
+use Rattle.words_core.specs.declared.answer.Answer.TheVariants as Told
+use Rattle.words_core.specs.declared.event.Event.TheVariants as On
+use Rattle.words_core.specs.declared.event.AdminCommand.TheVariants as Do
+use Rattle.words_core.specs.declared.event.Command.TheVariants as Asked
+use Rattle.words_core.specs.declared.reply.Body.{Body}
+use Rattle.words_core.specs.declared.reply.Body.TheVariants as Say
+use Rattle.words_core.specs.declared.reply.Refusal.{Refusal}
+use Rattle.model_core.specs.declared.owner.Owner.{Owner}
+use Rattle.promise_core.specs.State.{State, state_after}
+
+module _ (t order : ℕ) (s : State) where
+  pub no_alloc : (k : ℕ) (a : Answer) → ((f : ℕ) → a ≡ Told.Frame f → ⊥) → ((r : Refusal) → a ≡ Told.Refused r → ⊥)
+      → state_after order (On.Tenant t (Asked.Alloc k)) (body_of_answer a) s ≡ None
+  unfolding state_after
+  no_alloc k (Told.Frame f) not_answer not_refused = absurd (not_answer f refl)
+  no_alloc k (Told.Refused r) not_answer not_refused = absurd (not_refused r refl)
+  no_alloc k a not_answer not_refused = refl
+
+  pub no_free : (f : ℕ) (a : Answer) → ((k : ℕ) → a ≡ Told.Freed k → ⊥) → ((r : Refusal) → a ≡ Told.Refused r → ⊥)
+      → state_after order (On.Tenant t (Asked.Free f)) (body_of_answer a) s ≡ None
+  unfolding state_after
+  no_free f (Told.Freed k) not_answer not_refused = absurd (not_answer k refl)
+  no_free f (Told.Refused r) not_answer not_refused = absurd (not_refused r refl)
+  no_free f a not_answer not_refused = refl
+
+  pub no_read : (place len : ℕ) (a : Answer) → ((bytes : _) → a ≡ Told.Bytes bytes → ⊥) → ((r : Refusal) → a ≡ Told.Refused r → ⊥)
+      → state_after order (On.Tenant t (Asked.Read place len)) (body_of_answer a) s ≡ None
+  unfolding state_after
+  no_read place len (Told.Bytes bytes) not_answer not_refused = absurd (not_answer bytes refl)
+  no_read place len (Told.Refused r) not_answer not_refused = absurd (not_refused r refl)
+  no_read place len a not_answer not_refused = refl
+
+  pub no_write : (place : ℕ) (new : ArrayVec ℕ) (a : Answer) → ((n : ℕ) → a ≡ Told.Written n → ⊥) → ((r : Refusal) → a ≡ Told.Refused r → ⊥)
+      → state_after order (On.Tenant t (Asked.Write place new)) (body_of_answer a) s ≡ None
+  unfolding state_after
+  no_write place new (Told.Written n) not_answer not_refused = absurd (not_answer n refl)
+  no_write place new (Told.Refused r) not_answer not_refused = absurd (not_refused r refl)
+  no_write place new a not_answer not_refused = refl
+
+  pub no_cache : (size align : ℕ) (new : ArrayVec ℕ) (a : Answer) → ((number chunk q n colours : ℕ) → a ≡ Told.Cache number chunk q n colours → ⊥) → ((r : Refusal) → a ≡ Told.Refused r → ⊥)
+      → state_after order (On.Tenant t (Asked.Cache size align new)) (body_of_answer a) s ≡ None
+  unfolding state_after
+  no_cache size align new (Told.Cache number chunk q n colours) not_answer not_refused = absurd (not_answer number chunk q n colours refl)
+  no_cache size align new (Told.Refused r) not_answer not_refused = absurd (not_refused r refl)
+  no_cache size align new a not_answer not_refused = refl
+
+  pub no_destroy : (number : ℕ) (a : Answer) → ((n : ℕ) → a ≡ Told.Destroyed n → ⊥) → ((r : Refusal) → a ≡ Told.Refused r → ⊥)
+      → state_after order (On.Tenant t (Asked.Destroy number)) (body_of_answer a) s ≡ None
+  unfolding state_after
+  no_destroy number (Told.Destroyed n) not_answer not_refused = absurd (not_answer n refl)
+  no_destroy number (Told.Refused r) not_answer not_refused = absurd (not_refused r refl)
+  no_destroy number a not_answer not_refused = refl
+
+  pub no_take : (number : ℕ) (a : Answer) → ((p : ℕ) → a ≡ Told.Object p → ⊥) → ((r : Refusal) → a ≡ Told.Refused r → ⊥)
+      → state_after order (On.Tenant t (Asked.Take number)) (body_of_answer a) s ≡ None
+  unfolding state_after
+  no_take number (Told.Object p) not_answer not_refused = absurd (not_answer p refl)
+  no_take number (Told.Refused r) not_answer not_refused = absurd (not_refused r refl)
+  no_take number a not_answer not_refused = refl
+
+  pub no_give : (number place : ℕ) (a : Answer) → (a ≡ Told.Given → ⊥) → ((r : Refusal) → a ≡ Told.Refused r → ⊥)
+      → state_after order (On.Tenant t (Asked.Give number place)) (body_of_answer a) s ≡ None
+  unfolding state_after
+  no_give number place Told.Given not_answer not_refused = absurd (not_answer refl)
+  no_give number place (Told.Refused r) not_answer not_refused = absurd (not_refused r refl)
+  no_give number place a not_answer not_refused = refl
+
+  pub no_reap : (a : Answer) → ((n : ℕ) → a ≡ Told.Reaped n → ⊥) → ((r : Refusal) → a ≡ Told.Refused r → ⊥)
+      → state_after order (On.Tenant t Asked.Reap) (body_of_answer a) s ≡ None
+  unfolding state_after
+  no_reap (Told.Reaped n) not_answer not_refused = absurd (not_answer n refl)
+  no_reap (Told.Refused r) not_answer not_refused = absurd (not_refused r refl)
+  no_reap a not_answer not_refused = refl
+
+  pub no_grant : (a : Answer) → ((named u m : ℕ) → a ≡ Told.Granted named u m → ⊥) → ((r : Refusal) → a ≡ Told.Refused r → ⊥)
+      → state_after order (On.Admin (Do.Grant t)) (body_of_answer a) s ≡ None
+  unfolding state_after
+  no_grant (Told.Granted named u m) not_answer not_refused = absurd (not_answer named u m refl)
+  no_grant (Told.Refused r) not_answer not_refused = absurd (not_refused r refl)
+  no_grant a not_answer not_refused = refl
+
+  pub no_take_back : (slot : ℕ) (a : Answer) → ((m : ℕ) → a ≡ Told.TakenBack m → ⊥) → ((r : Refusal) → a ≡ Told.Refused r → ⊥)
+      → state_after order (On.Admin (Do.TakeBack t slot)) (body_of_answer a) s ≡ None
+  unfolding state_after
+  no_take_back slot (Told.TakenBack m) not_answer not_refused = absurd (not_answer m refl)
+  no_take_back slot (Told.Refused r) not_answer not_refused = absurd (not_refused r refl)
+  no_take_back slot a not_answer not_refused = refl
+
+  pub no_reset : (a : Answer) → ((named m : ℕ) → a ≡ Told.WasReset named m → ⊥) → ((r : Refusal) → a ≡ Told.Refused r → ⊥)
+      → state_after order (On.Admin (Do.Reset t)) (body_of_answer a) s ≡ None
+  unfolding state_after
+  no_reset (Told.WasReset named m) not_answer not_refused = absurd (not_answer named m refl)
+  no_reset (Told.Refused r) not_answer not_refused = absurd (not_refused r refl)
+  no_reset a not_answer not_refused = refl
+
+  pub no_move : (slot : ℕ) (a : Answer) → ((named u m : ℕ) → a ≡ Told.Moved named u m → ⊥) → ((r : Refusal) → a ≡ Told.Refused r → ⊥)
+      → state_after order (On.Admin (Do.Move t slot)) (body_of_answer a) s ≡ None
+  unfolding state_after
+  no_move slot (Told.Moved named u m) not_answer not_refused = absurd (not_answer named u m refl)
+  no_move slot (Told.Refused r) not_answer not_refused = absurd (not_refused r refl)
+  no_move slot a not_answer not_refused = refl
+
+-- where a table has to come
+
+pub no_report : (t order : ℕ) (s : State) (a : Answer) → ((r : Refusal) → a ≡ Told.Refused r → ⊥) → state_after order (On.Tenant t Asked.Report) (body_of_answer a) s ≡ None
+unfolding state_after
+no_report t order s (Told.Refused r) not_refused = absurd (not_refused r refl)
+no_report t order s a not_refused = refl
+
+pub no_pool : (order : ℕ) (s : State) (a : Answer) → ((r : Refusal) → a ≡ Told.Refused r → ⊥) → state_after order (On.Admin Do.Pool) (body_of_answer a) s ≡ None
+unfolding state_after
+no_pool order s (Told.Refused r) not_refused = absurd (not_refused r refl)
+no_pool order s a not_refused = refl
+
+-- a table that is none to what was asked
+
+pub no_pool_table : (order : ℕ) (s : State) (b : Body) → is_table b ≡ true → ((os : ArrayVec (Option Owner)) → b ≡ Say.Owners os → ⊥)
+    → state_after order (On.Admin Do.Pool) b s ≡ None
+unfolding state_after
+no_pool_table order s (Say.Owners os) table not_owners = absurd (not_owners os refl)
+no_pool_table order s (Say.Report r) table not_owners = refl
+no_pool_table order s b table not_owners = absurd (cc)
+
+pub no_admin_table : (t order : ℕ) (s : State) (m : AdminCommand) (b : Body) → named (On.Admin m) ≡ Some t → is_table b ≡ true → state_after order (On.Admin m) b s ≡ None
+unfolding state_after
+no_admin_table t order s Do.Pool b name table = absurd (cc)
+no_admin_table t order s m (Say.Owners os) name table = refl
+no_admin_table t order s m (Say.Report r) name table = refl
+no_admin_table t order s m b name table = absurd (cc)
+
+pub no_tenant_table : (t order : ℕ) (s : State) (m : Command) (b : Body) → is_table b ≡ true → ((r : Report) → b ≡ Say.Report r → ⊥)
+    → state_after order (On.Tenant t m) b s ≡ None
+unfolding state_after
+no_tenant_table t order s m (Say.Report r) table not_report = absurd (not_report r refl)
+no_tenant_table t order s m (Say.Owners os) table not_report = refl
+no_tenant_table t order s m b table not_report = absurd (cc)
+
+pub no_report_asked : (t order : ℕ) (s : State) (m : Command) (r : Report) → (m ≡ Asked.Report → ⊥) → state_after order (On.Tenant t m) (Say.Report r) s ≡ None
+unfolding state_after
+no_report_asked t order s Asked.Report r not_asked = absurd (not_asked refl)
+no_report_asked t order s m r not_asked = refl
+
+-- a table is no refusal
+pub no_row : (b : Body) → is_table b ≡ true → false ≡ is_no_tenant b
+no_row (Say.Refused r) table = absurd (cc)
+no_row b table = refl

@@ -1,0 +1,23 @@
+use Rattle.std.proofs.Common.{ap}
+use Rattle.words_core.specs.declared.event.Event.TheVariants as On
+use Rattle.words_core.specs.declared.event.Command.TheVariants as Asked
+use Rattle.words_core.specs.declared.reply.Body.TheVariants as Say
+use Rattle.judge.specs.Seen.{Seen}
+use Rattle.judge.proofs.Keeping.{sound_in, followed, same_slots}
+use Rattle.judge.proofs.Following.{nothing, changed, allocated}
+use Rattle.judge.proofs.tenant.Tenant.add_block.Goals as goal
+
+pub invariant_of-self-2 : goal.invariant_of-self-2
+invariant_of-self-2 c =
+    let x : Seen = record { has = c.self.inside.held; left = c.self.inside.left; hides = c.self.inside.hides; told = c.self.inside.told } in
+    let new : Seen = changed x c.alloc.new.self c.alloc-2.new.self in
+    sound_in (On.Tenant 0 (Asked.Alloc c.args.k)) (Say.Frame c.args.frame) nothing x c.args.self.now new c.self.view_is c.self.invariant (c.in_ok-block.ensures.judged 0 nothing)
+    (λ kept. allocated 0 c.args.k c.args.frame nothing c.in_ok-block.block x c.alloc.new.self c.alloc-2.new.self c.in_ok-block.ensures.is kept c.in_ok-alloc.ensures.taken c.alloc-2.ensures)
+    (same_slots x new _ c.self.invariant c.alloc-2.ensures (ap (λ h. h.slots) c.in_ok-alloc.ensures.taken))
+
+pub returns : goal.returns
+returns c t w =
+    let x : Seen = record { has = c.self.inside.held; left = c.self.inside.left; hides = c.self.inside.hides; told = c.self.inside.told } in
+    let new : Seen = changed x c.alloc.new.self c.alloc-2.new.self in
+    followed (On.Tenant t (Asked.Alloc c.args.k)) (Say.Frame c.args.frame) w x c.args.self.now new c.self.view_is (c.in_ok-block.ensures.judged t w)
+    (λ kept. allocated t c.args.k c.args.frame w c.in_ok-block.block x c.alloc.new.self c.alloc-2.new.self c.in_ok-block.ensures.is kept c.in_ok-alloc.ensures.taken c.alloc-2.ensures)

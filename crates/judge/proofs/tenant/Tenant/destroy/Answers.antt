@@ -1,0 +1,22 @@
+use Rattle.std.proofs.Common.{false, refl, sym, subst}
+use Rattle.words_core.specs.Requests.{body_of_answer}
+use Rattle.words_core.specs.declared.event.Event.TheVariants as On
+use Rattle.words_core.specs.declared.event.Command.TheVariants as Asked
+use Rattle.promise_core.specs.Promises.{due}
+use Rattle.judge.specs.Seen.{state_of}
+use Rattle.judge.specs.Judged.{IsVerdictFor}
+use Rattle.judge.proofs.Verdicts.{refused, misfit}
+use Rattle.judge.proofs.Misfits.{no_destroy}
+use Rattle.judge.proofs.tenant.Tenant.destroy.Goals as goal
+
+pub returns-in-Destroyed : goal.returns-in-Destroyed
+returns-in-Destroyed c t w = subst (λ a. IsVerdictFor (On.Tenant t (Asked.Destroy c.args.number)) (body_of_answer a) w c.args.self.now c.drop_cache.new.self c.drop_cache.result) (sym c.in-Destroyed.is) (c.drop_cache.ensures t w)
+
+pub returns-in-Refused : goal.returns-in-Refused
+unfolding due
+returns-in-Refused c t w = subst (λ a. IsVerdictFor (On.Tenant t (Asked.Destroy c.args.number)) (body_of_answer a) w c.args.self.now c.args.self.now c.on_refusal.result) (sym c.in-Refused.is)
+    (refused (On.Tenant t (Asked.Destroy c.args.number)) c.in-Refused.refusal w c.args.self.now c.on_refusal.result c.due_of_destroy.result false false c.on_refusal.ensures (c.due_of_destroy.ensures t w) refl refl)
+
+pub returns-in_default : goal.returns-in_default
+returns-in_default c t w = misfit (On.Tenant t (Asked.Destroy c.args.number)) (body_of_answer c.args.answer.now) w c.args.self.now
+    (no_destroy t c.args.self.now.left.order (state_of c.args.self.now) c.args.number c.args.answer.now c.in_default.not-Destroyed c.in_default.not-Refused)

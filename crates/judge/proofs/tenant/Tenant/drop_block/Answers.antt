@@ -1,0 +1,23 @@
+use Rattle.std.proofs.Common.{ap}
+use Rattle.words_core.specs.declared.event.Event.TheVariants as On
+use Rattle.words_core.specs.declared.event.Command.TheVariants as Asked
+use Rattle.words_core.specs.declared.reply.Body.TheVariants as Say
+use Rattle.judge.specs.Seen.{Seen}
+use Rattle.judge.proofs.Keeping.{sound_in, followed, same_slots}
+use Rattle.judge.proofs.Following.{nothing, changed, freed}
+use Rattle.judge.proofs.tenant.Tenant.drop_block.Goals as goal
+
+pub invariant_of-self : goal.invariant_of-self
+invariant_of-self c =
+    let x : Seen = record { has = c.self.inside.held; left = c.self.inside.left; hides = c.self.inside.hides; told = c.self.inside.told } in
+    let new : Seen = changed x c.free.new.self c.free-2.new.self in
+    sound_in (On.Tenant 0 (Asked.Free c.args.frame)) (Say.Freed c.args.k) nothing x c.args.self.now new c.self.view_is c.self.invariant (c.in_ok-block.ensures.judged 0 nothing)
+    (λ kept. freed 0 c.args.frame c.args.k nothing c.in_ok-block.block x c.free.new.self c.free-2.new.self c.in_ok-block.ensures.is kept c.free.ensures c.free-2.ensures)
+    (same_slots x new _ c.self.invariant c.free-2.ensures (ap (λ h. h.slots) c.free.ensures))
+
+pub returns : goal.returns
+returns c t w =
+    let x : Seen = record { has = c.self.inside.held; left = c.self.inside.left; hides = c.self.inside.hides; told = c.self.inside.told } in
+    let new : Seen = changed x c.free.new.self c.free-2.new.self in
+    followed (On.Tenant t (Asked.Free c.args.frame)) (Say.Freed c.args.k) w x c.args.self.now new c.self.view_is (c.in_ok-block.ensures.judged t w)
+    (λ kept. freed t c.args.frame c.args.k w c.in_ok-block.block x c.free.new.self c.free-2.new.self c.in_ok-block.ensures.is kept c.free.ensures c.free-2.ensures)

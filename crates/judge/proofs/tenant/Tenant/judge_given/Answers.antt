@@ -1,0 +1,10 @@
+use Rattle.std.proofs.Common.{true, [], ◌∷◌, ◌∙◌}
+use Rattle.std.specs.Prelude.{is_none}
+use Rattle.promise_core.specs.declared.promise.Promise.{Promise}
+use Rattle.promise_core.specs.State.{state_after}
+use Rattle.judge.specs.Verdicts.{broken}
+use Rattle.judge.proofs.tenant.Tenant.judge_given.Goals as goal
+
+pub returns : goal.returns
+unfolding state_after
+returns c t w = c.on_answer.ensures ∙ (λ i. broken ((Promise.Refusals, is_none (c.due_of_give.ensures t w i)) ∷ (Promise.Gives, true) ∷ []))

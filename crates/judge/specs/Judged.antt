@@ -1,0 +1,59 @@
+-- The verdict on the reply to a command, and what is kept after it.
+use Rattle.std.specs.Prelude.{◌≡◌, true, List, Option, Some, Result, Ok, Err}
+use Rattle.model_core.specs.declared.limits.TheConstants.{MOST_CACHES}
+use Rattle.model_core.specs.declared.owner.Owner.{Owner}
+use Rattle.words_core.specs.declared.event.Event.{Event}
+use Rattle.words_core.specs.declared.reply.Body.{Body}
+use Rattle.words_core.specs.declared.reply.Reply.{Reply}
+use Rattle.promise_core.specs.declared.promise.Promise.{Promise}
+use Rattle.promise_core.specs.Promises.{allowed}
+use Rattle.promise_core.specs.State.{Known, state_after, owners_after}
+use Rattle.judge.specs.declared.verdict.Failure.{Failure}
+use Rattle.judge.specs.declared.verdict.Failure.TheVariants as Of
+use Rattle.judge.specs.Verdicts.{verdict_on}
+use Rattle.judge.specs.Seen.{Seen, state_of}
+use Rattle.judge.specs.Machine.{SeenMachine, known_of}
+use Rattle.judge.specs.Adding.{is_addition, IsAllowedAddition}
+use Rattle.judge.specs.Sizes.{KeepsSizes}
+
+-- the verdict, whatever else comes with it
+abbrev pub verdict_of : {A : Type 0} → Result A Promise → Result (Unit {0}) Promise
+verdict_of (Ok _) = Ok tt
+verdict_of (Err promise) = Err promise
+
+-- a broken promise is a failure
+abbrev pub failing : Result (Unit {0}) Promise → Result (Unit {0}) Failure
+failing (Ok _) = Ok tt
+failing (Err promise) = Err (Of.Broken promise)
+
+-- what is known of a machine of which this is a tenant
+abbrev pub known_at : Seen → Known → Known
+known_at x w = record w { limit = MOST_CACHES; order = x.left.order }
+
+-- the verdict on a reply of this body to a command about the tenant
+abbrev pub verdict_at : Event → Body → Known → Seen → Result (Unit {0}) Promise
+verdict_at event body w x = verdict_on event body (known_at x w) (state_of x)
+
+-- the reply keeps every promise, and the tenant is as it is after it
+pub record IsFollowed (event : Event) (body : Body) (w : Known) (old new : Seen) : Type 0 where
+  pub kept : verdict_at event body w old ≡ Ok tt
+  pub order : new.left.order ≡ old.left.order
+  pub state : state_after old.left.order event body (state_of old) ≡ Some (state_of new)
+
+-- .. or breaks a promise, or adds something for which there is no memory, and the tenant is as before
+abbrev pub IsVerdictFor : Event → Body → Known → Seen → Seen → Result (Unit {0}) Failure → Type 0
+IsVerdictFor event body w old new (Ok _) = IsFollowed event body w old new
+IsVerdictFor event body w old new (Err (Of.Broken promise)) = (verdict_at event body w old ≡ Err promise) × (new ≡ old)
+IsVerdictFor event body w old new (Err (Of.Memory error)) =
+    ((verdict_at event body w old ≡ Ok tt) × (is_addition body ≡ true)) × (new ≡ old)
+
+-- who owns each superblock is as it is after a reply that keeps every promise, and else as before
+abbrev pub AreOwnersAfter : Event → Body → List (Option Owner) → List (Option Owner) → Result (Unit {0}) Failure → Type 0
+AreOwnersAfter event body old new (Ok _) = new ≡ owners_after event body old
+AreOwnersAfter event body old new (Err failure) = new ≡ old
+
+-- the verdict on a reply, and what is kept of the machine after it
+abbrev pub IsJudged : Event → Reply → SeenMachine → SeenMachine → Result (Unit {0}) Failure → Type 0
+IsJudged event reply old new (Ok _) = (allowed event reply (known_of old) ≡ Ok (known_of new)) × KeepsSizes old new
+IsJudged event reply old new (Err (Of.Broken promise)) = (allowed event reply (known_of old) ≡ Err promise) × (new ≡ old)
+IsJudged event reply old new (Err (Of.Memory error)) = IsAllowedAddition event reply old × (new ≡ old)

@@ -1,0 +1,108 @@
+//! Verdicts on a reply.
+
+ghost use Rattle.std.specs.Prelude.{◌≡◌, [], ◌∷◌, is_none, ◌&&◌};
+ghost use Rattle.promise_core.specs.declared.promise.Promise.{Promise};
+ghost use Rattle.judge.specs.declared.verdict.Failure.TheVariants.{Broken, Memory};
+ghost use Rattle.judge.specs.Judged.{failing};
+ghost use Rattle.judge.specs.Verdicts.{broken, on_refusal};
+
+use promise_core::promise::Promise;
+use std::alloc::AllocError;
+use words_core::Refusal;
+
+/// That a reply keeps every promise, or the first one that it breaks.
+pub type Verdict = Result<(), Promise>;
+
+/// Why a reply is not followed.
+#[derive(Debug, Drop)]
+pub(crate) enum Failure {
+    /// The reply breaks this promise.
+    Broken(Promise),
+    /// There is no memory for what the reply adds.
+    Memory(AllocError),
+}
+
+impl From<Promise> for Failure {
+    ghost from_gives = { λ promise e. e ≡ Broken promise };
+
+    fn from(promise: Promise) -> Failure {
+        Failure::Broken(promise)
+    }
+}
+
+impl From<AllocError> for Failure {
+    ghost from_gives = { λ error e. e ≡ Memory error };
+
+    fn from(error: AllocError) -> Failure {
+        Failure::Memory(error)
+    }
+}
+
+/// The verdict on an answer where `due` is the refusal that has to come, if one has, and the answer is such as it has to be
+/// where this promise is kept.
+pub(crate) fn on_answer(due: Option<Refusal>, promise: Promise, is_kept: bool) -> Verdict
+    ensures { result ≡ broken ((Promise.Refusals, is_none due) ∷ (promise, is_kept) ∷ []) }
+{
+    on_still_answer(due, promise, is_kept, true)
+}
+
+/// The same of an answer that also has to be such as the last report told: `is_still` is whether it is.
+pub(crate) fn on_still_answer(
+    due: Option<Refusal>,
+    promise: Promise,
+    is_kept: bool,
+    is_still: bool,
+) -> Verdict
+    ensures { result ≡ broken ((Promise.Refusals, is_none due) ∷ (promise, is_kept) ∷ (Promise.Still, is_still) ∷ []) }
+{
+    if due.is_some() {
+        Err(Promise::Refusals)
+    } else if !is_kept {
+        Err(promise)
+    } else if !is_still {
+        Err(Promise::Still)
+    } else {
+        Ok(())
+    }
+}
+
+/// The verdict on a refusal, where `due` is the one that has to come, if one has: `full` where there is no room for what was
+/// asked, and `busy` where the slot may be.
+pub(crate) fn on_refusal(
+    refusal: Refusal,
+    due: Option<Refusal>,
+    full: bool,
+    busy: bool,
+) -> Result<(), Failure>
+    ensures { result ≡ failing (on_refusal refusal due full busy) }
+{
+    let is_right = match due {
+        Some(due) => refusal.number() == due.number(),
+        None => matches!(refusal, Refusal::NoFrames | Refusal::SlotBusy),
+    };
+    if !is_right {
+        return Err(Failure::Broken(Promise::Refusals));
+    }
+    match refusal {
+        Refusal::NoFrames if !full => Err(Failure::Broken(Promise::Room)),
+        Refusal::SlotBusy if !busy => Err(Failure::Broken(Promise::Busy)),
+        _ => Ok(()),
+    }
+}
+
+/// A verdict after which nothing has to be done.
+pub(crate) fn followed(verdict: Verdict) -> Result<(), Failure>
+    ensures { result ≡ failing verdict }
+{
+    match verdict {
+        Ok(()) => Ok(()),
+        Err(promise) => Err(Failure::Broken(promise)),
+    }
+}
+
+/// Whether both are so.
+pub(crate) fn both(a: bool, b: bool) -> bool
+    ensures { result ≡ (a && b) }
+{
+    a && b
+}
