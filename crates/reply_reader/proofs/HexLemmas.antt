@@ -1,15 +1,12 @@
 -- Pairs of lower case hex digits, and the bytes that they are.
-use Rattle.std.proofs.Common.{◌≡◌, ℕ, zero, suc, ◌+◌, ◌*◌, ◌/◌, ◌%◌, ◌<◌, ◌≤◌, ◌⊎◌, inl, inr, List, [], ◌∷◌, ◌++◌, length, get_or, map, cond, take, drop, append_assoc, Some, None, Result, Ok, Err, refl, sym, ap, ◌∙◌, arith}
-use Rattle.std.specs.Prelude.{nat_lt, nat_le}
+use Rattle.std.proofs.Common.{◌≡◌, ℕ, zero, suc, ◌+◌, ◌*◌, ◌/◌, ◌%◌, ◌<◌, ◌≤◌, ◌⊎◌, inl, inr, List, [], ◌∷◌, ◌++◌, length, get_or, map, cond, take, drop, append_assoc, Some, None, Ok, refl, sym, ap, ◌∙◌, arith}
+use Rattle.std.specs.Prelude.{nat_lt}
 use Rattle.std.specs.List.{range_with_len}
-use Rattle.std.specs.Str.{bytes_eq}
 use Rattle.std.proofs.lemmas.Bool.{cases_lt}
 use Rattle.std.proofs.lemmas.Slice.Eq.{bytes_eq-Decides}
 use Rattle.std.proofs.lemmas.List.FromFn.{get_or-map-range_with_len}
-use Rattle.std.proofs.lemmas.Option.{cond_some}
-use Rattle.hex.specs.declared.error.FromHexError.{FromHexError}
 use Rattle.reply_reader.specs.Reading.{bytes_again, bytes_of}
-use Rattle.reply_reader.proofs.SaidLemmas.{bytes_takes_word, chosen, few_digits}
+use Rattle.reply_reader.proofs.SaidLemmas.{bytes_are, few_digits}
 use Rattle.hex.specs.Hex.{encode_with, encode_lower, decode_of, lower_digits, IsBytes}
 use Rattle.hex.proofs.HexLemmas.{decode_of-encode_lower, decode_of-ok}
 
@@ -91,16 +88,6 @@ word_is word bytes few are is =
     ∙ ap (bytes_again word) decoded
     ∙ ap (λ test. cond test (Some bytes) None) ((bytes_eq-Decides (encode_lower bytes) word).1 is)
 
--- what a word was read as
-decoded_is : (word : List ℕ) (r : Result (List ℕ) FromHexError) (bytes : List ℕ) → bytes_again word r ≡ Some bytes → r ≡ Ok bytes
-decoded_is word (Ok bs) bytes e =
-    let (same, is) = cond_some (bytes_eq (encode_lower bs) word) bs bytes e in ap (λ (xs : List ℕ). Ok xs) is
-decoded_is word (Err fault) bytes e = absurd cc
-
-read_is : (word bytes : List ℕ) → bytes_of word ≡ Some bytes → decode_of word ≡ Ok bytes
-unfolding bytes_of
-read_is word bytes e = decoded_is word (decode_of word) bytes (chosen (nat_le (length word) 128) (bytes_again word (decode_of word)) bytes e)
-
 -- the byte behind so many
 split_at_byte : (xs bs : List ℕ) (pair behind : List ℕ) → length pair ≡ 2 → IsBytes bs → encode_lower bs ≡ encode_lower xs ++ (pair ++ behind)
     → (byte : ℕ) × (byte < 256) × (encode_lower (byte ∷ []) ≡ pair)
@@ -120,6 +107,6 @@ pub no_word : (word front pair behind : List ℕ) → length pair ≡ 2 → enco
 no_word word front pair behind two is none = elim (bytes_of word) as (λ r. bytes_of word ≡ r → r ≡ None) [
   | None ↦ λ _. refl
   | (Some bytes) ↦ λ e.
-      let found = split_at_byte front bytes pair behind two (decode_of-ok word bytes (read_is word bytes e)).3 (bytes_takes_word word bytes e ∙ sym is) in
+      let found = split_at_byte front bytes pair behind two (decode_of-ok word bytes (bytes_are word bytes e).0).3 ((bytes_are word bytes e).1 ∙ sym is) in
       absurd (none found.0 found.1 found.2)
 ] refl

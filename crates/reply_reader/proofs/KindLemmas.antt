@@ -1,42 +1,41 @@
 -- What is made of the numbers in a form.
-use Rattle.std.proofs.Common.{◌≡◌, ℕ, ◌^◌, ◌<◌, true, List, [], ◌∷◌, ◌++◌, length, get_or, Option, Some, None, refl, sym, subst, ◌∙◌, ap, arith}
+use Rattle.std.proofs.Common.{◌≡◌, ℕ, ◌^◌, ◌<◌, Bool, true, false, cond, List, [], ◌∷◌, ◌++◌, length, get_or, Option, Some, None, refl, sym, subst, ◌∙◌, ap, arith}
 use Rattle.std.specs.List.{All}
 use Rattle.std.proofs.lemmas.Bool.Decides.{nat_tests}
 use Rattle.std.proofs.lemmas.List.Elements.{All-nil, All-cons}
-use Rattle.std.proofs.lemmas.Option.{some_pair_parts}
+use Rattle.std.proofs.lemmas.Option.{cond_some}
 use Rattle.std.specs.Prelude.{nat_lt}
 use Rattle.reply_reader.specs.Forms.{◌>>=◌, form_at}
 use Rattle.reply_reader.specs.Reading.{made_at, ◌or_else◌}
 use Rattle.reply_reader.proofs.FormLoop.{marks}
 use Rattle.reply_reader.proofs.FormLemmas.{bind_some, form_text, is_form, form_takes, form_again}
 
-pub kind_takes : {A : Type 0} (form : List ℕ) (makes : List ℕ → Option A) (spell : A → List ℕ)
-    → ((ns : List ℕ) (x : A) → length ns ≡ marks form → makes ns ≡ Some x → spell x ≡ form_text form ns)
-    → (text : List ℕ) (x : A) (rest : List ℕ) → made_at form makes text ≡ Some (x, rest) → text ≡ spell x ++ rest
-kind_takes form makes spell says text x rest e =
-    let (found, is, next) = bind_some (form_at form text) (λ found. makes found.0 >>= (λ made. Some (made, found.1))) (x, rest) e in
-    let (made, made_is, last) = bind_some (makes found.0) (λ made. Some (made, found.1)) (x, rest) next in
-    let (x_is, rest_is) = some_pair_parts made x found.1 rest last in
-    let (text_is, count) = form_takes form text found.0 found.1 is in
-    text_is ∙ ap (λ t. t ++ found.1) (sym (says found.0 made count made_is)) ∙ (λ i. spell (x_is i) ++ rest_is i)
+abbrev if_fit : {A : Type 0} → (List ℕ → Bool) → (List ℕ → A) → List ℕ × List ℕ → Option (A × List ℕ)
+if_fit fits make found = cond (fits found.0) (Some (make found.0, found.1)) None
 
--- and what else is known of what is made
-pub kind_takes_with : {A : Type 0} (form : List ℕ) (makes : List ℕ → Option A) (spell : A → List ℕ) (P : A → Type 0)
-    → ((ns : List ℕ) (x : A) → length ns ≡ marks form → makes ns ≡ Some x → (spell x ≡ form_text form ns) × P x)
-    → (text : List ℕ) (x : A) (rest : List ℕ) → made_at form makes text ≡ Some (x, rest) → (text ≡ spell x ++ rest) × P x
-kind_takes_with form makes spell P says text x rest e =
-    let (found, is, next) = bind_some (form_at form text) (λ found. makes found.0 >>= (λ made. Some (made, found.1))) (x, rest) e in
-    let (made, made_is, last) = bind_some (makes found.0) (λ made. Some (made, found.1)) (x, rest) next in
-    let (x_is, rest_is) = some_pair_parts made x found.1 rest last in
+-- what was made has this text, and what follows it
+pub kind_takes : {A : Type 0} (form : List ℕ) (fits : List ℕ → Bool) (make : List ℕ → A) (spell : A → List ℕ) (P : A → Type 0)
+    → ((ns : List ℕ) → length ns ≡ marks form → fits ns ≡ true → (spell (make ns) ≡ form_text form ns) × P (make ns))
+    → (text : List ℕ) (x : A) (rest : List ℕ) → made_at form fits make text ≡ Some (x, rest) → (text ≡ spell x ++ rest) × P x
+kind_takes form fits make spell P says text x rest e =
+    let wanted : _ = (x, rest) in
+    let (found, is, next) = bind_some (form_at form text) (if_fit fits make) wanted e in
+    let made : _ = (make found.0, found.1) in
+    let (fit, last) = cond_some (fits found.0) made wanted next in
     let (text_is, count) = form_takes form text found.0 found.1 is in
-    let (spelled, known) = says found.0 made count made_is in
-    (text_is ∙ ap (λ t. t ++ found.1) (sym spelled) ∙ (λ i. spell (x_is i) ++ rest_is i), subst P x_is known)
+    let (spelled, known) = says found.0 count fit in
+    (text_is ∙ ap (λ t. t ++ found.1) (sym spelled) ∙ (λ i. spell (last i).0 ++ (last i).1), subst P (λ i. (last i).0) known)
 
-pub kind_again : {A : Type 0} (form : List ℕ) (makes : List ℕ → Option A) (x : A) (ns rest : List ℕ) → is_form form ≡ true
-    → length ns ≡ marks form → All (λ n. n < 2 ^ 32) ns → makes ns ≡ Some x → made_at form makes (form_text form ns ++ rest) ≡ Some (x, rest)
-kind_again form makes x ns rest good count small makes_is =
-    ap (λ found. found >>= (λ found. makes found.0 >>= (λ made. Some (made, found.1)))) (form_again form ns rest good count small)
-    ∙ ap (λ made. made >>= (λ made. Some (made, rest))) makes_is
+pub text_takes : {A : Type 0} (form : List ℕ) (fits : List ℕ → Bool) (make : List ℕ → A) (spell : A → List ℕ)
+    → ((ns : List ℕ) → length ns ≡ marks form → fits ns ≡ true → spell (make ns) ≡ form_text form ns)
+    → (text : List ℕ) (x : A) (rest : List ℕ) → made_at form fits make text ≡ Some (x, rest) → text ≡ spell x ++ rest
+text_takes form fits make spell says text x rest e =
+    (kind_takes form fits make spell (λ x. Unit {0}) (λ ns count fit. (says ns count fit, tt)) text x rest e).0
+
+pub kind_again : {A : Type 0} (form : List ℕ) (fits : List ℕ → Bool) (make : List ℕ → A) (ns rest : List ℕ) → is_form form ≡ true
+    → length ns ≡ marks form → All (λ n. n < 2 ^ 32) ns → fits ns ≡ true → made_at form fits make (form_text form ns ++ rest) ≡ Some (make ns, rest)
+kind_again form fits make ns rest good count small fit =
+    ap (λ found. found >>= if_fit fits make) (form_again form ns rest good count small) ∙ ap (λ test. cond test (Some (make ns, rest)) None) fit
 
 -- ---- lists of few numbers
 
@@ -72,3 +71,7 @@ either None other x e f g = g e
 
 pub first_is : {A : Type 0} (first other : Option A) (x : A) → first ≡ Some x → (first or_else other) ≡ Some x
 first_is first other x is = ap (λ found. found or_else other) is
+
+pub if_same : {A : Type 0} (test : Bool) (x : Option A) (y : A) → cond test x None ≡ Some y → (test ≡ true) × (x ≡ Some y)
+if_same true x y e = (refl, e)
+if_same false x y e = absurd cc

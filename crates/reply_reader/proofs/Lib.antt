@@ -4,7 +4,6 @@ pub mod KindLemmas
 pub mod SaidLemmas
 pub mod HexLemmas
 pub mod AnswerLemmas
-pub mod SingleLemmas
 pub mod RowLoop
 pub mod RowLemmas
 pub mod TableLemmas

@@ -1,19 +1,19 @@
 -- Rows that are read are the rows that stand there, and rows are read again.
-use Rattle.std.proofs.Common.{◌≡◌, ℕ, zero, suc, ◌+◌, ◌^◌, ◌<◌, ◌≤◌, Bool, true, false, cond, List, [], ◌∷◌, ◌++◌, length, take, drop, get_or, Option, Some, None, refl, sym, ◌∙◌, ap, arith, append_assoc, take-append-drop, take_at, drop_at}
+use Rattle.std.proofs.Common.{◌≡◌, ℕ, zero, suc, ◌+◌, ◌^◌, ◌<◌, ◌≤◌, true, cond, List, [], ◌∷◌, ◌++◌, length, take, drop, get_or, Option, Some, None, refl, sym, ◌∙◌, ap, arith, append_assoc, take-append-drop, take_at, drop_at}
 use Rattle.std.specs.Prelude.{codes, nat_lt, ◌==◌, ◌&&◌}
 use Rattle.std.specs.List.{AllByRecursion}
 use Rattle.std.specs.Str.{bytes_eq}
-use Rattle.std.proofs.lemmas.Option.{same_Some, cond_some}
+use Rattle.std.proofs.lemmas.Option.{cond_some}
 use Rattle.std.proofs.lemmas.Slice.Eq.{bytes_eq-Decides}
 use Rattle.model_core.specs.declared.owner.Owner.{Owner}
 use Rattle.model_core.specs.declared.report.OrderRow.{OrderRow}
 use Rattle.model_core.specs.declared.report.CacheRow.{CacheRow}
 use Rattle.reply_reader.specs.Ranges.{OwnerFits, OrderFits, CacheFits}
 use Rattle.reply_reader.specs.Forms.{◌>>=◌, mark_at, form_at}
-use Rattle.reply_reader.specs.Reading.{made_at, ◌or_else◌}
-use Rattle.reply_reader.specs.Tables.{after_front, then_rows, rows_from, order_row_of, order_at, cache_row_of, cache_row_at, unowned_of, owned_of, unowned_at, owned_at, owner_of, owner_at}
+use Rattle.reply_reader.specs.Reading.{made_at, fit_tenant, ◌or_else◌}
+use Rattle.reply_reader.specs.Tables.{after_front, then_rows, rows_from, order_at, cache_row_at, unowned_at, owned_at, owner_of, owner_at}
 use Rattle.reply_reader.proofs.FormLemmas.{bind_some, same_byte, itself, form_text, form_takes, form_again}
-use Rattle.reply_reader.proofs.KindLemmas.{kind_takes, kind_again, either, two, three, five, small_one, small_more, below}
+use Rattle.reply_reader.proofs.KindLemmas.{text_takes, kind_again, either, if_same, two, three, five, small_one, small_more, below}
 
 -- the rows as they stand, the first of this index
 abbrev pub shown : {A : Type 0} → (ℕ → A → List ℕ) → ℕ → List A → List ℕ
@@ -80,6 +80,12 @@ front_again front rest =
 abbrev pub order_line : ℕ → OrderRow → List ℕ
 order_line order row = form_text (codes "order # free # taken #\n") (order ∷ row.free ∷ row.taken ∷ [])
 
+abbrev order_of : List ℕ → OrderRow
+order_of ns = record { free = get_or ns 1 0; taken = get_or ns 2 0 }
+
+abbrev pub order_made : ℕ → List ℕ → Option (OrderRow × List ℕ)
+order_made order = made_at (codes "order # free # taken #\n") (λ ns. get_or ns 0 0 == order) order_of
+
 abbrev pub show_order : List ℕ → ℕ → OrderRow → List ℕ
 show_order front order row = front ++ order_line order row
 
@@ -88,14 +94,11 @@ pub order_takes : (front : List ℕ) (order : ℕ) (text : List ℕ) (row : Orde
 unfolding order_at
 order_takes front order text row rest e =
     let form = codes "order # free # taken #\n" in
-    let (line, line_is, next) = bind_some (after_front front text) (λ rest. made_at form (order_row_of order) rest) (row, rest) e in
+    let (line, line_is, next) = bind_some (after_front front text) (order_made order) (row, rest) e in
     front_takes front text line line_is
     ∙ ap (λ t. front ++ t)
-    (kind_takes form (order_row_of order) (order_line order) (λ ns x count made.
-    let found : OrderRow = record { free = get_or ns 1 0; taken = get_or ns 2 0 } in
-    let (same, is) = cond_some (get_or ns 0 0 == order) found x made in
-    ap (order_line order) (sym is)
-    ∙ ap (λ n. form_text form (n ∷ get_or ns 1 0 ∷ get_or ns 2 0 ∷ [])) (sym (same_byte (get_or ns 0 0) order same))
+    (text_takes form (λ ns. get_or ns 0 0 == order) order_of (order_line order) (λ ns count same.
+    ap (λ n. form_text form (n ∷ get_or ns 1 0 ∷ get_or ns 2 0 ∷ [])) (sym (same_byte (get_or ns 0 0) order same))
     ∙ ap (form_text form) (three ns count)) line row rest next)
     ∙ sym (append_assoc front (order_line order row) rest)
 
@@ -103,18 +106,23 @@ pub order_again : (front : List ℕ) (order : ℕ) (row : OrderRow) (rest : List
     → order_at front order (show_order front order row ++ rest) ≡ Some (row, rest)
 unfolding order_at
 order_again front order row rest small fits =
-    let form = codes "order # free # taken #\n" in
-    ap (λ t. after_front front t >>= (λ rest. made_at form (order_row_of order) rest)) (append_assoc front (order_line order row) rest)
-    ∙ ap (λ found. found >>= (λ rest. made_at form (order_row_of order) rest)) (front_again front (order_line order row ++ rest))
-    ∙ kind_again form (order_row_of order) row (order ∷ row.free ∷ row.taken ∷ []) rest refl refl
+    ap (λ t. after_front front t >>= order_made order) (append_assoc front (order_line order row) rest)
+    ∙ ap (λ found. found >>= order_made order) (front_again front (order_line order row ++ rest))
+    ∙ kind_again (codes "order # free # taken #\n") (λ ns. get_or ns 0 0 == order) order_of (order ∷ row.free ∷ row.taken ∷ []) rest refl refl
     (small_more order (row.free ∷ row.taken ∷ []) (omega arith) (small_more row.free (row.taken ∷ []) fits.0 (small_one row.taken fits.1)))
-    (ap (λ test. cond test (Some row) None) (itself order))
+    (itself order)
 
 -- ---- caches
 
 abbrev pub cache_line : CacheRow → List ℕ
 cache_line row =
     form_text (codes "cache # full # partial # empty # live #\n") (row.cache ∷ row.full ∷ row.partial ∷ row.empty ∷ row.live ∷ [])
+
+abbrev cache_of : List ℕ → CacheRow
+cache_of ns = record { cache = get_or ns 0 0; full = get_or ns 1 0; partial = get_or ns 2 0; empty = get_or ns 3 0; live = get_or ns 4 0 }
+
+abbrev pub cache_made : List ℕ → Option (CacheRow × List ℕ)
+cache_made = made_at (codes "cache # full # partial # empty # live #\n") (λ ns. nat_lt (get_or ns 0 0) (2 ^ 8)) cache_of
 
 abbrev pub show_cache : List ℕ → ℕ → CacheRow → List ℕ
 show_cache front index row = front ++ cache_line row
@@ -124,27 +132,24 @@ pub cache_takes : (front : List ℕ) (index : ℕ) (text : List ℕ) (row : Cach
 unfolding cache_row_at
 cache_takes front index text row rest e =
     let form = codes "cache # full # partial # empty # live #\n" in
-    let (line, line_is, next) = bind_some (after_front front text) (λ rest. made_at form cache_row_of rest) (row, rest) e in
+    let (line, line_is, next) = bind_some (after_front front text) cache_made (row, rest) e in
     front_takes front text line line_is
     ∙ ap (λ t. front ++ t)
-    (kind_takes form cache_row_of cache_line (λ ns x count made.
-    let found : CacheRow = record { cache = get_or ns 0 0; full = get_or ns 1 0; partial = get_or ns 2 0; empty = get_or ns 3 0; live = get_or ns 4 0 } in
-    let (test, is) = cond_some (nat_lt (get_or ns 0 0) (2 ^ 8)) found x made in
-    ap cache_line (sym is) ∙ ap (form_text form) (five ns count)) line row rest next)
+    (text_takes form (λ ns. nat_lt (get_or ns 0 0) (2 ^ 8)) cache_of cache_line (λ ns count fit. ap (form_text form) (five ns count)) line row rest next)
     ∙ sym (append_assoc front (cache_line row) rest)
 
 pub cache_again : (front : List ℕ) (index : ℕ) (row : CacheRow) (rest : List ℕ) → index < 1000 → CacheFits row
     → cache_row_at front (show_cache front index row ++ rest) ≡ Some (row, rest)
 unfolding cache_row_at
 cache_again front index row rest small (fits_a, fits_b, fits_c, fits_d, fits_e) =
-    let form = codes "cache # full # partial # empty # live #\n" in
-    ap (λ t. after_front front t >>= (λ rest. made_at form cache_row_of rest)) (append_assoc front (cache_line row) rest)
-    ∙ ap (λ found. found >>= (λ rest. made_at form cache_row_of rest)) (front_again front (cache_line row ++ rest))
-    ∙ kind_again form cache_row_of row (row.cache ∷ row.full ∷ row.partial ∷ row.empty ∷ row.live ∷ []) rest refl refl
+    ap (λ t. after_front front t >>= cache_made) (append_assoc front (cache_line row) rest)
+    ∙ ap (λ found. found >>= cache_made) (front_again front (cache_line row ++ rest))
+    ∙ kind_again (codes "cache # full # partial # empty # live #\n") (λ ns. nat_lt (get_or ns 0 0) (2 ^ 8)) cache_of
+    (row.cache ∷ row.full ∷ row.partial ∷ row.empty ∷ row.live ∷ []) rest refl refl
     (small_more row.cache (row.full ∷ row.partial ∷ row.empty ∷ row.live ∷ []) (omega arith)
     (small_more row.full (row.partial ∷ row.empty ∷ row.live ∷ []) fits_b
     (small_more row.partial (row.empty ∷ row.live ∷ []) fits_c (small_more row.empty (row.live ∷ []) fits_d (small_one row.live fits_e)))))
-    (ap (λ test. cond test (Some row) None) (below row.cache (2 ^ 8) fits_a))
+    (below row.cache (2 ^ 8) fits_a)
 
 -- ---- owners
 
@@ -158,21 +163,17 @@ owner_line superblock owner = form_text (codes "superblock # ") (superblock ∷ 
 abbrev pub show_owner : List ℕ → ℕ → Option Owner → List ℕ
 show_owner front superblock owner = front ++ owner_line superblock owner
 
+abbrev owned_by : List ℕ → Option Owner
+owned_by ns = Some (record { tenant = get_or ns 0 0; slot = get_or ns 1 0 })
+
 owner_said_takes : (text : List ℕ) (owner : Option Owner) (rest : List ℕ) → (unowned_at text or_else owned_at text) ≡ Some (owner, rest)
     → text ≡ owner_said owner ++ rest
 unfolding unowned_at owned_at
 owner_said_takes text owner rest e =
     let x : Option Owner × List ℕ = (owner, rest) in
     either (unowned_at text) (owned_at text) x e
-    (kind_takes (codes "free\n") unowned_of owner_said (λ ns x count made. let none : Option Owner = None in ap owner_said (sym (same_Some none x made))) text owner rest)
-    (kind_takes (codes "tenant # slot #\n") owned_of owner_said (λ ns x count made.
-    let found : Option Owner = Some (record { tenant = get_or ns 0 0; slot = get_or ns 1 0 }) in
-    let (test, is) = cond_some (nat_lt (get_or ns 0 0) (2 ^ 8) && nat_lt (get_or ns 1 0) (2 ^ 16)) found x made in
-    ap owner_said (sym is) ∙ ap (form_text (codes "tenant # slot #\n")) (two ns count)) text owner rest)
-
-if_same : {A : Type 0} (test : Bool) (x : Option A) (y : A) → cond test x None ≡ Some y → (test ≡ true) × (x ≡ Some y)
-if_same true x y e = (refl, e)
-if_same false x y e = absurd cc
+    (text_takes (codes "free\n") (λ ns. true) (λ ns. None) owner_said (λ ns count fit. refl) text owner rest)
+    (text_takes (codes "tenant # slot #\n") fit_tenant owned_by owner_said (λ ns count fit. ap (form_text (codes "tenant # slot #\n")) (two ns count)) text owner rest)
 
 pub owner_takes : (front : List ℕ) (superblock : ℕ) (text : List ℕ) (owner : Option Owner) (rest : List ℕ)
     → owner_at front superblock text ≡ Some (owner, rest) → text ≡ show_owner front superblock owner ++ rest
@@ -193,9 +194,9 @@ owner_said_again : (owner : Option Owner) (rest : List ℕ) → OwnerFits owner
 unfolding unowned_at owned_at form_at mark_at
 owner_said_again None rest fits = refl
 owner_said_again (Some owner) rest fits =
-    kind_again (codes "tenant # slot #\n") owned_of (Some owner) (owner.tenant ∷ owner.slot ∷ []) rest refl refl
+    kind_again (codes "tenant # slot #\n") fit_tenant owned_by (owner.tenant ∷ owner.slot ∷ []) rest refl refl
     (small_more owner.tenant (owner.slot ∷ []) (omega (arith, fits.0)) (small_one owner.slot (omega (arith, fits.1))))
-    (λ i. cond (below owner.tenant (2 ^ 8) fits.0 i && below owner.slot (2 ^ 16) fits.1 i) (Some (Some owner)) None)
+    (λ i. below owner.tenant (2 ^ 8) fits.0 i && below owner.slot (2 ^ 16) fits.1 i)
 
 pub owner_again : (front : List ℕ) (superblock : ℕ) (owner : Option Owner) (rest : List ℕ) → superblock < 1000 → OwnerFits owner
     → owner_at front superblock (show_owner front superblock owner ++ rest) ≡ Some (owner, rest)

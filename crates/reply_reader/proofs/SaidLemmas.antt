@@ -1,5 +1,5 @@
 -- What is said is what was read, and is read again.
-use Rattle.std.proofs.Common.{◌≡◌, ℕ, ◌^◌, ◌<◌, ◌≤◌, Bool, true, false, cond, not, List, [], ◌∷◌, ◌++◌, length, get_or, take, drop, Option, Some, None, Result, Ok, Err, refl, sym, subst, ◌∙◌, ap, arith, append_assoc, take-append-drop, take_at, drop_at, zero, suc}
+use Rattle.std.proofs.Common.{◌≡◌, ℕ, ◌^◌, ◌*◌, ◌<◌, ◌≤◌, Bool, true, false, cond, not, List, [], ◌∷◌, ◌++◌, length, get_or, take, drop, Option, Some, None, Result, Ok, Err, refl, sym, subst, ◌∙◌, ap, arith, append_assoc, take-append-drop, take_at, drop_at, zero, suc}
 use Rattle.std.specs.Prelude.{codes, nat_lt, nat_le, ◌==◌, ◌&&◌, find, take_while}
 use Rattle.std.specs.Str.{bytes_eq}
 use Rattle.std.specs.List.{list_all, AllByRecursion}
@@ -12,17 +12,20 @@ use Rattle.hex.specs.declared.error.FromHexError.{FromHexError}
 use Rattle.hex.proofs.HexLemmas.{decode_of-encode_lower, decode_of-ok}
 use Rattle.reply_reader.specs.Ranges.{BodyFits}
 use Rattle.std.proofs.lemmas.Option.{some_pair_parts, same_Some, cond_some}
-use Rattle.words_core.specs.Texts.{number_of_refusal, name_of_refusal}
+use Rattle.words_core.specs.Texts.{number_of_refusal, name_of_refusal, name_of_fault}
+use Rattle.words_core.specs.declared.event.LineFault.{LineFault}
+use Rattle.words_core.specs.declared.event.LineFault.TheVariants.{Long, Unknown, Words, Number, Hex}
 use Rattle.words_core.specs.declared.reply.Body.{Body}
-use Rattle.words_core.specs.declared.reply.Body.TheVariants.{Frame, Freed, Bytes, Written, Cache, Destroyed, Object, Given, Reaped, Refused}
+use Rattle.words_core.specs.declared.reply.Body.TheVariants.{Granted, TakenBack, WasReset, Moved, Owners, Frame, Freed, Bytes, Written, Cache, Destroyed, Object, Given, Reaped, Report, Refused, Fault}
 use Rattle.words_core.specs.declared.reply.Refusal.{Refusal}
 use Rattle.words_core.specs.declared.reply.Refusal.TheVariants.{NoFrames, BadOrder, NotABlock, OutOfReach, BadLength, BadSize, BadAlign, NoCacheSlot, NoCache, CacheInUse, NotAnObject, NoTenant, PoolEmpty, NoSlot, SlotBusy}
 use Rattle.hex.specs.Hex.{encode_lower, decode_of, is_hex_digit, IsBytes}
 use Rattle.reply_reader.specs.declared.said.TheConstants.{REFUSALS}
 use Rattle.reply_reader.specs.Forms.{◌>>=◌, mark_at, form_at}
-use Rattle.reply_reader.specs.Reading.{◌or_else◌, bytes_again, bytes_of, bytes_at, said_at, frame_of, freed_of, written_of, cache_from, destroyed_of, object_of, given_of, reaped_of, frame_at, freed_at, written_at, cache_at, destroyed_at, object_at, given_at, reaped_at, refusal_of, refused_at}
-use Rattle.reply_reader.proofs.FormLemmas.{bind_some, same_byte, size_of, form_text, form_takes, form_again}
-use Rattle.reply_reader.proofs.KindLemmas.{either, kind_takes_with, kind_again, five, small_one, small_more, below}
+use Rattle.reply_reader.specs.Reading.{made_at, fit_place, fit_tenant, ◌or_else◌, bytes_again, bytes_of, bytes_at, said_at, frame_at, freed_at, written_at, cache_at, destroyed_at, object_at, given_at, reaped_at, refusal_of, refused_at, granted_at, taken_at, reset_at, moved_at, fault_at, some_fault_at, notice_at, rare_at}
+use Rattle.reply_reader.proofs.FormLoop.{marks}
+use Rattle.reply_reader.proofs.FormLemmas.{bind_some, same_byte, size_of, form_text, is_form, form_takes, form_again}
+use Rattle.reply_reader.proofs.KindLemmas.{either, if_same, kind_takes, kind_again, two, three, five, small_one, small_more, below}
 
 -- how an answer is spelled, with its line feed
 abbrev pub spelled : Body → List ℕ
@@ -37,112 +40,28 @@ spelled (Object place) = form_text (codes "object #\n") (place ∷ [])
 spelled Given = form_text (codes "given\n") []
 spelled (Reaped frames) = form_text (codes "reaped #\n") (frames ∷ [])
 spelled (Refused refusal) = form_text (codes "refused # ") (number_of_refusal refusal ∷ []) ++ (name_of_refusal refusal ++ 10 ∷ [])
+spelled (Granted tenant slot superblock) = form_text (codes "granted # slot # superblock #\n") (tenant ∷ slot ∷ superblock ∷ [])
+spelled (TakenBack superblock) = form_text (codes "taken superblock #\n") (superblock ∷ [])
+spelled (WasReset tenant superblocks) = form_text (codes "reset # superblocks #\n") (tenant ∷ superblocks ∷ [])
+spelled (Moved tenant slot superblock) = form_text (codes "moved # slot # superblock #\n") (tenant ∷ slot ∷ superblock ∷ [])
+spelled (Fault fault) = codes "fault " ++ (name_of_fault fault ++ 10 ∷ [])
 spelled _ = []
 
--- the bodies that answer a tenant's command
+-- the bodies that an answer can have
 abbrev pub IsAnswer : Body → Type 0
-IsAnswer (Frame frame) = Unit {0}
-IsAnswer (Freed order) = Unit {0}
-IsAnswer (Bytes bytes) = Unit {0}
-IsAnswer (Written count) = Unit {0}
-IsAnswer (Cache cache chunk order objects colours) = Unit {0}
-IsAnswer (Destroyed frames) = Unit {0}
-IsAnswer (Object place) = Unit {0}
-IsAnswer Given = Unit {0}
-IsAnswer (Reaped frames) = Unit {0}
-IsAnswer (Refused refusal) = Unit {0}
-IsAnswer _ = ⊥
+IsAnswer (Owners owners) = ⊥
+IsAnswer (Report report) = ⊥
+IsAnswer (Bytes bytes) = length bytes.items ≤ 64
+IsAnswer _ = Unit {0}
 
 -- this answer, and what follows it, stand at the front of the text
 abbrev pub Takes : List ℕ → Body → List ℕ → Type 0
 Takes text said rest = (text ≡ spelled said ++ rest) × IsAnswer said
 
-pub frame_takes : (text : List ℕ) (said : Body) (rest : List ℕ) → frame_at text ≡ Some (said, rest) → Takes text said rest
-unfolding frame_at
-frame_takes = kind_takes_with (codes "frame #\n") frame_of spelled IsAnswer (λ ns x count made.
-    let is = same_Some (Frame (get_or ns 0 0)) x made in
-    (ap spelled (sym is), subst IsAnswer is tt))
-
-pub frame_again : (n : ℕ) (rest : List ℕ) → n < 2 ^ 32 → frame_at (spelled (Frame n) ++ rest) ≡ Some (Frame n, rest)
-unfolding frame_at
-frame_again n rest small = kind_again (codes "frame #\n") frame_of (Frame n) (n ∷ []) rest refl refl (small_one n small) refl
-
-pub freed_takes : (text : List ℕ) (said : Body) (rest : List ℕ) → freed_at text ≡ Some (said, rest) → Takes text said rest
-unfolding freed_at
-freed_takes = kind_takes_with (codes "freed #\n") freed_of spelled IsAnswer (λ ns x count made.
-    let (test, is) = cond_some (nat_lt (get_or ns 0 0) (2 ^ 8)) (Freed (get_or ns 0 0)) x made in
-    (ap spelled (sym is), subst IsAnswer is tt))
-
-pub freed_again : (n : ℕ) (rest : List ℕ) → n < 2 ^ 8 → freed_at (spelled (Freed n) ++ rest) ≡ Some (Freed n, rest)
-unfolding freed_at
-freed_again n rest small =
-    kind_again (codes "freed #\n") freed_of (Freed n) (n ∷ []) rest refl refl (small_one n (omega arith))
-    (ap (λ t. cond t (Some (Freed n)) None) (below n (2 ^ 8) small))
-
-pub cache_takes : (text : List ℕ) (said : Body) (rest : List ℕ) → cache_at text ≡ Some (said, rest) → Takes text said rest
-unfolding cache_at
-cache_takes = kind_takes_with (codes "cache # chunk # order # objects # colours #\n") cache_from spelled IsAnswer (λ ns x count made.
-    let said = Cache (get_or ns 0 0) (get_or ns 1 0) (get_or ns 2 0) (get_or ns 3 0) (get_or ns 4 0) in
-    let (test, is) = cond_some (nat_lt (get_or ns 0 0) (2 ^ 8) && nat_lt (get_or ns 2 0) (2 ^ 8)) said x made in
-    (ap spelled (sym is) ∙ ap (form_text (codes "cache # chunk # order # objects # colours #\n")) (five ns count), subst IsAnswer is tt))
-
-pub cache_again : (a b c d e : ℕ) (rest : List ℕ) → a < 2 ^ 8 → b < 2 ^ 32 → c < 2 ^ 8 → d < 2 ^ 32 → e < 2 ^ 32
-    → cache_at (spelled (Cache a b c d e) ++ rest) ≡ Some (Cache a b c d e, rest)
-unfolding cache_at
-cache_again a b c d e rest small_a small_b small_c small_d small_e =
-    kind_again (codes "cache # chunk # order # objects # colours #\n") cache_from (Cache a b c d e) (a ∷ b ∷ c ∷ d ∷ e ∷ []) rest refl refl
-    (small_more a (b ∷ c ∷ d ∷ e ∷ []) (omega arith) (small_more b (c ∷ d ∷ e ∷ []) small_b (small_more c (d ∷ e ∷ []) (omega arith) (small_more d (e ∷ []) small_d (small_one e small_e)))))
-    (λ i. cond (below a (2 ^ 8) small_a i && below c (2 ^ 8) small_c i) (Some (Cache a b c d e)) None)
-
-pub written_takes : (text : List ℕ) (said : Body) (rest : List ℕ) → written_at text ≡ Some (said, rest) → Takes text said rest
-unfolding written_at
-written_takes = kind_takes_with (codes "written #\n") written_of spelled IsAnswer (λ ns x count made.
-    let is = same_Some (Written (get_or ns 0 0)) x made in
-    (ap spelled (sym is), subst IsAnswer is tt))
-
-pub written_again : (n : ℕ) (rest : List ℕ) → n < 2 ^ 32 → written_at (spelled (Written n) ++ rest) ≡ Some (Written n, rest)
-unfolding written_at
-written_again n rest small = kind_again (codes "written #\n") written_of (Written n) (n ∷ []) rest refl refl (small_one n small) refl
-
-pub destroyed_takes : (text : List ℕ) (said : Body) (rest : List ℕ) → destroyed_at text ≡ Some (said, rest) → Takes text said rest
-unfolding destroyed_at
-destroyed_takes = kind_takes_with (codes "destroyed #\n") destroyed_of spelled IsAnswer (λ ns x count made.
-    let is = same_Some (Destroyed (get_or ns 0 0)) x made in
-    (ap spelled (sym is), subst IsAnswer is tt))
-
-pub destroyed_again : (n : ℕ) (rest : List ℕ) → n < 2 ^ 32 → destroyed_at (spelled (Destroyed n) ++ rest) ≡ Some (Destroyed n, rest)
-unfolding destroyed_at
-destroyed_again n rest small = kind_again (codes "destroyed #\n") destroyed_of (Destroyed n) (n ∷ []) rest refl refl (small_one n small) refl
-
-pub object_takes : (text : List ℕ) (said : Body) (rest : List ℕ) → object_at text ≡ Some (said, rest) → Takes text said rest
-unfolding object_at
-object_takes = kind_takes_with (codes "object #\n") object_of spelled IsAnswer (λ ns x count made.
-    let is = same_Some (Object (get_or ns 0 0)) x made in
-    (ap spelled (sym is), subst IsAnswer is tt))
-
-pub object_again : (n : ℕ) (rest : List ℕ) → n < 2 ^ 32 → object_at (spelled (Object n) ++ rest) ≡ Some (Object n, rest)
-unfolding object_at
-object_again n rest small = kind_again (codes "object #\n") object_of (Object n) (n ∷ []) rest refl refl (small_one n small) refl
-
-pub given_takes : (text : List ℕ) (said : Body) (rest : List ℕ) → given_at text ≡ Some (said, rest) → Takes text said rest
-unfolding given_at
-given_takes = kind_takes_with (codes "given\n") given_of spelled IsAnswer (λ ns x count made.
-    let is = same_Some Given x made in
-    (ap spelled (sym is), subst IsAnswer is tt))
-
-pub given_again : (rest : List ℕ) → given_at (spelled Given ++ rest) ≡ Some (Given, rest)
-unfolding given_at form_at mark_at
-given_again rest = refl
-
-pub reaped_takes : (text : List ℕ) (said : Body) (rest : List ℕ) → reaped_at text ≡ Some (said, rest) → Takes text said rest
-unfolding reaped_at
-reaped_takes = kind_takes_with (codes "reaped #\n") reaped_of spelled IsAnswer (λ ns x count made.
-    let is = same_Some (Reaped (get_or ns 0 0)) x made in
-    (ap spelled (sym is), subst IsAnswer is tt))
-
-pub reaped_again : (n : ℕ) (rest : List ℕ) → n < 2 ^ 32 → reaped_at (spelled (Reaped n) ++ rest) ≡ Some (Reaped n, rest)
-unfolding reaped_at
-reaped_again n rest small = kind_again (codes "reaped #\n") reaped_of (Reaped n) (n ∷ []) rest refl refl (small_one n small) refl
+takes : (form : List ℕ) (fits : List ℕ → Bool) (make : List ℕ → Body)
+    → ((ns : List ℕ) → length ns ≡ marks form → (spelled (make ns) ≡ form_text form ns) × IsAnswer (make ns))
+    → (text : List ℕ) (said : Body) (rest : List ℕ) → made_at form fits make text ≡ Some (said, rest) → Takes text said rest
+takes form fits make says = kind_takes form fits make spelled IsAnswer (λ ns count fit. says ns count)
 
 -- ---- refusals
 
@@ -254,22 +173,75 @@ refused_again refusal rest =
     ∙ ap (λ named. named >>= after_name refusal) (name_again refusal (10 ∷ rest))
     ∙ ap (λ ended. ended >>= (λ ended. Some (Refused refusal, ended.1))) (ended_again rest)
 
+-- ---- faults
+
+fault_text : (fault : LineFault) (ns : List ℕ) → form_text (name_of_fault fault) ns ≡ name_of_fault fault
+fault_text Long ns = refl
+fault_text Unknown ns = refl
+fault_text Words ns = refl
+fault_text Number ns = refl
+fault_text Hex ns = refl
+
+abbrev after_fault : LineFault → List ℕ × List ℕ → Option (Body × List ℕ)
+after_fault fault named = form_at (codes "\n") named.1 >>= (λ ended. Some (Fault fault, ended.1))
+
+abbrev after_fault_label : LineFault → List ℕ × List ℕ → Option (Body × List ℕ)
+after_fault_label fault found = form_at (name_of_fault fault) found.1 >>= after_fault fault
+
+fault_takes : (fault : LineFault) (text : List ℕ) (said : Body) (rest : List ℕ) → fault_at fault text ≡ Some (said, rest) → Takes text said rest
+unfolding fault_at
+fault_takes fault text said rest e =
+    let (found, is, next) = bind_some (form_at (codes "fault ") text) (after_fault_label fault) (said, rest) e in
+    let (named, named_is, end_next) = bind_some (form_at (name_of_fault fault) found.1) (after_fault fault) (said, rest) next in
+    let (ended, ended_is, last) = bind_some (form_at (codes "\n") named.1) (λ ended. Some (Fault fault, ended.1)) (said, rest) end_next in
+    let (said_is, rest_is) = some_pair_parts (Fault fault) said ended.1 rest last in
+    let name = name_of_fault fault in (
+      (form_takes (codes "fault ") text found.0 found.1 is).0
+          ∙ ap (λ t. codes "fault " ++ t)
+          ((form_takes name found.1 named.0 named.1 named_is).0
+          ∙ (λ j. fault_text fault named.0 j ++ (form_takes (codes "\n") named.1 ended.0 ended.1 ended_is).0 j))
+          ∙ sym (regroup (codes "fault ") name ended.1)
+          ∙ (λ i. spelled (said_is i) ++ rest_is i),
+      subst IsAnswer said_is tt,
+    )
+
+some_fault_takes : (text : List ℕ) (said : Body) (rest : List ℕ) → some_fault_at text ≡ Some (said, rest) → Takes text said rest
+unfolding some_fault_at
+some_fault_takes text said rest e =
+    let x : Body × List ℕ = (said, rest) in
+    either (fault_at Long text) (fault_at Unknown text or_else fault_at Words text or_else fault_at Number text or_else fault_at Hex text) x e (fault_takes Long text said rest) (λ e.
+    either (fault_at Unknown text) (fault_at Words text or_else fault_at Number text or_else fault_at Hex text) x e (fault_takes Unknown text said rest) (λ e.
+    either (fault_at Words text) (fault_at Number text or_else fault_at Hex text) x e (fault_takes Words text said rest) (λ e.
+    either (fault_at Number text) (fault_at Hex text) x e (fault_takes Number text said rest) (fault_takes Hex text said rest))))
+
+some_fault_again : (fault : LineFault) (rest : List ℕ) → some_fault_at (spelled (Fault fault) ++ rest) ≡ Some (Fault fault, rest)
+unfolding some_fault_at fault_at form_at mark_at
+some_fault_again Long rest = refl
+some_fault_again Unknown rest = refl
+some_fault_again Words rest = refl
+some_fault_again Number rest = refl
+some_fault_again Hex rest = refl
+
 -- ---- bytes
 
-pub chosen : {A : Type 0} (test : Bool) (x : Option A) (y : A) → cond test x None ≡ Some y → x ≡ Some y
-chosen true x y e = e
-chosen false x y e = absurd cc
-
-written_again_is : (word : List ℕ) (r : Result (List ℕ) FromHexError) (bytes : List ℕ) → bytes_again word r ≡ Some bytes → encode_lower bytes ≡ word
-written_again_is word (Ok bs) bytes e =
+again_is : (word : List ℕ) (r : Result (List ℕ) FromHexError) (bytes : List ℕ) → bytes_again word r ≡ Some bytes
+    → (r ≡ Ok bytes) × (encode_lower bytes ≡ word)
+again_is word (Ok bs) bytes e =
     let (same, is) = cond_some (bytes_eq (encode_lower bs) word) bs bytes e in
-    ap encode_lower (sym is) ∙ (bytes_eq-Decides (encode_lower bs) word).0 same
-written_again_is word (Err fault) bytes e = absurd cc
+    (ap (λ (xs : List ℕ). Ok xs) is, ap encode_lower (sym is) ∙ (bytes_eq-Decides (encode_lower bs) word).0 same)
+again_is word (Err fault) bytes e = absurd cc
 
-pub bytes_takes_word : (word bytes : List ℕ) → bytes_of word ≡ Some bytes → encode_lower bytes ≡ word
+half : (n m : ℕ) → nat_le n 128 ≡ true → n ≡ 2 * m → m ≤ 64
+half n m few twice = grind (arith, nat_tests)
+
+-- what a word was read as
+pub bytes_are : (word bytes : List ℕ) → bytes_of word ≡ Some bytes
+    → (decode_of word ≡ Ok bytes) × (encode_lower bytes ≡ word) × (length bytes ≤ 64)
 unfolding bytes_of
-bytes_takes_word word bytes e =
-    written_again_is word (decode_of word) bytes (chosen (nat_le (length word) 128) (bytes_again word (decode_of word)) bytes e)
+bytes_are word bytes e =
+    let (few, again) = if_same (nat_le (length word) 128) (bytes_again word (decode_of word)) bytes e in
+    let (decoded, is) = again_is word (decode_of word) bytes again in
+    (decoded, is, half (length word) (length bytes) few (decode_of-ok word bytes decoded).2)
 
 abbrev line_size : List ℕ → ℕ
 line_size text = length (take_while (λ b. not (b == 10)) text)
@@ -288,17 +260,18 @@ unfolding bytes_at
 bytes_takes text said rest e =
     let (found, is, next) = bind_some (form_at (codes "bytes ") text) after_label (said, rest) e in
     let size = line_size found.1 in
-    let (bytes, bytes_are, end_next) = bind_some (bytes_of (take size found.1)) (after_hex (drop size found.1)) (said, rest) next in
+    let (bytes, found_bytes, end_next) = bind_some (bytes_of (take size found.1)) (after_hex (drop size found.1)) (said, rest) next in
     let (ended, ended_is, last) = bind_some (form_at (codes "\n") (drop size found.1)) (λ ended. Some (told_bytes bytes, ended.1)) (said, rest) end_next in
     let (said_is, rest_is) = some_pair_parts (told_bytes bytes) said ended.1 rest last in
+    let (decoded, word_is, few) = bytes_are (take size found.1) bytes found_bytes in
     let parts : text ≡ spelled said ++ rest =
     (form_takes (codes "bytes ") text found.0 found.1 is).0
     ∙ ap (λ t. codes "bytes " ++ t)
     (sym (take-append-drop size found.1)
-    ∙ (λ i. sym (bytes_takes_word (take size found.1) bytes bytes_are) i ++ (form_takes (codes "\n") (drop size found.1) ended.0 ended.1 ended_is).0 i))
+    ∙ (λ i. sym word_is i ++ (form_takes (codes "\n") (drop size found.1) ended.0 ended.1 ended_is).0 i))
     ∙ sym (regroup (codes "bytes ") (encode_lower bytes) ended.1)
     ∙ (λ i. spelled (said_is i) ++ rest_is i) in
-    (parts, subst IsAnswer said_is tt)
+    (parts, subst IsAnswer said_is few)
 
 are_bytes : (bs : List ℕ) → AllByRecursion (λ b. b < 2 ^ 8) bs → IsBytes bs
 are_bytes [] small i = omega arith
@@ -338,54 +311,128 @@ bytes_again_of bytes rest small few =
 
 -- ---- all of them
 
-abbrev last_two : List ℕ → Option (Body × List ℕ)
-last_two text = destroyed_at text or_else reaped_at text
+-- what these find, the first of them first
+abbrev first_of : List (List ℕ → Option (Body × List ℕ)) → List ℕ → Option (Body × List ℕ)
+first_of [] text = some_fault_at text
+first_of (kind ∷ kinds) text = kind text or_else first_of kinds text
 
-abbrev last_three : List ℕ → Option (Body × List ℕ)
-last_three text = cache_at text or_else last_two text
+abbrev kinds : List (List ℕ → Option (Body × List ℕ))
+kinds =
+    bytes_at ∷ written_at ∷ frame_at ∷ freed_at ∷ object_at ∷ given_at ∷ refused_at ∷ cache_at ∷ destroyed_at ∷ reaped_at ∷ granted_at ∷ taken_at
+    ∷ reset_at ∷ moved_at ∷ []
 
-abbrev last_four : List ℕ → Option (Body × List ℕ)
-last_four text = refused_at text or_else last_three text
+abbrev AllTake : List (List ℕ → Option (Body × List ℕ)) → Type 0
+AllTake [] = Unit {0}
+AllTake (kind ∷ kinds) = ((text : List ℕ) (said : Body) (rest : List ℕ) → kind text ≡ Some (said, rest) → Takes text said rest) × AllTake kinds
 
-abbrev last_five : List ℕ → Option (Body × List ℕ)
-last_five text = given_at text or_else last_four text
+first_takes : (kinds : List (List ℕ → Option (Body × List ℕ))) → AllTake kinds → (text : List ℕ) (said : Body) (rest : List ℕ)
+    → first_of kinds text ≡ Some (said, rest) → Takes text said rest
+first_takes [] all text said rest e = some_fault_takes text said rest e
+first_takes (kind ∷ kinds) all text said rest e =
+    let x : Body × List ℕ = (said, rest) in
+    either (kind text) (first_of kinds text) x e (all.0 text said rest) (first_takes kinds all.1 text said rest)
 
-abbrev last_six : List ℕ → Option (Body × List ℕ)
-last_six text = object_at text or_else last_five text
-
-abbrev last_seven : List ℕ → Option (Body × List ℕ)
-last_seven text = freed_at text or_else last_six text
-
-abbrev last_eight : List ℕ → Option (Body × List ℕ)
-last_eight text = frame_at text or_else last_seven text
-
-abbrev last_nine : List ℕ → Option (Body × List ℕ)
-last_nine text = bytes_at text or_else last_eight text
+all_take : AllTake kinds
+unfolding written_at frame_at freed_at object_at given_at cache_at destroyed_at reaped_at granted_at taken_at reset_at moved_at
+all_take = (
+  bytes_takes,
+  (
+    takes (codes "written #\n") (λ ns. true) (λ ns. Written (get_or ns 0 0)) (λ ns count. (refl, tt)),
+    (
+      takes (codes "frame #\n") (λ ns. true) (λ ns. Frame (get_or ns 0 0)) (λ ns count. (refl, tt)),
+      (
+        takes (codes "freed #\n") (λ ns. nat_lt (get_or ns 0 0) (2 ^ 8)) (λ ns. Freed (get_or ns 0 0)) (λ ns count. (refl, tt)),
+        (
+          takes (codes "object #\n") (λ ns. true) (λ ns. Object (get_or ns 0 0)) (λ ns count. (refl, tt)),
+          (
+            takes (codes "given\n") (λ ns. true) (λ ns. Given) (λ ns count. (refl, tt)),
+            (
+              refused_takes,
+              (
+                takes (codes "cache # chunk # order # objects # colours #\n") (λ ns. nat_lt (get_or ns 0 0) (2 ^ 8) && nat_lt (get_or ns 2 0) (2 ^ 8))
+                    (λ ns. Cache (get_or ns 0 0) (get_or ns 1 0) (get_or ns 2 0) (get_or ns 3 0) (get_or ns 4 0))
+                    (λ ns count. (ap (form_text (codes "cache # chunk # order # objects # colours #\n")) (five ns count), tt)),
+                (
+                  takes (codes "destroyed #\n") (λ ns. true) (λ ns. Destroyed (get_or ns 0 0)) (λ ns count. (refl, tt)),
+                  (
+                    takes (codes "reaped #\n") (λ ns. true) (λ ns. Reaped (get_or ns 0 0)) (λ ns count. (refl, tt)),
+                    (
+                      takes (codes "granted # slot # superblock #\n") fit_place (λ ns. Granted (get_or ns 0 0) (get_or ns 1 0) (get_or ns 2 0))
+                          (λ ns count. (ap (form_text (codes "granted # slot # superblock #\n")) (three ns count), tt)),
+                      (
+                        takes (codes "taken superblock #\n") (λ ns. nat_lt (get_or ns 0 0) (2 ^ 16)) (λ ns. TakenBack (get_or ns 0 0)) (λ ns count. (refl, tt)),
+                        (
+                          takes (codes "reset # superblocks #\n") fit_tenant (λ ns. WasReset (get_or ns 0 0) (get_or ns 1 0))
+                              (λ ns count. (ap (form_text (codes "reset # superblocks #\n")) (two ns count), tt)),
+                          (
+                            takes (codes "moved # slot # superblock #\n") fit_place (λ ns. Moved (get_or ns 0 0) (get_or ns 1 0) (get_or ns 2 0))
+                                (λ ns count. (ap (form_text (codes "moved # slot # superblock #\n")) (three ns count), tt)),
+                            (
+                                tt),
+                          ),
+                        ),
+                      ),
+                    ),
+                  ),
+                ),
+              ),
+            ),
+          ),
+        ),
+      ),
+    ),
+  ),
+)
 
 pub said_takes : (text : List ℕ) (said : Body) (rest : List ℕ) → said_at text ≡ Some (said, rest) → Takes text said rest
-unfolding said_at
-said_takes text said rest e =
-    let x : Body × List ℕ = (said, rest) in
-    either (written_at text) (last_nine text) x e (written_takes text said rest) (λ e.
-    either (bytes_at text) (last_eight text) x e (bytes_takes text said rest) (λ e.
-    either (frame_at text) (last_seven text) x e (frame_takes text said rest) (λ e.
-    either (freed_at text) (last_six text) x e (freed_takes text said rest) (λ e.
-    either (object_at text) (last_five text) x e (object_takes text said rest) (λ e.
-    either (given_at text) (last_four text) x e (given_takes text said rest) (λ e.
-    either (refused_at text) (last_three text) x e (refused_takes text said rest) (λ e.
-    either (cache_at text) (last_two text) x e (cache_takes text said rest) (λ e.
-    either (destroyed_at text) (reaped_at text) x e (destroyed_takes text said rest) (reaped_takes text said rest)))))))))
+unfolding said_at rare_at notice_at
+said_takes = first_takes kinds all_take
+
+-- where this one finds that, and those before it nothing
+abbrev then : ℕ → List ℕ → Option (Body × List ℕ) → Option (Body × List ℕ)
+then count text found = found or_else first_of (drop count kinds) text
+
+one_again : (form : List ℕ) (fits : List ℕ → Bool) (say : ℕ → Body) (n : ℕ) (rest : List ℕ) → is_form form ≡ true → 1 ≡ marks form → n < 2 ^ 32
+    → fits (n ∷ []) ≡ true → made_at form fits (λ ns. say (get_or ns 0 0)) (form_text form (n ∷ []) ++ rest) ≡ Some (say n, rest)
+one_again form fits say n rest good one small = kind_again form fits (λ ns. say (get_or ns 0 0)) (n ∷ []) rest good one (small_one n small)
+
+place_again : (form : List ℕ) (say : ℕ → ℕ → ℕ → Body) (a b c : ℕ) (rest : List ℕ) → is_form form ≡ true → 3 ≡ marks form → a < 2 ^ 8 → b < 2 ^ 16 → c < 2 ^ 16
+    → made_at form fit_place (λ ns. say (get_or ns 0 0) (get_or ns 1 0) (get_or ns 2 0)) (form_text form (a ∷ b ∷ c ∷ []) ++ rest) ≡ Some (say a b c, rest)
+place_again form say a b c rest good three small_a small_b small_c =
+    kind_again form fit_place (λ ns. say (get_or ns 0 0) (get_or ns 1 0) (get_or ns 2 0)) (a ∷ b ∷ c ∷ []) rest good three
+    (small_more a (b ∷ c ∷ []) (omega arith) (small_more b (c ∷ []) (omega arith) (small_one c (omega arith))))
+    (λ i. below a (2 ^ 8) small_a i && (below b (2 ^ 16) small_b i && below c (2 ^ 16) small_c i))
 
 pub said_again : (said : Body) (rest : List ℕ) → IsAnswer said → BodyFits said → said_at (spelled said ++ rest) ≡ Some (said, rest)
-unfolding said_at written_at bytes_at frame_at freed_at object_at given_at refused_at cache_at destroyed_at reaped_at form_at mark_at
-said_again (Written n) rest answers fits = ap (λ found. found or_else last_nine (spelled (Written n) ++ rest)) (written_again n rest fits)
-said_again (Bytes bytes) rest answers fits = ap (λ found. found or_else last_eight (spelled (Bytes bytes) ++ rest)) (bytes_again_of bytes rest fits.0 fits.1)
-said_again (Frame n) rest answers fits = ap (λ found. found or_else last_seven (spelled (Frame n) ++ rest)) (frame_again n rest fits)
-said_again (Freed n) rest answers fits = ap (λ found. found or_else last_six (spelled (Freed n) ++ rest)) (freed_again n rest fits)
-said_again (Object n) rest answers fits = ap (λ found. found or_else last_five (spelled (Object n) ++ rest)) (object_again n rest fits)
+unfolding said_at rare_at notice_at written_at bytes_at frame_at freed_at object_at given_at refused_at cache_at destroyed_at reaped_at granted_at taken_at reset_at moved_at form_at mark_at
+said_again (Bytes bytes) rest answers fits = ap (then 1 (spelled (Bytes bytes) ++ rest)) (bytes_again_of bytes rest fits.0 fits.1)
+said_again (Written n) rest answers fits = ap (then 2 (spelled (Written n) ++ rest)) (one_again (codes "written #\n") (λ ns. true) Written n rest refl refl fits refl)
+said_again (Frame n) rest answers fits = ap (then 3 (spelled (Frame n) ++ rest)) (one_again (codes "frame #\n") (λ ns. true) Frame n rest refl refl fits refl)
+said_again (Freed n) rest answers fits =
+    ap (then 4 (spelled (Freed n) ++ rest))
+    (one_again (codes "freed #\n") (λ ns. nat_lt (get_or ns 0 0) (2 ^ 8)) Freed n rest refl refl (omega (arith, fits)) (below n (2 ^ 8) fits))
+said_again (Object n) rest answers fits = ap (then 5 (spelled (Object n) ++ rest)) (one_again (codes "object #\n") (λ ns. true) Object n rest refl refl fits refl)
 said_again Given rest answers fits = refl
-said_again (Refused refusal) rest answers fits = ap (λ found. found or_else last_three (spelled (Refused refusal) ++ rest)) (refused_again refusal rest)
-said_again (Cache a b c d e) rest answers (fits_a, fits_b, fits_c, fits_d, fits_e) = ap (λ found. found or_else last_two (spelled (Cache a b c d e) ++ rest)) (cache_again a b c d e rest fits_a fits_b fits_c fits_d fits_e)
-said_again (Destroyed n) rest answers fits = ap (λ found. found or_else reaped_at (spelled (Destroyed n) ++ rest)) (destroyed_again n rest fits)
-said_again (Reaped n) rest answers fits = reaped_again n rest fits
-said_again _ rest answers fits = absurd answers
+said_again (Refused refusal) rest answers fits = ap (then 7 (spelled (Refused refusal) ++ rest)) (refused_again refusal rest)
+said_again (Cache a b c d e) rest answers (small_a, small_b, small_c, small_d, small_e) =
+    ap (then 8 (spelled (Cache a b c d e) ++ rest))
+    (kind_again (codes "cache # chunk # order # objects # colours #\n") (λ ns. nat_lt (get_or ns 0 0) (2 ^ 8) && nat_lt (get_or ns 2 0) (2 ^ 8))
+    (λ ns. Cache (get_or ns 0 0) (get_or ns 1 0) (get_or ns 2 0) (get_or ns 3 0) (get_or ns 4 0)) (a ∷ b ∷ c ∷ d ∷ e ∷ []) rest refl refl
+    (small_more a (b ∷ c ∷ d ∷ e ∷ []) (omega arith) (small_more b (c ∷ d ∷ e ∷ []) small_b (small_more c (d ∷ e ∷ []) (omega arith) (small_more d (e ∷ []) small_d (small_one e small_e)))))
+    (λ i. below a (2 ^ 8) small_a i && below c (2 ^ 8) small_c i))
+said_again (Destroyed n) rest answers fits = ap (then 9 (spelled (Destroyed n) ++ rest)) (one_again (codes "destroyed #\n") (λ ns. true) Destroyed n rest refl refl fits refl)
+said_again (Reaped n) rest answers fits = ap (then 10 (spelled (Reaped n) ++ rest)) (one_again (codes "reaped #\n") (λ ns. true) Reaped n rest refl refl fits refl)
+said_again (Granted a b c) rest answers (small_a, small_b, small_c) =
+    ap (then 11 (spelled (Granted a b c) ++ rest)) (place_again (codes "granted # slot # superblock #\n") Granted a b c rest refl refl small_a small_b small_c)
+said_again (TakenBack n) rest answers fits =
+    ap (then 12 (spelled (TakenBack n) ++ rest))
+    (one_again (codes "taken superblock #\n") (λ ns. nat_lt (get_or ns 0 0) (2 ^ 16)) TakenBack n rest refl refl (omega (arith, fits)) (below n (2 ^ 16) fits))
+said_again (WasReset a b) rest answers (small_a, small_b) =
+    ap (then 13 (spelled (WasReset a b) ++ rest))
+    (kind_again (codes "reset # superblocks #\n") fit_tenant (λ ns. WasReset (get_or ns 0 0) (get_or ns 1 0)) (a ∷ b ∷ []) rest refl refl
+    (small_more a (b ∷ []) (omega arith) (small_one b (omega arith))) (λ i. below a (2 ^ 8) small_a i && below b (2 ^ 16) small_b i))
+said_again (Moved a b c) rest answers (small_a, small_b, small_c) =
+    ap (then 14 (spelled (Moved a b c) ++ rest)) (place_again (codes "moved # slot # superblock #\n") Moved a b c rest refl refl small_a small_b small_c)
+said_again (Fault fault) rest answers fits = some_fault_again fault rest
+said_again (Owners owners) rest answers fits = absurd answers
+said_again (Report report) rest answers fits = absurd answers

@@ -10,7 +10,7 @@ use Rattle.std.proofs.lemmas.Option.{some_pair_parts, same_Some, cond_some}
 use Rattle.model_core.specs.declared.owner.Owner.{Owner}
 use Rattle.model_core.specs.declared.report.OrderRow.{OrderRow}
 use Rattle.model_core.specs.declared.report.CacheRow.{CacheRow}
-use Rattle.words_core.specs.ReportTexts.{top_text, frames_text, order_text, order_texts, cache_text, report_texts}
+use Rattle.words_core.specs.ReportTexts.{top_text, frames_text, order_texts, cache_text, report_texts}
 use Rattle.words_core.specs.Texts.{addressee_text, owner_text, owner_texts, pool_texts, body_texts, text_of}
 use Rattle.words_core.specs.declared.report.Report.{Report}
 use Rattle.words_core.specs.declared.reply.Addressee.{Addressee}
@@ -19,13 +19,12 @@ use Rattle.words_core.specs.declared.reply.Body.{Body}
 use Rattle.words_core.specs.declared.reply.Body.TheVariants as Say
 use Rattle.reply_reader.specs.Ranges.{AddresseeFits, OwnerFits, OrderFits, CacheFits, ReportFits}
 use Rattle.reply_reader.specs.Forms.{◌>>=◌, number_at, mark_at, form_at}
-use Rattle.reply_reader.specs.Reading.{made_at, ◌or_else◌, addressee_at, whole}
-use Rattle.reply_reader.specs.Tables.{after_front, rows_from, order_row_of, order_at, cache_row_of, cache_row_at, top_of, no_top_of, top_at, no_top_at, some_top_at, report_at, owner_of, owner_at, pool_at, table_of}
+use Rattle.reply_reader.specs.Reading.{◌or_else◌, addressee_at, whole}
+use Rattle.reply_reader.specs.Tables.{after_front, rows_from, order_at, cache_row_at, top_at, no_top_at, some_top_at, report_at, owner_of, owner_at, pool_at, table_of}
 use Rattle.reply_reader.proofs.FormLemmas.{bind_some, both, same_byte, itself, form_text, form_takes, form_again}
-use Rattle.reply_reader.proofs.KindLemmas.{kind_takes, kind_again, either, two, three, small_one, small_more, below}
-use Rattle.reply_reader.proofs.AnswerLemmas.{addressee_takes, addressee_again, whole_is, line_of_two, line_of_five}
-use Rattle.reply_reader.proofs.SingleLemmas.{line_of_three}
-use Rattle.reply_reader.proofs.RowLemmas.{shown, rows_take, rows_again, front_again, cache_line, owner_said, show_order, order_takes, order_again, show_cache, cache_takes, cache_again, show_owner, owner_takes, owner_again}
+use Rattle.reply_reader.proofs.KindLemmas.{text_takes, kind_again, either, two, three, small_one, small_more, below}
+use Rattle.reply_reader.proofs.AnswerLemmas.{addressee_takes, addressee_again, alone_of, whole_is, line_is}
+use Rattle.reply_reader.proofs.RowLemmas.{shown, rows_take, rows_again, front_again, cache_line, owner_said, order_made, cache_made, show_order, order_takes, order_again, show_cache, cache_takes, cache_again, show_owner, owner_takes, owner_again}
 
 -- ---- the text of rows
 
@@ -36,17 +35,14 @@ caches_text : (front : List ℕ) (index : ℕ) (rows : List CacheRow)
     → with_end (map (λ row. cache_text front row) rows) ≡ shown (show_cache front) index rows
 caches_text front index [] = refl
 caches_text front index (row ∷ rows) =
-    let first = sym (append-nil (cache_text front row ++ 10 ∷ []))
-    ∙ line_of_five front (codes "cache ") (decimal row.cache) (codes " full ") (decimal row.full) (codes " partial ") (decimal row.partial)
-    (codes " empty ") (decimal row.empty) (codes " live ") (decimal row.live) in
+    let first = line_is front (codes "cache " ∷ decimal row.cache ∷ codes " full " ∷ decimal row.full ∷ codes " partial " ∷ decimal row.partial ∷ codes " empty " ∷ decimal row.empty ∷ codes " live " ∷ decimal row.live ∷ []) in
     (λ i. first i ++ caches_text front (index + 1) rows i)
 
 orders_text : (front : List ℕ) (order : ℕ) (rows : List OrderRow) (others : List (List ℕ))
     → with_end (order_texts front order rows ++ others) ≡ shown (show_order front) order rows ++ with_end others
 orders_text front order [] others = refl
 orders_text front order (row ∷ rows) others =
-    let first = sym (append-nil (order_text front order row ++ 10 ∷ []))
-    ∙ line_of_three front (codes "order ") (decimal order) (codes " free ") (decimal row.free) (codes " taken ") (decimal row.taken) in
+    let first = line_is front (codes "order " ∷ decimal order ∷ codes " free " ∷ decimal row.free ∷ codes " taken " ∷ decimal row.taken ∷ []) in
     (λ i. first i ++ orders_text front (order + 1) rows others i)
     ∙ sym (append_assoc (show_order front order row) (shown (show_order front) (order + 1) rows) (with_end others))
 
@@ -58,8 +54,7 @@ one_owner front superblock None =
     ∙ append_assoc front (codes "superblock ") (decimal superblock ++ codes " free\n")
     ∙ ap (λ t. front ++ (codes "superblock " ++ t)) (sym (append_assoc (decimal superblock) (codes " ") (owner_said None)))
 one_owner front superblock (Some owner) =
-    sym (append-nil (owner_text front superblock (Some owner) ++ 10 ∷ []))
-    ∙ line_of_three front (codes "superblock ") (decimal superblock) (codes " tenant ") (decimal owner.tenant) (codes " slot ") (decimal owner.slot)
+    line_is front (codes "superblock " ∷ decimal superblock ∷ codes " tenant " ∷ decimal owner.tenant ∷ codes " slot " ∷ decimal owner.slot ∷ [])
     ∙ ap (λ t. front ++ (codes "superblock " ++ t)) (sym (append_assoc (decimal superblock) (codes " ") (owner_said (Some owner))))
 
 owners_text : (front : List ℕ) (superblock : ℕ) (owners : List (Option Owner))
@@ -95,8 +90,7 @@ head_text front report =
     let f = decimal report.frames in
     let l = decimal report.live in
     let r = decimal report.free in
-    sym (append-nil (frames_text front report ++ 10 ∷ []))
-    ∙ line_of_five front (codes "frames ") f (codes " live ") l (codes " free ") r (codes " top ") (top_text report.top) (codes " split ") (decimal report.split)
+    line_is front (codes "frames " ∷ f ∷ codes " live " ∷ l ∷ codes " free " ∷ r ∷ codes " top " ∷ top_text report.top ∷ codes " split " ∷ decimal report.split ∷ [])
     ∙ ap (λ t. front ++ (codes "frames " ++ (f ++ (codes " live " ++ (l ++ (codes " free " ++ (r ++ (codes " top " ++ t)))))))) (top_is report.top report.split)
     ∙ ap (λ t. front ++ t) (sym (grouped (codes "frames ") f (codes " live ") l (codes " free ") r (codes " top ") (top_line report.top report.split)))
 
@@ -114,29 +108,30 @@ report_text front report =
 
 -- ---- a report
 
+abbrev some_top : List ℕ → Option ℕ × ℕ
+some_top ns = (Some (get_or ns 0 0), get_or ns 1 0)
+
+abbrev no_top : List ℕ → Option ℕ × ℕ
+no_top ns = (None, get_or ns 0 0)
+
 top_takes : (text : List ℕ) (top : Option ℕ × ℕ) (rest : List ℕ) → some_top_at text ≡ Some (top, rest) → text ≡ top_line top.0 top.1 ++ rest
 unfolding some_top_at top_at no_top_at top_line
 top_takes text top rest e =
     let x : (Option ℕ × ℕ) × List ℕ = (top, rest) in
     let spell : Option ℕ × ℕ → List ℕ = λ top. top_line top.0 top.1 in
     either (top_at text) (no_top_at text) x e
-    (kind_takes (codes "# split #\n") top_of spell (λ ns x count made.
-    let found : Option ℕ × ℕ = (Some (get_or ns 0 0), get_or ns 1 0) in
-    let (test, is) = cond_some (nat_lt (get_or ns 0 0) (2 ^ 8)) found x made in
-    ap spell (sym is) ∙ ap (form_text (codes "# split #\n")) (two ns count)) text top rest)
-    (kind_takes (codes "none split #\n") no_top_of spell (λ ns x count made.
-    let found : Option ℕ × ℕ = (None, get_or ns 0 0) in ap spell (sym (same_Some found x made))) text top rest)
+    (text_takes (codes "# split #\n") (λ ns. nat_lt (get_or ns 0 0) (2 ^ 8)) some_top spell (λ ns count fit. ap (form_text (codes "# split #\n")) (two ns count)) text top rest)
+    (text_takes (codes "none split #\n") (λ ns. true) no_top spell (λ ns count fit. refl) text top rest)
 
 top_again : (top : Option ℕ) (split : ℕ) (rest : List ℕ) → IfSome top (λ order. order < 2 ^ 8) → split < 2 ^ 32
     → some_top_at (top_line top split ++ rest) ≡ Some ((top, split), rest)
 unfolding some_top_at top_at no_top_at top_line form_at mark_at number_at
 top_again None split rest fits small =
-    kind_again (codes "none split #\n") no_top_of (None, split) (split ∷ []) rest refl refl (small_one split small) refl
+    kind_again (codes "none split #\n") (λ ns. true) no_top (split ∷ []) rest refl refl (small_one split small) refl
 top_again (Some top) split rest fits small =
     ap (λ found. found or_else no_top_at (top_line (Some top) split ++ rest))
-    (kind_again (codes "# split #\n") top_of (Some top, split) (top ∷ split ∷ []) rest refl refl
-    (small_more top (split ∷ []) (omega (arith, fits)) (small_one split small))
-    (ap (λ test. cond test (Some (Some top, split)) None) (below top (2 ^ 8) fits)))
+    (kind_again (codes "# split #\n") (λ ns. nat_lt (get_or ns 0 0) (2 ^ 8)) some_top (top ∷ split ∷ []) rest refl refl
+    (small_more top (split ∷ []) (omega (arith, fits)) (small_one split small)) (below top (2 ^ 8) fits))
 
 abbrev report_of : List ℕ → List ℕ → (Option ℕ × ℕ) × List ℕ → Option (Body × List ℕ)
 report_of front ns top =
@@ -207,16 +202,16 @@ nothing_again front next none = step (bytes_eq (take (length front) []) front) w
 
 no_order : (front : List ℕ) (order : ℕ) (rows : List CacheRow) → order_at front order (shown (show_cache front) 0 rows ++ []) ≡ None
 unfolding order_at form_at mark_at
-no_order front order [] = nothing_again front (λ rest. made_at (codes "order # free # taken #\n") (order_row_of order) rest) refl
+no_order front order [] = nothing_again front (order_made order) refl
 no_order front order (row ∷ rows) =
     let others = shown (show_cache front) 1 rows in
-    ap (λ t. after_front front t >>= (λ rest. made_at (codes "order # free # taken #\n") (order_row_of order) rest))
+    ap (λ t. after_front front t >>= order_made order)
     (append-nil ((front ++ cache_line row) ++ others) ∙ append_assoc front (cache_line row) others)
-    ∙ ap (λ found. found >>= (λ rest. made_at (codes "order # free # taken #\n") (order_row_of order) rest)) (front_again front (cache_line row ++ others))
+    ∙ ap (λ found. found >>= order_made order) (front_again front (cache_line row ++ others))
 
 no_cache : (front : List ℕ) (index : ℕ) → cache_row_at front [] ≡ None
 unfolding cache_row_at form_at mark_at
-no_cache front index = nothing_again front (λ rest. made_at (codes "cache # full # partial # empty # live #\n") cache_row_of rest) refl
+no_cache front index = nothing_again front cache_made refl
 
 no_owner : (front : List ℕ) (superblock : ℕ) → owner_at front superblock [] ≡ None
 unfolding owner_at form_at mark_at
@@ -260,8 +255,7 @@ pool_lines front owners =
 pub pool_text : (front : List ℕ) (owners : List (Option Owner)) → with_end (pool_texts front owners) ≡ front ++ pool_lines front owners
 pool_text front owners =
     let counts = form_text (codes "pool free # of #\n") (count_by is_none owners ∷ length owners ∷ []) in
-    let first = sym (append-nil (front ++ codes "pool free " ++ decimal (count_by is_none owners) ++ codes " of " ++ decimal (length owners) ++ 10 ∷ []))
-    ∙ line_of_two front (codes "pool free ") (decimal (count_by is_none owners)) (codes " of ") (decimal (length owners)) in
+    let first = line_is front (codes "pool free " ∷ decimal (count_by is_none owners) ∷ codes " of " ∷ decimal (length owners) ∷ []) in
     (λ i. first i ++ owners_text front 0 owners i) ∙ append_assoc front counts (shown (show_owner front) 0 owners)
 
 abbrev pool_of : List ℕ → List (Option Owner) × List ℕ → Option (Body × List ℕ)
@@ -313,9 +307,6 @@ pool_again front owners fits few =
 
 abbrev body_at : List ℕ → List ℕ → Option (Body × List ℕ)
 body_at front text = report_at front text or_else pool_at front text
-
-abbrev alone_of : Addressee → Body × List ℕ → Option Reply
-alone_of who body = whole body >>= (λ alone. Some (record { addressee = who; body = alone }))
 
 abbrev table_in : List ℕ → Addressee × List ℕ → Option Reply
 table_in text found = body_at (take (length text - length found.1) text) found.1 >>= alone_of found.0

@@ -63,9 +63,3 @@ BodyFits (Say.Fault fault) = Unit {0}
 -- each number and each list of the reply fits its type
 abbrev pub Fits : Reply → Type 0
 Fits reply = AddresseeFits reply.addressee × BodyFits reply.body
-
--- the reply is one line, and no table
-abbrev pub IsSingle : Body → Type 0
-IsSingle (Say.Owners owners) = ⊥
-IsSingle (Say.Report report) = ⊥
-IsSingle _ = Unit {0}

@@ -1,5 +1,5 @@
 -- Reading a report and the table of owners: a line at the head, and then rows, each begun as that line.
-use Rattle.std.specs.Prelude.{ℕ, zero, suc, ◌+◌, ◌-◌, ◌^◌, ◌==◌, ◌&&◌, List, [], ◌∷◌, codes, length, take, drop, slice_index, nat_lt, count_by, is_none, if◌then◌else◌, Option, Some, None}
+use Rattle.std.specs.Prelude.{ℕ, true, zero, suc, ◌+◌, ◌-◌, ◌^◌, ◌==◌, ◌&&◌, List, [], ◌∷◌, codes, length, take, drop, slice_index, nat_lt, count_by, is_none, if◌then◌else◌, Option, Some, None}
 use Rattle.std.specs.Str.{bytes_eq}
 use Rattle.model_core.specs.declared.owner.Owner.{Owner}
 use Rattle.model_core.specs.declared.report.OrderRow.{OrderRow}
@@ -11,8 +11,7 @@ use Rattle.words_core.specs.declared.reply.Reply.{Reply}
 use Rattle.words_core.specs.declared.reply.Body.{Body}
 use Rattle.words_core.specs.declared.reply.Body.TheVariants as Say
 use Rattle.reply_reader.specs.Forms.{◌>>=◌, form_at}
-use Rattle.reply_reader.specs.Reading.{made_at, ◌or_else◌, addressee_at, whole}
-use Rattle.reply_reader.specs.Single.{single_of}
+use Rattle.reply_reader.specs.Reading.{made_at, ◌or_else◌, fit_tenant, addressee_at, whole, answer_of}
 
 -- what follows this front of a line
 unfoldable pub after_front : List ℕ → List ℕ → Option (List ℕ)
@@ -30,39 +29,27 @@ rows_from row_at (suc most) index text = then_rows (row_at index text) text (λ 
 
 -- ---- a report
 
-abbrev pub order_row_of : ℕ → List ℕ → Option OrderRow
-order_row_of order ns = if slice_index ns 0 == order then Some (record { free = slice_index ns 1; taken = slice_index ns 2 }) else None
-
 unfoldable pub order_at : List ℕ → ℕ → List ℕ → Option (OrderRow × List ℕ)
-order_at front order text = after_front front text >>= (λ rest. made_at (codes "order # free # taken #\n") (order_row_of order) rest)
+order_at front order text = after_front front text >>= made_at (codes "order # free # taken #\n")
+    (λ ns. slice_index ns 0 == order) (λ ns. record { free = slice_index ns 1; taken = slice_index ns 2 })
 
-abbrev pub cache_row_of : List ℕ → Option CacheRow
-cache_row_of ns =
-    if nat_lt (slice_index ns 0) (2 ^ 8)
-    then Some (record {
+unfoldable pub cache_row_at : List ℕ → List ℕ → Option (CacheRow × List ℕ)
+cache_row_at front text = after_front front text >>= made_at (codes "cache # full # partial # empty # live #\n")
+    (λ ns. nat_lt (slice_index ns 0) (2 ^ 8)) (λ ns. record {
       cache = slice_index ns 0;
       full = slice_index ns 1;
       partial = slice_index ns 2;
       empty = slice_index ns 3;
       live = slice_index ns 4;
-    }) else None
-
-unfoldable pub cache_row_at : List ℕ → List ℕ → Option (CacheRow × List ℕ)
-cache_row_at front text =
-    after_front front text >>= (λ rest. made_at (codes "cache # full # partial # empty # live #\n") cache_row_of rest)
+    })
 
 -- the greatest order of a free block, and the share outside one
-abbrev pub top_of : List ℕ → Option (Option ℕ × ℕ)
-top_of ns = if nat_lt (slice_index ns 0) (2 ^ 8) then Some (Some (slice_index ns 0), slice_index ns 1) else None
-
-abbrev pub no_top_of : List ℕ → Option (Option ℕ × ℕ)
-no_top_of ns = Some (None, slice_index ns 0)
-
 unfoldable pub top_at : List ℕ → Option ((Option ℕ × ℕ) × List ℕ)
-top_at text = made_at (codes "# split #\n") top_of text
+top_at text =
+    made_at (codes "# split #\n") (λ ns. nat_lt (slice_index ns 0) (2 ^ 8)) (λ ns. (Some (slice_index ns 0), slice_index ns 1)) text
 
 unfoldable pub no_top_at : List ℕ → Option ((Option ℕ × ℕ) × List ℕ)
-no_top_at text = made_at (codes "none split #\n") no_top_of text
+no_top_at text = made_at (codes "none split #\n") (λ ns. true) (λ ns. (None, slice_index ns 0)) text
 
 unfoldable pub some_top_at : List ℕ → Option ((Option ℕ × ℕ) × List ℕ)
 some_top_at text = top_at text or_else no_top_at text
@@ -87,19 +74,12 @@ report_at front text =
 
 -- ---- the table of owners
 
-abbrev pub unowned_of : List ℕ → Option (Option Owner)
-unowned_of ns = Some None
-
-abbrev pub owned_of : List ℕ → Option (Option Owner)
-owned_of ns =
-    if nat_lt (slice_index ns 0) (2 ^ 8) && nat_lt (slice_index ns 1) (2 ^ 16)
-    then Some (Some (record { tenant = slice_index ns 0; slot = slice_index ns 1 })) else None
-
 unfoldable pub unowned_at : List ℕ → Option (Option Owner × List ℕ)
-unowned_at text = made_at (codes "free\n") unowned_of text
+unowned_at text = made_at (codes "free\n") (λ ns. true) (λ ns. None) text
 
 unfoldable pub owned_at : List ℕ → Option (Option Owner × List ℕ)
-owned_at text = made_at (codes "tenant # slot #\n") owned_of text
+owned_at text = made_at (codes "tenant # slot #\n") fit_tenant
+    (λ ns. Some (record { tenant = slice_index ns 0; slot = slice_index ns 1 })) text
 
 -- what is said of this superblock
 abbrev pub owner_of : ℕ → List ℕ × List ℕ → Option (Option Owner × List ℕ)
@@ -127,5 +107,6 @@ table_of text =
     (report_at front found.1 or_else pool_at front found.1) >>= (λ body.
     whole body >>= (λ alone. Some (record { addressee = found.0; body = alone }))))
 
+-- the reply whose text it is, of one line or of several
 unfoldable pub reply_of_text : List ℕ → Option Reply
-reply_of_text text = single_of text or_else table_of text
+reply_of_text text = answer_of text or_else table_of text

@@ -8,7 +8,7 @@ mod answer;
 mod form;
 mod hexed;
 mod said;
-mod single;
 mod table;
 
-pub use table::read_reply;
+pub use answer::read_answer;
+pub use table::read_table;

@@ -1,88 +1,48 @@
 //! Reports and the table of owners: a line at the head, and then rows, each begun as that line.
 
-ghost use Rattle.std.specs.Prelude.{◌≡◌, count_by, is_none, true};
+ghost use Rattle.std.specs.Prelude.{◌≡◌, count_by, is_none, true, Some, IfSome};
+ghost use Rattle.words_core.specs.Requests.{is_table};
 ghost use Rattle.words_core.specs.Texts.{text_of};
 ghost use Rattle.words_core.specs.declared.reply.Reply.{Reply as ReplyValue};
 ghost use Rattle.reply_reader.specs.Forms.{Gives};
 ghost use Rattle.reply_reader.specs.Ranges.{Fits};
-ghost use Rattle.reply_reader.specs.Reading.{◌or_else◌, IsRead};
-ghost use Rattle.reply_reader.specs.Single.{other_of};
-ghost use Rattle.reply_reader.specs.Tables.{after_front, rows_from, order_at, cache_row_at, top_at, no_top_at, some_top_at, report_at, unowned_at, owned_at, owner_at, pool_at, table_of, reply_of_text};
+ghost use Rattle.reply_reader.specs.Tables.{after_front, rows_from, order_at, cache_row_at, top_at, no_top_at, some_top_at, report_at, unowned_at, owned_at, owner_at, pool_at, table_of};
 
-use crate::answer::{addressee_at, read_answer};
+use crate::answer::addressee_at;
 use crate::form::form_at;
-use crate::single::other_of;
 use arrayvec::ArrayVec;
 use model_core::owner::Owner;
 use model_core::report::{CacheRow, OrderRow};
 use words_core::{Body, CACHES, ORDERS, OWNERS, Reply, Report};
 
-/// Puts the reply into `reply` whose whole text the bytes are, of one line or of several, the line feeds included; answers whether
-/// there is such a reply. Where there is none, `reply` is as it was.
-pub fn read_reply(text: &[u8], reply: &mut Reply) -> bool
-    // What is read has this text.
-    ensures found { result ≡ true → text_of reply.new ≡ text.now }
-    // What has this text is read, and nothing else.
-    ensures only { (due : ReplyValue) → Fits due → text_of due ≡ text.now → (result ≡ true) × (reply.new ≡ due) }
-    // The same as a function.
-    ensures exact { IsRead result reply.old reply.new (reply_of_text text.now) }
-{
-    reply_of_text(text, reply)
-}
-
-/// An answer is put in place. What is longer or rarer is made and moved, in a function of its own, since one clears room for each
-/// reply that it may make when it is entered.
-#[tactic(auto, unfolding(crate::specs::Tables::reply_of_text, crate::specs::Single::single_of))]
-fn reply_of_text(text: &[u8], reply: &mut Reply) -> bool
-    ensures { IsRead result reply.old reply.new (reply_of_text text.now) }
-{
-    read_answer(text, reply) || read_longer(text, reply)
-}
-
+/// Returns the report or the table of owners whose whole text the bytes are, with its line feeds. `None` if they are the text of
+/// neither.
 #[cold]
 #[inline(never)]
-fn read_longer(text: &[u8], reply: &mut Reply) -> bool
-    ensures { IsRead result reply.old reply.new (other_of text.now or_else table_of text.now) }
+pub fn read_table(text: &[u8]) -> Option<Reply>
+    // What is read has this text.
+    ensures found { IfSome result (λ table. text_of table ≡ text.now) }
+    // A table that has this text is read.
+    ensures only { (due : ReplyValue) → Fits due → is_table due.body ≡ true → text_of due ≡ text.now → result ≡ Some due }
+    ensures table { IfSome result (λ table. is_table table.body ≡ true) }
+    // The same as a function.
+    ensures exact { result ≡ table_of text.now }
 {
-    match longer_of(text) {
-        Some(found) => {
-            *reply = found;
-            true
-        }
-        None => false,
-    }
-}
-
-/// The reply whose whole text the bytes are, if it is no answer.
-fn longer_of(text: &[u8]) -> Option<Reply>
-    ensures { result ≡ (other_of text.now or_else table_of text.now) }
-{
-    if let Some(reply) = other_of(text) {
-        return Some(reply);
-    }
     table_of(text)
 }
 
 #[tactic(auto, unfolding(crate::specs::Tables::table_of))]
 fn table_of(text: &[u8]) -> Option<Reply>
-    ensures { result ≡ table_of text.now }
+    ensures exact { result ≡ table_of text.now }
+    ensures table { IfSome result (λ table. is_table table.body ≡ true) }
 {
     let (addressee, rest) = addressee_at(text)?;
     let front = &text[..text.len() - rest.len()];
-    let (body, rest) = table_at(front, rest)?;
+    let (body, rest) = report_at(front, rest).or_else(|| pool_at(front, rest))?;
     match rest {
         [] => Some(Reply { addressee, body }),
         _ => None,
     }
-}
-
-fn table_at<'a>(front: &[u8], text: &'a [u8]) -> Option<(Body, &'a [u8])>
-    ensures { Gives (λ found. (found.0, found.1.now)) result (report_at front.now text.now or_else pool_at front.now text.now) }
-{
-    if let Some(found) = report_at(front, text) {
-        return Some(found);
-    }
-    pool_at(front, text)
 }
 
 /// What follows this front of a line.
@@ -95,7 +55,8 @@ fn after_front<'a>(front: &[u8], text: &'a [u8]) -> Option<&'a [u8]>
 
 #[tactic(auto, unfolding(crate::specs::Tables::report_at))]
 fn report_at<'a>(front: &[u8], text: &'a [u8]) -> Option<(Body, &'a [u8])>
-    ensures { Gives (λ found. (found.0, found.1.now)) result (report_at front.now text.now) }
+    ensures exact { Gives (λ found. (found.0, found.1.now)) result (report_at front.now text.now) }
+    ensures table { IfSome result (λ found. is_table found.0 ≡ true) }
 {
     let ([frames, live, free], rest) = form_at::<3>(b"frames # live # free # top ", text)?;
     let (top, split, rest) = some_top_at(rest)?;
@@ -118,10 +79,7 @@ fn report_at<'a>(front: &[u8], text: &'a [u8]) -> Option<(Body, &'a [u8])>
 fn some_top_at(text: &[u8]) -> Option<(Option<u8>, u32, &[u8])>
     ensures { Gives (λ found. ((found.0, found.1), found.2.now)) result (some_top_at text.now) }
 {
-    if let Some(found) = top_at(text) {
-        return Some(found);
-    }
-    no_top_at(text)
+    top_at(text).or_else(|| no_top_at(text))
 }
 
 #[tactic(auto, unfolding(crate::specs::Tables::top_at))]
@@ -207,7 +165,8 @@ fn cache_row_at<'a>(front: &[u8], text: &'a [u8]) -> Option<(CacheRow, &'a [u8])
 
 #[tactic(auto, unfolding(crate::specs::Tables::pool_at))]
 fn pool_at<'a>(front: &[u8], text: &'a [u8]) -> Option<(Body, &'a [u8])>
-    ensures { Gives (λ found. (found.0, found.1.now)) result (pool_at front.now text.now) }
+    ensures exact { Gives (λ found. (found.0, found.1.now)) result (pool_at front.now text.now) }
+    ensures table { IfSome result (λ found. is_table found.0 ≡ true) }
 {
     let ([free, count], rest) = form_at::<2>(b"pool free # of #\n", text)?;
     let (owners, rest) = owners_at(front, rest);
@@ -250,10 +209,7 @@ fn owner_at<'a>(front: &[u8], superblock: u32, text: &'a [u8]) -> Option<(Option
     if number != superblock {
         return None;
     }
-    if let Some(found) = unowned_at(rest) {
-        return Some(found);
-    }
-    owned_at(rest)
+    unowned_at(rest).or_else(|| owned_at(rest))
 }
 
 #[tactic(auto, unfolding(crate::specs::Tables::unowned_at))]

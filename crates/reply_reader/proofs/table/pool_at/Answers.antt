@@ -4,8 +4,8 @@ use Rattle.reply_reader.proofs.TableSteps.{pool_is, pool_free, pool_count}
 use Rattle.reply_reader.proofs.table.pool_at.Goals as goal
 use Rattle.reply_reader.proofs.table.pool_at.Goals.{then-free_count-free-via-then-free_count-free, then-free_count-free-via-else-free_count-free+then-len-count}
 
-pub returns-then-free_count-free : goal.returns-then-free_count-free
-returns-then-free_count-free c =
+pub returns-then-free_count-free-clause-exact : goal.returns-then-free_count-free-clause-exact
+returns-then-free_count-free-clause-exact c =
     let counted = ap (count_by is_none) c.as_slice.ensures.value in
     elim c.then-free_count-free.branch [
       | then-free_count-free-via-then-free_count-free w ↦
@@ -18,8 +18,8 @@ returns-then-free_count-free c =
           (λ same. w.if-len-count.true (omega (arith, same, w.len.ensures.value)))
     ]
 
-pub returns : goal.returns
-returns c =
+pub returns-clause-exact : goal.returns-clause-exact
+returns-clause-exact c =
     pool_is c.args.front.now c.args.text.now c.in_ok-free.field-0-0 c.in_ok-free.rest.now c.owners_at-owners.result.0.items
     c.owners_at-owners.result.1.now c.in_ok-free.ensures c.owners_at-owners.ensures
     (omega (arith, ap (count_by is_none) c.as_slice.ensures.value, c.free_count.ensures, c.if-free_count-free.false))
