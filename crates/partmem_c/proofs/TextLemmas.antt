@@ -9,8 +9,8 @@ use Rattle.words_core.specs.declared.event.Command.{Command}
 use Rattle.words_core.specs.declared.event.Event.TheVariants.{Tenant}
 use Rattle.quick_core.specs.Lines.{ReadsAs}
 use Rattle.kernel_core.specs.Content.{KernelContent}
-use Rattle.replay_core.specs.Standing.{IsOneLine}
 use Rattle.std.proofs.lemmas.Option.{same_Some}
+use Rattle.streams.specs.Lines.{IsOneLine}
 use Rattle.partmem_c.specs.Lines.{has_line_feed, AnswersLine}
 
 neither : (x y : Bool) → (x || y) ≡ false → (x ≡ false) × (y ≡ false)

@@ -27,7 +27,7 @@ use Rattle.kernel_core.specs.Steps.{Steps}
 use Rattle.kernel_core.proofs.Worlds.{steps_answered}
 use Rattle.kernel_core.proofs.Worlds.{one_world}
 use Rattle.kernel_core.proofs.Witnesses.{opening_shown}
-use Rattle.replay_core.specs.Standing.{IsOneLine}
+use Rattle.streams.specs.Lines.{IsOneLine}
 use Rattle.partmem_c.specs.Lines.{AnswersLine}
 use Rattle.partmem_c.specs.Laws.{Call, lines_of_calls, texts_of, Ran, StandsAfterCalls, OwnLinesOfCalls, SameLinesOfCalls, MayChangeThreads}
 use Rattle.partmem_c.specs.contracts.machine.Machine.{the_row}

@@ -9,7 +9,7 @@ use Rattle.world_core.specs.Output.{events_of, lines_for, with_line_feeds}
 use Rattle.world_core.specs.Laws.{HaveSameOwnList, private_lines}
 use Rattle.kernel_core.specs.Content.{KernelContent}
 use Rattle.kernel_core.specs.Shows.{Shows}
-use Rattle.replay_core.specs.Standing.{IsOneLine}
+use Rattle.streams.specs.Lines.{IsOneLine}
 use Rattle.partmem_c.specs.Lines.{AnswersLine}
 use Rattle.partmem_c.specs.contracts.machine.Machine.{the_row}
 

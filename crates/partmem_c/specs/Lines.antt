@@ -12,7 +12,7 @@ use Rattle.world_core.specs.Output.{line_feed}
 use Rattle.kernel_core.specs.Content.{KernelContent}
 use Rattle.kernel_core.specs.Steps.{Steps}
 use Rattle.replay_core.specs.Pushes.{most_reply_bytes}
-use Rattle.replay_core.specs.Standing.{IsOneLine}
+use Rattle.streams.specs.Lines.{IsOneLine}
 use Rattle.partmem_c.specs.declared.status.TheConstants.{DONE, NO_MACHINE, NOT_A_LINE, BUFFER_TOO_SMALL}
 
 abbrev pub has_line_feed : List ℕ → Bool

@@ -9,10 +9,12 @@ use Rattle.world_core.specs.Output.{with_line_feeds, ended_lines}
 use Rattle.world_core.proofs.Showing.{with_line_feeds-append}
 use Rattle.streams.specs.declared.feed.Stopped.{Stopped}
 use Rattle.streams.proofs.MoveLemmas.{appends_nothing, appends_more, appends_kept}
-use Rattle.replay_core.specs.Standing.{IsOneLine, AreLines}
+use Rattle.streams.specs.Lines.{IsOneLine}
+use Rattle.replay_core.specs.Standing.{AreLines}
 use Rattle.replay_core.specs.Doing.{HaveRun, IsCutOff, HasDone, HasGone, HasStopped}
 use Rattle.replay_core.specs.Ending.{HasLeft, HasRunInto}
-use Rattle.replay_core.proofs.LineLemmas.{one_line_append, line_ended, lines_cut, lines_ended, one_line_cut, one_line_unended}
+use Rattle.streams.proofs.LineLemmas.{one_line_append}
+use Rattle.replay_core.proofs.LineLemmas.{line_ended, lines_cut, lines_ended, one_line_cut, one_line_unended}
 
 lines_both : (xs ys : List (List ℕ)) → AreLines xs → AreLines ys → AreLines (xs ++ ys)
 lines_both [] ys h k = k

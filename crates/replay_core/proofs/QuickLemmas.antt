@@ -10,9 +10,10 @@ use Rattle.streams.specs.declared.feed.Stopped.{Stopped}
 use Rattle.replay_core.specs.declared.run.Run.{Run}
 use Rattle.replay_core.specs.Noting.{Noting}
 use Rattle.replay_core.specs.Doing.{HasDone, HasGone, HasStopped}
-use Rattle.replay_core.specs.Standing.{IsOneLine, AnswersRead, answers}
+use Rattle.streams.specs.Lines.{IsOneLine}
+use Rattle.replay_core.specs.Standing.{AnswersRead, answers}
 use Rattle.replay_core.proofs.DoingLemmas.{gone_end, stopped_end}
-use Rattle.replay_core.proofs.LineLemmas.{found_cut}
+use Rattle.streams.proofs.LineLemmas.{found_cut}
 use Rattle.replay_core.proofs.RunLemmas.{done_of_event}
 
 -- a line that was read by itself, at the front of the rest

@@ -4,7 +4,8 @@ use Rattle.std.specs.Prelude.{◌≡◌, ℕ, ◌<◌, List, [], ◌∷◌, ◌+
 use Rattle.std.specs.Io.KnownBytes.{Appends}
 use Rattle.world_core.specs.Output.{with_line_feeds}
 use Rattle.streams.specs.declared.feed.Stopped.{Stopped}
-use Rattle.replay_core.specs.Standing.{IsOneLine, AreLines}
+use Rattle.streams.specs.Lines.{IsOneLine}
+use Rattle.replay_core.specs.Standing.{AreLines}
 use Rattle.replay_core.specs.Pushes.{IsWholeAtOk}
 
 -- each of the lines was done in full

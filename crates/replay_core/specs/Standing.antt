@@ -1,5 +1,5 @@
 -- What one line does in a replay.
-use Rattle.std.specs.Prelude.{◌≡◌, ℕ, ◌+◌, ◌^◌, ◌<◌, ◌==◌, Bool, false, List, [], ◌∷◌, ◌++◌, length, take}
+use Rattle.std.specs.Prelude.{◌≡◌, ℕ, ◌+◌, ◌^◌, ◌<◌, Bool, false, List, [], ◌∷◌, ◌++◌, length, take}
 use Rattle.std.specs.Prelude.{Option, Some, None, Result, Ok, Err}
 use Rattle.words_core.specs.declared.event.Event.{Event}
 use Rattle.words_core.specs.declared.event.LineFault.{LineFault}
@@ -9,7 +9,8 @@ use Rattle.kernel_core.specs.Shows.{Shows}
 use Rattle.kernel_core.specs.Steps.{HasPattern}
 use Rattle.world_core.specs.Limits.{cache_limit}
 use Rattle.world_core.specs.World.{World, world_after}
-use Rattle.world_core.specs.Output.{event_in, shown_reading, line_feed}
+use Rattle.world_core.specs.Output.{event_in, shown_reading}
+use Rattle.streams.specs.Lines.{IsOneLine}
 use Rattle.streams.specs.declared.tally.Tally.{Tally}
 use Rattle.replay_core.specs.declared.run.Run.{Run}
 use Rattle.replay_core.specs.Runs.{fault_in}
@@ -20,11 +21,6 @@ abbrev pub IsRunnable : Result (Option Event) LineFault → Type 0
 IsRunnable (Ok (Some event)) = HasPattern event
 IsRunnable (Ok None) = Unit {0}
 IsRunnable (Err fault) = Unit {0}
-
--- no LF is among the bytes
-abbrev pub IsOneLine : List ℕ → Type 0
-IsOneLine [] = Unit {0}
-IsOneLine (b ∷ bytes) = ((b == line_feed) ≡ false) × IsOneLine bytes
 
 abbrev pub AreLines : List (List ℕ) → Type 0
 AreLines [] = Unit {0}

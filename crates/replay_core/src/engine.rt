@@ -3,7 +3,7 @@
 ghost use Rattle.std.specs.Prelude.{◌≡◌, ℕ, ◌+◌, ◌<◌, ◌≤◌, true, false, List, [], ◌++◌, length, IfOk, MatchResult, is_err};
 ghost use Rattle.std.specs.Io.KnownBytes.{Consumes, Appends, IsAtEnd};
 ghost use Rattle.replay_core.specs.Pending.{HoldsLine};
-ghost use Rattle.replay_core.specs.Standing.{IsOneLine};
+ghost use Rattle.streams.specs.Lines.{IsOneLine};
 ghost use Rattle.replay_core.specs.Doing.{HasDone, HasGone, HasStopped};
 ghost use Rattle.replay_core.specs.Ending.{HasLeft, RunsAs, IsRunToEnd, NamesEndFailed};
 

@@ -31,7 +31,7 @@ mod sink;
 pub use answering::reply_in_rows;
 pub use engine::{EndFailed, do_lines};
 pub use notes::{NoNotes, Notes};
-pub use pending::{Pending, line_end};
+pub use pending::Pending;
 pub use replaying::{replay, replay_noted};
 pub use replies::push_all;
 pub use sink::Sink;

@@ -1,11 +1,12 @@
-ghost use Rattle.std.specs.Prelude.{◌≡◌, ℕ, ◌<◌, ◌++◌, List, [], ◌∷◌, length, position, ◌==◌, IfSome, MatchOption};
+ghost use Rattle.std.specs.Prelude.{◌≡◌, ℕ, ◌<◌, ◌++◌, List, [], ◌∷◌, length, ◌==◌, MatchOption};
 ghost use Rattle.words_core.specs.Grammar.{reading_of};
 ghost use Rattle.world_core.specs.Output.{line_feed};
 ghost use Rattle.replay_core.specs.Pending.{HoldsLine};
-ghost use Rattle.replay_core.specs.Standing.{IsOneLine, IsRunnable};
+ghost use Rattle.replay_core.specs.Standing.{IsRunnable};
+ghost use Rattle.streams.specs.Lines.{IsOneLine};
 
 use arrayvec::ArrayVec;
-use memchr::memchr;
+use streams::line_end;
 use words_core::{Event, LineFault, read_line};
 
 /// The beginning of a line whose end has not come: its first 256 bytes, and whether it has more.
@@ -95,12 +96,4 @@ pub(crate) fn split_line(bytes: &[u8]) -> Option<(&[u8], &[u8])>
         return None;
     };
     Some((&bytes[..end], &bytes[end + 1..]))
-}
-
-/// Where the first LF stands.
-pub fn line_end(bytes: &[u8]) -> Option<usize>
-    ensures at { result ≡ position (λ b. b == line_feed) bytes.now }
-    ensures within { IfSome result (λ end. end < length bytes.now) }
-{
-    memchr(b'\n', bytes)
 }

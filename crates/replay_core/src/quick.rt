@@ -10,14 +10,13 @@ ghost use Rattle.replay_core.specs.Doing.{HasDone, HasGone, HasStopped};
 ghost use Rattle.replay_core.specs.Standing.{IsReady, AnswersRead, answers};
 
 use crate::notes::Notes;
-use crate::pending::line_end;
 use crate::run::Run;
 use kernel_core::Kernel;
 use model_core::limits::MOST_BYTES;
 use quick_core::{
     CR_LF, LF, RequestLine, WINDOW, read_ended_request, read_known_request, read_tenant,
 };
-use streams::{Drain, Stopped};
+use streams::{Drain, Stopped, line_end};
 use words_core::{Addressee, Answer, Refusal, Request};
 
 impl<N: Notes> Run<N> {

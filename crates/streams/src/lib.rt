@@ -5,12 +5,14 @@
 mod drain;
 mod feed;
 mod held;
+mod lines;
 mod reader_feed;
 mod tally;
 mod writer_drain;
 
 pub use drain::{Drain, TEXT_BYTES, Text};
 pub use feed::{Feed, Stopped};
+pub use lines::line_end;
 pub use reader_feed::ReaderFeed;
 pub use tally::{ReplayError, Tally};
 pub use writer_drain::WriterDrain;

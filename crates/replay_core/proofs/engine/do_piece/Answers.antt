@@ -1,5 +1,5 @@
 use Rattle.std.proofs.Common.{◌++◌, [], ◌∷◌, arith, ap, length, length-append}
-use Rattle.replay_core.proofs.LineLemmas.{one_line_append}
+use Rattle.streams.proofs.LineLemmas.{one_line_append}
 use Rattle.replay_core.proofs.DoingLemmas.{gone_end, stopped_end, gone_on, stopped_on, at_error}
 use Rattle.replay_core.proofs.engine.do_piece.Goals as goal
 

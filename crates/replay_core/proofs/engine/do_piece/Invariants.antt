@@ -1,6 +1,6 @@
 use Rattle.std.proofs.Common.{◌≡◌, ℕ, ◌+◌, ◌≤◌, ◌++◌, false, List, length}
 use Rattle.replay_core.specs.Pending.{HoldsLine}
-use Rattle.replay_core.specs.Standing.{IsOneLine}
+use Rattle.streams.specs.Lines.{IsOneLine}
 use Rattle.replay_core.specs.Doing.{HasGone}
 use Rattle.replay_core.proofs.engine.do_piece.Given as goal
 

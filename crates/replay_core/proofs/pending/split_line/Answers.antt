@@ -1,6 +1,6 @@
 use Rattle.std.proofs.Common.{◌+◌, sym}
 use Rattle.std.proofs.lemmas.List.{take_rest}
-use Rattle.replay_core.proofs.LineLemmas.{found_cut, none_cut}
+use Rattle.streams.proofs.LineLemmas.{found_cut, none_cut}
 use Rattle.replay_core.proofs.pending.split_line.Goals as goal
 
 pub returns-in_default : goal.returns-in_default
