@@ -1,38 +1,36 @@
 -- From the verdicts on replies to the finding.
-use Rattle.std.proofs.Common.{◌≡◌, ℕ, suc, ◌+◌, ◌≤◌, Bool, true, false, List, [], ◌∷◌, ◌++◌, Option, Some, None, Result, Ok, Err, IfOk, length, refl, sym, ap, subst, ◌∙◌, arith}
-use Rattle.std.specs.Prelude.{◌&&◌, ◌==◌, if◌then◌else◌}
+use Rattle.std.proofs.Common.{◌≡◌, ℕ, suc, ◌+◌, Bool, true, false, List, [], ◌∷◌, ◌++◌, Option, Some, None, Result, Ok, Err, length, refl, sym, ap, subst, ◌∙◌, arith}
+use Rattle.std.specs.Prelude.{◌&&◌, ◌==◌, if◌then◌else◌, IfSome}
 use Rattle.std.proofs.lemmas.Bool.{eqb-true}
 use Rattle.std.proofs.lemmas.List.{append-nil}
 use Rattle.words_core.specs.declared.event.Event.{Event}
 use Rattle.words_core.specs.declared.event.LineFault.{LineFault}
+use Rattle.words_core.specs.declared.reply.Body.{Body}
+use Rattle.words_core.specs.declared.reply.Body.TheVariants as Say
 use Rattle.words_core.specs.declared.reply.Reply.{Reply}
-use Rattle.reply_reader.specs.Reading.{IsRead}
+use Rattle.words_core.specs.Requests.{body_of_answer, is_table}
+use Rattle.words_core.specs.declared.answer.Answer.{Answer}
+use Rattle.words_core.specs.declared.answer.Answer.TheVariants as Told
+use Rattle.words_core.specs.declared.reply.Refusal.{Refusal}
 use Rattle.promise_core.specs.declared.promise.Promise.{Promise}
-use Rattle.promise_core.specs.Promises.{allowed}
 use Rattle.promise_core.specs.State.{Known}
 use Rattle.judge.specs.Machine.{SeenMachine, ShowsKnown}
 use Rattle.check_core.specs.declared.finding.Finding.TheVariants.{Broken, Kept}
-use Rattle.check_core.specs.Checking.{IsFaultVerdict, IsLineVerdict, IsReplyVerdict}
+use Rattle.check_core.specs.Checking.{IsFaultVerdict, IsLineVerdict, IsTextVerdict}
+use Rattle.check_core.specs.declared.shown.TheConstants.{MOST_TEXT_BYTES}
+use Rattle.check_core.specs.Forms.{◌>>=◌}
+use Rattle.check_core.specs.Gathered.{whole_of}
 use Rattle.check_core.specs.Reading.{readings_of}
-use Rattle.check_core.specs.Finding.{after_line, after_lines, are_ended, broken_by, finding, first_line, first_lines, has_end, lines_to, more_lines, or_broken, reply_in, text_read, verdict_of, verdict_at}
+use Rattle.check_core.specs.Replies.{◌or_else◌, answer_of}
+use Rattle.check_core.specs.Tables.{table_of, reply_of_text}
+use Rattle.check_core.proofs.TableLemmas.{table_takes}
+use Rattle.check_core.specs.Finding.{after_line, after_lines, are_ended, broken_by, finding, first_line, first_lines, has_end, is_refusal, lines_to, more_lines, or_broken, reply_in, text_read, verdict_of, verdict_at}
 
 -- lines that are read as a reply
 
--- what was read is in its place
-pub read_here : (result : Bool) (old new : Reply) (found : Option Reply) → IsRead result old new found → result ≡ true → found ≡ Some new
-read_here true old new found is done = is
-read_here false old new found is done = absurd cc
-
--- or nothing was, and there stands what stood before
-pub not_read : (result : Bool) (old new : Reply) (found : Option Reply) → IsRead result old new found → result ≡ false → (found ≡ None) × (new ≡ old)
-not_read true old new found is done = absurd cc
-not_read false old new found is done = is
-
--- the lines were gathered, and read
-pub reply_here : (k : ℕ) (bytes came : List ℕ) (found : Option Reply) → are_ended k bytes ≡ true → came ≡ first_lines k bytes → found ≡ text_read came
-    → reply_in k bytes ≡ found
-reply_here k bytes came found ended same is =
-    ap (λ b. if b then text_read (first_lines k bytes) else None) ended ∙ sym (ap (λ (text : List ℕ). text_read text) same) ∙ sym is
+-- the lines were gathered
+pub text_here : (k : ℕ) (bytes : List ℕ) → are_ended k bytes ≡ true → reply_in k bytes ≡ text_read (first_lines k bytes)
+text_here k bytes ended = ap (λ b. if b then text_read (first_lines k bytes) else None) ended
 
 -- they are not there
 pub reply_gone : (k : ℕ) (bytes : List ℕ) → are_ended k bytes ≡ false → reply_in k bytes ≡ None
@@ -65,28 +63,56 @@ pub by_reply : (event : Event) (bytes : List ℕ) (w : Known) (found : Option Re
     → verdict_at (Ok (Some event)) bytes w ≡ verdict_of event found (reply_in 1 bytes) w
 by_reply event bytes w found e = ap (λ (r : Option Reply). verdict_of event r (reply_in 1 bytes) w) e
 
-pub reply_judged : (verdict : Result ℕ Promise) (lines : ℕ) (event : Event) (reply : Reply) (bytes : List ℕ) (w : Known) (new : SeenMachine)
-    (left : Option (List ℕ)) → IsReplyVerdict verdict lines (allowed event reply w) new → lines ≡ suc (more_lines event w)
-    → reply_in (suc (more_lines event w)) bytes ≡ Some reply → left ≡ Some (after_lines lines bytes)
-    → IsLineVerdict verdict (Ok (Some event)) bytes w new left
-reply_judged (Ok told) lines event reply bytes w new left (same, after) count found rest = (
-  same ∙ count,
-  rest ∙ ap (λ n. Some (after_lines n bytes)) (sym same),
-  (after.0, by_reply event bytes w (Some reply) found ∙ after.1, after.2),
-)
-reply_judged (Err promise) lines event reply bytes w new left is count found rest = by_reply event bytes w (Some reply) found ∙ is
+-- the verdict on the lines that were gathered is that on the reply, where it has as many
+pub text_judged : (verdict : Option (Result Unit Promise)) (k : ℕ) (event : Event) (bytes : List ℕ) (w : Known) (new : SeenMachine) → more_lines event w ≡ k
+    → are_ended (suc k) bytes ≡ true → IsTextVerdict verdict event (text_read (first_lines (suc k) bytes)) w new
+    → IsTextVerdict verdict event (reply_in (suc (more_lines event w)) bytes) w new
+text_judged verdict k event bytes w new count ended is =
+    subst (λ (found : Option Reply). IsTextVerdict verdict event found w new)
+    (sym (ap (λ k. reply_in (suc k) bytes) count ∙ text_here (suc k) bytes ended)) is
+
+pub reply_kept : (lines : ℕ) (event : Event) (bytes : List ℕ) (w : Known) (new : SeenMachine) (left : Option (List ℕ))
+    → IsTextVerdict (Some (Ok tt)) event (reply_in (suc (more_lines event w)) bytes) w new → lines ≡ suc (more_lines event w)
+    → left ≡ Some (after_lines lines bytes) → IsLineVerdict (Ok lines) (Ok (Some event)) bytes w new left
+reply_kept lines event bytes w new left (reply, found, after) count rest =
+    (count, rest, (after.0, by_reply event bytes w (Some reply) found ∙ after.1, after.2))
+
+pub reply_broken : (promise : Promise) (event : Event) (bytes : List ℕ) (w : Known) (new : SeenMachine)
+    → IsTextVerdict (Some (Err promise)) event (reply_in (suc (more_lines event w)) bytes) w new → verdict_at (Ok (Some event)) bytes w ≡ Err promise
+reply_broken promise event bytes w new (reply, found, is) = by_reply event bytes w (Some reply) found ∙ is
+
+-- what was gathered, as a reply
+pub read_so : (came bytes : List ℕ) (found : Option Reply) → whole_of MOST_TEXT_BYTES came ≡ Some bytes → reply_of_text bytes ≡ found → text_read came ≡ found
+read_so came bytes found whole is = ap (λ text. text >>= reply_of_text) whole ∙ is
+
+pub as_answer : (bytes : List ℕ) (reply : Reply) → answer_of bytes ≡ Some reply → reply_of_text bytes ≡ Some reply
+unfolding reply_of_text
+as_answer bytes reply is = ap (λ found. found or_else table_of bytes) is
+
+pub as_table : (bytes : List ℕ) → answer_of bytes ≡ None → reply_of_text bytes ≡ table_of bytes
+unfolding reply_of_text
+as_table bytes is = ap (λ found. found or_else table_of bytes) is
+
+pub no_refusal_told : (answer : Answer) → ((refusal : Refusal) → answer ≡ Told.Refused refusal → ⊥) → is_refusal (body_of_answer answer) ≡ false
+no_refusal_told (Told.Refused refusal) other = absurd (other refusal refl)
+no_refusal_told _ other = refl
+
+-- a table is no refusal
+no_refusal : (body : Body) → is_table body ≡ true → is_refusal body ≡ false
+no_refusal (Say.Refused refusal) is = absurd cc
+no_refusal _ is = refl
+
+pub table_refuses_nothing : (bytes : List ℕ) → IfSome (table_of bytes) (λ reply. is_refusal reply.body ≡ false)
+table_refuses_nothing bytes = elim (table_of bytes) as (λ found. table_of bytes ≡ found → IfSome found (λ reply. is_refusal reply.body ≡ false)) [
+  | None ↦ λ is. tt
+  | (Some reply) ↦ λ is. no_refusal reply.body (table_takes bytes reply is).1
+] refl
 
 -- no reply: the first line alone
 pub first_judged : (event : Event) (bytes : List ℕ) (w : Known) (first : Option Reply) (promise : Promise) → reply_in (suc (more_lines event w)) bytes ≡ None
     → reply_in 1 bytes ≡ first → promise ≡ broken_by event first w → verdict_at (Ok (Some event)) bytes w ≡ Err promise
 first_judged event bytes w first promise none is same =
     by_reply event bytes w None none ∙ ap (λ (r : Option Reply). Err (broken_by event r w)) is ∙ ap (λ (p : Promise). Err p) (sym same)
-
--- so many lines were taken
-pub room_kept : (verdict : Result ℕ Promise) (now lines before : ℕ) → now + lines ≤ before → IfOk verdict (λ told. told ≡ lines)
-    → IfOk verdict (λ told. now + told ≤ before)
-room_kept (Ok told) now lines before fits same = omega (arith, fits, same)
-room_kept (Err promise) now lines before fits same = tt
 
 -- the same of another name of the line
 pub line_judged : (verdict : Result ℕ Promise) (a b : Result (Option Event) LineFault) (bytes : List ℕ) (w : Known) (new : SeenMachine) (left : Option (List ℕ))

@@ -1,18 +1,16 @@
 -- How a call ends by what it called.
-use Rattle.std.proofs.Common.{◌≡◌, ℕ, suc, Bool, true, false, List, ◌∷◌, Option, Some, Result, Ok, Err, inr, subst, sym}
+use Rattle.std.proofs.Common.{◌≡◌, ℕ, suc, Bool, false, List, ◌∷◌, Option, Some, Result, Ok, Err, inr, subst, sym}
 use Rattle.std.specs.Prelude.{IsErrAnd}
 use Rattle.words_core.specs.declared.event.Event.{Event}
 use Rattle.words_core.specs.declared.event.LineFault.{LineFault}
-use Rattle.words_core.specs.declared.reply.Body.{Body}
-use Rattle.words_core.specs.declared.reply.Body.TheVariants as Say
 use Rattle.words_core.specs.declared.reply.Reply.{Reply}
 use Rattle.promise_core.specs.State.{Known}
-use Rattle.judge.specs.Adding.{is_addition, IsAllowedAddition}
+use Rattle.judge.specs.Adding.{IsAllowedAddition}
 use Rattle.judge.specs.Machine.{SeenMachine, ShowsKnown}
 use Rattle.check_core.specs.declared.finding.Unchecked.{Unchecked}
 use Rattle.check_core.specs.declared.finding.Unchecked.TheVariants as Not
 use Rattle.check_core.specs.Ending.{AddsAt, ComesToAdd, IsEndedBy, IsStoppedBy}
-use Rattle.check_core.specs.Finding.{after_lines, is_refusal, lines_to, more_lines, reply_in, verdict_at}
+use Rattle.check_core.specs.Finding.{after_lines, lines_to, more_lines, reply_in, verdict_at}
 
 pub stopped_so : (why : Unchecked) (u v : Bool) (S T : Type 0) → (S → T) → IsStoppedBy why u v S → IsStoppedBy why u v T
 stopped_so Not.Trace u v S T f is = is
@@ -23,16 +21,17 @@ pub ended_so : {A : Type 0} (r : Result A Unchecked) (u v : Bool) (S T : Type 0)
 ended_so (Ok done) u v S T f is = is
 ended_so (Err why) u v S T f is = stopped_so why u v S T f is
 
--- what ended without reading, where the reader had not failed
-pub ended_where : {A : Type 0} (r : Result A Unchecked) (v : Bool) (S T : Type 0) → v ≡ false → (S → T) → IsEndedBy r false false S
-    → IsEndedBy r false v T
-ended_where r v S T fine f is = subst (λ untold. IsEndedBy r false untold T) (sym fine) (ended_so r false false S T f is)
-
 -- a failure is handed on
 pub stopped_on : {A : Type 0} (why : Unchecked) (r : Result A Unchecked) (u v : Bool) (S : Type 0) → IsErrAnd r (λ e. e ≡ why)
     → IsStoppedBy why u v S → IsEndedBy r u v S
 stopped_on why (Ok done) u v S same is = absurd same
 stopped_on why (Err e) u v S same is = subst (λ x. IsStoppedBy x u v S) (sym same) is
+
+-- .. of a call that reads nothing, where the reader had not failed
+pub stopped_where : {A : Type 0} (why : Unchecked) (r : Result A Unchecked) (v : Bool) (S T : Type 0) → IsErrAnd r (λ e. e ≡ why)
+    → v ≡ false → (S → T) → IsStoppedBy why false false S → IsEndedBy r false v T
+stopped_where why r v S T same fine f is = stopped_on why r false v T same
+    (subst (λ untold. IsStoppedBy why false untold T) (sym fine) (stopped_so why false false S T f is))
 
 -- .. of one reader, where the other had not failed
 pub stopped_reading : {A : Type 0} (why : Unchecked) (r : Result A Unchecked) (u v : Bool) (S : Type 0) → IsErrAnd r (λ e. e ≡ why)
@@ -49,11 +48,6 @@ stopped_telling why r u v S T same fine f is = stopped_on why r u v T same
 pub ran_out : {A : Type 0} (r : Result A Unchecked) (u v : Bool) (S : Type 0) → IsErrAnd r (λ e. e ≡ Not.Memory) → u ≡ false → v ≡ false → S
     → IsEndedBy r u v S
 ran_out r u v S same fine_u fine_v on = stopped_on Not.Memory r u v S same (fine_u, fine_v, on)
-
--- a refusal adds nothing
-pub refused_adds_nothing : (body : Body) → is_refusal body ≡ true → is_addition body ≡ true → ⊥
-refused_adds_nothing (Say.Refused refusal) is adds = absurd cc
-refused_adds_nothing body is adds = absurd cc
 
 -- the line whose reply was judged
 pub adds_at : (event : Event) (reply : Reply) (bytes : List ℕ) (m : SeenMachine) (w : Known) → reply_in (suc (more_lines event w)) bytes ≡ Some reply

@@ -7,10 +7,9 @@ use Rattle.promise_core.specs.Holdings.{told_blocks, can_stand, vacant_blocks, c
 use Rattle.promise_core.specs.Bytes.{holder_of}
 use Rattle.promise_core.specs.State.{opening_state, opening, state_after, owners_after}
 use Rattle.promise_core.specs.Promises.{due, allowed}
-use Rattle.reply_reader.specs.Forms.{number_at, mark_at, form_at}
-use Rattle.reply_reader.specs.Reading.{frame_at, freed_at, written_at, cache_at, destroyed_at, object_at, given_at, reaped_at, refused_at, bytes_of, bytes_at, said_at, tenant_at, admin_at, nobody_at, addressee_at, answer_of}
-use Rattle.reply_reader.specs.Single.{granted_at, taken_at, reset_at, moved_at, fault_at, some_fault_at, body_at, other_of, single_of}
-use Rattle.reply_reader.specs.Tables.{after_front, rows_from, order_at, cache_row_at, top_at, no_top_at, some_top_at, report_at, unowned_at, owned_at, owner_at, pool_at, table_of, reply_of_text}
+use Rattle.check_core.specs.Forms.{number_at, mark_at, form_at}
+use Rattle.check_core.specs.Replies.{frame_at, freed_at, written_at, cache_at, destroyed_at, object_at, given_at, reaped_at, refused_at, bytes_of, bytes_at, said_at, tenant_at, admin_at, nobody_at, addressee_at, answer_of, granted_at, taken_at, reset_at, moved_at, fault_at, some_fault_at, notice_at, rare_at}
+use Rattle.check_core.specs.Tables.{after_front, rows_from, order_at, cache_row_at, top_at, no_top_at, some_top_at, report_at, unowned_at, owned_at, owner_at, pool_at, table_of, reply_of_text}
 use Rattle.check_core.specs.declared.finding.Finding.{Finding}
 use Rattle.check_core.specs.declared.finding.Finding.TheVariants.{Kept, Broken}
 use Rattle.check_core.specs.Finding.{finding_of}
@@ -43,7 +42,7 @@ pub texts_are_found : record {
   -- a faulty line has its fault, and no other
   other_fault : found (codes "frob\n") (codes "!> fault Words\n") ≡ broken_at 1 1 Promise.Form;
 }
-unfolding reading_of reading_of_words event_of words_of told_blocks can_stand vacant_blocks can_be_taken holder_of opening_state opening state_after owners_after due allowed number_at mark_at form_at frame_at freed_at written_at cache_at destroyed_at object_at given_at reaped_at refused_at bytes_of bytes_at said_at tenant_at admin_at nobody_at addressee_at answer_of granted_at taken_at reset_at moved_at fault_at some_fault_at body_at other_of single_of after_front rows_from order_at cache_row_at top_at no_top_at some_top_at report_at unowned_at owned_at owner_at pool_at table_of reply_of_text
+unfolding reading_of reading_of_words event_of words_of told_blocks can_stand vacant_blocks can_be_taken holder_of opening_state opening state_after owners_after due allowed number_at mark_at form_at frame_at freed_at written_at cache_at destroyed_at object_at given_at reaped_at refused_at bytes_of bytes_at said_at tenant_at admin_at nobody_at addressee_at answer_of granted_at taken_at reset_at moved_at fault_at some_fault_at notice_at rare_at after_front rows_from order_at cache_row_at top_at no_top_at some_top_at report_at unowned_at owned_at owner_at pool_at table_of reply_of_text
 texts_are_found = record {
   all_kept = refl;
   not_aligned = refl;

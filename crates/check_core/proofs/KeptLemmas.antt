@@ -15,9 +15,9 @@ use Rattle.promise_core.specs.declared.promise.Promise.{Promise}
 use Rattle.promise_core.specs.State.{Known, opening}
 use Rattle.promise_core.specs.Promises.{allowed, all_allowed}
 use Rattle.promise_kept.specs.Written.{IsAllowedText, told_text}
-use Rattle.reply_reader.specs.Forms.{◌>>=◌}
-use Rattle.reply_reader.specs.Tables.{reply_of_text}
-use Rattle.reply_reader.proofs.ReplyLemmas.{reply_takes}
+use Rattle.check_core.specs.Forms.{◌>>=◌}
+use Rattle.check_core.specs.Tables.{reply_of_text}
+use Rattle.check_core.proofs.ReplyLemmas.{reply_takes}
 use Rattle.check_core.specs.declared.finding.Finding.{Finding}
 use Rattle.check_core.specs.declared.finding.Finding.TheVariants.{Kept}
 use Rattle.check_core.specs.declared.shown.TheConstants.{MOST_TEXT_BYTES}

@@ -1,3 +1,14 @@
+pub mod FormLoop
+pub mod FormLemmas
+pub mod KindLemmas
+pub mod SaidLemmas
+pub mod HexLemmas
+pub mod AnswerLemmas
+pub mod RowLoop
+pub mod RowLemmas
+pub mod TableLemmas
+pub mod ReplyLemmas
+pub mod TableSteps
 pub mod ReadingLemmas
 pub mod Ending
 pub mod CheckLemmas

@@ -13,8 +13,7 @@ use Rattle.words_core.specs.declared.event.Event.{Event}
 use Rattle.words_core.specs.declared.event.LineFault.{LineFault}
 use Rattle.words_core.specs.Cutting.{lines_of_trace}
 use Rattle.words_core.specs.Grammar.{reading_of}
-use Rattle.replay_core.specs.Standing.{IsOneLine}
-use Rattle.replay_core.proofs.LineLemmas.{one_line_cut}
+use Rattle.streams.specs.Lines.{IsOneLine}
 use Rattle.check_core.specs.Finding.{first_line, after_line, has_end, first_lines, after_lines, are_ended}
 use Rattle.check_core.specs.Gathered.{whole_of}
 use Rattle.check_core.specs.Reading.{IsPart, IsPartAtOk, IsNextReading, without_line_feed}
@@ -94,6 +93,10 @@ ended_lines (b ∷ line) rest h = rw h.0 (ap (onto_first b) (ended_lines line re
 
 -- what has no LF
 
+last_line : (b : ℕ) (line : List ℕ) → IsOneLine (b ∷ line) → lines_of_trace (b ∷ line) ≡ (b ∷ line) ∷ []
+last_line b [] h = rw h.0 refl
+last_line b (c ∷ line) h = rw h.0 (ap (onto_first b) (last_line c line h.1))
+
 pub unended_has_end : (line : List ℕ) → IsOneLine line → has_end line ≡ false
 unended_has_end [] h = refl
 unended_has_end (b ∷ line) h = rw h.0 (unended_has_end line h.1)
@@ -157,11 +160,13 @@ pub next_taken : (ended : Bool) (bytes part : List ℕ) (left : Option (List ℕ
 next_taken true bytes part left some consumed is =
     let taken = taken_ended bytes part left consumed is in
     (taken.rest, taken.known, ap (λ lines. map reading_of lines) taken.lines)
-next_taken false bytes part left some consumed is =
+next_taken false bytes [] left some consumed is = absurd (omega arith)
+next_taken false bytes (b ∷ line) left some consumed is =
+    let part = b ∷ line in
     let last = taken_last bytes part left consumed is in (
       [],
       last.0,
-      ap (λ lines. map reading_of lines) (ap lines_of_trace last.1 ∙ one_line_cut part is.0 some ∙ ap (λ line. line ∷ []) (sym (none_off part is.0))),
+      ap (λ lines. map reading_of lines) (ap lines_of_trace last.1 ∙ last_line b line is.0 ∙ ap (λ line. line ∷ []) (sym (none_off part is.0))),
     )
 
 -- nothing was taken

@@ -15,11 +15,11 @@ use Rattle.words_core.specs.Texts.{text_of}
 use Rattle.promise_core.specs.declared.promise.Promise.{Promise}
 use Rattle.promise_core.specs.State.{Known}
 use Rattle.promise_core.specs.Promises.{allowed}
-use Rattle.reply_reader.specs.Tables.{reply_of_text}
+use Rattle.check_core.specs.Tables.{reply_of_text}
 use Rattle.check_core.specs.declared.finding.Finding.{Finding}
 use Rattle.check_core.specs.declared.finding.Finding.TheVariants.{Kept, Broken}
 use Rattle.check_core.specs.declared.shown.TheConstants.{MOST_TEXT_BYTES}
-use Rattle.reply_reader.specs.Forms.{◌>>=◌}
+use Rattle.check_core.specs.Forms.{◌>>=◌}
 use Rattle.check_core.specs.Gathered.{whole_of}
 use Rattle.check_core.specs.Reading.{readings_of}
 

@@ -1,3 +1,7 @@
+pub mod Forms
+pub mod Ranges
+pub mod Replies
+pub mod Tables
 pub mod Gathered
 pub mod Reading
 pub mod Finding

@@ -5,7 +5,7 @@ use Rattle.words_core.specs.declared.event.Event.{Event}
 use Rattle.words_core.specs.declared.event.LineFault.{LineFault}
 use Rattle.words_core.specs.Cutting.{lines_of_trace}
 use Rattle.words_core.specs.Grammar.{reading_of}
-use Rattle.replay_core.specs.Standing.{IsOneLine}
+use Rattle.streams.specs.Lines.{IsOneLine}
 
 -- the bytes that are left, where they are known, how many there are at most, and whether a pull has failed
 pub record Source : Type 0 where

@@ -15,7 +15,7 @@ use crate::shown::{MOST_TEXT_BYTES, Shown};
 use crate::verdicts::judge_line;
 use judge::Machine;
 use promise_core::promise::Promise;
-use replay_core::{Feed, Stopped};
+use streams::{Feed, Stopped};
 
 /// Reads the replies to a trace beside it, each against what the replies before it told, up to the first that is not allowed.
 ///
@@ -42,13 +42,7 @@ pub fn check<T: Feed, R: Feed>(
     let mut reply = 0u128;
     'lines: while let Some(reading) = next_reading(trace, &mut shown.line)? {
         line += 1;
-        match judge_line(
-            machine,
-            &reading,
-            replies,
-            &mut shown.reply,
-            &mut shown.read,
-        )? {
+        match judge_line(machine, &reading, replies, &mut shown.reply)? {
             Ok(lines) => reply += lines,
             Err(promise) => return Ok(broken(line, reply, promise)),
         }

@@ -2,7 +2,7 @@
 
 ghost use Rattle.std.specs.Prelude.{◌≡◌, ℕ, List, [], ◌++◌, ◌<◌, ◌==◌, length, take};
 ghost use Rattle.check_core.specs.Gathered.{Gathers, whole_of};
-ghost use Rattle.reply_reader.specs.Forms.{Gives};
+ghost use Rattle.check_core.specs.Forms.{Gives};
 
 use arrayvec::ArrayVec;
 

@@ -1,21 +1,17 @@
-//! The lines of a reply, gathered and read.
+//! The lines of a reply, gathered.
 
 ghost use Rattle.std.specs.Prelude.{◌≡◌, ℕ, ◌+◌, ◌≤◌, List, [], ◌++◌, Some, Ok, IfOk, length, true, false};
 ghost use Rattle.std.specs.Str.{bytes_eq};
-ghost use Rattle.words_core.specs.Texts.{text_of};
-ghost use Rattle.reply_reader.specs.Reading.{IsRead};
 ghost use Rattle.check_core.specs.Ending.{IsEndedBy};
-ghost use Rattle.check_core.specs.Finding.{after_lines, are_ended, fault_reply, first_lines, tells_fault, text_read};
+ghost use Rattle.check_core.specs.Finding.{after_lines, are_ended, first_lines, tells_fault};
 ghost use Rattle.check_core.specs.Gathered.{Gathers};
 
 use crate::finding::Unchecked;
 use crate::gathered::Gathered;
 use crate::reader::LineReader;
 use crate::shown::MOST_TEXT_BYTES;
-use arrayvec::ArrayVec;
-use replay_core::{Feed, Stopped};
-use reply_reader::read_reply;
-use words_core::{Addressee, Body, LineFault, MOST_REPLY_BYTES, Reply, write_line};
+use streams::{Feed, Stopped};
+use words_core::{Addressee, Answer, LineFault, SHORT_ANSWER_BYTES, write_answer_to};
 
 /// Reads one line, and answers whether it is the reply to a faulty line.
 pub fn reads_fault<F: Feed>(
@@ -30,12 +26,12 @@ pub fn reads_fault<F: Feed>(
     ensures room { result ≡ Ok true → replies.new.room + 1 ≤ replies.old.room }
     ensures end { IsEndedBy result false replies.new.failed ⊥ }
 {
-    let mut due = ArrayVec::<u8, MOST_REPLY_BYTES>::new();
-    write_fault(fault, &mut due);
     if !gather(replies, 1, text)? {
         return Ok(false);
     }
-    Ok(is_text(text, due.as_slice()))
+    let mut due = [0; SHORT_ANSWER_BYTES];
+    let len = write_answer_to(Addressee::Nobody, Answer::Fault(fault), &mut due);
+    Ok(is_text(text, &due[..len]))
 }
 
 /// These bytes were gathered.
@@ -45,27 +41,6 @@ fn is_text(text: &Gathered<MOST_TEXT_BYTES>, due: &[u8]) -> bool
 {
     match text.whole() {
         Some(told) => *told == *due,
-        None => false,
-    }
-}
-
-/// Writes what a faulty line is answered over what `out` held.
-fn write_fault(fault: LineFault, out: &mut ArrayVec<u8, MOST_REPLY_BYTES>)
-    ensures { out.new.items ≡ text_of (fault_reply fault) }
-{
-    let reply = Reply {
-        addressee: Addressee::Nobody,
-        body: Body::Fault(fault),
-    };
-    write_line(&reply, 0, out);
-}
-
-/// Puts what was gathered into `reply`, if it is a reply, and answers whether it is. Else `reply` is as it was.
-pub fn read(text: &Gathered<MOST_TEXT_BYTES>, reply: &mut Reply) -> bool
-    ensures { (came : List ℕ) → Gathers MOST_TEXT_BYTES came text.now → IsRead result reply.old reply.new (text_read came) }
-{
-    match text.whole() {
-        Some(told) => read_reply(told, reply),
         None => false,
     }
 }

@@ -1,24 +1,32 @@
 //! Checks the replies to a trace: what two texts are found to be is a definition, in `specs/`; `check` reads them in step, a line
 //! at a time, and finds it.
+//!
+//! To read a reply is to write it again: what is read is the reply whose text the bytes are, and nothing is read if there is no
+//! such reply.
 #![tactic(auto)]
 
+mod answer;
 mod checking;
 mod finding;
+mod form;
 mod gathered;
 mod gathering;
+mod hexed;
 pub mod laws;
 mod lines;
 mod reader;
+mod said;
 mod short;
 mod shown;
+mod table;
 mod taken;
 mod verdicts;
 
+pub use answer::read_answer;
 pub use checking::check;
 pub use finding::{Breach, Finding, Unchecked};
 pub use gathered::Gathered;
-pub use gathering::{gather, read, reads_fault};
-pub use lines::next_reading;
 pub use reader::LineReader;
 pub use shown::{MOST_PART_BYTES, MOST_TEXT_BYTES, Shown};
+pub use table::read_table;
 pub use taken::{TakenFrame, taken_frame};

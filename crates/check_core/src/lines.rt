@@ -11,7 +11,7 @@ use crate::gathered::Gathered;
 use crate::reader::LineReader;
 use crate::short::read_short;
 use crate::shown::MOST_PART_BYTES;
-use replay_core::Feed;
+use streams::Feed;
 use words_core::{Event, LineFault, read_line};
 
 /// What the next line of a trace says; None where there is none.

@@ -6,8 +6,8 @@ ghost use Rattle.check_core.specs.Gathered.{Gathers};
 ghost use Rattle.check_core.specs.Reading.{IsPartAtOk};
 
 use crate::gathered::Gathered;
-use replay_core::{Feed, Stopped, line_end};
 use std::marker::Model;
+use streams::{Feed, Stopped, line_end};
 
 /// How many bytes are asked for in one pull.
 const PIECE_BYTES: usize = 65_536;

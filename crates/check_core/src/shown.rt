@@ -1,11 +1,11 @@
 //! The line that is being checked, and its reply.
 
+use crate::answer::read_answer;
 use crate::gathered::Gathered;
-use crate::gathering::read;
 use crate::lines::reading;
 use crate::taken::{TakenFrame, taken_frame};
 use judge::Machine;
-use words_core::{Addressee, Body, Reply};
+use model_core::limits::MOST_BYTES;
 
 /// A line of a trace has at most 255 bytes, and then may have a carriage return and a line feed.
 pub const MOST_PART_BYTES: usize = 257;
@@ -18,8 +18,6 @@ pub const MOST_TEXT_BYTES: usize = 65_792;
 pub struct Shown {
     pub line: Gathered<MOST_PART_BYTES>,
     pub reply: Gathered<MOST_TEXT_BYTES>,
-    /// The last reply that was read. It is kept from line to line, since a place for one is large, and costs much to clear.
-    pub(crate) read: Reply,
     /// What is in the way of the page block that the reply tells, where that was looked for.
     pub taken: Option<TakenFrame>,
 }
@@ -30,7 +28,6 @@ impl Shown {
         Shown {
             line: Gathered::new(),
             reply: Gathered::new(),
-            read: no_reply(),
             taken: None,
         }
     }
@@ -40,16 +37,12 @@ impl Shown {
         let Ok(Some(event)) = reading(&self.line) else {
             return;
         };
-        if read(&self.reply, &mut self.read) {
-            self.taken = taken_frame(machine, &event, &self.read.body);
+        let Some(text) = self.reply.whole() else {
+            return;
+        };
+        let mut buffer = [0; MOST_BYTES];
+        if let Some((_, answer)) = read_answer(text, &mut buffer) {
+            self.taken = taken_frame(machine, &event, &answer);
         }
-    }
-}
-
-/// What stands in the place for a reply before the first is read: any does.
-fn no_reply() -> Reply {
-    Reply {
-        addressee: Addressee::Nobody,
-        body: Body::Given,
     }
 }

@@ -1,12 +1,13 @@
 //! What is in the way of a page block that is told.
 
 ghost use Rattle.std.specs.Prelude.{◌≡◌, option_map};
+ghost use Rattle.words_core.specs.Requests.{body_of_answer};
 ghost use Rattle.check_core.specs.Taken.{page_in_way};
 
 use judge::Machine;
 use judge_core::FrameBlock;
 use model_core::limits::MOST_ORDER;
-use words_core::{Body, Command, Event};
+use words_core::{Answer, Command, Event};
 
 /// A frame of a page block that is told, and the live page block that has it already.
 #[derive(Clone, Copy, Debug)]
@@ -15,13 +16,13 @@ pub struct TakenFrame {
     pub page: FrameBlock,
 }
 
-/// What is in the way of the page block that a reply of this body to the event tells: the first live page block of the tenant
+/// What is in the way of the page block that this answer to the event tells: the first live page block of the tenant
 /// that has a frame of it, if one has.
-pub fn taken_frame(machine: &Machine, event: &Event, body: &Body) -> Option<TakenFrame>
-    ensures { option_map (λ taken. taken.page) result ≡ page_in_way machine.now event.now body.now }
+pub fn taken_frame(machine: &Machine, event: &Event, answer: &Answer<'_>) -> Option<TakenFrame>
+    ensures { option_map (λ taken. taken.page) result ≡ page_in_way machine.now event.now (body_of_answer answer.now) }
 {
-    match (event, body) {
-        (Event::Tenant(tenant, Command::Alloc { order }), Body::Frame(frame)) => {
+    match (event, answer) {
+        (Event::Tenant(tenant, Command::Alloc { order }), Answer::Frame(frame)) => {
             if *order > u32::from(MOST_ORDER) {
                 return None;
             }

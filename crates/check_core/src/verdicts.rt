@@ -1,25 +1,28 @@
 //! Verdicts on the reply to one line.
 
-ghost use Rattle.std.specs.Prelude.{◌≡◌, ℕ, ◌+◌, ◌<◌, ◌≤◌, ◌^◌, List, [], Some, Ok, IfOk, false, true, suc};
+ghost use Rattle.std.specs.Prelude.{◌≡◌, ℕ, ◌+◌, ◌<◌, ◌≤◌, ◌^◌, List, [], Option, Some, Ok, IfOk, false};
+ghost use Rattle.words_core.specs.declared.reply.Reply.{Reply};
 ghost use Rattle.promise_core.specs.State.{Known};
-ghost use Rattle.promise_core.specs.Promises.{allowed};
-ghost use Rattle.reply_reader.specs.Reading.{IsRead};
 ghost use Rattle.judge.specs.Adding.{IsAllowedAddition};
 ghost use Rattle.judge.specs.Machine.{ShowsKnown};
-ghost use Rattle.check_core.specs.Checking.{IsFaultVerdict, IsLineVerdict, IsReplyVerdict};
+ghost use Rattle.check_core.specs.Checking.{IsFaultVerdict, IsLineVerdict, IsRefusalRead, IsTextVerdict};
 ghost use Rattle.check_core.specs.Ending.{AddsAt, IsEndedBy};
-ghost use Rattle.check_core.specs.Finding.{after_lines, are_ended, broken_by, first_lines, is_refusal, more_lines, reply_in};
+ghost use Rattle.check_core.specs.Finding.{broken_by, more_lines, text_read};
 ghost use Rattle.check_core.specs.Gathered.{Gathers};
+ghost use Rattle.check_core.specs.Tables.{table_of};
 
+use crate::answer::read_answer;
 use crate::finding::Unchecked;
 use crate::gathered::Gathered;
-use crate::gathering::{gather, read, reads_fault};
+use crate::gathering::{gather, reads_fault};
 use crate::reader::LineReader;
 use crate::shown::MOST_TEXT_BYTES;
-use judge::Machine;
+use crate::table::read_table;
+use judge::{Machine, Verdict};
+use model_core::limits::MOST_BYTES;
 use promise_core::promise::Promise;
-use replay_core::Feed;
-use words_core::{AdminCommand, Body, Command, Event, LineFault, Reply};
+use streams::Feed;
+use words_core::{Addressee, AdminCommand, Answer, Command, Event, LineFault, Refusal};
 
 /// That the reply to a line is allowed, and how many lines it has; or the first promise that it breaks.
 pub(crate) type LineVerdict = Result<u128, Promise>;
@@ -30,7 +33,6 @@ pub(crate) fn judge_line<R: Feed>(
     reading: &Result<Option<Event>, LineFault>,
     replies: &mut LineReader<R>,
     text: &mut Gathered<MOST_TEXT_BYTES>,
-    reply: &mut Reply,
 ) -> Result<LineVerdict, Unchecked>
     requires fine { replies.old.failed ≡ false }
     ensures judged { (w : Known) (bytes : List ℕ) → ShowsKnown machine.old w → replies.old.left ≡ Some bytes
@@ -44,7 +46,7 @@ pub(crate) fn judge_line<R: Feed>(
         Err(fault) => judge_fault(*fault, replies, text),
         Ok(read) => match read {
             None => Ok(Ok(0)),
-            Some(event) => judge_event(machine, event, replies, text, reply),
+            Some(event) => judge_event(machine, event, replies, text),
         },
     }
 }
@@ -76,7 +78,6 @@ fn judge_event<R: Feed>(
     event: &Event,
     replies: &mut LineReader<R>,
     text: &mut Gathered<MOST_TEXT_BYTES>,
-    reply: &mut Reply,
 ) -> Result<LineVerdict, Unchecked>
     requires fine { replies.old.failed ≡ false }
     requires empty { Gathers MOST_TEXT_BYTES [] text.old }
@@ -88,9 +89,9 @@ fn judge_event<R: Feed>(
 {
     let more = more_lines(machine, event);
     if more == 0 {
-        judge_single(machine, event, replies, text, reply)
+        judge_single(machine, event, replies, text)
     } else {
-        judge_table(machine, event, more, replies, text, reply)
+        judge_lines(machine, event, more, replies, text)
     }
 }
 
@@ -100,7 +101,6 @@ fn judge_single<R: Feed>(
     event: &Event,
     replies: &mut LineReader<R>,
     text: &mut Gathered<MOST_TEXT_BYTES>,
-    reply: &mut Reply,
 ) -> Result<LineVerdict, Unchecked>
     requires fine { replies.old.failed ≡ false }
     requires empty { Gathers MOST_TEXT_BYTES [] text.old }
@@ -114,22 +114,21 @@ fn judge_single<R: Feed>(
     if !gather(replies, 1, text)? {
         return Ok(Err(Promise::Form));
     }
-    if read(text, reply) {
-        judge_reply(machine, event, reply, 1)
-    } else {
-        Ok(Err(Promise::Form))
+    match judge_text(machine, event, text)? {
+        Some(Ok(())) => Ok(Ok(1)),
+        Some(Err(promise)) => Ok(Err(promise)),
+        None => Ok(Err(Promise::Form)),
     }
 }
 
 /// Reads the reply to an event that has so many lines behind the first, and judges it.
 #[inline(never)]
-fn judge_table<R: Feed>(
+fn judge_lines<R: Feed>(
     machine: &mut Machine,
     event: &Event,
     more: u128,
     replies: &mut LineReader<R>,
     text: &mut Gathered<MOST_TEXT_BYTES>,
-    reply: &mut Reply,
 ) -> Result<LineVerdict, Unchecked>
     requires fine { replies.old.failed ≡ false }
     requires empty { Gathers MOST_TEXT_BYTES [] text.old }
@@ -144,77 +143,79 @@ fn judge_table<R: Feed>(
     if !gather(replies, 1, text)? {
         return Ok(Err(Promise::Form));
     }
-    let is_first = read(text, reply);
-    if read_more(more, replies, text, reply)? {
-        judge_reply(machine, event, reply, more + 1)
-    } else if is_first {
-        Ok(Err(broken_by(machine, event, reply)?))
-    } else {
-        Ok(Err(Promise::Form))
+    let refused = refusal_in(text);
+    if !gather(replies, more, text)? {
+        return Ok(Err(broken_by(machine, event, refused)?));
+    }
+    match judge_text(machine, event, text)? {
+        Some(Ok(())) => Ok(Ok(more + 1)),
+        Some(Err(promise)) => Ok(Err(promise)),
+        None => Ok(Err(broken_by(machine, event, refused)?)),
     }
 }
 
-/// Puts into `reply` what is read from a line that was gathered and so many behind it, if they are a reply, and answers whether they
-/// are. Else `reply` is as it was.
-fn read_more<R: Feed>(
-    more: u128,
-    replies: &mut LineReader<R>,
-    text: &mut Gathered<MOST_TEXT_BYTES>,
-    reply: &mut Reply,
-) -> Result<bool, Unchecked>
-    requires fine { replies.old.failed ≡ false }
-    ensures found { (bytes : List ℕ) → are_ended 1 bytes ≡ true → Gathers MOST_TEXT_BYTES (first_lines 1 bytes) text.old
-        → replies.old.left ≡ Some (after_lines 1 bytes)
-        → IfOk result (λ is_read. IsRead is_read reply.old reply.new (reply_in (suc more) bytes)) }
-    ensures left { (bytes : List ℕ) → replies.old.left ≡ Some bytes
-        → result ≡ Ok true → replies.new.left ≡ Some (after_lines more bytes) }
-    ensures room { result ≡ Ok true → replies.new.room + more ≤ replies.old.room }
-    ensures end { IsEndedBy result false replies.new.failed ⊥ }
-{
-    if gather(replies, more, text)? {
-        Ok(read(text, reply))
-    } else {
-        Ok(false)
-    }
-}
-
-/// Judges a reply of so many lines.
-fn judge_reply(
+/// Judges what was gathered as the reply to an event; `None` if it is no reply.
+#[inline(always)]
+fn judge_text(
     machine: &mut Machine,
     event: &Event,
-    reply: &Reply,
-    lines: u128,
-) -> Result<LineVerdict, Unchecked>
-    ensures judged { (w : Known) → ShowsKnown machine.old w
-        → IfOk result (λ verdict. IsReplyVerdict verdict lines (allowed event.now reply.now w) machine.new) }
-    ensures lines { IfOk result (λ verdict. IfOk verdict (λ told. told ≡ lines)) }
-    ensures end { IsEndedBy result false false (IsAllowedAddition event.now reply.now machine.old) }
+    text: &Gathered<MOST_TEXT_BYTES>,
+) -> Result<Option<Verdict>, Unchecked>
+    ensures judged { (w : Known) (came : List ℕ) → ShowsKnown machine.old w → Gathers MOST_TEXT_BYTES came text.now
+        → IfOk result (λ verdict. IsTextVerdict verdict event.now (text_read came) w machine.new) }
+    ensures end { IsEndedBy result false false ((came : List ℕ) → Gathers MOST_TEXT_BYTES came text.now
+        → (reply : Reply) × (text_read came ≡ Some reply) × IsAllowedAddition event.now reply machine.old) }
 {
-    match machine.judge(event, reply)? {
-        Ok(()) => Ok(Ok(lines)),
-        Err(promise) => Ok(Err(promise)),
+    let Some(bytes) = text.whole() else {
+        return Ok(None);
+    };
+    let mut buffer = [0; MOST_BYTES];
+    match read_answer(bytes, &mut buffer) {
+        Some((addressee, answer)) => Ok(Some(machine.judge(event, addressee, &answer)?)),
+        None => Ok(judge_table(machine, event, bytes)),
     }
 }
 
-/// The promise that is broken where the lines are no reply, and the first of them alone is this one.
-fn broken_by(machine: &mut Machine, event: &Event, first: &Reply) -> Result<Promise, Unchecked>
-    ensures broken { (w : Known) → ShowsKnown machine.old w
-        → IfOk result (λ promise. promise ≡ broken_by event.now (Some first.now) w) }
+/// The same of a table. Space for one is cleared when this is entered, so nothing else does it.
+#[cold]
+#[inline(never)]
+fn judge_table(machine: &mut Machine, event: &Event, text: &[u8]) -> Option<Verdict>
+    ensures { (w : Known) → ShowsKnown machine.old w → IsTextVerdict result event.now (table_of text.now) w machine.new }
+{
+    let table = read_table(text)?;
+    Some(machine.judge_table(event, &table))
+}
+
+/// The refusal that was gathered, and whom it is for.
+fn refusal_in(text: &Gathered<MOST_TEXT_BYTES>) -> Option<(Addressee, Refusal)>
+    ensures { (came : List ℕ) → Gathers MOST_TEXT_BYTES came text.now → IsRefusalRead result (text_read came) }
+{
+    let bytes = text.whole()?;
+    let mut buffer = [0; MOST_BYTES];
+    let (addressee, answer) = read_answer(bytes, &mut buffer)?;
+    match answer {
+        Answer::Refused(refusal) => Some((addressee, refusal)),
+        _ => None,
+    }
+}
+
+/// The promise that is broken where the lines are no reply, and the first of them alone is this refusal, or none.
+fn broken_by(
+    machine: &mut Machine,
+    event: &Event,
+    refused: Option<(Addressee, Refusal)>,
+) -> Result<Promise, Unchecked>
+    ensures broken { (w : Known) (first : Option Reply) → ShowsKnown machine.old w → IsRefusalRead refused first
+        → IfOk result (λ promise. promise ≡ broken_by event.now first w) }
     ensures end { IsEndedBy result false false ⊥ }
 {
-    if !is_refusal(&first.body) {
+    let Some((addressee, refusal)) = refused else {
         return Ok(Promise::Form);
-    }
-    match machine.judge(event, first)? {
+    };
+    match machine.judge(event, addressee, &Answer::Refused(refusal))? {
         Ok(()) => Ok(Promise::Form),
         Err(promise) => Ok(promise),
     }
-}
-
-fn is_refusal(body: &Body) -> bool
-    ensures { result ≡ is_refusal body.now }
-{
-    matches!(body, Body::Refused(_))
 }
 
 /// How many lines the reply to an event has behind the first.

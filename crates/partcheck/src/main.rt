@@ -30,13 +30,13 @@ use command_line::{
     FileError, Outcome, Progress, ProgressReader, WatchedReader, hand_out, progress_in, tell,
     tell_file, texts_of, words_given,
 };
-use replay_core::ReaderFeed;
 use run::run;
 use settings::{PROGRAM, Settings};
 use std::fs::File;
 use std::io::{self, BufWriter, IsTerminal, Read, Write};
 use std::process::ExitCode;
 use std::rt::{Clock, Env, Files};
+use streams::ReaderFeed;
 use telling::write_finding;
 use words::read_words;
 

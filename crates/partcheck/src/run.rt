@@ -9,10 +9,10 @@ ghost use Rattle.partcheck.specs.Checked.{IsSoundFinding, opening_of};
 
 use check_core::{Finding, LineReader, Shown, Unchecked, check, laws};
 use judge::Machine;
-use kernel_core::Config;
-use replay_core::Feed;
+use model_core::config::Config;
 use std::alloc::Global;
 use std::mem;
+use streams::Feed;
 
 /// Checks the replies to a trace on a machine of these sizes, of which nothing was granted before; `shown` holds at the end what
 /// [`check`] says.

@@ -4,7 +4,7 @@ ghost use Rattle.std.specs.Prelude.{◌≡◌, true};
 ghost use Rattle.model_core.specs.Booting.{is_bootable};
 
 use command_line::Program;
-use kernel_core::Config;
+use model_core::config::Config;
 
 /// What this program tells of itself.
 pub const PROGRAM: Program<'static> = Program {

@@ -11,5 +11,5 @@ returns-clause-told g c bytes known =
     let ended : are_ended 1 bytes ≡ true = sym (c.in_ok-gather.ensures.ended bytes known) ∙ e in
     let came = c.in_ok-gather.ensures.came bytes [] known c.requires.empty (rw e refl) in
     c.is_text.ensures (first_lines 1 bytes) came
-    ∙ ap (λ (due : List ℕ). bytes_eq (first_lines 1 bytes) due) (c.as_slice.ensures.value ∙ c.write_fault.ensures)
+    ∙ ap (λ (due : List ℕ). bytes_eq (first_lines 1 bytes) due) c.write_answer_to-len.ensures.text
     ∙ sym (ap (λ (b : Bool). b && bytes_eq (first_lines 1 bytes) (text_of (fault_reply c.args.fault))) ended)

@@ -2,7 +2,7 @@ use Rattle.std.proofs.Common.{◌≡◌, ℕ, ◌+◌, ◌-◌, ◌<◌, ◌≤�
 use Rattle.std.proofs.lemmas.List.{append-nil, drop-take, drop-drop, drop_all, length-take, take-append-drop}
 use Rattle.std.specs.Io.KnownBytes.{Consumes, prepend_known}
 use Rattle.check_core.specs.Gathered.{Gathers}
-use Rattle.replay_core.proofs.LineLemmas.{found_cut, none_cut, one_line_append}
+use Rattle.streams.proofs.LineLemmas.{found_cut, none_cut, one_line_append}
 use Rattle.streams.proofs.MoveLemmas.{consumes_nothing, consumes_more}
 use Rattle.check_core.proofs.ReadingLemmas.{at_end, gives_front, gives_held, gives_none, part_at_err, with_feed}
 use Rattle.check_core.proofs.reader.LineReader.next.Goals as goal

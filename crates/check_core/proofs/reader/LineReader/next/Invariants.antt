@@ -1,6 +1,6 @@
 use Rattle.std.proofs.Common.{◌≡◌, ℕ, ◌≤◌, List, ◌++◌, false, ◌+◌, ◌-◌, length, take, drop}
 use Rattle.std.specs.Io.KnownBytes.{Consumes, prepend_known}
-use Rattle.replay_core.specs.Standing.{IsOneLine}
+use Rattle.streams.specs.Lines.{IsOneLine}
 use Rattle.check_core.specs.Gathered.{Gathers}
 use Rattle.check_core.proofs.reader.LineReader.next.Given as goal
 

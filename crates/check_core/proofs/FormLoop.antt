@@ -1,0 +1,103 @@
+-- The numbers of a form, one after the other.
+use Rattle.std.proofs.Common.{◌≡◌, ℕ, suc, ◌+◌, Bool, true, false, cond, List, [], ◌∷◌, ◌++◌, Option, Some, None, refl, sym, ◌∙◌, ap, append-nil, append_assoc, arith, ◌<◌, length, get_or, drop, drop-cons}
+use Rattle.std.specs.Prelude.{count_by, ◌==◌}
+use Rattle.std.proofs.lemmas.List.Sums.{sum_by-cons}
+use Rattle.check_core.specs.Forms.{◌>>=◌, number_at, letter_at, mark_at, onto, form_at}
+
+-- these numbers before those that were found
+abbrev pub with_front : List ℕ → Option (List ℕ × List ℕ) → Option (List ℕ × List ℕ)
+with_front front found = found >>= (λ others. Some (front ++ others.0, others.1))
+
+onto_front : (front : List ℕ) (number : Option ℕ) (found : Option (List ℕ × List ℕ))
+    → with_front front (found >>= (λ others. Some (onto number others.0, others.1))) ≡ with_front (front ++ onto number []) found
+onto_front front number None = refl
+onto_front front None (Some others) = ap (λ numbers. Some (numbers ++ others.0, others.1)) (sym (append-nil front))
+onto_front front (Some n) (Some others) = ap (λ numbers. Some (numbers, others.1)) (sym (append_assoc front (n ∷ []) others.0))
+
+-- one more byte of the form
+pub goes_on : (front form next rest after : List ℕ) (mark : ℕ) (number : Option ℕ) (total : Option (List ℕ × List ℕ))
+    → form ≡ mark ∷ next → mark_at mark rest ≡ Some (number, after) → with_front front (form_at form rest) ≡ total
+    → with_front (front ++ onto number []) (form_at next after) ≡ total
+unfolding form_at
+goes_on front form next rest after mark number total form_is found so_far =
+    sym (onto_front front number (form_at next after))
+    ∙ sym (ap (λ first. with_front front (first >>= (λ first. form_at next first.1 >>= (λ others. Some (onto first.0 others.0, others.1))))) found)
+    ∙ sym (ap (λ form. with_front front (form_at form rest)) form_is)
+    ∙ so_far
+
+pub ends_early : (front form next rest : List ℕ) (mark : ℕ) (total : Option (List ℕ × List ℕ))
+    → form ≡ mark ∷ next → mark_at mark rest ≡ None → with_front front (form_at form rest) ≡ total → total ≡ None
+unfolding form_at
+ends_early front form next rest mark total form_is none so_far =
+    sym so_far
+    ∙ ap (λ form. with_front front (form_at form rest)) form_is
+    ∙ ap (λ first. with_front front (first >>= (λ first. form_at next first.1 >>= (λ others. Some (onto first.0 others.0, others.1))))) none
+
+pub is_done : (front form rest : List ℕ) (total : Option (List ℕ × List ℕ))
+    → form ≡ [] → with_front front (form_at form rest) ≡ total → total ≡ Some (front, rest)
+unfolding form_at
+is_done front form rest total form_is so_far =
+    sym so_far
+    ∙ ap (λ form. with_front front (form_at form rest)) form_is
+    ∙ ap (λ numbers. Some (numbers, rest)) (append-nil front)
+
+abbrev Found : Type 0
+Found = Option (Option ℕ × List ℕ)
+
+abbrev letter : ℕ → List ℕ → Found
+letter b text = Some (None, text)
+
+abbrev numbered : Option (ℕ × List ℕ) → Found
+numbered found = found >>= (λ number. Some (Some number.0, number.1))
+
+-- 2 of a number, 1 of another byte
+abbrev kind : Found → ℕ
+kind None = 0
+kind (Some (None, text)) = 1
+kind (Some (Some n, text)) = 2
+
+not_letter : (same : Bool) (b n : ℕ) (text after : List ℕ) → cond same (letter b text) None ≡ Some (Some n, after) → ⊥
+not_letter true b n text after e = omega (arith, ap kind e)
+not_letter false b n text after e = omega (arith, ap kind e)
+
+is_number : (test : Bool) (found : Option (ℕ × List ℕ)) (mark n : ℕ) (text after : List ℕ)
+    → cond test (numbered found) (letter_at mark text) ≡ Some (Some n, after) → test ≡ true
+is_number true found mark n text after e = refl
+is_number false found mark n [] after e = absurd (omega (arith, ap kind e))
+is_number false found mark n (b ∷ text) after e = absurd (not_letter (b == mark) b n text after e)
+
+-- only a mark gives a number
+pub mark_is : (mark n : ℕ) (text after : List ℕ) → mark_at mark text ≡ Some (Some n, after) → (mark == 35) ≡ true
+unfolding mark_at
+mark_is mark n text after e = is_number (mark == 35) (number_at text) mark n text after e
+
+is_letter : (test : Bool) (found : Option (ℕ × List ℕ)) (other : Found) (after : List ℕ)
+    → cond test (numbered found) other ≡ Some (None, after) → test ≡ false
+is_letter false found other after e = refl
+is_letter true None other after e = absurd (omega (arith, ap kind e))
+is_letter true (Some (n, text)) other after e = absurd (omega (arith, ap kind e))
+
+pub letter_is : (mark : ℕ) (text after : List ℕ) → mark_at mark text ≡ Some (None, after) → (mark == 35) ≡ false
+unfolding mark_at
+letter_is mark text after e = is_letter (mark == 35) (number_at text) (letter_at mark text) after e
+
+-- the form from a byte of it on
+pub left_from : (form : List ℕ) (k : ℕ) → k < length form → drop k form ≡ get_or form k 0 ∷ drop (k + 1) form
+left_from form k within =
+    let next : suc k ≡ k + 1 = omega arith in drop-cons form k 0 within ∙ ap (λ n. get_or form k 0 ∷ drop n form) next
+
+abbrev pub marks : List ℕ → ℕ
+marks form = count_by (λ b. b == 35) form
+
+pub first_mark : (form next : List ℕ) (mark : ℕ) (is : Bool) → form ≡ mark ∷ next → (mark == 35) ≡ is → marks form ≡ cond is 1 0 + marks next
+first_mark form next mark is form_is test =
+    ap marks form_is ∙ sum_by-cons (λ b. cond (b == 35) 1 0) mark next ∙ ap (λ test. cond test 1 0 + marks next) test
+
+pub one_mark_less : (form next rest after : List ℕ) (mark n : ℕ) → form ≡ mark ∷ next → mark_at mark rest ≡ Some (Some n, after)
+    → marks form ≡ 1 + marks next
+one_mark_less form next rest after mark n form_is found = first_mark form next mark true form_is (mark_is mark n rest after found)
+
+pub as_many_marks : (form next rest after : List ℕ) (mark : ℕ) → form ≡ mark ∷ next → mark_at mark rest ≡ Some (None, after)
+    → marks form ≡ marks next
+as_many_marks form next rest after mark form_is found =
+    first_mark form next mark false form_is (letter_is mark rest after found) ∙ omega arith

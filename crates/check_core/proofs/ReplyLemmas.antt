@@ -1,0 +1,74 @@
+-- A reply is what its whole text was read as.
+use Rattle.std.proofs.Common.{◌≡◌, ℕ, Bool, true, false, cond, List, ◌++◌, Option, Some, None, refl, sym, ◌∙◌, ap}
+use Rattle.std.specs.Prelude.{MatchOption}
+use Rattle.std.proofs.lemmas.Option.{same_Some}
+use Rattle.words_core.specs.Texts.{addressee_text, text_of}
+use Rattle.words_core.specs.Requests.{body_of_answer, is_table, reply_to, HasFewBytes}
+use Rattle.words_core.specs.declared.answer.Answer.{Answer}
+use Rattle.words_core.specs.declared.answer.Answer.TheVariants as Told
+use Rattle.words_core.specs.declared.reply.Addressee.{Addressee}
+use Rattle.words_core.specs.declared.reply.Reply.{Reply}
+use Rattle.words_core.specs.declared.reply.Body.{Body}
+use Rattle.words_core.specs.declared.reply.Body.TheVariants.{Owners, Report, Bytes}
+use Rattle.check_core.specs.Ranges.{AddresseeFits, BodyFits, Fits}
+use Rattle.check_core.specs.Forms.{◌>>=◌, Gives, mark_at, form_at}
+use Rattle.check_core.specs.Replies.{said_at, written_at, bytes_at, frame_at, freed_at, object_at, given_at, refused_at, cache_at, destroyed_at, reaped_at, granted_at, taken_at, reset_at, moved_at, fault_at, some_fault_at, notice_at, rare_at, answer_of}
+use Rattle.check_core.specs.Tables.{table_of, reply_of_text}
+use Rattle.check_core.proofs.KindLemmas.{either}
+use Rattle.check_core.proofs.SaidLemmas.{IsAnswer}
+use Rattle.check_core.proofs.AnswerLemmas.{said_of, alone_of, addressee_again, answer_takes, answer_again}
+use Rattle.check_core.proofs.TableLemmas.{report_lines, report_text, pool_lines, pool_text, table_takes, report_read_again, pool_read_again}
+
+-- what was read is the reply whose text it is
+pub reply_takes : (text : List ℕ) (reply : Reply) → reply_of_text text ≡ Some reply → text_of reply ≡ text
+unfolding reply_of_text
+reply_takes text reply e = either (answer_of text) (table_of text) reply e (λ e. (answer_takes text reply e).0) (λ e. (table_takes text reply e).0)
+
+-- ---- answers
+
+pub few_bytes : (answer : Answer) → IsAnswer (body_of_answer answer) → HasFewBytes answer
+few_bytes (Told.Bytes bytes) few = few
+few_bytes _ _ = tt
+
+no_answer : (text : List ℕ) (who : Addressee) (lines : List ℕ) → AddresseeFits who → text ≡ addressee_text who ++ lines
+    → said_at lines ≡ None → answer_of text ≡ None
+unfolding answer_of
+no_answer text who lines fits is none =
+    ap answer_of is ∙ ap (λ front. front >>= said_of) (addressee_again who lines fits) ∙ ap (λ found. found >>= alone_of who) none
+
+again : (text : List ℕ) (who : Addressee) (body : Body) → AddresseeFits who → BodyFits body
+    → text_of (record { addressee = who; body = body }) ≡ text
+    → answer_of text ≡ cond (is_table body) None (Some (record { addressee = who; body = body }))
+unfolding said_at rare_at notice_at written_at bytes_at frame_at freed_at object_at given_at refused_at cache_at destroyed_at reaped_at granted_at taken_at reset_at moved_at some_fault_at fault_at form_at mark_at
+again text who (Owners owners) who_fits fits is =
+    no_answer text who (pool_lines (addressee_text who) owners.items) who_fits (sym is ∙ pool_text (addressee_text who) owners.items) refl
+again text who (Report report) who_fits fits is =
+    no_answer text who (report_lines (addressee_text who) report) who_fits (sym is ∙ report_text (addressee_text who) report) refl
+again text who (Bytes bytes) who_fits fits is =
+    answer_again text (record { addressee = who; body = Bytes bytes }) fits.1 (who_fits, fits) is
+again text who body who_fits fits is = answer_again text (record { addressee = who; body = body }) tt (who_fits, fits) is
+
+only : (is : Bool) (text : List ℕ) (due : Reply) (found : Option (Addressee × Answer)) → Gives (λ found. reply_to found.0 found.1) found (answer_of text)
+    → answer_of text ≡ cond is None (Some due) → MatchOption found (is ≡ true) (λ found. reply_to found.0 found.1 ≡ due)
+only true text due None none e = refl
+only false text due None none e = let no : None ≡ Some due = sym none ∙ e in absurd cc
+only true text due (Some found) is e = let no : None ≡ Some (reply_to found.0 found.1) = sym e ∙ is in absurd cc
+only false text due (Some found) is e = same_Some (reply_to found.0 found.1) due (sym is ∙ e)
+
+-- the text of a reply is read as it, if it is no table
+pub answer_only : (text : List ℕ) (due : Reply) (found : Option (Addressee × Answer)) → Gives (λ found. reply_to found.0 found.1) found (answer_of text)
+    → Fits due → text_of due ≡ text → MatchOption found (is_table due.body ≡ true) (λ found. reply_to found.0 found.1 ≡ due)
+answer_only text due found is fits same =
+    only (is_table due.body) text due found is (again text due.addressee due.body fits.0 fits.1 same)
+
+-- ---- tables
+
+table_again : (text : List ℕ) (who : Addressee) (body : Body) → AddresseeFits who → BodyFits body → is_table body ≡ true
+    → text_of (record { addressee = who; body = body }) ≡ text → table_of text ≡ Some (record { addressee = who; body = body })
+table_again text who (Owners owners) who_fits fits table is = pool_read_again text who owners who_fits fits.0 fits.1 is
+table_again text who (Report report) who_fits fits table is = report_read_again text who report who_fits fits is
+table_again text who _ who_fits fits table is = absurd cc
+
+-- the text of a table is read as it
+pub table_only : (text : List ℕ) (due : Reply) → Fits due → is_table due.body ≡ true → text_of due ≡ text → table_of text ≡ Some due
+table_only text due fits table is = table_again text due.addressee due.body fits.0 fits.1 table is

@@ -1,0 +1,13 @@
+use Rattle.std.proofs.Common.{◌≡◌, ◌+◌, drop}
+use Rattle.std.specs.Prelude.{count_by, ◌==◌}
+use Rattle.arrayvec.specs.ArrayVec.{array_vec_len}
+use Rattle.check_core.specs.Forms.{form_at}
+use Rattle.check_core.proofs.FormLoop.{with_front}
+use Rattle.check_core.proofs.form.form_at.Given as goal
+
+-- the numbers so far, and those to come
+abbrev pub invariant-loop-mark : goal.invariant-loop-mark
+invariant-loop-mark g l = record {
+  all : with_front l.numbers.items (form_at (drop l.mark-index l.form) l.rest) ≡ form_at l.form l.text;
+  marks : array_vec_len l.numbers + count_by (λ b. b == 35) (drop l.mark-index l.form) ≡ g.row.N;
+}

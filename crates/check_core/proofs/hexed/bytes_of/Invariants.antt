@@ -1,0 +1,15 @@
+use Rattle.std.proofs.Common.{◌≡◌, ◌+◌, ◌*◌, ◌++◌, take, length}
+use Rattle.hex.specs.Hex.{encode_lower, IsBytes}
+use Rattle.check_core.proofs.hexed.bytes_of.Given as goal
+
+-- the digits of the bytes so far, and those to come
+abbrev pub invariant-pairs : goal.invariant-pairs
+invariant-pairs l = record {
+  text : encode_lower (take l.count l.room) ++ l.rest ≡ l.word;
+  size : 2 * l.count + length l.rest ≡ length l.word;
+  bytes : IsBytes (take l.count l.room);
+  full : length l.room ≡ 64;
+}
+
+abbrev pub decreases-pairs : goal.decreases-pairs
+decreases-pairs l = length l.rest

@@ -1,0 +1,31 @@
+use Rattle.std.proofs.Common.{Option, Some, refl, sym, subst}
+use Rattle.words_core.specs.Requests.{reply_to}
+use Rattle.words_core.specs.declared.reply.Reply.{Reply}
+use Rattle.check_core.specs.Checking.{IsTextVerdict}
+use Rattle.check_core.specs.Tables.{table_of}
+use Rattle.check_core.proofs.CheckLemmas.{as_answer, as_table, read_so}
+use Rattle.check_core.proofs.Ending.{ran_out}
+use Rattle.check_core.proofs.verdicts.judge_text.Goals as goal
+
+pub returns-in_err-judge-in-Some-read_answer-clause-end : goal.returns-in_err-judge-in-Some-read_answer-clause-end
+returns-in_err-judge-in-Some-read_answer-clause-end c =
+    let reply : Reply = reply_to c.in-Some-read_answer.addressee c.in-Some-read_answer.answer in
+    ran_out c.from_residual.result _ _ _ c.from_residual.ensures.1 refl refl (λ came gathers. (
+      reply,
+      read_so came c.in-Some.bytes.now (Some reply) (c.in-Some.ensures came gathers) (as_answer c.in-Some.bytes.now reply c.in-Some-read_answer.ensures.exact),
+      c.in_err-judge-in-Some-read_answer.ensures.memory,
+    ))
+
+pub returns-in_ok-judge-in-Some-read_answer-clause-judged : goal.returns-in_ok-judge-in-Some-read_answer-clause-judged
+returns-in_ok-judge-in-Some-read_answer-clause-judged c w came shown gathers =
+    let reply : Reply = reply_to c.in-Some-read_answer.addressee c.in-Some-read_answer.answer in (
+      reply,
+      read_so came c.in-Some.bytes.now (Some reply) (c.in-Some.ensures came gathers) (as_answer c.in-Some.bytes.now reply c.in-Some-read_answer.ensures.exact),
+      c.in_ok-judge-in-Some-read_answer.ensures.judged w shown,
+    )
+
+pub returns-in-None-clause-judged : goal.returns-in-None-clause-judged
+returns-in-None-clause-judged c w came shown gathers =
+    subst (λ (found : Option Reply). IsTextVerdict c.judge_table.result c.args.event.now found w c.judge_table.new.machine)
+    (sym (read_so came c.in-Some.bytes.now (table_of c.in-Some.bytes.now) (c.in-Some.ensures came gathers) (as_table c.in-Some.bytes.now c.in-None.ensures.exact)))
+    (c.judge_table.ensures w shown)

@@ -1,0 +1,82 @@
+//! Answers: the replies of one line.
+
+ghost use Rattle.std.specs.Prelude.{◌≡◌, true, IfSome, MatchOption};
+ghost use Rattle.words_core.specs.Requests.{HasFewBytes, is_table, reply_to};
+ghost use Rattle.words_core.specs.Texts.{text_of};
+ghost use Rattle.words_core.specs.declared.reply.Reply.{Reply};
+ghost use Rattle.check_core.specs.Forms.{Gives};
+ghost use Rattle.check_core.specs.Ranges.{Fits};
+ghost use Rattle.check_core.specs.Replies.{addressee_at, tenant_at, admin_at, nobody_at, answer_of};
+
+use crate::form::form_at;
+use crate::said::said_at;
+use model_core::limits::MOST_BYTES;
+use words_core::{Addressee, Answer};
+
+/// Returns whom the reply of one line is for whose whole text the bytes are, with its line feed, and what it says. The bytes of a
+/// read then lie in `buffer`. `None` if they are the text of no such reply.
+pub fn read_answer<'a>(
+    text: &'a [u8],
+    buffer: &'a mut [u8; MOST_BYTES],
+) -> Option<(Addressee, Answer<'a>)>
+    // What is read has this text.
+    ensures found { IfSome result (λ found. text_of (reply_to found.0 found.1) ≡ text.now) }
+    // What has this text is read, unless it is a table.
+    ensures only { (due : Reply) → Fits due → text_of due ≡ text.now
+        → MatchOption result (is_table due.body ≡ true) (λ found. reply_to found.0 found.1 ≡ due) }
+    ensures few { IfSome result (λ found. HasFewBytes found.1) }
+    // The same as a function.
+    ensures exact { Gives (λ found. reply_to found.0 found.1) result (answer_of text.now) }
+{
+    answer_of(text, buffer)
+}
+
+#[tactic(auto, unfolding(crate::specs::Replies::answer_of))]
+#[inline(always)]
+fn answer_of<'a>(
+    text: &'a [u8],
+    buffer: &'a mut [u8; MOST_BYTES],
+) -> Option<(Addressee, Answer<'a>)>
+    ensures { Gives (λ found. reply_to found.0 found.1) result (answer_of text.now) }
+{
+    let (addressee, rest) = addressee_at(text)?;
+    let (answer, rest) = said_at(rest, buffer)?;
+    match rest {
+        [] => Some((addressee, answer)),
+        _ => None,
+    }
+}
+
+/// Whom a line is for, as it says at its head, and what follows that.
+#[tactic(auto, unfolding(crate::specs::Replies::addressee_at))]
+pub fn addressee_at(text: &[u8]) -> Option<(Addressee, &[u8])>
+    ensures { Gives (λ found. (found.0, found.1.now)) result (addressee_at text.now) }
+{
+    tenant_at(text)
+        .or_else(|| admin_at(text))
+        .or_else(|| nobody_at(text))
+}
+
+#[tactic(auto, unfolding(crate::specs::Replies::tenant_at))]
+fn tenant_at(text: &[u8]) -> Option<(Addressee, &[u8])>
+    ensures { Gives (λ found. (found.0, found.1.now)) result (tenant_at text.now) }
+{
+    let ([tenant], rest) = form_at::<1>(b"#> ", text)?;
+    Some((Addressee::Tenant(u8::try_from(tenant).ok()?), rest))
+}
+
+#[tactic(auto, unfolding(crate::specs::Replies::admin_at))]
+fn admin_at(text: &[u8]) -> Option<(Addressee, &[u8])>
+    ensures { Gives (λ found. (found.0, found.1.now)) result (admin_at text.now) }
+{
+    let ([], rest) = form_at::<0>(b"admin> ", text)?;
+    Some((Addressee::Admin, rest))
+}
+
+#[tactic(auto, unfolding(crate::specs::Replies::nobody_at))]
+fn nobody_at(text: &[u8]) -> Option<(Addressee, &[u8])>
+    ensures { Gives (λ found. (found.0, found.1.now)) result (nobody_at text.now) }
+{
+    let ([], rest) = form_at::<0>(b"!> ", text)?;
+    Some((Addressee::Nobody, rest))
+}

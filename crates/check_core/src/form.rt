@@ -1,0 +1,84 @@
+//! Forms: texts in which each `#` stands for a number.
+
+ghost use Rattle.std.specs.Prelude.{◌≡◌, ◌<◌, ◌≤◌, ◌^◌, ◌==◌, count_by, length, take_while};
+ghost use Rattle.std.specs.Char.{is_ascii_digit};
+ghost use Rattle.check_core.specs.Forms.{Gives, plain_number, number_at, mark_at, form_at};
+
+use arrayvec::ArrayVec;
+
+/// A number has at most this many decimal digits.
+const MOST_DIGITS: usize = 10;
+
+/// The number that a word is: decimal digits without leading zeros, with a value below `2^32`.
+fn plain_number(word: &[u8]) -> Option<u32>
+    ensures { result ≡ plain_number word.now }
+{
+    if word.is_empty() || word.len() > MOST_DIGITS || word.len() > 1 && word[0] == b'0' {
+        return None;
+    }
+    let mut value = 0u64;
+    for digit in word {
+        if !digit.is_ascii_digit() {
+            return None;
+        }
+        value = value * 10 + u64::from(*digit - b'0');
+    }
+    u32::try_from(value).ok()
+}
+
+/// The number whose digits the text begins with, and what follows them.
+#[tactic(auto, unfolding(crate::specs::Forms::number_at))]
+fn number_at(text: &[u8]) -> Option<(u32, &[u8])>
+    ensures { Gives (λ found. (found.0, found.1.now)) result (number_at text.now) }
+{
+    let size = digits_len(text);
+    let (digits, rest) = text.split_at(size);
+    Some((plain_number(digits)?, rest))
+}
+
+/// How many digits the text begins with.
+fn digits_len(text: &[u8]) -> usize
+    ensures value { result ≡ length (take_while is_ascii_digit text.now) }
+    ensures fits { result ≤ length text.now }
+{
+    text.iter().take_while(|byte| byte.is_ascii_digit()).count()
+}
+
+/// What stands for this byte of a form: a number for a `#`, else the byte itself.
+#[tactic(auto, unfolding(crate::specs::Forms::mark_at))]
+fn mark_at(mark: u8, text: &[u8]) -> Option<(Option<u32>, &[u8])>
+    ensures { Gives (λ found. (found.0, found.1.now)) result (mark_at mark text.now) }
+{
+    if mark == b'#' {
+        let (number, rest) = number_at(text)?;
+        return Some((Some(number), rest));
+    }
+    let [first, rest @ ..] = text else {
+        return None;
+    };
+    if *first != mark {
+        return None;
+    }
+    Some((None, rest))
+}
+
+/// The numbers that stand in a form at the front of the text, and what follows it.
+pub fn form_at<'a, const N: usize>(form: &[u8], text: &'a [u8]) -> Option<([u32; N], &'a [u8])>
+    requires few { N < 2 ^ 32 }
+    requires marks { count_by (λ b. b == 35) form.now ≡ N }
+    ensures { Gives (λ found. (found.0, found.1.now)) result (form_at form.now text.now) }
+{
+    let mut numbers = ArrayVec::<u32, N>::new();
+    let mut rest = text;
+    for mark in form {
+        let (number, after) = mark_at(*mark, rest)?;
+        if let Some(number) = number {
+            numbers.push(number);
+        }
+        rest = after;
+    }
+    let Ok(numbers) = numbers.into_inner() else {
+        return None;
+    };
+    Some((numbers, rest))
+}

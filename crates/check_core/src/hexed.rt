@@ -1,0 +1,53 @@
+//! Bytes in hex, two lower case digits each.
+
+ghost use Rattle.std.specs.Prelude.{◌≡◌, ℕ, ◌<◌, ◌≤◌, [], ◌∷◌, Some, IfSome, length, slice_index};
+ghost use Rattle.hex.specs.Hex.{encode_lower, lower_digits};
+ghost use Rattle.check_core.specs.Forms.{Gives};
+ghost use Rattle.check_core.specs.Replies.{bytes_of};
+
+use model_core::limits::MOST_BYTES;
+
+/// The bytes that a word is in hex, in lower case, if they fit; they lie in `room` then.
+#[tactic(auto, unfolding(crate::specs::Replies::bytes_of))]
+pub fn bytes_of<'a>(word: &[u8], room: &'a mut [u8; MOST_BYTES]) -> Option<&'a [u8]>
+    ensures value { Gives (λ bytes. bytes.now) result (bytes_of word.now) }
+    ensures few { IfSome result (λ bytes. length bytes.now ≤ MOST_BYTES) }
+{
+    if word.len() > 2 * MOST_BYTES {
+        return None;
+    }
+    let mut count = 0;
+    let mut rest = word;
+    'pairs: while let Some((pair, behind)) = rest.split_first_chunk::<2>() {
+        room[count] = byte_of(pair)?;
+        count += 1;
+        rest = behind;
+    }
+    if rest.is_empty() {
+        Some(&room[..count])
+    } else {
+        None
+    }
+}
+
+/// The byte that two digits are.
+#[inline(always)]
+fn byte_of(pair: &[u8; 2]) -> Option<u8>
+    ensures found { IfSome result (λ byte. encode_lower (byte ∷ []) ≡ pair.now) }
+    ensures only { (byte : ℕ) → byte < 256 → encode_lower (byte ∷ []) ≡ pair.now → result ≡ Some byte }
+{
+    Some(digit_of(pair[0])? * 16 + digit_of(pair[1])?)
+}
+
+/// The value of a digit.
+#[inline(always)]
+fn digit_of(digit: u8) -> Option<u8>
+    ensures found { IfSome result (λ value. (value < 16) × (slice_index lower_digits value ≡ digit)) }
+    ensures only { (value : ℕ) → value < 16 → slice_index lower_digits value ≡ digit → result ≡ Some value }
+{
+    match digit {
+        b'0'..=b'9' => Some(digit - b'0'),
+        b'a'..=b'f' => Some(digit - b'a' + 10),
+        _ => None,
+    }
+}

@@ -1,4 +1,0 @@
-pub mod Ranges
-pub mod Forms
-pub mod Reading
-pub mod Tables
