@@ -5,7 +5,7 @@ use Rattle.std.specs.Str.{bytes_eq}
 use Rattle.std.specs.List.{list_all, AllByRecursion}
 use Rattle.std.proofs.lemmas.Slice.Eq.{bytes_eq-Decides}
 use Rattle.std.proofs.lemmas.Bool.Decides.{nat_tests}
-use Rattle.std.proofs.lemmas.List.Elements.{All-weaker}
+use Rattle.std.proofs.lemmas.List.Elements.{All-nil, All-weaker}
 use Rattle.std.proofs.lemmas.List.Sums.{list_all-from_AllPass}
 use Rattle.arrayvec.specs.ArrayVec.{ArrayVec}
 use Rattle.hex.specs.declared.error.FromHexError.{FromHexError}
@@ -72,58 +72,36 @@ found_passes p (y ∷ xs) x e = step (p y) refl e (found_passes p xs x) where
   step true is e later = ap p (sym (same_Some y x e)) ∙ is
   step false is e later = later e
 
--- no name has a number in it
-name_text : (refusal : Refusal) (ns : List ℕ) → form_text (name_of_refusal refusal) ns ≡ name_of_refusal refusal
-name_text NoFrames ns = refl
-name_text BadOrder ns = refl
-name_text NotABlock ns = refl
-name_text OutOfReach ns = refl
-name_text BadLength ns = refl
-name_text BadSize ns = refl
-name_text BadAlign ns = refl
-name_text NoCacheSlot ns = refl
-name_text NoCache ns = refl
-name_text CacheInUse ns = refl
-name_text NotAnObject ns = refl
-name_text NoTenant ns = refl
-name_text PoolEmpty ns = refl
-name_text NoSlot ns = refl
-name_text SlotBusy ns = refl
+-- a name is a form without numbers, and the number of a refusal is its own
+record IsNamed (refusal : Refusal) : Type 0 where
+  good : is_form (name_of_refusal refusal) ≡ true
+  none : 0 ≡ marks (name_of_refusal refusal)
+  text : (ns : List ℕ) → form_text (name_of_refusal refusal) ns ≡ name_of_refusal refusal
+  number : refusal_of (number_of_refusal refusal) ≡ Some refusal
+  small : number_of_refusal refusal < 16
+
+named : (refusal : Refusal) → IsNamed refusal
+named NoFrames = record { good = refl; none = refl; text = λ ns. refl; number = refl; small = omega arith }
+named BadOrder = record { good = refl; none = refl; text = λ ns. refl; number = refl; small = omega arith }
+named NotABlock = record { good = refl; none = refl; text = λ ns. refl; number = refl; small = omega arith }
+named OutOfReach = record { good = refl; none = refl; text = λ ns. refl; number = refl; small = omega arith }
+named BadLength = record { good = refl; none = refl; text = λ ns. refl; number = refl; small = omega arith }
+named BadSize = record { good = refl; none = refl; text = λ ns. refl; number = refl; small = omega arith }
+named BadAlign = record { good = refl; none = refl; text = λ ns. refl; number = refl; small = omega arith }
+named NoCacheSlot = record { good = refl; none = refl; text = λ ns. refl; number = refl; small = omega arith }
+named NoCache = record { good = refl; none = refl; text = λ ns. refl; number = refl; small = omega arith }
+named CacheInUse = record { good = refl; none = refl; text = λ ns. refl; number = refl; small = omega arith }
+named NotAnObject = record { good = refl; none = refl; text = λ ns. refl; number = refl; small = omega arith }
+named NoTenant = record { good = refl; none = refl; text = λ ns. refl; number = refl; small = omega arith }
+named PoolEmpty = record { good = refl; none = refl; text = λ ns. refl; number = refl; small = omega arith }
+named NoSlot = record { good = refl; none = refl; text = λ ns. refl; number = refl; small = omega arith }
+named SlotBusy = record { good = refl; none = refl; text = λ ns. refl; number = refl; small = omega arith }
 
 name_again : (refusal : Refusal) (rest : List ℕ) → form_at (name_of_refusal refusal) (name_of_refusal refusal ++ rest) ≡ Some ([], rest)
-unfolding form_at mark_at
-name_again NoFrames rest = refl
-name_again BadOrder rest = refl
-name_again NotABlock rest = refl
-name_again OutOfReach rest = refl
-name_again BadLength rest = refl
-name_again BadSize rest = refl
-name_again BadAlign rest = refl
-name_again NoCacheSlot rest = refl
-name_again NoCache rest = refl
-name_again CacheInUse rest = refl
-name_again NotAnObject rest = refl
-name_again NoTenant rest = refl
-name_again PoolEmpty rest = refl
-name_again NoSlot rest = refl
-name_again SlotBusy rest = refl
-
-number_again : (refusal : Refusal) → (refusal_of (number_of_refusal refusal) ≡ Some refusal) × (number_of_refusal refusal < 16)
-number_again NoFrames = (refl, omega arith)
-number_again BadOrder = (refl, omega arith)
-number_again NotABlock = (refl, omega arith)
-number_again OutOfReach = (refl, omega arith)
-number_again BadLength = (refl, omega arith)
-number_again BadSize = (refl, omega arith)
-number_again BadAlign = (refl, omega arith)
-number_again NoCacheSlot = (refl, omega arith)
-number_again NoCache = (refl, omega arith)
-number_again CacheInUse = (refl, omega arith)
-number_again NotAnObject = (refl, omega arith)
-number_again NoTenant = (refl, omega arith)
-number_again PoolEmpty = (refl, omega arith)
-number_again NoSlot = (refl, omega arith)
-number_again SlotBusy = (refl, omega arith)
+name_again refusal rest =
+    let name = name_of_refusal refusal in
+    let is = named refusal in
+    ap (λ text. form_at name (text ++ rest)) (sym (is.text [])) ∙ form_again name [] rest is.good is.none (All-nil (λ n. n < 2 ^ 32))
 
 regroup : (a b rest : List ℕ) → (a ++ (b ++ 10 ∷ [])) ++ rest ≡ a ++ (b ++ 10 ∷ rest)
 regroup a b rest = append_assoc a (b ++ 10 ∷ []) rest ∙ ap (λ t. a ++ t) (append_assoc b (10 ∷ []) rest)
@@ -146,8 +124,8 @@ unfolding refused_at
 refused_takes text said rest e =
     let (found, is, next) = bind_some (form_at (codes "refused # ") text) after_refused (said, rest) e in
     let (refusal, refusal_is, name_next) = bind_some (refusal_of (get_or found.0 0 0)) (after_refusal found.1) (said, rest) next in
-    let (named, named_is, end_next) = bind_some (form_at (name_of_refusal refusal) found.1) (after_name refusal) (said, rest) name_next in
-    let (ended, ended_is, last) = bind_some (form_at (codes "\n") named.1) (λ ended. Some (Refused refusal, ended.1)) (said, rest) end_next in
+    let (name_read, named_is, end_next) = bind_some (form_at (name_of_refusal refusal) found.1) (after_name refusal) (said, rest) name_next in
+    let (ended, ended_is, last) = bind_some (form_at (codes "\n") name_read.1) (λ ended. Some (Refused refusal, ended.1)) (said, rest) end_next in
     let (said_is, rest_is) = some_pair_parts (Refused refusal) said ended.1 rest last in
     let number : number_of_refusal refusal ≡ get_or found.0 0 0 = same_byte (number_of_refusal refusal) (get_or found.0 0 0)
     (found_passes (λ refusal. number_of_refusal refusal == get_or found.0 0 0) REFUSALS refusal refusal_is) in
@@ -156,7 +134,7 @@ refused_takes text said rest e =
     let parts : text ≡ spelled said ++ rest =
     (form_takes (codes "refused # ") text found.0 found.1 is).0
     ∙ (λ i. label (sym number i)
-    ++ ((form_takes name found.1 named.0 named.1 named_is).0 ∙ (λ j. name_text refusal named.0 j ++ (form_takes (codes "\n") named.1 ended.0 ended.1 ended_is).0 j)) i)
+    ++ ((form_takes name found.1 name_read.0 name_read.1 named_is).0 ∙ (λ j. (named refusal).text name_read.0 j ++ (form_takes (codes "\n") name_read.1 ended.0 ended.1 ended_is).0 j)) i)
     ∙ sym (regroup (label (number_of_refusal refusal)) name ended.1)
     ∙ (λ i. spelled (said_is i) ++ rest_is i) in
     (parts, subst IsAnswer said_is tt)
@@ -168,8 +146,8 @@ refused_again refusal rest =
     let name = name_of_refusal refusal in
     let text = name ++ 10 ∷ rest in
     ap refused_at (regroup (form_text (codes "refused # ") (number ∷ [])) name rest)
-    ∙ ap (λ found. found >>= after_refused) (form_again (codes "refused # ") (number ∷ []) text refl refl (small_one number (omega (arith, (number_again refusal).1))))
-    ∙ ap (λ found. found >>= after_refusal text) (number_again refusal).0
+    ∙ ap (λ found. found >>= after_refused) (form_again (codes "refused # ") (number ∷ []) text refl refl (small_one number (omega (arith, (named refusal).small))))
+    ∙ ap (λ found. found >>= after_refusal text) (named refusal).number
     ∙ ap (λ named. named >>= after_name refusal) (name_again refusal (10 ∷ rest))
     ∙ ap (λ ended. ended >>= (λ ended. Some (Refused refusal, ended.1))) (ended_again rest)
 

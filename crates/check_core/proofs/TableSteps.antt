@@ -1,5 +1,5 @@
 -- Reading a table, a part at a time.
-use Rattle.std.proofs.Common.{◌≡◌, ℕ, Bool, true, false, cond, List, length, get_or, Option, Some, None, refl, sym, ◌∙◌, ap}
+use Rattle.std.proofs.Common.{◌≡◌, ℕ, Bool, cond, List, length, get_or, Option, Some, None, sym, ◌∙◌, ap}
 use Rattle.std.specs.Prelude.{codes, ◌==◌, ◌&&◌, count_by, is_none}
 use Rattle.model_core.specs.declared.owner.Owner.{Owner}
 use Rattle.model_core.specs.declared.report.OrderRow.{OrderRow}
@@ -9,7 +9,6 @@ use Rattle.words_core.specs.declared.reply.Body.{Body}
 use Rattle.words_core.specs.declared.reply.Body.TheVariants as Say
 use Rattle.check_core.specs.Forms.{◌>>=◌, form_at}
 use Rattle.check_core.specs.Tables.{rows_from, order_at, cache_row_at, some_top_at, report_at, owner_at, pool_at}
-use Rattle.check_core.proofs.FormLemmas.{same_byte, itself}
 
 abbrev report_made : List ℕ → Option ℕ → ℕ → List OrderRow → List CacheRow → Report
 report_made ns top split orders caches = record {
@@ -55,33 +54,12 @@ pool_read front text ns rows owners rest head owner_rows =
     ap (λ found. found >>= (λ head. with_owners head.0 (rows_from (owner_at front) 256 0 head.1))) head
     ∙ ap (with_owners ns) owner_rows
 
-pub pool_is : (front text ns rows : List ℕ) (owners : List (Option Owner)) (rest : List ℕ) → form_at (codes "pool free # of #\n") text ≡ Some (ns, rows)
-    → rows_from (owner_at front) 256 0 rows ≡ (owners, rest) → count_by is_none owners ≡ get_or ns 0 0 → length owners ≡ get_or ns 1 0
-    → pool_at front text ≡ Some (Say.Owners (record { items = owners }), rest)
-pool_is front text ns rows owners rest head owner_rows free count =
-    pool_read front text ns rows owners rest head owner_rows
-    ∙ (λ i. cond (count_by is_none owners == sym free i && length owners == sym count i) (Some (Say.Owners (record { items = owners }), rest)) None)
-    ∙ (λ i. cond (itself (count_by is_none owners) i && itself (length owners) i) (Some (Say.Owners (record { items = owners }), rest)) None)
-
-differs : (a b : ℕ) (test : Bool) → (a == b) ≡ test → (a ≡ b → ⊥) → test ≡ false
-differs a b true is other = absurd (other (same_byte a b is))
-differs a b false is other = refl
-
-second_false : (first second : Bool) → second ≡ false → (first && second) ≡ false
-second_false true second is = is
-second_false false second is = refl
-
-pub pool_free : (front text ns rows : List ℕ) (owners : List (Option Owner)) (rest : List ℕ) → form_at (codes "pool free # of #\n") text ≡ Some (ns, rows)
-    → rows_from (owner_at front) 256 0 rows ≡ (owners, rest) → (count_by is_none owners ≡ get_or ns 0 0 → ⊥) → pool_at front text ≡ None
-pool_free front text ns rows owners rest head owner_rows other =
-    pool_read front text ns rows owners rest head owner_rows
-    ∙ ap (λ test. cond (test && length owners == get_or ns 1 0) (Some (Say.Owners (record { items = owners }), rest)) None)
-    (differs (count_by is_none owners) (get_or ns 0 0) (count_by is_none owners == get_or ns 0 0) refl other)
-
-pub pool_count : (front text ns rows : List ℕ) (owners : List (Option Owner)) (rest : List ℕ) → form_at (codes "pool free # of #\n") text ≡ Some (ns, rows)
-    → rows_from (owner_at front) 256 0 rows ≡ (owners, rest) → (length owners ≡ get_or ns 1 0 → ⊥) → pool_at front text ≡ None
-pool_count front text ns rows owners rest head owner_rows other =
+-- by whether the counts are those of the rows
+pub pool_so : (test fits : Bool) (front text ns rows : List ℕ) (slice owners : List (Option Owner)) (rest : List ℕ)
+    → form_at (codes "pool free # of #\n") text ≡ Some (ns, rows) → rows_from (owner_at front) 256 0 rows ≡ (owners, rest) → slice ≡ owners
+    → fits ≡ (count_by is_none slice == get_or ns 0 0 && length slice == get_or ns 1 0) → fits ≡ test
+    → pool_at front text ≡ cond test (Some (Say.Owners (record { items = owners }), rest)) None
+pool_so test fits front text ns rows slice owners rest head owner_rows same counts is =
     pool_read front text ns rows owners rest head owner_rows
     ∙ ap (λ test. cond test (Some (Say.Owners (record { items = owners }), rest)) None)
-    (second_false (count_by is_none owners == get_or ns 0 0) (length owners == get_or ns 1 0)
-    (differs (length owners) (get_or ns 1 0) (length owners == get_or ns 1 0) refl other))
+    (ap (λ (all : List (Option Owner)). count_by is_none all == get_or ns 0 0 && length all == get_or ns 1 0) (sym same) ∙ sym counts ∙ is)

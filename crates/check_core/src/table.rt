@@ -1,6 +1,6 @@
 //! Reports and the table of owners: a line at the head, and then rows, each begun as that line.
 
-ghost use Rattle.std.specs.Prelude.{◌≡◌, count_by, is_none, true, Some, IfSome};
+ghost use Rattle.std.specs.Prelude.{◌≡◌, ◌==◌, ◌&&◌, count_by, is_none, length, true, Some, IfSome};
 ghost use Rattle.words_core.specs.Requests.{is_table};
 ghost use Rattle.words_core.specs.Texts.{text_of};
 ghost use Rattle.words_core.specs.declared.reply.Reply.{Reply as ReplyValue};
@@ -167,17 +167,18 @@ fn pool_at<'a>(front: &[u8], text: &'a [u8]) -> Option<(Body, &'a [u8])>
 {
     let ([free, count], rest) = form_at::<2>(b"pool free # of #\n", text)?;
     let (owners, rest) = owners_at(front, rest);
-    if free_count(owners.as_slice()) != free as usize || owners.len() != count as usize {
+    if !are_counts(free, count, owners.as_slice()) {
         return None;
     }
     Some((Body::Owners(owners), rest))
 }
 
-/// How many superblocks have no owner.
-fn free_count(owners: &[Option<Owner>]) -> usize
-    ensures { result ≡ count_by is_none owners.now }
+/// So many superblocks have no owner, of so many.
+fn are_counts(free: u32, count: u32, owners: &[Option<Owner>]) -> bool
+    ensures { result ≡ (count_by is_none owners.now == free && length owners.now == count) }
 {
-    owners.iter().filter(|owner| owner.is_none()).count()
+    let unowned = owners.iter().filter(|owner| owner.is_none()).count();
+    unowned == free as usize && owners.len() == count as usize
 }
 
 /// The rows of the superblocks from 0 on, as long as there are.
