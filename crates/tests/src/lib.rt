@@ -1,5 +1,6 @@
 //! Tests across the libraries: traces on new machines with what they write, ends that fail, lines of every kind, pairs of worlds,
-//! the kernel beside a plain machine, and the public functions with their types and fixed values.
+//! the kernel beside a plain machine, the public functions with their types and fixed values, and the examples at the roots of
+//! crates.
 #![tactic(auto)]
 
 #[cfg(test)]
@@ -26,6 +27,8 @@ pub mod pieces;
 mod plain_machine;
 #[cfg(test)]
 mod public_types;
+#[cfg(test)]
+mod root_examples;
 #[cfg(test)]
 mod running;
 #[cfg(test)]
