@@ -1,5 +1,5 @@
 -- What is kept after the answer to each command of the administrator.
-use Rattle.std.proofs.Common.{◌≡◌, ℕ, ◌+◌, ◌*◌, ◌^◌, ◌≤◌, Bool, true, false, not, List, [], ◌∷◌, map, length, replicate, slice_set, Option, Some, None, Ok, Err, refl, ap, sym, subst, ◌∙◌, arith}
+use Rattle.std.proofs.Common.{◌≡◌, ℕ, ◌+◌, ◌*◌, ◌^◌, ◌≤◌, Bool, true, false, not, List, [], ◌∷◌, map, length, replicate, slice_set, Option, Some, None, Ok, Err, refl, ap, sym, ◌∙◌, arith}
 use Rattle.std.specs.Prelude.{Result, ◌==◌, ◌&&◌, ◌||◌, filter, if◌then◌else◌, nat_lt, slice_index_or}
 use Rattle.std.specs.List.{list_any}
 use Rattle.std.proofs.lemmas.Grind.{common_steps}
@@ -7,7 +7,7 @@ use Rattle.std.proofs.lemmas.List.{length-set, length-map}
 use Rattle.std.proofs.lemmas.Bool.{and_parts, eqb-true, eq-eqb, ne_eqb, eqb-false, false≢true, leb-true, not-true}
 use Rattle.model_core.specs.Machine.{slot_of, put_rising}
 use Rattle.model_core.specs.Owners.{owned_by, is_of, is_owner}
-use Rattle.model_core.specs.declared.limits.TheConstants.{FRAME_BYTES, MOST_ORDER}
+use Rattle.model_core.specs.declared.limits.TheConstants.{FRAME_BYTES}
 use Rattle.model_core.specs.declared.owner.Owner.{Owner}
 use Rattle.words_core.specs.declared.event.Event.{Event}
 use Rattle.words_core.specs.declared.event.Event.TheVariants as On
@@ -20,7 +20,6 @@ use Rattle.words_core.specs.declared.reply.Body.TheVariants as Say
 use Rattle.promise_core.specs.Bytes.{Cells, without}
 use Rattle.promise_core.specs.Holdings.{Holdings, has_slot}
 use Rattle.promise_core.specs.State.{Known, opening_state, state_after, owners_after}
-use Rattle.promise_core.proofs.Laid.{nothing_laid, nothing_gridded}
 use Rattle.world_core.specs.World.{given_up}
 use Rattle.judge_bytes.specs.Left.{Left, left_slots, left_at, Becomes}
 use Rattle.judge.specs.Seen.{Seen, state_of}
@@ -39,17 +38,6 @@ pub opened : (x : Seen) (order : ℕ) → x.has ≡ record { slots = []; pages =
     → ((n : ℕ) → slice_index_or x.hides n false ≡ false) → x.told ≡ None → state_of x ≡ opening_state
 unfolding opening_state
 opened x order has left hides told i = record { has = has i; cells = left_at (left i); hides = λ n. hides n i; told = told i }
-
-pub nothing_sound : (order : ℕ) (h : Holdings) (l : Left) → order ≤ MOST_ORDER → h ≡ record { slots = []; pages = []; caches = [] }
-    → l ≡ record { order = order; slots = [] } → LieInSlots h l
-unfolding opening_state
-nothing_sound order h l small has left = subst (λ y. LieInSlots y l) (sym has) (subst (LieInSlots (record { slots = []; pages = []; caches = [] })) (sym left) (record {
-  sized = small;
-  slots = λ u. refl;
-  laid = nothing_laid order;
-  gridded = nothing_gridded order;
-  numbered = λ c i. elim i [ ];
-}))
 
 -- A grant
 

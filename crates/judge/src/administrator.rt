@@ -59,7 +59,8 @@ impl Tenant {
     ) -> Result<(), Failure>
         ensures judged { (w : Known) → IsVerdictFor (On.Admin (Do.Grant t)) (Say.Granted tenant slot superblock)
             (record w { owners = owners.old }) self.old self.new result }
-        ensures owners { AreOwnersAfter (On.Admin (Do.Grant t)) (Say.Granted tenant slot superblock) owners.old owners.new result }
+        ensures owners { AreOwnersAfter (On.Admin (Do.Grant t)) (Say.Granted tenant slot superblock) owners.old owners.new
+            result }
     {
         self.judge_granted(owners, t, tenant, slot, superblock)?;
         self.held.grant(slot)?;
@@ -266,7 +267,8 @@ impl Tenant {
     ) -> Result<(), Failure>
         ensures judged { (w : Known) → IsVerdictFor (On.Admin (Do.Move t slot)) (Say.Moved tenant told superblock)
             (record w { owners = owners.old }) self.now self.now result }
-        ensures owners { AreOwnersAfter (On.Admin (Do.Move t slot)) (Say.Moved tenant told superblock) owners.old owners.new result }
+        ensures owners { AreOwnersAfter (On.Admin (Do.Move t slot)) (Say.Moved tenant told superblock) owners.old owners.new
+            result }
     {
         self.judge_moved(owners, t, slot, tenant, told, superblock)?;
         give_up_slot(owners, t, slot);

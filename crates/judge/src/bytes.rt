@@ -37,8 +37,8 @@ impl Tenant {
 
     /// These bytes are read.
     fn read_bytes(&mut self, place: u32, len: u32, bytes: &[u8]) -> Result<(), Failure>
-        ensures { (t : ℕ) (w : Known) → IsVerdictFor (On.Tenant t (Asked.Read place len)) (Say.Bytes (record { items = bytes.now }))
-            w self.old self.new result }
+        ensures { (t : ℕ) (w : Known) → IsVerdictFor (On.Tenant t (Asked.Read place len))
+            (Say.Bytes (record { items = bytes.now })) w self.old self.new result }
     {
         let holder = self.holder_read(place, len, bytes)?;
         self.left.put(holder, place, bytes);
@@ -49,7 +49,8 @@ impl Tenant {
     fn holder_read(&self, place: u32, len: u32, bytes: &[u8]) -> Result<RangeHolder, Promise>
         ensures judged { (t : ℕ) (w : Known) → verdict_of result
             ≡ verdict_at (On.Tenant t (Asked.Read place len)) (Say.Bytes (record { items = bytes.now })) w self.now }
-        ensures is { IfOk result (λ holder. (holder_of self.now.has place len ≡ Some (shown_holder holder)) × (length bytes.now ≡ len)) }
+        ensures is { IfOk result (λ holder. (holder_of self.now.has place len ≡ Some (shown_holder holder))
+            × (length bytes.now ≡ len)) }
     {
         let Some(holder) = self.held.holder_of(place, len) else {
             return Err(Promise::Refusals);

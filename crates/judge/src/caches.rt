@@ -31,8 +31,8 @@ impl Tenant {
         pattern: &ArrayVec<u8, MOST_PATTERN>,
         answer: &Answer<'_>,
     ) -> Result<(), Failure>
-        ensures { (t : ℕ) (w : Known)
-            → IsVerdictFor (On.Tenant t (Asked.Cache size align pattern.now)) (body_of_answer answer.now) w self.old self.new result }
+        ensures { (t : ℕ) (w : Known) → IsVerdictFor (On.Tenant t (Asked.Cache size align pattern.now))
+            (body_of_answer answer.now) w self.old self.new result }
     {
         match answer {
             Answer::Cache {
@@ -79,7 +79,8 @@ impl Tenant {
     /// The verdict on that.
     fn judge_layout(&self, number: u8, layout: &ToldLayout) -> Verdict
         ensures { (t : ℕ) (p : Pattern ℕ) (w : Known) → let l = layout.now in result
-            ≡ verdict_at (On.Tenant t (Asked.Cache l.size l.align p)) (Say.Cache number l.chunk l.order l.count l.colours) w self.now }
+            ≡ verdict_at (On.Tenant t (Asked.Cache l.size l.align p)) (Say.Cache number l.chunk l.order l.count l.colours) w
+            self.now }
     {
         match self.due_of_cache(layout.size, layout.align) {
             Some(_) => Err(Promise::Refusals),

@@ -124,10 +124,10 @@ impl Tenant {
                 && some_may_have(self.held.caches(), &self.hides, frames))
     }
 
-    /// Whether so many frames are those of the empty slabs that the last report told of the cache of the number `only`, or of all.
+    /// Whether so many frames are those of the empty slabs that the last report told, of the cache of the number `only` or of all.
     fn are_frames_told(&self, only: Option<u32>, frames: u32) -> bool
-        ensures { result ≡ option_map_or (λ r. frames == empty_frames (λ n. option_map_or (λ number. n == number) only true) self.now.has r)
-            self.now.told true }
+        ensures { result ≡ option_map_or (λ r. frames
+            == empty_frames (λ n. option_map_or (λ number. n == number) only true) self.now.has r) self.now.told true }
     {
         match &self.told {
             Some(report) => u64::from(frames) == empty_frames(&self.held, report, only),

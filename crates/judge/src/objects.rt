@@ -101,7 +101,8 @@ impl Tenant {
 
     /// The object is given back.
     fn drop_object(&mut self, number: u32, place: u32) -> Result<(), Failure>
-        ensures { (t : ℕ) (w : Known) → IsVerdictFor (On.Tenant t (Asked.Give number place)) Say.Given w self.old self.new result }
+        ensures { (t : ℕ) (w : Known)
+            → IsVerdictFor (On.Tenant t (Asked.Give number place)) Say.Given w self.old self.new result }
     {
         self.judge_given(number, place)?;
         self.held.give(number, place);

@@ -104,7 +104,7 @@ impl Tenant {
         }
     }
 
-    /// Judges and follows the reply to a command of the administrator about the tenant, where `owners` is who owns each superblock.
+    /// Judges and follows the reply to a command of the administrator about the tenant; `owners` is who owns each superblock.
     pub(crate) fn judge_admin(
         &mut self,
         owners: &mut [Option<Owner>],
