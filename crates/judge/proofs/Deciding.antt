@@ -17,7 +17,7 @@ use Rattle.promise_core.specs.Holdings.{ToldCache, cache_told, can_be_taken, can
 use Rattle.promise_core.specs.Promises.{due, first_due}
 use Rattle.promise_core.specs.State.{Known, state_after}
 use Rattle.judge_core.proofs.Lists.{order_found}
-use Rattle.judge_bytes.specs.Left.{left_at}
+use Rattle.shadow_memory.specs.Left.{left_at}
 use Rattle.judge.specs.Verdicts.{broken}
 use Rattle.judge.specs.Seen.{Seen, state_of}
 use Rattle.judge.specs.Judged.{known_at, verdict_at}

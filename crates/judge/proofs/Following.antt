@@ -16,7 +16,7 @@ use Rattle.words_core.specs.declared.reply.Body.TheVariants as Say
 use Rattle.promise_core.specs.Bytes.{Holder, is_same, is_object, with_bytes, doubted, without, holder_of}
 use Rattle.promise_core.specs.Holdings.{ToldCache, Holdings, cache_told, with_live_places}
 use Rattle.promise_core.specs.State.{Known, is_in_use, with_range, with_object, is_in_no_slab, state_after}
-use Rattle.judge_bytes.specs.Left.{Left, left_slots, left_at, Becomes}
+use Rattle.shadow_memory.specs.Left.{Left, left_slots, left_at, Becomes}
 use Rattle.judge.specs.Seen.{Seen, state_of}
 use Rattle.judge.specs.Inside.{AreNumbered}
 use Rattle.judge.specs.Judged.{verdict_at, IsFollowed}

@@ -21,7 +21,7 @@ use Rattle.promise_core.specs.Promises.{refusals, blocks, objects, new_layout, o
 use Rattle.promise_core.specs.State.{State, Known, opening_state, state_after}
 use Rattle.promise_core.proofs.Steps.{in_put, some_state}
 use Rattle.promise_core.proofs.Laid.{step, grid_step}
-use Rattle.judge_bytes.specs.Left.{left_slots, Becomes}
+use Rattle.shadow_memory.specs.Left.{left_slots, Becomes}
 use Rattle.judge.specs.Verdicts.{broken, kept_by}
 use Rattle.judge.specs.Seen.{Seen, state_of}
 use Rattle.judge.specs.Inside.{AreNumbered, LieInSlots}

@@ -7,7 +7,7 @@ use Rattle.promise_core.specs.Holdings.{Holdings}
 use Rattle.promise_core.proofs.Held.{range_held}
 use Rattle.judge_core.specs.Holders.{shown_holder}
 use Rattle.judge_core.specs.declared.holder.RangeHolder.{RangeHolder}
-use Rattle.judge_bytes.specs.Left.{Left, has_place}
+use Rattle.shadow_memory.specs.Left.{Left, has_place}
 use Rattle.judge.specs.Inside.{LieInSlots}
 
 -- they are in held slots

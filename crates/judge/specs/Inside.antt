@@ -5,7 +5,7 @@ use Rattle.model_core.specs.Elements.{IsIn}
 use Rattle.model_core.specs.declared.limits.TheConstants.{MOST_CACHES, MOST_ORDER}
 use Rattle.promise_core.specs.Lying.{IsLaid, AllGridded}
 use Rattle.promise_core.specs.Holdings.{ToldCache, Holdings, has_slot}
-use Rattle.judge_bytes.specs.Left.{Left, left_slots}
+use Rattle.shadow_memory.specs.Left.{Left, left_slots}
 
 abbrev pub AreNumbered : Holdings → Type 0
 AreNumbered h = (c : ToldCache) → IsIn c h.caches → c.number < MOST_CACHES

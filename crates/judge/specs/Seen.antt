@@ -3,7 +3,7 @@ use Rattle.std.specs.Prelude.{◌≡◌, ℕ, Bool, false, List, Option, slice_i
 use Rattle.words_core.specs.declared.report.Report.{Report}
 use Rattle.promise_core.specs.Holdings.{Holdings}
 use Rattle.promise_core.specs.State.{State, opening_state}
-use Rattle.judge_bytes.specs.Left.{Left, left_at}
+use Rattle.shadow_memory.specs.Left.{Left, left_at}
 
 -- what is kept of a tenant
 pub record Seen : Type 0 where

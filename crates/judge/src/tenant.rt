@@ -12,10 +12,10 @@ ghost use Rattle.judge.specs.Judged.{IsVerdictFor, AreOwnersAfter};
 ghost use Rattle.judge.specs.Seen.{Seen, IsOpeningTenant};
 
 use crate::verdict::{Failure, on_refusal};
-use judge_bytes::LeftBytes;
 use judge_core::{FrameBlock, Held};
 use model_core::owner::Owner;
 use promise_core::promise::Promise;
+use shadow_memory::ShadowMemory;
 use std::alloc::{AllocError, Global};
 use std::marker::Model;
 use words_core::{AdminCommand, Answer, CACHES, Command, Report};
@@ -26,7 +26,7 @@ use words_core::{AdminCommand, Answer, CACHES, Command, Report};
 pub struct Tenant {
     pub(crate) alloc: Global,
     pub(crate) held: Held,
-    pub(crate) left: LeftBytes,
+    pub(crate) left: ShadowMemory,
     /// By number, whether a slab of the cache without live objects may stand.
     pub(crate) hides: [bool; CACHES],
     pub(crate) told: Option<Report>,
@@ -53,7 +53,7 @@ impl Tenant {
         Ok(Tenant {
             alloc,
             held: Held::new(alloc, order, slots)?,
-            left: LeftBytes::new(alloc, order),
+            left: ShadowMemory::new(alloc, order),
             hides: [false; CACHES],
             told: None,
         })

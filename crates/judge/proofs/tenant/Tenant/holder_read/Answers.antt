@@ -10,7 +10,7 @@ use Rattle.promise_core.specs.declared.promise.Promise.{Promise}
 use Rattle.promise_core.specs.Bytes.{Holder, holder_of, may_all_be}
 use Rattle.promise_core.specs.Promises.{first_due}
 use Rattle.judge_core.specs.Holders.{shown_holder}
-use Rattle.judge_bytes.specs.Left.{left_at}
+use Rattle.shadow_memory.specs.Left.{left_at}
 use Rattle.judge.specs.Verdicts.{broken}
 use Rattle.judge.specs.Seen.{Seen}
 use Rattle.judge.specs.Judged.{verdict_at}

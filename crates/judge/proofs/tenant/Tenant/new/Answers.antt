@@ -1,5 +1,5 @@
 use Rattle.std.proofs.Common.{None, replicate, false, refl, ap}
-use Rattle.judge_bytes.specs.Left.{Left}
+use Rattle.shadow_memory.specs.Left.{Left}
 use Rattle.judge.specs.Seen.{Seen}
 use Rattle.judge.proofs.Owning.{opened, none_marked}
 use Rattle.judge.proofs.tenant.Tenant.new.Goals as goal

@@ -4,7 +4,7 @@ use Rattle.words_core.specs.declared.event.Command.TheVariants as Asked
 use Rattle.words_core.specs.declared.reply.Body.TheVariants as Say
 use Rattle.promise_core.specs.Bytes.{holder_of}
 use Rattle.judge_core.specs.Holders.{shown_holder}
-use Rattle.judge_bytes.proofs.ReadBytes.{begins}
+use Rattle.shadow_memory.proofs.ReadBytes.{begins}
 use Rattle.judge.specs.Seen.{Seen}
 use Rattle.judge.proofs.Keeping.{sound_in, followed, same_slots}
 use Rattle.judge.proofs.Reading.{places_held}

@@ -4,8 +4,8 @@ use Rattle.words_core.specs.declared.event.Command.TheVariants as Asked
 use Rattle.words_core.specs.declared.reply.Body.TheVariants as Say
 use Rattle.promise_core.specs.Bytes.{holder_of, with_bytes}
 use Rattle.judge_core.specs.Holders.{shown_holder}
-use Rattle.judge_bytes.specs.Left.{left_slots, Becomes}
-use Rattle.judge_bytes.proofs.ReadBytes.{begins}
+use Rattle.shadow_memory.specs.Left.{left_slots, Becomes}
+use Rattle.shadow_memory.proofs.ReadBytes.{begins}
 use Rattle.judge.specs.Seen.{Seen}
 use Rattle.judge.proofs.Keeping.{sound_in, followed, same_slots}
 use Rattle.judge.proofs.Reading.{places_held}

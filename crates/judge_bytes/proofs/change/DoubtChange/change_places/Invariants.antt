@@ -1,6 +1,0 @@
-use Rattle.judge_bytes.specs.Inside.{doubted_of}
-use Rattle.judge_bytes.specs.Marks.{IsChanged}
-use Rattle.judge_bytes.proofs.change.DoubtChange.change_places.Given as goal
-
-abbrev pub invariant-loop-k : goal.invariant-loop-k
-invariant-loop-k g l = IsChanged (doubted_of (g.T.HolderTest.test l.self.0)) l._first l.low l.k l.fn.cells l.cells

@@ -1,9 +1,0 @@
-use Rattle.promise_core.specs.Bytes.{with_bytes}
-use Rattle.judge_core.specs.Holders.{shown_holder}
-use Rattle.judge_bytes.specs.Marks.{IsChanged}
-use Rattle.judge_bytes.proofs.change.PutChange.change_places.Given as goal
-
-abbrev pub invariant-loop-k : goal.invariant-loop-k
-invariant-loop-k l =
-    IsChanged (λ place cell. with_bytes (shown_holder l.self.holder) l.self.begin l.self.bytes.now (λ _. cell) place)
-    l.first l.low l.k l.fn.cells l.cells

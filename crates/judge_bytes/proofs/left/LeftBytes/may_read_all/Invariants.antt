@@ -1,9 +1,0 @@
-use Rattle.std.proofs.Common.{◌≡◌, ◌+◌, drop}
-use Rattle.promise_core.specs.Bytes.{may_all_be}
-use Rattle.judge_core.specs.Holders.{shown_holder}
-use Rattle.judge_bytes.specs.Left.{left_at}
-use Rattle.judge_bytes.proofs.left.LeftBytes.may_read_all.Given as goal
-
-abbrev pub invariant-loop-i : goal.invariant-loop-i
-invariant-loop-i l = may_all_be l.held (left_at l.self) (shown_holder l.holder) l.place l.bytes
-    ≡ may_all_be l.held (left_at l.self) (shown_holder l.holder) (l.place + l.i) (drop l.i l.bytes)

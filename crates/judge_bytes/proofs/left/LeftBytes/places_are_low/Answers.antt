@@ -1,5 +1,0 @@
-use Rattle.judge_bytes.proofs.Stepping.{low_place}
-use Rattle.judge_bytes.proofs.left.LeftBytes.places_are_low.Goals as goal
-
-pub returns : goal.returns
-returns c = rw (← c.self.view_is) (λ place has. low_place c.self.inside.order place c.self.inside.slots.items c.self.invariant.1.whole has)

@@ -1,9 +1,0 @@
-use Rattle.std.proofs.Common.{◌*◌, min, max}
-use Rattle.judge_bytes.specs.Marks.{AreMarked, IsChanged}
-use Rattle.judge_bytes.proofs.ranges.change_chunks.Given as goal
-
-abbrev pub invariant-loop-chunk : goal.invariant-loop-chunk
-invariant-loop-chunk g l = record {
-  changed : IsChanged (g.C.Change.step l.change) l.first l.low (max l.low (min (l.chunk * 64) l.high)) l.fn.cells l.cells;
-  marked : AreMarked 64 l.chunks l.cells;
-}

@@ -1,0 +1,184 @@
+-- Changes of ranges, and what marks say after them.
+use Rattle.std.proofs.Common.{◌≡◌, ◌≢◌, ◌⊎◌, ℕ, ◌+◌, ◌-◌, ◌*◌, ◌/◌, ◌<◌, ◌≤◌, Bool, true, false, leb, ltb, eqb, List, length, get_or, min, max, Option, Some, None, inl, inr, refl, sym, ap, ◌∙◌, subst, arith}
+use Rattle.std.specs.Prelude.{if◌then◌else◌, ◌&&◌}
+use Rattle.std.proofs.Math.ListN.{set}
+use Rattle.std.proofs.lemmas.List.{get_or-set_other, get_or-set_same, get_or_past, set_past}
+use Rattle.std.proofs.lemmas.Bool.{cases_eq, cases_lt}
+use Rattle.std.proofs.lemmas.Bool.Decides.{nat_tests}
+use Rattle.promise_core.specs.Bytes.{Holder, Cell, with_bytes}
+use Rattle.shadow_memory.specs.declared.kept.KeptByte.{KeptByte}
+use Rattle.shadow_memory.specs.declared.kept.KeptByte.TheVariants as Kept
+use Rattle.shadow_memory.specs.declared.mark.Mark.{Mark}
+use Rattle.shadow_memory.specs.Inside.{CellStep, shown_kept, within}
+use Rattle.shadow_memory.specs.Marks.{IsMarkedAs, any_mark, cell_in, AreMarked, IsChanged}
+
+-- one place more
+pub changed_more : (step : CellStep) (first low k : ℕ) (old new : List KeptByte) (kept : KeptByte) → low ≤ k → k < length new
+    → IsChanged step first low k old new → shown_kept kept ≡ step (first + k) (cell_in new k)
+    → IsChanged step first low (k + 1) old (set new k kept)
+changed_more step first low k old new kept le lt was is = record {
+  before = λ i below. other i (omega arith) ∙ was.before i below;
+  inside = λ i from below. elim (cases_eq i k) [
+    | inl e ↦ subst (λ (n : ℕ). cell_in (set new k kept) n ≡ step (first + n) (cell_in old n)) (sym e) here
+    | inr ne ↦ other i ne ∙ was.inside i from (omega arith)
+  ];
+  behind = λ i from. other i (omega arith) ∙ was.behind i (omega arith);
+}
+  where
+    other : (i : ℕ) → i ≢ k → cell_in (set new k kept) i ≡ cell_in new i
+    other i ne = ap shown_kept (get_or-set_other new k i kept Kept.Fresh ne)
+
+    here : cell_in (set new k kept) k ≡ step (first + k) (cell_in old k)
+    here = ap shown_kept (get_or-set_same new k kept Kept.Fresh lt) ∙ (is ∙ ap (step (first + k)) (was.behind k (omega arith)))
+
+-- two ranges that follow one another
+pub changed_join : (step : CellStep) (first low m high : ℕ) (old mid new : List KeptByte) → low ≤ m → m ≤ high
+    → IsChanged step first low m old mid → IsChanged step first m high mid new → IsChanged step first low high old new
+changed_join step first low m high old mid new le more one two = record {
+  before = λ k lt. two.before k (omega arith) ∙ one.before k lt;
+  inside = λ k from below. elim (cases_lt k m) [
+    | inl lt ↦ two.before k lt ∙ one.inside k from lt
+    | inr ge ↦ two.inside k ge below ∙ ap (step (first + k)) (one.behind k ge)
+  ];
+  behind = λ k ge. two.behind k ge ∙ one.behind k (omega arith);
+}
+
+-- a range that a step leaves as it is
+pub changed_left : (step : CellStep) (first low high : ℕ) (old : List KeptByte)
+    → ((k : ℕ) → low ≤ k → k < high → step (first + k) (cell_in old k) ≡ cell_in old k) → IsChanged step first low high old old
+changed_left step first low high old same = record {
+  before = λ k lt. refl;
+  inside = λ k from below. sym (same k from below);
+  behind = λ k ge. refl;
+}
+
+-- one part more, of `size` places
+pub changed_part : (step : CellStep) (first size part low high begin end : ℕ) (old mid new : List KeptByte) → low < part * size + size → part * size < high
+    → low ≤ high → begin ≡ max (part * size) low → end ≡ min (part * size + size) high
+    → IsChanged step first low (max low (min (part * size) high)) old mid → IsChanged step first begin end mid new
+    → IsChanged step first low (max low (min ((part + 1) * size) high)) old new
+changed_part step first size part low high begin end old mid new over under le is_begin is_end one two =
+    let b : max low (min (part * size) high) ≡ begin = omega arith in
+    let e : max low (min ((part + 1) * size) high) ≡ end = omega arith in
+    subst (λ (n : ℕ). IsChanged step first low n old new) (sym e)
+    (changed_join step first low begin end old mid new (omega arith) (omega arith)
+    (subst (λ (n : ℕ). IsChanged step first low n old mid) b one) two)
+
+any_marked : (cell : Option Cell) → IsMarkedAs any_mark cell
+any_marked None = tt
+any_marked (Some cell) = (tt, λ e. absurd (cc))
+
+-- the mark of a part after it
+mark_set : (marks : List Mark) (part : ℕ) (after : Mark) (cell : Option Cell) → IsMarkedAs after cell → IsMarkedAs (get_or (set marks part after) part any_mark) cell
+mark_set marks part after cell marked = elim (cases_lt part (length marks)) [
+  | inl lt ↦ subst (λ (m : Mark). IsMarkedAs m cell) (sym (get_or-set_same marks part after any_mark lt)) marked
+  | inr ge ↦ subst (λ (m : Mark). IsMarkedAs m cell)
+      (sym (ap (λ (ms : List Mark). get_or ms part any_mark) (set_past marks part after ge) ∙ get_or_past marks part any_mark ge)) (any_marked cell)
+]
+
+-- places whose mark was this, when some of them have been changed
+pub marked_part : (step : CellStep) (first size part low high : ℕ) (marks : List Mark) (mark after : Mark) (all : Bool) (old new : List KeptByte)
+    → ((k : ℕ) → part * size ≤ k → k < part * size + size → k / size ≡ part)
+    → ((k : ℕ) → k / size ≡ part → (part * size ≤ k) × (k < part * size + size))
+    → part * size ≤ low → high ≤ part * size + size → low ≤ high → all ≡ eqb (high - low) size → mark ≡ get_or marks part any_mark
+    → ((place : ℕ) (cell : Option Cell) → IsMarkedAs mark cell → IsMarkedAs after (step place cell))
+    → (all ≡ false → (cell : Option Cell) → IsMarkedAs mark cell → IsMarkedAs after cell)
+    → AreMarked size marks old → IsChanged step first low high old new → AreMarked size (set marks part after) new
+marked_part step first size part low high marks mark after all old new here only begins ends order is_all is changed kept were by k =
+    elim (cases_eq (k / size) part) [
+      | inl e ↦ subst (λ (n : ℕ). IsMarkedAs (get_or (set marks part after) n any_mark) (cell_in new k)) (sym e)
+          (mark_set marks part after (cell_in new k) (inside e))
+      | inr ne ↦ subst (λ (m : Mark). IsMarkedAs m (cell_in new k)) (sym (get_or-set_other marks part (k / size) after any_mark ne))
+          (subst (IsMarkedAs (get_or marks (k / size) any_mark)) (sym (outside ne)) (were k))
+    ]
+  where
+    was : k / size ≡ part → IsMarkedAs mark (cell_in old k)
+    was e = subst (λ (m : Mark). IsMarkedAs m (cell_in old k)) (sym is) (subst (λ (n : ℕ). IsMarkedAs (get_or marks n any_mark) (cell_in old k)) e (were k))
+
+    outside : k / size ≢ part → cell_in new k ≡ cell_in old k
+    outside ne = elim (cases_lt k low) [
+      | inl lt ↦ by.before k lt
+      | inr ge ↦ elim (cases_lt k high) [
+        | inl lt ↦ absurd (ne (here k (omega arith) (omega arith)))
+        | inr far ↦ by.behind k far
+      ]
+    ]
+
+    some : k / size ≡ part → (k < low) ⊎ (high ≤ k) → all ≡ false
+    some e out = let at = only k e in is_all ∙ grind (arith, nat_tests, at, out)
+
+    inside : k / size ≡ part → IsMarkedAs after (cell_in new k)
+    inside e = elim (cases_lt k low) [
+      | inl lt ↦ subst (IsMarkedAs after) (sym (by.before k lt)) (kept (some e (inl lt)) (cell_in old k) (was e))
+      | inr ge ↦ elim (cases_lt k high) [
+        | inl lt ↦ subst (IsMarkedAs after) (sym (by.inside k ge lt)) (changed (first + k) (cell_in old k) (was e))
+        | inr far ↦ subst (IsMarkedAs after) (sym (by.behind k far)) (kept (some e (inr far)) (cell_in old k) (was e))
+      ]
+    ]
+
+-- places whose mark says that the step leaves them as they are
+pub left_part : (step : CellStep) (first size part low high : ℕ) (marks : List Mark) (mark : Mark) (old : List KeptByte)
+    → ((k : ℕ) → part * size ≤ k → k < part * size + size → k / size ≡ part)
+    → part * size ≤ low → high ≤ part * size + size → mark ≡ get_or marks part any_mark
+    → ((place : ℕ) (cell : Option Cell) → IsMarkedAs mark cell → step place cell ≡ cell)
+    → AreMarked size marks old → IsChanged step first low high old old
+left_part step first size part low high marks mark old here begins ends is same were = changed_left step first low high old
+    (λ k from below. same (first + k) (cell_in old k) (subst (λ (m : Mark). IsMarkedAs m (cell_in old k)) (sym is)
+    (subst (λ (n : ℕ). IsMarkedAs (get_or marks n any_mark) (cell_in old k)) (here k (omega arith) (omega arith)) (were k))))
+
+-- so all are within the range
+pub changed_within : (step : CellStep) (first low high begin end : ℕ) (old new : List KeptByte) → low ≡ min (begin - first) (length old)
+    → high ≡ max (min (end - first) (length old)) low → IsChanged step first low high old new
+    → (k : ℕ) → k < length old → cell_in new k ≡ within begin end step (first + k) (cell_in old k)
+changed_within step first low high begin end old new is_low is_high by k lt = elim (cases_lt k low) [
+  | inl under ↦ (let no : (leb begin (first + k) && ltb (first + k) end) ≡ false = grind (arith, nat_tests) in by.before k under ∙ at no)
+  | inr over ↦ elim (cases_lt k high) [
+    | inl under ↦ (let yes : (leb begin (first + k) && ltb (first + k) end) ≡ true = grind (arith, nat_tests) in by.inside k over under ∙ at yes)
+    | inr far ↦ (let no : (leb begin (first + k) && ltb (first + k) end) ≡ false = grind (arith, nat_tests) in by.behind k far ∙ at no)
+  ]
+]
+  where
+    at : {b : Bool} → (leb begin (first + k) && ltb (first + k) end) ≡ b
+        → (if b then step (first + k) (cell_in old k) else cell_in old k) ≡ within begin end step (first + k) (cell_in old k)
+    at e = ap (λ (t : Bool). if t then step (first + k) (cell_in old k) else cell_in old k) (sym e)
+
+-- bytes that are put leave the places beside them as they are
+put_beside : (holder : Holder) (begin place : ℕ) (bytes : List ℕ) (cell : Option Cell)
+    → (place < begin) ⊎ (begin + length bytes ≤ place)
+    → with_bytes holder begin bytes (λ _. cell) place ≡ cell
+put_beside holder begin place bytes cell out =
+    let no : (leb begin place && ltb place (begin + length bytes)) ≡ false = grind (arith, nat_tests, out) in
+    ap (λ (t : Bool). if t then Some (record { holder = holder; byte = get_or bytes (place - begin) 0; sure = true }) else cell) no
+
+put_on : (holder : Holder) (begin place : ℕ) (bytes : List ℕ) (cell : Option Cell)
+    → begin ≤ place → place < begin + length bytes
+    → with_bytes holder begin bytes (λ _. cell) place
+    ≡ Some (record { holder = holder; byte = get_or bytes (place - begin) 0; sure = true })
+put_on holder begin place bytes cell low high =
+    let yes : (leb begin place && ltb place (begin + length bytes)) ≡ true = grind (arith, nat_tests) in
+    ap (λ (t : Bool). if t then Some (record { holder = holder; byte = get_or bytes (place - begin) 0; sure = true }) else cell) yes
+
+module _ (holder : Holder) (begin first low high from to : ℕ) (bytes : List ℕ) (old : List KeptByte)
+    (is_from : from ≡ min (max (begin - first) low) high) (is_to : to ≡ max (min (begin + length bytes - first) high) from) where
+  abbrev put_step : CellStep
+  put_step place cell = with_bytes holder begin bytes (λ _. cell) place
+
+  -- none of those before the bytes
+  pub put_before : low ≤ high → IsChanged put_step first low from old old
+  put_before order = changed_left put_step first low from old
+      (λ k over under. put_beside holder begin (first + k) bytes (cell_in old k) (inl (omega arith)))
+
+  -- one byte more
+  pub put_more : (k : ℕ) (new : List KeptByte) (kept : KeptByte) → low ≤ high → from ≤ k → k < to → k < length new
+      → IsChanged put_step first low k old new
+      → shown_kept kept ≡ Some (record { holder = holder; byte = get_or bytes (first + k - begin) 0; sure = true })
+      → IsChanged put_step first low (k + 1) old (set new k kept)
+  put_more k new kept order over under lt was is = changed_more put_step first low k old new kept (omega arith) lt was
+      (is ∙ sym (put_on holder begin (first + k) bytes (cell_in new k) (omega arith) (omega arith)))
+
+  -- none of those behind them
+  pub put_behind : (k : ℕ) (new : List KeptByte) → low ≤ high → from ≤ k → to ≤ k → k ≤ to
+      → IsChanged put_step first low k old new → IsChanged put_step first low high old new
+  put_behind k new order over under most was = changed_join put_step first low k high old new new (omega arith)
+      (omega arith) was
+      (changed_left put_step first k high new (λ j ge lt. put_beside holder begin (first + j) bytes (cell_in new j) (inr (omega arith))))

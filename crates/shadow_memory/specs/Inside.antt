@@ -1,0 +1,85 @@
+-- What is stored, what is true of it, and what changes of it are.
+use Rattle.std.specs.Prelude.{◌≡◌, ℕ, ◌+◌, ◌-◌, ◌++◌, ◌*◌, ◌^◌, ◌<◌, ◌≤◌, Bool, true, not, List, length, replicate, Option, Some, None, option_map, slice_index, slice_index_or, nat_le, nat_lt, if◌then◌else◌, ◌&&◌, ◌==◌}
+use Rattle.std.specs.List.{list_any, AllByRecursion}
+use Rattle.std.specs.Option.{option_and_then}
+use Rattle.model_core.specs.Machine.{slot_of}
+use Rattle.promise_core.specs.Bytes.{Holder, Cell}
+use Rattle.promise_core.specs.Holdings.{ToldCache, Holdings, cache_told}
+use Rattle.shadow_memory.specs.Left.{LeftSlot, Left, left_in, slots_in, slot_places}
+use Rattle.shadow_memory.specs.declared.kept.KeptByte.{KeptByte}
+use Rattle.shadow_memory.specs.declared.kept.KeptByte.TheVariants as Kept
+
+abbrev pub shown_kept : KeptByte → Option Cell
+shown_kept Kept.Fresh = None
+shown_kept (Kept.Page byte sure) = Some (record { holder = Holder.Page; byte = byte; sure = sure })
+shown_kept (Kept.Object cache byte sure first) = Some (record { holder = Holder.Object cache first; byte = byte; sure = sure })
+
+-- these, and nothing at the places behind them, so many in all
+abbrev pub padded : ℕ → List KeptByte → List KeptByte
+padded places kept = kept ++ replicate (places - length kept) Kept.Fresh
+
+-- these are stored from a place on
+abbrev pub AreKeptFrom : ℕ → List LeftSlot → ℕ → List KeptByte → Type 0
+AreKeptFrom order slots place kept = (j : ℕ) → j < length kept → shown_kept (slice_index_or kept j Kept.Fresh) ≡ left_in order slots (place + j)
+
+abbrev pub AreFrom : Left → ℕ → List KeptByte → Type 0
+AreFrom left = AreKeptFrom left.order left.slots
+
+-- what becomes of what was left, by place
+abbrev pub CellStep : Type 0
+CellStep = ℕ → Option Cell → Option Cell
+
+-- so it becomes from `begin` on, before `end`
+abbrev pub within : ℕ → ℕ → CellStep → CellStep
+within begin end step place cell = if nat_le begin place && nat_lt place end then step place cell else cell
+
+-- what is of a holder that passes is in doubt
+abbrev pub doubted_of : (Holder → Bool) → CellStep
+doubted_of test place = option_map (λ (cell : Cell). record cell { sure = cell.sure && not (test cell.holder) })
+
+-- it is gone
+abbrev pub removed_of : (Holder → Bool) → CellStep
+removed_of test place = option_and_then (λ (cell : Cell). if test cell.holder then None else Some cell)
+
+-- the cache of an object that has a byte
+abbrev pub cache_of : Holdings → Holder → Option ToldCache
+cache_of h Holder.Page = None
+cache_of h (Holder.Object number first) = cache_told h number
+
+-- a byte of an object lies behind the object's first place, by less than the reach of its cache
+abbrev pub IsHolderNear : List ℕ → ℕ → Holder → Type 0
+IsHolderNear reach place Holder.Page = Unit {0}
+IsHolderNear reach place (Holder.Object number first) = (first ≤ place) × (place < first + slice_index reach number)
+
+abbrev pub IsNear : List ℕ → ℕ → Option Cell → Type 0
+IsNear reach place None = Unit {0}
+IsNear reach place (Some cell) = IsHolderNear reach place cell.holder
+
+-- where it was so, it is so then
+abbrev pub StaysNear : CellStep → Type 0
+StaysNear step = (reach : List ℕ) (place : ℕ) (cell : Option Cell)
+    → IsNear reach place cell → IsNear reach place (step place cell)
+
+-- the slot is stored whole, and its places are below 2 ^ 32
+pub record IsSlotWhole (order : ℕ) (s : LeftSlot) : Type 0 where
+  pub all : length s.cells ≡ slot_places order
+  pub low : (s.slot + 1) * slot_places order ≤ 2 ^ 32
+
+-- slots of 2 ^ order frames
+pub record AreSlots (order : ℕ) (slots : List LeftSlot) (reach : List ℕ) : Type 0 where
+  pub whole : AllByRecursion (IsSlotWhole order) slots
+  pub near : (place : ℕ) → IsNear reach place (left_in order slots place)
+
+-- the slot after a step at each of its places
+pub record IsStepped (order : ℕ) (step : CellStep) (old new : LeftSlot) : Type 0 where
+  pub slot : new.slot ≡ old.slot
+  pub len : length new.cells ≡ length old.cells
+  pub cells : (k : ℕ) → k < length old.cells
+      → slice_index_or new.cells k None ≡ step (old.slot * slot_places order + k) (slice_index_or old.cells k None)
+
+-- the slots after it
+pub record AreStepped (order : ℕ) (step : CellStep) (old new : List LeftSlot) : Type 0 where
+  pub slots : slots_in new ≡ slots_in old
+  pub whole : AllByRecursion (IsSlotWhole order) new
+  pub cells : (place : ℕ) → list_any (λ u. u == slot_of order place) (slots_in old) ≡ true
+      → (place < 2 ^ 32) × (left_in order new place ≡ step place (left_in order old place))

@@ -1,0 +1,185 @@
+//! What replies make of what was left at a place.
+
+ghost use Rattle.std.specs.Prelude.{◌≡◌, ℕ, ◌+◌, ◌-◌, ◌^◌, ◌<◌, ◌≤◌, Bool, true, false, not, length, Option, None};
+ghost use Rattle.promise_core.specs.Bytes.{Cell, with_bytes};
+ghost use Rattle.judge_core.specs.Holders.{shown_holder};
+ghost use Rattle.shadow_memory.specs.Inside.{CellStep, shown_kept, doubted_of, removed_of};
+ghost use Rattle.shadow_memory.specs.Marks.{IsMarkedAs, IsChanged};
+
+use crate::kept::KeptByte;
+use crate::mark::Mark;
+use crate::tests_of_holders::{HolderTest, fails_all, passes_all};
+use judge_core::{LeftByte, RangeHolder};
+
+/// What becomes of what was left at a place.
+pub(crate) trait Change {
+    ghost step: { Self → CellStep };
+
+    /// Changes what is stored of the places from `low` on, before `high`, where the first is `first`.
+    fn change_places(&self, cells: &mut [KeptByte], first: u64, low: usize, high: usize)
+        requires order { low ≤ high }
+        requires most { high ≤ length cells.old }
+        requires low { first + length cells.old ≤ 2 ^ 32 }
+        ensures { IsChanged (step self.now) first low high cells.old cells.new };
+
+    /// Whether something may come to be where nothing was.
+    fn adds(&self) -> bool
+        ensures { result ≡ false → (place : ℕ) → step self.now place None ≡ None };
+
+    /// Whether it surely leaves all as it is where there is this mark.
+    fn leaves(&self, mark: Mark) -> bool
+        ensures { result ≡ true → (place : ℕ) (cell : Option Cell) → IsMarkedAs mark cell → step self.now place cell ≡ cell };
+
+    /// The mark of some places after it, whose mark was this: of all of them, or of any part.
+    fn mark_after(&self, mark: Mark, all: bool) -> Mark
+        ensures changed { (place : ℕ) (cell : Option Cell) → IsMarkedAs mark cell → IsMarkedAs result (step self.now place cell) }
+        ensures kept { all ≡ false → (cell : Option Cell) → IsMarkedAs mark cell → IsMarkedAs result cell };
+}
+
+/// What is of a holder that passes is in doubt.
+#[derive(Drop)]
+pub(crate) struct Doubt<T>(pub T);
+
+impl<T: HolderTest> Doubt<T> {
+    /// What is stored of a place then.
+    fn doubted(&self, kept: KeptByte) -> KeptByte
+        ensures { (place : ℕ) → shown_kept result ≡ doubted_of (T.test self.now.0) place (shown_kept kept) }
+    {
+        match kept.left() {
+            Some(left) => {
+                if self.0.passes(left.holder) {
+                    KeptByte::of(LeftByte {
+                        holder: left.holder,
+                        byte: left.byte,
+                        sure: false,
+                    })
+                } else {
+                    kept
+                }
+            }
+            None => kept,
+        }
+    }
+}
+
+impl<T: HolderTest> Change for Doubt<T> {
+    ghost step = { λ d. doubted_of (T.test d.0) };
+
+    fn change_places(&self, cells: &mut [KeptByte], _first: u64, low: usize, high: usize) {
+        for k in low..high {
+            cells[k] = self.doubted(cells[k]);
+        }
+    }
+
+    fn adds(&self) -> bool {
+        false
+    }
+
+    fn leaves(&self, mark: Mark) -> bool {
+        !mark.sure || fails_all(&self.0, mark.owners)
+    }
+
+    fn mark_after(&self, mark: Mark, all: bool) -> Mark {
+        if all && passes_all(&self.0, mark.owners) {
+            Mark {
+                owners: mark.owners,
+                sure: false,
+            }
+        } else {
+            mark
+        }
+    }
+}
+
+/// What is of a holder that passes is gone.
+#[derive(Drop)]
+pub(crate) struct Remove<T>(pub T);
+
+impl<T: HolderTest> Remove<T> {
+    /// What is stored of a place then.
+    fn without(&self, kept: KeptByte) -> KeptByte
+        ensures { (place : ℕ) → shown_kept result ≡ removed_of (T.test self.now.0) place (shown_kept kept) }
+    {
+        match kept.left() {
+            Some(left) => {
+                if self.0.passes(left.holder) {
+                    KeptByte::Fresh
+                } else {
+                    kept
+                }
+            }
+            None => kept,
+        }
+    }
+}
+
+impl<T: HolderTest> Change for Remove<T> {
+    ghost step = { λ d. removed_of (T.test d.0) };
+
+    fn change_places(&self, cells: &mut [KeptByte], _first: u64, low: usize, high: usize) {
+        for k in low..high {
+            cells[k] = self.without(cells[k]);
+        }
+    }
+
+    fn adds(&self) -> bool {
+        false
+    }
+
+    fn leaves(&self, mark: Mark) -> bool {
+        fails_all(&self.0, mark.owners)
+    }
+
+    fn mark_after(&self, mark: Mark, all: bool) -> Mark {
+        if all && passes_all(&self.0, mark.owners) {
+            Mark::FRESH
+        } else {
+            mark
+        }
+    }
+}
+
+/// These bytes of the holder are there from a place on.
+#[derive(Drop)]
+pub(crate) struct Put<'a> {
+    pub holder: RangeHolder,
+    pub begin: u32,
+    pub bytes: &'a [u8],
+}
+
+impl<'a> Change for Put<'a> {
+    ghost step = { λ d place cell. with_bytes (shown_holder d.holder) d.begin d.bytes.now (λ _. cell) place };
+
+    // It stands apart so that what is known of its ends is not worked out anew for each chunk.
+    #[inline(never)]
+    fn change_places(&self, cells: &mut [KeptByte], first: u64, low: usize, high: usize) {
+        let Put {
+            holder,
+            begin: place,
+            bytes,
+        } = *self;
+        let begin = u64::from(place);
+        let end = begin + bytes.len() as u64;
+        let from = begin.saturating_sub(first).max(low as u64).min(high as u64);
+        let to = end.saturating_sub(first).min(high as u64).max(from);
+        for k in from..to {
+            cells[k as usize] = KeptByte::of(LeftByte {
+                holder,
+                byte: bytes[(first + k - begin) as usize],
+                sure: true,
+            });
+        }
+    }
+
+    fn adds(&self) -> bool {
+        true
+    }
+
+    fn leaves(&self, _mark: Mark) -> bool {
+        false
+    }
+
+    fn mark_after(&self, mark: Mark, _all: bool) -> Mark {
+        mark.with(self.holder)
+    }
+}

@@ -1,0 +1,227 @@
+//! What was left in the slots of a tenant, and what becomes of it by replies.
+
+ghost use Rattle.std.specs.Prelude.{◌≡◌, ℕ, ◌+◌, ◌*◌, ◌^◌, ◌<◌, ◌≤◌, ◌==◌, ◌&&◌, not, filter, length, [], ◌∷◌, Some, true, false, OnOk, OnErr, option_map, slice_index};
+ghost use Rattle.std.specs.List.{list_any};
+ghost use Rattle.model_core.specs.declared.limits.TheConstants.{FRAME_BYTES, MOST_ORDER};
+ghost use Rattle.model_core.specs.Machine.{in_block, slot_of};
+ghost use Rattle.promise_core.specs.Holdings.{ToldCache, slab_around};
+ghost use Rattle.promise_core.specs.Bytes.{Holder, is_object, is_same, with_bytes, doubted, without};
+ghost use Rattle.promise_core.specs.State.{with_object, is_in_no_slab};
+ghost use Rattle.judge_core.specs.Holders.{shown_holder, shown_cell};
+ghost use Rattle.shadow_memory.specs.Left.{left_slots, left_at, has_place, Becomes};
+ghost use Rattle.shadow_memory.specs.Inside.{StaysNear, AreFrom, AreStepped, within};
+
+use crate::change::{Change, Doubt, Put, Remove};
+use crate::kept::KeptByte;
+use crate::slot::SlotBytes;
+use crate::slots::{change_slots, drop_slot, kept_from, left_in, places_of};
+use crate::tests_of_holders::{
+    IsElse, IsInNoSlab, IsNoPage, IsNotBeside, IsObject, IsOfCache, IsPage,
+};
+use judge_core::{FrameBlock, Held, LeftByte, RangeHolder};
+use std::alloc::{AllocError, Global};
+use std::marker::Model;
+
+/// The shadow memory of a tenant: what was left at each place of the slots that it holds.
+#[derive(Debug, Drop)]
+pub struct ShadowMemory {
+    order: u8,
+    slots: Vec<SlotBytes>,
+    /// By number of a cache: each byte left of an object lies less than this behind the object's first.
+    reach: [u64; 256],
+}
+
+impl Model for ShadowMemory {
+    ghost use Rattle.std.specs.Prelude.{◌≤◌};
+    ghost use Rattle.model_core.specs.declared.limits.TheConstants.{MOST_ORDER};
+    ghost use Rattle.shadow_memory.specs.Left.{Left};
+    ghost use Rattle.shadow_memory.specs.Inside.{AreSlots};
+
+    ghost Value = { Left };
+
+    ghost view = { λ b. record { order = b.order; slots = b.slots.items } };
+
+    ghost invariant = { λ b. (b.order ≤ MOST_ORDER) × AreSlots b.order b.slots.items b.reach };
+}
+
+impl ShadowMemory {
+    /// Nothing, of no slot; slots have `2^order` frames.
+    pub fn new(alloc: Global, order: u8) -> ShadowMemory
+        requires { order ≤ MOST_ORDER }
+        ensures { result ≡ record { order = order; slots = [] } }
+    {
+        ShadowMemory {
+            order,
+            slots: Vec::new(alloc),
+            reach: [0; 256],
+        }
+    }
+
+    /// Slots have `2^order` frames.
+    pub fn order(&self) -> u8
+        ensures value { result ≡ self.now.order }
+        ensures most { result ≤ MOST_ORDER }
+    {
+        self.order
+    }
+
+    /// The slot, which is not held, is granted: nothing was left in it. Fails where memory runs out, and then nothing is changed.
+    pub fn grant(&mut self, slot: u16) -> Result<(), AllocError>
+        requires new { list_any (λ v. v == slot) (left_slots self.old) ≡ false }
+        requires low { (slot + 1) * 2 ^ self.old.order * FRAME_BYTES ≤ 2 ^ 32 }
+        ensures granted { OnOk result (Becomes self.old (slot ∷ left_slots self.old) (λ cells. cells) self.new) }
+        ensures kept { OnErr result (self.new ≡ self.old) }
+    {
+        let places = places_of(self.order) as usize;
+        let bytes = SlotBytes::fresh(*self.slots.allocator(), slot, places)?;
+        self.slots.insert(0, bytes)?;
+        Ok(())
+    }
+
+    /// The slot is taken back: what was left in it is gone, and its memory is given back.
+    pub fn take_back(&mut self, slot: u32)
+        ensures { Becomes self.old (filter (λ v. not (v == slot)) (left_slots self.old))
+            (without (λ place holder. slot_of self.old.order place == slot)) self.new }
+    {
+        drop_slot(&mut self.slots, slot);
+    }
+
+    /// All slots are taken back.
+    pub fn reset(&mut self)
+        ensures { self.new ≡ record self.old { slots = [] } }
+    {
+        self.slots.clear();
+    }
+
+    /// These bytes of the holder are told or written, from a place on, all of them in slots that the tenant holds.
+    pub fn put(&mut self, holder: RangeHolder, place: u32, bytes: &[u8])
+        requires held { (j : ℕ) → j < length bytes.now → has_place self.old (place + j) ≡ true }
+        requires near { (number first : ℕ) → shown_holder holder ≡ Holder.Object number first → first ≤ place }
+        ensures { Becomes self.old (left_slots self.old) (with_bytes (shown_holder holder) place bytes.now) self.new }
+    {
+        let begin = u64::from(place);
+        let end = begin + bytes.len() as u64;
+        extend_reach(&mut self.reach, holder, end);
+        let put = Put {
+            holder,
+            begin: place,
+            bytes,
+        };
+        change_slots(&mut self.slots, self.order, begin, end, &put);
+    }
+
+    /// The page block is handed out: what was left of objects in it is gone.
+    pub fn alloc(&mut self, block: &FrameBlock)
+        ensures { Becomes self.old (left_slots self.old)
+            (without (λ place holder. in_block place block.now && not (is_same Holder.Page holder))) self.new }
+    {
+        self.change(block.first_byte(), block.end_byte(), &Remove(IsNoPage));
+    }
+
+    /// The page block is freed: what was left in it is in doubt.
+    pub fn free(&mut self, block: &FrameBlock)
+        ensures { Becomes self.old (left_slots self.old)
+            (doubted (λ place holder. in_block place block.now && is_same Holder.Page holder)) self.new }
+    {
+        self.change(block.first_byte(), block.end_byte(), &Doubt(IsPage));
+    }
+
+    /// The object of the cache of this number that begins at `first` is given back: what was left of it is in doubt.
+    pub fn give(&mut self, number: u32, first: u32)
+        ensures { Becomes self.old (left_slots self.old) (doubted (λ place. is_same (Holder.Object number first))) self.new }
+    {
+        let begin = u64::from(first);
+        let end = begin.saturating_add(reach_of(&self.reach, number));
+        self.change(begin, end, &Doubt(IsObject { number, first }));
+    }
+
+    /// An object of `size` bytes of the cache of this number is handed out at `first`, in this slab: what was left there of all
+    /// that can't lie beside it in a slab is gone.
+    pub fn take(&mut self, slab: &FrameBlock, number: u8, first: u32, size: u32)
+        ensures { (c : ToldCache) → c.number ≡ number → c.size ≡ size → slab_around c first ≡ slab.now
+            → Becomes self.old (left_slots self.old) (with_object first (Some c)) self.new }
+    {
+        // all of other caches goes; of its own cache only an object goes that begins before its end and ends behind its first byte
+        let low = u64::from(first.saturating_sub(size));
+        let high = (u64::from(first) + u64::from(size)).saturating_add(reach_of(
+            &self.reach,
+            u32::from(number),
+        ));
+        let begin = slab.first_byte();
+        let end = slab.end_byte();
+        self.change(begin, end, &Remove(IsElse { number }));
+        let test = IsNotBeside {
+            number,
+            first,
+            size,
+        };
+        self.change(begin.max(low), end.min(high), &Remove(test));
+    }
+
+    /// The cache of this number is destroyed: what was left of its objects is gone.
+    pub fn destroy(&mut self, number: u32)
+        ensures { Becomes self.old (left_slots self.old) (without (λ place. is_object (λ n p. n == number))) self.new }
+    {
+        self.change(0, 1u64 << 32, &Remove(IsOfCache { number }));
+    }
+
+    /// Empty slabs may have been given back: what was left of objects that no slab has which has a live one is gone.
+    pub fn reap(&mut self, held: &Held)
+        ensures { Becomes self.old (left_slots self.old) (without (λ place. is_object (is_in_no_slab held.now))) self.new }
+    {
+        self.change(0, 1u64 << 32, &Remove(IsInNoSlab { held }));
+    }
+
+    /// What was left at a place, of a slot that the tenant holds.
+    pub fn at(&self, place: u32) -> Option<LeftByte>
+        ensures { option_map shown_cell result ≡ left_at self.now place }
+    {
+        left_in(&self.slots, self.order, place)
+    }
+
+    /// What is stored from a place on, to the end of its slot; nothing of a slot that the tenant does not hold.
+    pub(crate) fn kept_from(&self, place: u32) -> &[KeptByte]
+        ensures { AreFrom self.now place result.now }
+    {
+        kept_from(&self.slots, self.order, place)
+    }
+
+    /// The places of its slots are below `2^32`.
+    pub(crate) fn places_are_low(&self)
+        ensures { (place : ℕ) → has_place self.now place ≡ true → place < 2 ^ 32 }
+    {
+        let _slots = &self.slots;
+    }
+
+    /// Changes what was left at the places from `begin` on, before `end`.
+    fn change<C: Change>(&mut self, begin: u64, end: u64, change: &C)
+        requires { StaysNear (C.step change.now) }
+        ensures order { self.new.order ≡ self.old.order }
+        ensures slots { AreStepped self.old.order (within begin end (C.step change.now)) self.old.slots self.new.slots }
+    {
+        change_slots(&mut self.slots, self.order, begin, end, change);
+    }
+}
+
+/// The reach of this number, 0 where there is none.
+fn reach_of(reach: &[u64; 256], number: u32) -> u64
+    ensures { result ≡ slice_index reach.now number }
+{
+    match reach.get(number as usize) {
+        Some(reach) => *reach,
+        None => 0,
+    }
+}
+
+/// Makes the reach of the holder's cache such that bytes of it may lie before `end`.
+fn extend_reach(reach: &mut [u64; 256], holder: RangeHolder, end: u64)
+    ensures more { (n : ℕ) → slice_index reach.old n ≤ slice_index reach.new n }
+    ensures near { (number first : ℕ) → shown_holder holder ≡ Holder.Object number first
+        → end ≤ first + slice_index reach.new number }
+{
+    if let RangeHolder::Object { cache, first } = holder {
+        let distance = end.saturating_sub(u64::from(first));
+        let most = reach[usize::from(cache)].max(distance);
+        reach[usize::from(cache)] = most;
+    }
+}

@@ -1,0 +1,15 @@
+//! Shadow memory: for each place of a tenant's slots the byte that was left there, its holder, and whether the byte is sure. So it
+//! decides what a read may report.
+#![tactic(auto)]
+
+mod change;
+mod kept;
+mod left;
+mod mark;
+mod ranges;
+mod reading;
+mod slot;
+mod slots;
+mod tests_of_holders;
+
+pub use left::ShadowMemory;

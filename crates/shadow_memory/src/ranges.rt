@@ -1,0 +1,146 @@
+//! Changes of what is stored of a range of places, which pass over what their marks say they leave as it is.
+
+ghost use Rattle.std.specs.Prelude.{◌≡◌, ℕ, ◌+◌, ◌*◌, ◌^◌, ◌<◌, ◌≤◌, length};
+ghost use Rattle.shadow_memory.specs.Inside.{within};
+ghost use Rattle.shadow_memory.specs.Marks.{cell_in, AreMarked, IsChanged};
+
+use crate::change::Change;
+use crate::kept::KeptByte;
+use crate::mark::{Mark, mark_at, set_mark};
+use model_core::limits::FRAME_BYTES;
+
+/// How many places a chunk has: a part of a frame that has a mark of its own.
+pub(crate) const CHUNK: usize = 64;
+
+/// How many places a frame has.
+pub(crate) const FRAME: usize = FRAME_BYTES as usize;
+
+/// Changes those places of a chunk, where its mark does not say that the change leaves them as they are.
+fn change_chunk<C: Change>(
+    cells: &mut [KeptByte],
+    chunks: &mut [Mark],
+    chunk: usize,
+    first: u64,
+    low: usize,
+    high: usize,
+    change: &C,
+)
+    requires order { low ≤ high }
+    requires most { high ≤ length cells.old }
+    requires low { first + length cells.old ≤ 2 ^ 32 }
+    requires begins { chunk * CHUNK ≤ low }
+    requires ends { high ≤ chunk * CHUNK + CHUNK }
+    requires marked { AreMarked CHUNK chunks.old cells.old }
+    ensures changed { IsChanged (C.step change.now) first low high cells.old cells.new }
+    ensures marked { AreMarked CHUNK chunks.new cells.new }
+{
+    let mark = mark_at(chunks, chunk);
+    if change.leaves(mark) {
+        return;
+    }
+    change.change_places(cells, first, low, high);
+    set_mark(chunks, chunk, change.mark_after(mark, high - low == CHUNK));
+}
+
+/// Changes the places of several chunks.
+fn change_chunks<C: Change>(
+    cells: &mut [KeptByte],
+    chunks: &mut [Mark],
+    first: u64,
+    low: usize,
+    high: usize,
+    change: &C,
+)
+    requires order { low ≤ high }
+    requires most { high ≤ length cells.old }
+    requires low { first + length cells.old ≤ 2 ^ 32 }
+    requires marked { AreMarked CHUNK chunks.old cells.old }
+    ensures changed { IsChanged (C.step change.now) first low high cells.old cells.new }
+    ensures marked { AreMarked CHUNK chunks.new cells.new }
+{
+    for chunk in low / CHUNK..(high + CHUNK - 1) / CHUNK {
+        let begin = (chunk * CHUNK).max(low);
+        let end = (chunk * CHUNK + CHUNK).min(high);
+        change_chunk(cells, chunks, chunk, first, begin, end, change);
+    }
+}
+
+/// Changes those places of a frame, where its mark does not say that the change leaves them as they are.
+fn change_frame<C: Change>(
+    cells: &mut [KeptByte],
+    chunks: &mut [Mark],
+    frames: &mut [Mark],
+    frame: usize,
+    first: u64,
+    low: usize,
+    high: usize,
+    change: &C,
+)
+    requires order { low ≤ high }
+    requires most { high ≤ length cells.old }
+    requires low { first + length cells.old ≤ 2 ^ 32 }
+    requires begins { frame * FRAME ≤ low }
+    requires ends { high ≤ frame * FRAME + FRAME }
+    requires chunks { AreMarked CHUNK chunks.old cells.old }
+    requires frames { AreMarked FRAME frames.old cells.old }
+    ensures changed { IsChanged (C.step change.now) first low high cells.old cells.new }
+    ensures chunks { AreMarked CHUNK chunks.new cells.new }
+    ensures frames { AreMarked FRAME frames.new cells.new }
+{
+    let mark = mark_at(frames, frame);
+    if change.leaves(mark) {
+        return;
+    }
+    change_chunks(cells, chunks, first, low, high, change);
+    set_mark(frames, frame, change.mark_after(mark, high - low == FRAME));
+}
+
+/// Changes the places of several frames.
+fn change_frames<C: Change>(
+    cells: &mut [KeptByte],
+    chunks: &mut [Mark],
+    frames: &mut [Mark],
+    first: u64,
+    low: usize,
+    high: usize,
+    change: &C,
+)
+    requires order { low ≤ high }
+    requires most { high ≤ length cells.old }
+    requires low { first + length cells.old ≤ 2 ^ 32 }
+    requires chunks { AreMarked CHUNK chunks.old cells.old }
+    requires frames { AreMarked FRAME frames.old cells.old }
+    ensures changed { IsChanged (C.step change.now) first low high cells.old cells.new }
+    ensures chunks { AreMarked CHUNK chunks.new cells.new }
+    ensures frames { AreMarked FRAME frames.new cells.new }
+{
+    for frame in low / FRAME..(high + FRAME - 1) / FRAME {
+        let begin = (frame * FRAME).max(low);
+        let end = (frame * FRAME + FRAME).min(high);
+        change_frame(cells, chunks, frames, frame, first, begin, end, change);
+    }
+}
+
+/// Changes the places from `begin` on, before `end`, where the first is `first`.
+pub(crate) fn change_range<C: Change>(
+    cells: &mut [KeptByte],
+    chunks: &mut [Mark],
+    frames: &mut [Mark],
+    first: u64,
+    begin: u64,
+    end: u64,
+    change: &C,
+)
+    requires low { first + length cells.old ≤ 2 ^ 32 }
+    requires chunks { AreMarked CHUNK chunks.old cells.old }
+    requires frames { AreMarked FRAME frames.old cells.old }
+    ensures cells { (k : ℕ) → k < length cells.old
+        → cell_in cells.new k ≡ within begin end (C.step change.now) (first + k) (cell_in cells.old k) }
+    ensures chunks { AreMarked CHUNK chunks.new cells.new }
+    ensures frames { AreMarked FRAME frames.new cells.new }
+{
+    let most = cells.len() as u64;
+    let low = begin.saturating_sub(first).min(most) as usize;
+    let high = end.saturating_sub(first).min(most).max(low as u64) as usize;
+    change_frames(cells, chunks, frames, first, low, high, change);
+}

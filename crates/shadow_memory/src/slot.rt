@@ -1,0 +1,146 @@
+//! What was left in a slot.
+
+ghost use Rattle.std.specs.Prelude.{◌≡◌, ℕ, ◌+◌, ◌-◌, ◌*◌, ◌^◌, ◌<◌, ◌≤◌, Option, None, IfOk, length, option_map, replicate, slice_index_or};
+ghost use Rattle.judge_core.specs.Holders.{shown_cell};
+ghost use Rattle.shadow_memory.specs.declared.kept.KeptByte.TheVariants as Kept;
+ghost use Rattle.std.specs.Vec.{vec_capacity};
+ghost use Rattle.shadow_memory.specs.Inside.{padded, shown_kept, within};
+
+use crate::change::Change;
+use crate::kept::KeptByte;
+use crate::mark::Mark;
+use crate::ranges::{CHUNK, FRAME, change_range};
+use judge_core::LeftByte;
+use std::alloc::{AllocError, Global};
+use std::marker::Model;
+
+/// A slot, and what was left at each of its places.
+#[derive(Debug, Drop)]
+pub(crate) struct SlotBytes {
+    slot: u16,
+    /// How many places it has.
+    places: usize,
+    /// The first of them, up to the last at which something was left; there is room for all.
+    cells: Vec<KeptByte>,
+    /// What may have been left in each chunk.
+    chunks: Vec<Mark>,
+    /// What may have been left in each frame.
+    frames: Vec<Mark>,
+}
+
+impl Model for SlotBytes {
+    ghost use Rattle.std.specs.Prelude.{◌≤◌, length, map};
+    ghost use Rattle.std.specs.Vec.{vec_capacity};
+    ghost use Rattle.shadow_memory.specs.Left.{LeftSlot};
+    ghost use Rattle.shadow_memory.specs.Inside.{padded, shown_kept};
+    ghost use Rattle.shadow_memory.specs.Marks.{AreMarked};
+
+    ghost Value = { LeftSlot };
+
+    ghost view = { λ s. record { slot = s.slot; cells = map shown_kept (padded s.places s.cells.items) } };
+
+    ghost invariant = { λ s. AreMarked 64 s.chunks.items s.cells.items × AreMarked 4096 s.frames.items s.cells.items
+        × (length s.cells.items ≤ s.places) × (s.places ≤ vec_capacity s.cells) };
+}
+
+impl SlotBytes {
+    /// A slot of so many places, at which nothing was left.
+    pub fn fresh(alloc: Global, slot: u16, places: usize) -> Result<SlotBytes, AllocError>
+        ensures { IfOk result (λ s. s ≡ record { slot = slot; cells = replicate places None }) }
+    {
+        Ok(SlotBytes {
+            slot,
+            places,
+            cells: Vec::with_capacity(alloc, places)?,
+            chunks: vec![in alloc; Mark::FRESH; places / CHUNK]?,
+            frames: vec![in alloc; Mark::FRESH; places / FRAME]?,
+        })
+    }
+
+    /// The number of the slot.
+    pub fn slot(&self) -> u16
+        ensures { result ≡ self.now.slot }
+    {
+        self.slot
+    }
+
+    /// What was left this far from its first place.
+    pub fn at(&self, index: usize) -> Option<LeftByte>
+        ensures { option_map shown_cell result ≡ slice_index_or self.now.cells index None }
+    {
+        kept_at(&self.cells, index).left()
+    }
+
+    /// What is stored this far from its first place and behind that; nothing was left at the places behind.
+    pub fn kept_from(&self, index: usize) -> &[KeptByte]
+        ensures len { length result.now ≤ length self.now.cells - index }
+        ensures kept { (j : ℕ) → j < length result.now → shown_kept (slice_index_or result.now j Kept.Fresh)
+            ≡ slice_index_or self.now.cells (index + j) None }
+    {
+        match self.cells.get(index..) {
+            Some(kept) => kept,
+            None => &[],
+        }
+    }
+
+    /// Changes what was left at the places from `begin` on, before `end`, where its first place is `first`.
+    pub fn change<C: Change>(&mut self, first: u64, begin: u64, end: u64, change: &C)
+        requires { first + length self.old.cells ≤ 2 ^ 32 }
+        ensures slot { self.new.slot ≡ self.old.slot }
+        ensures len { length self.new.cells ≡ length self.old.cells }
+        ensures cells { (k : ℕ) → k < length self.old.cells → slice_index_or self.new.cells k None
+            ≡ within begin end (C.step change.now) (first + k) (slice_index_or self.old.cells k None) }
+    {
+        if end <= first || first + self.places as u64 <= begin {
+            return;
+        }
+        make_room(&mut self.cells, self.places, first, end, change);
+        change_range(
+            &mut self.cells,
+            &mut self.chunks,
+            &mut self.frames,
+            first,
+            begin,
+            end,
+            change,
+        );
+    }
+}
+
+/// Stores as many of the first places as the change may add something at before `end`, where the first is `first`.
+fn make_room<C: Change>(cells: &mut Vec<KeptByte>, places: usize, first: u64, end: u64, change: &C)
+    requires few { length cells.old.items ≤ places }
+    requires room { places ≤ vec_capacity cells.old }
+    ensures same { (k : ℕ) → slice_index_or cells.new.items k Kept.Fresh ≡ slice_index_or cells.old.items k Kept.Fresh }
+    ensures behind { (begin k : ℕ) → length cells.new.items ≤ k → k < places
+        → within begin end (C.step change.now) (first + k) None ≡ None }
+    ensures few { length cells.new.items ≤ places }
+    ensures room { places ≤ vec_capacity cells.new }
+{
+    if !change.adds() {
+        return;
+    }
+    let wanted = end.saturating_sub(first).min(places as u64) as usize;
+    grow(cells, wanted);
+}
+
+/// Makes them so many, if they are fewer: nothing was left at the new ones.
+fn grow(cells: &mut Vec<KeptByte>, wanted: usize)
+    requires { wanted ≤ vec_capacity cells.old }
+    ensures items { cells.new.items ≡ padded wanted cells.old.items }
+    ensures room { vec_capacity cells.old ≤ vec_capacity cells.new }
+{
+    if cells.len() < wanted {
+        cells.resize(wanted, KeptByte::Fresh).unwrap();
+    }
+}
+
+/// What is stored there, nothing where there is no such place.
+fn kept_at(cells: &[KeptByte], index: usize) -> KeptByte
+    ensures { result ≡ slice_index_or cells.now index Kept.Fresh }
+{
+    match cells.get(index) {
+        Some(kept) => *kept,
+        None => KeptByte::Fresh,
+    }
+}

@@ -1,0 +1,82 @@
+//! What was left in several slots.
+
+ghost use Rattle.std.specs.Prelude.{◌≡◌, ◌^◌, ◌≤◌, ◌==◌, not, filter, option_map};
+ghost use Rattle.std.specs.List.{AllByRecursion};
+ghost use Rattle.model_core.specs.declared.limits.TheConstants.{MOST_ORDER};
+ghost use Rattle.judge_core.specs.Holders.{shown_cell};
+ghost use Rattle.shadow_memory.specs.Left.{left_in, slot_places};
+ghost use Rattle.shadow_memory.specs.Inside.{IsSlotWhole, AreKeptFrom, AreStepped, within};
+
+use crate::change::Change;
+use crate::kept::KeptByte;
+use crate::slot::SlotBytes;
+use judge_core::LeftByte;
+use model_core::limits::FRAME_BYTES;
+
+/// How many places a slot of `2^order` frames has.
+pub(crate) fn places_of(order: u8) -> u64
+    requires { order ≤ MOST_ORDER }
+    ensures value { result ≡ slot_places order }
+    ensures most { result ≤ 2 ^ 20 }
+{
+    (1u64 << order) * u64::from(FRAME_BYTES)
+}
+
+/// What was left at a place, where slots have `2^order` frames.
+pub(crate) fn left_in(slots: &[SlotBytes], order: u8, place: u32) -> Option<LeftByte>
+    requires { order ≤ MOST_ORDER }
+    ensures { option_map shown_cell result ≡ left_in order slots.now place }
+{
+    let places = places_of(order);
+    let slot = place / FRAME_BYTES / (1u32 << order);
+    for s in slots {
+        if u32::from(s.slot()) == slot {
+            let before = u64::from(s.slot()) * places;
+            return s.at(u64::from(place).saturating_sub(before) as usize);
+        }
+    }
+    None
+}
+
+/// What is stored from a place on, to the end of its slot; nothing where none of these has the place.
+pub(crate) fn kept_from(slots: &[SlotBytes], order: u8, place: u32) -> &[KeptByte]
+    requires order { order ≤ MOST_ORDER }
+    requires whole { AllByRecursion (IsSlotWhole order) slots.now }
+    ensures { AreKeptFrom order slots.now place result.now }
+{
+    let places = places_of(order);
+    let slot = place / FRAME_BYTES / (1u32 << order);
+    for s in slots {
+        if u32::from(s.slot()) == slot {
+            let before = u64::from(s.slot()) * places;
+            return s.kept_from(u64::from(place).saturating_sub(before) as usize);
+        }
+    }
+    &[]
+}
+
+/// Changes what was left at the places from `begin` on, before `end`, where slots have `2^order` frames.
+pub(crate) fn change_slots<C: Change>(
+    slots: &mut [SlotBytes],
+    order: u8,
+    begin: u64,
+    end: u64,
+    change: &C,
+)
+    requires order { order ≤ MOST_ORDER }
+    requires whole { AllByRecursion (IsSlotWhole order) slots.old }
+    ensures { AreStepped order (within begin end (C.step change.now)) slots.old slots.new }
+{
+    let places = places_of(order);
+    for slot in slots.iter_mut() {
+        let first = u64::from(slot.slot()) * places;
+        slot.change(first, begin, end, change);
+    }
+}
+
+/// The slots without this one.
+pub(crate) fn drop_slot(slots: &mut Vec<SlotBytes>, slot: u32)
+    ensures { slots.new.items ≡ filter (λ s. not (s.slot == slot)) slots.old.items }
+{
+    slots.retain(|s| u32::from(s.slot()) != slot);
+}

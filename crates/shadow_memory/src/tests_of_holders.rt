@@ -1,0 +1,250 @@
+//! Tests of what has a byte.
+
+ghost use Rattle.std.specs.Prelude.{◌≡◌, ℕ, Bool, true, false, not, IfSome, ◌==◌, ◌&&◌, ◌||◌, nat_le, ◌+◌};
+ghost use Rattle.std.specs.List.{list_any};
+ghost use Rattle.model_core.specs.Machine.{in_block};
+ghost use Rattle.promise_core.specs.Holdings.{slab_around};
+ghost use Rattle.promise_core.specs.Bytes.{Holder, is_same, is_object};
+ghost use Rattle.promise_core.specs.State.{is_in_no_slab};
+ghost use Rattle.judge_core.specs.Holders.{shown_holder};
+ghost use Rattle.shadow_memory.specs.Marks.{MayOwn};
+
+use crate::mark::Owners;
+use judge_core::{FrameBlock, Held, HeldCache, RangeHolder};
+use model_core::limits::FRAME_BYTES;
+
+/// A test of what has a byte.
+pub(crate) trait HolderTest {
+    ghost test: { Self → Holder → Bool };
+
+    /// Whether it passes.
+    fn passes(&self, holder: RangeHolder) -> bool
+        ensures { result ≡ test self.now (shown_holder holder) };
+
+    /// What it tells of each object of the cache of this number, where it tells the same of all.
+    fn tells_of_cache(&self, number: u8) -> Option<bool>
+        ensures { IfSome result (λ told. (first : ℕ) → test self.now (Holder.Object number first) ≡ told) };
+}
+
+/// What the test tells of each that may be one of these, where it tells the same of all.
+fn tells_of<T: HolderTest>(test: &T, owners: Owners) -> Option<bool>
+    ensures { IfSome result (λ told. (h : Holder) → MayOwn owners h → T.test test.now h ≡ told) }
+{
+    match owners {
+        Owners::Nobody => Some(false),
+        Owners::One(holder) => Some(test.passes(holder)),
+        Owners::Objects(number) => test.tells_of_cache(number),
+        Owners::Any => None,
+    }
+}
+
+/// Whether each that may be one of these surely passes.
+pub(crate) fn passes_all<T: HolderTest>(test: &T, owners: Owners) -> bool
+    ensures { result ≡ true → (h : Holder) → MayOwn owners h → T.test test.now h ≡ true }
+{
+    match tells_of(test, owners) {
+        Some(told) => told,
+        None => false,
+    }
+}
+
+/// Whether each that may be one of these surely fails.
+pub(crate) fn fails_all<T: HolderTest>(test: &T, owners: Owners) -> bool
+    ensures { result ≡ true → (h : Holder) → MayOwn owners h → T.test test.now h ≡ false }
+{
+    match tells_of(test, owners) {
+        Some(told) => !told,
+        None => false,
+    }
+}
+
+/// Whether it is a page block.
+#[derive(Drop)]
+pub(crate) struct IsPage;
+
+impl HolderTest for IsPage {
+    ghost test = { λ _ holder. is_same Holder.Page holder };
+
+    fn passes(&self, holder: RangeHolder) -> bool {
+        match holder {
+            RangeHolder::Page => true,
+            RangeHolder::Object { .. } => false,
+        }
+    }
+
+    fn tells_of_cache(&self, _number: u8) -> Option<bool> {
+        Some(false)
+    }
+}
+
+/// Whether it is no page block.
+#[derive(Drop)]
+pub(crate) struct IsNoPage;
+
+impl HolderTest for IsNoPage {
+    ghost test = { λ _ holder. not (is_same Holder.Page holder) };
+
+    fn passes(&self, holder: RangeHolder) -> bool {
+        match holder {
+            RangeHolder::Page => false,
+            RangeHolder::Object { .. } => true,
+        }
+    }
+
+    fn tells_of_cache(&self, _number: u8) -> Option<bool> {
+        Some(true)
+    }
+}
+
+/// Whether it is the object of this cache that begins at this place.
+#[derive(Drop)]
+pub(crate) struct IsObject {
+    pub number: u32,
+    pub first: u32,
+}
+
+impl HolderTest for IsObject {
+    ghost test = { λ o holder. is_same (Holder.Object o.number o.first) holder };
+
+    fn passes(&self, holder: RangeHolder) -> bool {
+        match holder {
+            RangeHolder::Page => false,
+            RangeHolder::Object { cache, first } => {
+                u32::from(cache) == self.number && first == self.first
+            }
+        }
+    }
+
+    fn tells_of_cache(&self, number: u8) -> Option<bool> {
+        if u32::from(number) == self.number {
+            None
+        } else {
+            Some(false)
+        }
+    }
+}
+
+/// Whether it is an object of this cache.
+#[derive(Drop)]
+pub(crate) struct IsOfCache {
+    pub number: u32,
+}
+
+impl HolderTest for IsOfCache {
+    ghost test = { λ o holder. is_object (λ n p. n == o.number) holder };
+
+    fn passes(&self, holder: RangeHolder) -> bool {
+        match holder {
+            RangeHolder::Page => false,
+            RangeHolder::Object { cache, .. } => u32::from(cache) == self.number,
+        }
+    }
+
+    fn tells_of_cache(&self, number: u8) -> Option<bool> {
+        Some(u32::from(number) == self.number)
+    }
+}
+
+/// Whether it is no object of this cache.
+#[derive(Drop)]
+pub(crate) struct IsElse {
+    pub number: u8,
+}
+
+impl HolderTest for IsElse {
+    ghost test = { λ o holder. not (is_object (λ n p. n == o.number) holder) };
+
+    fn passes(&self, holder: RangeHolder) -> bool {
+        match holder {
+            RangeHolder::Page => true,
+            RangeHolder::Object { cache, .. } => cache != self.number,
+        }
+    }
+
+    fn tells_of_cache(&self, number: u8) -> Option<bool> {
+        Some(number != self.number)
+    }
+}
+
+/// Whether it can't lie in one slab with the object of this cache, of `size` bytes, that begins at this place.
+#[derive(Drop)]
+pub(crate) struct IsNotBeside {
+    pub number: u8,
+    pub first: u32,
+    pub size: u32,
+}
+
+impl HolderTest for IsNotBeside {
+    ghost test = { λ o holder. not (is_object (λ n p. n == o.number
+        && (p == o.first || (nat_le (o.first + o.size) p || nat_le (p + o.size) o.first))) holder) };
+
+    fn passes(&self, holder: RangeHolder) -> bool {
+        match holder {
+            RangeHolder::Page => true,
+            RangeHolder::Object { cache, first } => {
+                let here = u64::from(self.first);
+                let there = u64::from(first);
+                let size = u64::from(self.size);
+                let is_beside = there == here || here + size <= there || there + size <= here;
+                !(cache == self.number && is_beside)
+            }
+        }
+    }
+
+    fn tells_of_cache(&self, number: u8) -> Option<bool> {
+        if number == self.number {
+            None
+        } else {
+            Some(true)
+        }
+    }
+}
+
+/// Whether it is an object that no slab has which has a live one.
+#[derive(Drop)]
+pub(crate) struct IsInNoSlab<'a> {
+    pub held: &'a Held,
+}
+
+impl<'a> HolderTest for IsInNoSlab<'a> {
+    ghost test = { λ o holder. is_object (is_in_no_slab o.held.now) holder };
+
+    fn passes(&self, holder: RangeHolder) -> bool {
+        match holder {
+            RangeHolder::Page => false,
+            RangeHolder::Object { cache, first } => {
+                !is_in_some_slab(self.held.caches(), cache, first)
+            }
+        }
+    }
+
+    fn tells_of_cache(&self, _number: u8) -> Option<bool> {
+        None
+    }
+}
+
+/// Whether the place is in a slab of a live object of a cache of this number.
+fn is_in_some_slab(caches: &[HeldCache], number: u8, place: u32) -> bool
+    ensures { result ≡ list_any (λ c. c.number == number && list_any (λ q. in_block place (slab_around c q)) c.live) caches.now }
+{
+    caches.iter().any(|cache| cache.number() == number && has_slab_at(cache, place))
+}
+
+/// Whether the place is in a slab of a live object.
+fn has_slab_at(cache: &HeldCache, place: u32) -> bool
+    ensures { result ≡ list_any (λ q. in_block place (slab_around cache.now q)) cache.now.live }
+{
+    cache
+        .live()
+        .iter()
+        .any(|first| is_in_block(place, &cache.slab_around(*first)))
+}
+
+/// Whether the place is in a frame of the block.
+fn is_in_block(place: u32, block: &FrameBlock) -> bool
+    ensures { result ≡ in_block place block.now }
+{
+    let frame = u64::from(place / FRAME_BYTES);
+    let first = u64::from(block.first());
+    first <= frame && frame < first + (1u64 << block.order())
+}
