@@ -22,7 +22,7 @@ use Rattle.judge.specs.Verdicts.{broken, verdict_on}
 use Rattle.judge.specs.Seen.{Seen, state_of}
 use Rattle.judge.specs.Machine.{SeenMachine, known_of}
 use Rattle.judge.specs.Sizes.{FitsLimits}
-use Rattle.judge.specs.Judged.{failing, verdict_at, IsVerdictFor, AreOwnersAfter, IsJudged}
+use Rattle.judge.specs.Judged.{failing, tenant_verdict, IsVerdictFor, AreOwnersAfter, IsJudged}
 use Rattle.judge.proofs.Owning.{opened}
 use Rattle.judge.proofs.Verdicts.{formless}
 
@@ -134,7 +134,7 @@ as_before x t y z owners here same is =
 module _ (event : Event) (reply : Reply) (x : SeenMachine) (t : ℕ) (y z : Seen) (name : named event ≡ Some t)
     (right : is_for event true reply.addressee ≡ true) (here : slice_get x.tenants t ≡ Some y) (order : y.left.order ≡ x.order) where
   -- the tenant's verdict is the one on the machine's reply
-  on_tenant : (v : Result (Unit {0}) Promise) → verdict_at event reply.body (known_of x) y ≡ v
+  on_tenant : (v : Result (Unit {0}) Promise) → tenant_verdict event reply.body (known_of x) y ≡ v
       → allowed event reply (known_of x)
       ≡ turn v (known_after event reply.body (known_of x) (unwrap_or (state_after x.order event reply.body (state_of y)) (state_of y)))
   on_tenant v is = found event reply (known_of x) t (Some (state_of y)) name (slice_get-map state_of x.tenants t ∙ ap (option_map state_of) here)
@@ -218,7 +218,7 @@ pool_answered reply x result right judged = go result (judged (known_of x) nobod
     nobody : Seen
     nobody = record { has = record { slots = []; pages = []; caches = [] }; left = record { order = x.order; slots = [] }; hides = []; told = None }
 
-    verdict_is_at : (v : Result (Unit {0}) Promise) → verdict_at (On.Admin Do.Pool) reply.body (known_of x) nobody ≡ v
+    verdict_is_at : (v : Result (Unit {0}) Promise) → tenant_verdict (On.Admin Do.Pool) reply.body (known_of x) nobody ≡ v
         → v ≡ verdict_on (On.Admin Do.Pool) reply.body (known_of x) opening_state
     verdict_is_at v is = sym is ∙ ap (verdict_on (On.Admin Do.Pool) reply.body (known_of x)) (opened nobody x.order refl refl (λ n. refl) refl)
 

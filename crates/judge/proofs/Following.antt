@@ -19,7 +19,7 @@ use Rattle.promise_core.specs.State.{Known, is_in_use, with_range, with_object, 
 use Rattle.shadow_memory.specs.Left.{Left, left_slots, left_at, Becomes}
 use Rattle.judge.specs.Seen.{Seen, state_of}
 use Rattle.judge.specs.Inside.{AreNumbered}
-use Rattle.judge.specs.Judged.{verdict_at, IsFollowed}
+use Rattle.judge.specs.Judged.{tenant_verdict, IsFollowed}
 
 -- a machine of which nothing is known
 pub nothing : Known
@@ -30,7 +30,7 @@ abbrev pub changed : Seen → Holdings → Left → Seen
 changed old h l = record old { has = h; left = l; told = None }
 
 pub allocated : (t k f : ℕ) (w : Known) (b : Block) (old : Seen) (h : Holdings) (l : Left) → b ≡ block f k
-    → verdict_at (On.Tenant t (Asked.Alloc k)) (Say.Frame f) w old ≡ Ok tt
+    → tenant_verdict (On.Tenant t (Asked.Alloc k)) (Say.Frame f) w old ≡ Ok tt
     → h ≡ record old.has { pages = put_rising (λ x. x.first) b old.has.pages }
     → Becomes old.left (left_slots old.left) (without (λ place holder. in_block place b && not (is_same Holder.Page holder))) l
     → IsFollowed (On.Tenant t (Asked.Alloc k)) (Say.Frame f) w old (changed old h l)
@@ -47,7 +47,7 @@ allocated t k f w b old h l is kept has left = record {
 }
 
 pub freed : (t f k : ℕ) (w : Known) (b : Block) (old : Seen) (h : Holdings) (l : Left) → b ≡ block f k
-    → verdict_at (On.Tenant t (Asked.Free f)) (Say.Freed k) w old ≡ Ok tt
+    → tenant_verdict (On.Tenant t (Asked.Free f)) (Say.Freed k) w old ≡ Ok tt
     → h ≡ record old.has { pages = filter (λ x. not (x.first == f)) old.has.pages }
     → Becomes old.left (left_slots old.left) (doubted (λ place holder. in_block place b && is_same Holder.Page holder)) l
     → IsFollowed (On.Tenant t (Asked.Free f)) (Say.Freed k) w old (changed old h l)
@@ -65,7 +65,7 @@ freed t f k w b old h l is kept has left = record {
 
 module _ (t place len : ℕ) (bytes : ArrayVec ℕ) (w : Known) (old : Seen) (l : Left) (holder : Holder) (is : holder_of old.has place len ≡ Some holder)
     (left : Becomes old.left (left_slots old.left) (with_bytes holder place bytes.items) l) where
-  pub read : verdict_at (On.Tenant t (Asked.Read place len)) (Say.Bytes bytes) w old ≡ Ok tt
+  pub read : tenant_verdict (On.Tenant t (Asked.Read place len)) (Say.Bytes bytes) w old ≡ Ok tt
       → IsFollowed (On.Tenant t (Asked.Read place len)) (Say.Bytes bytes) w old (record old { left = l })
   unfolding state_after
   read kept = record {
@@ -74,7 +74,7 @@ module _ (t place len : ℕ) (bytes : ArrayVec ℕ) (w : Known) (old : Seen) (l 
     state = (λ i. Some (with_range place bytes.items (state_of old) (is i))) ∙ (λ i. Some (record (state_of old) { cells = sym left.cells i }));
   }
 
-  pub written : verdict_at (On.Tenant t (Asked.Write place bytes)) (Say.Written len) w old ≡ Ok tt
+  pub written : tenant_verdict (On.Tenant t (Asked.Write place bytes)) (Say.Written len) w old ≡ Ok tt
       → IsFollowed (On.Tenant t (Asked.Write place bytes)) (Say.Written len) w old (record old { left = l })
   unfolding state_after
   written kept = record {
@@ -85,7 +85,7 @@ module _ (t place len : ℕ) (bytes : ArrayVec ℕ) (w : Known) (old : Seen) (l 
 
 pub made : (t size align : ℕ) (pattern : ArrayVec ℕ) (number chunk q n colours : ℕ) (w : Known) (c : ToldCache) (old : Seen) (h : Holdings)
     → c ≡ record { number = number; size = size; align = align; pattern = pattern.items; chunk = chunk; order = q; count = n; live = [] }
-    → verdict_at (On.Tenant t (Asked.Cache size align pattern)) (Say.Cache number chunk q n colours) w old ≡ Ok tt
+    → tenant_verdict (On.Tenant t (Asked.Cache size align pattern)) (Say.Cache number chunk q n colours) w old ≡ Ok tt
     → h ≡ record old.has { caches = put_rising (λ x. x.number) c old.has.caches }
     → IsFollowed (On.Tenant t (Asked.Cache size align pattern)) (Say.Cache number chunk q n colours) w old (changed old h old.left)
 unfolding state_after
@@ -101,7 +101,7 @@ made t size align pattern number chunk q n colours w c old h is kept has = recor
 }
 
 pub destroyed : (t number frames : ℕ) (w : Known) (old : Seen) (h : Holdings) (l : Left) (marks : List Bool)
-    → verdict_at (On.Tenant t (Asked.Destroy number)) (Say.Destroyed frames) w old ≡ Ok tt
+    → tenant_verdict (On.Tenant t (Asked.Destroy number)) (Say.Destroyed frames) w old ≡ Ok tt
     → h ≡ record old.has { caches = filter (λ c. not (c.number == number)) old.has.caches }
     → Becomes old.left (left_slots old.left) (without (λ place. is_object (λ n p. n == number))) l
     → ((n : ℕ) → slice_index_or marks n false ≡ (not (n == number) && slice_index_or old.hides n false))
@@ -114,7 +114,7 @@ destroyed t number frames w old h l marks kept has left hides = record {
 }
 
 pub taken : (t number place : ℕ) (w : Known) (c : ToldCache) (old : Seen) (h : Holdings) (l : Left) (marks : List Bool) → cache_told old.has number ≡ Some c
-    → verdict_at (On.Tenant t (Asked.Take number)) (Say.Object place) w old ≡ Ok tt
+    → tenant_verdict (On.Tenant t (Asked.Take number)) (Say.Object place) w old ≡ Ok tt
     → h ≡ with_live_places number (put_rising (λ p. p) place) old.has
     → Becomes old.left (left_slots old.left) (with_object place (Some c)) l
     → ((n : ℕ) → slice_index_or marks n false ≡ (n == number || slice_index_or old.hides n false))
@@ -132,7 +132,7 @@ taken t number place w c old h l marks is kept has left hides = record {
 }
 
 pub given : (t number place : ℕ) (w : Known) (old : Seen) (h : Holdings) (l : Left)
-    → verdict_at (On.Tenant t (Asked.Give number place)) Say.Given w old ≡ Ok tt
+    → tenant_verdict (On.Tenant t (Asked.Give number place)) Say.Given w old ≡ Ok tt
     → h ≡ with_live_places number (filter (λ p. not (p == place))) old.has
     → Becomes old.left (left_slots old.left) (doubted (λ p. is_same (Holder.Object number place))) l
     → IsFollowed (On.Tenant t (Asked.Give number place)) Say.Given w old (changed old h l)
@@ -158,7 +158,7 @@ in_use_below h n low = go (nat_lt n MOST_CACHES) refl (cache_told h n) refl
         absurd (omega (arith, is, lt, beyond))
 
 pub reaped : (t frames : ℕ) (w : Known) (old : Seen) (l : Left) (marks : List Bool) → AreNumbered old.has
-    → verdict_at (On.Tenant t Asked.Reap) (Say.Reaped frames) w old ≡ Ok tt
+    → tenant_verdict (On.Tenant t Asked.Reap) (Say.Reaped frames) w old ≡ Ok tt
     → Becomes old.left (left_slots old.left) (without (λ place. is_object (is_in_no_slab old.has))) l
     → ((n : ℕ) → slice_index_or marks n false ≡ (nat_lt n MOST_CACHES && is_in_use (cache_told old.has n)))
     → IsFollowed (On.Tenant t Asked.Reap) (Say.Reaped frames) w old (record { has = old.has; left = l; hides = marks; told = None })
@@ -174,7 +174,7 @@ reaped t frames w old l marks low kept left hides = record {
   });
 }
 
-pub reported : (t : ℕ) (r : Report) (w : Known) (old : Seen) → verdict_at (On.Tenant t Asked.Report) (Say.Report r) w old ≡ Ok tt
+pub reported : (t : ℕ) (r : Report) (w : Known) (old : Seen) → tenant_verdict (On.Tenant t Asked.Report) (Say.Report r) w old ≡ Ok tt
     → IsFollowed (On.Tenant t Asked.Report) (Say.Report r) w old (record old { told = Some r })
 unfolding state_after
 reported t r w old kept = record { kept = kept; order = refl; state = refl }

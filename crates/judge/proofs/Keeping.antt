@@ -25,7 +25,7 @@ use Rattle.shadow_memory.specs.Left.{left_slots, Becomes}
 use Rattle.judge.specs.Verdicts.{broken, kept_by}
 use Rattle.judge.specs.Seen.{Seen, state_of}
 use Rattle.judge.specs.Inside.{AreNumbered, LieInSlots}
-use Rattle.judge.specs.Judged.{known_at, verdict_at, IsFollowed}
+use Rattle.judge.specs.Judged.{known_at, tenant_verdict, IsFollowed}
 
 -- each promise is kept
 pub all_kept : (ps : List (Promise × Bool)) → broken ps ≡ Ok tt → Each (λ p. p.1 ≡ true) ps
@@ -46,7 +46,7 @@ pub record AreKept (event : Event) (body : Body) (w : Known) (s : State) : Type 
   pub layout : new_layout event body w s ≡ true
   pub owners : owners event body w s ≡ true
 
-pub kept_all : (event : Event) (body : Body) (w : Known) (x : Seen) → verdict_at event body w x ≡ Ok tt → AreKept event body (known_at x w) (state_of x)
+pub kept_all : (event : Event) (body : Body) (w : Known) (x : Seen) → tenant_verdict event body w x ≡ Ok tt → AreKept event body (known_at x w) (state_of x)
 kept_all event body w x ok =
     let k = all_kept (kept_by event body (known_at x w) (state_of x)) ok in
     record {
@@ -118,17 +118,17 @@ sound_after event body w old new sound follows slots =
     }
 
 -- the same of a tenant that is another one by its fields
-pub kept_in : (event : Event) (body : Body) (w : Known) (x y : Seen) → x ≡ y → Ok tt ≡ verdict_at event body w y → verdict_at event body w x ≡ Ok tt
-kept_in event body w x y same kept = subst (λ z. verdict_at event body w z ≡ Ok tt) (sym same) (sym kept)
+pub kept_in : (event : Event) (body : Body) (w : Known) (x y : Seen) → x ≡ y → Ok tt ≡ tenant_verdict event body w y → tenant_verdict event body w x ≡ Ok tt
+kept_in event body w x y same kept = subst (λ z. tenant_verdict event body w z ≡ Ok tt) (sym same) (sym kept)
 
-pub sound_in : (event : Event) (body : Body) (w : Known) (x y new : Seen) → x ≡ y → LieInSlots x.has x.left → Ok tt ≡ verdict_at event body w y
-    → (verdict_at event body w x ≡ Ok tt → IsFollowed event body w x new)
+pub sound_in : (event : Event) (body : Body) (w : Known) (x y new : Seen) → x ≡ y → LieInSlots x.has x.left → Ok tt ≡ tenant_verdict event body w y
+    → (tenant_verdict event body w x ≡ Ok tt → IsFollowed event body w x new)
     → ((u : ℕ) → list_any (λ v. v == u) (left_slots new.left) ≡ has_slot new.has u) → LieInSlots new.has new.left
 sound_in event body w x y new same sound kept follows slots =
     sound_after event body w x new sound (follows (kept_in event body w x y same kept)) slots
 
-pub followed : (event : Event) (body : Body) (w : Known) (x y new : Seen) → x ≡ y → Ok tt ≡ verdict_at event body w y
-    → (verdict_at event body w x ≡ Ok tt → IsFollowed event body w x new) → IsFollowed event body w y new
+pub followed : (event : Event) (body : Body) (w : Known) (x y new : Seen) → x ≡ y → Ok tt ≡ tenant_verdict event body w y
+    → (tenant_verdict event body w x ≡ Ok tt → IsFollowed event body w x new) → IsFollowed event body w y new
 followed event body w x y new same kept follows =
     subst (λ z. IsFollowed event body w z new) same (follows (kept_in event body w x y same kept))
 

@@ -17,7 +17,7 @@ use Rattle.judge_core.specs.Inside.{IsToldLayout}
 use Rattle.judge.specs.Verdicts.{kept_by}
 use Rattle.model_core.specs.declared.limits.TheConstants.{MOST_CACHES}
 use Rattle.judge.specs.Seen.{Seen, state_of}
-use Rattle.judge.specs.Judged.{known_at, verdict_at}
+use Rattle.judge.specs.Judged.{known_at, tenant_verdict}
 use Rattle.judge.proofs.Keeping.{all_kept}
 
 none_is : {X : Type 0} (o : Option X) → is_none o ≡ true → o ≡ None
@@ -30,7 +30,7 @@ passed true r rest e = (refl, e)
 passed false r rest e = absurd (cc)
 
 module _ (size align t number chunk q n colours : ℕ) (p : ArrayVec ℕ) (w : Known) (x : Seen) where
-  kept : verdict_at (On.Tenant t (Asked.Cache size align p)) (Say.Cache number chunk q n colours) w x ≡ Ok tt
+  kept : tenant_verdict (On.Tenant t (Asked.Cache size align p)) (Say.Cache number chunk q n colours) w x ≡ Ok tt
       → (is_none (due (On.Tenant t (Asked.Cache size align p)) (known_at x w) (state_of x)) ≡ true)
       × (new_layout (On.Tenant t (Asked.Cache size align p)) (Say.Cache number chunk q n colours) (known_at x w) (state_of x) ≡ true)
   kept ok = let all = all_kept (kept_by (On.Tenant t (Asked.Cache size align p)) (Say.Cache number chunk q n colours) (known_at x w) (state_of x)) ok in
@@ -49,7 +49,7 @@ module _ (size align t number chunk q n colours : ℕ) (p : ArrayVec ℕ) (w : K
   inside = nat_le (align * (colours - 1) + n * chunk) (FRAME_BYTES * 2 ^ q)
 
   -- the number of a new cache is new
-  pub new_where_allowed : verdict_at (On.Tenant t (Asked.Cache size align p)) (Say.Cache number chunk q n colours) w x ≡ Ok tt
+  pub new_where_allowed : tenant_verdict (On.Tenant t (Asked.Cache size align p)) (Say.Cache number chunk q n colours) w x ≡ Ok tt
       → cache_told x.has number ≡ None
   new_where_allowed ok = none_is (cache_told x.has number)
       (and_parts (nat_lt number MOST_CACHES) (is_none (cache_told x.has number))
@@ -67,7 +67,7 @@ module _ (size align t number chunk q n colours : ℕ) (p : ArrayVec ℕ) (w : K
 
   -- .. and its objects fit into a slab
   pub cut_where_allowed : x.left.order ≤ MOST_ORDER
-      → verdict_at (On.Tenant t (Asked.Cache size align p)) (Say.Cache number chunk q n colours) w x ≡ Ok tt
+      → tenant_verdict (On.Tenant t (Asked.Cache size align p)) (Say.Cache number chunk q n colours) w x ≡ Ok tt
       → IsToldLayout size align chunk q n
   cut_where_allowed order ok =
       let sizes = sized (kept ok).0 in

@@ -25,7 +25,7 @@ use Rattle.shadow_memory.specs.Left.{Left, left_slots, left_at, Becomes}
 use Rattle.judge.specs.Seen.{Seen, state_of}
 use Rattle.judge.specs.Inside.{LieInSlots}
 use Rattle.judge.specs.declared.verdict.Failure.{Failure}
-use Rattle.judge.specs.Judged.{verdict_at, IsFollowed, AreOwnersAfter}
+use Rattle.judge.specs.Judged.{tenant_verdict, IsFollowed, AreOwnersAfter}
 use Rattle.judge.proofs.Keeping.{kept_all}
 use Rattle.judge.proofs.Following.{changed}
 
@@ -61,7 +61,7 @@ pub slots_granted : (old new : Seen) (u : ℕ) (change : Cells → Cells) → Li
 slots_granted old new u change sound becomes same n = ap (list_any (λ v. v == n)) becomes.slots ∙ (ap (λ r. u == n || r) (sound.slots n)
     ∙ (sym (any_put (λ v. v == n) u old.has.slots) ∙ sym (ap (list_any (λ v. v == n)) same)))
 
-pub granted : (t told u m : ℕ) (w : Known) (old : Seen) (h : Holdings) (l : Left) → verdict_at (On.Admin (Do.Grant t)) (Say.Granted told u m) w old ≡ Ok tt
+pub granted : (t told u m : ℕ) (w : Known) (old : Seen) (h : Holdings) (l : Left) → tenant_verdict (On.Admin (Do.Grant t)) (Say.Granted told u m) w old ≡ Ok tt
     → h ≡ record old.has { slots = put_rising (λ v. v) u old.has.slots }
     → Becomes old.left (u ∷ left_slots old.left) (λ cells. cells) l
     → IsFollowed (On.Admin (Do.Grant t)) (Say.Granted told u m) w old (changed old h l)
@@ -77,7 +77,7 @@ pub record IsNewSlot (u : ℕ) (x : Seen) : Type 0 where
   pub new : has_slot x.has u ≡ false
   pub low : (u + 1) * 2 ^ x.left.order * FRAME_BYTES ≤ 2 ^ 32
 
-pub new_slot : (t told u m : ℕ) (w : Known) (x : Seen) → verdict_at (On.Admin (Do.Grant t)) (Say.Granted told u m) w x ≡ Ok tt → IsNewSlot u x
+pub new_slot : (t told u m : ℕ) (w : Known) (x : Seen) → tenant_verdict (On.Admin (Do.Grant t)) (Say.Granted told u m) w x ≡ Ok tt → IsNewSlot u x
 new_slot t told u m w x kept =
     let n = kept_all (On.Admin (Do.Grant t)) (Say.Granted told u m) w x kept in
     let p = and_parts _ _ (and_parts _ _ n.owners).1 in
@@ -139,7 +139,7 @@ pub slots_taken : (old new : Seen) (u : ℕ) (change : Cells → Cells) → LieI
 slots_taken old new u change sound becomes same n = ap (list_any (λ v. v == n)) becomes.slots ∙ (any_dropped u n (left_slots old.left)
     ∙ (ap (λ r. not (n == u) && r) (sound.slots n) ∙ (sym (any_dropped u n old.has.slots) ∙ sym (ap (list_any (λ v. v == n)) same))))
 
-pub taken_back : (t u m : ℕ) (w : Known) (old : Seen) (h : Holdings) (l : Left) → verdict_at (On.Admin (Do.TakeBack t u)) (Say.TakenBack m) w old ≡ Ok tt
+pub taken_back : (t u m : ℕ) (w : Known) (old : Seen) (h : Holdings) (l : Left) → tenant_verdict (On.Admin (Do.TakeBack t u)) (Say.TakenBack m) w old ≡ Ok tt
     → h ≡ record old.has { slots = filter (λ v. not (v == u)) old.has.slots }
     → Becomes old.left (filter (λ v. not (v == u)) (left_slots old.left)) (without (λ place holder. slot_of old.left.order place == u)) l
     → IsFollowed (On.Admin (Do.TakeBack t u)) (Say.TakenBack m) w old (changed old h l)
@@ -152,7 +152,7 @@ taken_back t u m w old h l kept has left = record {
 
 -- A reset
 
-pub emptied : (t told m : ℕ) (w : Known) (old new : Seen) → verdict_at (On.Admin (Do.Reset t)) (Say.WasReset told m) w old ≡ Ok tt
+pub emptied : (t told m : ℕ) (w : Known) (old new : Seen) → tenant_verdict (On.Admin (Do.Reset t)) (Say.WasReset told m) w old ≡ Ok tt
     → new.has ≡ record { slots = []; pages = []; caches = [] } → new.left ≡ record old.left { slots = [] }
     → ((n : ℕ) → slice_index_or new.hides n false ≡ false) → new.told ≡ None → IsFollowed (On.Admin (Do.Reset t)) (Say.WasReset told m) w old new
 unfolding state_after
@@ -164,7 +164,7 @@ emptied t told m w old new kept has left hides none = record {
 
 -- A move
 
-pub moved : (t u told slot m : ℕ) (w : Known) (x : Seen) → verdict_at (On.Admin (Do.Move t u)) (Say.Moved told slot m) w x ≡ Ok tt
+pub moved : (t u told slot m : ℕ) (w : Known) (x : Seen) → tenant_verdict (On.Admin (Do.Move t u)) (Say.Moved told slot m) w x ≡ Ok tt
     → IsFollowed (On.Admin (Do.Move t u)) (Say.Moved told slot m) w x x
 unfolding state_after
 moved t u told slot m w x kept = record { kept = kept; order = refl; state = refl }
@@ -172,7 +172,7 @@ moved t u told slot m w x kept = record { kept = kept; order = refl; state = ref
 -- Who owns each superblock then: that of the tenant and the slot that were asked for
 
 pub owner_granted : (t told u m : ℕ) (w : Known) (x : Seen) (os : List (Option Owner))
-    → verdict_at (On.Admin (Do.Grant t)) (Say.Granted told u m) w x ≡ Ok tt
+    → tenant_verdict (On.Admin (Do.Grant t)) (Say.Granted told u m) w x ≡ Ok tt
     → slice_set os m (Some (owned_by told u)) ≡ owners_after (On.Admin (Do.Grant t)) (Say.Granted told u m) os
 unfolding owners_after
 owner_granted t told u m w x os kept =
@@ -180,7 +180,7 @@ owner_granted t told u m w x os kept =
     ap (λ i. slice_set os m (Some (owned_by i u))) (eqb-true told t (and_parts _ _ (and_parts _ _ n.owners).0).0)
 
 pub owner_moved : (t u told slot m : ℕ) (w : Known) (x : Seen) (os : List (Option Owner))
-    → verdict_at (On.Admin (Do.Move t u)) (Say.Moved told slot m) w x ≡ Ok tt
+    → tenant_verdict (On.Admin (Do.Move t u)) (Say.Moved told slot m) w x ≡ Ok tt
     → slice_set (map (given_up (is_owner t u)) os) m (Some (owned_by told slot)) ≡ owners_after (On.Admin (Do.Move t u)) (Say.Moved told slot m) os
 unfolding owners_after
 owner_moved t u told slot m w x os kept =

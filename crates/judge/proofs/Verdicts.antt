@@ -16,14 +16,14 @@ use Rattle.judge.specs.declared.verdict.Failure.{Failure}
 use Rattle.judge.specs.declared.verdict.Failure.TheVariants as Of
 use Rattle.judge.specs.Verdicts.{broken, on_refusal, verdict_on}
 use Rattle.judge.specs.Seen.{Seen, state_of}
-use Rattle.judge.specs.Judged.{known_at, verdict_at, failing, IsVerdictFor}
+use Rattle.judge.specs.Judged.{known_at, tenant_verdict, failing, IsVerdictFor}
 
 -- after a verdict on a reply that changes nothing
-pub settled : (event : Event) (body : Body) (w : Known) (x : Seen) (result : Result (Unit {0}) Failure) → result ≡ failing (verdict_at event body w x)
+pub settled : (event : Event) (body : Body) (w : Known) (x : Seen) (result : Result (Unit {0}) Failure) → result ≡ failing (tenant_verdict event body w x)
     → state_after x.left.order event body (state_of x) ≡ Some (state_of x) → IsVerdictFor event body w x x result
-settled event body w x result is stays = subst (IsVerdictFor event body w x x) (sym is) (go (verdict_at event body w x) refl)
+settled event body w x result is stays = subst (IsVerdictFor event body w x x) (sym is) (go (tenant_verdict event body w x) refl)
   where
-    go : (v : Result (Unit {0}) Promise) → verdict_at event body w x ≡ v → IsVerdictFor event body w x x (failing v)
+    go : (v : Result (Unit {0}) Promise) → tenant_verdict event body w x ≡ v → IsVerdictFor event body w x x (failing v)
     go (Ok u) same = record { kept = same; order = refl; state = stays }
     go (Err promise) same = (same, refl)
 

@@ -17,9 +17,9 @@ use Rattle.judge.specs.Adding.{is_addition, IsAllowedAddition}
 use Rattle.judge.specs.Sizes.{KeepsSizes}
 
 -- the verdict, whatever else comes with it
-abbrev pub verdict_of : {A : Type 0} → Result A Promise → Result (Unit {0}) Promise
-verdict_of (Ok _) = Ok tt
-verdict_of (Err promise) = Err promise
+abbrev pub only_verdict : {A : Type 0} → Result A Promise → Result (Unit {0}) Promise
+only_verdict (Ok _) = Ok tt
+only_verdict (Err promise) = Err promise
 
 -- a broken promise is a failure
 abbrev pub failing : Result (Unit {0}) Promise → Result (Unit {0}) Failure
@@ -31,21 +31,21 @@ abbrev pub known_at : Seen → Known → Known
 known_at x w = record w { limit = MOST_CACHES; order = x.left.order }
 
 -- the verdict on a reply of this body to a command about the tenant
-abbrev pub verdict_at : Event → Body → Known → Seen → Result (Unit {0}) Promise
-verdict_at event body w x = verdict_on event body (known_at x w) (state_of x)
+abbrev pub tenant_verdict : Event → Body → Known → Seen → Result (Unit {0}) Promise
+tenant_verdict event body w x = verdict_on event body (known_at x w) (state_of x)
 
 -- the reply keeps every promise, and the tenant is as it is after it
 pub record IsFollowed (event : Event) (body : Body) (w : Known) (old new : Seen) : Type 0 where
-  pub kept : verdict_at event body w old ≡ Ok tt
+  pub kept : tenant_verdict event body w old ≡ Ok tt
   pub order : new.left.order ≡ old.left.order
   pub state : state_after old.left.order event body (state_of old) ≡ Some (state_of new)
 
 -- .. or breaks a promise, or adds something for which there is no memory, and the tenant is as before
 abbrev pub IsVerdictFor : Event → Body → Known → Seen → Seen → Result (Unit {0}) Failure → Type 0
 IsVerdictFor event body w old new (Ok _) = IsFollowed event body w old new
-IsVerdictFor event body w old new (Err (Of.Broken promise)) = (verdict_at event body w old ≡ Err promise) × (new ≡ old)
+IsVerdictFor event body w old new (Err (Of.Broken promise)) = (tenant_verdict event body w old ≡ Err promise) × (new ≡ old)
 IsVerdictFor event body w old new (Err (Of.Memory error)) =
-    ((verdict_at event body w old ≡ Ok tt) × (is_addition body ≡ true)) × (new ≡ old)
+    ((tenant_verdict event body w old ≡ Ok tt) × (is_addition body ≡ true)) × (new ≡ old)
 
 -- who owns each superblock is as it is after a reply that keeps every promise, and else as before
 abbrev pub AreOwnersAfter : Event → Body → List (Option Owner) → List (Option Owner) → Result (Unit {0}) Failure → Type 0

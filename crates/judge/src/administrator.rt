@@ -11,7 +11,7 @@ ghost use Rattle.words_core.specs.declared.reply.Body.TheVariants as Say;
 ghost use Rattle.promise_core.specs.Holdings.{has_slot, is_slot_busy};
 ghost use Rattle.promise_core.specs.State.{State, Known};
 ghost use Rattle.promise_core.specs.Promises.{due, first_due};
-ghost use Rattle.judge.specs.Judged.{IsVerdictFor, AreOwnersAfter, known_at, verdict_at};
+ghost use Rattle.judge.specs.Judged.{IsVerdictFor, AreOwnersAfter, known_at, tenant_verdict};
 ghost use Rattle.judge.specs.Seen.{Seen, state_of};
 
 use crate::owners::{
@@ -82,7 +82,7 @@ impl Tenant {
         slot: u16,
         superblock: u16,
     ) -> Verdict
-        ensures { (w : Known) → result ≡ verdict_at (On.Admin (Do.Grant t)) (Say.Granted tenant slot superblock)
+        ensures { (w : Known) → result ≡ tenant_verdict (On.Admin (Do.Grant t)) (Say.Granted tenant slot superblock)
             (record w { owners = owners.now }) self.now }
     {
         let is_granted = is_granted_to(owners, t, tenant, superblock);
@@ -149,7 +149,7 @@ impl Tenant {
         slot: u32,
         superblock: u16,
     ) -> Verdict
-        ensures { (w : Known) → result ≡ verdict_at (On.Admin (Do.TakeBack t slot)) (Say.TakenBack superblock)
+        ensures { (w : Known) → result ≡ tenant_verdict (On.Admin (Do.TakeBack t slot)) (Say.TakenBack superblock)
             (record w { owners = owners.now }) self.now }
     {
         let is_owned = is_owned_by(owners, superblock, t, slot);
@@ -286,7 +286,7 @@ impl Tenant {
         told: u16,
         superblock: u16,
     ) -> Verdict
-        ensures { (w : Known) → result ≡ verdict_at (On.Admin (Do.Move t slot)) (Say.Moved tenant told superblock)
+        ensures { (w : Known) → result ≡ tenant_verdict (On.Admin (Do.Move t slot)) (Say.Moved tenant told superblock)
             (record w { owners = owners.now }) self.now }
     {
         let is_named = is_slot_named(t, slot, tenant, told);
@@ -312,7 +312,7 @@ impl Tenant {
 
 /// The verdict on the answer to a reset of tenant `t`.
 fn judge_reset(owners: &[Option<Owner>], t: u32, tenant: u8, superblocks: u16) -> Verdict
-    ensures { (w : Known) (x : Seen) → result ≡ verdict_at (On.Admin (Do.Reset t)) (Say.WasReset tenant superblocks)
+    ensures { (w : Known) (x : Seen) → result ≡ tenant_verdict (On.Admin (Do.Reset t)) (Say.WasReset tenant superblocks)
         (record w { owners = owners.now }) x }
 {
     on_answer(

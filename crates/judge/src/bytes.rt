@@ -9,7 +9,7 @@ ghost use Rattle.promise_core.specs.Bytes.{holder_of};
 ghost use Rattle.promise_core.specs.State.{State, Known};
 ghost use Rattle.promise_core.specs.Promises.{due};
 ghost use Rattle.judge_core.specs.Holders.{shown_holder};
-ghost use Rattle.judge.specs.Judged.{IsVerdictFor, known_at, verdict_at, verdict_of};
+ghost use Rattle.judge.specs.Judged.{IsVerdictFor, known_at, tenant_verdict, only_verdict};
 ghost use Rattle.judge.specs.Seen.{state_of};
 
 use crate::tenant::Tenant;
@@ -47,8 +47,8 @@ impl Tenant {
 
     /// What has the bytes, if they may be read.
     fn holder_read(&self, place: u32, len: u32, bytes: &[u8]) -> Result<RangeHolder, Promise>
-        ensures judged { (t : ℕ) (w : Known) → verdict_of result
-            ≡ verdict_at (On.Tenant t (Asked.Read place len)) (Say.Bytes (record { items = bytes.now })) w self.now }
+        ensures judged { (t : ℕ) (w : Known) → only_verdict result
+            ≡ tenant_verdict (On.Tenant t (Asked.Read place len)) (Say.Bytes (record { items = bytes.now })) w self.now }
         ensures is { IfOk result (λ holder. (holder_of self.now.has place len ≡ Some (shown_holder holder))
             × (length bytes.now ≡ len)) }
     {
@@ -131,7 +131,7 @@ impl Tenant {
         count: u32,
     ) -> Result<RangeHolder, Promise>
         ensures judged { (t : ℕ) (w : Known)
-            → verdict_of result ≡ verdict_at (On.Tenant t (Asked.Write place bytes.now)) (Say.Written count) w self.now }
+            → only_verdict result ≡ tenant_verdict (On.Tenant t (Asked.Write place bytes.now)) (Say.Written count) w self.now }
         ensures is { IfOk result (λ holder. (holder_of self.now.has place count ≡ Some (shown_holder holder))
             × (length bytes.now.items ≡ count)) }
     {

@@ -11,7 +11,7 @@ ghost use Rattle.words_core.specs.declared.reply.Body.TheVariants as Say;
 ghost use Rattle.promise_core.specs.Holdings.{cache_told};
 ghost use Rattle.promise_core.specs.State.{State, Known};
 ghost use Rattle.promise_core.specs.Promises.{due};
-ghost use Rattle.judge.specs.Judged.{IsVerdictFor, known_at, verdict_at};
+ghost use Rattle.judge.specs.Judged.{IsVerdictFor, known_at, tenant_verdict};
 ghost use Rattle.judge.specs.Seen.{state_of};
 
 use crate::tenant::Tenant;
@@ -79,7 +79,7 @@ impl Tenant {
     /// The verdict on that.
     fn judge_layout(&self, number: u8, layout: &ToldLayout) -> Verdict
         ensures { (t : ℕ) (p : Pattern ℕ) (w : Known) → let l = layout.now in result
-            ≡ verdict_at (On.Tenant t (Asked.Cache l.size l.align p)) (Say.Cache number l.chunk l.order l.count l.colours) w
+            ≡ tenant_verdict (On.Tenant t (Asked.Cache l.size l.align p)) (Say.Cache number l.chunk l.order l.count l.colours) w
             self.now }
     {
         match self.due_of_cache(layout.size, layout.align) {

@@ -9,7 +9,7 @@ ghost use Rattle.words_core.specs.declared.event.Command.TheVariants as Asked;
 ghost use Rattle.words_core.specs.declared.reply.Body.TheVariants as Say;
 ghost use Rattle.promise_core.specs.State.{State, Known};
 ghost use Rattle.promise_core.specs.Promises.{due, can_come_back, empty_frames};
-ghost use Rattle.judge.specs.Judged.{IsVerdictFor, known_at, verdict_at};
+ghost use Rattle.judge.specs.Judged.{IsVerdictFor, known_at, tenant_verdict};
 ghost use Rattle.judge.specs.Seen.{state_of};
 
 use crate::marks::{clear_mark, marks_of_used};
@@ -51,7 +51,7 @@ impl Tenant {
     /// The verdict on that.
     fn judge_destroyed(&self, number: u32, frames: u32) -> Verdict
         ensures { (t : ℕ) (w : Known)
-            → result ≡ verdict_at (On.Tenant t (Asked.Destroy number)) (Say.Destroyed frames) w self.now }
+            → result ≡ tenant_verdict (On.Tenant t (Asked.Destroy number)) (Say.Destroyed frames) w self.now }
     {
         let due = self.due_of_destroy(number);
         let can_come = self.destroyed_can_come(number, frames);
@@ -108,7 +108,7 @@ impl Tenant {
 
     /// The verdict on that.
     fn judge_reaped(&self, frames: u32) -> Verdict
-        ensures { (t : ℕ) (w : Known) → result ≡ verdict_at (On.Tenant t Asked.Reap) (Say.Reaped frames) w self.now }
+        ensures { (t : ℕ) (w : Known) → result ≡ tenant_verdict (On.Tenant t Asked.Reap) (Say.Reaped frames) w self.now }
     {
         let can_come = self.reaped_can_come(frames);
         let is_still = self.are_frames_told(None, frames);

@@ -8,7 +8,7 @@ ghost use Rattle.words_core.specs.declared.reply.Body.TheVariants as Say;
 ghost use Rattle.promise_core.specs.Holdings.{cache_told};
 ghost use Rattle.promise_core.specs.State.{State, Known};
 ghost use Rattle.promise_core.specs.Promises.{due, is_used_up};
-ghost use Rattle.judge.specs.Judged.{IsVerdictFor, failing, known_at, verdict_at, verdict_of};
+ghost use Rattle.judge.specs.Judged.{IsVerdictFor, failing, known_at, tenant_verdict, only_verdict};
 ghost use Rattle.judge.specs.Seen.{state_of};
 
 use crate::marks::set_mark;
@@ -50,7 +50,7 @@ impl Tenant {
     /// The cache of this number, if an object of it may be handed out at the place.
     fn cache_with(&self, number: u32, place: u32) -> Result<&HeldCache, Promise>
         ensures judged { (t : ℕ) (w : Known)
-            → verdict_of result ≡ verdict_at (On.Tenant t (Asked.Take number)) (Say.Object place) w self.now }
+            → only_verdict result ≡ tenant_verdict (On.Tenant t (Asked.Take number)) (Say.Object place) w self.now }
         ensures is { IfOk result (λ cache. cache_told self.now.has number ≡ Some cache.now) }
     {
         let Some(cache) = self.held.cache(number) else {
@@ -113,7 +113,7 @@ impl Tenant {
 
     /// The verdict on that.
     fn judge_given(&self, number: u32, place: u32) -> Verdict
-        ensures { (t : ℕ) (w : Known) → result ≡ verdict_at (On.Tenant t (Asked.Give number place)) Say.Given w self.now }
+        ensures { (t : ℕ) (w : Known) → result ≡ tenant_verdict (On.Tenant t (Asked.Give number place)) Say.Given w self.now }
     {
         on_answer(self.due_of_give(number, place), Promise::Gives, true)
     }

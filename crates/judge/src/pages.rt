@@ -8,7 +8,7 @@ ghost use Rattle.words_core.specs.declared.event.Command.TheVariants as Asked;
 ghost use Rattle.words_core.specs.declared.reply.Body.TheVariants as Say;
 ghost use Rattle.promise_core.specs.State.{State, Known};
 ghost use Rattle.promise_core.specs.Promises.{due};
-ghost use Rattle.judge.specs.Judged.{IsVerdictFor, failing, known_at, verdict_at, verdict_of};
+ghost use Rattle.judge.specs.Judged.{IsVerdictFor, failing, known_at, tenant_verdict, only_verdict};
 ghost use Rattle.judge.specs.Seen.{state_of};
 
 use crate::tenant::Tenant;
@@ -44,7 +44,7 @@ impl Tenant {
     /// The block of `2^k` frames at the frame, if it may be handed out.
     fn new_block(&self, k: u32, frame: u32) -> Result<FrameBlock, Promise>
         ensures judged { (t : ℕ) (w : Known)
-            → verdict_of result ≡ verdict_at (On.Tenant t (Asked.Alloc k)) (Say.Frame frame) w self.now }
+            → only_verdict result ≡ tenant_verdict (On.Tenant t (Asked.Alloc k)) (Say.Frame frame) w self.now }
         ensures is { IfOk result (λ b. b ≡ block frame k) }
     {
         let order = self.left.order();
@@ -96,7 +96,7 @@ impl Tenant {
     /// The page block at the frame, if it has `2^k` frames.
     fn live_block(&self, frame: u32, k: u8) -> Result<FrameBlock, Promise>
         ensures judged { (t : ℕ) (w : Known)
-            → verdict_of result ≡ verdict_at (On.Tenant t (Asked.Free frame)) (Say.Freed k) w self.now }
+            → only_verdict result ≡ tenant_verdict (On.Tenant t (Asked.Free frame)) (Say.Freed k) w self.now }
         ensures is { IfOk result (λ b. b ≡ block frame k) }
     {
         let Some(block) = self.held.page_at(frame) else {

@@ -12,7 +12,7 @@ ghost use Rattle.words_core.specs.declared.reply.Body.TheVariants as Say;
 ghost use Rattle.promise_core.specs.Holdings.{vacant_blocks};
 ghost use Rattle.promise_core.specs.State.{State, Known};
 ghost use Rattle.promise_core.specs.Promises.{report, frames_of_counts, is_row, told_count};
-ghost use Rattle.judge.specs.Judged.{IsVerdictFor, failing, verdict_at};
+ghost use Rattle.judge.specs.Judged.{IsVerdictFor, failing, tenant_verdict};
 
 use crate::counts::{
     count_at, frames_from, frames_of_counts, free_counts, greatest, split_share, taken_counts,
@@ -52,7 +52,7 @@ impl Tenant {
 
     /// The verdict on a report.
     fn judge_report(&self, report: &Report) -> Verdict
-        ensures { (t : ℕ) (w : Known) → result ≡ verdict_at (On.Tenant t Asked.Report) (Say.Report report.now) w self.now }
+        ensures { (t : ℕ) (w : Known) → result ≡ tenant_verdict (On.Tenant t Asked.Report) (Say.Report report.now) w self.now }
     {
         let is_right = tells_state(&self.held, self.left.order(), &self.hides, report);
         let is_still = tells_same(self.told.as_ref(), report);

@@ -9,7 +9,7 @@ use Rattle.promise_core.specs.Promises.{due}
 use Rattle.promise_core.specs.State.{Known, state_after}
 use Rattle.judge.specs.Verdicts.{broken}
 use Rattle.judge.specs.Seen.{Seen, state_of}
-use Rattle.judge.specs.Judged.{verdict_at}
+use Rattle.judge.specs.Judged.{tenant_verdict}
 use Rattle.promise_core.specs.Promises.{report}
 use Rattle.std.specs.List.{list_all, zip}
 use Rattle.judge.proofs.tenant.Tenant.judge_report.Goals as goal
@@ -21,7 +21,7 @@ returns c t w =
     let v : Known = record w { limit = 32 } in
     let right = c.tells_state-is_right.ensures t w (state_of x) in
     let still = c.tells_same-is_still.ensures in
-    subst (λ (y : Seen). c.on_still_answer.result ≡ verdict_at (On.Tenant t Asked.Report) (Say.Report c.args.report.now) w y) c.self.view_is
+    subst (λ (y : Seen). c.on_still_answer.result ≡ tenant_verdict (On.Tenant t Asked.Report) (Say.Report c.args.report.now) w y) c.self.view_is
     (c.on_still_answer.ensures ∙ (λ i. broken ((Promise.Refusals, true)
     ∷ (Promise.Report, (right ∙ ap (λ k. report (On.Tenant t Asked.Report) (Say.Report c.args.report.now) (record w { order = k }) (state_of x)) c.order.ensures.value) i)
     ∷ (
