@@ -1,7 +1,7 @@
 //! Verdicts on replies to any event, and what is kept of the machine after them.
 
 ghost use Rattle.std.specs.Prelude.{◌≡◌, ◌<◌, ℕ, Some, None, Ok, Err, true, IfOk, OnErr, length};
-ghost use Rattle.words_core.specs.Requests.{HasFewBytes, body_of_answer, is_table, reply_to};
+ghost use Rattle.words_core.specs.Requests.{body_of_answer, is_table, reply_to};
 ghost use Rattle.words_core.specs.declared.event.Event.TheVariants as On;
 ghost use Rattle.words_core.specs.declared.reply.Body.TheVariants as Say;
 ghost use Rattle.promise_core.specs.declared.promise.Promise.{Promise};
@@ -30,7 +30,6 @@ impl Machine {
         addressee: Addressee,
         answer: &Answer<'_>,
     ) -> Result<Verdict, AllocError>
-        requires { HasFewBytes answer.now }
         ensures judged { IfOk result (λ verdict. (w : Known) → ShowsKnown self.old w
             → IsVerdict verdict (allowed event.now (reply_to addressee answer.now) w) self.new) }
         ensures broken { (promise : Promise) → result ≡ Ok (Err promise) → self.new ≡ self.old }
