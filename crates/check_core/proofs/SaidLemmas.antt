@@ -20,7 +20,7 @@ use Rattle.words_core.specs.declared.reply.Body.TheVariants.{Granted, TakenBack,
 use Rattle.words_core.specs.declared.reply.Refusal.{Refusal}
 use Rattle.words_core.specs.declared.reply.Refusal.TheVariants.{NoFrames, BadOrder, NotABlock, OutOfReach, BadLength, BadSize, BadAlign, NoCacheSlot, NoCache, CacheInUse, NotAnObject, NoTenant, PoolEmpty, NoSlot, SlotBusy}
 use Rattle.hex.specs.Hex.{encode_lower, decode_of, is_hex_digit, IsBytes}
-use Rattle.check_core.specs.declared.said.TheConstants.{REFUSALS}
+use Rattle.words_core.specs.declared.reply.TheConstants.{REFUSALS}
 use Rattle.check_core.specs.Forms.{◌>>=◌, mark_at, form_at}
 use Rattle.check_core.specs.Replies.{made_at, fit_place, fit_tenant, ◌or_else◌, bytes_again, bytes_of, bytes_at, said_at, frame_at, freed_at, written_at, cache_at, destroyed_at, object_at, given_at, reaped_at, refusal_of, refused_at, granted_at, taken_at, reset_at, moved_at, fault_at, some_fault_at, notice_at, rare_at}
 use Rattle.check_core.proofs.FormLoop.{marks}

@@ -13,7 +13,7 @@ use Rattle.words_core.specs.declared.reply.Reply.{Reply}
 use Rattle.words_core.specs.declared.event.LineFault.{LineFault}
 use Rattle.words_core.specs.declared.event.LineFault.TheVariants.{Long, Unknown, Words, Number, Hex}
 use Rattle.words_core.specs.Texts.{number_of_refusal, name_of_refusal, name_of_fault}
-use Rattle.check_core.specs.declared.said.TheConstants.{REFUSALS}
+use Rattle.words_core.specs.declared.reply.TheConstants.{REFUSALS}
 use Rattle.check_core.specs.Forms.{◌>>=◌, form_at}
 
 -- what is made of the numbers in a form at the front of the text, if they fit, and what follows it

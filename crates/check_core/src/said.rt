@@ -8,26 +8,7 @@ ghost use Rattle.check_core.specs.Replies.{frame_at, freed_at, written_at, cache
 use crate::form::form_at;
 use crate::hexed::bytes_of;
 use model_core::limits::MOST_BYTES;
-use words_core::{Answer, LineFault, Refusal};
-
-/// Every refusal, by rising number.
-pub const REFUSALS: [Refusal; 15] = [
-    Refusal::NoFrames,
-    Refusal::BadOrder,
-    Refusal::NotABlock,
-    Refusal::OutOfReach,
-    Refusal::BadLength,
-    Refusal::BadSize,
-    Refusal::BadAlign,
-    Refusal::NoCacheSlot,
-    Refusal::NoCache,
-    Refusal::CacheInUse,
-    Refusal::NotAnObject,
-    Refusal::NoTenant,
-    Refusal::PoolEmpty,
-    Refusal::NoSlot,
-    Refusal::SlotBusy,
-];
+use words_core::{Answer, LineFault, REFUSALS, Refusal};
 
 /// What is said at the front of the text, and what follows it. The bytes of a read then lie in `buffer`.
 #[tactic(auto, unfolding(crate::specs::Replies::said_at))]

@@ -4,9 +4,10 @@ use crate::pieces::{in_pieces, taking};
 use crate::running::{ALL, WHOLE};
 use crate::tables::{MACHINE, Table, tables};
 use kernel_core::Kernel;
-use replay_core::{ReplayError, Tally, line_end, replay};
+use replay_core::{ReplayError, Tally, replay};
 use std::process::Abort;
 use std::test::Fail;
+use streams::line_end;
 
 #[test]
 fn ends_fail_at_each_call(rt: HostRuntime) -> Result<(), Fail> {

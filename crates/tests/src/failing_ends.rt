@@ -6,13 +6,12 @@ use crate::pieces::{in_pieces, taking};
 use crate::running::ALL;
 use crate::tables::MACHINE;
 use kernel_core::Kernel;
-use replay_core::{
-    Drain, Feed, ReaderFeed, ReplayError, Tally, WriterDrain, line_end, push_all, replay,
-};
+use replay_core::{Drain, Feed, ReaderFeed, ReplayError, Tally, WriterDrain, push_all, replay};
 use std::alloc::Global;
 use std::cell::Cell;
 use std::io::{self, ErrorKind, Read, Write};
 use std::test::Fail;
+use streams::line_end;
 
 const TRACE: &[u8] = b"admin grant 0\n0 alloc 0\n0 read 0 4\n";
 
