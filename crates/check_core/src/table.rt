@@ -173,7 +173,7 @@ fn pool_at<'a>(front: &[u8], text: &'a [u8]) -> Option<(Body, &'a [u8])>
     Some((Body::Owners(owners), rest))
 }
 
-/// So many superblocks have no owner, of so many.
+/// Returns whether `free` of these superblocks have no owner, and `count` is their number.
 fn are_counts(free: u32, count: u32, owners: &[Option<Owner>]) -> bool
     ensures { result ≡ (count_by is_none owners.now == free && length owners.now == count) }
 {

@@ -121,7 +121,7 @@ fn judge_single<R: Feed>(
     }
 }
 
-/// Reads the reply to an event that has so many lines behind the first, and judges it.
+/// Reads the reply to an event that has `more` lines behind the first, and judges it.
 #[inline(never)]
 fn judge_lines<R: Feed>(
     machine: &mut Machine,

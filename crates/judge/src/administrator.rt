@@ -171,7 +171,7 @@ impl Tenant {
         }
     }
 
-    /// Whether a slot may be busy, of which a frame is taken or not: a slab without live objects may stand in it.
+    /// Returns whether the slot may be busy: a frame of it is taken, or a cache may have an empty slab.
     fn may_be_busy(&self, is_busy: bool) -> bool
         ensures { result ≡ (is_busy || list_any (λ c. slice_index_or self.now.hides c.number false) self.now.has.caches) }
     {
@@ -209,7 +209,7 @@ impl Tenant {
         }
     }
 
-    /// All is taken back from the tenant of number `tenant`, which had so many superblocks.
+    /// Judges and follows a reset that reports this tenant and this number of superblocks.
     fn drop_all(
         &mut self,
         owners: &mut [Option<Owner>],
@@ -255,7 +255,7 @@ impl Tenant {
         }
     }
 
-    /// The slot `told` of the tenant of number `tenant` is put over the superblock.
+    /// Judges and follows a move that reports this tenant, the slot `told` and this superblock.
     fn put_over(
         &self,
         owners: &mut [Option<Owner>],

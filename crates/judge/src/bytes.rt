@@ -123,7 +123,7 @@ impl Tenant {
         Ok(())
     }
 
-    /// What has the bytes, if so many of them may be written.
+    /// Returns what has the bytes, if a write of them may be answered by `count`; else the promise that the answer breaks.
     fn holder_written(
         &self,
         place: u32,
@@ -158,7 +158,7 @@ impl Tenant {
     }
 }
 
-/// Whether so many bytes may be read.
+/// Returns whether a read may ask for this many bytes.
 fn is_length(len: u32) -> bool
     ensures { result ≡ (nat_le 1 len && nat_le len MOST_BYTES) }
 {

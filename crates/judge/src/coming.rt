@@ -35,7 +35,7 @@ impl Tenant {
         }
     }
 
-    /// The cache is destroyed, and so many frames come back.
+    /// Judges and follows a destroy that gives back this many frames.
     fn drop_cache(&mut self, number: u32, frames: u32) -> Result<(), Failure>
         ensures { (t : ℕ) (w : Known)
             → IsVerdictFor (On.Tenant t (Asked.Destroy number)) (Say.Destroyed frames) w self.old self.new result }
@@ -72,7 +72,7 @@ impl Tenant {
         }
     }
 
-    /// Whether so many frames can come back out of the slabs of the cache of this number.
+    /// Returns whether the slabs of this cache can give back this many frames.
     fn destroyed_can_come(&self, number: u32, frames: u32) -> bool
         ensures { result ≡ can_come_back self.now.left.order (filter (λ c. c.number == number) self.now.has.caches) frames
             (state_of self.now) }
@@ -94,7 +94,7 @@ impl Tenant {
         }
     }
 
-    /// The empty slabs are given back: so many frames come back.
+    /// Judges and follows a reap that gives back this many frames.
     fn drop_empty_slabs(&mut self, frames: u32) -> Result<(), Failure>
         ensures { (t : ℕ) (w : Known) → IsVerdictFor (On.Tenant t Asked.Reap) (Say.Reaped frames) w self.old self.new result }
     {
@@ -115,7 +115,7 @@ impl Tenant {
         on_still_answer(None, Promise::Gives, can_come, is_still)
     }
 
-    /// Whether so many frames can come back out of the slabs of all caches.
+    /// Returns whether the slabs of all caches can give back this many frames.
     fn reaped_can_come(&self, frames: u32) -> bool
         ensures { result ≡ can_come_back self.now.left.order self.now.has.caches frames (state_of self.now) }
     {
@@ -124,7 +124,7 @@ impl Tenant {
                 && some_may_have(self.held.caches(), &self.hides, frames))
     }
 
-    /// Whether so many frames are those of the empty slabs that the last report told, of the cache of the number `only` or of all.
+    /// Returns whether the last report, if it is valid, has this many frames in empty slabs: of the cache `only`, or of all.
     fn are_frames_told(&self, only: Option<u32>, frames: u32) -> bool
         ensures { result ≡ option_map_or (λ r. frames
             == empty_frames (λ n. option_map_or (λ number. n == number) only true) self.now.has r) self.now.told true }
@@ -136,7 +136,7 @@ impl Tenant {
     }
 }
 
-/// Whether a slab of the cache of this number may stand, and so many frames are those of some such.
+/// Returns whether this cache may have empty slabs that have this many frames.
 fn destroyed_may_have(caches: &[HeldCache], hides: &[bool], number: u32, frames: u32) -> bool
     ensures { result ≡ list_any (λ c. slice_index_or hides.now c.number false && frames % 2 ^ c.order == 0)
         (filter (λ c. c.number == number) caches.now) }
@@ -147,14 +147,14 @@ fn destroyed_may_have(caches: &[HeldCache], hides: &[bool], number: u32, frames:
         .any(|cache| may_have(cache, hides, frames))
 }
 
-/// Whether a slab without live objects may stand of a cache, and so many frames are those of some such.
+/// Returns whether some cache may have empty slabs that have this many frames.
 fn some_may_have(caches: &[HeldCache], hides: &[bool], frames: u32) -> bool
     ensures { result ≡ list_any (λ c. slice_index_or hides.now c.number false && frames % 2 ^ c.order == 0) caches.now }
 {
     caches.iter().any(|cache| may_have(cache, hides, frames))
 }
 
-/// Whether a slab of the cache without live objects may stand, and so many frames are those of some such.
+/// Returns whether the cache may have empty slabs that have this many frames.
 fn may_have(cache: &HeldCache, hides: &[bool], frames: u32) -> bool
     ensures { result ≡ (slice_index_or hides.now cache.now.number false && frames % 2 ^ cache.now.order == 0) }
 {

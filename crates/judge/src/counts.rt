@@ -31,7 +31,7 @@ pub(crate) fn taken_counts(rows: &ArrayVec<OrderRow, ORDERS>) -> ArrayVec<u32, O
     counts
 }
 
-/// How many frames so many blocks have, the first of them of order 0.
+/// Returns how many frames the blocks have: `counts[k]` of them are of order `k`.
 pub(crate) fn frames_of_counts(counts: &[u32]) -> u64
     requires { length counts.now ≤ ORDERS }
     ensures { result ≡ frames_of_counts counts.now }
@@ -43,7 +43,7 @@ pub(crate) fn frames_of_counts(counts: &[u32]) -> u64
     frames
 }
 
-/// How many frames so many blocks of an order have.
+/// Returns how many frames `count` blocks of an order have.
 pub(crate) fn frames_in(count: u32, order: u8) -> u64
     requires { order ≤ MOST_ORDER }
     ensures value { result ≡ count * 2 ^ order }

@@ -1,4 +1,4 @@
-//! By number of a cache, whether a slab without live objects may stand.
+//! Which caches may have an empty slab.
 
 ghost use Rattle.std.specs.Prelude.{◌≡◌, ◌<◌, ◌==◌, ◌&&◌, ◌||◌, ℕ, false, not, nat_lt, slice_index_or};
 ghost use Rattle.model_core.specs.declared.limits.TheConstants.{MOST_CACHES};

@@ -17,7 +17,7 @@ use model_core::owner::Owner;
 use promise_core::promise::Promise;
 use words_core::OWNERS;
 
-/// Whether a reset of tenant `t` may tell this tenant and so many superblocks.
+/// Returns whether a reset of tenant `t` may report this tenant and this number of superblocks.
 pub(crate) fn are_counted(owners: &[Option<Owner>], t: u32, tenant: u8, superblocks: u16) -> bool
     ensures { result ≡ (tenant == t && superblocks == count_by (is_of t) owners.now) }
 {
@@ -94,7 +94,7 @@ pub(crate) fn judge_pool(
     on_answer(None, Promise::Owners, are_told(owners, told))
 }
 
-/// Whether these are told as they are.
+/// Returns whether the table that was read is that of the owners.
 fn are_told(owners: &[Option<Owner>], told: &ArrayVec<Option<Owner>, OWNERS>) -> bool
     ensures { result ≡ (length told.now.items == length owners.now
         && list_all (λ p. option_eq (λ x y. x.tenant == y.tenant && x.slot == y.slot) p.0 p.1) (zip told.now.items owners.now)) }

@@ -28,7 +28,7 @@ use promise_core::promise::Promise;
 use words_core::{CACHES, Command, ORDERS, Report};
 
 impl Tenant {
-    /// Judges and follows a report. It stands apart since a function clears space for a report that it copies when it is entered.
+    /// Judges and follows a report. It is not inlined: a function clears space for a report that it copies on entry.
     #[inline(never)]
     fn report(&mut self, report: &Report) -> Verdict
         ensures { (t : ℕ) (w : Known)
@@ -191,7 +191,7 @@ fn has_room(held: &Held, order: u8, k: u8, free: &[u32], vacant: u128) -> bool
     u128::from(frames_from(free, k)) <= vacant
 }
 
-/// Whether a report tells the free blocks and empty slabs that the last one told.
+/// Returns whether a report has the free blocks and empty slabs of the last one, if that is valid.
 fn tells_same(told: Option<&Report>, r: &Report) -> bool
     ensures { result ≡ option_map_or (λ q. list_all (λ p. p.0.free == p.1.free) (zip q.orders.items r.now.orders.items)
         && list_all (λ p. p.0.empty == p.1.empty) (zip q.caches.items r.now.caches.items)) (option_copied told.entry) true }

@@ -11,7 +11,7 @@ use judge_core::{FrameBlock, Held, HeldCache};
 use model_core::report::CacheRow;
 use words_core::{CACHES, Report};
 
-/// Whether so many blocks of `2^k` frames are taken, where these are the rows of the caches.
+/// Returns whether `count` blocks of `2^k` frames are taken, by these rows of the caches.
 pub(crate) fn are_taken(held: &Held, rows: &[CacheRow], k: u8, count: u32) -> bool
     requires { length rows.now ≤ CACHES }
     ensures { result ≡ (count == told_count held.now rows.now k) }

@@ -46,7 +46,7 @@ pub(crate) fn on_answer(due: Option<Refusal>, promise: Promise, is_kept: bool) -
     on_still_answer(due, promise, is_kept, true)
 }
 
-/// The same of an answer that also has to be such as the last report told: `is_still` is whether it is.
+/// Like [`on_answer`], of an answer that also has to agree with the last report: `is_still` is whether it does.
 pub(crate) fn on_still_answer(
     due: Option<Refusal>,
     promise: Promise,
