@@ -199,7 +199,7 @@ typedef struct partmem_memory {
 
 /* Boots a machine in which no superblock has an owner, in memory that is the library's until partmem_end. *config and *memory
  * are read in the call alone. Superblock m lies at
- * ram + m * PARTMEM_RAM_BYTES(order, 1). Superblocks that are never granted are never touched. Returns HAS_MACHINE, BAD_CONFIG,
+ * ram + m * PARTMEM_RAM_BYTES(order, 1), and is not touched before it is under a slot. Returns HAS_MACHINE, BAD_CONFIG,
  * BAD_MEMORY, and NO_MEMORY only if PARTMEM_TABLE_BYTES says too little, which tests exclude. */
 PARTMEM_CHECKED partmem_status partmem_boot_in(partmem_machine *machine, const partmem_config *config,
                                                const partmem_memory *memory);
