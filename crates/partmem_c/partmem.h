@@ -2,8 +2,9 @@
  *
  * A machine has RAM in superblocks. Its administrator grants them to tenants. A tenant allocates page blocks and takes objects
  * from what it was granted, and uses them in place. Whatever the others do, a tenant gets the same results and finds the same
- * bytes as if it were alone. That is proved of these calls and of loads and stores in lent bytes, for callers that keep the
- * DUTIES at the end of this file.
+ * bytes as if it were alone, if the caller keeps the DUTIES at the end of this file. That is proved of the library's source in
+ * Rattle, for calls, loads and stores one after another. It is tested for loads and stores during calls of other threads, and of
+ * the functions in C: partmem_boot, partmem_boot_in, partmem_end, partmem_superblock_address and partmem_find_place.
  *
  *     frame       4096 bytes
  *     superblock  2^order frames of RAM: order 3 to 8, superblocks 1 to 256, tenants 1 to 64. Numbered from 0 in a machine.
@@ -31,8 +32,8 @@
  *     struct session *session = object.at;
  *     partmem_give(client, sessions.cache, object.place)
  *
- * MEMORY. A machine uses the memory that partmem_boot_in is given: RAM, at most 256 MiB, and tables, whose sizes are constants. No
- * other call allocates. For more memory or more tenants boot several machines: client c is then the tenant
+ * MEMORY. A machine uses the memory that partmem_boot_in is given: RAM, at most 256 MiB, and tables, whose sizes are constants.
+ * No other call allocates. For more memory or more tenants boot several machines: client c is then the tenant
  * {&machines[c / 64], c % 64}. Of the C library memcpy, memmove and memset are used, and nothing else: no system call, no thread,
  * no clock. partmem_boot gets the memory from aligned_alloc and malloc, and partmem_end frees it. A program that does not call
  * partmem_boot is linked without these.
@@ -198,17 +199,17 @@ typedef struct partmem_memory {
          : 64)
 
 /* Boots a machine in which no superblock has an owner, in memory that is the library's until partmem_end. *config and *memory
- * are read in the call alone. Superblock m lies at
- * ram + m * PARTMEM_RAM_BYTES(order, 1), and is not touched before it is under a slot. Returns HAS_MACHINE, BAD_CONFIG,
- * BAD_MEMORY, and NO_MEMORY only if PARTMEM_TABLE_BYTES says too little, which tests exclude. */
+ * are read in the call alone. Superblock m lies at ram + m * PARTMEM_RAM_BYTES(order, 1), and is not touched before it is under a
+ * slot. Returns HAS_MACHINE, BAD_CONFIG, BAD_MEMORY, and NO_MEMORY only if PARTMEM_TABLE_BYTES says too little, which tests
+ * exclude. */
 PARTMEM_CHECKED partmem_status partmem_boot_in(partmem_machine *machine, const partmem_config *config,
                                                const partmem_memory *memory);
 
 /* Boots a machine in memory from aligned_alloc and malloc. Returns HAS_MACHINE, BAD_CONFIG, NO_MEMORY. */
 PARTMEM_CHECKED partmem_status partmem_boot(partmem_machine *machine, const partmem_config *config);
 
-/* Ends the machine, which can be booted again. Memory of partmem_boot is freed, and memory of partmem_boot_in is the caller's again,
- * with the tenants' bytes in it. Returns NO_MACHINE. */
+/* Ends the machine, which can be booted again. Memory of partmem_boot is freed, and memory of partmem_boot_in is the caller's
+ * again, with the tenants' bytes in it. Returns NO_MACHINE. */
 partmem_status partmem_end(partmem_machine *machine);
 
 /* ---- For the administrator ----------------------------------------------------------------------------------------------- */
@@ -227,8 +228,8 @@ PARTMEM_CHECKED partmem_status partmem_grant(partmem_tenant tenant, partmem_slot
  * Returns NO_SLOT, SLOT_BUSY. */
 PARTMEM_CHECKED partmem_status partmem_take_back(partmem_tenant tenant, uint32_t slot);
 
-/* Replaces the superblock of a slot by the first one without an owner, and copies all its bytes. The tenant is not notified;
- * what was lent in the slot has to be lent again. Returns NO_SLOT, POOL_EMPTY. */
+/* Replaces the superblock of a slot by the first one without an owner, and copies all its bytes, if one was lent or written since
+ * the grant. The tenant is not notified; what was lent in the slot has to be lent again. Returns NO_SLOT, POOL_EMPTY. */
 PARTMEM_CHECKED partmem_status partmem_move(partmem_tenant tenant, uint32_t slot, partmem_slot *moved);
 
 /* Takes back all that the tenant has: page blocks, objects, caches and slots. */
@@ -247,15 +248,15 @@ typedef struct partmem_owner {
 /* Finds the owner of a superblock. Returns NO_MACHINE, NO_SUPERBLOCK. */
 PARTMEM_CHECKED partmem_status partmem_find_superblock(partmem_machine *machine, uint32_t superblock, partmem_owner *owner);
 
-/* Returns the address of a superblock, for devices and dumps: NULL without a machine or such a superblock. What lies there is NOT
- * what its owner reads: only a lend has his bytes written there. */
+/* Returns the address of a superblock, for devices and dumps: NULL without a machine or such a superblock. Before the first lend
+ * or write in its slot since the grant, old bytes lie there, and NOT the zeroes that its owner reads. */
 void *partmem_superblock_address(const partmem_machine *machine, uint32_t superblock);
 
 /* ---- Page blocks --------------------------------------------------------------------------------------------------------- */
 
 /* Allocates 2^order frames, and lends them. A frame has what the tenant left there in a page block since the grant; if it was in
- * none since then, or in a slab after that, it has zeroes. The first lend or write in a superblock since its grant clears that
- * superblock. Returns BAD_ORDER, NO_FRAMES. */
+ * none since then, or in a slab after that, it has zeroes. The first lend or write in a slot since its grant clears the whole
+ * superblock under it. Returns BAD_ORDER, NO_FRAMES. */
 PARTMEM_CHECKED partmem_status partmem_alloc(partmem_tenant tenant, uint32_t order, partmem_lent *block);
 
 /* Frees the page block that begins at the place. Returns NOT_A_BLOCK. */
@@ -305,8 +306,8 @@ PARTMEM_CHECKED partmem_status partmem_lend(partmem_tenant tenant, uint32_t plac
 /* Lends the live object of a cache that begins at the place. Returns NO_CACHE, NOT_AN_OBJECT. */
 PARTMEM_CHECKED partmem_status partmem_lend_object(partmem_tenant tenant, uint32_t cache, uint32_t place, partmem_lent *object);
 
-/* Lends the whole live page block around a place: the only lend whose frames may be mapped (duty 11). Returns OUT_OF_REACH, of
- * an object's place too. */
+/* Lends the whole live page block around a place: with partmem_alloc the only source of frames to map (duty 11). Returns
+ * OUT_OF_REACH, of an object's place too. */
 PARTMEM_CHECKED partmem_status partmem_lend_block(partmem_tenant tenant, uint32_t place, partmem_lent *block);
 
 /* Returns the address of bytes that partmem_lend lends, or NULL. */
@@ -459,7 +460,7 @@ PARTMEM_CHECKED partmem_status partmem_event(partmem_machine *machine, const par
 PARTMEM_CHECKED partmem_status partmem_line(partmem_machine *machine, const char *line, size_t line_len, char *buffer,
                                             size_t buffer_len, size_t *written);
 
-/* ---- DUTIES of the caller, which nothing tests. In brackets: what goes wrong otherwise. -------------------------------------
+/* ---- DUTIES of the caller, which no call verifies. In brackets: what goes wrong otherwise. ----------------------------------
  *
  *  1. Machine. A partmem_machine starts as zeroes. The caller never reads, writes, copies or moves it, and its memory ends only
  *     while there is no machine in it. [Two copies use and free one machine.]
@@ -486,7 +487,8 @@ PARTMEM_CHECKED partmem_status partmem_line(partmem_machine *machine, const char
  *  9. Ring 0. SSE is enabled. A user's xmm registers are saved before the first call and restored after the last. The direction
  *     flag is clear. There are 4096 bytes of stack above a guard page, and no interrupt uses them: the library also uses the 128
  *     bytes below its stack pointer. [Registers leak from tenant to tenant; the stack overflows.]
- *     libpartmem_kernel.a requires of this only the direction flag and the stack.
+ *     libpartmem_kernel.a and libpartmem_linux.a require of this only the direction flag and 4096 bytes of stack. Interrupts may
+ *     use the same stack, if it has space for both.
  * 10. After the end. Whoever uses the memory after partmem_end, or after a crash, clears it first. [It reads the tenants'
  *     bytes.]
  * 11. Mapping. Page tables map page blocks alone, as partmem_alloc and partmem_lend_block return them. [An object of 4096 bytes
@@ -500,10 +502,11 @@ PARTMEM_CHECKED partmem_status partmem_line(partmem_machine *machine, const char
  *
  * PROVED of the library's source: what each call returns and does, of the machine and of each tenant; that a store in lent
  * bytes is the write of these bytes, and a load a read; that over any list of calls, lines, events, loads and stores since boot
- * a tenant gets and loads what a private machine gives to it. TESTED: that the address is that of these bytes and stays; where
- * superblocks, blocks and objects lie; that only a boot allocates, and no more than the sizes of the macros;
- * partmem_superblock_address and partmem_find_place; loads and stores beside calls on other threads; this file against the library.
- * NEITHER: the duties; hardware, page tables and devices; time and caches, and what they tell; the stack of duty 9. */
+ * a tenant gets and loads what a private machine gives to it. TESTED: that the address is that of these bytes and stays, and that
+ * nothing is left there from before the grant or move; where superblocks, blocks and objects lie; that only a boot allocates, and
+ * no more than the sizes of the macros; partmem_superblock_address and partmem_find_place; loads and stores beside calls on other
+ * threads; this file against the library.
+ * NEITHER: the duties; hardware, page tables and devices; time and processor caches, and what they tell; the stack of duty 9. */
 
 #ifdef __cplusplus
 }
