@@ -1,7 +1,7 @@
 -- A slab made by need: where no block is free, once the empty slabs are given back.
-use Rattle.std.proofs.Common.{◌≡◌, ℕ, ◌/◌, ◌^◌, ◌<◌, true, false, map, Option, Some, None, IsSome, refl, sym, ap, ◌∙◌, subst, arith}
+use Rattle.std.proofs.Common.{◌≡◌, ℕ, ◌<◌, true, false, map, Option, Some, None, IsSome, refl, sym, ap, ◌∙◌, subst, arith}
 use Rattle.std.specs.Prelude.{option_map, is_some, MatchOption, IfSome, IfNone, ◌==◌}
-use Rattle.std.proofs.lemmas.Bool.{false≢true, eq-eqb, and_from}
+use Rattle.std.proofs.lemmas.Bool.{false≢true}
 use Rattle.model_core.specs.Blocks.{Block, IsChoice, IsWithout}
 use Rattle.model_core.specs.Choice.{choose}
 use Rattle.model_core.specs.Machine.{Cache, Machine, holds, taken_in, beyond, choice}
@@ -15,16 +15,16 @@ use Rattle.model_core.proofs.Chosen.{held_below}
 use Rattle.model_core.proofs.Lists.{find_in}
 use Rattle.space_core.specs.Content as spaces
 use Rattle.buddy_core.specs.Content as buddies
-use Rattle.slab_tables.specs.declared.cache.Cache as own
-use Rattle.slab_tables.specs.Content.{Content, IsSlabs, index_of_cache, head_of}
-use Rattle.machine_changes.specs.Shows.{frame_under, node_of, is_of_cache, ShowsMachine, Agree}
+use Rattle.slab_tables.specs.Content.{Content, IsSlabs}
+use Rattle.machine_changes.specs.Shows.{ShowsMachine, Agree}
 use Rattle.machine_changes.specs.Steady.{IsSteady}
-use Rattle.machine_changes.specs.Changes.{IsReturned, IsGrown}
+use Rattle.machine_changes.specs.Changes.{IsReturned}
 use Rattle.machine_changes.specs.Objects.{IsAllFull}
 use Rattle.machine_changes.proofs.Lookups.{found_key, in_found, keys_mapped}
 use Rattle.machine_changes.proofs.Reaped.{reaped_shows}
 use Rattle.machine_changes.proofs.Using.{take_makes}
-use Rattle.slab_core.specs.Calls.{idle_at, IsNew}
+use Rattle.slab_core.specs.declared.objects.Slab.{Slab}
+use Rattle.slab_core.specs.Calls.{idle_at}
 use Rattle.slab_core.proofs.ReserveByNeed.{next_choice, no_choice}
 use Rattle.slab_core.proofs.ReturnMany.{idle_empty}
 
@@ -58,20 +58,6 @@ module _ (r : spaces.Content) (b : buddies.Content) (s : Content) (t c k : ℕ) 
       subst (λ i. cache_of (by_need s.top k m) i ≡ Some x) (found_key (λ z. z.number) c m.caches x ex)
       (in_found (λ z. z.number) 0 x (by_need s.top k m).caches (rises_by_need s.top k m h.caches_rise) there)
 
--- The new slab
-
-pub new_slab : (r r' : spaces.Content) (b b' : buddies.Content) (s s' : Content) (t c : ℕ) (cache : own.Cache) (f n : ℕ) → IsGrown r r' b b' s s' t c cache f n
-    → IsNew r' s' t c cache f n
-new_slab r r' b b' s s' t c cache f n g = record {
-  slab = record {
-    cached = g.made;
-    under = ap (λ top. node_of top r'.slots t f) g.top ∙ ap (frame_under s.top f) (g.slots (f / 2 ^ s.top)) ∙ g.under;
-    listed = ap (is_of_cache (index_of_cache t c) f) g.listed
-        ∙ and_from (head_of t c 2 / 3 == index_of_cache t c) (f == f) (eq-eqb (head_of t c 2 / 3) (index_of_cache t c) (omega arith)) (eq-eqb f f refl);
-  };
-  empty = ap (λ x. x.live) g.fresh;
-}
-
 -- what holds of parts that did not change holds of what they were
 pub unmoved : (P : spaces.Content → buddies.Content → Content → Type 0) (r r' : spaces.Content) (b b' : buddies.Content) (s s' : Content)
     → (r' ≡ r) × ((b' ≡ b) × (s' ≡ s)) → P r' b' s' → P r b s
@@ -84,26 +70,26 @@ module _ (r r' : spaces.Content) (b b' : buddies.Content) (s s' : Content) (t : 
   reaped_shown m h = reaped_shows r r' b b' s s' t (idle_at (λ i. true) r s t) m g st h (idle_empty r b s t m w a h)
 
   -- and a slab is made there, after which the machine has grown by need
-  module _ (r'' : spaces.Content) (b'' : buddies.Content) (s'' : Content) (c k : ℕ) (full : IsAllFull s t c) (o : Option (ℕ × ℕ)) where
+  module _ (r'' : spaces.Content) (b'' : buddies.Content) (s'' : Content) (c k : ℕ) (full : IsAllFull s t c) (o : Option Slab) where
     pub grown_by_need : ((m : Machine) → ShowsMachine r b s t m → choice s.top m k ≡ None)
-        → ((m : Machine) → ShowsMachine r' b' s' t m → choice s'.top m k ≡ option_map (λ p. p.0) o)
-        → IfSome o (λ p. (m : Machine) (x : Cache) → ShowsMachine r' b' s' t m → cache_of m c ≡ Some x → ShowsMachine r'' b'' s'' t (slabs.grown p.0 x m))
-        → IfSome o (λ p. (m : Machine) (x : Cache) → ShowsMachine r b s t m → cache_of m c ≡ Some x → ShowsMachine r'' b'' s'' t (slabs.grown p.0 x (by_need s.top k m)))
+        → ((m : Machine) → ShowsMachine r' b' s' t m → choice s'.top m k ≡ option_map (λ p. p.first) o)
+        → IfSome o (λ p. (m : Machine) (x : Cache) → ShowsMachine r' b' s' t m → cache_of m c ≡ Some x → ShowsMachine r'' b'' s'' t (slabs.grown p.first x m))
+        → IfSome o (λ p. (m : Machine) (x : Cache) → ShowsMachine r b s t m → cache_of m c ≡ Some x → ShowsMachine r'' b'' s'' t (slabs.grown p.first x (by_need s.top k m)))
     grown_by_need none chosen shows = go o chosen shows
       where
-        go : (o : Option (ℕ × ℕ)) → ((m : Machine) → ShowsMachine r' b' s' t m → choice s'.top m k ≡ option_map (λ p. p.0) o)
-            → IfSome o (λ p. (m : Machine) (x : Cache) → ShowsMachine r' b' s' t m → cache_of m c ≡ Some x → ShowsMachine r'' b'' s'' t (slabs.grown p.0 x m))
-            → IfSome o (λ p. (m : Machine) (x : Cache) → ShowsMachine r b s t m → cache_of m c ≡ Some x → ShowsMachine r'' b'' s'' t (slabs.grown p.0 x (by_need s.top k m)))
+        go : (o : Option Slab) → ((m : Machine) → ShowsMachine r' b' s' t m → choice s'.top m k ≡ option_map (λ p. p.first) o)
+            → IfSome o (λ p. (m : Machine) (x : Cache) → ShowsMachine r' b' s' t m → cache_of m c ≡ Some x → ShowsMachine r'' b'' s'' t (slabs.grown p.first x m))
+            → IfSome o (λ p. (m : Machine) (x : Cache) → ShowsMachine r b s t m → cache_of m c ≡ Some x → ShowsMachine r'' b'' s'' t (slabs.grown p.first x (by_need s.top k m)))
         go None chosen shows = tt
         go (Some p) chosen shows = λ m x h ex.
             let there = reaped_shown m h in
-            let is : choice s.top (reaped m) k ≡ Some p.0 = ap (λ top. choice top (reaped m) k) (sym g.top) ∙ chosen (reaped m) there in
-            shows (by_need s.top k m) x (subst (ShowsMachine r' b' s' t) (sym (by_need_reaps s.top k p.0 m (none m h) is)) there)
+            let is : choice s.top (reaped m) k ≡ Some p.first = ap (λ top. choice top (reaped m) k) (sym g.top) ∙ chosen (reaped m) there in
+            shows (by_need s.top k m) x (subst (ShowsMachine r' b' s' t) (sym (by_need_reaps s.top k p.first m (none m h) is)) there)
             (stands r b s t c k w a st full m x h ex)
 
     pub chosen_by_need : ((m : Machine) → ShowsMachine r b s t m → choice s.top m k ≡ None)
-        → ((m : Machine) → ShowsMachine r' b' s' t m → choice s'.top m k ≡ option_map (λ p. p.0) o)
-        → (m : Machine) → ShowsMachine r b s t m → choice_by_need s.top k m ≡ option_map (λ p. p.0) o
+        → ((m : Machine) → ShowsMachine r' b' s' t m → choice s'.top m k ≡ option_map (λ p. p.first) o)
+        → (m : Machine) → ShowsMachine r b s t m → choice_by_need s.top k m ≡ option_map (λ p. p.first) o
     chosen_by_need none chosen m h =
         next_choice s.top k m (sym (none m h)) ∙ ap (λ top. choice top (reaped m) k) (sym g.top) ∙ chosen (reaped m) (reaped_shown m h)
 
@@ -115,6 +101,6 @@ pub grown_at_once : (r r' : spaces.Content) (b b' : buddies.Content) (s s' : Con
 grown_at_once r r' b b' s s' t c k f chosen shows m x h ex =
     subst (λ n. ShowsMachine r' b' s' t (slabs.grown f x n)) (sym (by_need_found s.top k f m (chosen m h))) (shows m x h ex)
 
-pub is_there : (P : Type 0) (o : Option (ℕ × ℕ)) → IsSome o → IfNone o P
+pub is_there : (P : Type 0) (o : Option Slab) → IsSome o → IfNone o P
 is_there P None some = absurd (false≢true some)
 is_there P (Some p) some = tt

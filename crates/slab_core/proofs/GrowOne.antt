@@ -46,12 +46,12 @@ no_place None none = refl
 no_place (Some p) none = absurd (none p.0 p.1 refl)
 
 -- a slab is made exactly where a block is free for it
-pub none_free : (b : buddies.Content) (t k : ℕ) → IsWithout b.top (buddies.is_held (buddies.holding_of t b)) (buddies.taken_of (buddies.holding_of t b)) k
-    → (o : Option (ℕ × ℕ)) → o ≡ None → IsSome o ↔ HasFreeBlock b t k
+pub none_free : {A : Type 0} (b : buddies.Content) (t k : ℕ) → IsWithout b.top (buddies.is_held (buddies.holding_of t b)) (buddies.taken_of (buddies.holding_of t b)) k
+    → (o : Option A) → o ≡ None → IsSome o ↔ HasFreeBlock b t k
 none_free b t k without o none = (λ e. absurd (false≢true (sym (ap is_some none) ∙ e)), λ h. absurd (without h.found h.free h.enough))
 
-pub some_free : (b : buddies.Content) (t k f j : ℕ) → IsChoice b.top (buddies.is_held (buddies.holding_of t b)) (buddies.taken_of (buddies.holding_of t b)) k (block f j)
-    → (p : ℕ × ℕ) → IsSome (Some p) ↔ HasFreeBlock b t k
+pub some_free : {A : Type 0} (b : buddies.Content) (t k f j : ℕ) → IsChoice b.top (buddies.is_held (buddies.holding_of t b)) (buddies.taken_of (buddies.holding_of t b)) k (block f j)
+    → (p : A) → IsSome (Some p) ↔ HasFreeBlock b t k
 some_free b t k f j chosen p = (λ e. record { found = block f j; free = chosen.0; enough = chosen.1 }, λ h. refl)
 
 -- the block that is chosen for an order

@@ -21,7 +21,7 @@ use Rattle.machine_changes.specs.Changes.{found, IsMarked}
 use Rattle.machine_changes.proofs.Lookups.{some_same}
 use Rattle.machine_changes.proofs.Facts.{under_is, superblock_of_node, same_below}
 use Rattle.machine_changes.proofs.Flags.{length_flags, flag_at, count_few}
-use Rattle.slab_core.specs.Objects.{IsTurned}
+use Rattle.slab_core.specs.Objects.{IsTurned, IsCounted}
 use Rattle.slab_core.proofs.MarkBits.{flags_changed, count_cleared, count_set}
 use Rattle.slab_core.proofs.ObjectSlabs.{IsHeld, held, node_within}
 
@@ -29,7 +29,7 @@ use Rattle.slab_core.proofs.ObjectSlabs.{IsHeld, held, node_within}
 abbrev pub IsCountOf : Bool → ℕ → ℕ → Type 0
 IsCountOf live before count = (live ≡ true → count ≡ before + 1) × (live ≡ false → count + 1 ≡ before)
 
-module _ (r : spaces.Content) (b : buddies.Content) (s : Content) (t c f n i : ℕ) (cache : own.Cache) (w : IsSlabs s) (a : Agree r b s) (q : IsSlab r s t c f n cache)
+module _ {r : spaces.Content} {b : buddies.Content} {s : Content} {t c f n i : ℕ} {cache : own.Cache} (w : IsSlabs s) (a : Agree r b s) (q : IsSlab r s t c f n cache)
     (less : i < (layout_numbers cache).count) (v : Bool) (was : is_live r t cache (kept_at s.kept n) f i ≡ not v) where
   h : IsHeld r b s t c f n cache
   h = held r b s t c f n cache w a q
@@ -99,13 +99,13 @@ module _ (r : spaces.Content) (b : buddies.Content) (s : Content) (t c f n i : �
     tenant_now = let e = index_now in let below = h.below in omega arith
 
     place_now : place_at s'.lists.places n ≡ Some (head_now, f)
-    place_now = get_or-set_same s.lists.places n (Some (head_now, f)) None (node_within r s t c f n cache q)
+    place_now = get_or-set_same s.lists.places n (Some (head_now, f)) None (node_within q)
 
     place_other : (m : ℕ) → m ≢ n → place_at s'.lists.places m ≡ place_at s.lists.places m
     place_other m other = get_or-set_other s.lists.places n m (Some (head_now, f)) None other
 
     kept_now : kept_at s'.kept n ≡ record (kept_at ks n) { live = count }
-    kept_now = get_or-set_same ks n (record (kept_at ks n) { live = count }) blank (omega (arith, node_within r s t c f n cache q, w.paired, k.nodes))
+    kept_now = get_or-set_same ks n (record (kept_at ks n) { live = count }) blank (omega (arith, node_within q, w.paired, k.nodes))
 
     kept_other : (m : ℕ) → m ≢ n → kept_at s'.kept m ≡ kept_at s.kept m
     kept_other m other = get_or-set_other ks n m (record (kept_at ks n) { live = count }) blank other ∙ k.kept m other
@@ -126,7 +126,7 @@ module _ (r : spaces.Content) (b : buddies.Content) (s : Content) (t c f n i : �
         (ap (is_live r' t cache (kept_at s'.kept n) f) zero_more ∙ (is_live_now i ∙ (k.turned ∙ (ap not was ∙ not_not v))))
         (λ j low high other. is_live_now j ∙ k.stay j (let x = few in omega arith) (λ e. other (omega arith)))
 
-    pub marked : IsMarked r r' s s' t c (found cache f n i) v
+    marked : IsMarked r r' s s' t c (found cache f n i) v
     marked = record {
       top = refl;
       slots = λ u. refl;
@@ -193,7 +193,7 @@ module _ (r : spaces.Content) (b : buddies.Content) (s : Content) (t c f n i : �
       | inr ne ↦ other_slab node head key cache' ne (sym (place_other node ne) ∙ place) cached
     ]
 
-    pub agree : Agree r' b s'
+    agree : Agree r' b s'
     agree = record {
       order = a.order;
       unit = a.unit;
@@ -214,7 +214,7 @@ module _ (r : spaces.Content) (b : buddies.Content) (s : Content) (t c f n i : �
         sym (superblock_of_node s.top there.0 g) ∙ (ap (λ (x : ℕ). x / 2 ^ s.top) (sym there.2 ∙ (same ∙ here.2)) ∙ superblock_of_node s.top here.0 f) in
         other (laws.apart.slots u (g / 2 ^ s.top) t (f / 2 ^ s.top) here.0 (there.1 ∙ ap (λ (x : ℕ). Some x) one) here.1).0
 
-    pub spares : Spares t r r' b b s s'
+    spares : Spares t r r' b b s s'
     spares = record {
       others = λ u other. record {
         space = k.others u other;
@@ -230,3 +230,6 @@ module _ (r : spaces.Content) (b : buddies.Content) (s : Content) (t c f n i : �
       spare = k.spare;
       buddy = ap (λ (ts : List buddies.Holding). record b { tenants = ts }) (sym (set-get_or b.tenants t buddies.no_tenant));
     }
+
+    pub counted : IsCounted r r' b s s' t c (found cache f n i) v
+    counted = record { marked = marked; spares = spares; agree = agree }

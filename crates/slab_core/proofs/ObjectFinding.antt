@@ -1,5 +1,5 @@
 -- The slab in which a live object of a cache begins is the one at the aligned block around its place.
-use Rattle.std.proofs.Common.{◌≡◌, ℕ, ◌+◌, ◌-◌, ◌*◌, ◌/◌, ◌%◌, ◌^◌, ◌<◌, ◌≤◌, false, Some, None, sym, ap, ◌∙◌, subst, arith}
+use Rattle.std.proofs.Common.{◌≡◌, ℕ, ◌+◌, ◌-◌, ◌*◌, ◌/◌, ◌%◌, ◌^◌, ◌<◌, ◌≤◌, false, length, Some, None, sym, ap, ◌∙◌, subst, arith}
 use Rattle.std.proofs.lemmas.Bool.{false≢true}
 use Rattle.std.proofs.lemmas.Nat.{div-mul-add}
 use Rattle.model_core.specs.Blocks.{block, around, HasFrame}
@@ -10,8 +10,9 @@ use Rattle.klist_core.specs.Places.{place_at}
 use Rattle.space_core.specs.Content as spaces
 use Rattle.buddy_core.specs.Content as buddies
 use Rattle.slab_tables.specs.declared.cache.Cache as own
-use Rattle.slab_tables.specs.Content.{Content, IsSlabs, kept_at, cache_at, index_of_cache, layout_numbers}
-use Rattle.machine_changes.specs.Shows.{node_of, is_of_cache, is_live, Agree}
+use Rattle.slab_tables.specs.Content.{Content, kept_at, cache_at, index_of_cache, layout_numbers}
+use Rattle.machine_changes.specs.Shows.{node_of, is_of_cache, is_live}
+use Rattle.machine_changes.specs.Slots.{HoldTogether}
 use Rattle.machine_changes.specs.Changes.{Found, found}
 use Rattle.machine_changes.specs.Objects.{IsLiveObject, IsNoObject}
 use Rattle.machine_changes.proofs.Lookups.{some_none, some_same}
@@ -41,18 +42,20 @@ object_within l colour i fit less =
     more : (a w n : ℕ) → a < n → a * w + w ≤ n * w
     more a w n lt = let rest : ℕ = n - a - 1 in let split : n ≡ a + 1 + rest = omega arith in subst (λ m. a * w + w ≤ m * w) (sym split) (omega arith)
 
-module _ (r : spaces.Content) (b : buddies.Content) (s : Content) (t c place : ℕ) (cache : own.Cache) (w : IsSlabs s) (a : Agree r b s)
-    (sound : buddies.IsSoundHolding b.top (buddies.holding_of t b)) (cached : cache_at s t c ≡ Some cache)
-    (first : ℕ) (is_first : first ≡ (around (place / 4096) (layout_numbers cache).order).first) where
+sound : {r : spaces.Content} {b : buddies.Content} {s : Content} {t : ℕ} → HoldTogether r b s → t < length r.slots → buddies.IsSoundHolding b.top (buddies.holding_of t b)
+sound {t = t} parts tenant = parts.buddy.sound t (omega (arith, tenant, parts.agree.rows))
+
+module _ {r : spaces.Content} {b : buddies.Content} {s : Content} {t c : ℕ} {cache : own.Cache} (parts : HoldTogether r b s) (tenant : t < length r.slots)
+    (cached : cache_at s t c ≡ Some cache) (place first : ℕ) (is_first : first ≡ (around (place / 4096) (layout_numbers cache).order).first) where
   begins_there : (f n i : ℕ) → IsLiveObject r s t c place (found cache f n i) → f ≡ first
   begins_there f n i o =
-      let h = held r b s t c f n cache w a o.slab in
+      let h = held r b s t c f n cache parts.slabs parts.agree o.slab in
       let k = (layout_numbers cache).order in
       let colour = (kept_at s.kept n).colour in
       let fit : IsFit (layout_numbers cache) colour = subst (λ x. IsFit (layout_numbers cache) x) (sym h.listed.colour.1) (h.layout.fits h.listed.colour.0) in
       let has : HasFrame (block f k) (place / 4096) =
       subst (λ p. HasFrame (block f k) (p / 4096)) o.begins (in_frame f k (object_offset (layout_numbers cache) colour i) (object_within (layout_numbers cache) colour i fit o.index)) in
-      around_frame f k (place / 4096) (sound.placed f k h.taken).0.1 has ∙ sym is_first
+      around_frame f k (place / 4096) ((sound parts tenant).placed f k h.taken).0.1 has ∙ sym is_first
 
   -- an object that begins at the place is one of the slab there
   pub there : (o : Found) → IsLiveObject r s t c place o → IsLiveObject r s t c place (found cache first o.node o.index)

@@ -4,9 +4,10 @@ use Rattle.std.proofs.lemmas.Nat.{div-mul-add}
 use Rattle.std.proofs.Math.Nat.{div-div-eq-div-mul}
 use Rattle.space_core.specs.Content as spaces
 use Rattle.slab_tables.specs.declared.cache.Cache as own
-use Rattle.slab_tables.specs.Content.{Content}
+use Rattle.slab_tables.specs.Content.{Content, IsSlabs, layout_numbers}
 use Rattle.machine_changes.specs.Shows.{IsSlab}
 use Rattle.machine_changes.proofs.Facts.{under_is, superblock_of_node}
+use Rattle.slab_core.proofs.ObjectSlabs.{slab_cache}
 
 -- a place of a frame lies in the frame's slot
 pub place_slot : (unit top f j : ℕ) → unit ≡ 4096 * 2 ^ top → j < 4096 → (4096 * f + j) / unit ≡ f / 2 ^ top
@@ -25,8 +26,10 @@ record_under r s t c f n j cache q unit less =
     ap (spaces.superblock_at r.slots t) slot ∙ (m.1 ∙ ap (λ x. Some x) (sym same))
 
 -- so it is at the byte with the bit of an object
-pub object_under : (r : spaces.Content) (s : Content) (t c f n i place m : ℕ) (cache : own.Cache) → IsSlab r s t c f n cache → r.unit ≡ 4096 * 2 ^ s.top → i < 256
-    → place ≡ 4096 * f + 4064 + i / 8 → m ≡ n / 2 ^ s.top → spaces.superblock_at r.slots t (place / r.unit) ≡ Some m
-object_under r s t c f n i place m cache q unit less at under =
-    subst (λ p. spaces.superblock_at r.slots t (p / r.unit) ≡ Some m) (sym at)
-    (record_under r s t c f n (i / 8) cache q unit (omega arith) ∙ ap (λ x. Some x) (sym under))
+module _ {r : spaces.Content} {s : Content} {t c f n i : ℕ} {cache : own.Cache} (q : IsSlab r s t c f n cache) (w : IsSlabs s) (less : i < (layout_numbers cache).count) where
+  pub object_under : {place m : ℕ} → r.unit ≡ 4096 * 2 ^ s.top → place ≡ 4096 * f + 4064 + i / 8 → m ≡ n / 2 ^ s.top
+      → spaces.superblock_at r.slots t (place / r.unit) ≡ Some m
+  object_under {m = m} unit at under =
+      let few = (slab_cache q w).few in
+      subst (λ p. spaces.superblock_at r.slots t (p / r.unit) ≡ Some m) (sym at)
+      (record_under r s t c f n (i / 8) cache q unit (omega (arith, few, less)) ∙ ap (λ x. Some x) (sym under))

@@ -1,26 +1,26 @@
 -- Ranges of bytes and the live objects that have them.
-use Rattle.std.proofs.Common.{◌≡◌, ℕ, ◌+◌, ◌-◌, ◌*◌, ◌/◌, ◌^◌, ◌<◌, ◌≤◌, true, false, Some, refl, sym, ap, ◌∙◌, subst, arith}
-use Rattle.std.specs.Prelude.{◌&&◌, nat_lt}
-use Rattle.std.specs.List.{list_any}
-use Rattle.std.proofs.lemmas.Bool.{false≢true, and_parts, and_from, lt-ltb, ltb-true, false_from_ne_true}
+use Rattle.std.proofs.Common.{◌≡◌, ℕ, ◌+◌, ◌-◌, ◌*◌, ◌/◌, ◌^◌, ◌<◌, ◌≤◌, Bool, true, false, Some, refl, sym, ap, ◌∙◌, subst, arith}
+use Rattle.std.specs.Prelude.{◌↔◌}
+use Rattle.std.proofs.lemmas.Bool.{false≢true}
 use Rattle.std.proofs.lemmas.Nat.{row_fits}
 use Rattle.model_core.specs.Blocks.{block, HasFrame, IsTaken}
 use Rattle.model_core.specs.Layouts.{object_place}
-use Rattle.model_core.specs.Machine.{Machine}
-use Rattle.model_core.specs.Reach.{within_objects}
 use Rattle.layout_core.specs.Objects.{Holds, IsOnly}
 use Rattle.space_core.specs.Content as spaces
 use Rattle.buddy_core.specs.Content as buddies
 use Rattle.slab_tables.specs.declared.cache.Cache as own
 use Rattle.slab_tables.specs.Content.{Content, kept_at, layout_numbers}
-use Rattle.machine_changes.specs.Shows.{node_of, has_slab, is_live, IsSlab, ShowsMachine}
+use Rattle.machine_changes.specs.Shows.{node_of, has_slab, is_live, IsSlab}
 use Rattle.machine_changes.specs.Steady.{IsSteady}
 use Rattle.machine_changes.specs.Changes.{Found, found}
 use Rattle.machine_changes.specs.Objects.{IsLiveObject, HasRange, HasNone}
 use Rattle.machine_changes.proofs.Facts.{has_it, one_slab}
 use Rattle.machine_changes.proofs.Objects.{fit_of}
-use Rattle.machine_changes.proofs.PageReach.{object_tells, object_from}
 use Rattle.slab_core.proofs.ObjectFinding.{in_frame}
+
+-- where no live object has a range, none is found
+pub nowhere : {R : Found → Type 0} → ((o : Found) → R o → ⊥) → (false ≡ true) ↔ ((o : Found) × R o)
+nowhere none = (λ e. absurd (false≢true e), λ o. absurd (none o.0 o.1))
 
 module _ (r : spaces.Content) (b : buddies.Content) (s : Content) (t place len : ℕ) (st : IsSteady r b s t) where
   frame_in : (o : Found) → HasRange r s t place len o → HasFrame (block o.first (layout_numbers o.cache).order) (place / 4096)
@@ -83,12 +83,12 @@ module _ (r : spaces.Content) (b : buddies.Content) (s : Content) (t place len :
       pub none_holds : ((i : ℕ) → Holds cache.layout (kept_at s.kept n).colour (place - 4096 * first) len i → ⊥) → HasNone r s t place len
       none_holds none o h = none o.index (holds o h)
 
-      pub not_live : (i : ℕ) → IsOnly (Holds cache.layout (kept_at s.kept n).colour (place - 4096 * first) len) i
+      not_live : (i : ℕ) → IsOnly (Holds cache.layout (kept_at s.kept n).colour (place - 4096 * first) len) i
           → is_live r t cache (kept_at s.kept n) first i ≡ false → HasNone r s t place len
       not_live i only dead o h =
           false≢true (sym dead ∙ (ap (is_live r t cache (kept_at s.kept n) first) (sym (only.only o.index (holds o h))) ∙ (here o h).object.live))
 
-      pub has_range : (i : ℕ) → IsOnly (Holds cache.layout (kept_at s.kept n).colour (place - 4096 * first) len) i
+      has_range : (i : ℕ) → IsOnly (Holds cache.layout (kept_at s.kept n).colour (place - 4096 * first) len) i
           → is_live r t cache (kept_at s.kept n) first i ≡ true → HasRange r s t place len (found cache first n i)
       has_range i only live =
           let is = only.is in
@@ -104,16 +104,8 @@ module _ (r : spaces.Content) (b : buddies.Content) (s : Content) (t place len :
             to = omega arith;
           }
 
-module _ (r : spaces.Content) (b : buddies.Content) (s : Content) (t place len : ℕ) (st : IsSteady r b s t) (m : Machine) (h : ShowsMachine r b s t m) where
-  -- a live object that has the range is one of the machine
-  pub in_machine : (o : Found) → HasRange r s t place len o → (nat_lt 0 len && list_any (within_objects place len) m.caches) ≡ true
-  in_machine o g = and_from (nat_lt 0 len) _ (lt-ltb 0 len g.some) (object_from r b s t place len m st h o g)
-
-  -- and back
-  pub from_machine : (nat_lt 0 len && list_any (within_objects place len) m.caches) ≡ true → (o : Found) × HasRange r s t place len o
-  from_machine e =
-      let both = and_parts (nat_lt 0 len) (list_any (within_objects place len) m.caches) e in
-      object_tells r b s t place len m st h (ltb-true 0 len both.0) both.1
-
-  pub in_none : HasNone r s t place len → (nat_lt 0 len && list_any (within_objects place len) m.caches) ≡ false
-  in_none none = false_from_ne_true _ (λ e. let there = from_machine e in none there.0 there.1)
+      -- the test whether it is live answers whether a live object has the range
+      pub reached : (i : ℕ) → IsOnly (Holds cache.layout (kept_at s.kept n).colour (place - 4096 * first) len) i → (v : Bool)
+          → v ≡ is_live r t cache (kept_at s.kept n) first i → (v ≡ true) ↔ ((o : Found) × HasRange r s t place len o)
+      reached i only true e = (λ yes. (found cache first n i, has_range i only (sym e)), λ some. refl)
+      reached i only false e = (λ yes. absurd (false≢true yes), λ some. absurd (not_live i only (sym e) some.0 some.1))

@@ -40,7 +40,7 @@ module _ (r : spaces.Content) (b : buddies.Content) (s : Content) (t c : ℕ) (m
       → (kept_at s.kept q.1).live ≡ count_true y.live
   same_count kind less q y i j e =
       let place : place_at s.lists.places q.1 ≡ Some (head_of t c kind, q.0) = in_list s.lists.places (head_of t c kind) q.0 q.1 (in_among q (list_of s.lists.places (head_of t c kind)) i) in
-      let slab = slab_in_list r b s t c cache a cached kind q.0 q.1 less place in
+      let slab = slab_in_list t c a cached kind q.0 q.1 less place in
       let found : slab_of x y.first ≡ Some y = in_found (λ z. z.first) 0 y x.slabs (h.slabs_rise c x ex) (filter_in (is_kind kind) y x.slabs j).0 in
       let there : slab_of x q.0 ≡ Some (shown r s t c cache cached q.0 q.1) = h.slabs c q.0 x cache ex cached ∙ slab_shown r s t c cache cached q.0 q.1 slab in
       let same : y ≡ shown r s t c cache cached q.0 q.1 = some_same (sym found ∙ (ap (slab_of x) (sym e) ∙ there)) in

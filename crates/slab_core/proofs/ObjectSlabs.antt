@@ -13,12 +13,6 @@ use Rattle.machine_changes.specs.Shows.{live_of, is_live, IsSlab, Agree}
 use Rattle.machine_changes.proofs.Lookups.{some_same}
 use Rattle.machine_changes.proofs.Steady.{within, in_table, placed_as, agreed}
 
--- a slab's node is one of the tables
-pub node_within : (r : spaces.Content) (s : Content) (t c f n : ℕ) (cache : own.Cache) → IsSlab r s t c f n cache → n < length s.lists.places
-node_within r s t c f n cache q =
-    let p = placed_as r s t c f n cache q in
-    within s.lists.places n (p.head, f) p.place
-
 -- a slab in parts that agree
 pub record IsHeld (r : spaces.Content) (b : buddies.Content) (s : Content) (t c f n : ℕ) (cache : own.Cache) : Type 0 where
   pub head : ℕ
@@ -62,6 +56,11 @@ in_tables s t c cache w cached =
     let fit = w.fits (index_of_cache t c) cache (in_table s t c cache cached).cached in
     record { layout = fit.layout; few = (fit.layout.fits 0).few; few_large = (few_objects cache.layout.size cache.layout.align fit.size fit.align).1 }
 
--- the cache of a slab is one of them
-pub slab_cache : (r : spaces.Content) (s : Content) (t c f n : ℕ) (cache : own.Cache) → IsSlabs s → IsSlab r s t c f n cache → IsInTables cache
-slab_cache r s t c f n cache w q = in_tables s t c cache w q.cached
+module _ {r : spaces.Content} {s : Content} {t c f n : ℕ} {cache : own.Cache} (q : IsSlab r s t c f n cache) where
+  -- the cache of a slab is one of them
+  pub slab_cache : IsSlabs s → IsInTables cache
+  slab_cache w = in_tables s t c cache w q.cached
+
+  -- and its node is one of theirs
+  pub node_within : n < length s.lists.places
+  node_within = let p = placed_as r s t c f n cache q in within s.lists.places n (p.head, f) p.place

@@ -215,6 +215,11 @@ empty_without s node head none i key placed =
     (λ differ. none i key (sym (get_or-set_other s.lists.places node i None None differ) ∙ placed)) (cases_eq i node)
 
 -- What stands in the list of a cache's empty slabs
+
+pub record IsEmptySlab (r : spaces.Content) (s : Content) (t c first node : ℕ) (cache : own.Cache) : Type 0 where
+  pub slab : IsSlab r s t c first node cache
+  pub empty : (kept_at s.kept node).live ≡ 0
+
 module _ (r : spaces.Content) (b : buddies.Content) (s : Content) (t : ℕ) (w : IsSlabs s) (a : Agree r b s) where
   kind_empty : (count live kind : ℕ) → kind ≡ 2 → kind ≡ kind_of count live → live ≡ 0
   kind_empty count live kind two e = go (live == count) (live == 0) refl e
@@ -224,12 +229,8 @@ module _ (r : spaces.Content) (b : buddies.Content) (s : Content) (t : ℕ) (w :
       go true false is e = absurd (omega arith)
       go false false is e = absurd (omega arith)
 
-  pub record IsEmptySlab (c first node : ℕ) (cache : own.Cache) : Type 0 where
-    pub slab : IsSlab r s t c first node cache
-    pub empty : (kept_at s.kept node).live ≡ 0
-
   pub listed_empty : (c first node : ℕ) (cache : own.Cache) → cache_at s t c ≡ Some cache → place_at s.lists.places node ≡ Some (head_of t c 2, first)
-      → IsEmptySlab c first node cache
+      → IsEmptySlab r s t c first node cache
   listed_empty c first node cache cached placed =
       let is : IsInTable s t c cache = in_table s t c cache cached in
       let small : c < MOST_CACHES = is.number in

@@ -37,7 +37,13 @@ some_place n f (Some p) e = (p, refl)
 pub len_is : (order : ℕ) → order ≤ 3 → 4096 * 2 ^ order % 4294967296 ≡ 4096 * 2 ^ order
 len_is order few = let power : 2 ^ order ≤ 2 ^ 3 = pow-le-pow_right (omega arith) few in omega arith
 
-module _ (r : spaces.Content) (b : buddies.Content) (s : Content) (t c f n : ℕ) (cache : own.Cache) (a : Agree r b s) (st : IsSteady r b s t)
+-- what the parts are once the slab at frame f is given back
+pub record IsGivenBack (r r' : spaces.Content) (b b' : buddies.Content) (s s' : Content) (t f : ℕ) : Type 0 where
+  pub returned : IsReturned r r' b b' s s' t (λ g. eqb g f)
+  pub spares : Spares t r r' b b' s s'
+  pub agree : Agree r' b' s'
+
+module _ {r : spaces.Content} {b : buddies.Content} {s : Content} {t c f n : ℕ} {cache : own.Cache} (a : Agree r b s) (st : IsSteady r b s t)
     (q : IsSlab r s t c f n cache) where
   -- the slab lies in one slot that the tenant holds
   pub slab_held : IsSome (home_of r t (4096 * f) (4096 * 2 ^ (layout_numbers cache).order))
@@ -165,20 +171,15 @@ module _ (r : spaces.Content) (b : buddies.Content) (s : Content) (t c f n : ℕ
         (λ head key placed. absurd (some_none (gone_now (Some (head, key)) placed)))
         stays
 
-    pub record IsGivenBack (r' : spaces.Content) (b' : buddies.Content) (s' : Content) : Type 0 where
-      pub returned : IsReturned r r' b b' s s' t (λ g. eqb g f)
-      pub spares : Spares t r r' b b' s s'
-      pub agree : Agree r' b' s'
-
-    pub given_back : (r' : spaces.Content) (b' : buddies.Content) (s' : Content) (order len : ℕ) → order ≡ (layout_numbers cache).order
+    pub given_back : {r' : spaces.Content} {b' : buddies.Content} {s' : Content} {order len : ℕ} → order ≡ (layout_numbers cache).order
         → len ≡ 4096 * 2 ^ order % 4294967296 → r' ≡ with_window r t (4096 * f) len (replicate len 0)
-        → (result : Option ℕ) → result ≡ buddies.taken_of (buddies.holding_of t b) f → OnSome result (b' ≡ released)
-        → s' ≡ without_slab s n → IsGivenBack r' b' s'
-    given_back r' b' s' order len same long zeroed result answer done forgotten =
+        → {result : Option ℕ} → result ≡ buddies.taken_of (buddies.holding_of t b) f → OnSome result (b' ≡ released)
+        → s' ≡ without_slab s n → IsGivenBack r r' b b' s s' t f
+    given_back {r' = r'} {b' = b'} {s' = s'} {order = order} {len = len} same long zeroed answer done forgotten =
         let is_len : len ≡ bytes = long ∙ ap (λ k. 4096 * 2 ^ k % 4294967296) same ∙ len_is (layout_numbers cache).order (st.stands c f n cache q).layout.order in
         let is_space : r' ≡ zeroed_space = zeroed ∙ ap (λ x. with_window r t (4096 * f) x (replicate x 0)) is_len in
         let is_buddy : b' ≡ released = subst (λ o. OnSome o (b' ≡ released)) (answer ∙ (st.stands c f n cache q).taken) done in
-        subst (λ x. IsGivenBack x b' s') (sym is_space)
-        (subst (λ x. IsGivenBack zeroed_space x s') (sym is_buddy)
-        (subst (λ x. IsGivenBack zeroed_space released x) (sym forgotten)
+        subst (λ x. IsGivenBack r x b b' s s' t f) (sym is_space)
+        (subst (λ x. IsGivenBack r zeroed_space b x s s' t f) (sym is_buddy)
+        (subst (λ x. IsGivenBack r zeroed_space b released s x t f) (sym forgotten)
         (record { returned = one_returned; spares = one_spares; agree = one_agrees })))

@@ -10,9 +10,10 @@ use Rattle.model_core.specs.CacheOperations.{hand_out}
 use Rattle.space_core.specs.Content as spaces
 use Rattle.buddy_core.specs.Content as buddies
 use Rattle.slab_tables.specs.declared.cache.Cache as own
-use Rattle.slab_tables.specs.Content.{Content, IsSlabs, kept_at, layout_numbers}
+use Rattle.slab_tables.specs.Content.{Content, kept_at, layout_numbers}
 use Rattle.machine_changes.specs.Records.{count_true}
-use Rattle.machine_changes.specs.Shows.{is_live, live_of, IsSlab, Agree, ShowsMachine}
+use Rattle.machine_changes.specs.Shows.{is_live, live_of, IsSlab, ShowsMachine}
+use Rattle.machine_changes.specs.Slots.{HoldTogether}
 use Rattle.machine_changes.specs.Steady.{IsSteady}
 use Rattle.machine_changes.proofs.Lookups.{some_same}
 use Rattle.machine_changes.proofs.Flags.{length_flags, flag_at}
@@ -34,17 +35,25 @@ down_found (true ∷ xs) less =
     subst (IsDown (true ∷ xs)) (sym next) (record { within = omega arith; down = rest.down })
 down_found (false ∷ xs) less = record { within = omega arith; down = refl }
 
-module _ (r : spaces.Content) (b : buddies.Content) (s : Content) (t c f n i : ℕ) (cache : own.Cache) (w : IsSlabs s) (a : Agree r b s) (st : IsSteady r b s t)
-    (q : IsSlab r s t c f n cache) (free : (kept_at s.kept n).live < (layout_numbers cache).count)
-    (is : i ≡ position_or_len not (live_of r t cache (kept_at s.kept n) f)) where
+-- object i is the least of a slab that is not live
+pub record IsLeastFree (r : spaces.Content) (b : buddies.Content) (s : Content) (t c f n i : ℕ) (cache : own.Cache) : Type 0 where
+  pub parts : HoldTogether r b s
+  pub steady : IsSteady r b s t
+  pub slab : IsSlab r s t c f n cache
+  pub free : (kept_at s.kept n).live < (layout_numbers cache).count
+  pub is : i ≡ position_or_len not (live_of r t cache (kept_at s.kept n) f)
+
+module _ {r : spaces.Content} {b : buddies.Content} {s : Content} {t c f n i : ℕ} {cache : own.Cache} (o : IsLeastFree r b s t c f n i cache) where
   h : IsHeld r b s t c f n cache
-  h = held r b s t c f n cache w a q
+  h = held r b s t c f n cache o.parts.slabs o.parts.agree o.slab
 
   long : length (live_of r t cache (kept_at s.kept n) f) ≡ (layout_numbers cache).count
   long = length_flags 0 (layout_numbers cache).count (is_live r t cache (kept_at s.kept n) f)
 
   is_down : IsDown (live_of r t cache (kept_at s.kept n) f) i
-  is_down = subst (IsDown (live_of r t cache (kept_at s.kept n) f)) (sym is) (down_found (live_of r t cache (kept_at s.kept n) f) (omega (arith, h.counted, long)))
+  is_down =
+      subst (IsDown (live_of r t cache (kept_at s.kept n) f)) (sym o.is)
+      (down_found (live_of r t cache (kept_at s.kept n) f) (omega (arith, h.counted, long, o.free)))
 
   pub object_below : i < (layout_numbers cache).count
   object_below = omega (arith, is_down.within, long)
@@ -53,7 +62,7 @@ module _ (r : spaces.Content) (b : buddies.Content) (s : Content) (t c f n i : �
   not_live = sym (flag_at (layout_numbers cache).count i (is_live r t cache (kept_at s.kept n) f) false object_below) ∙ is_down.down
 
   pub first_few : f < 65536
-  first_few = st.few f (layout_numbers cache).order h.taken
+  first_few = o.steady.few f (layout_numbers cache).order h.taken
 
   pub offset_few : object_offset (layout_numbers cache) (kept_at s.kept n).colour i < 32769
   offset_few =
@@ -63,16 +72,16 @@ module _ (r : spaces.Content) (b : buddies.Content) (s : Content) (t c f n i : �
       omega arith
 
   module _ (m : Machine) (x : machines.Cache) (y : machines.Slab) (g : ShowsMachine r b s t m) (ex : cache_of m c ≡ Some x) (ey : slab_of x f ≡ Some y) where
-    slab_is : y ≡ shown r s t c cache q.cached f n
-    slab_is = some_same (sym ey ∙ (g.slabs c f x cache ex q.cached ∙ slab_shown r s t c cache q.cached f n q))
+    slab_is : y ≡ shown r s t c cache o.slab.cached f n
+    slab_is = some_same (sym ey ∙ (g.slabs c f x cache ex o.slab.cached ∙ slab_shown r s t c cache o.slab.cached f n o.slab))
 
     layout_is : machines.layout x ≡ layout_numbers cache
     layout_is =
-        let there = cache_shown r b s t m g c cache q.cached in
+        let there = cache_shown r b s t m g c cache o.slab.cached in
         ap machines.layout (some_same (sym ex ∙ there.cached)) ∙ there.layout
 
     pub next_is : next_object y ≡ i
-    next_is = ap next_object slab_is ∙ sym is
+    next_is = ap next_object slab_is ∙ sym o.is
 
     pub answered : (place : ℕ) → place ≡ 4096 * f + object_offset (layout_numbers cache) (kept_at s.kept n).colour i → Ok place ≡ (hand_out x y m).answer
     answered place e =

@@ -21,9 +21,9 @@ use Rattle.slab_core.proofs.ObjectPlaces.{record_under}
 use Rattle.slab_core.proofs.TakeBits.{IsClear, full_byte, least_of}
 
 -- the record of a slab lies in one held slot
-pub record_home : (r : spaces.Content) (s : Content) (t c f n place : ℕ) (cache : own.Cache) → IsSlab r s t c f n cache → r.unit ≡ 4096 * 2 ^ s.top
+pub record_home : {r : spaces.Content} {s : Content} {t c f n place : ℕ} {cache : own.Cache} → IsSlab r s t c f n cache → r.unit ≡ 4096 * 2 ^ s.top
     → place ≡ 4096 * f + 4064 → home_of r t place 32 ≡ Some (n / 2 ^ s.top)
-record_home r s t c f n place cache q unit at =
+record_home {r = r} {s = s} {t = t} {c = c} {f = f} {n = n} {place = place} {cache = cache} q unit at =
     let m = under_is s.top f n (spaces.superblock_at r.slots t (f / 2 ^ s.top)) q.under in
     let held = range_held r t s.top f 0 place 32 unit (omega arith) (omega arith) (subst (λ (o : Option ℕ). IsSome o) (sym m.1) refl) (omega arith) (omega arith) (omega arith) in
     let under = record_under r s t c f n 0 cache q unit (omega arith) in

@@ -1,6 +1,6 @@
 -- The slab that a take uses.
-use Rattle.std.proofs.Common.{◌≡◌, ℕ, ◌/◌, ◌<◌, Option, Some, None, sym, ap, ◌∙◌, inl, inr, arith}
-use Rattle.std.specs.Prelude.{MatchOption, IfSome, if◌then◌else◌, ◌==◌}
+use Rattle.std.proofs.Common.{◌≡◌, ℕ, ◌/◌, ◌<◌, Some, sym, ap, ◌∙◌, inl, inr, arith}
+use Rattle.std.specs.Prelude.{if◌then◌else◌, ◌==◌}
 use Rattle.std.proofs.lemmas.Bool.{cases_eq, eq-eqb}
 use Rattle.klist_core.specs.Places.{place_at, IsEmpty, IsFirst}
 use Rattle.model_core.specs.declared.limits.TheConstants.{MOST_CACHES}
@@ -10,11 +10,10 @@ use Rattle.slab_tables.specs.declared.cache.Cache as own
 use Rattle.slab_tables.specs.Content.{Content, IsSlabs, kept_at, cache_in, cache_at, index_of_cache, head_of, kind_of, layout_numbers}
 use Rattle.slab_tables.proofs.Reading.{head_parts, listed}
 use Rattle.machine_changes.specs.Shows.{node_of, IsSlab, Agree}
-use Rattle.machine_changes.specs.Objects.{IsToUse, IsAllFull}
+use Rattle.machine_changes.specs.Objects.{IsToUse}
 use Rattle.machine_changes.proofs.Steady.{in_table, slab_from, tenant_is}
-use Rattle.slab_core.specs.Objects.{standing}
 
-module _ (r : spaces.Content) (b : buddies.Content) (s : Content) (t c : ℕ) (cache : own.Cache) (a : Agree r b s) (cached : cache_at s t c ≡ Some cache) where
+module _ {r : spaces.Content} {b : buddies.Content} {s : Content} (t c : ℕ) {cache : own.Cache} (a : Agree r b s) (cached : cache_at s t c ≡ Some cache) where
   -- what stands in a list of a cache is a slab of it
   pub slab_in_list : (kind f n : ℕ) → kind < 3 → place_at s.lists.places n ≡ Some (head_of t c kind, f) → IsSlab r s t c f n cache
   slab_in_list kind f n few place =
@@ -25,17 +24,14 @@ module _ (r : spaces.Content) (b : buddies.Content) (s : Content) (t c : ℕ) (c
       slab_from r s t c f n (head_of t c kind) cache there.number index here
       (sym (ap (λ u. node_of s.top r.slots u f) tenant) ∙ (a.slabs n (head_of t c kind) f cache place here).under) place
 
-  pub use_partial : (f n : ℕ) → IsFirst s.lists.places (head_of t c 1) f n → IsToUse r s t c cache (standing f n)
+  pub use_partial : (f n : ℕ) → IsFirst s.lists.places (head_of t c 1) f n → IsToUse r s t c cache (record { first = f; node = n })
   use_partial f n first = record { slab = slab_in_list 1 f n (omega arith) first.here; first = inl first }
 
-  pub use_empty : (o : Option (ℕ × ℕ)) → IsEmpty s.lists.places (head_of t c 1)
-      → MatchOption o (IsEmpty s.lists.places (head_of t c 2)) (λ p. IsFirst s.lists.places (head_of t c 2) p.0 p.1)
-      → MatchOption o (IsAllFull s t c) (λ p. IsToUse r s t c cache (standing p.0 p.1))
-  use_empty None none rest = (none, rest)
-  use_empty (Some p) none first = record { slab = slab_in_list 2 p.0 p.1 (omega arith) first.here; first = inr (none, first) }
+  pub use_empty : (f n : ℕ) → IsEmpty s.lists.places (head_of t c 1) → IsFirst s.lists.places (head_of t c 2) f n → IsToUse r s t c cache (record { first = f; node = n })
+  use_empty f n none first = record { slab = slab_in_list 2 f n (omega arith) first.here; first = inr (none, first) }
 
   -- the slab of a list of partial or of empty ones has an object that is not live
-  free_in_list : IsSlabs s → (kind f n : ℕ) → 0 < kind → kind < 3 → place_at s.lists.places n ≡ Some (head_of t c kind, f)
+  pub free_in_list : IsSlabs s → (kind f n : ℕ) → 0 < kind → kind < 3 → place_at s.lists.places n ≡ Some (head_of t c kind, f)
       → (kept_at s.kept n).live < (layout_numbers cache).count
   free_in_list w kind f n some few place =
       let is = listed s w t c f n cache cached kind few place in
@@ -47,11 +43,3 @@ module _ (r : spaces.Content) (b : buddies.Content) (s : Content) (t c : ℕ) (c
             absurd (omega (arith, is.kind, (head_parts t c kind few).1, none))
         | inr other ↦ omega arith
       ]
-
-  pub free_partial : IsSlabs s → (f n : ℕ) → IsFirst s.lists.places (head_of t c 1) f n → (kept_at s.kept n).live < (layout_numbers cache).count
-  free_partial w f n first = free_in_list w 1 f n (omega arith) (omega arith) first.here
-
-  pub free_empty : IsSlabs s → (o : Option (ℕ × ℕ)) → MatchOption o (IsEmpty s.lists.places (head_of t c 2)) (λ p. IsFirst s.lists.places (head_of t c 2) p.0 p.1)
-      → IfSome o (λ p. (kept_at s.kept p.1).live < (layout_numbers cache).count)
-  free_empty w None none = tt
-  free_empty w (Some p) first = free_in_list w 2 p.0 p.1 (omega arith) (omega arith) first.here

@@ -7,15 +7,22 @@ use Rattle.space_core.specs.Content as spaces
 use Rattle.space_core.specs.Laws.{SpaceLaws, IsSameFor, SpareStays}
 use Rattle.space_core.specs.Windows.{byte_at, window_of, with_window}
 use Rattle.buddy_core.specs.Content as buddies
+use Rattle.slab_tables.specs.declared.cache.Cache as own
 use Rattle.slab_tables.specs.Content.{Content, IsSlabs, kept_at, layout_numbers}
 use Rattle.machine_changes.specs.Records.{is_set}
 use Rattle.machine_changes.specs.Shows.{is_live, IsSlab, Agree}
-use Rattle.machine_changes.specs.Changes.{Found}
+use Rattle.machine_changes.specs.Keeps.{Spares}
+use Rattle.machine_changes.specs.Changes.{Found, found, IsMarked}
 use Rattle.machine_changes.specs.Objects.{Standing}
+use Rattle.slab_core.specs.declared.objects.Slab.{Slab}
+use Rattle.slab_core.specs.declared.objects.Object.{Object}
 
--- the slab at this first frame and node
-abbrev pub standing : ℕ → ℕ → Standing
-standing first node = record { first = first; node = node }
+-- a slab and an object as the parts have them
+abbrev pub standing : Slab → Standing
+standing slab = record { first = slab.first; node = slab.machine_frame }
+
+abbrev pub found_in : own.Cache → Object → Found
+found_in cache o = found cache o.slab.first o.slab.machine_frame o.index
 
 -- In the record of its slab object o of tenant t is live now where it was not, and the other way round. No other object's bit
 -- has changed, no other byte of the memory, and nothing that is kept of any slab but the record where that is kept outside.
@@ -46,6 +53,12 @@ pub record IsToCount (r r' : spaces.Content) (b : buddies.Content) (s s' : Conte
   pub index : o.index < (layout_numbers o.cache).count
   pub was : is_live r t o.cache (kept_at s.kept o.node) o.first o.index ≡ not live
   pub turned : IsTurned r r' s s' t o
+
+-- .. and once it is counted
+pub record IsCounted (r r' : spaces.Content) (b : buddies.Content) (s s' : Content) (t c : ℕ) (o : Found) (live : Bool) : Type 0 where
+  pub marked : IsMarked r r' s s' t c o live
+  pub spares : Spares t r r' b b s s'
+  pub agree : Agree r' b s'
 
 -- some bit of these bytes is 0
 pub record HasClear (bytes : List ℕ) : Type 0 where

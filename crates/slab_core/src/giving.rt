@@ -7,6 +7,7 @@ ghost use Rattle.machine_changes.specs.Shows.{Agree, ShowsMachine};
 ghost use Rattle.machine_changes.specs.Keeps.{Spares};
 
 use crate::Slabs;
+use crate::objects::TenantCache;
 use buddy_core::Buddy;
 use model_core::refusals::GiveRefusal;
 use space_core::Space;
@@ -33,12 +34,17 @@ impl Slabs {
         ensures refused { OnErr result ((space.new ≡ space.old) × (self.new ≡ self.old)) }
     {
         self.laws_with(space, buddy, t);
-        let cache = *self.tables.cache(t, c).ok_or(GiveRefusal::NoCache)?;
+        let kept = *self.tables.cache(t, c).ok_or(GiveRefusal::NoCache)?;
+        let cache = TenantCache {
+            tenant: t,
+            number: c,
+            kept: &kept,
+        };
         let object = self
-            .find(space, buddy, t, c, &cache, place)
+            .find(space, cache, place)
             .ok_or(GiveRefusal::NotAnObject)?;
-        self.turn_bit(space, t, &cache, object);
-        self.recount(space, buddy, t, c, &cache, object, false);
+        self.turn_bit(space, cache, object);
+        self.recount(cache, object, false);
         Ok(())
     }
 }

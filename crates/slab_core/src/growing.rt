@@ -19,14 +19,13 @@ ghost use Rattle.slab_core.specs.Calls.{IsFilled, IsConstructed, IsNew};
 ghost use Rattle.slab_core.specs.Room.{HasFreeBlock};
 
 use crate::Slabs;
+use crate::objects::{Slab, TenantCache};
 use buddy_core::Buddy;
-use layout_core::Pattern;
 use model_core::limits::{FRAME_BYTES, RECORD_BYTES, RECORD_OFFSET};
-use slab_tables::Cache;
 use space_core::Space;
 
 impl Slabs {
-    /// Makes the next slab of cache `c` of tenant `t`, of which every slab is full, and answers its first frame and its node.
+    /// Makes the next slab of the cache, of which every slab is full.
     ///
     /// The tenant's empty slabs are given back for it where a block is found only then. None, and nothing changed, where no
     /// block is found then either.
@@ -35,127 +34,131 @@ impl Slabs {
         &mut self,
         space: &mut Space,
         buddy: &mut Buddy,
-        t: u8,
-        c: u32,
-        cache: &Cache,
-    ) -> Option<(u32, u32)>
-        requires tenant { t < length space.old.slots }
+        cache: TenantCache<'_>,
+    ) -> Option<Slab>
+        requires tenant { cache.tenant < length space.old.slots }
         requires agree { Agree space.old buddy.old self.old }
-        requires cache { cache_at self.old t c ≡ Some cache.now }
-        requires full { IsAllFull self.old t c }
-        ensures chosen { (m : Machine) → ShowsMachine space.old buddy.old self.old t m
-            → choice_by_need self.old.top (layout_numbers cache.now).order m ≡ option_map (λ o. o.0) result }
-        ensures shows { IfSome result (λ o. (m : Machine) (x : machines.Cache) → ShowsMachine space.old buddy.old self.old t m → cache_of m c ≡ Some x
-            → ShowsMachine space.new buddy.new self.new t (grown o.0 x (by_need self.old.top (layout_numbers cache.now).order m))) }
-        ensures slab { IfSome result (λ o. IsNew space.new self.new t c cache.now o.0 o.1) }
-        ensures spares { Spares t space.old space.new buddy.old buddy.new self.old self.new }
+        requires cache { cache_at self.old cache.tenant cache.number ≡ Some cache.kept.now }
+        requires full { IsAllFull self.old cache.tenant cache.number }
+        ensures chosen { (m : Machine) → ShowsMachine space.old buddy.old self.old cache.entry.tenant m
+            → choice_by_need self.old.top (layout_numbers cache.entry.kept.now).order m ≡ option_map (λ o. o.first) result }
+        ensures shows { IfSome result (λ o. (m : Machine) (x : machines.Cache) → ShowsMachine space.old buddy.old self.old cache.entry.tenant m → cache_of m cache.entry.number ≡ Some x
+            → ShowsMachine space.new buddy.new self.new cache.entry.tenant (grown o.first x (by_need self.old.top (layout_numbers cache.entry.kept.now).order m))) }
+        ensures slab { IfSome result (λ o. IsNew space.new self.new cache.entry.tenant cache.entry.number cache.entry.kept.now o.first o.machine_frame) }
+        ensures spares { Spares cache.entry.tenant space.old space.new buddy.old buddy.new self.old self.new }
         ensures agree { Agree space.new buddy.new self.new }
         ensures refused { IfNone result ((space.new ≡ space.old) × ((buddy.new ≡ buddy.old) × (self.new ≡ self.old))) }
     {
-        self.laws_with(space, buddy, t);
-        if let Some(slab) = self.make_slab(space, buddy, t, c, cache) {
+        self.laws_with(space, buddy, cache.tenant);
+        if let Some(slab) = self.make_slab(space, buddy, cache) {
             return Some(slab);
         }
-        let order = cache.layout.order();
-        if order > buddy.order() || !self.fits_by_need(space, buddy, t, order) {
+        let order = cache.kept.layout.order();
+        if order > buddy.order() || !self.fits_by_need(space, buddy, cache.tenant, order) {
             return None;
         }
-        self.give_back_all(space, buddy, t);
-        self.make_slab(space, buddy, t, c, cache)
+        self.give_back_all(space, buddy, cache.tenant);
+        self.make_slab(space, buddy, cache)
     }
 
-    /// Makes the next slab of cache `c` of tenant `t` on a free block, and answers its first frame and its node. None, and
-    /// nothing changed, where no block is free that is large enough: no slab is given back for it.
+    /// Makes the next slab of the cache on a free block. None, and nothing changed, where no block is free that is large
+    /// enough: no slab is given back for it.
     #[inline(always)]
     fn make_slab(
         &mut self,
         space: &mut Space,
         buddy: &mut Buddy,
-        t: u8,
-        c: u32,
-        cache: &Cache,
-    ) -> Option<(u32, u32)>
-        requires tenant { t < length space.old.slots }
+        cache: TenantCache<'_>,
+    ) -> Option<Slab>
+        requires tenant { cache.tenant < length space.old.slots }
         requires agree { Agree space.old buddy.old self.old }
-        requires cache { cache_at self.old t c ≡ Some cache.now }
-        ensures grown { IfSome result (λ o. IsGrown space.old space.new buddy.old buddy.new self.old self.new t c cache.now o.0 o.1) }
-        ensures chosen { (m : Machine) → ShowsMachine space.old buddy.old self.old t m
-            → choice self.old.top m (layout_numbers cache.now).order ≡ option_map (λ o. o.0) result }
-        ensures shows { IfSome result (λ o. (m : Machine) (x : machines.Cache) → ShowsMachine space.old buddy.old self.old t m → cache_of m c ≡ Some x
-            → ShowsMachine space.new buddy.new self.new t (grown o.0 x m)) }
-        ensures free { IsSome result ↔ HasFreeBlock buddy.old t (layout_numbers cache.now).order }
-        ensures spares { Spares t space.old space.new buddy.old buddy.new self.old self.new }
+        requires cache { cache_at self.old cache.tenant cache.number ≡ Some cache.kept.now }
+        ensures grown { IfSome result (λ o. IsGrown space.old space.new buddy.old buddy.new self.old self.new cache.entry.tenant cache.entry.number cache.entry.kept.now o.first o.machine_frame) }
+        ensures chosen { (m : Machine) → ShowsMachine space.old buddy.old self.old cache.entry.tenant m
+            → choice self.old.top m (layout_numbers cache.entry.kept.now).order ≡ option_map (λ o. o.first) result }
+        ensures shows { IfSome result (λ o. (m : Machine) (x : machines.Cache) → ShowsMachine space.old buddy.old self.old cache.entry.tenant m → cache_of m cache.entry.number ≡ Some x
+            → ShowsMachine space.new buddy.new self.new cache.entry.tenant (grown o.first x m)) }
+        ensures free { IsSome result ↔ HasFreeBlock buddy.old cache.entry.tenant (layout_numbers cache.entry.kept.now).order }
+        ensures spares { Spares cache.entry.tenant space.old space.new buddy.old buddy.new self.old self.new }
         ensures agree { Agree space.new buddy.new self.new }
         ensures refused { IfNone result ((space.new ≡ space.old) × ((buddy.new ≡ buddy.old) × (self.new ≡ self.old))) }
     {
-        self.laws_with(space, buddy, t);
-        let order = cache.layout.order();
+        self.laws_with(space, buddy, cache.tenant);
+        let order = cache.kept.layout.order();
         if order > buddy.order() {
             return None;
         }
-        let first = buddy.reserve(t, order)?;
-        let Some(node) = self.node(space, t, first) else {
+        let first = buddy.reserve(cache.tenant, order)?;
+        let Some(machine_frame) = self.node(space, cache.tenant, first) else {
             unreachable!()
         };
-        self.tables.add_slab(t, c, cache, first, node);
-        let colour = self.tables.kept_of(node).colour;
-        construct(space, t, cache, first, colour.into());
-        Some((first, node))
+        self.tables.add_slab(cache.tenant, cache.number, cache.kept, first, machine_frame);
+        let colour = self.tables.kept_of(machine_frame).colour;
+        construct(space, cache, first, colour.into());
+        Some(Slab {
+            first,
+            machine_frame,
+        })
     }
 }
 
-/// Fills a range of tenant `t` with the pattern, over and over.
-fn fill(space: &mut Space, t: u8, place: u32, len: u32, pattern: &Pattern)
-    requires tenant { t < length space.old.slots }
-    requires in_reach { IsSome (home_of space.old t place len) }
-    ensures { IsFilled space.old space.new t place len pattern.now }
+/// Fills the bytes of an object of the cache with the pattern, over and over.
+fn fill(space: &mut Space, cache: TenantCache<'_>, place: u32)
+    requires tenant { cache.tenant < length space.old.slots }
+    requires in_reach { IsSome (home_of space.old cache.tenant place cache.kept.now.layout.size) }
+    ensures { IsFilled space.old space.new cache.entry.tenant place cache.entry.kept.now.layout.size cache.entry.kept.now.pattern }
 {
-    pattern.fill(space.window_mut(t, place, len));
+    let bytes = space.window_mut(cache.tenant, place, cache.kept.layout.size());
+    cache.kept.pattern.fill(bytes);
 }
 
 /// Makes the block at frame `first` a slab of which no object is live: every object is constructed.
 ///
 /// It writes each byte of an object once, and those of the control record.
-pub(crate) fn construct(space: &mut Space, t: u8, cache: &Cache, first: u32, colour: u32)
-    requires tenant { t < length space.old.slots }
+pub(crate) fn construct(space: &mut Space, cache: TenantCache<'_>, first: u32, colour: u32)
+    requires tenant { cache.tenant < length space.old.slots }
     requires laws { SpaceLaws space.old }
-    requires layout { IsLayout cache.now.layout.size cache.now.layout.align (layout_numbers cache.now) }
-    requires in_reach { IsSome (home_of space.old t (FRAME_BYTES * first) (FRAME_BYTES * 2 ^ (layout_numbers cache.now).order)) }
+    requires layout { IsLayout cache.kept.now.layout.size cache.kept.now.layout.align (layout_numbers cache.kept.now) }
+    requires in_reach { IsSome (home_of space.old cache.tenant (FRAME_BYTES * first) (FRAME_BYTES * 2 ^ (layout_numbers cache.kept.now).order)) }
     requires first { first < 65536 }
-    requires colour { IsColour cache.now.layout colour }
-    ensures { IsConstructed space.old space.new t cache.now first colour (layout_numbers cache.now).count }
+    requires colour { IsColour cache.kept.now.layout colour }
+    ensures { IsConstructed space.old space.new cache.entry.tenant cache.entry.kept.now first colour (layout_numbers cache.entry.kept.now).count }
 {
-    clear_record(space, t, cache, first);
-    for i in 0..cache.layout.count() {
-        construct_one(space, t, cache, first, colour, i);
+    clear_record(space, cache, first);
+    for i in 0..cache.kept.layout.count() {
+        construct_one(space, cache, first, colour, i);
     }
 }
 
 /// Clears the control record of the block at frame `first`, where it stands there.
-fn clear_record(space: &mut Space, t: u8, cache: &Cache, first: u32)
-    requires tenant { t < length space.old.slots }
+fn clear_record(space: &mut Space, cache: TenantCache<'_>, first: u32)
+    requires tenant { cache.tenant < length space.old.slots }
     requires laws { SpaceLaws space.old }
-    requires in_reach { IsSome (home_of space.old t (FRAME_BYTES * first) (FRAME_BYTES * 2 ^ (layout_numbers cache.now).order)) }
+    requires in_reach { IsSome (home_of space.old cache.tenant (FRAME_BYTES * first) (FRAME_BYTES * 2 ^ (layout_numbers cache.kept.now).order)) }
     requires first { first < 65536 }
-    ensures { (colour : ℕ) → IsConstructed space.old space.new t cache.now first colour 0 }
+    ensures { (colour : ℕ) → IsConstructed space.old space.new cache.entry.tenant cache.entry.kept.now first colour 0 }
 {
-    if cache.layout.in_page() {
-        space.zero(t, FRAME_BYTES * first + RECORD_OFFSET, RECORD_BYTES);
+    if cache.kept.layout.in_page() {
+        space.zero(
+            cache.tenant,
+            FRAME_BYTES * first + RECORD_OFFSET,
+            RECORD_BYTES,
+        );
     }
 }
 
 /// Constructs object `i` of the block at frame `first`, after those before it.
-fn construct_one(space: &mut Space, t: u8, cache: &Cache, first: u32, colour: u32, i: u32)
-    requires tenant { t < length space.old.slots }
-    requires layout { IsLayout cache.now.layout.size cache.now.layout.align (layout_numbers cache.now) }
-    requires in_reach { IsSome (home_of space.old t (FRAME_BYTES * first) (FRAME_BYTES * 2 ^ (layout_numbers cache.now).order)) }
+fn construct_one(space: &mut Space, cache: TenantCache<'_>, first: u32, colour: u32, i: u32)
+    requires tenant { cache.tenant < length space.old.slots }
+    requires layout { IsLayout cache.kept.now.layout.size cache.kept.now.layout.align (layout_numbers cache.kept.now) }
+    requires in_reach { IsSome (home_of space.old cache.tenant (FRAME_BYTES * first) (FRAME_BYTES * 2 ^ (layout_numbers cache.kept.now).order)) }
     requires first { first < 65536 }
-    requires colour { IsColour cache.now.layout colour }
-    requires object { i < (layout_numbers cache.now).count }
-    ensures { (before : spaces.Content) → IsConstructed before space.old t cache.now first colour i
-        → IsConstructed before space.new t cache.now first colour (i + 1) }
+    requires colour { IsColour cache.kept.now.layout colour }
+    requires object { i < (layout_numbers cache.kept.now).count }
+    ensures { (before : spaces.Content) → IsConstructed before space.old cache.entry.tenant cache.entry.kept.now first colour i
+        → IsConstructed before space.new cache.entry.tenant cache.entry.kept.now first colour (i + 1) }
 {
     space.laws();
-    let place = FRAME_BYTES * first + cache.layout.offset(colour, i);
-    fill(space, t, place, cache.layout.size(), &cache.pattern);
+    let place = FRAME_BYTES * first + cache.kept.layout.offset(colour, i);
+    fill(space, cache, place);
 }

@@ -10,6 +10,7 @@ ghost use Rattle.machine_changes.specs.Objects.{HasRange};
 ghost use Rattle.slab_core.specs.Lending.{HasObject};
 
 use crate::Slabs;
+use crate::objects::TenantCache;
 use buddy_core::Buddy;
 use model_core::refusals::GiveRefusal;
 use space_core::Space;
@@ -35,13 +36,18 @@ impl Slabs {
             → (give_step c place m).answer ≡ Err refusal) }
     {
         self.laws_with(space, buddy, t);
-        let Some(cache) = self.tables.cache(t, c) else {
+        let Some(kept) = self.tables.cache(t, c) else {
             return Err(GiveRefusal::NoCache);
         };
-        let Some(_object) = self.find(space, buddy, t, c, cache, place) else {
+        let cache = TenantCache {
+            tenant: t,
+            number: c,
+            kept,
+        };
+        let Some(_object) = self.find(space, cache, place) else {
             return Err(GiveRefusal::NotAnObject);
         };
-        Ok(cache.layout.size())
+        Ok(kept.layout.size())
     }
 
     /// Returns the size in bytes of the objects of cache `c` of tenant `t`.

@@ -4,27 +4,39 @@ ghost use Rattle.std.specs.Prelude.{◌≡◌, ℕ, ◌*◌, ◌+◌, ◌/◌, �
 ghost use Rattle.model_core.specs.Blocks.{around};
 ghost use Rattle.model_core.specs.declared.limits.TheConstants.{FRAME_BYTES, RECORD_OFFSET, MOST_CACHES};
 ghost use Rattle.slab_tables.specs.Content.{Content, IsSlabs, kept_at, cache_at, index_of_cache, layout_numbers};
-ghost use Rattle.machine_changes.specs.Shows.{node_of, has_slab, is_of_cache, is_live, IsSlab, Agree};
-ghost use Rattle.machine_changes.specs.Changes.{found, IsMarked};
+ghost use Rattle.machine_changes.specs.Shows.{node_of, has_slab, is_of_cache, is_live, IsSlab};
 ghost use Rattle.machine_changes.specs.Objects.{IsLiveObject, IsNoObject};
-ghost use Rattle.machine_changes.specs.Keeps.{Spares};
-ghost use Rattle.slab_core.specs.Objects.{IsTurned, IsToCount};
+ghost use Rattle.buddy_core.specs.Content as buddies;
+ghost use Rattle.slab_core.specs.Objects.{found_in, IsTurned, IsToCount, IsCounted};
 ghost use Rattle.machine_changes.specs.Slots.{HoldTogether};
 ghost use Rattle.space_core.specs.Content as spaces;
 ghost use Rattle.space_core.specs.Laws.{SpaceLaws};
 ghost use Rattle.klist_core.specs.Places.{place_at};
 
 use crate::Slabs;
-use buddy_core::Buddy;
 use model_core::limits::{FRAME_BYTES, RECORD_OFFSET};
 use slab_tables::{Cache, ListId, Tables};
 use space_core::Space;
 
-/// An object: the first frame and the node of its slab, and which of the slab's objects it is.
+/// A cache of a tenant: its number there, and what the tables keep of it.
+#[derive(Clone, Copy)]
+pub(crate) struct TenantCache<'a> {
+    pub(crate) tenant: u8,
+    pub(crate) number: u32,
+    pub(crate) kept: &'a Cache,
+}
+
+/// A slab: its first frame, in the tenant's numbers and in the machine's.
+#[derive(Clone, Copy, Debug)]
+pub(crate) struct Slab {
+    pub(crate) first: u32,
+    pub(crate) machine_frame: u32,
+}
+
+/// An object: its slab, and which of the slab's objects it is.
 #[derive(Clone, Copy, Debug)]
 pub(crate) struct Object {
-    pub(crate) first: u32,
-    pub(crate) node: u32,
+    pub(crate) slab: Slab,
     pub(crate) index: u32,
 }
 
@@ -103,66 +115,72 @@ impl Slabs {
         self.tables.place_of(node).is_some()
     }
 
-    /// Whether the slab at the node is one of cache `c` of tenant `t` and begins at the frame.
-    fn is_of_cache(&self, t: u8, c: u32, frame: u32, node: u32) -> bool
-        requires cache { c < MOST_CACHES }
-        requires node { node < length self.now.lists.places }
-        ensures { result ≡ is_of_cache (index_of_cache t c) frame (place_at self.now.lists.places node) }
+    /// Whether there is such a slab of the cache.
+    fn is_of_cache(&self, cache: TenantCache<'_>, slab: Slab) -> bool
+        requires cache { cache.number < MOST_CACHES }
+        requires node { slab.machine_frame < length self.now.lists.places }
+        ensures { result ≡ is_of_cache (index_of_cache cache.entry.tenant cache.entry.number) slab.first (place_at self.now.lists.places slab.machine_frame) }
     {
-        match self.tables.place_of(node) {
+        match self.tables.place_of(slab.machine_frame) {
             None => false,
-            Some((number, first)) => ListId { number }.is_of(t, c) && first == frame,
+            Some((number, first)) => {
+                ListId { number }.is_of(cache.tenant, cache.number) && first == slab.first
+            }
         }
     }
 
     /// Whether an object of a slab is live.
-    pub(crate) fn is_live_object(&self, space: &Space, t: u8, cache: &Cache, object: Object) -> bool
-        requires tenant { t < length space.now.slots }
+    pub(crate) fn is_live_object(
+        &self,
+        space: &Space,
+        cache: TenantCache<'_>,
+        object: Object,
+    ) -> bool
+        requires tenant { cache.tenant < length space.now.slots }
         requires laws { SpaceLaws space.now }
         requires tables { IsSlabs self.now }
         requires unit { space.now.unit ≡ FRAME_BYTES * 2 ^ self.now.top }
-        requires slab { (c : ℕ) × IsSlab space.now self.now t c object.first object.node cache.now }
-        requires index { object.index < (layout_numbers cache.now).count }
-        ensures { result ≡ is_live space.now t cache.now (kept_at self.now.kept object.node) object.first object.index }
+        requires slab { IsSlab space.now self.now cache.tenant cache.number object.slab.first object.slab.machine_frame cache.kept.now }
+        requires index { object.index < (layout_numbers cache.kept.now).count }
+        ensures { result ≡ is_live space.now cache.entry.tenant cache.entry.kept.now (kept_at self.now.kept object.slab.machine_frame) object.slab.first object.index }
     {
-        if cache.layout.in_page() {
-            let superblock = self.superblock(object.node);
-            let place = record_place(object.first, object.index);
-            space.byte_in(superblock, t, place) >> (object.index % 8) & 1 == 1
+        if cache.kept.layout.in_page() {
+            let superblock = self.superblock(object.slab.machine_frame);
+            let place = record_place(object.slab.first, object.index);
+            space.byte_in(superblock, cache.tenant, place) >> (object.index % 8) & 1 == 1
         } else {
-            let outside = self.tables.kept_of(object.node).outside;
+            let outside = self.tables.kept_of(object.slab.machine_frame).outside;
             outside >> object.index & 1 == 1
         }
     }
 
-    /// The live object of cache `c` of tenant `t` that begins at a place, if one does. Inlined, since a give takes a third more
-    /// instructions if it is a call.
+    /// The live object of the cache that begins at a place, if one does. Inlined, since a give takes a third more instructions
+    /// if it is a call.
     #[inline(always)]
-    pub(crate) fn find(
-        &self,
-        space: &Space,
-        buddy: &Buddy,
-        t: u8,
-        c: u32,
-        cache: &Cache,
-        place: u32,
-    ) -> Option<Object>
-        requires tenant { t < length space.now.slots }
-        requires parts { HoldTogether space.now buddy.now self.now }
-        requires cache { cache_at self.now t c ≡ Some cache.now }
-        ensures { MatchOption result (IsNoObject space.now self.now t c place)
-            (λ o. IsLiveObject space.now self.now t c place (found cache.now o.first o.node o.index)) }
+    pub(crate) fn find(&self, space: &Space, cache: TenantCache<'_>, place: u32) -> Option<Object>
+        requires tenant { cache.tenant < length space.now.slots }
+        requires parts { (b : buddies.Content) × HoldTogether space.now b self.now }
+        requires cache { cache_at self.now cache.tenant cache.number ≡ Some cache.kept.now }
+        ensures { MatchOption result (IsNoObject space.now self.now cache.entry.tenant cache.entry.number place)
+            (λ o. IsLiveObject space.now self.now cache.entry.tenant cache.entry.number place (found_in cache.entry.kept.now o)) }
     {
-        let order = cache.layout.order();
+        let order = cache.kept.layout.order();
         let first = block_around(place, order);
-        let node = self.node(space, t, first)?;
-        if !self.is_of_cache(t, c, first, node) {
+        let machine_frame = self.node(space, cache.tenant, first)?;
+        let slab = Slab {
+            first,
+            machine_frame,
+        };
+        if !self.is_of_cache(cache, slab) {
             return None;
         }
-        let colour = u32::from(self.tables.kept_of(node).colour);
-        let index = cache.layout.index_of(colour, place - FRAME_BYTES * first)?;
-        let object = Object { first, node, index };
-        if self.is_live_object(space, t, cache, object) {
+        let colour = u32::from(self.tables.kept_of(machine_frame).colour);
+        let index = cache
+            .kept
+            .layout
+            .index_of(colour, place - FRAME_BYTES * first)?;
+        let object = Object { slab, index };
+        if self.is_live_object(space, cache, object) {
             Some(object)
         } else {
             None
@@ -171,49 +189,46 @@ impl Slabs {
 
     /// Turns the bit of an object in the record of its slab.
     #[inline(always)]
-    pub(crate) fn turn_bit(&mut self, space: &mut Space, t: u8, cache: &Cache, object: Object)
-        requires tenant { t < length space.old.slots }
+    pub(crate) fn turn_bit(&mut self, space: &mut Space, cache: TenantCache<'_>, object: Object)
+        requires tenant { cache.tenant < length space.old.slots }
         requires laws { SpaceLaws space.old }
         requires tables { IsSlabs self.old }
         requires unit { space.old.unit ≡ FRAME_BYTES * 2 ^ self.old.top }
-        requires slab { (c : ℕ) × IsSlab space.old self.old t c object.first object.node cache.now }
-        requires index { object.index < (layout_numbers cache.now).count }
-        ensures { IsTurned space.old space.new self.old self.new t (found cache.now object.first object.node object.index) }
+        requires slab { IsSlab space.old self.old cache.tenant cache.number object.slab.first object.slab.machine_frame cache.kept.now }
+        requires index { object.index < (layout_numbers cache.kept.now).count }
+        ensures { IsTurned space.old space.new self.old self.new cache.entry.tenant (found_in cache.entry.kept.now object) }
     {
-        if cache.layout.in_page() {
-            let superblock = self.superblock(object.node);
-            let place = record_place(object.first, object.index);
-            let byte = space.byte_in(superblock, t, place) ^ 1 << (object.index % 8);
-            space.set_byte_in(superblock, t, place, byte);
+        let node = object.slab.machine_frame;
+        if cache.kept.layout.in_page() {
+            let superblock = self.superblock(node);
+            let place = record_place(object.slab.first, object.index);
+            let byte = space.byte_in(superblock, cache.tenant, place) ^ 1 << (object.index % 8);
+            space.set_byte_in(superblock, cache.tenant, place, byte);
         } else {
-            let outside = self.tables.kept_of(object.node).outside ^ 1 << object.index;
-            self.tables.set_outside(object.node, outside);
+            let outside = self.tables.kept_of(node).outside ^ 1 << object.index;
+            self.tables.set_outside(node, outside);
         }
     }
 
     /// Counts the live objects of a slab anew, of which one has been turned: it is live now, or is not any more.
     #[inline(always)]
-    pub(crate) fn recount(
-        &mut self,
-        space: &Space,
-        buddy: &Buddy,
-        t: u8,
-        c: u32,
-        cache: &Cache,
-        object: Object,
-        live: bool,
-    )
-        requires { (r : spaces.Content) × ((s : Content)
-            × IsToCount r space.now buddy.now s self.old t c (found cache.now object.first object.node object.index) live) }
-        ensures marked { (r : spaces.Content) (s : Content) → IsToCount r space.now buddy.now s self.old t c (found cache.now object.first object.node object.index) live
-            → IsMarked r space.now s self.new t c (found cache.now object.first object.node object.index) live }
-        ensures spares { (r : spaces.Content) (s : Content) → IsToCount r space.now buddy.now s self.old t c (found cache.now object.first object.node object.index) live
-            → Spares t r space.now buddy.now buddy.now s self.new }
-        ensures agree { Agree space.now buddy.now self.new }
+    pub(crate) fn recount(&mut self, cache: TenantCache<'_>, object: Object, live: bool)
+        requires { (r : spaces.Content) × (r' : spaces.Content) × (b : buddies.Content) × (s : Content)
+            × IsToCount r r' b s self.old cache.tenant cache.number (found_in cache.kept.now object) live }
+        ensures { (r r' : spaces.Content) (b : buddies.Content) (s : Content)
+            → IsToCount r r' b s self.old cache.entry.tenant cache.entry.number (found_in cache.entry.kept.now object) live
+            → IsCounted r r' b s self.new cache.entry.tenant cache.entry.number (found_in cache.entry.kept.now object) live }
     {
-        let before = u32::from(self.tables.kept_of(object.node).live);
+        let slab = object.slab;
+        let before = u32::from(self.tables.kept_of(slab.machine_frame).live);
         let count = if live { before + 1 } else { before - 1 };
-        self.tables
-            .set_count(t, c, cache, object.first, object.node, count);
+        self.tables.set_count(
+            cache.tenant,
+            cache.number,
+            cache.kept,
+            slab.first,
+            slab.machine_frame,
+            count,
+        );
     }
 }

@@ -17,60 +17,61 @@ ghost use Rattle.machine_changes.specs.Keeps.{Spares};
 ghost use Rattle.machine_changes.specs.Changes.{IsReturned};
 
 use crate::Slabs;
+use crate::objects::{Slab, TenantCache};
 use buddy_core::Buddy;
 use model_core::limits::FRAME_BYTES;
 use model_core::refusals::DestroyRefusal;
-use slab_tables::{Cache, Kind};
+use slab_tables::Kind;
 use space_core::Space;
 
 impl Slabs {
-    /// Gives back the slab of tenant `t` at frame `first` and `node`, of which no object is live.
-    pub(crate) fn give_back(
+    /// Gives back a slab of which no object is live.
+    fn give_back(
         &mut self,
         space: &mut Space,
         buddy: &mut Buddy,
-        t: u8,
-        cache: &Cache,
-        first: u32,
-        node: u32,
+        cache: TenantCache<'_>,
+        slab: Slab,
     )
-        requires tenant { t < length space.old.slots }
+        requires tenant { cache.tenant < length space.old.slots }
         requires agree { Agree space.old buddy.old self.old }
-        requires slab { (c : ℕ) × IsSlab space.old self.old t c first node cache.now }
-        requires empty { (kept_at self.old.kept node).live ≡ 0 }
-        ensures tables { self.new ≡ without_slab self.old node }
-        ensures returned { IsReturned space.old space.new buddy.old buddy.new self.old self.new t (λ f. f == first) }
-        ensures spares { Spares t space.old space.new buddy.old buddy.new self.old self.new }
+        requires slab { IsSlab space.old self.old cache.tenant cache.number slab.first slab.machine_frame cache.kept.now }
+        requires empty { (kept_at self.old.kept slab.machine_frame).live ≡ 0 }
+        ensures tables { self.new ≡ without_slab self.old slab.machine_frame }
+        ensures returned { IsReturned space.old space.new buddy.old buddy.new self.old self.new cache.entry.tenant (λ f. f == slab.first) }
+        ensures spares { Spares cache.entry.tenant space.old space.new buddy.old buddy.new self.old self.new }
         ensures agree { Agree space.new buddy.new self.new }
     {
-        self.laws_with(space, buddy, t);
-        let _ = buddy.release(t, first);
-        space.zero(t, FRAME_BYTES * first, FRAME_BYTES << cache.layout.order());
-        self.tables.remove_slab(node);
+        self.laws_with(space, buddy, cache.tenant);
+        let _ = buddy.release(cache.tenant, slab.first);
+        let bytes = FRAME_BYTES << cache.kept.layout.order();
+        space.zero(cache.tenant, FRAME_BYTES * slab.first, bytes);
+        self.tables.remove_slab(slab.machine_frame);
     }
 
-    /// Gives back all slabs of cache `c` of tenant `t` of which no object is live.
-    pub(crate) fn give_back_empty(
-        &mut self,
-        space: &mut Space,
-        buddy: &mut Buddy,
-        t: u8,
-        c: u32,
-        cache: &Cache,
-    )
-        requires tenant { t < length space.old.slots }
+    /// Gives back all slabs of the cache of which no object is live.
+    fn give_back_empty(&mut self, space: &mut Space, buddy: &mut Buddy, cache: TenantCache<'_>)
+        requires tenant { cache.tenant < length space.old.slots }
         requires agree { Agree space.old buddy.old self.old }
-        requires cache { cache_at self.old t c ≡ Some cache.now }
-        ensures returned { IsReturned space.old space.new buddy.old buddy.new self.old self.new t (idle_at (λ i. i == index_of_cache t c) space.old self.old t) }
-        ensures empty { IsEmpty self.new.lists.places (head_of t c 2) }
+        requires cache { cache_at self.old cache.tenant cache.number ≡ Some cache.kept.now }
+        ensures returned { IsReturned space.old space.new buddy.old buddy.new self.old self.new cache.entry.tenant
+            (idle_at (λ i. i == index_of_cache cache.entry.tenant cache.entry.number) space.old self.old cache.entry.tenant) }
+        ensures empty { IsEmpty self.new.lists.places (head_of cache.entry.tenant cache.entry.number 2) }
         ensures lists { (head : ℕ) → IsEmpty self.old.lists.places head → IsEmpty self.new.lists.places head }
         ensures tables { IsSlabs self.new }
-        ensures spares { Spares t space.old space.new buddy.old buddy.new self.old self.new }
+        ensures spares { Spares cache.entry.tenant space.old space.new buddy.old buddy.new self.old self.new }
         ensures agree { Agree space.new buddy.new self.new }
     {
-        self.laws_with(space, buddy, t);
-        while let Some((first, node)) = self.tables.first(t, c, Kind::Empty) {
-            self.give_back(space, buddy, t, cache, first, node);
+        self.laws_with(space, buddy, cache.tenant);
+        while let Some((first, machine_frame)) = self
+            .tables
+            .first(cache.tenant, cache.number, Kind::Empty)
+        {
+            let slab = Slab {
+                first,
+                machine_frame,
+            };
+            self.give_back(space, buddy, cache, slab);
         }
     }
 
@@ -84,8 +85,13 @@ impl Slabs {
     {
         self.laws_with(space, buddy, t);
         for c in 0..self.tables.caches_below(t) {
-            if let Some(cache) = self.tables.cache(t, c).copied() {
-                self.give_back_empty(space, buddy, t, c, &cache);
+            if let Some(kept) = self.tables.cache(t, c).copied() {
+                let cache = TenantCache {
+                    tenant: t,
+                    number: c,
+                    kept: &kept,
+                };
+                self.give_back_empty(space, buddy, cache);
             }
         }
     }
@@ -127,14 +133,19 @@ impl Slabs {
         ensures refused { OnErr result ((space.new ≡ space.old) × ((buddy.new ≡ buddy.old) × (self.new ≡ self.old))) }
     {
         self.laws_with(space, buddy, t);
-        let Some(cache) = self.tables.cache(t, c).copied() else {
+        let Some(kept) = self.tables.cache(t, c).copied() else {
             return Err(DestroyRefusal::NoCache);
+        };
+        let cache = TenantCache {
+            tenant: t,
+            number: c,
+            kept: &kept,
         };
         if self.in_use(t, c) {
             return Err(DestroyRefusal::CacheInUse);
         }
         let frames = self.empty_frames_of(t, c);
-        self.give_back_empty(space, buddy, t, c, &cache);
+        self.give_back_empty(space, buddy, cache);
         self.tables.remove_cache(t, c);
         Ok(frames)
     }

@@ -49,8 +49,13 @@ impl Slabs {
             → result ≡ is_some (choice self.now.top (reaped m) k) }
     {
         self.laws_with(space, buddy, t);
-        has_free(buddy, t, k)
-            || has_room_in_slabs(&self.tables, &mut [0; MOST_WORDS], space, buddy, t, k)
+        let view = View {
+            tables: &self.tables,
+            space,
+            buddy,
+            tenant: t,
+        };
+        has_free(buddy, t, k) || view.has_room_in_slabs(&mut [0; MOST_WORDS], k)
     }
 
     /// As [`Slabs::would_fit`], where no block is free that is large enough. It has room for the search.
@@ -67,172 +72,160 @@ impl Slabs {
         ensures same { self.new ≡ self.old }
     {
         self.laws_with(space, buddy, t);
-        has_room_in_slabs(&self.tables, &mut self.refused, space, buddy, t, k)
+        let view = View {
+            tables: &self.tables,
+            space,
+            buddy,
+            tenant: t,
+        };
+        view.has_room_in_slabs(&mut self.refused, k)
     }
 }
 
-/// Whether there is room for a block of order `k` around an empty slab of tenant `t`.
-fn has_room_in_slabs(
-    tables: &Tables,
-    refused: &mut [u64],
-    space: &Space,
-    buddy: &Buddy,
-    t: u8,
-    k: u8,
-) -> bool
-    requires tenant { t < length space.now.slots }
-    requires order { k ≤ tables.now.top }
-    requires words { length tables.now.lists.places ≤ 64 * length refused.old }
-    requires parts { HoldTogether space.now buddy.now tables.now }
-    requires steady { IsSteady space.now buddy.now tables.now t }
-    ensures room { (result ≡ true) ↔ HasRoomInSlabs space.now buddy.now tables.now t k }
-    ensures words { length refused.new ≡ length refused.old }
-{
-    has_empty_slab(tables, t) && has_room_around(tables, refused, space, buddy, t, k)
+/// What a search for room reads: the parts, and the tenant for whom it is made.
+#[derive(Clone, Copy)]
+struct View<'a> {
+    tables: &'a Tables,
+    space: &'a Space,
+    buddy: &'a Buddy,
+    tenant: u8,
 }
 
-/// Whether a slab of tenant `t` is empty.
-fn has_empty_slab(tables: &Tables, t: u8) -> bool
-    requires { IsTenant tables.now t }
-    ensures { (result ≡ false) ↔ ((c : ℕ) → c < MOST_CACHES → IsEmpty tables.now.lists.places (head_of t c 2)) }
-{
-    tables.laws();
-    for c in 0..tables.caches_below(t) {
-        if tables.first(t, c, Kind::Empty).is_some() {
-            return true;
-        }
+impl View<'_> {
+    /// Whether there is room for a block of order `k` around an empty slab.
+    fn has_room_in_slabs(self, refused: &mut [u64], k: u8) -> bool
+        requires tenant { self.tenant < length self.space.now.slots }
+        requires order { k ≤ self.tables.now.top }
+        requires words { length self.tables.now.lists.places ≤ 64 * length refused.old }
+        requires parts { HoldTogether self.space.now self.buddy.now self.tables.now }
+        requires steady { IsSteady self.space.now self.buddy.now self.tables.now self.tenant }
+        ensures room { (result ≡ true) ↔ HasRoomInSlabs self.entry.space.now self.entry.buddy.now self.entry.tables.now self.entry.tenant k }
+        ensures words { length refused.new ≡ length refused.old }
+    {
+        self.has_empty_slab() && self.has_room_around(refused, k)
     }
-    false
-}
 
-/// Whether there is room for a block of order `k` around an empty slab of tenant `t`: each block in which one begins
-/// is walked.
-#[inline(never)]
-fn has_room_around(
-    tables: &Tables,
-    refused: &mut [u64],
-    space: &Space,
-    buddy: &Buddy,
-    t: u8,
-    k: u8,
-) -> bool
-    requires tenant { t < length space.now.slots }
-    requires order { k ≤ tables.now.top }
-    requires words { length tables.now.lists.places ≤ 64 * length refused.old }
-    requires parts { HoldTogether space.now buddy.now tables.now }
-    requires steady { IsSteady space.now buddy.now tables.now t }
-    ensures room { (result ≡ true) ↔ HasRoomInSlabs space.now buddy.now tables.now t k }
-    ensures words { length refused.new ≡ length refused.old }
-{
-    // Blocks that have been walked, so that none is walked once more for another cache.
-    let words = refused.len().div_ceil(1 << k);
-    let refused = &mut refused[..words];
-    refused.fill(0);
-    for c in 0..tables.caches_below(t) {
-        if has_room_in_cache(tables, refused, space, buddy, t, c, k) {
-            return true;
-        }
-    }
-    false
-}
-
-/// Whether there is room for a block of order `k` around an empty slab of cache `c` of tenant `t`. Blocks that were
-/// refused are not looked at, and those that are refused now are put in.
-fn has_room_in_cache(
-    tables: &Tables,
-    refused: &mut [u64],
-    space: &Space,
-    buddy: &Buddy,
-    t: u8,
-    c: u32,
-    k: u8,
-) -> bool
-    requires tenant { t < length space.now.slots }
-    requires cache { c < MOST_CACHES }
-    requires order { k ≤ tables.now.top }
-    requires words { length tables.now.lists.places ≤ 64 * length refused.old * 2 ^ k }
-    requires parts { HoldTogether space.now buddy.now tables.now }
-    requires steady { IsSteady space.now buddy.now tables.now t }
-    requires refused { AreRefused space.now buddy.now tables.now t k (has_number refused.old) }
-    ensures room { (result ≡ true) ↔ HasRoomAround space.now buddy.now tables.now t c k }
-    ensures words { length refused.new ≡ length refused.old }
-    ensures refused { AreRefused space.now buddy.now tables.now t k (has_number refused.new) }
-{
-    let mut next = tables.first(t, c, Kind::Empty);
-    while let Some((slab, node)) = next {
-        let number = slab >> k;
-        if !has_block(refused, number) {
-            if is_unused_block(tables, space, buddy, t, number << k, k) {
+    /// Whether a slab is empty.
+    fn has_empty_slab(self) -> bool
+        requires { IsTenant self.tables.now self.tenant }
+        ensures { (result ≡ false) ↔ ((c : ℕ) → c < MOST_CACHES → IsEmpty self.entry.tables.now.lists.places (head_of self.entry.tenant c 2)) }
+    {
+        self.tables.laws();
+        for c in 0..self.tables.caches_below(self.tenant) {
+            if self.tables.first(self.tenant, c, Kind::Empty).is_some() {
                 return true;
             }
-            add_block(refused, number);
         }
-        next = tables.lists().after(node);
+        false
     }
-    false
-}
 
-/// Whether no frame of the block of order `k` at frame `first` of tenant `t` is taken, unless by an empty slab.
-fn is_unused_block(tables: &Tables, space: &Space, buddy: &Buddy, t: u8, first: u32, k: u8) -> bool
-    requires tenant { t < length space.now.slots }
-    requires first { first < 65536 }
-    requires block { IsWhole buddy.now t first k }
-    requires parts { HoldTogether space.now buddy.now tables.now }
-    requires steady { IsSteady space.now buddy.now tables.now t }
-    ensures { (result ≡ true) ↔ IsUnusedBlock space.now buddy.now tables.now t first k }
-{
-    let order = buddy.order();
-    let orders = buddy.orders_under(t, first >> order);
-    let end = first + (1 << k);
-    let mut frame = first;
-    while frame < end {
-        let begins = orders[(frame % (1 << order)) as usize];
-        let Some(next) = past_unused(tables, space, buddy, t, frame, begins) else {
-            return false;
+    /// Whether there is room for a block of order `k` around an empty slab: each block in which one begins is walked.
+    #[inline(never)]
+    fn has_room_around(self, refused: &mut [u64], k: u8) -> bool
+        requires tenant { self.tenant < length self.space.now.slots }
+        requires order { k ≤ self.tables.now.top }
+        requires words { length self.tables.now.lists.places ≤ 64 * length refused.old }
+        requires parts { HoldTogether self.space.now self.buddy.now self.tables.now }
+        requires steady { IsSteady self.space.now self.buddy.now self.tables.now self.tenant }
+        ensures room { (result ≡ true) ↔ HasRoomInSlabs self.entry.space.now self.entry.buddy.now self.entry.tables.now self.entry.tenant k }
+        ensures words { length refused.new ≡ length refused.old }
+    {
+        // Blocks that have been walked, so that none is walked once more for another cache.
+        let words = refused.len().div_ceil(1 << k);
+        let refused = &mut refused[..words];
+        refused.fill(0);
+        for c in 0..self.tables.caches_below(self.tenant) {
+            if self.has_room_in_cache(refused, c, k) {
+                return true;
+            }
+        }
+        false
+    }
+
+    /// Whether there is room for a block of order `k` around an empty slab of cache `c`. Blocks that were refused are not
+    /// looked at, and those that are refused now are put in.
+    fn has_room_in_cache(self, refused: &mut [u64], c: u32, k: u8) -> bool
+        requires tenant { self.tenant < length self.space.now.slots }
+        requires cache { c < MOST_CACHES }
+        requires order { k ≤ self.tables.now.top }
+        requires words { length self.tables.now.lists.places ≤ 64 * length refused.old * 2 ^ k }
+        requires parts { HoldTogether self.space.now self.buddy.now self.tables.now }
+        requires steady { IsSteady self.space.now self.buddy.now self.tables.now self.tenant }
+        requires refused { AreRefused self.space.now self.buddy.now self.tables.now self.tenant k (has_number refused.old) }
+        ensures room { (result ≡ true) ↔ HasRoomAround self.entry.space.now self.entry.buddy.now self.entry.tables.now self.entry.tenant c k }
+        ensures words { length refused.new ≡ length refused.old }
+        ensures refused { AreRefused self.entry.space.now self.entry.buddy.now self.entry.tables.now self.entry.tenant k (has_number refused.new) }
+    {
+        let mut next = self.tables.first(self.tenant, c, Kind::Empty);
+        while let Some((slab, node)) = next {
+            let number = slab >> k;
+            if !has_block(refused, number) {
+                if self.is_unused_block(number << k, k) {
+                    return true;
+                }
+                add_block(refused, number);
+            }
+            next = self.tables.lists().after(node);
+        }
+        false
+    }
+
+    /// Whether no frame of the block of order `k` at frame `first` is taken, unless by an empty slab.
+    fn is_unused_block(self, first: u32, k: u8) -> bool
+        requires tenant { self.tenant < length self.space.now.slots }
+        requires first { first < 65536 }
+        requires block { IsWhole self.buddy.now self.tenant first k }
+        requires parts { HoldTogether self.space.now self.buddy.now self.tables.now }
+        requires steady { IsSteady self.space.now self.buddy.now self.tables.now self.tenant }
+        ensures { (result ≡ true) ↔ IsUnusedBlock self.entry.space.now self.entry.buddy.now self.entry.tables.now self.entry.tenant first k }
+    {
+        let order = self.buddy.order();
+        let orders = self.buddy.orders_under(self.tenant, first >> order);
+        let end = first + (1 << k);
+        let mut frame = first;
+        while frame < end {
+            let begins = orders[(frame % (1 << order)) as usize];
+            let Some(next) = self.past_unused(frame, begins) else {
+                return false;
+            };
+            frame = next;
+        }
+        true
+    }
+
+    /// A frame up to which no frame from this one on is taken, unless by an empty slab. None where this one is taken
+    /// otherwise. `begins` is the order of the taken block that begins here.
+    #[inline(always)]
+    fn past_unused(self, frame: u32, begins: Option<u8>) -> Option<u32>
+        requires tenant { self.tenant < length self.space.now.slots }
+        requires frame { frame < 2 ^ 32 - 1 }
+        requires border { IsBorder self.buddy.now self.tenant frame }
+        requires begins { begins ≡ taken_of (holding_of self.tenant self.buddy.now) frame }
+        requires parts { HoldTogether self.space.now self.buddy.now self.tables.now }
+        requires steady { IsSteady self.space.now self.buddy.now self.tables.now self.tenant }
+        ensures { MatchOption result (IsUnusedFrame self.entry.space.now self.entry.buddy.now self.entry.tables.now self.entry.tenant frame → ⊥)
+            (λ next. IsUnusedTo self.entry.space.now self.entry.buddy.now self.entry.tables.now self.entry.tenant frame next) }
+    {
+        let Some(order) = begins else {
+            return Some(frame + 1);
         };
-        frame = next;
+        if self.is_idle(frame) {
+            Some(frame + (1 << order))
+        } else {
+            None
+        }
     }
-    true
-}
 
-/// A frame up to which no frame of tenant `t` from this one on is taken, unless by an empty slab. None where this one is
-/// taken otherwise. `begins` is the order of the taken block that begins here.
-#[inline(always)]
-fn past_unused(
-    tables: &Tables,
-    space: &Space,
-    buddy: &Buddy,
-    t: u8,
-    frame: u32,
-    begins: Option<u8>,
-) -> Option<u32>
-    requires tenant { t < length space.now.slots }
-    requires frame { frame < 2 ^ 32 - 1 }
-    requires border { IsBorder buddy.now t frame }
-    requires begins { begins ≡ taken_of (holding_of t buddy.now) frame }
-    requires parts { HoldTogether space.now buddy.now tables.now }
-    requires steady { IsSteady space.now buddy.now tables.now t }
-    ensures { MatchOption result (IsUnusedFrame space.now buddy.now tables.now t frame → ⊥)
-        (λ next. IsUnusedTo space.now buddy.now tables.now t frame next) }
-{
-    let Some(order) = begins else {
-        return Some(frame + 1);
-    };
-    if is_idle(tables, space, t, frame) {
-        Some(frame + (1 << order))
-    } else {
-        None
-    }
-}
-
-/// Whether an empty slab begins at a frame of tenant `t`.
-fn is_idle(tables: &Tables, space: &Space, t: u8, frame: u32) -> bool
-    requires tenant { t < length space.now.slots }
-    requires nodes { length tables.now.lists.places ≡ length space.now.owners * 2 ^ tables.now.top }
-    ensures { result ≡ idle_at (λ i. true) space.now tables.now t frame }
-{
-    match node_in(tables, space, t, frame) {
-        None => false,
-        Some(node) => tables.place_of(node).is_some() && tables.kept_of(node).live == 0,
+    /// Whether an empty slab begins at a frame.
+    fn is_idle(self, frame: u32) -> bool
+        requires tenant { self.tenant < length self.space.now.slots }
+        requires nodes { length self.tables.now.lists.places ≡ length self.space.now.owners * 2 ^ self.tables.now.top }
+        ensures { result ≡ idle_at (λ i. true) self.entry.space.now self.entry.tables.now self.entry.tenant frame }
+    {
+        match node_in(self.tables, self.space, self.tenant, frame) {
+            None => false,
+            Some(node) => self.tables.place_of(node).is_some()
+                && self.tables.kept_of(node).live == 0,
+        }
     }
 }

@@ -20,11 +20,11 @@ ghost use Rattle.space_core.specs.Windows.{home_of, window_of};
 ghost use Rattle.slab_core.specs.Objects.{standing, HasClear, IsRaised, IsRecordRaised, IsTurned};
 
 use crate::Slabs;
-use crate::objects::{Object, record_place};
+use crate::objects::{Object, Slab, TenantCache, record_place};
 use buddy_core::Buddy;
 use model_core::limits::FRAME_BYTES;
 use model_core::refusals::TakeRefusal;
-use slab_tables::{Cache, Kind};
+use slab_tables::Kind;
 use space_core::Space;
 
 /// Reads eight bytes as one number, the first of them the lowest.
@@ -110,9 +110,14 @@ impl Slabs {
         ensures refused { OnErr result ((space.new ≡ space.old) × ((buddy.new ≡ buddy.old) × (self.new ≡ self.old))) }
     {
         self.laws_with(space, buddy, t);
-        let cache = *self.tables.cache(t, c).ok_or(TakeRefusal::NoCache)?;
-        if let Some((first, node)) = self.slab_to_use(space, buddy, t, c, &cache) {
-            return Ok(self.hand_out(space, buddy, t, c, &cache, first, node));
+        let kept = *self.tables.cache(t, c).ok_or(TakeRefusal::NoCache)?;
+        let cache = TenantCache {
+            tenant: t,
+            number: c,
+            kept: &kept,
+        };
+        if let Some(slab) = self.slab_to_use(space, buddy, cache) {
+            return Ok(self.hand_out(space, buddy, cache, slab));
         }
         self.take_new(space, buddy, t, c)
     }
@@ -141,58 +146,61 @@ impl Slabs {
         ensures refused { OnErr result ((space.new ≡ space.old) × ((buddy.new ≡ buddy.old) × (self.new ≡ self.old))) }
     {
         self.laws_with(space, buddy, t);
-        let cache = *self.tables.cache(t, c).ok_or(TakeRefusal::NoCache)?;
-        let (first, node) = self
-            .grow(space, buddy, t, c, &cache)
-            .ok_or(TakeRefusal::NoFrames)?;
+        let before = *self.tables.cache(t, c).ok_or(TakeRefusal::NoCache)?;
+        let cache = TenantCache {
+            tenant: t,
+            number: c,
+            kept: &before,
+        };
+        let slab = self.grow(space, buddy, cache).ok_or(TakeRefusal::NoFrames)?;
         // It has made one slab more.
-        let cache = *self.tables.cache(t, c).unwrap();
-        Ok(self.hand_out(space, buddy, t, c, &cache, first, node))
+        let after = *self.tables.cache(t, c).unwrap();
+        let cache = TenantCache {
+            kept: &after,
+            ..cache
+        };
+        Ok(self.hand_out(space, buddy, cache, slab))
     }
 
-    /// First frame and node of the slab that a take uses: the first partial one, else the first empty one.
-    fn slab_to_use(
-        &self,
-        space: &Space,
-        buddy: &Buddy,
-        t: u8,
-        c: u32,
-        cache: &Cache,
-    ) -> Option<(u32, u32)>
-        requires tenant { t < length space.now.slots }
+    /// The slab that a take uses: the first partial one, else the first empty one.
+    fn slab_to_use(&self, space: &Space, buddy: &Buddy, cache: TenantCache<'_>) -> Option<Slab>
+        requires tenant { cache.tenant < length space.now.slots }
         requires parts { HoldTogether space.now buddy.now self.now }
-        requires cache { cache_at self.now t c ≡ Some cache.now }
-        ensures slab { MatchOption result (IsAllFull self.now t c) (λ p. IsToUse space.now self.now t c cache.now (standing p.0 p.1)) }
-        ensures free { IfSome result (λ p. (kept_at self.now.kept p.1).live < (layout_numbers cache.now).count) }
+        requires cache { cache_at self.now cache.tenant cache.number ≡ Some cache.kept.now }
+        ensures slab { MatchOption result (IsAllFull self.now cache.entry.tenant cache.entry.number)
+            (λ p. IsToUse space.now self.now cache.entry.tenant cache.entry.number cache.entry.kept.now (standing p)) }
+        ensures free { IfSome result (λ p. (kept_at self.now.kept p.machine_frame).live < (layout_numbers cache.entry.kept.now).count) }
     {
-        match self.tables.first(t, c, Kind::Partial) {
-            Some(slab) => Some(slab),
-            None => self.tables.first(t, c, Kind::Empty),
+        let (tenant, number) = (cache.tenant, cache.number);
+        if let Some((first, machine_frame)) = self.tables.first(tenant, number, Kind::Partial) {
+            return Some(Slab {
+                first,
+                machine_frame,
+            });
         }
+        let (first, machine_frame) = self.tables.first(tenant, number, Kind::Empty)?;
+        Some(Slab {
+            first,
+            machine_frame,
+        })
     }
 
     /// Lets the least object of a slab be live that is not, and answers which. The slab is still to be counted.
     #[inline(always)]
-    fn mark_least_free(
-        &mut self,
-        space: &mut Space,
-        t: u8,
-        cache: &Cache,
-        first: u32,
-        node: u32,
-    ) -> u32
-        requires tenant { t < length space.old.slots }
+    fn mark_least_free(&mut self, space: &mut Space, cache: TenantCache<'_>, slab: Slab) -> u32
+        requires tenant { cache.tenant < length space.old.slots }
         requires laws { SpaceLaws space.old }
         requires tables { IsSlabs self.old }
         requires unit { space.old.unit ≡ FRAME_BYTES * 2 ^ self.old.top }
-        requires slab { (c : ℕ) × IsSlab space.old self.old t c first node cache.now }
-        requires free { position_or_len not (live_of space.old t cache.now (kept_at self.old.kept node) first) < (layout_numbers cache.now).count }
-        ensures least { result ≡ position_or_len not (live_of space.old t cache.now (kept_at self.old.kept node) first) }
-        ensures turned { IsTurned space.old space.new self.old self.new t (found cache.now first node result) }
+        requires slab { IsSlab space.old self.old cache.tenant cache.number slab.first slab.machine_frame cache.kept.now }
+        requires free { position_or_len not (live_of space.old cache.tenant cache.kept.now (kept_at self.old.kept slab.machine_frame) slab.first) < (layout_numbers cache.kept.now).count }
+        ensures least { result ≡ position_or_len not (live_of space.old cache.entry.tenant cache.entry.kept.now (kept_at self.old.kept slab.machine_frame) slab.first) }
+        ensures turned { IsTurned space.old space.new self.old self.new cache.entry.tenant (found cache.entry.kept.now slab.first slab.machine_frame result) }
     {
-        if cache.layout.in_page() {
+        let node = slab.machine_frame;
+        if cache.kept.layout.in_page() {
             let superblock = self.superblock(node);
-            raise_in_record(space, superblock, t, record_place(first, 0))
+            raise_in_record(space, superblock, cache.tenant, record_place(slab.first, 0))
         } else {
             let outside = self.tables.kept_of(node).outside;
             let index = u32::from(outside).trailing_ones();
@@ -207,29 +215,26 @@ impl Slabs {
         &mut self,
         space: &mut Space,
         buddy: &Buddy,
-        t: u8,
-        c: u32,
-        cache: &Cache,
-        first: u32,
-        node: u32,
+        cache: TenantCache<'_>,
+        slab: Slab,
     ) -> u32
-        requires tenant { t < length space.old.slots }
+        requires tenant { cache.tenant < length space.old.slots }
         requires agree { Agree space.old buddy.now self.old }
-        requires slab { IsSlab space.old self.old t c first node cache.now }
-        requires free { (kept_at self.old.kept node).live < (layout_numbers cache.now).count }
-        ensures answer { (m : Machine) (x : machines.Cache) (y : machines.Slab) → ShowsMachine space.old buddy.now self.old t m
-            → cache_of m c ≡ Some x → slab_of x first ≡ Some y → Ok result ≡ (hand_out x y m).answer }
-        ensures shows { (m : Machine) (x : machines.Cache) (y : machines.Slab) → ShowsMachine space.old buddy.now self.old t m
-            → cache_of m c ≡ Some x → slab_of x first ≡ Some y → ShowsMachine space.new buddy.now self.new t (hand_out x y m).machine }
-        ensures object { (o : Found) × IsLiveObject space.new self.new t c result o }
-        ensures spares { Spares t space.old space.new buddy.now buddy.now self.old self.new }
+        requires slab { IsSlab space.old self.old cache.tenant cache.number slab.first slab.machine_frame cache.kept.now }
+        requires free { (kept_at self.old.kept slab.machine_frame).live < (layout_numbers cache.kept.now).count }
+        ensures answer { (m : Machine) (x : machines.Cache) (y : machines.Slab) → ShowsMachine space.old buddy.now self.old cache.entry.tenant m
+            → cache_of m cache.entry.number ≡ Some x → slab_of x slab.first ≡ Some y → Ok result ≡ (hand_out x y m).answer }
+        ensures shows { (m : Machine) (x : machines.Cache) (y : machines.Slab) → ShowsMachine space.old buddy.now self.old cache.entry.tenant m
+            → cache_of m cache.entry.number ≡ Some x → slab_of x slab.first ≡ Some y
+            → ShowsMachine space.new buddy.now self.new cache.entry.tenant (hand_out x y m).machine }
+        ensures object { (o : Found) × IsLiveObject space.new self.new cache.entry.tenant cache.entry.number result o }
+        ensures spares { Spares cache.entry.tenant space.old space.new buddy.now buddy.now self.old self.new }
         ensures agree { Agree space.new buddy.now self.new }
     {
-        self.laws_with(space, buddy, t);
-        let colour = u32::from(self.tables.kept_of(node).colour);
-        let index = self.mark_least_free(space, t, cache, first, node);
-        let object = Object { first, node, index };
-        self.recount(space, buddy, t, c, cache, object, true);
-        FRAME_BYTES * first + cache.layout.offset(colour, index)
+        self.laws_with(space, buddy, cache.tenant);
+        let colour = u32::from(self.tables.kept_of(slab.machine_frame).colour);
+        let index = self.mark_least_free(space, cache, slab);
+        self.recount(cache, Object { slab, index }, true);
+        FRAME_BYTES * slab.first + cache.kept.layout.offset(colour, index)
     }
 }

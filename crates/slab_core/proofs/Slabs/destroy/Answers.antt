@@ -25,13 +25,13 @@ returns-in_default-clause-shows c = λ m h.
     subst (λ z. ShowsMachine c.args.space.now c.args.buddy.now c.args.self.now c.args.t z.machine) (sym (no_cache_step c.args.space.now c.args.buddy.now c.args.self.now c.args.t c.args.c m h (vacant c))) h
 
 -- the cache that stands in the tables
-cached : (c : In-Some) → cache_at c.args.self.now c.args.t c.args.c ≡ Some c.in-Some.cache
-cached c = subst (λ s. cache_at s c.args.t c.args.c ≡ Some c.in-Some.cache) c.self.view_is (sym c.cache.ensures ∙ sym c.copied.ensures ∙ c.in-Some.is)
+cached : (c : In-Some) → cache_at c.args.self.now c.args.t c.args.c ≡ Some c.in-Some.kept
+cached c = subst (λ s. cache_at s c.args.t c.args.c ≡ Some c.in-Some.kept) c.self.view_is (sym c.cache.ensures ∙ sym c.copied.ensures ∙ c.in-Some.is)
 
 used : (c : Then-in_use) (m : Machine) → ShowsMachine c.args.space.now c.args.buddy.now c.args.self.now c.args.t m
     → destroy_step c.args.c m ≡ refuse CacheInUse m
 used c m h =
-    used_step c.args.space.now c.args.buddy.now c.args.self.now c.args.t c.args.c c.in-Some.cache c.laws_with.ensures.parts.slabs c.requires.agree c.laws_with.ensures.steady
+    used_step c.args.space.now c.args.buddy.now c.args.self.now c.args.t c.args.c c.in-Some.kept c.laws_with.ensures.parts.slabs c.requires.agree c.laws_with.ensures.steady
     (cached (goal.at.returns-then-in_use-clause-answer c).In-Some) (λ unused. false≢true (sym (c.in_use.ensures.1 unused) ∙ c.if-in_use.true)) m h
 
 pub returns-then-in_use-clause-answer : goal.returns-then-in_use-clause-answer
@@ -46,8 +46,8 @@ left : (c : After-give_back_empty) → IsLeft c.args.space.now c.give_back_empty
     c.args.self.now c.give_back_empty.new.self c.args.t c.args.c
 left c =
     left_of c.args.space.now c.give_back_empty.new.space c.args.buddy.now c.give_back_empty.new.buddy c.args.self.now c.give_back_empty.new.self
-    c.args.t c.args.c c.in-Some.cache
-    (subst (λ s. cache_at s c.args.t c.args.c ≡ Some c.in-Some.cache) c.self.view_is (sym c.cache.ensures ∙ sym c.copied.ensures ∙ c.in-Some.is))
+    c.args.t c.args.c c.in-Some.kept
+    (subst (λ s. cache_at s c.args.t c.args.c ≡ Some c.in-Some.kept) c.self.view_is (sym c.cache.ensures ∙ sym c.copied.ensures ∙ c.in-Some.is))
     c.requires.tenant c.give_back_empty.ensures.spares c.give_back_empty.ensures.agree (c.in_use.ensures.0 c.if-in_use.false)
     c.give_back_empty.ensures.empty c.give_back_empty.ensures.lists
 
@@ -67,7 +67,7 @@ destroyed : (c : goal.After-remove_cache) (m : Machine) → ShowsMachine c.args.
     → (Ok c.empty_frames_of-frames.result ≡ (destroy_step c.args.c m).answer)
     × ShowsMachine c.give_back_empty.new.space c.give_back_empty.new.buddy (with_cache c.give_back_empty.new.self c.args.t c.args.c None) c.args.t (destroy_step c.args.c m).machine
 destroyed c m h =
-    let d = destroyed_as c.args.space.now c.args.buddy.now c.args.self.now c.args.t c.args.c c.in-Some.cache c.laws_with.ensures.parts.slabs c.requires.agree c.laws_with.ensures.steady
+    let d = destroyed_as c.args.space.now c.args.buddy.now c.args.self.now c.args.t c.args.c c.in-Some.kept c.laws_with.ensures.parts.slabs c.requires.agree c.laws_with.ensures.steady
     (cached (goal.at.returns-clause-answer c).In-Some) (c.in_use.ensures.0 c.if-in_use.false)
     c.give_back_empty.new.space c.give_back_empty.new.buddy c.give_back_empty.new.self (left_now c).bare (left_now c).within
     c.give_back_empty.ensures.returned m h c.empty_frames_of-frames.result

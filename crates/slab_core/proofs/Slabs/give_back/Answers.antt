@@ -7,29 +7,21 @@ use Rattle.slab_core.proofs.ReturnOne.{len_is, slab_held, IsGivenBack, given_bac
 
 pub zero-requires-clause-in_reach : goal.zero-requires-clause-in_reach
 zero-requires-clause-in_reach c =
-    let cache = c.args.cache.now in
-    let slab = c.requires.slab in
-    let long : 4096 * 2 ^ c.order.result % 4294967296 ≡ 4096 * 2 ^ (layout_numbers cache).order =
-    ap (λ k. 4096 * 2 ^ k % 4294967296) c.order.ensures
-    ∙ len_is (layout_numbers cache).order (c.laws_with.ensures.steady.stands slab.0 c.args.first c.args.node cache slab.1).layout.order in
-    subst (λ n. IsSome (home_of c.args.space.now c.args.t (4096 * c.args.first) n)) (sym long)
-    (slab_held c.args.space.now c.args.buddy.now c.args.self.now c.args.t slab.0 c.args.first c.args.node cache c.requires.agree c.laws_with.ensures.steady slab.1)
-
--- what the three parts are once the slab is given back
-given : (c : goal.After-remove_slab) → IsGivenBack c.args.space.now c.args.buddy.now c.args.self.now c.args.t c.requires.slab.0 c.args.first c.args.node
-    c.args.cache.now c.requires.agree c.laws_with.ensures.steady c.requires.slab.1
-    c.laws_with.ensures.parts.slabs c.laws_with.ensures.parts.space (subst (λ n. c.args.t < n) c.requires.agree.rows c.requires.tenant)
-    c.zero.new.self c.release.new.self c.remove_slab.new.self
-given c =
-    given_back c.args.space.now c.args.buddy.now c.args.self.now c.args.t c.requires.slab.0 c.args.first c.args.node
-    c.args.cache.now c.requires.agree c.laws_with.ensures.steady c.requires.slab.1
-    c.laws_with.ensures.parts.slabs c.laws_with.ensures.parts.space (subst (λ n. c.args.t < n) c.requires.agree.rows c.requires.tenant)
-    c.zero.new.self c.release.new.self c.remove_slab.new.self c.order.result _ c.order.ensures refl c.zero.ensures
-    c.release.result c.release.ensures.answer c.release.ensures.done
-    (c.remove_slab.ensures ∙ ap (λ v. without_slab v c.args.node) c.self.view_is)
+    let order = (layout_numbers c.args.cache.kept.now).order in
+    let long : 4096 * 2 ^ c.order.result % 4294967296 ≡ 4096 * 2 ^ order =
+    ap (λ k. 4096 * 2 ^ k % 4294967296) c.order.ensures ∙ len_is order (c.laws_with.ensures.steady.stands _ _ _ _ c.requires.slab).layout.order in
+    subst (λ n. IsSome (home_of c.args.space.now c.args.cache.tenant (4096 * c.args.slab.first) n)) (sym long)
+    (slab_held c.requires.agree c.laws_with.ensures.steady c.requires.slab)
 
 pub returns-clause-tables : goal.returns-clause-tables
-returns-clause-tables c = c.remove_slab.ensures ∙ ap (λ v. without_slab v c.args.node) c.self.view_is
+returns-clause-tables c = c.remove_slab.ensures ∙ ap (λ v. without_slab v c.args.slab.machine_frame) c.self.view_is
+
+given : (c : goal.After-remove_slab)
+    → IsGivenBack c.args.space.now c.zero.new.self c.args.buddy.now c.release.new.self c.args.self.now c.remove_slab.new.self c.args.cache.tenant c.args.slab.first
+given c =
+    given_back c.requires.agree c.laws_with.ensures.steady c.requires.slab c.laws_with.ensures.parts.slabs c.laws_with.ensures.parts.space
+    (subst (λ n. c.args.cache.tenant < n) c.requires.agree.rows c.requires.tenant) c.order.ensures refl c.zero.ensures
+    c.release.ensures.answer c.release.ensures.done (returns-clause-tables c)
 
 pub returns-clause-returned : goal.returns-clause-returned
 returns-clause-returned c = (given c).returned

@@ -13,7 +13,7 @@ loop-c-init c = record {
 
 pub give_back_empty-requires-clause-cache : goal.give_back_empty-requires-clause-cache
 give_back_empty-requires-clause-cache c =
-    subst (λ s. cache_at s c.args.t c.loop-c.c ≡ Some c.in-Some.cache) c.self-in-loop-c.view_is
+    subst (λ s. cache_at s c.args.t c.loop-c.c ≡ Some c.in-Some.kept) c.self-in-loop-c.view_is
     (sym c.cache.ensures ∙ sym c.copied.ensures ∙ c.in-Some.is)
 
 pub loop-c-preserved : goal.loop-c-preserved

@@ -4,24 +4,19 @@ use Rattle.slab_core.proofs.ObjectSlabs.{node_within, slab_cache}
 use Rattle.slab_core.proofs.Slabs.is_live_object.Goals as goal
 
 pub superblock-superblock-requires-clause-node : goal.superblock-superblock-requires-clause-node
-superblock-superblock-requires-clause-node c =
-    node_within c.args.space.now c.args.self.now c.args.t c.requires.slab.0 c.args.object.first c.args.object.node c.args.cache.now c.requires.slab.1
+superblock-superblock-requires-clause-node c = node_within c.requires.slab
+
+pub record_place-place-requires-clause-index : goal.record_place-place-requires-clause-index
+record_place-place-requires-clause-index c = omega (arith, (slab_cache c.requires.slab c.requires.tables).few, c.requires.index)
 
 pub byte_in-requires : goal.byte_in-requires
 byte_in-requires c =
-    let few = (slab_cache c.args.space.now c.args.self.now c.args.t c.requires.slab.0 c.args.object.first c.args.object.node c.args.cache.now c.requires.tables c.requires.slab.1).few in
-    object_under c.args.space.now c.args.self.now c.args.t c.requires.slab.0 c.args.object.first c.args.object.node c.args.object.index c.record_place-place.result c.superblock-superblock.result
-    c.args.cache.now c.requires.slab.1 c.requires.unit (omega (arith, few, c.requires.index)) c.record_place-place.ensures c.superblock-superblock.ensures
-
-pub record_place-place-requires-clause-index : goal.record_place-place-requires-clause-index
-record_place-place-requires-clause-index c = let few = (slab_cache c.args.space.now c.args.self.now c.args.t c.requires.slab.0 c.args.object.first c.args.object.node c.args.cache.now c.requires.tables c.requires.slab.1).few in omega (arith, few, c.requires.index)
+    object_under c.requires.slab c.requires.tables c.requires.index c.requires.unit c.record_place-place.ensures c.superblock-superblock.ensures
 
 pub overflow_cast-result-else-in_page : goal.overflow_cast-result-else-in_page
 overflow_cast-result-else-in_page c =
-    let few = (slab_cache c.args.space.now c.args.self.now c.args.t c.requires.slab.0 c.args.object.first c.args.object.node c.args.cache.now c.requires.tables c.requires.slab.1).few_large (sym c.in_page.ensures ∙ c.if-in_page.false) in
-    omega (arith, few, c.requires.index)
+    omega (arith, (slab_cache c.requires.slab c.requires.tables).few_large (sym c.in_page.ensures ∙ c.if-in_page.false), c.requires.index)
 
 pub overflow_shr-result-else-in_page : goal.overflow_shr-result-else-in_page
 overflow_shr-result-else-in_page c =
-    let few = (slab_cache c.args.space.now c.args.self.now c.args.t c.requires.slab.0 c.args.object.first c.args.object.node c.args.cache.now c.requires.tables c.requires.slab.1).few_large (sym c.in_page.ensures ∙ c.if-in_page.false) in
-    omega (arith, few, c.requires.index)
+    omega (arith, (slab_cache c.requires.slab c.requires.tables).few_large (sym c.in_page.ensures ∙ c.if-in_page.false), c.requires.index)

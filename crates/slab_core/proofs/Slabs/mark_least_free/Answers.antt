@@ -13,59 +13,65 @@ use Rattle.slab_core.proofs.MarkTurned.{turned_window, turned_outside}
 use Rattle.slab_core.proofs.TakeBits.{IsClear, clear_half}
 use Rattle.slab_core.proofs.TakeNext.{record_home, has_clear, claimed_inside, claimed_outside}
 use Rattle.slab_core.proofs.Slabs.mark_least_free.Goals as goal
-use Rattle.slab_core.proofs.Slabs.mark_least_free.Goals.{After-trailing_ones-index}
+use Rattle.slab_core.proofs.Slabs.mark_least_free.Goals.{After-record_place, After-trailing_ones-index}
 
 pub superblock-superblock-requires-clause-node : goal.superblock-superblock-requires-clause-node
-superblock-superblock-requires-clause-node c =
-    node_within c.args.space.now c.args.self.now c.args.t c.requires.slab.0 c.args.first c.args.node c.args.cache.now c.requires.slab.1
+superblock-superblock-requires-clause-node c = node_within c.requires.slab
+
+-- where the record stands in the frame
+place_is : (c : After-record_place) → c.record_place.result ≡ 4096 * c.args.slab.first + 4064
+place_is c = omega (arith, c.record_place.ensures)
 
 pub raise_in_record-requires-clause-home : goal.raise_in_record-requires-clause-home
 raise_in_record-requires-clause-home c =
-    record_home c.args.space.now c.args.self.now c.args.t c.requires.slab.0 c.args.first c.args.node c.record_place.result c.args.cache.now c.requires.slab.1 c.requires.unit
-    (omega (arith, c.record_place.ensures))
+    record_home c.requires.slab c.requires.unit (place_is (goal.at.raise_in_record-requires-clause-home c).After-record_place)
     ∙ ap (λ x. Some x) (sym c.superblock-superblock.ensures)
 
 pub raise_in_record-requires-clause-clear : goal.raise_in_record-requires-clause-clear
 raise_in_record-requires-clause-clear c = λ bytes e.
-    has_clear c.args.space.now c.args.t c.args.cache.now (kept_at c.args.self.now.kept c.args.node) c.args.first c.requires.free
-    (sym c.in_page.ensures ∙ c.if-in_page.true) (slab_cache c.args.space.now c.args.self.now c.args.t c.requires.slab.0 c.args.first c.args.node c.args.cache.now c.requires.tables c.requires.slab.1).few c.requires.laws.own_bytes c.record_place.result
-    (omega (arith, c.record_place.ensures)) bytes e
+    let x = c.args in
+    has_clear x.space.now x.cache.tenant x.cache.kept.now (kept_at x.self.now.kept x.slab.machine_frame) x.slab.first c.requires.free
+    (sym c.in_page.ensures ∙ c.if-in_page.true) (slab_cache c.requires.slab c.requires.tables).few c.requires.laws.own_bytes c.record_place.result
+    (place_is (goal.at.raise_in_record-requires-clause-clear c).After-record_place) bytes e
 
 pub returns-then-in_page-clause-least : goal.returns-then-in_page-clause-least
 returns-then-in_page-clause-least c =
-    claimed_inside c.args.space.now c.args.t c.args.cache.now (kept_at c.args.self.now.kept c.args.node) c.args.first c.requires.free
-    (sym c.in_page.ensures ∙ c.if-in_page.true) (slab_cache c.args.space.now c.args.self.now c.args.t c.requires.slab.0 c.args.first c.args.node c.args.cache.now c.requires.tables c.requires.slab.1).few c.requires.laws.own_bytes c.record_place.result
-    (omega (arith, c.record_place.ensures)) c.raise_in_record.new.space c.raise_in_record.result c.raise_in_record.ensures
+    let x = c.args in
+    claimed_inside x.space.now x.cache.tenant x.cache.kept.now (kept_at x.self.now.kept x.slab.machine_frame) x.slab.first c.requires.free
+    (sym c.in_page.ensures ∙ c.if-in_page.true) (slab_cache c.requires.slab c.requires.tables).few c.requires.laws.own_bytes c.record_place.result
+    (place_is (goal.at.returns-then-in_page-clause-least c).After-record_place) c.raise_in_record.new.space c.raise_in_record.result c.raise_in_record.ensures
 
 pub returns-then-in_page-clause-turned : goal.returns-then-in_page-clause-turned
 returns-then-in_page-clause-turned c =
-    let place : c.record_place.result ≡ 4096 * c.args.first + 4064 = omega (arith, c.record_place.ensures) in
-    let least = claimed_inside c.args.space.now c.args.t c.args.cache.now (kept_at c.args.self.now.kept c.args.node) c.args.first c.requires.free
-    (sym c.in_page.ensures ∙ c.if-in_page.true) (slab_cache c.args.space.now c.args.self.now c.args.t c.requires.slab.0 c.args.first c.args.node c.args.cache.now c.requires.tables c.requires.slab.1).few c.requires.laws.own_bytes c.record_place.result
+    let x = c.args in
+    let place = place_is (goal.at.returns-then-in_page-clause-turned c).After-record_place in
+    let few = (slab_cache c.requires.slab c.requires.tables).few in
+    let least = claimed_inside x.space.now x.cache.tenant x.cache.kept.now (kept_at x.self.now.kept x.slab.machine_frame) x.slab.first c.requires.free
+    (sym c.in_page.ensures ∙ c.if-in_page.true) few c.requires.laws.own_bytes c.record_place.result
     place c.raise_in_record.new.space c.raise_in_record.result c.raise_in_record.ensures in
-    let few = (slab_cache c.args.space.now c.args.self.now c.args.t c.requires.slab.0 c.args.first c.args.node c.args.cache.now c.requires.tables c.requires.slab.1).few in
-    turned_window c.args.space.now c.args.self.now c.args.t (found c.args.cache.now c.args.first c.args.node c.raise_in_record.result)
+    turned_window x.space.now x.self.now x.cache.tenant (found x.cache.kept.now x.slab.first x.slab.machine_frame c.raise_in_record.result)
     c.raise_in_record.new.space c.requires.laws (omega (arith, few, c.requires.free)) (sym c.in_page.ensures ∙ c.if-in_page.true) c.record_place.result place
-    (subst (λ o. IsSome o) (sym (record_home c.args.space.now c.args.self.now c.args.t c.requires.slab.0 c.args.first c.args.node c.record_place.result c.args.cache.now c.requires.slab.1 c.requires.unit place)) refl)
+    (subst (λ o. IsSome o) (sym (record_home c.requires.slab c.requires.unit place)) refl)
     c.raise_in_record.ensures
 
--- where the record is kept outside
-few_large : (c : After-trailing_ones-index) → (layout_numbers c.args.cache.now).count ≤ 16
-few_large c =
-    (slab_cache c.args.space.now c.args.self.now c.args.t c.requires.slab.0 c.args.first c.args.node c.args.cache.now c.requires.tables c.requires.slab.1).few_large
-    (sym c.in_page.ensures ∙ c.if-in_page.false)
+-- where it is kept outside
+few_large : (c : After-trailing_ones-index) → (layout_numbers c.args.cache.kept.now).count ≤ 16
+few_large c = (slab_cache c.requires.slab c.requires.tables).few_large (sym c.in_page.ensures ∙ c.if-in_page.false)
 
-kept_is : (c : After-trailing_ones-index) → c.kept_of-outside.result ≡ kept_at c.args.self.now.kept c.args.node
-kept_is c = c.kept_of-outside.ensures ∙ ap (λ (s : Content). kept_at s.kept c.args.node) c.self.view_is
+kept_is : (c : After-trailing_ones-index) → c.kept_of-outside.result ≡ kept_at c.args.self.now.kept c.args.slab.machine_frame
+kept_is c = c.kept_of-outside.ensures ∙ ap (λ (s : Content). kept_at s.kept c.args.slab.machine_frame) c.self.view_is
 
-least : (c : After-trailing_ones-index) → c.trailing_ones-index.result ≡ position_or_len not (live_of c.args.space.now c.args.t c.args.cache.now (kept_at c.args.self.now.kept c.args.node) c.args.first)
+least : (c : After-trailing_ones-index) → c.trailing_ones-index.result
+    ≡ position_or_len not (live_of c.args.space.now c.args.cache.tenant c.args.cache.kept.now (kept_at c.args.self.now.kept c.args.slab.machine_frame) c.args.slab.first)
 least c =
+    let x = c.args in
+    let kept = kept_at x.self.now.kept x.slab.machine_frame in
     let fits : c.from.result < 65536 = omega (arith, c.kept_of-outside.type_inv) in
-    let word : c.from.result ≡ (kept_at c.args.self.now.kept c.args.node).outside = c.from.ensures ∙ ap (λ (x : Kept). x.outside) (kept_is c) in
-    let is : IsClear 16 (kept_at c.args.self.now.kept c.args.node).outside c.trailing_ones-index.result =
+    let word : c.from.result ≡ kept.outside = c.from.ensures ∙ ap (λ (x : Kept). x.outside) (kept_is c) in
+    let is : IsClear 16 kept.outside c.trailing_ones-index.result =
     subst (λ x. IsClear 16 x c.trailing_ones-index.result) word
     (subst (IsClear 16 c.from.result) (sym c.trailing_ones-index.ensures) (clear_half c.from.result fits)) in
-    claimed_outside c.args.space.now c.args.t c.args.cache.now (kept_at c.args.self.now.kept c.args.node) c.args.first c.requires.free
+    claimed_outside x.space.now x.cache.tenant x.cache.kept.now kept x.slab.first c.requires.free
     c.trailing_ones-index.result (sym c.in_page.ensures ∙ c.if-in_page.false) (few_large c) is
 
 pub overflow_shl-index : goal.overflow_shl-index
@@ -78,12 +84,12 @@ returns-else-in_page-clause-least c = least (goal.at.returns-else-in_page-clause
 
 pub returns-else-in_page-clause-turned : goal.returns-else-in_page-clause-turned
 returns-else-in_page-clause-turned c =
+    let x = c.args in
     let a = (goal.at.returns-else-in_page-clause-turned c).After-trailing_ones-index in
-    let i = c.trailing_ones-index.result in
-    let node = node_within c.args.space.now c.args.self.now c.args.t c.requires.slab.0 c.args.first c.args.node c.args.cache.now c.requires.slab.1 in
-    let paired = c.requires.tables.paired in
-    subst (λ (s : Content). IsTurned c.args.space.now c.args.space.now c.args.self.now s c.args.t (found c.args.cache.now c.args.first c.args.node i))
-    (sym (c.set_outside.ensures ∙ ap (λ (s : Content). with_outside s c.args.node (bit_xor c.kept_of-outside.result.outside (1 * 2 ^ i % 65536))) c.self.view_is))
-    (turned_outside c.args.space.now c.args.self.now c.args.t (found c.args.cache.now c.args.first c.args.node i)
-    (sym c.in_page.ensures ∙ c.if-in_page.false) (omega (arith, least a, few_large a, c.requires.free)) (omega (arith, node, paired)) _
-    (ap (λ (k : Kept). bit_xor k.outside (1 * 2 ^ i % 65536)) (kept_is a)))
+    let o = found x.cache.kept.now x.slab.first x.slab.machine_frame c.trailing_ones-index.result in
+    subst (λ (s : Content). IsTurned x.space.now x.space.now x.self.now s x.cache.tenant o)
+    (sym (c.set_outside.ensures ∙ ap (λ (s : Content). with_outside s o.node (bit_xor c.kept_of-outside.result.outside (1 * 2 ^ o.index % 65536))) c.self.view_is))
+    (turned_outside x.space.now x.self.now x.cache.tenant o
+    (sym c.in_page.ensures ∙ c.if-in_page.false) (omega (arith, least a, few_large a, c.requires.free))
+    (omega (arith, node_within c.requires.slab, c.requires.tables.paired)) _
+    (ap (λ (k : Kept). bit_xor k.outside (1 * 2 ^ o.index % 65536)) (kept_is a)))

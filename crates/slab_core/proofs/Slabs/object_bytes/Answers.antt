@@ -14,15 +14,18 @@ returns-in_default-clause-refused c =
     (sym (ap (λ (s : Content). cache_at s x.t x.c) c.self.view_is) ∙ (sym c.cache.ensures ∙ ap (option_map (λ y. y.now)) c.in_default.is)))
 
 -- the cache that stands in the tables
-cached : (c : In-Some) → cache_at c.args.self.now c.args.t c.args.c ≡ Some c.in-Some.cache.now
+cached : (c : In-Some) → cache_at c.args.self.now c.args.t c.args.c ≡ Some c.in-Some.kept.now
 cached c =
     sym (ap (λ (s : Content). cache_at s c.args.t c.args.c) c.self.view_is)
     ∙ (sym c.cache.ensures ∙ ap (option_map (λ y. y.now)) c.in-Some.is)
 
+pub find-requires-clause-parts : goal.find-requires-clause-parts
+find-requires-clause-parts c = (c.args.buddy.now, c.laws_with.ensures.parts)
+
 pub returns-in_default-find-clause-refused : goal.returns-in_default-find-clause-refused
 returns-in_default-find-clause-refused c =
     let x = c.args in λ m h. ap (λ z. z.answer)
-    (not_found_refuses x.space.now x.buddy.now x.self.now x.t x.c x.place c.in-Some.cache.now m c.laws_with.ensures.steady h
+    (not_found_refuses x.space.now x.buddy.now x.self.now x.t x.c x.place c.in-Some.kept.now m c.laws_with.ensures.steady h
     (cached (goal.at.returns-in_default-find-clause-refused c).In-Some) c.in_default-find.ensures)
 
 pub returns-clause-object : goal.returns-clause-object

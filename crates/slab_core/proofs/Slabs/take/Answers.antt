@@ -9,35 +9,35 @@ use Rattle.machine_changes.specs.Shows.{ShowsMachine}
 use Rattle.slab_core.specs.Objects.{standing}
 use Rattle.slab_core.proofs.TakeStep.{no_cache_step, IsUsed, used}
 use Rattle.slab_core.proofs.Slabs.take.Goals as goal
-use Rattle.slab_core.proofs.Slabs.take.Goals.{After-from_residual, In_ok-cache, After-hand_out}
+use Rattle.slab_core.proofs.Slabs.take.Goals.{After-from_residual, In_ok-kept, After-hand_out}
 
 refused : (c : After-from_residual) (m : Machine) → ShowsMachine c.args.space.now c.args.buddy.now c.args.self.now c.args.t m
     → take_step c.args.self.now.top c.args.c m ≡ refuse NoCache m
 refused c m h =
     no_cache_step c.args.space.now c.args.buddy.now c.args.self.now c.args.t c.args.c m h
     (sym (ap (λ (s : Content). cache_at s c.args.t c.args.c) c.self.view_is)
-    ∙ (sym c.cache.ensures ∙ ap (option_map (λ x. x.now)) c.in_err-cache.ensures.ok_part))
+    ∙ (sym c.cache.ensures ∙ ap (option_map (λ x. x.now)) c.in_err-kept.ensures.ok_part))
 
-pub returns-in_err-cache-clause-answer : goal.returns-in_err-cache-clause-answer
-returns-in_err-cache-clause-answer c = λ m h. let e = refused c m h in rw e (search rules)
+pub returns-in_err-kept-clause-answer : goal.returns-in_err-kept-clause-answer
+returns-in_err-kept-clause-answer c = λ m h. let e = refused c m h in rw e (search rules)
 
-pub returns-in_err-cache-clause-shows : goal.returns-in_err-cache-clause-shows
-returns-in_err-cache-clause-shows c = λ m h. rw (refused c m h) h
+pub returns-in_err-kept-clause-shows : goal.returns-in_err-kept-clause-shows
+returns-in_err-kept-clause-shows c = λ m h. rw (refused c m h) h
 
 -- the cache that stands in the tables
-cached : (c : In_ok-cache) → cache_at c.args.self.now c.args.t c.args.c ≡ Some c.in_ok-cache.field-0.now
+cached : (c : In_ok-kept) → cache_at c.args.self.now c.args.t c.args.c ≡ Some c.in_ok-kept.field-0.now
 cached c =
     sym (ap (λ (s : Content). cache_at s c.args.t c.args.c) c.self.view_is)
-    ∙ (sym c.cache.ensures ∙ ap (option_map (λ x. x.now)) c.in_ok-cache.ensures.ok_part)
+    ∙ (sym c.cache.ensures ∙ ap (option_map (λ x. x.now)) c.in_ok-kept.ensures.ok_part)
 
 -- A slab is used
 
 use_of : (c : After-hand_out) (m : Machine) (h : ShowsMachine c.args.space.now c.args.buddy.now c.args.self.now c.args.t m)
     → IsUsed c.args.space.now c.args.buddy.now c.args.self.now c.args.t c.args.c m h c.laws_with.ensures.parts.slabs c.requires.agree
-    c.laws_with.ensures.steady c.in_ok-cache.field-0.now (cached (goal.at.returns-in-Some-clause-answer c).In_ok-cache) c.in-Some.first
+    c.laws_with.ensures.steady c.in_ok-kept.field-0.now (cached (goal.at.returns-in-Some-clause-answer c).In_ok-kept) c.in-Some.slab.first
 use_of c m h =
     used c.args.space.now c.args.buddy.now c.args.self.now c.args.t c.args.c m h c.laws_with.ensures.parts.slabs c.requires.agree
-    c.laws_with.ensures.steady c.in_ok-cache.field-0.now (cached (goal.at.returns-in-Some-clause-answer c).In_ok-cache) (standing c.in-Some.first c.in-Some.node)
+    c.laws_with.ensures.steady c.in_ok-kept.field-0.now (cached (goal.at.returns-in-Some-clause-answer c).In_ok-kept) (standing c.in-Some.slab)
     c.in-Some.ensures.slab
 
 pub returns-in-Some-clause-answer : goal.returns-in-Some-clause-answer

@@ -1,22 +1,19 @@
-use Rattle.std.proofs.Common.{ℕ, ◌+◌, ◌*◌, ap, refl, subst}
-use Rattle.slab_core.specs.Calls.{IsFilled}
+use Rattle.std.proofs.Common.{ℕ, ◌+◌, ◌*◌, ap, refl}
 use Rattle.slab_core.proofs.growing.construct_one.Goals as goal
 use Rattle.slab_core.proofs.Building.{one_more, object_held}
 
 pub fill-requires-clause-in_reach : goal.fill-requires-clause-in_reach
 fill-requires-clause-in_reach c =
-    object_held c.args.cache.now c.args.first c.args.colour c.requires.layout c.requires.colour c.args.space.now c.args.t c.args.i
-    (4096 * c.args.first + c.offset.result) c.size.result c.laws.ensures.facts.some c.requires.in_reach c.requires.object
-    (ap (λ n. 4096 * c.args.first + n) c.offset.ensures) c.size.ensures
+    object_held c.args.cache.kept.now c.args.first c.args.colour c.requires.layout c.requires.colour c.args.space.now c.args.cache.tenant c.args.i
+    (4096 * c.args.first + c.offset.result) _ c.laws.ensures.facts.some c.requires.in_reach c.requires.object
+    (ap (λ n. 4096 * c.args.first + n) c.offset.ensures) refl
 
 pub returns : goal.returns
 returns c = λ before built.
     let place : ℕ = 4096 * c.args.first + c.offset.result in
-    one_more c.args.cache.now c.args.first c.args.colour c.requires.layout c.requires.colour before c.args.space.now c.fill.new.space
-    c.args.t c.args.i place (ap (λ n. 4096 * c.args.first + n) c.offset.ensures) c.laws.ensures
-    (object_held c.args.cache.now c.args.first c.args.colour c.requires.layout c.requires.colour c.args.space.now c.args.t c.args.i
+    one_more c.args.cache.kept.now c.args.first c.args.colour c.requires.layout c.requires.colour before c.args.space.now c.fill.new.space
+    c.args.cache.tenant c.args.i place (ap (λ n. 4096 * c.args.first + n) c.offset.ensures) c.laws.ensures
+    (object_held c.args.cache.kept.now c.args.first c.args.colour c.requires.layout c.requires.colour c.args.space.now c.args.cache.tenant c.args.i
     place _ c.laws.ensures.facts.some c.requires.in_reach c.requires.object
     (ap (λ n. 4096 * c.args.first + n) c.offset.ensures) refl)
-    c.requires.object
-    (subst (λ n. IsFilled c.args.space.now c.fill.new.space c.args.t place n c.args.cache.now.pattern) c.size.ensures c.fill.ensures)
-    built
+    c.requires.object c.fill.ensures built

@@ -9,7 +9,7 @@ use Rattle.slab_core.specs.Room.{has_number}
 use Rattle.slab_core.proofs.ReturnMany.{no_cache}
 use Rattle.slab_core.proofs.RoomFrames.{small_size}
 use Rattle.slab_core.proofs.RoomSets.{none_yet, few_words}
-use Rattle.slab_core.proofs.room.has_room_around.Goals as goal
+use Rattle.slab_core.proofs.room.View.has_room_around.Goals as goal
 
 pub loop-c-init : goal.loop-c-init
 loop-c-init c =
@@ -22,7 +22,7 @@ loop-c-init c =
     let all = c.fill.ensures.after (λ y e. e) in
     record {
       none = λ d less. absurd (omega arith);
-      words = subst (λ n. length x.tables.now.lists.places ≤ 64 * n * 2 ^ x.k) (sym (c.fill.ensures.len ∙ length-take-le c.div_ceil-words.result x.refused.now few))
+      words = subst (λ n. length x.self.tables.now.lists.places ≤ 64 * n * 2 ^ x.k) (sym (c.fill.ensures.len ∙ length-take-le c.div_ceil-words.result x.refused.now few))
           (rw (mul_assoc 64 c.div_ceil-words.result (2 ^ x.k), count) (omega (arith, c.requires.words, enough)));
       refused = λ n is. absurd (false≢true (sym (ap (λ ws. has_number ws n) all ∙ none_yet _ n) ∙ is));
     }
@@ -31,7 +31,7 @@ pub returns-clause-room : goal.returns-clause-room
 returns-clause-room c = (
   λ e. absurd (false≢true e),
   λ (d, less, h). ⊎_elim (λ low. absurd (c.loop-c.invariant.none d low h))
-      (λ from. absurd (no_cache c.args.tables.now c.args.t d c.requires.parts.slabs less
+      (λ from. absurd (no_cache c.args.self.tables.now c.args.self.tenant d c.requires.parts.slabs less
       (c.caches_below-c-end.ensures.none d (omega (arith, from, c.loop-c-test.false))) h.node h.first h.empty))
       (cases_lt d c.loop-c.c),
 )

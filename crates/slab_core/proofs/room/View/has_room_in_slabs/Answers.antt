@@ -1,6 +1,6 @@
 use Rattle.std.proofs.Common.{sym, ◌∙◌}
 use Rattle.std.proofs.lemmas.Bool.{false≢true}
-use Rattle.slab_core.proofs.room.has_room_in_slabs.Goals as goal
+use Rattle.slab_core.proofs.room.View.has_room_in_slabs.Goals as goal
 
 pub returns-else-has_empty_slab-clause-room : goal.returns-else-has_empty_slab-clause-room
 returns-else-has_empty_slab-clause-room c = (

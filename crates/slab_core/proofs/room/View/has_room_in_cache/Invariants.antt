@@ -1,13 +1,13 @@
 use Rattle.std.proofs.Common.{◌≡◌, length}
 use Rattle.slab_core.specs.Room.{AreRefused, has_number}
 use Rattle.slab_core.proofs.RoomCache.{IsSearched, left}
-use Rattle.slab_core.proofs.room.has_room_in_cache.Given as goal
+use Rattle.slab_core.proofs.room.View.has_room_in_cache.Given as goal
 
 abbrev pub invariant-loop-next : goal.invariant-loop-next
 invariant-loop-next l = record {
-  searched : IsSearched l.space l.buddy l.tables l.t l.c l.k l.next;
+  searched : IsSearched l.self.space.now l.self.buddy.now l.self.tables.now l.self.tenant l.c l.k l.next;
   len : length l.refused ≡ length l.initial.refused;
-  refused : AreRefused l.space l.buddy l.tables l.t l.k (has_number l.refused);
+  refused : AreRefused l.self.space.now l.self.buddy.now l.self.tables.now l.self.tenant l.k (has_number l.refused);
 }
 
 abbrev pub decreases-loop-next : goal.decreases-loop-next
