@@ -1,7 +1,6 @@
 -- A slab made by need: where no block is free, once the empty slabs are given back.
-use Rattle.std.proofs.Common.{◌≡◌, ℕ, ◌<◌, true, false, map, Option, Some, None, IsSome, refl, sym, ap, ◌∙◌, subst, arith}
-use Rattle.std.specs.Prelude.{option_map, is_some, MatchOption, IfSome, IfNone, ◌==◌}
-use Rattle.std.proofs.lemmas.Bool.{false≢true}
+use Rattle.std.proofs.Common.{◌≡◌, ℕ, ◌<◌, true, false, map, Option, Some, None, refl, sym, ap, ◌∙◌, subst, arith}
+use Rattle.std.specs.Prelude.{option_map, is_some, MatchOption, IfSome, ◌==◌}
 use Rattle.model_core.specs.Blocks.{Block, IsChoice, IsWithout}
 use Rattle.model_core.specs.Choice.{choose}
 use Rattle.model_core.specs.Machine.{Cache, Machine, holds, taken_in, beyond, choice}
@@ -59,48 +58,41 @@ module _ (r : spaces.Content) (b : buddies.Content) (s : Content) (t c k : ℕ) 
       (in_found (λ z. z.number) 0 x (by_need s.top k m).caches (rises_by_need s.top k m h.caches_rise) there)
 
 -- what holds of parts that did not change holds of what they were
-pub unmoved : (P : spaces.Content → buddies.Content → Content → Type 0) (r r' : spaces.Content) (b b' : buddies.Content) (s s' : Content)
+pub unmoved : (P : spaces.Content → buddies.Content → Content → Type 0) {r r' : spaces.Content} {b b' : buddies.Content} {s s' : Content}
     → (r' ≡ r) × ((b' ≡ b) × (s' ≡ s)) → P r' b' s' → P r b s
-unmoved P r r' b b' s s' e h = subst (λ x. P x b s) e.0 (subst (λ x. P r' x s) e.1.0 (subst (λ x. P r' b' x) e.1.1 h))
+unmoved P {r = r} {r' = r'} {b = b} {b' = b'} {s = s} {s' = s'} e h = subst (λ x. P x b s) e.0 (subst (λ x. P r' x s) e.1.0 (subst (λ x. P r' b' x) e.1.1 h))
 
 -- All empty slabs given back
-module _ (r r' : spaces.Content) (b b' : buddies.Content) (s s' : Content) (t : ℕ) (w : IsSlabs s) (a : Agree r b s) (st : IsSteady r b s t)
+module _ {r r' : spaces.Content} {b b' : buddies.Content} {s s' : Content} {t : ℕ} (w : IsSlabs s) (a : Agree r b s) (st : IsSteady r b s t)
     (g : IsReturned r r' b b' s s' t (idle_at (λ i. true) r s t)) where
   pub reaped_shown : (m : Machine) → ShowsMachine r b s t m → ShowsMachine r' b' s' t (reaped m)
   reaped_shown m h = reaped_shows r r' b b' s s' t (idle_at (λ i. true) r s t) m g st h (idle_empty r b s t m w a h)
 
   -- and a slab is made there, after which the machine has grown by need
-  module _ (r'' : spaces.Content) (b'' : buddies.Content) (s'' : Content) (c k : ℕ) (full : IsAllFull s t c) (o : Option Slab) where
-    pub grown_by_need : ((m : Machine) → ShowsMachine r b s t m → choice s.top m k ≡ None)
-        → ((m : Machine) → ShowsMachine r' b' s' t m → choice s'.top m k ≡ option_map (λ p. p.first) o)
+  module _ (k : ℕ) (o : Option Slab) (none : (m : Machine) → ShowsMachine r b s t m → choice s.top m k ≡ None)
+      (chosen : (m : Machine) → ShowsMachine r' b' s' t m → choice s'.top m k ≡ option_map (λ p. p.first) o) where
+    pub chosen_by_need : (m : Machine) → ShowsMachine r b s t m → choice_by_need s.top k m ≡ option_map (λ p. p.first) o
+    chosen_by_need m h =
+        next_choice s.top k m (sym (none m h)) ∙ ap (λ top. choice top (reaped m) k) (sym g.top) ∙ chosen (reaped m) (reaped_shown m h)
+
+    pub grown_by_need : (r'' : spaces.Content) (b'' : buddies.Content) (s'' : Content) (c : ℕ) → IsAllFull s t c
         → IfSome o (λ p. (m : Machine) (x : Cache) → ShowsMachine r' b' s' t m → cache_of m c ≡ Some x → ShowsMachine r'' b'' s'' t (slabs.grown p.first x m))
         → IfSome o (λ p. (m : Machine) (x : Cache) → ShowsMachine r b s t m → cache_of m c ≡ Some x → ShowsMachine r'' b'' s'' t (slabs.grown p.first x (by_need s.top k m)))
-    grown_by_need none chosen shows = go o chosen shows
+    grown_by_need r'' b'' s'' c full shows = go o chosen_by_need shows
       where
-        go : (o : Option Slab) → ((m : Machine) → ShowsMachine r' b' s' t m → choice s'.top m k ≡ option_map (λ p. p.first) o)
+        go : (o : Option Slab) → ((m : Machine) → ShowsMachine r b s t m → choice_by_need s.top k m ≡ option_map (λ p. p.first) o)
             → IfSome o (λ p. (m : Machine) (x : Cache) → ShowsMachine r' b' s' t m → cache_of m c ≡ Some x → ShowsMachine r'' b'' s'' t (slabs.grown p.first x m))
             → IfSome o (λ p. (m : Machine) (x : Cache) → ShowsMachine r b s t m → cache_of m c ≡ Some x → ShowsMachine r'' b'' s'' t (slabs.grown p.first x (by_need s.top k m)))
         go None chosen shows = tt
         go (Some p) chosen shows = λ m x h ex.
-            let there = reaped_shown m h in
-            let is : choice s.top (reaped m) k ≡ Some p.first = ap (λ top. choice top (reaped m) k) (sym g.top) ∙ chosen (reaped m) there in
-            shows (by_need s.top k m) x (subst (ShowsMachine r' b' s' t) (sym (by_need_reaps s.top k p.first m (none m h) is)) there)
+            let is : choice s.top (reaped m) k ≡ Some p.first = sym (next_choice s.top k m (sym (none m h))) ∙ chosen m h in
+            shows (by_need s.top k m) x (subst (ShowsMachine r' b' s' t) (sym (by_need_reaps s.top k p.first m (none m h) is)) (reaped_shown m h))
             (stands r b s t c k w a st full m x h ex)
 
-    pub chosen_by_need : ((m : Machine) → ShowsMachine r b s t m → choice s.top m k ≡ None)
-        → ((m : Machine) → ShowsMachine r' b' s' t m → choice s'.top m k ≡ option_map (λ p. p.first) o)
-        → (m : Machine) → ShowsMachine r b s t m → choice_by_need s.top k m ≡ option_map (λ p. p.first) o
-    chosen_by_need none chosen m h =
-        next_choice s.top k m (sym (none m h)) ∙ ap (λ top. choice top (reaped m) k) (sym g.top) ∙ chosen (reaped m) (reaped_shown m h)
-
 -- where a block was free, no slab is given back for it
-pub grown_at_once : (r r' : spaces.Content) (b b' : buddies.Content) (s s' : Content) (t c k f : ℕ)
+pub grown_at_once : {r r' : spaces.Content} {b b' : buddies.Content} {s s' : Content} (t c k f : ℕ)
     → ((m : Machine) → ShowsMachine r b s t m → choice s.top m k ≡ Some f)
     → ((m : Machine) (x : Cache) → ShowsMachine r b s t m → cache_of m c ≡ Some x → ShowsMachine r' b' s' t (slabs.grown f x m))
     → (m : Machine) (x : Cache) → ShowsMachine r b s t m → cache_of m c ≡ Some x → ShowsMachine r' b' s' t (slabs.grown f x (by_need s.top k m))
-grown_at_once r r' b b' s s' t c k f chosen shows m x h ex =
+grown_at_once {r' = r'} {b' = b'} {s = s} {s' = s'} t c k f chosen shows m x h ex =
     subst (λ n. ShowsMachine r' b' s' t (slabs.grown f x n)) (sym (by_need_found s.top k f m (chosen m h))) (shows m x h ex)
-
-pub is_there : (P : Type 0) (o : Option Slab) → IsSome o → IfNone o P
-is_there P None some = absurd (false≢true some)
-is_there P (Some p) some = tt

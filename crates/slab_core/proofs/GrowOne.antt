@@ -61,7 +61,7 @@ pub chosen_for : (b : buddies.Content) (t k k' f j : ℕ) → k ≡ k'
 chosen_for b t k k' f j e is =
     subst (λ i. IsChoice b.top (buddies.is_held (buddies.holding_of t b)) (buddies.taken_of (buddies.holding_of t b)) i (block f j)) e is
 
-module _ (r : spaces.Content) (b : buddies.Content) (s : Content) (t k : ℕ) (a : Agree r b s) where
+module _ {r : spaces.Content} {b : buddies.Content} {s : Content} (t k : ℕ) (a : Agree r b s) where
   -- a chosen block lies in a slot that the tenant holds
   pub has_node : (f j : ℕ) → IsChoice b.top (buddies.is_held (buddies.holding_of t b)) (buddies.taken_of (buddies.holding_of t b)) k (block f j)
       → node_of s.top r.slots t f ≡ None → ⊥

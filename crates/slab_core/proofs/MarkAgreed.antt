@@ -1,5 +1,5 @@
 -- One object marked: its slab is counted anew, the parts agree, and nothing else has changed.
-use Rattle.std.proofs.Common.{◌≡◌, ◌≢◌, ℕ, ◌+◌, ◌*◌, ◌/◌, ◌%◌, ◌^◌, ◌<◌, ◌≤◌, Bool, true, false, not, List, Some, None, length, get_or, set, refl, sym, ap, ◌∙◌, subst, inl, inr, arith}
+use Rattle.std.proofs.Common.{◌≡◌, ◌≢◌, ℕ, ◌+◌, ◌*◌, ◌/◌, ◌%◌, ◌<◌, ◌≤◌, Bool, true, false, not, List, Some, None, length, get_or, set, refl, sym, ap, ◌∙◌, subst, inl, inr, arith}
 use Rattle.std.specs.Prelude.{◌==◌, ◌&&◌, if◌then◌else◌}
 use Rattle.std.proofs.lemmas.Bool.{cases_eq}
 use Rattle.std.proofs.lemmas.List.{length-set, get_or-set_same, get_or-set_other, set-get_or}
@@ -15,13 +15,12 @@ use Rattle.slab_tables.specs.Content.{Content, IsSlabs, IsPlacedIn, blank, kept_
 use Rattle.slab_tables.specs.Changes.{with_count}
 use Rattle.slab_tables.proofs.Reading.{kind_below, head_parts, same_place}
 use Rattle.machine_changes.specs.Records.{is_set, count_true}
-use Rattle.machine_changes.specs.Shows.{node_of, record_byte, byte_or_zero, is_live, live_of, is_of_cache, IsSlab, IsAgreed, Agree}
-use Rattle.machine_changes.specs.Keeps.{Spares}
+use Rattle.machine_changes.specs.Shows.{node_of, byte_or_zero, is_live, live_of, is_of_cache, IsSlab, IsAgreed, Agree}
 use Rattle.machine_changes.specs.Changes.{found, IsMarked}
 use Rattle.machine_changes.proofs.Lookups.{some_same}
-use Rattle.machine_changes.proofs.Facts.{under_is, superblock_of_node, same_below}
 use Rattle.machine_changes.proofs.Flags.{length_flags, flag_at, count_few}
 use Rattle.slab_core.specs.Objects.{IsTurned, IsCounted}
+use Rattle.slab_core.proofs.BuildParts.{IsLocal, agreed_still, spares_of, agree_of}
 use Rattle.slab_core.proofs.MarkBits.{flags_changed, count_cleared, count_set}
 use Rattle.slab_core.proofs.ObjectSlabs.{IsHeld, held, node_within}
 
@@ -152,37 +151,34 @@ module _ {r : spaces.Content} {b : buddies.Content} {s : Content} {t c f n i : �
           (λ j high low. is_live_now j ∙ (k.stay j low (λ e. omega arith) ∙ h.rest j high low));
     }
 
-    -- the record of another slab, of whichever tenant
-    record_stays : (u node key : ℕ) → node_of s.top r.slots u key ≡ Some node → node ≢ n → (j : ℕ) → j < 32 → record_byte r' u key j ≡ record_byte r u key j
-    record_stays u node key under other j low = elim (cases_eq u t) [
-      | inl same ↦
-          let differ : key ≢ f = λ e. other (some_same (sym under ∙ (ap (λ (x : ℕ). node_of s.top r.slots x key) same ∙ (ap (λ (g : ℕ). node_of s.top r.slots t g) e ∙ q.under)))) in
-          subst (λ (x : ℕ). record_byte r' x key j ≡ record_byte r x key j) (sym same)
-          (ap byte_or_zero (k.bytes (4096 * key + 4064 + j) (λ m less' e. differ (omega arith))))
-      | inr ne ↦ ap byte_or_zero ((k.others u ne).bytes (4096 * key + 4064 + j))
-    ]
+    local : IsLocal r r' b b s s' t f n
+    local = record {
+      space = refl;
+      bytes = k.others;
+      spare = k.spare;
+      buddy = ap (λ (ts : List buddies.Holding). record b { tenants = ts }) (sym (set-get_or b.tenants t buddies.no_tenant));
+      top = refl;
+      under = q.under;
+      caches = λ m other. refl;
+      lists = place_other;
+      kept = kept_other;
+    }
 
+    -- another slab of the tenant
     other_slab : (node head key : ℕ) (cache' : own.Cache) → node ≢ n → place_at s.lists.places node ≡ Some (head, key) → cache_in s.caches (head / 3) ≡ Some cache'
-        → IsAgreed r' b s' node head key cache'
-    other_slab node head key cache' other place cached =
+        → head / 3 / MOST_CACHES ≡ t → IsAgreed r' b s' node head key cache'
+    other_slab node head key cache' other place cached tenant =
         let x = a.slabs node head key cache' place cached in
-        let most = ((w.fits (head / 3) cache' cached).layout.fits 0).few in
-        let u : ℕ = head / 3 / MOST_CACHES in
-        let stays : (j : ℕ) → j < 256 → is_live r' u cache' (kept_at s.kept node) key j ≡ is_live r u cache' (kept_at s.kept node) key j =
-        λ j low. ap (λ (z : ℕ). if is_small (layout_numbers cache').chunk then is_set z (j % 8) else is_set (kept_at s.kept node).outside j) (record_stays u node key x.under other (j / 8) (omega arith)) in
-        let all : live_of r' u cache' (kept_at s.kept node) key ≡ live_of r u cache' (kept_at s.kept node) key =
-        same_below 0 (layout_numbers cache').count (is_live r' u cache' (kept_at s.kept node) key) (is_live r u cache' (kept_at s.kept node) key) (λ j low high. stays j (omega arith)) in
-        record {
-          under = x.under;
-          taken = x.taken;
-          counted = subst (λ (y : Kept). y.live ≡ count_true (live_of r' u cache' y key)) (sym (kept_other node other)) (x.counted ∙ ap count_true (sym all));
-          rest = subst (λ (y : Kept). (j : ℕ) → (layout_numbers cache').count ≤ j → j < 256 → is_live r' u cache' y key j ≡ false) (sym (kept_other node other))
-              (λ j high low. stays j low ∙ x.rest j high low);
-        }
+        let under : node_of s.top r.slots t key ≡ Some node = subst (λ u. node_of s.top r.slots u key ≡ Some node) tenant x.under in
+        let differ : key ≢ f = λ e. other (some_same (sym under ∙ (ap (λ (g : ℕ). node_of s.top r.slots t g) e ∙ q.under))) in
+        agreed_still r r' b b s s' node head key cache' ((w.fits (head / 3) cache' cached).layout.fits 0).few x refl refl (kept_other node other)
+        (λ j low. subst (λ u. is_live r' u cache' (kept_at s.kept node) key j ≡ is_live r u cache' (kept_at s.kept node) key j) (sym tenant)
+        (ap (λ (z : ℕ). if is_small (layout_numbers cache').chunk then is_set z (j % 8) else is_set (kept_at s.kept node).outside j)
+        (ap byte_or_zero (k.bytes (4096 * key + 4064 + j / 8) (λ m less' e. differ (omega arith))))))
 
-    slabs_now : (node head key : ℕ) (cache' : own.Cache) → place_at s'.lists.places node ≡ Some (head, key) → cache_in s.caches (head / 3) ≡ Some cache'
-        → IsAgreed r' b s' node head key cache'
-    slabs_now node head key cache' place cached = elim (cases_eq node n) [
+    mine : (node head key : ℕ) (cache' : own.Cache) → place_at s'.lists.places node ≡ Some (head, key) → cache_in s.caches (head / 3) ≡ Some cache'
+        → head / 3 / MOST_CACHES ≡ t → IsAgreed r' b s' node head key cache'
+    mine node head key cache' place cached tenant = elim (cases_eq node n) [
       | inl same ↦
           let at = same_place place_now (ap (place_at s'.lists.places) (sym same) ∙ place) in
           let cache_is : cache ≡ cache' = some_same (sym h.cached ∙ (ap (cache_in s.caches) (sym index_now ∙ ap (λ (x : ℕ). x / 3) at.0) ∙ cached)) in
@@ -190,46 +186,13 @@ module _ {r : spaces.Content} {b : buddies.Content} {s : Content} {t c f n i : �
           (subst (λ (x : own.Cache). IsAgreed r' b s' n head key x) cache_is
           (subst (λ (x : ℕ). IsAgreed r' b s' n x key cache) at.0
           (subst (λ (x : ℕ). IsAgreed r' b s' n head_now x cache) at.1 own_slab)))
-      | inr ne ↦ other_slab node head key cache' ne (sym (place_other node ne) ∙ place) cached
+      | inr ne ↦ other_slab node head key cache' ne (sym (place_other node ne) ∙ place) cached tenant
     ]
 
-    agree : Agree r' b s'
-    agree = record {
-      order = a.order;
-      unit = a.unit;
-      superblocks = a.superblocks;
-      nodes = length-set s.lists.places n (Some (head_now, f)) ∙ a.nodes;
-      rows = a.rows;
-      tenants = a.tenants;
-      slots = a.slots;
-      slabs = slabs_now;
-    }
-
-    -- no node of another tenant is the slab's
-    other_node : (u g m : ℕ) → u ≢ t → node_of s.top r.slots u g ≡ Some m → m ≢ n
-    other_node u g m other under same =
-        let here = under_is s.top f n (spaces.superblock_at r.slots t (f / 2 ^ s.top)) q.under in
-        let there = under_is s.top g m (spaces.superblock_at r.slots u (g / 2 ^ s.top)) under in
-        let one : there.0 ≡ here.0 =
-        sym (superblock_of_node s.top there.0 g) ∙ (ap (λ (x : ℕ). x / 2 ^ s.top) (sym there.2 ∙ (same ∙ here.2)) ∙ superblock_of_node s.top here.0 f) in
-        other (laws.apart.slots u (g / 2 ^ s.top) t (f / 2 ^ s.top) here.0 (there.1 ∙ ap (λ (x : ℕ). Some x) one) here.1).0
-
-    spares : Spares t r r' b b s s'
-    spares = record {
-      others = λ u other. record {
-        space = k.others u other;
-        buddy = refl;
-        slabs = record {
-          top = refl;
-          caches = λ d. refl;
-          lists = λ g m under. place_other m (other_node u g m other under);
-          kept = λ g m under. kept_other m (other_node u g m other under);
-        };
-      };
-      space = refl;
-      spare = k.spare;
-      buddy = ap (λ (ts : List buddies.Holding). record b { tenants = ts }) (sym (set-get_or b.tenants t buddies.no_tenant));
-    }
-
     pub counted : IsCounted r r' b s s' t c (found cache f n i) v
-    counted = record { marked = marked; spares = spares; agree = agree }
+    counted = record {
+      marked = marked;
+      spares = spares_of r r' b b s s' t f n local laws.apart;
+      agree = agree_of r r' b b s s' t f n local laws.apart w a (length-set s.lists.places n (Some (head_now, f))) refl (λ u. refl)
+          (λ head key place. ap (λ (x : ℕ). x / 3 / MOST_CACHES) (sym (same_place place_now place).0) ∙ tenant_now) mine;
+    }

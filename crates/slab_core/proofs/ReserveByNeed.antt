@@ -64,12 +64,18 @@ free_room r b s t k a h =
       idle = λ x has is. absurd ((out.1 x has).1 is);
     }
 
-pub is_there : (o : Option ℕ) (P : Type 0) → IsSome o → IfNone o P
+pub is_there : {A : Type 0} (o : Option A) (P : Type 0) → IsSome o → IfNone o P
 is_there None P some = absurd (false≢true some)
-is_there (Some f) P some = tt
+is_there (Some x) P some = tt
+
+-- what a block reserved for need is to the request
+pub record IsServedThen (r r' : spaces.Content) (b b' : buddies.Content) (s s' : Content) (t k : ℕ) (o : Option ℕ) : Type 0 where
+  pub some : IsSome o
+  pub answer : (m : Machine) → ShowsMachine r b s t m → o ≡ choice_by_need s.top k m
+  pub shows : (m : Machine) → ShowsMachine r b s t m → ShowsMachine r' b' s' t (alloc_step s.top k m).machine
 
 -- All empty slabs given back
-module _ (r r' : spaces.Content) (b b' : buddies.Content) (s s' : Content) (t k : ℕ) (st : IsSteady r b s t)
+module _ {r r' : spaces.Content} {b b' : buddies.Content} {s s' : Content} {t k : ℕ} (st : IsSteady r b s t)
     (gone : IsReturned r r' b b' s s' t (idle_at (λ i. true) r s t)) where
   -- room is free now
   pub room_free : Agree r' b' s' → HasRoom r b s t k → HasFreeBlock b' t k
@@ -94,18 +100,12 @@ module _ (r r' : spaces.Content) (b b' : buddies.Content) (s s' : Content) (t k 
           st.sound.apart g j i.first (layout_numbers i.cache).order x was (st.stands i.number i.first i.node i.cache i.slab).taken there i.within in
           false≢true (sym is ∙ ap (idle_at (λ y. true) r s t) same ∙ idle_begins r s t x i)
 
-  -- what a block reserved then is to the request
-  pub record IsServedThen (b'' : buddies.Content) (o : Option ℕ) : Type 0 where
-    pub some : IsSome o
-    pub answer : (m : Machine) → ShowsMachine r b s t m → o ≡ choice_by_need s.top k m
-    pub shows : (m : Machine) → ShowsMachine r b s t m → ShowsMachine r' b'' s' t (alloc_step s.top k m).machine
-
   pub served_then : IsSlabs s → Agree r b s → Agree r' b' s' → k ≤ s.top → HasRoom r b s t k
-      → ((m : Machine) → ShowsMachine r b s t m → None ≡ choice s.top m k) → (b'' : buddies.Content) (o : Option ℕ)
+      → ((m : Machine) → ShowsMachine r b s t m → None ≡ choice s.top m k) → {b'' : buddies.Content} (o : Option ℕ)
       → ((m : Machine) → ShowsMachine r' b' s' t m → o ≡ choice s'.top m k)
       → IfSome o (λ f. (m : Machine) → ShowsMachine r' b' s' t m → ShowsMachine r' b'' s' t (with_block (block f k) m))
-      → (IsSome o ↔ HasFreeBlock b' t k) → IsServedThen b'' o
-  served_then w a a' fits room none b'' o answer shows free = record {
+      → (IsSome o ↔ HasFreeBlock b' t k) → IsServedThen r r' b b'' s s' t k o
+  served_then w a a' fits room none {b'' = b''} o answer shows free = record {
     some = free.1 (room_free a' room);
     answer = λ m h. choice_then m h ∙ sym (next_choice s.top k m (none m h));
     shows = λ m h. go o (free.1 (room_free a' room)) shows m h (choice_then m h);

@@ -183,7 +183,7 @@ module _ (r : spaces.Content) (b : buddies.Content) (s : Content) (t k : ℕ) (a
       × (b' ≡ buddies.with_holding t (buddies.with_block f k (buddies.holding_of t b)) b)))
       → IsServed b' o
   is_served st b' None none some = record {
-    answer = λ m h. sym (choice_none r b s t k a st m h none.0);
+    answer = λ m h. sym (choice_none t k a st m h none.0);
     shows = tt;
     page = tt;
     free = (λ e. absurd (false≢true e), λ h. absurd (none.0 h.found h.free h.enough));
@@ -193,7 +193,7 @@ module _ (r : spaces.Content) (b : buddies.Content) (s : Content) (t k : ℕ) (a
   is_served st b' (Some f) none some =
       let is : IsReserved f some.0 some.1.0 b' = is_reserved f some.0 some.1.0 st b' some.1.1 in
       record {
-        answer = λ m h. sym (choice_some r b s t k a st m h f some.0 some.1.0);
+        answer = λ m h. sym (choice_some t k a st m h f some.0 some.1.0);
         shows = is.shows;
         page = is.page;
         free = (λ e. record { found = block f some.0; free = some.1.0.0; enough = some.1.0.1 }, λ h. refl);

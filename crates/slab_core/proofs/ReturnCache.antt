@@ -20,17 +20,18 @@ use Rattle.buddy_core.specs.Content as buddies
 use Rattle.slab_tables.specs.declared.cache.Cache as own
 use Rattle.slab_tables.specs.Content.{Content, IsSlabs, IsPlacedIn, kept_at, cache_at, index_of_cache, head_of}
 use Rattle.slab_tables.specs.Changes.{with_cache}
-use Rattle.machine_changes.specs.Shows.{node_of, ShowsMachine, Agree, bare, without_slabs}
+use Rattle.machine_changes.specs.Shows.{node_of, ShowsMachine, Agree, without_slabs}
 use Rattle.machine_changes.specs.Keeps.{Spares}
 use Rattle.machine_changes.specs.Steady.{IsSteady}
 use Rattle.machine_changes.specs.Changes.{IsReturned, kept_slabs, gone_blocks, returned}
 use Rattle.machine_changes.proofs.Lookups.{some_none, some_same, at, at_here, at_past, in_found, found_key, found_mapped, found_kept}
-use Rattle.machine_changes.proofs.Facts.{cache_shown, slab_of_machine, none_mapped}
+use Rattle.machine_changes.proofs.Facts.{cache_shown, slab_of_machine}
 use Rattle.machine_changes.proofs.Steady.{in_table, placed_as}
 use Rattle.machine_changes.proofs.ByKind.{to_list, from_list}
 use Rattle.machine_changes.proofs.Returned.{returned_shows}
 use Rattle.slab_core.specs.Calls.{idle_at, empty_frames_in, IsUnused}
 use Rattle.slab_core.proofs.BuildCache.{IsBare, cache_others, cache_shows}
+use Rattle.slab_core.proofs.ObjectGiven.{no_cache}
 use Rattle.slab_core.proofs.ReturnMany.{this, idle_tells, idle_is, idle_empty}
 
 -- Lists
@@ -136,9 +137,39 @@ step_done c m x e none =
 -- there is no cache
 pub no_cache_step : (r : spaces.Content) (b : buddies.Content) (s : Content) (t c : ℕ) (m : Machine) → ShowsMachine r b s t m → cache_at s t c ≡ None
     → destroy_step c m ≡ refuse NoCache m
-no_cache_step r b s t c m h vacant = step_none c m (none_mapped (cache_of m c) (h.caches c ∙ ap (option_map (bare c)) vacant))
+no_cache_step r b s t c m h vacant = step_none c m (no_cache r b s t c m h vacant)
 
-module _ (r : spaces.Content) (b : buddies.Content) (s : Content) (t c : ℕ) (cache : own.Cache) (w : IsSlabs s) (a : Agree r b s) (st : IsSteady r b s t)
+-- cache c of a tenant stands among all
+pub among_all : (r : spaces.Content) (b : buddies.Content) (s : Content) (t c : ℕ) → Agree r b s → t < length r.slots → c < MOST_CACHES
+    → index_of_cache t c < length s.caches
+among_all r b s t c a tenant small =
+    let rows = a.rows in
+    let tables = a.tenants in
+    omega arith
+
+-- what is left where a cache that was not in use is given back
+pub record IsLeft (s : Content) (t c : ℕ) : Type 0 where
+  pub bare : IsBare s (index_of_cache t c)
+  pub small : c < MOST_CACHES
+  pub within : index_of_cache t c < length s.caches
+
+pub left_of : {r r' : spaces.Content} {b b' : buddies.Content} {s s' : Content} {t : ℕ} (c : ℕ) {cache : own.Cache} → cache_at s t c ≡ Some cache
+    → t < length r.slots → Spares t r r' b b' s s' → Agree r' b' s' → IsUnused s t c → IsEmpty s'.lists.places (head_of t c 2)
+    → ((head : ℕ) → IsEmpty s.lists.places head → IsEmpty s'.lists.places head) → IsLeft s' t c
+left_of {r' = r'} {b' = b'} {s = s} {s' = s'} {t = t} c {cache = cache} cached tenant spares agree unused empty less =
+    let small = (in_table s t c cache cached).number in
+    record {
+      bare = bare_of s' t c (less (head_of t c 0) unused.0, less (head_of t c 1) unused.1) empty;
+      small = small;
+      within = among_all r' b' s' t c agree (subst (λ n. t < n) (sym (ap (λ x. length x.slots) spares.space)) tenant) small;
+    }
+
+-- what the machine shows once the cache is gone
+pub record IsDestroyed (r : spaces.Content) (b : buddies.Content) (s : Content) (t c : ℕ) (m : Machine) (frames : ℕ) : Type 0 where
+  pub answer : Ok frames ≡ (destroy_step c m).answer
+  pub shown : ShowsMachine r b (with_cache s t c None) t (destroy_step c m).machine
+
+module _ {r : spaces.Content} {b : buddies.Content} {s : Content} {t : ℕ} (c : ℕ) {cache : own.Cache} (w : IsSlabs s) (a : Agree r b s) (st : IsSteady r b s t)
     (cached : cache_at s t c ≡ Some cache) where
   -- an object is live
   pub used_step : (IsUnused s t c → ⊥) → (m : Machine) → ShowsMachine r b s t m → destroy_step c m ≡ refuse CacheInUse m
@@ -150,13 +181,8 @@ module _ (r : spaces.Content) (b : buddies.Content) (s : Content) (t c : ℕ) (c
   abbrev gone : ℕ → Bool
   gone = idle_at (this t c) r s t
 
-  module _ (unused : IsUnused s t c) (r' : spaces.Content) (b' : buddies.Content) (s' : Content)
-      (none : IsBare s' (index_of_cache t c)) (within : index_of_cache t c < length s'.caches) (k : IsReturned r r' b b' s s' t gone)
+  module _ (unused : IsUnused s t c) {r' : spaces.Content} {b' : buddies.Content} {s' : Content} (is_left : IsLeft s' t c) (k : IsReturned r r' b b' s s' t gone)
       (m : Machine) (h : ShowsMachine r b s t m) where
-    pub record IsDestroyed (frames : ℕ) : Type 0 where
-      pub answer : Ok frames ≡ (destroy_step c m).answer
-      pub shown : ShowsMachine r' b' (with_cache s' t c None) t (destroy_step c m).machine
-
     mine : (x : Cache) (y : Slab) → cache_of m c ≡ Some x → IsIn y x.slabs → gone y.first ≡ true
     mine x y ex i =
         let is = slab_of_machine r b s t m h c y.first x y ex (in_found (λ z. z.first) 0 y x.slabs (h.slabs_rise c x ex) i) in
@@ -220,7 +246,7 @@ module _ (r : spaces.Content) (b : buddies.Content) (s : Content) (t c : ℕ) (c
       unfolding destroyed
       destroyed_shows =
           subst (λ bs. ShowsMachine r' b' (with_cache s' t c None) t (record m { caches = left; bytes = zeroed bs m.bytes })) blocks_same
-          (cache_shows s' t c None (in_table s t c cache cached).number within none r' b' (returned gone m)
+          (cache_shows s' t c None is_left.small is_left.within is_left.bare r' b' (returned gone m)
           (returned_shows r r' b b' s s' t gone m k st h) left
           (filter_rises (λ z. z.number) (λ z. not (eqb z.number x.number)) 0 m.caches h.caches_rise)
           (ap (option_map without_slabs) left_here)
@@ -237,7 +263,7 @@ module _ (r : spaces.Content) (b : buddies.Content) (s : Content) (t c : ℕ) (c
           any_none (λ y. not (is_empty y)) x.slabs
           (each_from (λ y. not (is_empty y) ≡ false) x.slabs (λ y i. ap not (all_empty r b s t c w a m h unused x ex y i)))
 
-      done : (frames : ℕ) → frames ≡ empty_frames_in (cache_of m c) → IsDestroyed frames
+      done : (frames : ℕ) → frames ≡ empty_frames_in (cache_of m c) → IsDestroyed r' b' s' t c m frames
       done frames e =
           let step = step_done c m x ex none_live in
           record {
@@ -245,40 +271,14 @@ module _ (r : spaces.Content) (b : buddies.Content) (s : Content) (t c : ℕ) (c
             shown = subst (λ z. ShowsMachine r' b' (with_cache s' t c None) t z.machine) (sym step) destroyed_shows;
           }
 
-    pub destroyed_as : (frames : ℕ) → frames ≡ empty_frames_in (cache_of m c) → IsDestroyed frames
+    pub destroyed_as : (frames : ℕ) → frames ≡ empty_frames_in (cache_of m c) → IsDestroyed r' b' s' t c m frames
     destroyed_as frames e = let there = cache_shown r b s t m h c cache cached in done there.shown there.cached frames e
 
 -- the entry alone goes
-pub spares_entry : (r : spaces.Content) (b : buddies.Content) (s : Content) (t c : ℕ) → c < MOST_CACHES → index_of_cache t c < length s.caches
-    → Spares t r r b b s (with_cache s t c None)
-spares_entry r b s t c small within = record {
-  others = cache_others s t c None small within r b;
+pub spares_entry : (r : spaces.Content) (b : buddies.Content) {s : Content} {t c : ℕ} → IsLeft s t c → Spares t r r b b s (with_cache s t c None)
+spares_entry r b {s = s} {t = t} {c = c} left = record {
+  others = cache_others s t c None left.small left.within r b;
   space = refl;
   spare = λ m none. refl;
   buddy = ap (λ x. record b { tenants = x }) (sym (set-get_or b.tenants t buddies.no_tenant));
 }
-
--- cache c of a tenant stands among all
-pub among_all : (r : spaces.Content) (b : buddies.Content) (s : Content) (t c : ℕ) → Agree r b s → t < length r.slots → c < MOST_CACHES
-    → index_of_cache t c < length s.caches
-among_all r b s t c a tenant small =
-    let rows = a.rows in
-    let tables = a.tenants in
-    omega arith
-
--- what is left where a cache that was not in use is given back
-pub record IsLeft (r r' : spaces.Content) (b b' : buddies.Content) (s s' : Content) (t c : ℕ) : Type 0 where
-  pub bare : IsBare s' (index_of_cache t c)
-  pub small : c < MOST_CACHES
-  pub within : index_of_cache t c < length s'.caches
-
-pub left_of : (r r' : spaces.Content) (b b' : buddies.Content) (s s' : Content) (t c : ℕ) (cache : own.Cache) → cache_at s t c ≡ Some cache
-    → t < length r.slots → Spares t r r' b b' s s' → Agree r' b' s' → IsUnused s t c → IsEmpty s'.lists.places (head_of t c 2)
-    → ((head : ℕ) → IsEmpty s.lists.places head → IsEmpty s'.lists.places head) → IsLeft r r' b b' s s' t c
-left_of r r' b b' s s' t c cache cached tenant spares agree unused empty less =
-    let small = (in_table s t c cache cached).number in
-    record {
-      bare = bare_of s' t c (less (head_of t c 0) unused.0, less (head_of t c 1) unused.1) empty;
-      small = small;
-      within = among_all r' b' s' t c agree (subst (λ n. t < n) (sym (ap (λ x. length x.slots) spares.space)) tenant) small;
-    }

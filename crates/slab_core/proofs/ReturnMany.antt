@@ -102,34 +102,33 @@ spares_none r b s t = record {
   buddy = ap (λ x. record b { tenants = x }) (sym (set-get_or b.tenants t buddies.no_tenant));
 }
 
-pub keeps_twice : (r r' r'' : spaces.Content) (b b' b'' : buddies.Content) (s s' s'' : Content) (u : ℕ) → Keeps r r' b b' s s' u
-    → Keeps r' r'' b' b'' s' s'' u → Keeps r r'' b b'' s s'' u
-keeps_twice r r' r'' b b' b'' s s' s'' u k k' =
-    let under : (f n : ℕ) → node_of s.top r.slots u f ≡ Some n → node_of s'.top r'.slots u f ≡ Some n =
-    λ f n e. Untouched.node_same r r' b b' s s' u k f ∙ e in
-    record {
-      space = same_twice u r r' r'' k.space k'.space;
-      buddy = k'.buddy ∙ k.buddy;
-      slabs = record {
-        top = k'.slabs.top ∙ k.slabs.top;
-        caches = λ c. k'.slabs.caches c ∙ k.slabs.caches c;
-        lists = λ f n e. k'.slabs.lists f n (under f n e) ∙ k.slabs.lists f n e;
-        kept = λ f n e. k'.slabs.kept f n (under f n e) ∙ k.slabs.kept f n e;
-      };
-    }
+module _ {r r' r'' : spaces.Content} {b b' b'' : buddies.Content} {s s' s'' : Content} where
+  keeps_twice : (u : ℕ) → Keeps r r' b b' s s' u → Keeps r' r'' b' b'' s' s'' u → Keeps r r'' b b'' s s'' u
+  keeps_twice u k k' =
+      let under : (f n : ℕ) → node_of s.top r.slots u f ≡ Some n → node_of s'.top r'.slots u f ≡ Some n =
+      λ f n e. Untouched.node_same r r' b b' s s' u k f ∙ e in
+      record {
+        space = same_twice u r r' r'' k.space k'.space;
+        buddy = k'.buddy ∙ k.buddy;
+        slabs = record {
+          top = k'.slabs.top ∙ k.slabs.top;
+          caches = λ c. k'.slabs.caches c ∙ k.slabs.caches c;
+          lists = λ f n e. k'.slabs.lists f n (under f n e) ∙ k.slabs.lists f n e;
+          kept = λ f n e. k'.slabs.kept f n (under f n e) ∙ k.slabs.kept f n e;
+        };
+      }
 
-pub spares_twice : (r r' r'' : spaces.Content) (b b' b'' : buddies.Content) (s s' s'' : Content) (t : ℕ) → Spares t r r' b b' s s'
-    → Spares t r' r'' b' b'' s' s'' → Spares t r r'' b b'' s s''
-spares_twice r r' r'' b b' b'' s s' s'' t k k' = record {
-  others = λ u differ. keeps_twice r r' r'' b b' b'' s s' s'' u (k.others u differ) (k'.others u differ);
-  space = banks_twice r r' r'' k.space k'.space;
-  spare = spare_twice r r' r'' k.spare k'.space k'.spare;
-  buddy = k'.buddy ∙ ap (buddies.with_holding t (buddies.holding_of t b'')) k.buddy
-      ∙ ap (λ x. record b { tenants = x }) (set-set b.tenants t (buddies.holding_of t b') (buddies.holding_of t b''));
-}
+  pub spares_twice : {t : ℕ} → Spares t r r' b b' s s' → Spares t r' r'' b' b'' s' s'' → Spares t r r'' b b'' s s''
+  spares_twice {t = t} k k' = record {
+    others = λ u differ. keeps_twice u (k.others u differ) (k'.others u differ);
+    space = banks_twice r r' r'' k.space k'.space;
+    spare = spare_twice r r' r'' k.spare k'.space k'.spare;
+    buddy = k'.buddy ∙ ap (buddies.with_holding t (buddies.holding_of t b'')) k.buddy
+        ∙ ap (λ x. record b { tenants = x }) (set-set b.tenants t (buddies.holding_of t b') (buddies.holding_of t b''));
+  }
 
-pub giving_none : (these : ℕ → Bool) (r : spaces.Content) (b : buddies.Content) (s : Content) (t : ℕ) → Agree r b s → IsSlabs s → IsGiving these r r b b s s t
-giving_none these r b s t a w = record {
+pub giving_none : {these : ℕ → Bool} {r : spaces.Content} {b : buddies.Content} {s : Content} {t : ℕ} → Agree r b s → IsSlabs s → IsGiving these r r b b s s t
+giving_none {r = r} {b = b} {s = s} {t = t} a w = record {
   gone = λ f. false;
   returned = record {
     top = refl;
@@ -148,7 +147,7 @@ giving_none these r b s t a w = record {
   tables = w;
 }
 
-module _ (these : ℕ → Bool) (r r' : spaces.Content) (b b' : buddies.Content) (s s' : Content) (t : ℕ) (st : IsSteady r b s t)
+module _ {these : ℕ → Bool} {r r' : spaces.Content} {b b' : buddies.Content} {s s' : Content} {t : ℕ} (st : IsSteady r b s t)
     (g : IsGiving these r r' b b' s s' t) where
   k : IsReturned r r' b b' s s' t g.gone
   k = g.returned
@@ -170,14 +169,14 @@ module _ (these : ℕ → Bool) (r r' : spaces.Content) (b b' : buddies.Content)
       idle_is these r s t f i.node i.head i.key under (still f i.node i.head i.key under i.place).1 i.one
       (ap (λ x. x.live) (sym (k.kept f i.node under)) ∙ i.empty)
 
-  pub giving_more : (r'' : spaces.Content) (b'' : buddies.Content) (s'' : Content) (gone' : ℕ → Bool) → IsReturned r' r'' b' b'' s' s'' t gone'
+  pub giving_more : {r'' : spaces.Content} {b'' : buddies.Content} {s'' : Content} {gone' : ℕ → Bool} → IsReturned r' r'' b' b'' s' s'' t gone'
       → ((f : ℕ) → gone' f ≡ true → idle_at these r' s' t f ≡ true) → Spares t r' r'' b' b'' s' s'' → Agree r'' b'' s'' → IsSlabs s''
       → IsGiving these r r'' b b'' s s'' t
-  giving_more r'' b'' s'' gone' k' only' spares' agree' tables' = record {
+  giving_more {r'' = r''} {b'' = b''} {s'' = s''} {gone' = gone'} k' only' spares' agree' tables' = record {
     gone = λ f. g.gone f || gone' f;
     returned = twice r r' r'' b b' b'' s s' s'' t g.gone gone' st k k';
     only = λ f e. ⊎_elim (g.only f) (λ h. was_idle f (only' f h)) (or_cases (g.gone f) (gone' f) e);
-    spares = spares_twice r r' r'' b b' b'' s s' s'' t g.spares spares';
+    spares = spares_twice g.spares spares';
     agree = agree';
     tables = tables';
   }
@@ -220,18 +219,26 @@ pub record IsEmptySlab (r : spaces.Content) (s : Content) (t c first node : ℕ)
   pub slab : IsSlab r s t c first node cache
   pub empty : (kept_at s.kept node).live ≡ 0
 
-module _ (r : spaces.Content) (b : buddies.Content) (s : Content) (t : ℕ) (w : IsSlabs s) (a : Agree r b s) where
-  kind_empty : (count live kind : ℕ) → kind ≡ 2 → kind ≡ kind_of count live → live ≡ 0
-  kind_empty count live kind two e = go (live == count) (live == 0) refl e
-    where
-      go : (x y : Bool) → (live == 0) ≡ y → kind ≡ cond x 0 (cond y 2 1) → live ≡ 0
-      go x true is e = eqb-true live 0 is
-      go true false is e = absurd (omega arith)
-      go false false is e = absurd (omega arith)
+kind_empty : (count live kind : ℕ) → kind ≡ 2 → kind ≡ kind_of count live → live ≡ 0
+kind_empty count live kind two e = go (live == count) (live == 0) refl e
+  where
+    go : (x y : Bool) → (live == 0) ≡ y → kind ≡ cond x 0 (cond y 2 1) → live ≡ 0
+    go x true is e = eqb-true live 0 is
+    go true false is e = absurd (omega arith)
+    go false false is e = absurd (omega arith)
 
-  pub listed_empty : (c first node : ℕ) (cache : own.Cache) → cache_at s t c ≡ Some cache → place_at s.lists.places node ≡ Some (head_of t c 2, first)
+-- what is idle stands in the list of its cache's empty slabs
+pub record IsInEmpty (s : Content) (t : ℕ) (these : ℕ → Bool) (f : ℕ) : Type 0 where
+  pub number : ℕ
+  pub node : ℕ
+  pub small : number < MOST_CACHES
+  pub one : these (index_of_cache t number) ≡ true
+  pub placed : place_at s.lists.places node ≡ Some (head_of t number 2, f)
+
+module _ {r : spaces.Content} {b : buddies.Content} {s : Content} {t : ℕ} (w : IsSlabs s) (a : Agree r b s) where
+  pub listed_empty : {c first node : ℕ} {cache : own.Cache} → cache_at s t c ≡ Some cache → place_at s.lists.places node ≡ Some (head_of t c 2, first)
       → IsEmptySlab r s t c first node cache
-  listed_empty c first node cache cached placed =
+  listed_empty {c = c} {first = first} {node = node} {cache = cache} cached placed =
       let is : IsInTable s t c cache = in_table s t c cache cached in
       let small : c < MOST_CACHES = is.number in
       let index : head_of t c 2 / 3 ≡ index_of_cache t c = omega arith in
@@ -246,16 +253,8 @@ module _ (r : spaces.Content) (b : buddies.Content) (s : Content) (t : ℕ) (w :
         empty = kind_empty (layout_numbers there.0).count (kept_at s.kept node).live (head_of t c 2 % 3) kind there.2.kind;
       }
 
-  -- what is idle stands in the list of its cache's empty slabs
-  pub record IsInEmpty (these : ℕ → Bool) (f : ℕ) : Type 0 where
-    pub number : ℕ
-    pub node : ℕ
-    pub small : number < MOST_CACHES
-    pub one : these (index_of_cache t number) ≡ true
-    pub placed : place_at s.lists.places node ≡ Some (head_of t number 2, f)
-
   pub idle_listed : ((f n head key : ℕ) → node_of s.top r.slots t f ≡ Some n → place_at s.lists.places n ≡ Some (head, key)
-      → (c : ℕ) × (cache : own.Cache) × IsSlab r s t c f n cache) → (these : ℕ → Bool) (f : ℕ) → idle_at these r s t f ≡ true → IsInEmpty these f
+      → (c : ℕ) × (cache : own.Cache) × IsSlab r s t c f n cache) → (these : ℕ → Bool) (f : ℕ) → idle_at these r s t f ≡ true → IsInEmpty s t these f
   idle_listed listed these f e =
       let i = idle_tells these r s t f e in
       let sl = listed f i.node i.head i.key i.under i.place in
@@ -275,22 +274,21 @@ module _ (r : spaces.Content) (b : buddies.Content) (s : Content) (t : ℕ) (w :
       }
 
 -- One cache, slab by slab
-module _ (t c : ℕ) where
+module _ {r : spaces.Content} {s : Content} {t c : ℕ} where
   -- the slab at this frame is the cache's, and idle
-  pub one_idle : (r : spaces.Content) (b : buddies.Content) (s : Content) (first node : ℕ) (cache : own.Cache) → IsSlab r s t c first node cache
-      → (kept_at s.kept node).live ≡ 0 → (f : ℕ) → eqb f first ≡ true → idle_at (this t c) r s t f ≡ true
-  one_idle r b s first node cache q empty f e =
-      let p = placed_as r s t c first node cache q in
-      idle_is (this t c) r s t f node p.head first (ap (node_of s.top r.slots t) (eqb-true f first e) ∙ q.under) p.place
-      (eq-eqb (p.head / 3) (index_of_cache t c) p.index) empty
+  pub one_idle : {first node : ℕ} {cache : own.Cache} → IsEmptySlab r s t c first node cache → (f : ℕ) → eqb f first ≡ true → idle_at (this t c) r s t f ≡ true
+  one_idle {first = first} {node = node} {cache = cache} is f e =
+      let p = placed_as r s t c first node cache is.slab in
+      idle_is (this t c) r s t f node p.head first (ap (node_of s.top r.slots t) (eqb-true f first e) ∙ is.slab.under) p.place
+      (eq-eqb (p.head / 3) (index_of_cache t c) p.index) is.empty
 
-  pub none_idle : (r : spaces.Content) (b : buddies.Content) (s : Content) → IsSlabs s → Agree r b s → IsOneToOne r
-      → c < MOST_CACHES → IsEmpty s.lists.places (head_of t c 2) → (f : ℕ) → idle_at (this t c) r s t f ≡ true → ⊥
-  none_idle r b s w a apart small none f e =
-      let i = idle_listed r b s t w a (λ g n head key. slab_listed r b s w a t g n head key apart) (this t c) f e in
-      let index : index_of_cache t i.number ≡ index_of_cache t c = eqb-true (index_of_cache t i.number) (index_of_cache t c) i.one in
-      let same : i.number ≡ c = omega arith in
-      none i.node f (i.placed ∙ ap (λ (x : ℕ). Some (head_of t x 2, f)) same)
+pub none_idle : {r : spaces.Content} {b : buddies.Content} {s : Content} (t c : ℕ) → IsSlabs s → Agree r b s → IsOneToOne r
+    → c < MOST_CACHES → IsEmpty s.lists.places (head_of t c 2) → (f : ℕ) → idle_at (this t c) r s t f ≡ true → ⊥
+none_idle {r = r} {b = b} {s = s} t c w a apart small none f e =
+    let i = idle_listed w a (λ g n head key. slab_listed r b s w a t g n head key apart) (this t c) f e in
+    let index : index_of_cache t i.number ≡ index_of_cache t c = eqb-true (index_of_cache t i.number) (index_of_cache t c) i.one in
+    let same : i.number ≡ c = omega arith in
+    none i.node f (i.placed ∙ ap (λ (x : ℕ). Some (head_of t x 2, f)) same)
 
 -- All caches
 pub any_idle : (r : spaces.Content) (s : Content) (t c f : ℕ) → idle_at (this t c) r s t f ≡ true → idle_at (λ i. true) r s t f ≡ true
@@ -298,10 +296,10 @@ any_idle r s t c f e =
     let i = idle_tells (this t c) r s t f e in
     idle_is (λ x. true) r s t f i.node i.head i.key i.under i.place refl i.empty
 
-pub none_any : (r : spaces.Content) (b : buddies.Content) (s : Content) (t : ℕ) → IsSlabs s → Agree r b s → IsOneToOne r
+pub none_any : {r : spaces.Content} {b : buddies.Content} {s : Content} (t : ℕ) → IsSlabs s → Agree r b s → IsOneToOne r
     → ((d : ℕ) → d < MOST_CACHES → IsEmpty s.lists.places (head_of t d 2)) → (f : ℕ) → idle_at (λ i. true) r s t f ≡ true → ⊥
-none_any r b s t w a apart none f e =
-    let i = idle_listed r b s t w a (λ g n head key. slab_listed r b s w a t g n head key apart) (λ x. true) f e in
+none_any {r = r} {b = b} {s = s} t w a apart none f e =
+    let i = idle_listed w a (λ g n head key. slab_listed r b s w a t g n head key apart) (λ x. true) f e in
     none i.number i.small i.node f i.placed
 
 -- where there is no cache, its list is empty
@@ -314,26 +312,26 @@ pub record IsGivingBelow (r r' : spaces.Content) (b b' : buddies.Content) (s s' 
   pub giving : IsGiving (λ i. true) r r' b b' s s' t
   pub lists : (d : ℕ) → d < c → IsEmpty s'.lists.places (head_of t d 2)
 
-pub below_same : (r r' r'' : spaces.Content) (b b' b'' : buddies.Content) (s s' s'' : Content) (t c : ℕ) → r'' ≡ r' → b'' ≡ b' → s'' ≡ s'
+pub below_same : {r r' r'' : spaces.Content} {b b' b'' : buddies.Content} {s s' s'' : Content} {t c : ℕ} → r'' ≡ r' → b'' ≡ b' → s'' ≡ s'
     → IsGivingBelow r r' b b' s s' t c → IsGivingBelow r r'' b b'' s s'' t c
-below_same r r' r'' b b' b'' s s' s'' t c er eb es g =
+below_same {r = r} {r' = r'} {b = b} {b' = b'} {b'' = b''} {s = s} {s'' = s''} {t = t} {c = c} er eb es g =
     subst (λ x. IsGivingBelow r x b b'' s s'' t c) (sym er) (subst (λ x. IsGivingBelow r r' b x s s'' t c) (sym eb)
     (subst (λ x. IsGivingBelow r r' b b' s x t c) (sym es) g))
 
-pub below_next : (r r' r'' : spaces.Content) (b b' b'' : buddies.Content) (s s' s'' : Content) (t c : ℕ) → IsSteady r b s t
+pub below_next : {r r' r'' : spaces.Content} {b b' b'' : buddies.Content} {s s' s'' : Content} {t c : ℕ} → IsSteady r b s t
     → IsGivingBelow r r' b b' s s' t c → IsReturned r' r'' b' b'' s' s'' t (idle_at (this t c) r' s' t) → Spares t r' r'' b' b'' s' s''
     → Agree r'' b'' s'' → IsSlabs s'' → IsEmpty s''.lists.places (head_of t c 2)
     → ((head : ℕ) → IsEmpty s'.lists.places head → IsEmpty s''.lists.places head) → IsGivingBelow r r'' b b'' s s'' t (c + 1)
-below_next r r' r'' b b' b'' s s' s'' t c st g k spares agree tables none less = record {
-  giving = giving_more (λ i. true) r r' b b' s s' t st g.giving r'' b'' s'' (idle_at (this t c) r' s' t) k (any_idle r' s' t c) spares agree tables;
+below_next {r' = r'} {s' = s'} {s'' = s''} {t = t} {c = c} st g k spares agree tables none less = record {
+  giving = giving_more st g.giving k (any_idle r' s' t c) spares agree tables;
   lists = λ d small. ⊎_elim (λ lower. less (head_of t d 2) (g.lists d lower))
       (λ high. let same : d ≡ c = omega arith in subst (λ x. IsEmpty s''.lists.places (head_of t x 2)) (sym same) none) (cases_lt d c);
 }
 
 -- there is no cache of this number
-pub below_none : (r r' : spaces.Content) (b b' : buddies.Content) (s s' : Content) (t c : ℕ) → IsGivingBelow r r' b b' s s' t c
+pub below_none : {r r' : spaces.Content} {b b' : buddies.Content} {s s' : Content} {t c : ℕ} → IsGivingBelow r r' b b' s s' t c
     → c < MOST_CACHES → cache_at s' t c ≡ None → IsGivingBelow r r' b b' s s' t (c + 1)
-below_none r r' b b' s s' t c g small vacant = record {
+below_none {s' = s'} {t = t} {c = c} g small vacant = record {
   giving = g.giving;
   lists = λ d less. ⊎_elim (g.lists d)
       (λ high. let same : d ≡ c = omega arith in

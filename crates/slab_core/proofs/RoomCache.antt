@@ -39,10 +39,11 @@ module _ (r : spaces.Content) (b : buddies.Content) (s : Content) (t c k : ℕ) 
   pub record IsSearched (next : Option (ℕ × ℕ)) : Type 0 where
     pub rest : MatchOption next (HasRoomAround r b s t c k → ⊥) (λ p. IsNextSlab p.0 p.1)
 
-  pub next_is : (next : Option (ℕ × ℕ)) (slab node : ℕ) → IsSearched next → next ≡ Some (slab, node) → IsNextSlab slab node
-  next_is next slab node is e = subst (λ o. MatchOption o (HasRoomAround r b s t c k → ⊥) (λ p. IsNextSlab p.0 p.1)) e is.rest
+module _ {r : spaces.Content} {b : buddies.Content} {s : Content} {t c k : ℕ} where
+  pub next_is : {next : Option (ℕ × ℕ)} {slab node : ℕ} → IsSearched r b s t c k next → next ≡ Some (slab, node) → IsNextSlab r b s t c k slab node
+  next_is is e = subst (λ o. MatchOption o (HasRoomAround r b s t c k → ⊥) (λ p. IsNextSlab r b s t c k p.0 p.1)) e is.rest
 
-  module _ (slab node : ℕ) (here : IsNextSlab slab node) where
+  module _ {slab node : ℕ} (here : IsNextSlab r b s t c k slab node) where
     pub slab_small : IsSlabs s → Agree r b s → IsSteady r b s t → c < MOST_CACHES → slab < 65536
     slab_small w a st less = let taken = listed_taken r b s t c slab node w a less here.placed in st.few slab taken.0 taken.1
 
@@ -69,7 +70,7 @@ module _ (r : spaces.Content) (b : buddies.Content) (s : Content) (t c k : ℕ) 
     left_less (Some q) small after = let above = after.above in omega arith
 
     -- there is no room around the slab, and the search goes on behind it
-    pub goes_on : (next : Option (ℕ × ℕ)) → (IsUnusedBlock r b s t (around slab k).first k → ⊥) → IsAfter next → IsSearched next
+    pub goes_on : (next : Option (ℕ × ℕ)) → (IsUnusedBlock r b s t (around slab k).first k → ⊥) → IsAfter next → IsSearched r b s t c k next
     goes_on next none after = record { rest = go next after }
       where
         up_to : (f n : ℕ) → place_at s.lists.places n ≡ Some (head_of t c 2, f) → f ≤ slab → IsUnusedBlock r b s t (around f k).first k → ⊥
@@ -80,7 +81,7 @@ module _ (r : spaces.Content) (b : buddies.Content) (s : Content) (t c k : ℕ) 
             none (subst (λ x. IsUnusedBlock r b s t (around x k).first k) same unused))
             (cases_lt f slab)
 
-        go : (o : Option (ℕ × ℕ)) → IsAfter o → MatchOption o (HasRoomAround r b s t c k → ⊥) (λ p. IsNextSlab p.0 p.1)
+        go : (o : Option (ℕ × ℕ)) → IsAfter o → MatchOption o (HasRoomAround r b s t c k → ⊥) (λ p. IsNextSlab r b s t c k p.0 p.1)
         go None above = λ h. up_to h.first h.node h.empty (above h.node h.first h.empty) h.unused
         go (Some q) is = record {
           placed = is.here;

@@ -1,15 +1,13 @@
 -- Room for a block lies in a free block or around an empty slab.
-use Rattle.std.proofs.Common.{◌≡◌, ℕ, ◌*◌, ◌/◌, ◌%◌, ◌^◌, ◌<◌, ◌≤◌, Bool, true, false, Some, None, length, refl, sym, ap, ◌∙◌, subst, ⊎_elim, arith}
-use Rattle.std.specs.Prelude.{Option, is_some, ◌↔◌, MatchOption}
+use Rattle.std.proofs.Common.{◌≡◌, ℕ, ◌*◌, ◌/◌, ◌%◌, ◌^◌, ◌<◌, ◌≤◌, Bool, true, false, refl, sym, ap, ◌∙◌, subst, ⊎_elim, arith}
+use Rattle.std.specs.Prelude.{is_some, ◌↔◌}
 use Rattle.std.proofs.Math.Nat.{pow-le-pow_right}
 use Rattle.std.proofs.lemmas.Bool.{cases_lt, false≢true}
-use Rattle.model_core.specs.Blocks.{Block, block, HasFrame, IsAligned, around, IsChoice, IsWithout}
-use Rattle.model_core.specs.Choice.{choose}
+use Rattle.model_core.specs.Blocks.{block, HasFrame, IsAligned, around}
 use Rattle.model_core.specs.Numbered.{number_at}
 use Rattle.model_core.proofs.BlocksByNumber.{number_is, first_is, number_around, aligned_first, aligned_below, number_of_frame, frame_of_number, same_slot}
 use Rattle.model_core.proofs.Halves.{same_above}
 use Rattle.model_core.proofs.FreeBlocks.{same_bool}
-use Rattle.model_core.proofs.Choosing.{choice_is_found}
 use Rattle.space_core.specs.Content as spaces
 use Rattle.buddy_core.specs.Content as buddies
 use Rattle.slab_tables.specs.Content.{Content, IsSlabs, layout_numbers}
@@ -21,11 +19,11 @@ use Rattle.machine_changes.proofs.Steady.{counted}
 use Rattle.machine_changes.proofs.Room.{room_meets}
 use Rattle.machine_changes.specs.Steady.{IsSteady}
 use Rattle.machine_changes.specs.Room.{IsIdle, HasRoom}
-use Rattle.model_core.proofs.Vacant.{IsVacant, some_choice}
 use Rattle.slab_core.specs.Room.{HasFreeBlock, IsUnusedBlock, HasRoomInSlabs}
 use Rattle.slab_core.proofs.ObjectFinding.{around_frame}
 use Rattle.slab_core.proofs.ReturnMany.{idle_listed}
-use Rattle.slab_core.proofs.RoomFree.{held_within}
+use Rattle.slab_core.proofs.ReserveOne.{vacant_free}
+use Rattle.slab_core.proofs.ReserveByNeed.{free_room}
 use Rattle.slab_core.proofs.RoomFrames.{idle_begins, listed_taken}
 
 -- two tests of one fact answer the same
@@ -33,9 +31,9 @@ same_answer : {P : Type 0} (v u : Bool) → (v ≡ true) ↔ P → P ↔ (u ≡ 
 same_answer v u by_v by_u = same_bool v u (λ e. by_u.0 (by_v.0 e)) (λ e. by_v.1 (by_u.1 e))
 
 -- a test of whether there is room answers whether a block is chosen once the empty slabs are given back
-pub room_answers : (r : spaces.Content) (b : buddies.Content) (s : Content) (t k : ℕ) → HoldTogether r b s → IsSteady r b s t → k ≤ s.top → (fits : Bool)
+pub room_answers : {r : spaces.Content} {b : buddies.Content} {s : Content} {t k : ℕ} → HoldTogether r b s → IsSteady r b s t → k ≤ s.top → {fits : Bool}
     → (fits ≡ true) ↔ HasRoom r b s t k → (m : Machine) → ShowsMachine r b s t m → fits ≡ is_some (choice s.top (reaped m) k)
-room_answers r b s t k parts st order fits by m shows =
+room_answers {r = r} {b = b} {s = s} {t = t} {k = k} parts st order {fits = fits} by m shows =
     same_answer fits (is_some (choice s.top (reaped m) k)) by (room_meets r b s t k m st (counted r b s parts.slabs parts.agree t) shows order)
 
 -- a frame of a smaller block is one of a larger that begins there too
@@ -47,22 +45,10 @@ wider f j k x le has =
     let high = has.1 in
     (omega arith, omega arith)
 
-module _ (r : spaces.Content) (b : buddies.Content) (s : Content) (t k : ℕ) (w : IsSlabs s) (a : Agree r b s) (st : IsSteady r b s t) where
+module _ {r : spaces.Content} {b : buddies.Content} {s : Content} {t k : ℕ} (w : IsSlabs s) (a : Agree r b s) (st : IsSteady r b s t) where
   module _ (fits : k ≤ s.top) where
-    room_of_free : HasFreeBlock b t k → HasRoom r b s t k
-    room_of_free h =
-        let f = h.found.first in
-        let held : is_some (buddies.superblock_at (buddies.holding_of t b) (f / 2 ^ s.top)) ≡ true =
-        subst (λ top. buddies.is_held (buddies.holding_of t b) (f / 2 ^ top) ≡ true) a.order h.free.1 in
-        record {
-          first = f;
-          aligned = (fits, aligned_below f k h.found.order h.enough h.free.0.1);
-          held = ap is_some (sym (a.slots t (f / 2 ^ s.top))) ∙ held;
-          idle = λ x has is. absurd (h.free.2 (x, wider f k h.found.order x h.enough has, is));
-        }
-
     pub room_by_free : (free : Bool) → free ≡ true → (free ≡ true) ↔ HasFreeBlock b t k → (free ≡ true) ↔ HasRoom r b s t k
-    room_by_free free is by = (λ e. room_of_free (by.0 is), λ room. is)
+    room_by_free free is by = (λ e. free_room r b s t k a (by.0 is), λ room. is)
 
     room_of_slab : HasRoomInSlabs r b s t k → HasRoom r b s t k
     room_of_slab (c, less, h) =
@@ -108,7 +94,7 @@ module _ (r : spaces.Content) (b : buddies.Content) (s : Content) (t k : ℕ) (w
 
     room_around : HasRoomInSlabs r b s t k
     room_around =
-        let e = idle_listed r b s t w a st.listed (λ n. true) i.first (idle_begins r s t x i) in (
+        let e = idle_listed w a st.listed (λ n. true) i.first (idle_begins r s t x i) in (
           e.number,
           e.small,
           record {
@@ -119,38 +105,21 @@ module _ (r : spaces.Content) (b : buddies.Content) (s : Content) (t k : ℕ) (w
           },
         )
 
-  module _ (laws : buddies.BuddyLaws b) (lt : t < length b.tenants) where
-    -- where no frame of the room is taken, a free block has it
-    free_of_vacant : (f : ℕ) → IsVacant b.top (buddies.is_held (buddies.holding_of t b)) (buddies.taken_of (buddies.holding_of t b)) f k → HasFreeBlock b t k
-    free_of_vacant f v =
-        let held = buddies.is_held (buddies.holding_of t b) in
-        let taken = buddies.taken_of (buddies.holding_of t b) in
-        let below : (u : ℕ) → held u ≡ true → u < b.superblocks = λ u. held_within b t u laws.sizes lt in
-        go (choose b.top held taken b.superblocks k) (choice_is_found b.top held taken b.superblocks k below)
-        (some_choice b.top held taken b.superblocks below f k v)
-      where
-        go : (o : Option Block)
-            → MatchOption o (IsWithout b.top (buddies.is_held (buddies.holding_of t b)) (buddies.taken_of (buddies.holding_of t b)) k)
-            (IsChoice b.top (buddies.is_held (buddies.holding_of t b)) (buddies.taken_of (buddies.holding_of t b)) k)
-            → is_some o ≡ true → HasFreeBlock b t k
-        go None none some = absurd (false≢true some)
-        go (Some z) is some = record { found = z; free = is.0; enough = is.1 }
+  no_room : (HasFreeBlock b t k → ⊥) → (HasRoomInSlabs r b s t k → ⊥) → HasRoom r b s t k → ⊥
+  no_room none_free none_around room =
+      let slot : is_some (buddies.superblock_at (buddies.holding_of t b) (room.first / 2 ^ s.top)) ≡ true =
+      ap is_some (a.slots t (room.first / 2 ^ s.top)) ∙ room.held in
+      none_free (vacant_free b t room.first k (record {
+        aligned = subst (λ top. IsAligned top (block room.first k)) (sym a.order) room.aligned;
+        slot = subst (λ top. buddies.is_held (buddies.holding_of t b) (room.first / 2 ^ top) ≡ true) (sym a.order) slot;
+        untaken = λ x has is. none_around (room_around room x has (room.idle x has is));
+      }))
 
-    no_room : (HasFreeBlock b t k → ⊥) → (HasRoomInSlabs r b s t k → ⊥) → HasRoom r b s t k → ⊥
-    no_room none_free none_around room =
-        let slot : is_some (buddies.superblock_at (buddies.holding_of t b) (room.first / 2 ^ s.top)) ≡ true =
-        ap is_some (a.slots t (room.first / 2 ^ s.top)) ∙ room.held in
-        none_free (free_of_vacant room.first (record {
-          aligned = subst (λ top. IsAligned top (block room.first k)) (sym a.order) room.aligned;
-          slot = subst (λ top. buddies.is_held (buddies.holding_of t b) (room.first / 2 ^ top) ≡ true) (sym a.order) slot;
-          untaken = λ x has is. none_around (room_around room x has (room.idle x has is));
-        }))
-
-    -- where no block is free that is large enough, all room lies around empty slabs
-    pub room_by_slabs : k ≤ s.top → (HasFreeBlock b t k → ⊥) → (slabs : Bool) → (slabs ≡ true) ↔ HasRoomInSlabs r b s t k
-        → (slabs ≡ true) ↔ HasRoom r b s t k
-    room_by_slabs fits none true by = (λ e. room_of_slab fits (by.0 refl), λ room. refl)
-    room_by_slabs fits none false by = (
-      λ e. absurd (false≢true e),
-      λ room. absurd (no_room none (λ h. false≢true (by.1 h)) room),
-    )
+  -- where no block is free that is large enough, all room lies around empty slabs
+  pub room_by_slabs : k ≤ s.top → (HasFreeBlock b t k → ⊥) → (slabs : Bool) → (slabs ≡ true) ↔ HasRoomInSlabs r b s t k
+      → (slabs ≡ true) ↔ HasRoom r b s t k
+  room_by_slabs fits none true by = (λ e. room_of_slab fits (by.0 refl), λ room. refl)
+  room_by_slabs fits none false by = (
+    λ e. absurd (false≢true e),
+    λ room. absurd (no_room none (λ h. false≢true (by.1 h)) room),
+  )

@@ -1,6 +1,6 @@
 -- The step of a take, by what its cache offers.
 use Rattle.std.proofs.Common.{◌≡◌, ℕ, List, ◌∷◌, Some, None, refl, sym, ap, ◌∙◌, subst, inl}
-use Rattle.std.specs.Prelude.{Option, option_map, find}
+use Rattle.std.specs.Prelude.{Option, find}
 use Rattle.model_core.specs.Machine.{Slab, Cache, Machine, put_rising, layout}
 use Rattle.model_core.specs.Slabs.{is_partial, is_empty, cache_of, slab_of, new_slab, grown_cache, grown, slab_to_use, by_need, choice_by_need}
 use Rattle.model_core.specs.Operations.{refuse}
@@ -13,13 +13,14 @@ use Rattle.space_core.specs.Content as spaces
 use Rattle.buddy_core.specs.Content as buddies
 use Rattle.slab_tables.specs.declared.cache.Cache as own
 use Rattle.slab_tables.specs.Content.{Content, IsSlabs, cache_at, layout_numbers}
-use Rattle.machine_changes.specs.Shows.{ShowsMachine, Agree, bare}
+use Rattle.machine_changes.specs.Shows.{ShowsMachine, Agree}
 use Rattle.machine_changes.specs.Steady.{IsSteady}
 use Rattle.machine_changes.specs.Objects.{IsToUse, IsAllFull, Standing}
 use Rattle.machine_changes.proofs.Lookups.{found_key, found_new, in_found}
-use Rattle.machine_changes.proofs.Facts.{none_mapped, cache_shown}
+use Rattle.machine_changes.proofs.Facts.{cache_shown}
 use Rattle.machine_changes.proofs.Using.{take_uses, take_makes}
 use Rattle.slab_core.proofs.GrowNeed.{stands}
+use Rattle.slab_core.proofs.ObjectGiven.{no_cache}
 
 -- The steps
 
@@ -59,20 +60,30 @@ module _ (m : Machine) (c f : ℕ) (x : Cache) (ex : cache_of m c ≡ Some x) wh
       in_found (λ y. y.first) 0 (new_slab x f) (grown_cache f x).slabs (h.slabs_rise c (grown_cache f x) grown_there)
       (in_put (λ y. y.first) (new_slab x f) x.slabs)
 
-module _ (r : spaces.Content) (b : buddies.Content) (s : Content) (t c : ℕ) (m : Machine) (h : ShowsMachine r b s t m) where
+-- the slab that a take uses, in the machine
+pub record IsUsed (top c : ℕ) (m : Machine) (first : ℕ) : Type 0 where
+  pub shown : Cache
+  pub slab : Slab
+  pub found : cache_of m c ≡ Some shown
+  pub standing : slab_of shown first ≡ Some slab
+  pub step : take_step top c m ≡ hand_out shown slab m
+
+-- the slab that a take makes, in the machine grown by need
+pub record IsMade (top c : ℕ) (m : Machine) (r : spaces.Content) (b : buddies.Content) (s : Content) (t f : ℕ) : Type 0 where
+  pub after : Machine
+  pub shown : Cache
+  pub slab : Slab
+  pub shows : ShowsMachine r b s t after
+  pub found : cache_of after c ≡ Some shown
+  pub standing : slab_of shown f ≡ Some slab
+  pub step : take_step top c m ≡ hand_out shown slab after
+
+module _ {r : spaces.Content} {b : buddies.Content} {s : Content} {t : ℕ} (c : ℕ) {m : Machine} (h : ShowsMachine r b s t m) where
   pub no_cache_step : cache_at s t c ≡ None → take_step s.top c m ≡ refuse NoCache m
-  no_cache_step vacant = step_none s.top c m (none_mapped (cache_of m c) (h.caches c ∙ ap (option_map (bare c)) vacant))
+  no_cache_step vacant = step_none s.top c m (no_cache r b s t c m h vacant)
 
-  module _ (w : IsSlabs s) (a : Agree r b s) (st : IsSteady r b s t) (cache : own.Cache) (cached : cache_at s t c ≡ Some cache) where
-    -- the slab that is used, in the machine
-    pub record IsUsed (first : ℕ) : Type 0 where
-      pub shown : Cache
-      pub slab : Slab
-      pub found : cache_of m c ≡ Some shown
-      pub standing : slab_of shown first ≡ Some slab
-      pub step : take_step s.top c m ≡ hand_out shown slab m
-
-    pub used : (o : Standing) → IsToUse r s t c cache o → IsUsed o.first
+  module _ (w : IsSlabs s) (a : Agree r b s) (st : IsSteady r b s t) {cache : own.Cache} (cached : cache_at s t c ≡ Some cache) where
+    pub used : (o : Standing) → IsToUse r s t c cache o → IsUsed s.top c m o.first
     used o is =
         let there = cache_shown r b s t m h c cache cached in
         let uses = take_uses r b s t c cache o m there.shown w a st h there.cached is in
@@ -97,19 +108,10 @@ module _ (r : spaces.Content) (b : buddies.Content) (s : Content) (t c : ℕ) (m
           none_step None none there.shown there.cached (ap (λ l. l.order) there.layout)
           ∙ ap (refuse NoFrames) (by_need_none s.top (layout_numbers cache).order m none)
 
-      -- the slab that is made, in the machine grown by need
-      pub record IsMade (f : ℕ) (r' : spaces.Content) (b' : buddies.Content) (s' : Content) : Type 0 where
-        pub after : Machine
-        pub shown : Cache
-        pub slab : Slab
-        pub shows : ShowsMachine r' b' s' t after
-        pub found : cache_of after c ≡ Some shown
-        pub standing : slab_of shown f ≡ Some slab
-        pub step : take_step s.top c m ≡ hand_out shown slab after
-
-      pub made : (f : ℕ) (r' : spaces.Content) (b' : buddies.Content) (s' : Content) → choice_by_need s.top (layout_numbers cache).order m ≡ Some f
-          → ((x : Cache) → cache_of m c ≡ Some x → ShowsMachine r' b' s' t (grown f x (by_need s.top (layout_numbers cache).order m))) → IsMade f r' b' s'
-      made f r' b' s' is shows =
+      pub made : {r' : spaces.Content} {b' : buddies.Content} {s' : Content} (f : ℕ) → choice_by_need s.top (layout_numbers cache).order m ≡ Some f
+          → ((x : Cache) → cache_of m c ≡ Some x → ShowsMachine r' b' s' t (grown f x (by_need s.top (layout_numbers cache).order m)))
+          → IsMade s.top c m r' b' s' t f
+      made {r' = r'} {b' = b'} {s' = s'} f is shows =
           let there = cache_shown r b s t m h c cache cached in
           let x : Cache = there.shown in
           let n : Machine = by_need s.top (layout_numbers cache).order m in

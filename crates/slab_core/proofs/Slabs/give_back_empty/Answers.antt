@@ -5,14 +5,13 @@ use Rattle.slab_tables.specs.Content.{IsSlabs, head_of}
 use Rattle.slab_tables.proofs.Keeping.{slabs_without}
 use Rattle.machine_changes.proofs.Steady.{in_table}
 use Rattle.slab_core.proofs.ObjectSlabs.{node_within}
-use Rattle.slab_core.proofs.ReturnMany.{giving_none, giving_more, still_apart, giving_all, IsEmptySlab, listed_empty, this, one_idle, none_idle, empty_without}
+use Rattle.slab_core.proofs.ReturnMany.{giving_none, giving_more, still_apart, giving_all, IsEmptySlab, listed_empty, one_idle, none_idle, empty_without}
 use Rattle.slab_core.proofs.Slabs.give_back_empty.Goals as goal
 use Rattle.slab_core.proofs.Slabs.give_back_empty.Goals.{In-Some}
 
 pub loop-first-init : goal.loop-first-init
 loop-first-init c = record {
-  giving = giving_none (this c.args.cache.tenant c.args.cache.number) c.args.space.now c.args.buddy.now c.args.self.now c.args.cache.tenant
-      c.requires.agree c.laws_with.ensures.parts.slabs;
+  giving = giving_none c.requires.agree c.laws_with.ensures.parts.slabs;
   lists = λ head none. none;
 }
 
@@ -25,9 +24,8 @@ first c =
 is_empty : (c : In-Some)
     → IsEmptySlab c.loop-first.space c.loop-first.self c.args.cache.tenant c.args.cache.number c.in-Some.first c.in-Some.machine_frame c.args.cache.kept.now
 is_empty c =
-    listed_empty c.loop-first.space c.loop-first.buddy c.loop-first.self c.args.cache.tenant c.loop-first.invariant.giving.tables
-    c.loop-first.invariant.giving.agree c.args.cache.number c.in-Some.first c.in-Some.machine_frame c.args.cache.kept.now
-    (c.loop-first.invariant.giving.returned.caches c.args.cache.number ∙ c.requires.cache) (first c).here
+    let giving = c.loop-first.invariant.giving in
+    listed_empty giving.tables giving.agree (giving.returned.caches c.args.cache.number ∙ c.requires.cache) (first c).here
 
 pub give_back-requires-clause-slab : goal.give_back-requires-clause-slab
 give_back-requires-clause-slab c = (is_empty (goal.at.give_back-requires-clause-slab c).In-Some).slab
@@ -39,9 +37,7 @@ pub loop-first-preserved : goal.loop-first-preserved
 loop-first-preserved c =
     let is = is_empty (goal.at.loop-first-preserved c).In-Some in
     record {
-      giving = giving_more (this c.args.cache.tenant c.args.cache.number) c.args.space.now c.loop-first.space c.args.buddy.now c.loop-first.buddy c.args.self.now c.loop-first.self c.args.cache.tenant
-          c.laws_with.ensures.steady c.loop-first.invariant.giving c.give_back.new.space c.give_back.new.buddy c.give_back.new.self _ c.give_back.ensures.returned
-          (one_idle c.args.cache.tenant c.args.cache.number c.loop-first.space c.loop-first.buddy c.loop-first.self c.in-Some.first c.in-Some.machine_frame c.args.cache.kept.now is.slab is.empty)
+      giving = giving_more c.laws_with.ensures.steady c.loop-first.invariant.giving c.give_back.ensures.returned (one_idle is)
           c.give_back.ensures.spares c.give_back.ensures.agree
           (subst IsSlabs (sym c.give_back.ensures.tables)
           (slabs_without c.loop-first.self c.in-Some.machine_frame c.loop-first.invariant.giving.tables (node_within is.slab) is.empty));
@@ -60,12 +56,10 @@ returns-clause-empty c = subst (λ s. IsEmpty s.lists.places (head_of c.args.cac
 
 pub returns-clause-returned : goal.returns-clause-returned
 returns-clause-returned c =
-    giving_all (this c.args.cache.tenant c.args.cache.number) c.args.space.now c.loop-first.space c.args.buddy.now c.loop-first.buddy c.args.self.now c.loop-first.self c.args.cache.tenant
-    c.laws_with.ensures.steady c.loop-first.invariant.giving
-    (none_idle c.args.cache.tenant c.args.cache.number c.loop-first.space c.loop-first.buddy c.loop-first.self c.loop-first.invariant.giving.tables
-    c.loop-first.invariant.giving.agree (still_apart _ _ _ _ _ _ _ _ c.laws_with.ensures.steady c.loop-first.invariant.giving c.laws_with.ensures.parts.space.apart)
-    (in_table c.args.self.now c.args.cache.tenant c.args.cache.number c.args.cache.kept.now c.requires.cache).number
-    (returns-clause-empty c))
+    let giving = c.loop-first.invariant.giving in
+    giving_all c.laws_with.ensures.steady giving
+    (none_idle c.args.cache.tenant c.args.cache.number giving.tables giving.agree (still_apart c.laws_with.ensures.steady giving c.laws_with.ensures.parts.space.apart)
+    (in_table c.args.self.now c.args.cache.tenant c.args.cache.number c.args.cache.kept.now c.requires.cache).number (returns-clause-empty c))
 
 pub returns-clause-tables : goal.returns-clause-tables
 returns-clause-tables c = c.loop-first.invariant.giving.tables

@@ -20,13 +20,13 @@ above c = omega (arith, c.if-order.true, c.order.ensures, c.order-order.ensures)
 pub returns-then-order-clause-chosen : goal.returns-then-order-clause-chosen
 returns-then-order-clause-chosen c = λ m h.
     let a = (goal.at.returns-then-order-clause-chosen c).Then-order in
-    choice_large c.args.space.now c.args.buddy.now c.args.self.now c.args.cache.tenant (layout_numbers c.args.cache.kept.now).order c.requires.agree c.laws_with.ensures.steady m h (above a)
+    choice_large c.args.cache.tenant (layout_numbers c.args.cache.kept.now).order c.requires.agree c.laws_with.ensures.steady m h (above a)
 
 pub returns-then-order-clause-free : goal.returns-then-order-clause-free
 returns-then-order-clause-free c =
     let a = (goal.at.returns-then-order-clause-free c).Then-order in
     none_free {A = Slab} c.args.buddy.now c.args.cache.tenant (layout_numbers c.args.cache.kept.now).order
-    (none_large c.args.space.now c.args.buddy.now c.args.self.now c.args.cache.tenant (layout_numbers c.args.cache.kept.now).order c.requires.agree (above a)) None refl
+    (none_large c.args.cache.tenant (layout_numbers c.args.cache.kept.now).order c.requires.agree (above a)) None refl
 
 -- None is free
 
@@ -38,7 +38,7 @@ without c =
 pub returns-in_err-first-clause-chosen : goal.returns-in_err-first-clause-chosen
 returns-in_err-first-clause-chosen c = λ m h.
     let a = (goal.at.returns-in_err-first-clause-chosen c).In_err-first in
-    choice_none c.args.space.now c.args.buddy.now c.args.self.now c.args.cache.tenant (layout_numbers c.args.cache.kept.now).order c.requires.agree c.laws_with.ensures.steady m h (without a)
+    choice_none c.args.cache.tenant (layout_numbers c.args.cache.kept.now).order c.requires.agree c.laws_with.ensures.steady m h (without a)
     ∙ sym (ap (option_map (λ o. o.first)) c.from_residual.ensures)
 
 pub returns-in_err-first-clause-free : goal.returns-in_err-first-clause-free
@@ -50,7 +50,7 @@ returns-in_err-first-clause-free c =
 
 pub unreachable-unreachable : goal.unreachable-unreachable
 unreachable-unreachable c =
-    has_node c.args.space.now c.args.buddy.now c.args.self.now c.args.cache.tenant (layout_numbers c.args.cache.kept.now).order c.requires.agree
+    has_node c.args.cache.tenant (layout_numbers c.args.cache.kept.now).order c.requires.agree
     c.in_ok-first.first c.in_ok-first.ensures.done.0 (chosen_for c.args.buddy.now c.args.cache.tenant _ _ _ _ c.order-order.ensures c.in_ok-first.ensures.done.1.0)
     (sym c.node.ensures.value ∙ c.in_default.is)
 
@@ -87,7 +87,7 @@ construct-requires-clause-layout c = cut (chosen (goal.at.construct-requires-cla
 
 pub returns-clause-chosen : goal.returns-clause-chosen
 returns-clause-chosen c = λ m h.
-    choice_some c.args.space.now c.args.buddy.now c.args.self.now c.args.cache.tenant (layout_numbers c.args.cache.kept.now).order c.requires.agree c.laws_with.ensures.steady m h
+    choice_some c.args.cache.tenant (layout_numbers c.args.cache.kept.now).order c.requires.agree c.laws_with.ensures.steady m h
     c.in_ok-first.first c.in_ok-first.ensures.done.0 (chosen (goal.at.returns-clause-chosen c).In-Some).block
 
 pub returns-clause-free : goal.returns-clause-free

@@ -73,13 +73,11 @@ room c =
     subst (λ b. HasRoom c.args.space.now b c.args.self.now c.args.t c.args.k) c.in_default.ensures.refused
     (c.fits_by_need.ensures.room.0 c.if-not-fits_by_need.false)
 
-served : (c : goal.After-reserve-2) → IsServedThen c.args.space.now c.give_back_all.new.space c.args.buddy.now c.give_back_all.new.buddy
-    c.args.self.now c.give_back_all.new.self c.args.t c.args.k c.laws_with.ensures.steady (gone c) c.reserve-2.new.buddy c.reserve-2.result
+served : (c : goal.After-reserve-2) → IsServedThen c.args.space.now c.give_back_all.new.space c.args.buddy.now c.reserve-2.new.buddy
+    c.args.self.now c.give_back_all.new.self c.args.t c.args.k c.reserve-2.result
 served c =
-    served_then c.args.space.now c.give_back_all.new.space c.args.buddy.now c.give_back_all.new.buddy c.args.self.now c.give_back_all.new.self
-    c.args.t c.args.k c.laws_with.ensures.steady (gone c) c.laws_with.ensures.parts.slabs c.requires.agree c.give_back_all.ensures.agree
-    c.requires.order (room c) c.in_default.ensures.answer c.reserve-2.new.buddy
-    c.reserve-2.result c.reserve-2.ensures.answer c.reserve-2.ensures.shows c.reserve-2.ensures.free
+    served_then c.laws_with.ensures.steady (gone c) c.laws_with.ensures.parts.slabs c.requires.agree c.give_back_all.ensures.agree
+    c.requires.order (room c) c.in_default.ensures.answer c.reserve-2.result c.reserve-2.ensures.answer c.reserve-2.ensures.shows c.reserve-2.ensures.free
 
 pub returns-clause-answer : goal.returns-clause-answer
 returns-clause-answer c = (served c).answer
@@ -95,8 +93,7 @@ returns-clause-refused c = is_there c.reserve-2.result _ (served c).some
 
 pub returns-clause-spares : goal.returns-clause-spares
 returns-clause-spares c =
-    spares_twice c.args.space.now c.give_back_all.new.space c.give_back_all.new.space c.args.buddy.now c.give_back_all.new.buddy c.reserve-2.new.buddy
-    c.args.self.now c.give_back_all.new.self c.give_back_all.new.self c.args.t
+    spares_twice
     (subst (λ b. Spares c.args.t c.args.space.now c.give_back_all.new.space b c.give_back_all.new.buddy c.args.self.now c.give_back_all.new.self)
     c.in_default.ensures.refused (rw c.fits_by_need.ensures.same at c.give_back_all.ensures.spares))
     c.reserve-2.ensures.spares

@@ -14,7 +14,7 @@ use Rattle.slab_core.proofs.Slabs.take.Goals.{After-from_residual, In_ok-kept, A
 refused : (c : After-from_residual) (m : Machine) → ShowsMachine c.args.space.now c.args.buddy.now c.args.self.now c.args.t m
     → take_step c.args.self.now.top c.args.c m ≡ refuse NoCache m
 refused c m h =
-    no_cache_step c.args.space.now c.args.buddy.now c.args.self.now c.args.t c.args.c m h
+    no_cache_step c.args.c h
     (sym (ap (λ (s : Content). cache_at s c.args.t c.args.c) c.self.view_is)
     ∙ (sym c.cache.ensures ∙ ap (option_map (λ x. x.now)) c.in_err-kept.ensures.ok_part))
 
@@ -32,13 +32,11 @@ cached c =
 
 -- A slab is used
 
-use_of : (c : After-hand_out) (m : Machine) (h : ShowsMachine c.args.space.now c.args.buddy.now c.args.self.now c.args.t m)
-    → IsUsed c.args.space.now c.args.buddy.now c.args.self.now c.args.t c.args.c m h c.laws_with.ensures.parts.slabs c.requires.agree
-    c.laws_with.ensures.steady c.in_ok-kept.field-0.now (cached (goal.at.returns-in-Some-clause-answer c).In_ok-kept) c.in-Some.slab.first
+use_of : (c : After-hand_out) (m : Machine) → ShowsMachine c.args.space.now c.args.buddy.now c.args.self.now c.args.t m
+    → IsUsed c.args.self.now.top c.args.c m c.in-Some.slab.first
 use_of c m h =
-    used c.args.space.now c.args.buddy.now c.args.self.now c.args.t c.args.c m h c.laws_with.ensures.parts.slabs c.requires.agree
-    c.laws_with.ensures.steady c.in_ok-kept.field-0.now (cached (goal.at.returns-in-Some-clause-answer c).In_ok-kept) (standing c.in-Some.slab)
-    c.in-Some.ensures.slab
+    used c.args.c h c.laws_with.ensures.parts.slabs c.requires.agree c.laws_with.ensures.steady
+    (cached (goal.at.returns-in-Some-clause-answer c).In_ok-kept) (standing c.in-Some.slab) c.in-Some.ensures.slab
 
 pub returns-in-Some-clause-answer : goal.returns-in-Some-clause-answer
 returns-in-Some-clause-answer c = λ m h.

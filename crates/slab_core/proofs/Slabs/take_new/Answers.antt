@@ -21,7 +21,7 @@ use Rattle.slab_core.proofs.Slabs.take_new.Goals.{After-from_residual, In_ok-bef
 refused : (c : After-from_residual) (m : Machine) → ShowsMachine c.args.space.now c.args.buddy.now c.args.self.now c.args.t m
     → take_step c.args.self.now.top c.args.c m ≡ refuse NoCache m
 refused c m h =
-    no_cache_step c.args.space.now c.args.buddy.now c.args.self.now c.args.t c.args.c m h
+    no_cache_step c.args.c h
     (sym (ap (λ (s : Content). cache_at s c.args.t c.args.c) c.self.view_is)
     ∙ (sym c.cache.ensures ∙ ap (option_map (λ x. x.now)) c.in_err-before.ensures.ok_part))
 
@@ -42,8 +42,8 @@ cached c =
 no_frames : (c : After-from_residual-in_err-slab) (m : Machine) → ShowsMachine c.args.space.now c.args.buddy.now c.args.self.now c.args.t m
     → take_step c.args.self.now.top c.args.c m ≡ refuse NoFrames m
 no_frames c m h =
-    no_frames_step c.args.space.now c.args.buddy.now c.args.self.now c.args.t c.args.c m h c.laws_with.ensures.parts.slabs c.requires.agree
-    c.laws_with.ensures.steady c.in_ok-before.field-0.now (cached (goal.at.returns-in_err-slab-clause-answer c).In_ok-before) c.requires.full
+    no_frames_step c.args.c h c.laws_with.ensures.parts.slabs c.requires.agree c.laws_with.ensures.steady
+    (cached (goal.at.returns-in_err-slab-clause-answer c).In_ok-before) c.requires.full
     (c.grow.ensures.chosen m h ∙ ap (option_map (λ o. o.first)) c.in_err-slab.ensures.ok_part)
 
 pub returns-in_err-slab-clause-answer : goal.returns-in_err-slab-clause-answer
@@ -54,19 +54,16 @@ returns-in_err-slab-clause-shows c = λ m h.
     let same = subst (λ o. IfNone o ((c.grow.new.space ≡ c.args.space.now) × ((c.grow.new.buddy ≡ c.args.buddy.now) × (c.grow.new.self ≡ c.args.self.now))))
     c.in_err-slab.ensures.ok_part c.grow.ensures.refused in
     rw (no_frames c m h)
-    (unmoved (λ r b s. ShowsMachine r b s c.args.t m) c.grow.new.space c.args.space.now c.grow.new.buddy c.args.buddy.now c.grow.new.self c.args.self.now
+    (unmoved (λ r b s. ShowsMachine r b s c.args.t m)
     (sym same.0, (sym same.1.0, sym same.1.1)) h)
 
 -- A slab is made
 
-make_of : (c : After-hand_out) (m : Machine) (h : ShowsMachine c.args.space.now c.args.buddy.now c.args.self.now c.args.t m)
-    → IsMade c.args.space.now c.args.buddy.now c.args.self.now c.args.t c.args.c m h c.laws_with.ensures.parts.slabs c.requires.agree
-    c.laws_with.ensures.steady c.in_ok-before.field-0.now (cached (goal.at.returns-clause-answer c).In_ok-before) c.requires.full
-    c.in_ok-slab.slab.first c.grow.new.space c.grow.new.buddy c.grow.new.self
+make_of : (c : After-hand_out) (m : Machine) → ShowsMachine c.args.space.now c.args.buddy.now c.args.self.now c.args.t m
+    → IsMade c.args.self.now.top c.args.c m c.grow.new.space c.grow.new.buddy c.grow.new.self c.args.t c.in_ok-slab.slab.first
 make_of c m h =
-    made c.args.space.now c.args.buddy.now c.args.self.now c.args.t c.args.c m h c.laws_with.ensures.parts.slabs c.requires.agree
-    c.laws_with.ensures.steady c.in_ok-before.field-0.now (cached (goal.at.returns-clause-answer c).In_ok-before) c.requires.full
-    c.in_ok-slab.slab.first c.grow.new.space c.grow.new.buddy c.grow.new.self
+    made c.args.c h c.laws_with.ensures.parts.slabs c.requires.agree c.laws_with.ensures.steady
+    (cached (goal.at.returns-clause-answer c).In_ok-before) c.requires.full c.in_ok-slab.slab.first
     (c.grow.ensures.chosen m h ∙ ap (option_map (λ o. o.first)) c.in_ok-slab.ensures.ok_part)
     (λ x ex.
     subst (λ o. IfSome o (λ o. (m : Machine) (x : machines.Cache) → ShowsMachine c.args.space.now c.args.buddy.now c.args.self.now c.args.t m
@@ -86,9 +83,7 @@ returns-clause-shows c = λ m h.
     (c.hand_out.ensures.shows u.after u.shown u.slab u.shows u.found u.standing)
 
 pub returns-clause-spares : goal.returns-clause-spares
-returns-clause-spares c =
-    spares_twice c.args.space.now c.grow.new.space c.hand_out.new.space c.args.buddy.now c.grow.new.buddy c.grow.new.buddy
-    c.args.self.now c.grow.new.self c.hand_out.new.self c.args.t c.grow.ensures.spares c.hand_out.ensures.spares
+returns-clause-spares c = spares_twice c.grow.ensures.spares c.hand_out.ensures.spares
 
 -- the new slab has an object that is not live
 pub hand_out-requires-clause-free : goal.hand_out-requires-clause-free

@@ -14,21 +14,15 @@ use Rattle.slab_core.proofs.room.View.has_room_in_cache.Goals.{In-Some, then-not
 
 -- the slab at which the search is
 here : (c : In-Some) → IsNextSlab c.args.self.space.now c.args.self.buddy.now c.args.self.tables.now c.args.self.tenant c.args.c c.args.k c.in-Some.slab c.in-Some.node
-here c =
-    let x = c.args in
-    next_is x.self.space.now x.self.buddy.now x.self.tables.now x.self.tenant x.c x.k c.loop-next.next c.in-Some.slab c.in-Some.node c.loop-next.invariant.searched c.in-Some.is
+here c = next_is c.loop-next.invariant.searched c.in-Some.is
 
 small : (c : In-Some) → c.in-Some.slab < 65536
-small c =
-    let x = c.args in
-    slab_small x.self.space.now x.self.buddy.now x.self.tables.now x.self.tenant x.c x.k c.in-Some.slab c.in-Some.node (here c) c.requires.parts.slabs
-    c.requires.parts.agree c.requires.steady c.requires.cache
+small c = slab_small (here c) c.requires.parts.slabs c.requires.parts.agree c.requires.steady c.requires.cache
 
 number_within : (c : In-Some) → c.in-Some.slab / 2 ^ c.args.k < 64 * length c.loop-next.refused
 number_within c =
     let x = c.args in
-    let within = slab_within x.self.space.now x.self.buddy.now x.self.tables.now x.self.tenant x.c x.k c.in-Some.slab c.in-Some.node (here c) c.requires.parts.slabs
-    c.requires.parts.agree c.requires.steady c.requires.parts.buddy.sizes (omega (arith, c.requires.tenant, c.requires.parts.agree.rows)) c.requires.cache in
+    let within = slab_within (here c) c.requires.parts.slabs c.requires.parts.agree c.requires.steady c.requires.parts.buddy.sizes (omega (arith, c.requires.tenant, c.requires.parts.agree.rows)) c.requires.cache in
     let words : length x.self.tables.now.lists.places ≤ 64 * length c.loop-next.refused * 2 ^ x.k =
     subst (λ n. length x.self.tables.now.lists.places ≤ 64 * n * 2 ^ x.k) (sym c.loop-next.invariant.len) c.requires.words in
     (div-lt_iff_lt-mul (pow_pos c.args.k)).1 (omega (arith, within, words))
@@ -80,17 +74,15 @@ pub loop-next-smaller : goal.loop-next-smaller
 loop-next-smaller c =
     let x = c.args in
     let at = (goal.at.loop-next-smaller c).In-Some in
-    let after = after_is x.self.space.now x.self.buddy.now x.self.tables.now x.self.tenant x.c x.k c.in-Some.slab c.in-Some.node (here at) c.lists.result.now.places c.after-next.result
-    (ap (λ l. l.places) c.lists.ensures) c.after-next.ensures in
+    let after = after_is (here at) c.lists.result.now.places c.after-next.result (ap (λ l. l.places) c.lists.ensures) c.after-next.ensures in
     subst (λ o. left c.after-next.result < left o) (sym c.in-Some.is)
-    (left_less x.self.space.now x.self.buddy.now x.self.tables.now x.self.tenant x.c x.k c.in-Some.slab c.in-Some.node (here at) c.after-next.result (small at) after)
+    (left_less (here at) c.after-next.result (small at) after)
 
 pub loop-next-preserved : goal.loop-next-preserved
 loop-next-preserved c =
     let x = c.args in
     let at = (goal.at.loop-next-preserved c).In-Some in
-    let after = after_is x.self.space.now x.self.buddy.now x.self.tables.now x.self.tenant x.c x.k c.in-Some.slab c.in-Some.node (here at) c.lists.result.now.places c.after-next.result
-    (ap (λ l. l.places) c.lists.ensures) c.after-next.ensures in
+    let after = after_is (here at) c.lists.result.now.places c.after-next.result (ap (λ l. l.places) c.lists.ensures) c.after-next.ensures in
     let block : ℕ = c.in-Some.slab / 2 ^ x.k in
     elim c.if-not-has_block.branch [
       | then-not-has_block+else-is_unused_block a ↦
@@ -98,13 +90,13 @@ loop-next-preserved c =
           λ unused. false≢true (sym a.if-is_unused_block.false
           ∙ a.is_unused_block.ensures.1 (subst (λ f. IsUnusedBlock x.self.space.now x.self.buddy.now x.self.tables.now x.self.tenant f x.k) (sym (first_is at)) unused)) in
           record {
-            searched = goes_on x.self.space.now x.self.buddy.now x.self.tables.now x.self.tenant x.c x.k c.in-Some.slab c.in-Some.node (here at) c.after-next.result none after;
+            searched = goes_on (here at) c.after-next.result none after;
             len = ap length a.refused-is ∙ (a.add_block.ensures.len ∙ c.loop-next.invariant.len);
             refused = λ n. subst (λ ws. has_number ws n ≡ true → IsUnusedBlock x.self.space.now x.self.buddy.now x.self.tables.now x.self.tenant (n * 2 ^ x.k) x.k → ⊥) (sym a.refused-is)
                 (refused_more x.self.space.now x.self.buddy.now x.self.tables.now x.self.tenant x.k (has_number c.loop-next.refused) _ block c.loop-next.invariant.refused a.add_block.ensures.has none n);
           }
       | else-not-has_block a ↦ record {
-        searched = goes_on x.self.space.now x.self.buddy.now x.self.tables.now x.self.tenant x.c x.k c.in-Some.slab c.in-Some.node (here at) c.after-next.result
+        searched = goes_on (here at) c.after-next.result
             (c.loop-next.invariant.refused block (sym c.has_block.ensures ∙ a.if-not-has_block.false)) after;
         len = ap length a.refused-is ∙ c.loop-next.invariant.len;
         refused = λ n. subst (λ ws. has_number ws n ≡ true → IsUnusedBlock x.self.space.now x.self.buddy.now x.self.tables.now x.self.tenant (n * 2 ^ x.k) x.k → ⊥) (sym a.refused-is)
