@@ -2,7 +2,7 @@
 use Rattle.promise_core.specs.Bytes.{Holder, Cell}
 use Rattle.judge_core.specs.declared.holder.RangeHolder.{RangeHolder}
 use Rattle.judge_core.specs.declared.holder.RangeHolder.TheVariants as Of
-use Rattle.judge_core.specs.declared.bytes.LeftByte.{LeftByte}
+use Rattle.judge_core.specs.declared.holder.LeftByte.{LeftByte}
 
 abbrev pub shown_holder : RangeHolder → Holder
 shown_holder Of.Page = Holder.Page

@@ -31,7 +31,7 @@ impl Model for FrameBlock {
 }
 
 impl FrameBlock {
-    /// The `2^order` frames from `first` on.
+    /// Returns the `2^order` frames from `first` on.
     pub fn new(first: u32, order: u8) -> FrameBlock
         requires { order ≤ MOST_ORDER }
         ensures { result ≡ block first order }
@@ -39,7 +39,7 @@ impl FrameBlock {
         FrameBlock { first, order }
     }
 
-    /// The aligned block of this order that has the frame.
+    /// Returns the aligned block of this order that has the frame.
     pub fn around(frame: u32, order: u8) -> FrameBlock
         requires { order ≤ MOST_ORDER }
         ensures { result ≡ around frame order }
@@ -51,7 +51,7 @@ impl FrameBlock {
         }
     }
 
-    /// The aligned block of this order with this number, where the one of number 0 begins at frame 0.
+    /// Returns the aligned block of this order with this number; number 0 begins at frame 0.
     pub fn numbered(number: u32, order: u8) -> FrameBlock
         requires number { number < 2 ^ 24 }
         requires order { order ≤ MOST_ORDER }
@@ -63,7 +63,7 @@ impl FrameBlock {
         }
     }
 
-    /// The whole of a slot of `2^order` frames.
+    /// Returns the whole of a slot of `2^order` frames.
     pub fn of_slot(order: u8, slot: u16) -> FrameBlock
         requires { order ≤ MOST_ORDER }
         ensures { result ≡ slot_block order slot }
@@ -74,14 +74,14 @@ impl FrameBlock {
         }
     }
 
-    /// The first frame.
+    /// Returns the first frame.
     pub fn first(&self) -> u32
         ensures { result ≡ self.now.first }
     {
         self.first
     }
 
-    /// The block has `2^order` frames.
+    /// Returns the block has `2^order` frames.
     pub fn order(&self) -> u8
         ensures value { result ≡ self.now.order }
         ensures most { result ≤ MOST_ORDER }
@@ -89,7 +89,7 @@ impl FrameBlock {
         self.order
     }
 
-    /// The frame behind the last.
+    /// Returns the frame behind the last.
     pub(crate) fn end(&self) -> u64
         ensures value { result ≡ self.now.first + 2 ^ self.now.order }
         ensures small { result < 2 ^ 33 }
@@ -97,7 +97,7 @@ impl FrameBlock {
         u64::from(self.first) + (1u64 << self.order)
     }
 
-    /// The first byte.
+    /// Returns the first byte.
     pub fn first_byte(&self) -> u64
         ensures value { result ≡ FRAME_BYTES * self.now.first }
         ensures small { result < 2 ^ 44 }
@@ -105,7 +105,7 @@ impl FrameBlock {
         u64::from(FRAME_BYTES) * u64::from(self.first)
     }
 
-    /// The byte behind the last.
+    /// Returns the byte behind the last.
     pub fn end_byte(&self) -> u64
         ensures value { result ≡ FRAME_BYTES * (self.now.first + 2 ^ self.now.order) }
         ensures small { result < 2 ^ 45 }
@@ -113,14 +113,14 @@ impl FrameBlock {
         u64::from(FRAME_BYTES) * self.end()
     }
 
-    /// Whether the blocks share a frame.
+    /// Returns whether the blocks share a frame.
     pub fn overlaps(&self, other: &FrameBlock) -> bool
         ensures { result ≡ overlaps self.now other.now }
     {
         u64::from(self.first()) < other.end() && u64::from(other.first()) < self.end()
     }
 
-    /// Whether the `len` bytes from a place on lie inside.
+    /// Returns whether the `len` bytes from a place on lie inside.
     pub fn has_range(&self, place: u32, len: u32) -> bool
         ensures { result ≡ within_block place len self.now }
     {

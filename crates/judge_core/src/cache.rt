@@ -78,7 +78,7 @@ impl HeldCache {
         }
     }
 
-    /// The object that begins at the place is handed out. Fails where memory runs out, and then nothing is changed.
+    /// Adds the object that begins at the place. Fails if memory runs out, and then nothing is changed.
     pub(crate) fn take(&mut self, place: u32) -> Result<(), AllocError>
         ensures taken { IfOk result (λ _. self.new ≡ record self.old { live = put_rising (λ p. p) place self.old.live }) }
         ensures kept { OnErr result (self.new ≡ self.old) }
@@ -87,21 +87,21 @@ impl HeldCache {
         Ok(())
     }
 
-    /// The object that begins at the place is given back.
+    /// Removes the object that begins at the place.
     pub(crate) fn give(&mut self, place: u32)
         ensures { self.new ≡ record self.old { live = filter (λ p. not (p == place)) self.old.live } }
     {
         remove(&mut self.live, place);
     }
 
-    /// The number of the cache.
+    /// Returns the number of the cache.
     pub fn number(&self) -> u8
         ensures { result ≡ self.now.number }
     {
         self.number
     }
 
-    /// The bytes of an object, 1 to `MOST_SIZE`.
+    /// Returns the bytes of an object, 1 to `MOST_SIZE`.
     pub fn size(&self) -> u32
         ensures value { result ≡ self.now.size }
         ensures some { 1 ≤ result }
@@ -110,7 +110,7 @@ impl HeldCache {
         self.size
     }
 
-    /// The first places of the live objects, rising.
+    /// Returns the first places of the live objects, rising.
     pub fn live(&self) -> &[u32]
         ensures { result.now ≡ self.now.live }
     {
@@ -125,28 +125,28 @@ impl HeldCache {
         self.order
     }
 
-    /// Whether the cache has a live object.
+    /// Returns whether the cache has a live object.
     pub fn is_in_use(&self) -> bool
         ensures { result ≡ nat_lt 0 (length self.now.live) }
     {
         !self.live.is_empty()
     }
 
-    /// Whether a live object begins at the place.
+    /// Returns whether a live object begins at the place.
     pub fn has_live(&self, place: u32) -> bool
         ensures { result ≡ list_any (λ p. p == place) self.now.live }
     {
         with_key(&self.live, place).is_some()
     }
 
-    /// The slab that an object at this place is in.
+    /// Returns the slab that an object at this place is in.
     pub fn slab_around(&self, place: u32) -> FrameBlock
         ensures { result ≡ slab_around self.now place }
     {
         FrameBlock::around(place / FRAME_BYTES, self.order)
     }
 
-    /// Whether the slab of a live object shares a frame with the block.
+    /// Returns whether the slab of a live object shares a frame with the block.
     pub fn has_slab_over(&self, block: &FrameBlock) -> bool
         ensures { result ≡ list_any (λ p. overlaps block.now (slab_around self.now p)) self.now.live }
     {
@@ -157,7 +157,7 @@ impl HeldCache {
         }
     }
 
-    /// The live objects of the slab that has the place, rising.
+    /// Returns the live objects of the slab that has the place, rising.
     pub fn beside(&self, place: u32) -> &[u32]
         ensures { result.now ≡ live_beside self.now place }
     {
@@ -170,21 +170,21 @@ impl HeldCache {
         )
     }
 
-    /// Whether all objects of the slab that has the place are live.
+    /// Returns whether all objects of the slab that has the place are live.
     fn is_slab_full(&self, place: u32) -> bool
         ensures { result ≡ is_slab_full self.now place }
     {
         self.beside(place).len() == self.count as usize
     }
 
-    /// Whether all objects of all slabs that have a live one are live.
+    /// Returns whether all objects of all slabs that have a live one are live.
     pub fn is_full(&self) -> bool
         ensures { result ≡ list_all (is_slab_full self.now) self.now.live }
     {
         self.live.iter().all(|place| self.is_slab_full(*place))
     }
 
-    /// The first place of the live object that has the `len` bytes from `place` on.
+    /// Returns the first place of the live object that has the `len` bytes from `place` on.
     pub fn object_with(&self, place: u32, len: u32) -> Option<u32>
         ensures { result ≡ find (λ first. is_within place len first self.now.size) self.now.live }
     {
@@ -194,7 +194,7 @@ impl HeldCache {
         first_within(&self.live, low, u64::from(place) + 1).copied()
     }
 
-    /// Whether an object at the place shares no byte with these.
+    /// Returns whether an object at the place shares no byte with these.
     fn is_apart(&self, place: u32, beside: &[u32]) -> bool
         ensures { result ≡ list_all (are_apart self.now place) beside.now }
     {
@@ -208,21 +208,21 @@ impl HeldCache {
         u64::from(p) + size <= u64::from(q) || u64::from(q) + size <= u64::from(p)
     }
 
-    /// Whether an object may begin at the place by its alignment.
+    /// Returns whether an object may begin at the place by its alignment.
     pub fn is_aligned(&self, place: u32) -> bool
         ensures { result ≡ (place % self.now.align == 0) }
     {
         place % self.align == 0
     }
 
-    /// How many objects a slab has.
+    /// Returns how many objects a slab has.
     pub fn count(&self) -> u32
         ensures { result ≡ self.now.count }
     {
         self.count
     }
 
-    /// Whether these live objects of the slab that has the place are such as a slab has whose object `i` is at the place.
+    /// Returns whether a slab whose object `i` is at the place can have these live objects.
     fn is_on_grid(&self, place: u32, i: u32, beside: &[u32]) -> bool
         requires { i < self.now.count }
         ensures { result ≡ (nat_le (i * self.now.chunk) place
@@ -232,7 +232,7 @@ impl HeldCache {
         before <= place && self.is_grid(place, place - before, beside)
     }
 
-    /// Whether they are such as a slab has whose first object is at `origin`.
+    /// Returns whether a slab whose first object is at `origin` can have them.
     #[tactic(auto, using(crate::proofs::Lists::inside_slab))]
     fn is_grid(&self, place: u32, origin: u32, beside: &[u32]) -> bool
         ensures { result ≡ is_grid self.now (slab_around self.now place) origin beside.now }
@@ -241,7 +241,7 @@ impl HeldCache {
         slab.has_range(origin, self.objects_bytes()) && self.are_steps(origin, beside)
     }
 
-    /// How many bytes there are from the first object of a slab to the end of the last.
+    /// Returns how many bytes there are from the first object of a slab to the end of the last.
     fn objects_bytes(&self) -> u32
         ensures value { result ≡ (self.now.count - 1) * self.now.chunk + self.now.size }
         ensures small { result < 2 ^ 21 }
@@ -249,7 +249,7 @@ impl HeldCache {
         (self.count - 1) * self.chunk + self.size
     }
 
-    /// Whether each of these is an object of a slab whose first object is at `origin`.
+    /// Returns whether each of these is an object of a slab whose first object is at `origin`.
     fn are_steps(&self, origin: u32, beside: &[u32]) -> bool
         ensures { result ≡ list_all (λ p. nat_le origin p && ((p - origin) % self.now.chunk == 0
             && nat_lt ((p - origin) / self.now.chunk) self.now.count)) beside.now }
@@ -257,7 +257,7 @@ impl HeldCache {
         beside.iter().all(|p| self.is_step(origin, *p))
     }
 
-    /// Whether an object begins at the place in a slab whose first object is at `origin`.
+    /// Returns whether an object begins at the place in a slab whose first object is at `origin`.
     fn is_step(&self, origin: u32, place: u32) -> bool
         ensures { result ≡ (nat_le origin place
             && ((place - origin) % self.now.chunk == 0 && nat_lt ((place - origin) / self.now.chunk) self.now.count)) }
@@ -267,8 +267,8 @@ impl HeldCache {
             && (place - origin) / self.chunk < self.count
     }
 
-    /// An object at the place, of a slab that lies inside the one that has the place, has none but these numbers: from the first
-    /// on, before the second.
+    /// Returns which numbers an object at the place can have in a slab inside the one that has the place: from the first on,
+    /// before the second.
     fn numbers_at(&self, place: u32) -> (u32, u32)
         ensures most { result.1 ≤ self.now.count }
         ensures others { (i : ℕ) → i < self.now.count → IsObjectAt self.now place i → (result.0 ≤ i) × (i < result.1) }
@@ -282,7 +282,7 @@ impl HeldCache {
         (low.min(count) as u32, high.min(count) as u32)
     }
 
-    /// Whether these live objects of the slab that has the place are such as a slab has with some object at the place.
+    /// Returns whether a slab with some object at the place can have these live objects.
     fn is_on_some_grid(&self, place: u32, beside: &[u32]) -> bool
         ensures { result ≡ is_any_below (λ i. nat_le (i * self.now.chunk) place
             && is_grid self.now (slab_around self.now place) (place - i * self.now.chunk) beside.now) self.now.count }
@@ -296,7 +296,7 @@ impl HeldCache {
         false
     }
 
-    /// Whether the slab that has the place, whose live objects these are, has room for one more there.
+    /// Returns whether the slab that has the place, whose live objects these are, can have one more there.
     pub(crate) fn has_gap_among(&self, place: u32, beside: &[u32]) -> bool
         ensures { result ≡ (nat_lt (length beside.now) self.now.count
             && (list_all (are_apart self.now place) beside.now && is_any_below (λ i. nat_le (i * self.now.chunk) place
@@ -307,7 +307,7 @@ impl HeldCache {
             && self.is_on_some_grid(place, beside)
     }
 
-    /// The byte of a fresh object this far from its first.
+    /// Returns the byte of a fresh object `offset` bytes behind its first.
     pub fn fresh_byte(&self, offset: u32) -> u8
         ensures { result ≡ pattern_byte self.now.pattern offset }
     {
@@ -315,7 +315,7 @@ impl HeldCache {
     }
 }
 
-/// The byte of the pattern, over and over, this far from its first; 0 where it has none.
+/// Returns the byte of the repeated pattern at this offset, 0 if the pattern is empty.
 fn byte_of_pattern(pattern: &[u8], offset: u32) -> u8
     ensures { result ≡ pattern_byte pattern.now offset }
 {
@@ -325,12 +325,12 @@ fn byte_of_pattern(pattern: &[u8], offset: u32) -> u8
     pattern[offset as usize % pattern.len()]
 }
 
-/// The same bytes.
-fn copy_of(pattern: &ArrayVec<u8, MOST_PATTERN>) -> ArrayVec<u8, MOST_PATTERN>
-    ensures { result.items ≡ pattern.now.items }
+/// Returns a copy of the items.
+pub fn copy_of<T: Copy + Default + Drop, const N: usize>(items: &ArrayVec<T, N>) -> ArrayVec<T, N>
+    ensures { result.items ≡ items.now.items }
 {
     let mut copy = ArrayVec::new();
-    let taken = copy.try_extend_from_slice(pattern.as_slice());
+    let taken = copy.try_extend_from_slice(items.as_slice());
     prove!(taken.is_ok());
     copy
 }

@@ -44,35 +44,35 @@ impl Model for Held {
 }
 
 impl Held {
-    /// The held slots, rising.
+    /// Returns the held slots, rising.
     pub fn slots(&self) -> &[u16]
         ensures { result.now ≡ self.now.slots }
     {
         self.slots.as_slice()
     }
 
-    /// The live page blocks, by rising first frame.
+    /// Returns the live page blocks, by rising first frame.
     pub fn pages(&self) -> &[FrameBlock]
         ensures { result.now ≡ self.now.pages }
     {
         self.pages.as_slice()
     }
 
-    /// The caches, by rising number.
+    /// Returns the caches, by rising number.
     pub fn caches(&self) -> &[HeldCache]
         ensures { result.now ≡ self.now.caches }
     {
         self.caches.as_slice()
     }
 
-    /// Whether the tenant holds the slot.
+    /// Returns whether the tenant holds the slot.
     pub fn has_slot(&self, slot: u32) -> bool
         ensures { result ≡ has_slot self.now slot }
     {
         self.slots.iter().any(|held| u32::from(*held) == slot)
     }
 
-    /// The slot of this number, if the tenant holds it.
+    /// Returns the slot of this number, if the tenant holds it.
     pub fn held_slot(&self, slot: u32) -> Option<u16>
         ensures { MatchOption result (has_slot self.now slot ≡ false) (λ u. (u ≡ slot) × (has_slot self.now slot ≡ true)) }
     {
@@ -88,7 +88,7 @@ impl Held {
             .find(|held| u32::from(*held) == slot)
     }
 
-    /// Whether a cache may have a slab without live objects, which `hides` tells by its number.
+    /// Returns whether some cache may have a slab without live objects; `hides` says by number which ones may.
     pub fn hides_some(&self, hides: &[bool]) -> bool
         ensures { result ≡ list_any (λ c. slice_index_or hides.now c.number false) self.now.caches }
     {
@@ -97,7 +97,7 @@ impl Held {
             .any(|cache| is_marked(hides, cache.number()))
     }
 
-    /// The order of the live page block that begins at the frame, if one does.
+    /// Returns the order of the live page block that begins at the frame, if one does.
     #[tactic(auto, using(crate::proofs::Lists::order_found))]
     pub fn order_at(&self, frame: u32) -> Option<u8>
         ensures { result ≡ order_in self.now.pages frame }
@@ -108,14 +108,14 @@ impl Held {
         }
     }
 
-    /// The live page block that begins at the frame, if one does.
+    /// Returns the live page block that begins at the frame, if one does.
     pub fn page_at(&self, frame: u32) -> Option<&FrameBlock>
         ensures { option_copied result ≡ find (λ b. b.first == frame) self.now.pages }
     {
         with_key(&self.pages, frame)
     }
 
-    /// The cache of this number.
+    /// Returns the cache of this number.
     pub fn cache(&self, number: u32) -> Option<&HeldCache>
         ensures { option_copied result ≡ cache_told self.now number }
     {
@@ -124,14 +124,14 @@ impl Held {
             .find(|cache| u32::from(cache.number()) == number)
     }
 
-    /// Whether the tenant has as many caches as it may have.
+    /// Returns whether the tenant has as many caches as it may have.
     pub fn has_most_caches(&self) -> bool
         ensures { result ≡ nat_le MOST_CACHES (length self.now.caches) }
     {
         usize::from(MOST_CACHES) <= self.caches.len()
     }
 
-    /// Whether no frame of the block is taken.
+    /// Returns whether no frame of the block is taken.
     #[tactic(auto, using(crate::proofs::Lists::vacant_is))]
     pub fn is_vacant(&self, block: &FrameBlock) -> bool
         ensures { result ≡ is_vacant self.now block.now }
@@ -139,7 +139,7 @@ impl Held {
         !(self.is_in_pages(block) || self.is_in_slabs(block))
     }
 
-    /// Whether a page block shares a frame with the block.
+    /// Returns whether a page block shares a frame with the block.
     fn is_in_pages(&self, block: &FrameBlock) -> bool
         ensures { result ≡ list_any (overlaps block.now) self.now.pages }
     {
@@ -163,21 +163,21 @@ impl Held {
         all_within(&self.pages, first, end, (end - first) as usize)
     }
 
-    /// The first live page block that shares a frame with the block.
+    /// Returns the first live page block that shares a frame with the block.
     pub fn page_over(&self, block: &FrameBlock) -> Option<FrameBlock>
         ensures { result ≡ find (overlaps block.now) self.now.pages }
     {
         self.pages.iter().copied().find(|page| block.overlaps(page))
     }
 
-    /// Whether the slab of a live object shares a frame with the block.
+    /// Returns whether the slab of a live object shares a frame with the block.
     fn is_in_slabs(&self, block: &FrameBlock) -> bool
         ensures { result ≡ list_any (λ c. list_any (λ p. overlaps block.now (slab_around c p)) c.live) self.now.caches }
     {
         self.caches.iter().any(|cache| cache.has_slab_over(block))
     }
 
-    /// Whether a page block or a slab can stand there, where slots have `2^order` frames.
+    /// Returns whether a page block or a slab can lie there, if slots have `2^order` frames.
     #[tactic(auto, unfolding(promise_core::specs::Holdings::can_stand))]
     pub fn can_stand(&self, order: u8, block: &FrameBlock) -> bool
         requires { order ≤ MOST_ORDER }
@@ -189,7 +189,7 @@ impl Held {
             && self.is_vacant(block)
     }
 
-    /// Whether a frame of the slot is taken.
+    /// Returns whether a frame of the slot is taken.
     pub fn is_slot_busy(&self, order: u8, slot: u16) -> bool
         requires { order ≤ MOST_ORDER }
         ensures { result ≡ is_slot_busy order self.now slot }
@@ -197,7 +197,7 @@ impl Held {
         !self.is_vacant(&FrameBlock::of_slot(order, slot))
     }
 
-    /// How many aligned blocks of `2^k` frames of a slot of `2^order` have no taken frame.
+    /// Returns how many aligned blocks of `2^k` frames of a slot of `2^order` have no taken frame.
     fn count_vacant_in(&self, order: u8, k: u8, slot: u16) -> u32
         requires order { order ≤ MOST_ORDER }
         requires k { k ≤ MOST_ORDER }
@@ -213,7 +213,7 @@ impl Held {
         count_clear(&taken, 1 << order) as u32
     }
 
-    /// How many of so many blocks of `2^k` frames from the one of number `begin` on have no taken frame.
+    /// Returns how many of `blocks` blocks of `2^k` frames from the one of number `begin` on have no taken frame.
     fn count_vacant_from(&self, k: u8, begin: u32, blocks: u32) -> u32
         requires k { k ≤ MOST_ORDER }
         requires end { begin + blocks ≤ 2 ^ 24 }
@@ -229,7 +229,7 @@ impl Held {
         count
     }
 
-    /// How many aligned blocks of `2^k` frames of held slots of `2^order` have no taken frame.
+    /// Returns how many aligned blocks of `2^k` frames of held slots of `2^order` have no taken frame.
     pub fn count_vacant(&self, order: u8, k: u8) -> u128
         requires order { order ≤ MOST_ORDER }
         requires k { k ≤ MOST_ORDER }
@@ -242,7 +242,7 @@ impl Held {
         count
     }
 
-    /// Whether a block of `2^k` frames can stand somewhere.
+    /// Returns whether there is room for a block of `2^k` frames.
     pub fn has_room(&self, order: u8, k: u8) -> bool
         requires order { order ≤ MOST_ORDER }
         requires k { k ≤ MOST_ORDER }
@@ -251,7 +251,7 @@ impl Held {
         self.count_vacant(order, k) > 0
     }
 
-    /// Whether an object of the cache can be handed out at the place.
+    /// Returns whether an object of the cache can be handed out at the place.
     #[tactic(auto, unfolding(promise_core::specs::Holdings::can_be_taken))]
     pub fn can_be_taken(&self, order: u8, cache: &HeldCache, place: u32) -> bool
         requires { order ≤ MOST_ORDER }
@@ -310,10 +310,7 @@ impl Held {
 pub fn is_marked(marks: &[bool], number: u8) -> bool
     ensures { result ≡ slice_index_or marks.now number false }
 {
-    match marks.get(usize::from(number)) {
-        Some(mark) => *mark,
-        None => false,
-    }
+    marks.get(usize::from(number)).copied().unwrap_or(false)
 }
 
 /// Which of these is the cache of this number.

@@ -3,19 +3,16 @@
 #![tactic(auto)]
 
 mod block;
-mod bytes;
 mod cache;
-mod changing;
-mod growing;
 mod held;
 mod holder;
+mod holdings;
 mod layout;
 mod rising;
 mod vacancy;
 
 pub use block::FrameBlock;
-pub use bytes::LeftByte;
-pub use cache::HeldCache;
+pub use cache::{HeldCache, copy_of};
 pub use held::{Held, is_marked};
-pub use holder::RangeHolder;
+pub use holder::{LeftByte, RangeHolder};
 pub use layout::ToldLayout;

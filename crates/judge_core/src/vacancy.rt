@@ -62,7 +62,7 @@ impl Held {
     }
 }
 
-/// How many of the first `blocks` marks are not set.
+/// Returns how many of the first `blocks` marks are not set.
 pub(crate) fn count_clear(taken: &[bool; MOST_FRAMES], blocks: usize) -> usize
     requires { blocks ≤ 256 }
     ensures value { result ≡ length (filter not (take blocks taken.now)) }
@@ -71,7 +71,7 @@ pub(crate) fn count_clear(taken: &[bool; MOST_FRAMES], blocks: usize) -> usize
     taken[..blocks].iter().filter(|mark| !**mark).count()
 }
 
-/// Makes each mark `i` of the first `pairs` tell whether one of the marks `2 * i` and `2 * i + 1` was set.
+/// Sets each mark `i` of the first `pairs` to whether one of the marks `2 * i` and `2 * i + 1` was set.
 fn join_pairs(taken: &mut [bool; MOST_FRAMES], pairs: usize)
     requires { pairs ≤ 128 }
     ensures { (i : ℕ) → i < pairs → slice_index_or taken.new i false

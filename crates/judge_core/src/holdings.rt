@@ -1,6 +1,6 @@
-//! What becomes of a tenant's holdings by answers that add something.
+//! What becomes of a tenant's holdings after an answer.
 
-ghost use Rattle.std.specs.Prelude.{◌≡◌, ◌≤◌, [], None, IfOk, OnErr};
+ghost use Rattle.std.specs.Prelude.{◌≡◌, ◌≤◌, ◌==◌, not, filter, [], None, IfOk, OnErr};
 ghost use Rattle.model_core.specs.declared.limits.TheConstants.{MOST_ORDER, MOST_SUPERBLOCKS};
 ghost use Rattle.model_core.specs.Machine.{put_rising};
 ghost use Rattle.promise_core.specs.Holdings.{cache_told, with_live_places};
@@ -8,12 +8,13 @@ ghost use Rattle.promise_core.specs.Holdings.{cache_told, with_live_places};
 use crate::block::FrameBlock;
 use crate::cache::HeldCache;
 use crate::held::{Held, index_of_cache};
-use crate::rising::put;
+use crate::rising::{put, remove};
 use model_core::limits::MOST_CACHES;
 use std::alloc::{AllocError, Global};
 
 impl Held {
-    /// Nothing, with room for so many slots of `2^order` frames and for what can stand in them.
+    /// Returns empty holdings, with space for `slots` slots of `2^order` frames and all that fits into them. Fails if memory runs
+    /// out.
     pub fn new(alloc: Global, order: u8, slots: u16) -> Result<Held, AllocError>
         requires order { order ≤ MOST_ORDER }
         requires slots { slots ≤ MOST_SUPERBLOCKS }
@@ -28,7 +29,7 @@ impl Held {
         })
     }
 
-    /// The slot is granted. Fails where memory runs out, and then nothing is changed.
+    /// Adds a slot that is granted. Fails if memory runs out, and then nothing is changed.
     pub fn grant(&mut self, slot: u16) -> Result<(), AllocError>
         ensures granted { IfOk result (λ _. self.new ≡ record self.old { slots = put_rising (λ v. v) slot self.old.slots }) }
         ensures kept { OnErr result (self.new ≡ self.old) }
@@ -37,7 +38,7 @@ impl Held {
         Ok(())
     }
 
-    /// The page block is handed out. Fails where memory runs out, and then nothing is changed.
+    /// Adds a page block that is handed out. Fails if memory runs out, and then nothing is changed.
     pub fn alloc(&mut self, block: FrameBlock) -> Result<(), AllocError>
         ensures taken { IfOk result (λ _. self.new ≡ record self.old { pages = put_rising (λ b. b.first) block self.old.pages }) }
         ensures kept { OnErr result (self.new ≡ self.old) }
@@ -47,7 +48,7 @@ impl Held {
         Ok(())
     }
 
-    /// The cache is made. Fails where memory runs out, and then nothing is changed.
+    /// Adds a cache. Fails if memory runs out, and then nothing is changed.
     pub fn make_cache(&mut self, cache: HeldCache) -> Result<(), AllocError>
         requires { cache_told self.old cache.number ≡ None }
         ensures made { IfOk result (λ _.
@@ -58,8 +59,8 @@ impl Held {
         Ok(())
     }
 
-    /// The object of the cache of this number that begins at the place is handed out. Fails where memory runs out, and then
-    /// nothing is changed.
+    /// Adds the object of the cache of this number that begins at the place. Fails if memory runs out, and then nothing is
+    /// changed.
     pub fn take(&mut self, number: u32, place: u32) -> Result<(), AllocError>
         ensures taken { IfOk result (λ _. self.new ≡ with_live_places number (put_rising (λ p. p) place) self.old) }
         ensures kept { OnErr result (self.new ≡ self.old) }
@@ -68,5 +69,44 @@ impl Held {
             Some(i) => self.caches[i].take(place),
             None => Ok(()),
         }
+    }
+
+    /// Removes the page block that begins at the frame.
+    pub fn free(&mut self, frame: u32)
+        ensures { self.new ≡ record self.old { pages = filter (λ b. not (b.first == frame)) self.old.pages } }
+    {
+        remove(&mut self.pages, frame);
+    }
+
+    /// Removes the cache of this number.
+    pub fn destroy(&mut self, number: u32)
+        ensures { self.new ≡ record self.old { caches = filter (λ c. not (c.number == number)) self.old.caches } }
+    {
+        remove(&mut self.caches, number);
+    }
+
+    /// Removes the object of the cache of this number that begins at the place.
+    pub fn give(&mut self, number: u32, place: u32)
+        ensures { self.new ≡ with_live_places number (filter (λ p. not (p == place))) self.old }
+    {
+        if let Some(i) = index_of_cache(&self.caches, number) {
+            self.caches[i].give(place);
+        }
+    }
+
+    /// Removes the slot.
+    pub fn take_back(&mut self, slot: u32)
+        ensures { self.new ≡ record self.old { slots = filter (λ v. not (v == slot)) self.old.slots } }
+    {
+        remove(&mut self.slots, slot);
+    }
+
+    /// Removes everything.
+    pub fn reset(&mut self)
+        ensures { self.new ≡ record { slots = []; pages = []; caches = [] } }
+    {
+        self.slots.clear();
+        self.pages.clear();
+        self.caches.clear();
     }
 }
