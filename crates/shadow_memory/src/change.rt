@@ -15,22 +15,22 @@ use judge_core::{LeftByte, RangeHolder};
 pub(crate) trait Change {
     ghost step: { Self → CellStep };
 
-    /// Changes what is stored of the places from `low` on, before `high`, where the first is `first`.
+    /// Changes what is stored at the indices from `low` on, before `high`; the first place is `first`.
     fn change_places(&self, cells: &mut [KeptByte], first: u64, low: usize, high: usize)
         requires order { low ≤ high }
         requires most { high ≤ length cells.old }
         requires low { first + length cells.old ≤ 2 ^ 32 }
         ensures { IsChanged (step self.now) first low high cells.old cells.new };
 
-    /// Whether something may come to be where nothing was.
+    /// Returns whether it may add something where nothing was.
     fn adds(&self) -> bool
         ensures { result ≡ false → (place : ℕ) → step self.now place None ≡ None };
 
-    /// Whether it surely leaves all as it is where there is this mark.
+    /// Returns whether it surely leaves all places with this mark as they are.
     fn leaves(&self, mark: Mark) -> bool
         ensures { result ≡ true → (place : ℕ) (cell : Option Cell) → IsMarkedAs mark cell → step self.now place cell ≡ cell };
 
-    /// The mark of some places after it, whose mark was this: of all of them, or of any part.
+    /// Returns the mark after it of places that had this mark; `all` is whether it changes all of them, or any part.
     fn mark_after(&self, mark: Mark, all: bool) -> Mark
         ensures changed { (place : ℕ) (cell : Option Cell) → IsMarkedAs mark cell → IsMarkedAs result (step self.now place cell) }
         ensures kept { all ≡ false → (cell : Option Cell) → IsMarkedAs mark cell → IsMarkedAs result cell };
@@ -150,7 +150,7 @@ pub(crate) struct Put<'a> {
 impl<'a> Change for Put<'a> {
     ghost step = { λ d place cell. with_bytes (shown_holder d.holder) d.begin d.bytes.now (λ _. cell) place };
 
-    // It stands apart so that what is known of its ends is not worked out anew for each chunk.
+    // It is a function of its own so that what is known of its ends is not worked out anew for each chunk.
     #[inline(never)]
     fn change_places(&self, cells: &mut [KeptByte], first: u64, low: usize, high: usize) {
         let Put {

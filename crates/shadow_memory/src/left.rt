@@ -15,9 +15,7 @@ use crate::change::{Change, Doubt, Put, Remove};
 use crate::kept::KeptByte;
 use crate::slot::SlotBytes;
 use crate::slots::{change_slots, drop_slot, kept_from, left_in, places_of};
-use crate::tests_of_holders::{
-    IsElse, IsInNoSlab, IsNoPage, IsNotBeside, IsObject, IsOfCache, IsPage,
-};
+use crate::tests_of_holders::{Fails, IsInNoSlab, IsNotBeside, IsObject, IsOfCache, IsPage};
 use judge_core::{FrameBlock, Held, LeftByte, RangeHolder};
 use std::alloc::{AllocError, Global};
 use std::marker::Model;
@@ -45,7 +43,7 @@ impl Model for ShadowMemory {
 }
 
 impl ShadowMemory {
-    /// Nothing, of no slot; slots have `2^order` frames.
+    /// Returns shadow memory of no slot; slots have `2^order` frames.
     pub fn new(alloc: Global, order: u8) -> ShadowMemory
         requires { order ≤ MOST_ORDER }
         ensures { result ≡ record { order = order; slots = [] } }
@@ -57,7 +55,7 @@ impl ShadowMemory {
         }
     }
 
-    /// Slots have `2^order` frames.
+    /// Returns the order of a slot, which has `2^order` frames.
     pub fn order(&self) -> u8
         ensures value { result ≡ self.now.order }
         ensures most { result ≤ MOST_ORDER }
@@ -65,7 +63,7 @@ impl ShadowMemory {
         self.order
     }
 
-    /// The slot, which is not held, is granted: nothing was left in it. Fails where memory runs out, and then nothing is changed.
+    /// Adds a slot that is not held: nothing was left in it. Fails if memory runs out, and then nothing is changed.
     pub fn grant(&mut self, slot: u16) -> Result<(), AllocError>
         requires new { list_any (λ v. v == slot) (left_slots self.old) ≡ false }
         requires low { (slot + 1) * 2 ^ self.old.order * FRAME_BYTES ≤ 2 ^ 32 }
@@ -78,7 +76,7 @@ impl ShadowMemory {
         Ok(())
     }
 
-    /// The slot is taken back: what was left in it is gone, and its memory is given back.
+    /// Removes the slot with what was left in it.
     pub fn take_back(&mut self, slot: u32)
         ensures { Becomes self.old (filter (λ v. not (v == slot)) (left_slots self.old))
             (without (λ place holder. slot_of self.old.order place == slot)) self.new }
@@ -86,14 +84,14 @@ impl ShadowMemory {
         drop_slot(&mut self.slots, slot);
     }
 
-    /// All slots are taken back.
+    /// Removes all slots.
     pub fn reset(&mut self)
         ensures { self.new ≡ record self.old { slots = [] } }
     {
         self.slots.clear();
     }
 
-    /// These bytes of the holder are told or written, from a place on, all of them in slots that the tenant holds.
+    /// Stores bytes of the holder that are read or written from a place on, all of them in slots that the tenant holds.
     pub fn put(&mut self, holder: RangeHolder, place: u32, bytes: &[u8])
         requires held { (j : ℕ) → j < length bytes.now → has_place self.old (place + j) ≡ true }
         requires near { (number first : ℕ) → shown_holder holder ≡ Holder.Object number first → first ≤ place }
@@ -110,15 +108,15 @@ impl ShadowMemory {
         change_slots(&mut self.slots, self.order, begin, end, &put);
     }
 
-    /// The page block is handed out: what was left of objects in it is gone.
+    /// Follows an alloc of the page block: what was left of objects in it is gone.
     pub fn alloc(&mut self, block: &FrameBlock)
         ensures { Becomes self.old (left_slots self.old)
             (without (λ place holder. in_block place block.now && not (is_same Holder.Page holder))) self.new }
     {
-        self.change(block.first_byte(), block.end_byte(), &Remove(IsNoPage));
+        self.change(block.first_byte(), block.end_byte(), &Remove(Fails(IsPage)));
     }
 
-    /// The page block is freed: what was left in it is in doubt.
+    /// Follows a free of the page block: what was left in it is in doubt.
     pub fn free(&mut self, block: &FrameBlock)
         ensures { Becomes self.old (left_slots self.old)
             (doubted (λ place holder. in_block place block.now && is_same Holder.Page holder)) self.new }
@@ -126,7 +124,7 @@ impl ShadowMemory {
         self.change(block.first_byte(), block.end_byte(), &Doubt(IsPage));
     }
 
-    /// The object of the cache of this number that begins at `first` is given back: what was left of it is in doubt.
+    /// Follows a give of the object of the cache of this number that begins at `first`: what was left of it is in doubt.
     pub fn give(&mut self, number: u32, first: u32)
         ensures { Becomes self.old (left_slots self.old) (doubted (λ place. is_same (Holder.Object number first))) self.new }
     {
@@ -135,21 +133,20 @@ impl ShadowMemory {
         self.change(begin, end, &Doubt(IsObject { number, first }));
     }
 
-    /// An object of `size` bytes of the cache of this number is handed out at `first`, in this slab: what was left there of all
-    /// that can't lie beside it in a slab is gone.
+    /// Follows a take of the object of `size` bytes of the cache of this number at `first`, in this slab: what was left there of
+    /// all that can't lie beside it in a slab is gone.
     pub fn take(&mut self, slab: &FrameBlock, number: u8, first: u32, size: u32)
         ensures { (c : ToldCache) → c.number ≡ number → c.size ≡ size → slab_around c first ≡ slab.now
             → Becomes self.old (left_slots self.old) (with_object first (Some c)) self.new }
     {
         // all of other caches goes; of its own cache only an object goes that begins before its end and ends behind its first byte
+        let own = u32::from(number);
         let low = u64::from(first.saturating_sub(size));
-        let high = (u64::from(first) + u64::from(size)).saturating_add(reach_of(
-            &self.reach,
-            u32::from(number),
-        ));
+        let end_of_own = u64::from(first) + u64::from(size);
+        let high = end_of_own.saturating_add(reach_of(&self.reach, own));
         let begin = slab.first_byte();
         let end = slab.end_byte();
-        self.change(begin, end, &Remove(IsElse { number }));
+        self.change(begin, end, &Remove(Fails(IsOfCache { number: own })));
         let test = IsNotBeside {
             number,
             first,
@@ -158,21 +155,21 @@ impl ShadowMemory {
         self.change(begin.max(low), end.min(high), &Remove(test));
     }
 
-    /// The cache of this number is destroyed: what was left of its objects is gone.
+    /// Follows a destroy of the cache of this number: what was left of its objects is gone.
     pub fn destroy(&mut self, number: u32)
         ensures { Becomes self.old (left_slots self.old) (without (λ place. is_object (λ n p. n == number))) self.new }
     {
         self.change(0, 1u64 << 32, &Remove(IsOfCache { number }));
     }
 
-    /// Empty slabs may have been given back: what was left of objects that no slab has which has a live one is gone.
+    /// Follows a reap: what was left of objects outside the slabs that have a live one is gone.
     pub fn reap(&mut self, held: &Held)
         ensures { Becomes self.old (left_slots self.old) (without (λ place. is_object (is_in_no_slab held.now))) self.new }
     {
         self.change(0, 1u64 << 32, &Remove(IsInNoSlab { held }));
     }
 
-    /// What was left at a place, of a slot that the tenant holds.
+    /// Returns what was left at a place, if anything was, in a slot that the tenant holds.
     pub fn at(&self, place: u32) -> Option<LeftByte>
         ensures { option_map shown_cell result ≡ left_at self.now place }
     {
@@ -186,7 +183,7 @@ impl ShadowMemory {
         kept_from(&self.slots, self.order, place)
     }
 
-    /// The places of its slots are below `2^32`.
+    /// Returns the places of its slots are below `2^32`.
     pub(crate) fn places_are_low(&self)
         ensures { (place : ℕ) → has_place self.now place ≡ true → place < 2 ^ 32 }
     {
@@ -203,17 +200,14 @@ impl ShadowMemory {
     }
 }
 
-/// The reach of this number, 0 where there is none.
+/// Returns the reach of this number, 0 if there is none.
 fn reach_of(reach: &[u64; 256], number: u32) -> u64
     ensures { result ≡ slice_index reach.now number }
 {
-    match reach.get(number as usize) {
-        Some(reach) => *reach,
-        None => 0,
-    }
+    reach.get(number as usize).copied().unwrap_or(0)
 }
 
-/// Makes the reach of the holder's cache such that bytes of it may lie before `end`.
+/// Raises the reach of the holder's cache so that bytes of the holder may lie before `end`.
 fn extend_reach(reach: &mut [u64; 256], holder: RangeHolder, end: u64)
     ensures more { (n : ℕ) → slice_index reach.old n ≤ slice_index reach.new n }
     ensures near { (number first : ℕ) → shown_holder holder ≡ Holder.Object number first

@@ -40,7 +40,7 @@ impl Mark {
         sure: true,
     };
 
-    /// The same, or bytes of the holder that are surely there.
+    /// Returns the same, or bytes of the holder that are surely there.
     pub fn with(self, holder: RangeHolder) -> Mark
         ensures more { (cell : Option Cell) → IsMarkedAs self cell → IsMarkedAs result cell }
         ensures owners { MayOwn result.owners (shown_holder holder) }
@@ -89,17 +89,14 @@ fn both(one: RangeHolder, other: RangeHolder) -> Owners
     }
 }
 
-/// The mark of this number; anything may be where there is none.
+/// Returns the mark of this number, or the one that excludes nothing if there is none.
 pub(crate) fn mark_at(marks: &[Mark], number: usize) -> Mark
     ensures { result ≡ slice_index_or marks.now number any_mark }
 {
-    match marks.get(number) {
-        Some(mark) => *mark,
-        None => Mark::ANY,
-    }
+    marks.get(number).copied().unwrap_or(Mark::ANY)
 }
 
-/// Makes this the mark of this number, where there is one.
+/// Sets the mark of this number, if there is one.
 pub(crate) fn set_mark(marks: &mut [Mark], number: usize, mark: Mark)
     ensures { marks.new ≡ slice_set marks.old number mark }
 {

@@ -15,34 +15,7 @@ pub(crate) const CHUNK: usize = 64;
 /// How many places a frame has.
 pub(crate) const FRAME: usize = FRAME_BYTES as usize;
 
-/// Changes those places of a chunk, where its mark does not say that the change leaves them as they are.
-fn change_chunk<C: Change>(
-    cells: &mut [KeptByte],
-    chunks: &mut [Mark],
-    chunk: usize,
-    first: u64,
-    low: usize,
-    high: usize,
-    change: &C,
-)
-    requires order { low ≤ high }
-    requires most { high ≤ length cells.old }
-    requires low { first + length cells.old ≤ 2 ^ 32 }
-    requires begins { chunk * CHUNK ≤ low }
-    requires ends { high ≤ chunk * CHUNK + CHUNK }
-    requires marked { AreMarked CHUNK chunks.old cells.old }
-    ensures changed { IsChanged (C.step change.now) first low high cells.old cells.new }
-    ensures marked { AreMarked CHUNK chunks.new cells.new }
-{
-    let mark = mark_at(chunks, chunk);
-    if change.leaves(mark) {
-        return;
-    }
-    change.change_places(cells, first, low, high);
-    set_mark(chunks, chunk, change.mark_after(mark, high - low == CHUNK));
-}
-
-/// Changes the places of several chunks.
+/// Changes those places, a chunk at a time, and passes over chunks whose marks say that the change leaves them as they are.
 fn change_chunks<C: Change>(
     cells: &mut [KeptByte],
     chunks: &mut [Mark],
@@ -59,43 +32,18 @@ fn change_chunks<C: Change>(
     ensures marked { AreMarked CHUNK chunks.new cells.new }
 {
     for chunk in low / CHUNK..(high + CHUNK - 1) / CHUNK {
+        let mark = mark_at(chunks, chunk);
+        if change.leaves(mark) {
+            continue;
+        }
         let begin = (chunk * CHUNK).max(low);
         let end = (chunk * CHUNK + CHUNK).min(high);
-        change_chunk(cells, chunks, chunk, first, begin, end, change);
+        change.change_places(cells, first, begin, end);
+        set_mark(chunks, chunk, change.mark_after(mark, end - begin == CHUNK));
     }
 }
 
-/// Changes those places of a frame, where its mark does not say that the change leaves them as they are.
-fn change_frame<C: Change>(
-    cells: &mut [KeptByte],
-    chunks: &mut [Mark],
-    frames: &mut [Mark],
-    frame: usize,
-    first: u64,
-    low: usize,
-    high: usize,
-    change: &C,
-)
-    requires order { low ≤ high }
-    requires most { high ≤ length cells.old }
-    requires low { first + length cells.old ≤ 2 ^ 32 }
-    requires begins { frame * FRAME ≤ low }
-    requires ends { high ≤ frame * FRAME + FRAME }
-    requires chunks { AreMarked CHUNK chunks.old cells.old }
-    requires frames { AreMarked FRAME frames.old cells.old }
-    ensures changed { IsChanged (C.step change.now) first low high cells.old cells.new }
-    ensures chunks { AreMarked CHUNK chunks.new cells.new }
-    ensures frames { AreMarked FRAME frames.new cells.new }
-{
-    let mark = mark_at(frames, frame);
-    if change.leaves(mark) {
-        return;
-    }
-    change_chunks(cells, chunks, first, low, high, change);
-    set_mark(frames, frame, change.mark_after(mark, high - low == FRAME));
-}
-
-/// Changes the places of several frames.
+/// Changes those places, a frame at a time, and passes over frames in the same way.
 fn change_frames<C: Change>(
     cells: &mut [KeptByte],
     chunks: &mut [Mark],
@@ -115,13 +63,18 @@ fn change_frames<C: Change>(
     ensures frames { AreMarked FRAME frames.new cells.new }
 {
     for frame in low / FRAME..(high + FRAME - 1) / FRAME {
+        let mark = mark_at(frames, frame);
+        if change.leaves(mark) {
+            continue;
+        }
         let begin = (frame * FRAME).max(low);
         let end = (frame * FRAME + FRAME).min(high);
-        change_frame(cells, chunks, frames, frame, first, begin, end, change);
+        change_chunks(cells, chunks, first, begin, end, change);
+        set_mark(frames, frame, change.mark_after(mark, end - begin == FRAME));
     }
 }
 
-/// Changes the places from `begin` on, before `end`, where the first is `first`.
+/// Changes the places from `begin` on, before `end`; the first place is `first`.
 pub(crate) fn change_range<C: Change>(
     cells: &mut [KeptByte],
     chunks: &mut [Mark],

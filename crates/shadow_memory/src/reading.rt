@@ -13,7 +13,7 @@ use crate::left::ShadowMemory;
 use judge_core::{Held, HeldCache, LeftByte, RangeHolder};
 
 impl ShadowMemory {
-    /// Whether these bytes may be read of the holder from a place on, all of them in slots that the tenant holds.
+    /// Returns whether these bytes may be read of the holder from a place on, all of them in slots that the tenant holds.
     pub fn may_read(&self, held: &Held, holder: RangeHolder, place: u32, bytes: &[u8]) -> bool
         requires { (j : ℕ) → j < length bytes.now → has_place self.now (place + j) ≡ true }
         ensures { result ≡ may_all_be held.now (left_at self.now) (shown_holder holder) place bytes.now }
@@ -22,7 +22,7 @@ impl ShadowMemory {
         self.may_read_all(held, holder, place, bytes)
     }
 
-    // It stands apart so that the loop over the bytes has all registers.
+    // It is a function of its own so that the loop over the bytes has all registers.
     #[inline(never)]
     fn may_read_all(&self, held: &Held, holder: RangeHolder, place: u32, bytes: &[u8]) -> bool
         requires { place + length bytes.now ≤ 2 ^ 32 }
@@ -53,7 +53,7 @@ impl ShadowMemory {
     }
 }
 
-/// The cache whose object the holder is, if it is one.
+/// Returns the cache whose object the holder is, if it is one.
 fn cache_of(held: &Held, holder: RangeHolder) -> Option<&HeldCache>
     ensures { option_copied result ≡ cache_of held.now (shown_holder holder) }
 {
@@ -63,7 +63,7 @@ fn cache_of(held: &Held, holder: RangeHolder) -> Option<&HeldCache>
     }
 }
 
-/// Whether the byte may be read of the holder, whose cache this is, at a place where this was left.
+/// Returns whether the byte may be read of the holder, whose cache this is, at a place where this was left.
 fn may_be_read(
     holder: RangeHolder,
     cache: Option<&HeldCache>,
@@ -82,14 +82,14 @@ fn may_be_read(
     }
 }
 
-/// Whether it is the byte that was left of the holder: then no fresh one is looked up.
+/// Returns whether it is the byte that was left of the holder: then no fresh one is looked up.
 fn is_left(holder: RangeHolder, left: LeftByte, byte: u8) -> bool
     ensures { (fresh : ℕ) → result ≡ true → may_be (shown_holder holder) fresh (Some (shown_cell left)) byte ≡ true }
 {
     left.holder.is_same(&holder) && byte == left.byte
 }
 
-/// The byte that something fresh has at a place of the holder, whose cache this is.
+/// Returns the byte that something fresh has at a place of the holder, whose cache this is.
 fn fresh_byte(holder: RangeHolder, cache: Option<&HeldCache>, place: u32) -> u8
     ensures { (h : Holdings) → option_copied cache.entry ≡ cache_of h (shown_holder holder)
         → result ≡ told_fresh_byte h (shown_holder holder) place }

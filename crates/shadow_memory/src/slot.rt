@@ -44,7 +44,7 @@ impl Model for SlotBytes {
 }
 
 impl SlotBytes {
-    /// A slot of so many places, at which nothing was left.
+    /// Returns a slot with `places` places, at which nothing was left. Fails if memory runs out.
     pub fn fresh(alloc: Global, slot: u16, places: usize) -> Result<SlotBytes, AllocError>
         ensures { IfOk result (λ s. s ≡ record { slot = slot; cells = replicate places None }) }
     {
@@ -57,7 +57,7 @@ impl SlotBytes {
         })
     }
 
-    /// The number of the slot.
+    /// Returns the number of the slot.
     pub fn slot(&self) -> u16
         ensures { result ≡ self.now.slot }
     {
@@ -83,7 +83,7 @@ impl SlotBytes {
         }
     }
 
-    /// Changes what was left at the places from `begin` on, before `end`, where its first place is `first`.
+    /// Changes what was left at the places from `begin` on, before `end`; the first place of the slot is `first`.
     pub fn change<C: Change>(&mut self, first: u64, begin: u64, end: u64, change: &C)
         requires { first + length self.old.cells ≤ 2 ^ 32 }
         ensures slot { self.new.slot ≡ self.old.slot }
@@ -107,7 +107,7 @@ impl SlotBytes {
     }
 }
 
-/// Stores as many of the first places as the change may add something at before `end`, where the first is `first`.
+/// Stores those first places at which the change may add something before `end`; the first place is `first`.
 fn make_room<C: Change>(cells: &mut Vec<KeptByte>, places: usize, first: u64, end: u64, change: &C)
     requires few { length cells.old.items ≤ places }
     requires room { places ≤ vec_capacity cells.old }
@@ -124,7 +124,7 @@ fn make_room<C: Change>(cells: &mut Vec<KeptByte>, places: usize, first: u64, en
     grow(cells, wanted);
 }
 
-/// Makes them so many, if they are fewer: nothing was left at the new ones.
+/// Extends them to `wanted`, if they are fewer: nothing was left at the new ones.
 fn grow(cells: &mut Vec<KeptByte>, wanted: usize)
     requires { wanted ≤ vec_capacity cells.old }
     ensures items { cells.new.items ≡ padded wanted cells.old.items }
@@ -135,12 +135,9 @@ fn grow(cells: &mut Vec<KeptByte>, wanted: usize)
     }
 }
 
-/// What is stored there, nothing where there is no such place.
+/// Returns what is stored at the index, nothing if the index is past the end.
 fn kept_at(cells: &[KeptByte], index: usize) -> KeptByte
     ensures { result ≡ slice_index_or cells.now index Kept.Fresh }
 {
-    match cells.get(index) {
-        Some(kept) => *kept,
-        None => KeptByte::Fresh,
-    }
+    cells.get(index).copied().unwrap_or(KeptByte::Fresh)
 }

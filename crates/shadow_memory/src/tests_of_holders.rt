@@ -17,16 +17,16 @@ use model_core::limits::FRAME_BYTES;
 pub(crate) trait HolderTest {
     ghost test: { Self → Holder → Bool };
 
-    /// Whether it passes.
+    /// Returns whether it passes.
     fn passes(&self, holder: RangeHolder) -> bool
         ensures { result ≡ test self.now (shown_holder holder) };
 
-    /// What it tells of each object of the cache of this number, where it tells the same of all.
+    /// Returns the result for each object of the cache of this number, if it is the same for all.
     fn tells_of_cache(&self, number: u8) -> Option<bool>
         ensures { IfSome result (λ told. (first : ℕ) → test self.now (Holder.Object number first) ≡ told) };
 }
 
-/// What the test tells of each that may be one of these, where it tells the same of all.
+/// Returns the result of the test for each that may be one of these, if it is the same for all.
 fn tells_of<T: HolderTest>(test: &T, owners: Owners) -> Option<bool>
     ensures { IfSome result (λ told. (h : Holder) → MayOwn owners h → T.test test.now h ≡ told) }
 {
@@ -38,7 +38,7 @@ fn tells_of<T: HolderTest>(test: &T, owners: Owners) -> Option<bool>
     }
 }
 
-/// Whether each that may be one of these surely passes.
+/// Returns whether each that may be one of these surely passes.
 pub(crate) fn passes_all<T: HolderTest>(test: &T, owners: Owners) -> bool
     ensures { result ≡ true → (h : Holder) → MayOwn owners h → T.test test.now h ≡ true }
 {
@@ -48,13 +48,32 @@ pub(crate) fn passes_all<T: HolderTest>(test: &T, owners: Owners) -> bool
     }
 }
 
-/// Whether each that may be one of these surely fails.
+/// Returns whether each that may be one of these surely fails.
 pub(crate) fn fails_all<T: HolderTest>(test: &T, owners: Owners) -> bool
     ensures { result ≡ true → (h : Holder) → MayOwn owners h → T.test test.now h ≡ false }
 {
     match tells_of(test, owners) {
         Some(told) => !told,
         None => false,
+    }
+}
+
+/// Passes if the test fails.
+#[derive(Drop)]
+pub(crate) struct Fails<T>(pub T);
+
+impl<T: HolderTest> HolderTest for Fails<T> {
+    ghost test = { λ n holder. not (T.test n.0 holder) };
+
+    fn passes(&self, holder: RangeHolder) -> bool {
+        !self.0.passes(holder)
+    }
+
+    fn tells_of_cache(&self, number: u8) -> Option<bool> {
+        match self.0.tells_of_cache(number) {
+            Some(told) => Some(!told),
+            None => None,
+        }
     }
 }
 
@@ -74,25 +93,6 @@ impl HolderTest for IsPage {
 
     fn tells_of_cache(&self, _number: u8) -> Option<bool> {
         Some(false)
-    }
-}
-
-/// Whether it is no page block.
-#[derive(Drop)]
-pub(crate) struct IsNoPage;
-
-impl HolderTest for IsNoPage {
-    ghost test = { λ _ holder. not (is_same Holder.Page holder) };
-
-    fn passes(&self, holder: RangeHolder) -> bool {
-        match holder {
-            RangeHolder::Page => false,
-            RangeHolder::Object { .. } => true,
-        }
-    }
-
-    fn tells_of_cache(&self, _number: u8) -> Option<bool> {
-        Some(true)
     }
 }
 
@@ -142,27 +142,6 @@ impl HolderTest for IsOfCache {
 
     fn tells_of_cache(&self, number: u8) -> Option<bool> {
         Some(u32::from(number) == self.number)
-    }
-}
-
-/// Whether it is no object of this cache.
-#[derive(Drop)]
-pub(crate) struct IsElse {
-    pub number: u8,
-}
-
-impl HolderTest for IsElse {
-    ghost test = { λ o holder. not (is_object (λ n p. n == o.number) holder) };
-
-    fn passes(&self, holder: RangeHolder) -> bool {
-        match holder {
-            RangeHolder::Page => true,
-            RangeHolder::Object { cache, .. } => cache != self.number,
-        }
-    }
-
-    fn tells_of_cache(&self, number: u8) -> Option<bool> {
-        Some(number != self.number)
     }
 }
 
@@ -223,14 +202,14 @@ impl<'a> HolderTest for IsInNoSlab<'a> {
     }
 }
 
-/// Whether the place is in a slab of a live object of a cache of this number.
+/// Returns whether the place is in a slab of a live object of a cache of this number.
 fn is_in_some_slab(caches: &[HeldCache], number: u8, place: u32) -> bool
     ensures { result ≡ list_any (λ c. c.number == number && list_any (λ q. in_block place (slab_around c q)) c.live) caches.now }
 {
     caches.iter().any(|cache| cache.number() == number && has_slab_at(cache, place))
 }
 
-/// Whether the place is in a slab of a live object.
+/// Returns whether the place is in a slab of a live object.
 fn has_slab_at(cache: &HeldCache, place: u32) -> bool
     ensures { result ≡ list_any (λ q. in_block place (slab_around cache.now q)) cache.now.live }
 {
@@ -240,7 +219,7 @@ fn has_slab_at(cache: &HeldCache, place: u32) -> bool
         .any(|first| is_in_block(place, &cache.slab_around(*first)))
 }
 
-/// Whether the place is in a frame of the block.
+/// Returns whether the place is in a frame of the block.
 fn is_in_block(place: u32, block: &FrameBlock) -> bool
     ensures { result ≡ in_block place block.now }
 {
