@@ -18,11 +18,9 @@ use Rattle.promise_core.specs.State.{State, Known, opening_state, state_after, o
 use Rattle.promise_core.specs.Promises.{is_for, is_no_tenant, named, known_after, verdict, kept, judged, allowed}
 use Rattle.judge.specs.declared.verdict.Failure.{Failure}
 use Rattle.judge.specs.declared.verdict.Failure.TheVariants as Of
-use Rattle.judge.specs.Verdicts.{broken, verdict_on}
+use Rattle.judge.specs.Judged.{broken, verdict_on, failing, tenant_verdict, IsVerdictFor, AreOwnersAfter, IsJudged}
 use Rattle.judge.specs.Seen.{Seen, state_of}
-use Rattle.judge.specs.Machine.{SeenMachine, known_of}
-use Rattle.judge.specs.Sizes.{FitsLimits}
-use Rattle.judge.specs.Judged.{failing, tenant_verdict, IsVerdictFor, AreOwnersAfter, IsJudged}
+use Rattle.judge.specs.Machine.{SeenMachine, known_of, FitsLimits}
 use Rattle.judge.proofs.Owning.{opened}
 use Rattle.judge.proofs.Verdicts.{formless}
 

@@ -18,9 +18,8 @@ use Rattle.promise_core.specs.Promises.{due, first_due}
 use Rattle.promise_core.specs.State.{Known, state_after}
 use Rattle.judge_core.proofs.Lists.{order_found}
 use Rattle.shadow_memory.specs.Left.{left_at}
-use Rattle.judge.specs.Verdicts.{broken}
+use Rattle.judge.specs.Judged.{broken, known_at, tenant_verdict}
 use Rattle.judge.specs.Seen.{Seen, state_of}
-use Rattle.judge.specs.Judged.{known_at, tenant_verdict}
 
 -- A page block
 
@@ -59,10 +58,6 @@ module _ (t number : ℕ) (w : Known) (x : Seen) (o : Option ToldCache) (is : ca
   unfolding due state_after
   taken_if place = ap (λ p. broken ((Promise.Refusals, is_none (first_due ((is_none p, Refusal.NoCache) ∷ [])))
       ∷ (Promise.Objects, option_map_or (λ c. can_be_taken x.left.order x.has c place) p false) ∷ [])) is
-
-  pub due_of_take : first_due ((is_none o, Refusal.NoCache) ∷ []) ≡ due (On.Tenant t (Asked.Take number)) (known_at x w) (state_of x)
-  unfolding due
-  due_of_take = ap (λ p. first_due ((is_none p, Refusal.NoCache) ∷ [])) (sym is)
 
 -- Bytes
 

@@ -1,5 +1,5 @@
 -- What is kept after the answer to each command.
-use Rattle.std.proofs.Common.{◌≡◌, ℕ, ◌<◌, ◌≤◌, Bool, true, false, not, List, [], length, Option, Some, None, Ok, refl, ap, sym, subst, ◌∙◌, arith}
+use Rattle.std.proofs.Common.{◌≡◌, ℕ, ◌<◌, ◌≤◌, Bool, true, false, not, List, [], ◌∷◌, length, Option, Some, None, Ok, refl, ap, sym, subst, ◌∙◌, arith}
 use Rattle.std.specs.Prelude.{◌==◌, ◌&&◌, ◌||◌, filter, nat_lt, slice_index_or}
 use Rattle.std.proofs.lemmas.Bool.{ltb-true, ltb-false, eqb-true}
 use Rattle.std.proofs.lemmas.List.{get_or_past}
@@ -17,8 +17,7 @@ use Rattle.promise_core.specs.Bytes.{Holder, is_same, is_object, with_bytes, dou
 use Rattle.promise_core.specs.Holdings.{ToldCache, Holdings, cache_told, with_live_places}
 use Rattle.promise_core.specs.State.{Known, is_in_use, with_range, with_object, is_in_no_slab, state_after}
 use Rattle.shadow_memory.specs.Left.{Left, left_slots, left_at, Becomes}
-use Rattle.judge.specs.Seen.{Seen, state_of}
-use Rattle.judge.specs.Inside.{AreNumbered}
+use Rattle.judge.specs.Seen.{Seen, state_of, AreNumbered}
 use Rattle.judge.specs.Judged.{tenant_verdict, IsFollowed}
 
 -- a machine of which nothing is known
@@ -191,3 +190,7 @@ all_marked h marks len set n = go (nat_lt n MOST_CACHES) refl
     go : (b : Bool) → nat_lt n MOST_CACHES ≡ b → slice_index_or marks n false ≡ (b && is_in_use (cache_told h n))
     go true lt = set n (ltb-true n MOST_CACHES lt)
     go false ge = let beyond : MOST_CACHES ≤ n = ltb-false n MOST_CACHES ge in get_or_past marks n false (omega (arith, len, beyond))
+
+pub all_pass : {A : Type 0} (xs : List A) → filter (λ x. true) xs ≡ xs
+all_pass [] = refl
+all_pass (x ∷ xs) = ap (λ ys. x ∷ ys) (all_pass xs)

@@ -22,10 +22,8 @@ use Rattle.promise_core.specs.State.{State, Known, opening_state, state_after}
 use Rattle.promise_core.proofs.Steps.{in_put, some_state}
 use Rattle.promise_core.proofs.Laid.{step, grid_step}
 use Rattle.shadow_memory.specs.Left.{left_slots, Becomes}
-use Rattle.judge.specs.Verdicts.{broken, kept_by}
-use Rattle.judge.specs.Seen.{Seen, state_of}
-use Rattle.judge.specs.Inside.{AreNumbered, LieInSlots}
-use Rattle.judge.specs.Judged.{known_at, tenant_verdict, IsFollowed}
+use Rattle.judge.specs.Judged.{broken, kept_by, known_at, tenant_verdict, IsFollowed}
+use Rattle.judge.specs.Seen.{Seen, state_of, AreNumbered, LieInSlots}
 
 -- each promise is kept
 pub all_kept : (ps : List (Promise × Bool)) → broken ps ≡ Ok tt → Each (λ p. p.1 ≡ true) ps

@@ -1,6 +1,5 @@
 -- What is known of a new cache whose layout is allowed.
-use Rattle.std.proofs.Common.{◌≡◌, ℕ, ◌+◌, ◌-◌, ◌*◌, ◌%◌, ◌^◌, ◌≤◌, Bool, true, false, not, ◌&&◌, refl, arith}
-use Rattle.std.proofs.Common.{[], ◌∷◌, Option, Some, None, Ok}
+use Rattle.std.proofs.Common.{◌≡◌, ℕ, ◌+◌, ◌-◌, ◌*◌, ◌%◌, ◌^◌, ◌≤◌, Bool, true, false, not, ◌&&◌, refl, arith, [], ◌∷◌, Option, Some, None, Ok}
 use Rattle.std.specs.Prelude.{if◌then◌else◌, is_none, nat_le, nat_lt, ◌==◌, length}
 use Rattle.std.proofs.lemmas.Bool.{and_parts, leb-true, eqb-true}
 use Rattle.arrayvec.specs.ArrayVec.{ArrayVec}
@@ -14,10 +13,9 @@ use Rattle.promise_core.specs.Holdings.{cache_told}
 use Rattle.promise_core.specs.State.{Known}
 use Rattle.promise_core.specs.Promises.{first_due, due, new_layout}
 use Rattle.judge_core.specs.Inside.{IsToldLayout}
-use Rattle.judge.specs.Verdicts.{kept_by}
+use Rattle.judge.specs.Judged.{kept_by, known_at, tenant_verdict}
 use Rattle.model_core.specs.declared.limits.TheConstants.{MOST_CACHES}
 use Rattle.judge.specs.Seen.{Seen, state_of}
-use Rattle.judge.specs.Judged.{known_at, tenant_verdict}
 use Rattle.judge.proofs.Keeping.{all_kept}
 
 none_is : {X : Type 0} (o : Option X) → is_none o ≡ true → o ≡ None

@@ -1,7 +1,7 @@
 -- Answers that are none to the command.
 use Rattle.std.proofs.Common.{◌≡◌, ℕ, true, false, Option, Some, None, refl}
-use Rattle.words_core.specs.declared.event.AdminCommand.{AdminCommand}
 use Rattle.words_core.specs.declared.event.Command.{Command}
+use Rattle.words_core.specs.declared.event.Event.{Event}
 use Rattle.words_core.specs.declared.report.Report.{Report}
 use Rattle.promise_core.specs.Promises.{named, is_no_tenant}
 use Rattle.arrayvec.specs.ArrayVec.{ArrayVec}
@@ -130,19 +130,15 @@ no_pool_table order s (Say.Owners os) table not_owners = absurd (not_owners os r
 no_pool_table order s (Say.Report r) table not_owners = refl
 no_pool_table order s b table not_owners = absurd (cc)
 
-pub no_admin_table : (t order : ℕ) (s : State) (m : AdminCommand) (b : Body) → named (On.Admin m) ≡ Some t → is_table b ≡ true → state_after order (On.Admin m) b s ≡ None
+pub no_table : (t order : ℕ) (s : State) (e : Event) (b : Body) → named e ≡ Some t → is_table b ≡ true
+    → ((u : ℕ) (m : Command) (r : Report) → e ≡ On.Tenant u m → b ≡ Say.Report r → ⊥) → state_after order e b s ≡ None
 unfolding state_after
-no_admin_table t order s Do.Pool b name table = absurd (cc)
-no_admin_table t order s m (Say.Owners os) name table = refl
-no_admin_table t order s m (Say.Report r) name table = refl
-no_admin_table t order s m b name table = absurd (cc)
-
-pub no_tenant_table : (t order : ℕ) (s : State) (m : Command) (b : Body) → is_table b ≡ true → ((r : Report) → b ≡ Say.Report r → ⊥)
-    → state_after order (On.Tenant t m) b s ≡ None
-unfolding state_after
-no_tenant_table t order s m (Say.Report r) table not_report = absurd (not_report r refl)
-no_tenant_table t order s m (Say.Owners os) table not_report = refl
-no_tenant_table t order s m b table not_report = absurd (cc)
+no_table t order s (On.Tenant u m) (Say.Report r) name table other = absurd (other u m r refl refl)
+no_table t order s (On.Tenant u m) (Say.Owners os) name table other = refl
+no_table t order s (On.Admin Do.Pool) b name table other = absurd (cc)
+no_table t order s (On.Admin m) (Say.Owners os) name table other = refl
+no_table t order s (On.Admin m) (Say.Report r) name table other = refl
+no_table t order s e b name table other = absurd (cc)
 
 pub no_report_asked : (t order : ℕ) (s : State) (m : Command) (r : Report) → (m ≡ Asked.Report → ⊥) → state_after order (On.Tenant t m) (Say.Report r) s ≡ None
 unfolding state_after

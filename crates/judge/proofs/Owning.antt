@@ -22,8 +22,7 @@ use Rattle.promise_core.specs.Holdings.{Holdings, has_slot}
 use Rattle.promise_core.specs.State.{Known, opening_state, state_after, owners_after}
 use Rattle.world_core.specs.World.{given_up}
 use Rattle.shadow_memory.specs.Left.{Left, left_slots, left_at, Becomes}
-use Rattle.judge.specs.Seen.{Seen, state_of}
-use Rattle.judge.specs.Inside.{LieInSlots}
+use Rattle.judge.specs.Seen.{Seen, state_of, LieInSlots}
 use Rattle.judge.specs.declared.verdict.Failure.{Failure}
 use Rattle.judge.specs.Judged.{tenant_verdict, IsFollowed, AreOwnersAfter}
 use Rattle.judge.proofs.Keeping.{kept_all}

@@ -8,7 +8,7 @@ use Rattle.promise_core.proofs.Held.{range_held}
 use Rattle.judge_core.specs.Holders.{shown_holder}
 use Rattle.judge_core.specs.declared.holder.RangeHolder.{RangeHolder}
 use Rattle.shadow_memory.specs.Left.{Left, has_place}
-use Rattle.judge.specs.Inside.{LieInSlots}
+use Rattle.judge.specs.Seen.{LieInSlots}
 
 -- they are in held slots
 pub places_held : (h : Holdings) (left : Left) → LieInSlots h left → (place len : ℕ) (holder : Holder) → holder_of h place len ≡ Some holder

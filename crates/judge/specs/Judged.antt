@@ -1,20 +1,46 @@
--- The verdict on the reply to a command, and what is kept after it.
-use Rattle.std.specs.Prelude.{◌≡◌, true, List, Option, Some, Result, Ok, Err}
+-- Verdicts on the reply to one event, and what is kept after it.
+use Rattle.std.specs.Prelude.{◌≡◌, ℕ, Bool, true, not, List, [], ◌∷◌, drop, Option, Some, None, Result, Ok, Err, is_some, if◌then◌else◌, ◌||◌}
+use Rattle.std.specs.Option.{option_map_or}
 use Rattle.model_core.specs.declared.limits.TheConstants.{MOST_CACHES}
 use Rattle.model_core.specs.declared.owner.Owner.{Owner}
+use Rattle.words_core.specs.Requests.{body_of_answer}
+use Rattle.words_core.specs.declared.answer.Answer.{Answer}
+use Rattle.words_core.specs.declared.answer.Answer.TheVariants as Told
 use Rattle.words_core.specs.declared.event.Event.{Event}
+use Rattle.words_core.specs.declared.reply.Addressee.TheVariants as To
 use Rattle.words_core.specs.declared.reply.Body.{Body}
+use Rattle.words_core.specs.declared.reply.Refusal.{Refusal}
 use Rattle.words_core.specs.declared.reply.Reply.{Reply}
 use Rattle.promise_core.specs.declared.promise.Promise.{Promise}
-use Rattle.promise_core.specs.Promises.{allowed}
-use Rattle.promise_core.specs.State.{Known, state_after, owners_after}
+use Rattle.promise_core.specs.Promises.{allowed, is_one, kept}
+use Rattle.promise_core.specs.State.{State, Known, state_after, owners_after}
 use Rattle.judge.specs.declared.verdict.Failure.{Failure}
 use Rattle.judge.specs.declared.verdict.Failure.TheVariants as Of
-use Rattle.judge.specs.Verdicts.{verdict_on}
 use Rattle.judge.specs.Seen.{Seen, state_of}
-use Rattle.judge.specs.Machine.{SeenMachine, known_of}
+use Rattle.judge.specs.Machine.{SeenMachine, KeepsSizes, known_of}
 use Rattle.judge.specs.Adding.{is_addition, IsAllowedAddition}
-use Rattle.judge.specs.Sizes.{KeepsSizes}
+
+-- that all are kept, or the first promise that is not
+abbrev pub broken : List (Promise × Bool) → Result (Unit {0}) Promise
+broken [] = Ok tt
+broken ((promise, kept) ∷ rest) = if kept then broken rest else Err promise
+
+-- each promise, and whether a reply of this body keeps it that is for whom it has to be
+abbrev pub kept_by : Event → Body → Known → State → List (Promise × Bool)
+kept_by event body w s = (Promise.Form, is_some (state_after w.order event body s))
+    ∷ drop 1 (kept event (record { addressee = To.Nobody; body = body }) w s)
+
+-- the verdict on such a reply
+abbrev pub verdict_on : Event → Body → Known → State → Result (Unit {0}) Promise
+verdict_on event body w s = broken (kept_by event body w s)
+
+-- the verdict on a refusal where `due` has to come, if one has; `full` and `busy` are whether it may be said for want of frames,
+-- and that a slot is busy
+abbrev pub on_refusal : Refusal → Option Refusal → Bool → Bool → Result (Unit {0}) Promise
+on_refusal refusal due full busy = broken (
+    (Promise.Refusals, option_map_or (is_one refusal) due (is_one refusal Refusal.NoFrames || is_one refusal Refusal.SlotBusy))
+    ∷ (Promise.Room, not (is_one refusal Refusal.NoFrames) || full)
+    ∷ (Promise.Busy, not (is_one refusal Refusal.SlotBusy) || busy) ∷ [])
 
 -- the verdict, whatever else comes with it
 abbrev pub only_verdict : {A : Type 0} → Result A Promise → Result (Unit {0}) Promise
@@ -46,6 +72,10 @@ IsVerdictFor event body w old new (Ok _) = IsFollowed event body w old new
 IsVerdictFor event body w old new (Err (Of.Broken promise)) = (tenant_verdict event body w old ≡ Err promise) × (new ≡ old)
 IsVerdictFor event body w old new (Err (Of.Memory error)) =
     ((tenant_verdict event body w old ≡ Ok tt) × (is_addition body ≡ true)) × (new ≡ old)
+
+-- this is no answer to the event, but where it is a refusal
+abbrev pub IsUnfit : Event → Answer → Type 0
+IsUnfit event answer = (order : ℕ) (s : State) → ((r : Refusal) → answer ≡ Told.Refused r → ⊥) → state_after order event (body_of_answer answer) s ≡ None
 
 -- who owns each superblock is as it is after a reply that keeps every promise, and else as before
 abbrev pub AreOwnersAfter : Event → Body → List (Option Owner) → List (Option Owner) → Result (Unit {0}) Failure → Type 0

@@ -1,7 +1,4 @@
-pub mod Verdicts
 pub mod Seen
-pub mod Inside
 pub mod Machine
 pub mod Adding
-pub mod Sizes
 pub mod Judged

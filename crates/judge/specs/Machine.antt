@@ -1,6 +1,6 @@
--- What is kept of a machine, what is known of it, and the verdict on a reply.
-use Rattle.std.specs.Prelude.{◌≡◌, ℕ, List, Option, Result, Ok, Err, map}
-use Rattle.model_core.specs.declared.limits.TheConstants.{MOST_CACHES}
+-- What is kept of a machine, its sizes, what is known of it, and the verdict on a reply.
+use Rattle.std.specs.Prelude.{◌≡◌, ℕ, ◌≤◌, List, Option, Some, Result, Ok, Err, length, map, slice_get}
+use Rattle.model_core.specs.declared.limits.TheConstants.{MOST_CACHES, MOST_ORDER, MOST_SUPERBLOCKS}
 use Rattle.model_core.specs.declared.owner.Owner.{Owner}
 use Rattle.promise_core.specs.declared.promise.Promise.{Promise}
 use Rattle.promise_core.specs.State.{Known}
@@ -23,3 +23,15 @@ ShowsKnown x w = w ≡ known_of x
 abbrev pub IsVerdict : Result (Unit {0}) Promise → Result Known Promise → SeenMachine → Type 0
 IsVerdict (Ok _) allowed new = (after : Known) × (allowed ≡ Ok after) × ShowsKnown new after
 IsVerdict (Err promise) allowed new = allowed ≡ Err promise
+
+-- within the limits, and slots have as many frames at every tenant
+pub record FitsLimits (x : SeenMachine) : Type 0 where
+  pub small : x.order ≤ MOST_ORDER
+  pub few : length x.owners ≤ MOST_SUPERBLOCKS
+  pub ordered : (t : ℕ) (y : Seen) → slice_get x.tenants t ≡ Some y → y.left.order ≡ x.order
+
+-- no size changes
+pub record KeepsSizes (old new : SeenMachine) : Type 0 where
+  pub order : new.order ≡ old.order
+  pub superblocks : length new.owners ≡ length old.owners
+  pub tenants : length new.tenants ≡ length old.tenants

@@ -1,9 +1,13 @@
--- What is kept of a tenant, and its state.
-use Rattle.std.specs.Prelude.{◌≡◌, ℕ, Bool, false, List, Option, slice_index_or}
+-- What is kept of a tenant, its state, and what is true of it.
+use Rattle.std.specs.Prelude.{◌≡◌, ℕ, ◌<◌, ◌≤◌, ◌==◌, Bool, false, List, Option, slice_index_or}
+use Rattle.std.specs.List.{list_any}
+use Rattle.model_core.specs.Elements.{IsIn}
+use Rattle.model_core.specs.declared.limits.TheConstants.{MOST_CACHES, MOST_ORDER}
 use Rattle.words_core.specs.declared.report.Report.{Report}
-use Rattle.promise_core.specs.Holdings.{Holdings}
+use Rattle.promise_core.specs.Lying.{IsLaid, AllGridded}
+use Rattle.promise_core.specs.Holdings.{ToldCache, Holdings, has_slot}
 use Rattle.promise_core.specs.State.{State, opening_state}
-use Rattle.shadow_memory.specs.Left.{Left, left_at}
+use Rattle.shadow_memory.specs.Left.{Left, left_at, left_slots}
 
 -- what is kept of a tenant
 pub record Seen : Type 0 where
@@ -20,3 +24,14 @@ state_of x = record { has = x.has; cells = left_at x.left; hides = λ n. slice_i
 pub record IsOpeningTenant (order : ℕ) (x : Seen) : Type 0 where
   pub sized : x.left.order ≡ order
   pub state : state_of x ≡ opening_state
+
+abbrev pub AreNumbered : Holdings → Type 0
+AreNumbered h = (c : ToldCache) → IsIn c h.caches → c.number < MOST_CACHES
+
+-- what was left is of the held slots; blocks and slabs lie in them, objects in their slabs
+pub record LieInSlots (h : Holdings) (left : Left) : Type 0 where
+  pub sized : left.order ≤ MOST_ORDER
+  pub slots : (u : ℕ) → list_any (λ v. v == u) (left_slots left) ≡ has_slot h u
+  pub laid : IsLaid left.order h
+  pub gridded : AllGridded left.order h
+  pub numbered : AreNumbered h

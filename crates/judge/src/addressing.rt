@@ -1,18 +1,16 @@
 //! Whom an event names, and whom a reply has to be for.
 
 ghost use Rattle.std.specs.Prelude.{◌≡◌, [], ◌∷◌, false};
-ghost use Rattle.words_core.specs.declared.event.Command.{Command as Asked};
-ghost use Rattle.words_core.specs.declared.event.Event.TheVariants as On;
 ghost use Rattle.promise_core.specs.declared.promise.Promise.{Promise};
 ghost use Rattle.promise_core.specs.Promises.{is_for, is_no_tenant, named};
 ghost use Rattle.words_core.specs.Requests.{body_of_answer};
-ghost use Rattle.judge.specs.Verdicts.{broken};
+ghost use Rattle.judge.specs.Judged.{broken};
 
 use crate::verdict::Verdict;
 use promise_core::promise::Promise;
 use words_core::{Addressee, AdminCommand, Answer, Event, Refusal};
 
-/// The tenant that the event names, be there such a tenant or not.
+/// Returns the tenant that the event names, existing or not.
 pub(crate) fn tenant_named(event: &Event) -> Option<u32>
     ensures { result ≡ named event.now }
 {
@@ -26,28 +24,19 @@ pub(crate) fn tenant_named(event: &Event) -> Option<u32>
     }
 }
 
-/// Whether a reply to the event may have this addressee, where the tenant that it names exists or not.
+/// Returns whether a reply to the event may have this addressee, if the tenant that it names exists or not.
 pub(crate) fn is_for(event: &Event, exists: bool, addressee: Addressee) -> bool
     ensures { result ≡ is_for event.now exists addressee }
 {
-    match event {
-        Event::Tenant(t, _) => is_for_tenant(*t, exists, addressee),
-        Event::Admin(_) => matches!(addressee, Addressee::Admin),
+    match (event, addressee) {
+        (Event::Tenant(t, _), Addressee::Tenant(named)) => exists && u32::from(named) == *t,
+        (Event::Tenant(_, _), Addressee::Nobody) => !exists,
+        (Event::Admin(_), Addressee::Admin) => true,
+        _ => false,
     }
 }
 
-/// Whether a reply to a command of tenant `t`, which exists or not, may have this addressee.
-fn is_for_tenant(t: u32, exists: bool, addressee: Addressee) -> bool
-    ensures { (command : Asked) → result ≡ is_for (On.Tenant t command) exists addressee }
-{
-    match addressee {
-        Addressee::Tenant(named) => exists && u32::from(named) == t,
-        Addressee::Nobody => !exists,
-        Addressee::Admin => false,
-    }
-}
-
-/// The verdict on the reply to an event that names a tenant that does not exist.
+/// Judges the reply to an event that names an unknown tenant.
 pub(crate) fn judge_stranger(event: &Event, addressee: Addressee, is_no_tenant: bool) -> Verdict
     ensures { result ≡ broken ((Promise.Form, is_for event.now false addressee) ∷ (Promise.Refusals, is_no_tenant) ∷ []) }
 {
@@ -60,7 +49,7 @@ pub(crate) fn judge_stranger(event: &Event, addressee: Addressee, is_no_tenant: 
     }
 }
 
-/// Whether the answer is that there is no such tenant.
+/// Returns whether the answer is that the tenant does not exist.
 pub(crate) fn says_no_tenant(answer: &Answer<'_>) -> bool
     ensures { result ≡ is_no_tenant (body_of_answer answer.now) }
 {

@@ -1,55 +1,33 @@
-//! Commands of the administrator about a tenant. `owners` is who owns each superblock.
+//! Answers to commands of the administrator about a tenant. `owners` is who owns each superblock.
 
-ghost use Rattle.std.specs.Prelude.{◌≡◌, ◌≤◌, ◌<◌, ◌+◌, ◌*◌, ◌^◌, nat_le, ◌&&◌, ◌||◌, ℕ, false, not, [], ◌∷◌, slice_index_or};
+ghost use Rattle.std.specs.Prelude.{◌≡◌, ◌≤◌, ◌<◌, ◌+◌, ◌*◌, ◌^◌, nat_le, ◌&&◌, ◌||◌, ℕ, false, not, slice_index_or};
 ghost use Rattle.std.specs.List.{list_any};
 ghost use Rattle.model_core.specs.declared.limits.TheConstants.{FRAME_BYTES};
 ghost use Rattle.words_core.specs.Requests.{body_of_answer};
 ghost use Rattle.words_core.specs.declared.event.Event.TheVariants as On;
 ghost use Rattle.words_core.specs.declared.event.AdminCommand.TheVariants as Do;
-ghost use Rattle.words_core.specs.declared.reply.Refusal.{Refusal};
 ghost use Rattle.words_core.specs.declared.reply.Body.TheVariants as Say;
-ghost use Rattle.promise_core.specs.Holdings.{has_slot, is_slot_busy};
+ghost use Rattle.promise_core.specs.Holdings.{has_slot};
 ghost use Rattle.promise_core.specs.State.{State, Known};
-ghost use Rattle.promise_core.specs.Promises.{due, first_due};
-ghost use Rattle.judge.specs.Judged.{IsVerdictFor, AreOwnersAfter, known_at, tenant_verdict};
-ghost use Rattle.judge.specs.Seen.{Seen, state_of};
+ghost use Rattle.promise_core.specs.Promises.{due};
+ghost use Rattle.judge.specs.Judged.{IsUnfit, IsVerdictFor, AreOwnersAfter, known_at};
+ghost use Rattle.judge.specs.Seen.{state_of};
 
 use crate::owners::{
     are_all_owned, are_counted, give_up_all, give_up_slot, is_granted_to, is_owned_by,
     is_slot_named, is_unowned, set_owner,
 };
+use crate::refusing::due_if;
 use crate::tenant::Tenant;
-use crate::verdict::{Failure, Verdict, both, on_answer, on_refusal};
+use crate::verdict::{Failure, both, on_answer, on_refusal};
 use model_core::limits::FRAME_BYTES;
 use model_core::owner::Owner;
 use promise_core::promise::Promise;
-use words_core::{Answer, CACHES, Refusal};
+use words_core::{AdminCommand, Answer, CACHES, Refusal};
 
 impl Tenant {
-    /// Judges and follows the reply to a grant to the tenant, which has number `t`.
-    pub(crate) fn grant(
-        &mut self,
-        owners: &mut [Option<Owner>],
-        t: u32,
-        answer: &Answer<'_>,
-    ) -> Result<(), Failure>
-        ensures judged { (w : Known) → IsVerdictFor (On.Admin (Do.Grant t)) (body_of_answer answer.now)
-            (record w { owners = owners.old }) self.old self.new result }
-        ensures owners { AreOwnersAfter (On.Admin (Do.Grant t)) (body_of_answer answer.now) owners.old owners.new result }
-    {
-        match answer {
-            Answer::Granted {
-                tenant,
-                slot,
-                superblock,
-            } => self.add_superblock(owners, t, *tenant, *slot, *superblock),
-            Answer::Refused(refusal) => on_refusal(*refusal, due_of_grant(owners), false, false),
-            _ => Err(Failure::Broken(Promise::Form)),
-        }
-    }
-
-    /// The tenant of number `tenant` is granted the superblock under the slot.
-    fn add_superblock(
+    /// Judges and follows an answer to a grant to tenant `t`: the tenant of number `tenant` has the superblock under the slot.
+    pub(crate) fn add_superblock(
         &mut self,
         owners: &mut [Option<Owner>],
         t: u32,
@@ -62,7 +40,9 @@ impl Tenant {
         ensures owners { AreOwnersAfter (On.Admin (Do.Grant t)) (Say.Granted tenant slot superblock) owners.old owners.new
             result }
     {
-        self.judge_granted(owners, t, tenant, slot, superblock)?;
+        let is_granted = is_granted_to(owners, t, tenant, superblock);
+        let is_right = both(is_granted, self.is_new_slot(slot));
+        on_answer(due_of_grant(owners), Promise::Owners, is_right)?;
         self.held.grant(slot)?;
         if let Err(error) = self.left.grant(slot) {
             self.held.take_back(u32::from(slot));
@@ -73,27 +53,7 @@ impl Tenant {
         Ok(())
     }
 
-    /// The verdict on that.
-    fn judge_granted(
-        &self,
-        owners: &[Option<Owner>],
-        t: u32,
-        tenant: u8,
-        slot: u16,
-        superblock: u16,
-    ) -> Verdict
-        ensures { (w : Known) → result ≡ tenant_verdict (On.Admin (Do.Grant t)) (Say.Granted tenant slot superblock)
-            (record w { owners = owners.now }) self.now }
-    {
-        let is_granted = is_granted_to(owners, t, tenant, superblock);
-        on_answer(
-            due_of_grant(owners),
-            Promise::Owners,
-            both(is_granted, self.is_new_slot(slot)),
-        )
-    }
-
-    /// Whether the slot is not held, and its places are below `2^32`.
+    /// Returns whether the slot is not held, and its places are below `2^32`.
     fn is_new_slot(&self, slot: u16) -> bool
         ensures { result ≡ (not (has_slot self.now.has slot)
             && nat_le ((slot + 1) * 2 ^ self.now.left.order * FRAME_BYTES) (2 ^ 32)) }
@@ -102,27 +62,8 @@ impl Tenant {
         !self.held.has_slot(slot.into()) && end <= 1u64 << 32
     }
 
-    /// Judges and follows the reply to taking a slot back from the tenant, which has number `t`.
-    pub(crate) fn take_back(
-        &mut self,
-        owners: &mut [Option<Owner>],
-        t: u32,
-        slot: u32,
-        answer: &Answer<'_>,
-    ) -> Result<(), Failure>
-        ensures judged { (w : Known) → IsVerdictFor (On.Admin (Do.TakeBack t slot)) (body_of_answer answer.now)
-            (record w { owners = owners.old }) self.old self.new result }
-        ensures owners { AreOwnersAfter (On.Admin (Do.TakeBack t slot)) (body_of_answer answer.now) owners.old owners.new result }
-    {
-        match answer {
-            Answer::TakenBack(superblock) => self.drop_superblock(owners, t, slot, *superblock),
-            Answer::Refused(refusal) => self.judge_slot_kept(slot, *refusal),
-            _ => Err(Failure::Broken(Promise::Form)),
-        }
-    }
-
-    /// The superblock under the slot is taken back.
-    fn drop_superblock(
+    /// Judges and follows an answer that the superblock under the slot is taken back from tenant `t`.
+    pub(crate) fn drop_superblock(
         &mut self,
         owners: &mut [Option<Owner>],
         t: u32,
@@ -133,7 +74,8 @@ impl Tenant {
             (record w { owners = owners.old }) self.old self.new result }
         ensures owners { AreOwnersAfter (On.Admin (Do.TakeBack t slot)) (Say.TakenBack superblock) owners.old owners.new result }
     {
-        self.judge_taken_back(owners, t, slot, superblock)?;
+        let is_owned = is_owned_by(owners, superblock, t, slot);
+        on_answer(self.due_of_take_back(slot), Promise::Owners, is_owned)?;
         self.held.take_back(slot);
         self.left.take_back(slot);
         self.told = None;
@@ -141,76 +83,8 @@ impl Tenant {
         Ok(())
     }
 
-    /// The verdict on that.
-    fn judge_taken_back(
-        &self,
-        owners: &[Option<Owner>],
-        t: u32,
-        slot: u32,
-        superblock: u16,
-    ) -> Verdict
-        ensures { (w : Known) → result ≡ tenant_verdict (On.Admin (Do.TakeBack t slot)) (Say.TakenBack superblock)
-            (record w { owners = owners.now }) self.now }
-    {
-        let is_owned = is_owned_by(owners, superblock, t, slot);
-        on_answer(self.due_of_take_back(slot), Promise::Owners, is_owned)
-    }
-
-    /// Judges a refusal of that.
-    fn judge_slot_kept(&self, slot: u32, refusal: Refusal) -> Result<(), Failure>
-        ensures { (t : ℕ) (w : Known)
-            → IsVerdictFor (On.Admin (Do.TakeBack t slot)) (Say.Refused refusal) w self.now self.now result }
-    {
-        match self.held.held_slot(slot) {
-            Some(slot) => {
-                let is_busy = self.held.is_slot_busy(self.left.order(), slot);
-                let may_be_busy = self.may_be_busy(is_busy);
-                on_refusal(refusal, due_where_busy(is_busy), false, may_be_busy)
-            }
-            None => on_refusal(refusal, Some(Refusal::NoSlot), false, false),
-        }
-    }
-
-    /// Returns whether the slot may be busy: a frame of it is taken, or a cache may have an empty slab.
-    fn may_be_busy(&self, is_busy: bool) -> bool
-        ensures { result ≡ (is_busy || list_any (λ c. slice_index_or self.now.hides c.number false) self.now.has.caches) }
-    {
-        is_busy || self.held.hides_some(&self.hides)
-    }
-
-    /// The refusal that taking a slot back has to get.
-    fn due_of_take_back(&self, slot: u32) -> Option<Refusal>
-        ensures { (t : ℕ) (w : Known) → result ≡ due (On.Admin (Do.TakeBack t slot)) (known_at self.now w) (state_of self.now) }
-    {
-        match self.held.held_slot(slot) {
-            Some(slot) => due_where_busy(self.held.is_slot_busy(self.left.order(), slot)),
-            None => Some(Refusal::NoSlot),
-        }
-    }
-
-    /// Judges and follows the reply to a reset of the tenant, which has number `t`.
-    pub(crate) fn reset(
-        &mut self,
-        owners: &mut [Option<Owner>],
-        t: u32,
-        answer: &Answer<'_>,
-    ) -> Result<(), Failure>
-        ensures judged { (w : Known) → IsVerdictFor (On.Admin (Do.Reset t)) (body_of_answer answer.now)
-            (record w { owners = owners.old }) self.old self.new result }
-        ensures owners { AreOwnersAfter (On.Admin (Do.Reset t)) (body_of_answer answer.now) owners.old owners.new result }
-    {
-        match answer {
-            Answer::WasReset {
-                tenant,
-                superblocks,
-            } => self.drop_all(owners, t, *tenant, *superblocks),
-            Answer::Refused(refusal) => on_refusal(*refusal, None, false, false),
-            _ => Err(Failure::Broken(Promise::Form)),
-        }
-    }
-
-    /// Judges and follows a reset that reports this tenant and this number of superblocks.
-    fn drop_all(
+    /// Judges and follows an answer to a reset of tenant `t` that reports this tenant and this number of superblocks.
+    pub(crate) fn drop_all(
         &mut self,
         owners: &mut [Option<Owner>],
         t: u32,
@@ -221,7 +95,8 @@ impl Tenant {
             (record w { owners = owners.old }) self.old self.new result }
         ensures owners { AreOwnersAfter (On.Admin (Do.Reset t)) (Say.WasReset tenant superblocks) owners.old owners.new result }
     {
-        judge_reset(owners, t, tenant, superblocks)?;
+        let is_counted = are_counted(owners, t, tenant, superblocks);
+        on_answer(None, Promise::Owners, is_counted)?;
         self.held.reset();
         self.left.reset();
         self.hides = [false; CACHES];
@@ -230,33 +105,9 @@ impl Tenant {
         Ok(())
     }
 
-    /// Judges and follows the reply to a move of a slot of the tenant, which has number `t`.
-    pub(crate) fn move_slot(
-        &self,
-        owners: &mut [Option<Owner>],
-        t: u32,
-        slot: u32,
-        answer: &Answer<'_>,
-    ) -> Result<(), Failure>
-        ensures judged { (w : Known) → IsVerdictFor (On.Admin (Do.Move t slot)) (body_of_answer answer.now)
-            (record w { owners = owners.old }) self.now self.now result }
-        ensures owners { AreOwnersAfter (On.Admin (Do.Move t slot)) (body_of_answer answer.now) owners.old owners.new result }
-    {
-        match answer {
-            Answer::Moved {
-                tenant,
-                slot: told,
-                superblock,
-            } => self.put_over(owners, t, slot, *tenant, *told, *superblock),
-            Answer::Refused(refusal) => {
-                on_refusal(*refusal, self.due_of_move(owners, slot), false, false)
-            }
-            _ => Err(Failure::Broken(Promise::Form)),
-        }
-    }
-
-    /// Judges and follows a move that reports this tenant, the slot `told` and this superblock.
-    fn put_over(
+    /// Judges and follows an answer to a move of a slot of tenant `t`; it reports this tenant, the slot `told` and this
+    /// superblock.
+    pub(crate) fn put_over(
         &self,
         owners: &mut [Option<Owner>],
         t: u32,
@@ -270,31 +121,78 @@ impl Tenant {
         ensures owners { AreOwnersAfter (On.Admin (Do.Move t slot)) (Say.Moved tenant told superblock) owners.old owners.new
             result }
     {
-        self.judge_moved(owners, t, slot, tenant, told, superblock)?;
+        let is_named = is_slot_named(t, slot, tenant, told);
+        let is_right = both(is_named, is_unowned(owners, superblock));
+        on_answer(self.due_of_move(owners, slot), Promise::Owners, is_right)?;
         give_up_slot(owners, t, slot);
         set_owner(owners, superblock, tenant, told);
         Ok(())
     }
 
-    /// The verdict on that.
-    fn judge_moved(
+    /// Judges a refusal of the command. Any other answer breaks the form, since none that fits the command comes here.
+    pub(crate) fn judge_admin_refusal(
         &self,
         owners: &[Option<Owner>],
-        t: u32,
-        slot: u32,
-        tenant: u8,
-        told: u16,
-        superblock: u16,
-    ) -> Verdict
-        ensures { (w : Known) → result ≡ tenant_verdict (On.Admin (Do.Move t slot)) (Say.Moved tenant told superblock)
-            (record w { owners = owners.now }) self.now }
+        command: &AdminCommand,
+        answer: &Answer<'_>,
+    ) -> Result<(), Failure>
+        requires { IsUnfit (On.Admin command.now) answer.now }
+        ensures judged { (w : Known) → IsVerdictFor (On.Admin command.now) (body_of_answer answer.now)
+            (record w { owners = owners.now }) self.now self.now result }
+        ensures owners { AreOwnersAfter (On.Admin command.now) (body_of_answer answer.now) owners.now owners.now result }
     {
-        let is_named = is_slot_named(t, slot, tenant, told);
-        let is_right = both(is_named, is_unowned(owners, superblock));
-        on_answer(self.due_of_move(owners, slot), Promise::Owners, is_right)
+        let Answer::Refused(refusal) = answer else {
+            return Err(Failure::Broken(Promise::Form));
+        };
+        match command {
+            AdminCommand::Grant { .. } => {
+                on_refusal(*refusal, due_of_grant(owners), false, false)
+            }
+            AdminCommand::TakeBack { slot, .. } => self.judge_slot_kept(*slot, *refusal),
+            AdminCommand::Move { slot, .. } => {
+                on_refusal(*refusal, self.due_of_move(owners, *slot), false, false)
+            }
+            _ => on_refusal(*refusal, None, false, false),
+        }
     }
 
-    /// The refusal that a move has to get.
+    /// Judges a refusal to take the slot back.
+    fn judge_slot_kept(&self, slot: u32, refusal: Refusal) -> Result<(), Failure>
+        ensures { (t : ℕ) (w : Known)
+            → IsVerdictFor (On.Admin (Do.TakeBack t slot)) (Say.Refused refusal) w self.now self.now result }
+    {
+        match self.held.held_slot(slot) {
+            Some(slot) => {
+                let is_busy = self.held.is_slot_busy(self.left.order(), slot);
+                let may_be_busy = self.may_be_busy(is_busy);
+                let due = due_if(is_busy, Refusal::SlotBusy);
+                on_refusal(refusal, due, false, may_be_busy)
+            }
+            None => on_refusal(refusal, Some(Refusal::NoSlot), false, false),
+        }
+    }
+
+    /// Returns whether the slot may be busy: a frame of it is taken, or a cache may have an empty slab.
+    fn may_be_busy(&self, is_busy: bool) -> bool
+        ensures { result ≡ (is_busy || list_any (λ c. slice_index_or self.now.hides c.number false) self.now.has.caches) }
+    {
+        is_busy || self.held.hides_some(&self.hides)
+    }
+
+    /// Returns the refusal that taking a slot back has to get, if any.
+    fn due_of_take_back(&self, slot: u32) -> Option<Refusal>
+        ensures { (t : ℕ) (w : Known) → result ≡ due (On.Admin (Do.TakeBack t slot)) (known_at self.now w) (state_of self.now) }
+    {
+        match self.held.held_slot(slot) {
+            Some(slot) => {
+                let is_busy = self.held.is_slot_busy(self.left.order(), slot);
+                due_if(is_busy, Refusal::SlotBusy)
+            }
+            None => Some(Refusal::NoSlot),
+        }
+    }
+
+    /// Returns the refusal that a move has to get, if any.
     #[tactic(auto, unfolding(promise_core::specs::Promises::due))]
     fn due_of_move(&self, owners: &[Option<Owner>], slot: u32) -> Option<Refusal>
         ensures { (t : ℕ) (w : Known) → result
@@ -310,37 +208,10 @@ impl Tenant {
     }
 }
 
-/// The verdict on the answer to a reset of tenant `t`.
-fn judge_reset(owners: &[Option<Owner>], t: u32, tenant: u8, superblocks: u16) -> Verdict
-    ensures { (w : Known) (x : Seen) → result ≡ tenant_verdict (On.Admin (Do.Reset t)) (Say.WasReset tenant superblocks)
-        (record w { owners = owners.now }) x }
-{
-    on_answer(
-        None,
-        Promise::Owners,
-        are_counted(owners, t, tenant, superblocks),
-    )
-}
-
-/// The refusal that a grant has to get.
+/// Returns the refusal that a grant has to get, if any.
 #[tactic(auto, unfolding(promise_core::specs::Promises::due))]
 fn due_of_grant(owners: &[Option<Owner>]) -> Option<Refusal>
     ensures { (t : ℕ) (w : Known) (s : State) → result ≡ due (On.Admin (Do.Grant t)) (record w { owners = owners.now }) s }
 {
-    if are_all_owned(owners) {
-        Some(Refusal::PoolEmpty)
-    } else {
-        None
-    }
-}
-
-/// The refusal that taking back a held slot has to get.
-fn due_where_busy(is_busy: bool) -> Option<Refusal>
-    ensures { result ≡ first_due ((is_busy, Refusal.SlotBusy) ∷ []) }
-{
-    if is_busy {
-        Some(Refusal::SlotBusy)
-    } else {
-        None
-    }
+    due_if(are_all_owned(owners), Refusal::PoolEmpty)
 }

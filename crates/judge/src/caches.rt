@@ -1,66 +1,33 @@
-//! Commands about caches.
+//! Answers to commands about caches: one is made, one is destroyed, or the empty slabs of all are given back.
 
-ghost use Rattle.std.specs.Prelude.{◌≡◌, ◌≤◌, ◌<◌, ◌&&◌, nat_lt, ℕ, None, true, is_none, not};
+ghost use Rattle.std.specs.Prelude.{◌≡◌, ℕ, ◌+◌, ◌*◌, ◌%◌, ◌^◌, ◌≤◌, ◌<◌, ◌==◌, ◌&&◌, nat_lt, None, true, false, filter, is_none, slice_index_or};
+ghost use Rattle.std.specs.List.{list_any};
+ghost use Rattle.std.specs.Option.{option_map_or};
 ghost use Rattle.model_core.specs.declared.limits.TheConstants.{MOST_CACHES};
 ghost use Rattle.model_core.specs.Layouts.{is_size, is_alignment};
 ghost use Rattle.arrayvec.specs.ArrayVec.{ArrayVec as Pattern};
-ghost use Rattle.words_core.specs.Requests.{body_of_answer};
 ghost use Rattle.words_core.specs.declared.event.Event.TheVariants as On;
 ghost use Rattle.words_core.specs.declared.event.Command.TheVariants as Asked;
 ghost use Rattle.words_core.specs.declared.reply.Body.TheVariants as Say;
 ghost use Rattle.promise_core.specs.Holdings.{cache_told};
-ghost use Rattle.promise_core.specs.State.{State, Known};
-ghost use Rattle.promise_core.specs.Promises.{due};
+ghost use Rattle.promise_core.specs.State.{Known};
+ghost use Rattle.promise_core.specs.Promises.{due, can_come_back, empty_frames};
 ghost use Rattle.judge.specs.Judged.{IsVerdictFor, known_at, tenant_verdict};
 ghost use Rattle.judge.specs.Seen.{state_of};
 
+use crate::marks::{clear_mark, marks_of_used};
+use crate::taken::{empty_frames, is_asked};
 use crate::tenant::Tenant;
-use crate::verdict::{Failure, Verdict, both, on_answer, on_refusal};
+use crate::verdict::{Failure, Verdict, both, on_answer, on_still_answer};
 use arrayvec::ArrayVec;
-use judge_core::{HeldCache, ToldLayout};
+use judge_core::{HeldCache, ToldLayout, is_marked};
 use model_core::limits::{MOST_CACHES, MOST_PATTERN, MOST_SIZE};
 use promise_core::promise::Promise;
-use words_core::{Answer, Refusal};
+use words_core::Refusal;
 
 impl Tenant {
-    /// Judges and follows the reply to a request for a cache.
-    pub(crate) fn cache(
-        &mut self,
-        size: u32,
-        align: u32,
-        pattern: &ArrayVec<u8, MOST_PATTERN>,
-        answer: &Answer<'_>,
-    ) -> Result<(), Failure>
-        ensures { (t : ℕ) (w : Known) → IsVerdictFor (On.Tenant t (Asked.Cache size align pattern.now))
-            (body_of_answer answer.now) w self.old self.new result }
-    {
-        match answer {
-            Answer::Cache {
-                cache,
-                chunk,
-                order,
-                objects,
-                colours,
-            } => {
-                let layout = ToldLayout {
-                    size,
-                    align,
-                    chunk: *chunk,
-                    order: *order,
-                    count: *objects,
-                    colours: *colours,
-                };
-                self.add_cache(*cache, layout, pattern)
-            }
-            Answer::Refused(refusal) => {
-                on_refusal(*refusal, self.due_of_cache(size, align), false, false)
-            }
-            _ => Err(Failure::Broken(Promise::Form)),
-        }
-    }
-
-    /// A cache of this number and this layout is made.
-    fn add_cache(
+    /// Judges and follows an answer that a cache of this number and this layout is made.
+    pub(crate) fn add_cache(
         &mut self,
         number: u8,
         layout: ToldLayout,
@@ -76,7 +43,7 @@ impl Tenant {
         Ok(())
     }
 
-    /// The verdict on that.
+    /// Returns the verdict on that.
     fn judge_layout(&self, number: u8, layout: &ToldLayout) -> Verdict
         ensures { (t : ℕ) (p : Pattern ℕ) (w : Known) → let l = layout.now in result
             ≡ tenant_verdict (On.Tenant t (Asked.Cache l.size l.align p)) (Say.Cache number l.chunk l.order l.count l.colours) w
@@ -91,26 +58,16 @@ impl Tenant {
         }
     }
 
-    /// Whether a cache may have this number, and none has it.
+    /// Returns whether a cache may have this number, and none has it.
     fn is_new_cache(&self, number: u8) -> bool
         ensures { result ≡ (nat_lt number MOST_CACHES && is_none (cache_told self.now.has number)) }
     {
-        number < MOST_CACHES && !self.has_cache(number)
+        number < MOST_CACHES && self.held.cache(number.into()).is_none()
     }
 
-    /// Whether a cache has this number.
-    fn has_cache(&self, number: u8) -> bool
-        ensures { is_none (cache_told self.now.has number) ≡ not result }
-    {
-        match self.held.cache(number.into()) {
-            Some(_) => true,
-            None => false,
-        }
-    }
-
-    /// The refusal that a request for a cache has to get.
+    /// Returns the refusal that a request for a cache has to get, if any.
     #[tactic(auto, unfolding(promise_core::specs::Promises::due))]
-    fn due_of_cache(&self, size: u32, align: u32) -> Option<Refusal>
+    pub(crate) fn due_of_cache(&self, size: u32, align: u32) -> Option<Refusal>
         ensures value { (t : ℕ) (p : Pattern ℕ) (w : Known)
             → result ≡ due (On.Tenant t (Asked.Cache size align p)) (known_at self.now w) (state_of self.now) }
         ensures aligned { result ≡ None → is_alignment align ≡ true }
@@ -125,18 +82,100 @@ impl Tenant {
             None
         }
     }
+
+    /// Judges and follows an answer that the cache of this number is destroyed, which gives back this many frames.
+    pub(crate) fn drop_cache(&mut self, number: u32, frames: u32) -> Result<(), Failure>
+        ensures { (t : ℕ) (w : Known)
+            → IsVerdictFor (On.Tenant t (Asked.Destroy number)) (Say.Destroyed frames) w self.old self.new result }
+    {
+        let due = self.due_of_destroy(number);
+        let can_come = self.can_come_back(Some(number), frames);
+        let is_still = self.are_frames_told(Some(number), frames);
+        on_still_answer(due, Promise::Gives, can_come, is_still)?;
+        self.held.destroy(number);
+        self.left.destroy(number);
+        clear_mark(&mut self.hides, number);
+        self.told = None;
+        Ok(())
+    }
+
+    /// Returns the refusal that a destroy has to get, if any.
+    #[tactic(auto, unfolding(promise_core::specs::Promises::due))]
+    pub(crate) fn due_of_destroy(&self, number: u32) -> Option<Refusal>
+        ensures { (t : ℕ) (w : Known)
+            → result ≡ due (On.Tenant t (Asked.Destroy number)) (known_at self.now w) (state_of self.now) }
+    {
+        match self.held.cache(number) {
+            Some(cache) if cache.is_in_use() => Some(Refusal::CacheInUse),
+            Some(_) => None,
+            None => Some(Refusal::NoCache),
+        }
+    }
+
+    /// Judges and follows an answer that the empty slabs are given back, which have this many frames.
+    pub(crate) fn drop_empty_slabs(&mut self, frames: u32) -> Result<(), Failure>
+        ensures { (t : ℕ) (w : Known) → IsVerdictFor (On.Tenant t Asked.Reap) (Say.Reaped frames) w self.old self.new result }
+    {
+        let can_come = self.can_come_back(None, frames);
+        let is_still = self.are_frames_told(None, frames);
+        on_still_answer(None, Promise::Gives, can_come, is_still)?;
+        let used = marks_of_used(&self.held);
+        self.left.reap(&self.held);
+        self.hides = used;
+        self.told = None;
+        Ok(())
+    }
+
+    /// Returns whether the slabs of the cache `only`, or those of all caches, can give back this many frames.
+    fn can_come_back(&self, only: Option<u32>, frames: u32) -> bool
+        ensures { result ≡ can_come_back self.now.left.order
+            (filter (λ c. option_map_or (λ number. c.number == number) only true) self.now.has.caches) frames (state_of self.now) }
+    {
+        frames == 0
+            || (u128::from(frames) <= self.held.count_vacant(self.left.order(), 0)
+                && some_may_have(self.held.caches(), &self.hides, only, frames))
+    }
+
+    /// Returns whether the last report, if it is valid, has this many frames in empty slabs: of the cache `only`, or of all.
+    fn are_frames_told(&self, only: Option<u32>, frames: u32) -> bool
+        ensures { result ≡ option_map_or (λ r. frames
+            == empty_frames (λ n. option_map_or (λ number. n == number) only true) self.now.has r) self.now.told true }
+    {
+        match &self.told {
+            Some(report) => u64::from(frames) == empty_frames(&self.held, report, only),
+            None => true,
+        }
+    }
 }
 
-/// Whether objects may have this size.
+/// Returns whether objects may have this size.
 fn is_size(size: u32) -> bool
     ensures { result ≡ is_size size }
 {
     1 <= size && size <= MOST_SIZE
 }
 
-/// Whether objects may have this alignment.
+/// Returns whether objects may have this alignment.
 fn is_alignment(align: u32) -> bool
     ensures { result ≡ is_alignment align }
 {
     matches!(align, 8 | 16 | 32 | 64 | 128 | 256)
+}
+
+/// Returns whether the cache `only`, or some cache, may have empty slabs that have this many frames.
+fn some_may_have(caches: &[HeldCache], hides: &[bool], only: Option<u32>, frames: u32) -> bool
+    ensures { result ≡ list_any (λ c. slice_index_or hides.now c.number false && frames % 2 ^ c.order == 0)
+        (filter (λ c. option_map_or (λ number. c.number == number) only true) caches.now) }
+{
+    caches
+        .iter()
+        .filter(|cache| is_asked(cache, only))
+        .any(|cache| may_have(cache, hides, frames))
+}
+
+/// Returns whether the cache may have empty slabs that have this many frames.
+fn may_have(cache: &HeldCache, hides: &[bool], frames: u32) -> bool
+    ensures { result ≡ (slice_index_or hides.now cache.now.number false && frames % 2 ^ cache.now.order == 0) }
+{
+    is_marked(hides, cache.number()) && frames % (1u32 << cache.order()) == 0
 }

@@ -1,4 +1,4 @@
-//! The numbers of blocks that a report tells.
+//! The numbers of blocks in a report.
 
 ghost use Rattle.std.specs.Prelude.{◌≡◌, ℕ, ◌+◌, ◌*◌, ◌^◌, ◌≤◌, ◌<◌, length, map, drop, slice_index, Some, IfSome};
 ghost use Rattle.model_core.specs.Reports.{greatest, split_share as share};
@@ -9,26 +9,20 @@ use arrayvec::ArrayVec;
 use model_core::report::OrderRow;
 use words_core::ORDERS;
 
-/// The numbers of free blocks of these rows.
-pub(crate) fn free_counts(rows: &ArrayVec<OrderRow, ORDERS>) -> ArrayVec<u32, ORDERS>
-    ensures { result.items ≡ map (λ row. row.free) rows.now.items }
+/// Returns the numbers of free and of taken blocks of these rows.
+pub(crate) fn counts_of(
+    rows: &ArrayVec<OrderRow, ORDERS>,
+) -> (ArrayVec<u32, ORDERS>, ArrayVec<u32, ORDERS>)
+    ensures free { result.0.items ≡ map (λ row. row.free) rows.now.items }
+    ensures taken { result.1.items ≡ map (λ row. row.taken) rows.now.items }
 {
-    let mut counts = ArrayVec::new();
+    let mut free = ArrayVec::new();
+    let mut taken = ArrayVec::new();
     for row in rows.as_slice() {
-        counts.push(row.free);
+        free.push(row.free);
+        taken.push(row.taken);
     }
-    counts
-}
-
-/// The numbers of taken blocks of these rows.
-pub(crate) fn taken_counts(rows: &ArrayVec<OrderRow, ORDERS>) -> ArrayVec<u32, ORDERS>
-    ensures { result.items ≡ map (λ row. row.taken) rows.now.items }
-{
-    let mut counts = ArrayVec::new();
-    for row in rows.as_slice() {
-        counts.push(row.taken);
-    }
-    counts
+    (free, taken)
 }
 
 /// Returns how many frames the blocks have: `counts[k]` of them are of order `k`.
@@ -52,7 +46,7 @@ pub(crate) fn frames_in(count: u32, order: u8) -> u64
     u64::from(count) * (1u64 << order)
 }
 
-/// How many frames so many blocks have, those below order `k` left out and the others taken for `k` orders smaller.
+/// Returns how many frames blocks of these numbers have, without those below order `k`, and the others taken for `k` orders smaller.
 pub(crate) fn frames_from(counts: &[u32], k: u8) -> u64
     requires { length counts.now ≤ ORDERS }
     ensures { result ≡ frames_of_counts (drop k counts.now) }
@@ -65,17 +59,14 @@ pub(crate) fn frames_from(counts: &[u32], k: u8) -> u64
     }
 }
 
-/// The number of blocks of this order, 0 where none is told.
+/// Returns the number of blocks of this order, 0 if the report has none.
 pub(crate) fn count_at(counts: &[u32], order: u8) -> u32
     ensures { result ≡ slice_index counts.now order }
 {
-    match counts.get(usize::from(order)) {
-        Some(count) => *count,
-        None => 0,
-    }
+    counts.get(usize::from(order)).copied().unwrap_or(0)
 }
 
-/// The greatest order below `end` of which there are blocks.
+/// Returns the greatest order below `end` of which there are blocks.
 pub(crate) fn greatest(counts: &[u32], end: u8) -> Option<u8>
     ensures value { result ≡ greatest (slice_index counts.now) end }
     ensures small { IfSome result (λ k. k < end) }
@@ -89,8 +80,8 @@ pub(crate) fn greatest(counts: &[u32], end: u8) -> Option<u8>
     top
 }
 
-/// The share of `free` frames that lie outside one greatest free block, of order `top`, in thousandths; 0 where there is no
-/// free block.
+/// Returns the share of `free` frames outside one greatest free block, of order `top`, in thousandths; 0 if there is no free
+/// block.
 pub(crate) fn split_share(free: u32, top: Option<u8>) -> u32
     requires { IfSome top (λ k. k ≤ MOST_ORDER) }
     ensures { result ≡ share free top }

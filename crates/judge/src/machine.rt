@@ -13,7 +13,7 @@ use model_core::owner::Owner;
 use std::alloc::{AllocError, Global};
 use std::marker::Model;
 
-/// What replies told of a machine: who owns each superblock, and what each tenant has.
+/// What replies reported of a machine: who owns each superblock, and what each tenant has.
 #[derive(Debug, Drop)]
 pub struct Machine {
     pub(crate) order: u8,
@@ -24,8 +24,7 @@ pub struct Machine {
 }
 
 impl Model for Machine {
-    ghost use Rattle.judge.specs.Machine.{SeenMachine};
-    ghost use Rattle.judge.specs.Sizes.{FitsLimits};
+    ghost use Rattle.judge.specs.Machine.{SeenMachine, FitsLimits};
 
     ghost Value = { SeenMachine };
 
@@ -35,8 +34,8 @@ impl Model for Machine {
 }
 
 impl Machine {
-    /// A machine of so many superblocks of `2^order` frames, which nobody owns, and of so many tenants. Fails where memory runs
-    /// out.
+    /// Returns a machine of this number of superblocks of `2^order` frames, which nobody owns, and of tenants that have nothing.
+    /// Fails if memory runs out.
     pub fn new(
         alloc: Global,
         order: u8,
@@ -59,7 +58,7 @@ impl Machine {
         })
     }
 
-    /// A slot has `2^order` frames.
+    /// Returns the order of a slot, which has `2^order` frames.
     pub fn order(&self) -> u8
         ensures value { result ≡ self.now.order }
         ensures most { result ≤ MOST_ORDER }
@@ -67,7 +66,7 @@ impl Machine {
         self.order
     }
 
-    /// How many superblocks the machine has.
+    /// Returns how many superblocks the machine has.
     pub fn superblocks(&self) -> usize
         ensures value { result ≡ length self.now.owners }
         ensures most { result ≤ MOST_SUPERBLOCKS }
@@ -75,23 +74,18 @@ impl Machine {
         self.owners.len()
     }
 
-    /// The first live page block of the tenant that shares a frame with the block; `None` too where there is no such tenant.
+    /// Returns the first live page block of the tenant that shares a frame with the block; `None` also if the tenant does not
+    /// exist.
     pub fn page_over(&self, tenant: u32, block: &FrameBlock) -> Option<FrameBlock>
         ensures { result ≡ option_map_or (λ y. find (overlaps block.now) y.has.pages) (slice_get self.now.tenants tenant) None }
     {
-        match self.tenants.get(tenant as usize) {
-            Some(tenant) => tenant.page_over(block),
-            None => None,
-        }
+        self.tenants.get(tenant as usize)?.page_over(block)
     }
 
-    /// How many caches the tenant has, `None` where there is no such tenant.
+    /// Returns how many caches the tenant has, `None` if the tenant does not exist.
     pub fn caches_of(&self, tenant: u32) -> Option<usize>
         ensures { result ≡ option_map (λ y. length y.has.caches) (slice_get self.now.tenants tenant) }
     {
-        match self.tenants.get(tenant as usize) {
-            Some(tenant) => Some(tenant.caches()),
-            None => None,
-        }
+        Some(self.tenants.get(tenant as usize)?.caches())
     }
 }

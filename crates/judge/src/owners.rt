@@ -9,7 +9,7 @@ ghost use Rattle.words_core.specs.declared.event.AdminCommand.TheVariants as Do;
 ghost use Rattle.words_core.specs.declared.reply.Body.TheVariants as Say;
 ghost use Rattle.world_core.specs.World.{given_up};
 ghost use Rattle.promise_core.specs.State.{State, Known};
-ghost use Rattle.judge.specs.Verdicts.{verdict_on};
+ghost use Rattle.judge.specs.Judged.{verdict_on};
 
 use crate::verdict::{Verdict, on_answer};
 use arrayvec::ArrayVec;
@@ -24,28 +24,28 @@ pub(crate) fn are_counted(owners: &[Option<Owner>], t: u32, tenant: u8, superblo
     u32::from(tenant) == t && usize::from(superblocks) == count_of(owners, t)
 }
 
-/// Whether a grant to tenant `t` may tell this tenant and this superblock.
+/// Returns whether a grant to tenant `t` may report this tenant and this superblock.
 pub(crate) fn is_granted_to(owners: &[Option<Owner>], t: u32, tenant: u8, superblock: u16) -> bool
     ensures { result ≡ (tenant == t && option_map_or is_none (slice_get owners.now superblock) false) }
 {
     u32::from(tenant) == t && is_unowned(owners, superblock)
 }
 
-/// Whether a move of a slot of tenant `t` may tell this tenant and this slot.
+/// Returns whether a move of a slot of tenant `t` may report this tenant and this slot.
 pub(crate) fn is_slot_named(t: u32, slot: u32, tenant: u8, told: u16) -> bool
     ensures { result ≡ (tenant == t && told == slot) }
 {
     u32::from(tenant) == t && u32::from(told) == slot
 }
 
-/// How many superblocks the tenant owns.
+/// Returns how many superblocks the tenant owns.
 fn count_of(owners: &[Option<Owner>], t: u32) -> usize
     ensures { result ≡ count_by (is_of t) owners.now }
 {
     owners.iter().filter(|owner| is_of(**owner, t)).count()
 }
 
-/// Whether the superblock is the tenant's.
+/// Returns whether this is the tenant.
 fn is_of(owner: Option<Owner>, t: u32) -> bool
     ensures { result ≡ is_of t owner }
 {
@@ -55,14 +55,14 @@ fn is_of(owner: Option<Owner>, t: u32) -> bool
     }
 }
 
-/// Whether every superblock has an owner.
+/// Returns whether every superblock has an owner.
 pub(crate) fn are_all_owned(owners: &[Option<Owner>]) -> bool
     ensures { result ≡ list_all is_some owners.now }
 {
     owners.iter().all(|owner| owner.is_some())
 }
 
-/// Whether there is such a superblock, and it is the tenant's, under this slot.
+/// Returns whether the superblock exists and is the tenant's, under this slot.
 pub(crate) fn is_owned_by(owners: &[Option<Owner>], superblock: u16, t: u32, slot: u32) -> bool
     ensures { result ≡ option_map_or (is_owner t slot) (slice_get owners.now superblock) false }
 {
@@ -73,7 +73,7 @@ pub(crate) fn is_owned_by(owners: &[Option<Owner>], superblock: u16, t: u32, slo
     }
 }
 
-/// Whether there is such a superblock, and nobody owns it.
+/// Returns whether the superblock exists and nobody owns it.
 pub(crate) fn is_unowned(owners: &[Option<Owner>], superblock: u16) -> bool
     ensures { result ≡ option_map_or is_none (slice_get owners.now superblock) false }
 {
@@ -83,7 +83,7 @@ pub(crate) fn is_unowned(owners: &[Option<Owner>], superblock: u16) -> bool
     }
 }
 
-/// The verdict on a table of the owners.
+/// Returns the verdict on a table of the owners.
 pub(crate) fn judge_pool(
     owners: &[Option<Owner>],
     told: &ArrayVec<Option<Owner>, OWNERS>,
@@ -109,18 +109,14 @@ fn are_same(owners: &[Option<Owner>], told: &[Option<Owner>]) -> bool
     told.iter().zip(owners).all(|(a, b)| is_same(*a, *b))
 }
 
-/// Whether both are nobody, or the same slot of the same tenant.
+/// Returns whether both are nobody, or the same slot of the same tenant.
 fn is_same(a: Option<Owner>, b: Option<Owner>) -> bool
     ensures { result ≡ option_eq (λ x y. x.tenant == y.tenant && x.slot == y.slot) a b }
 {
-    match (a, b) {
-        (Some(a), Some(b)) => a.tenant == b.tenant && a.slot == b.slot,
-        (None, None) => true,
-        _ => false,
-    }
+    a == b
 }
 
-/// The superblock is the tenant's, under this slot; nothing changes where there is no such superblock.
+/// Makes the slot of the tenant the owner of the superblock, if the superblock exists.
 pub(crate) fn set_owner(owners: &mut [Option<Owner>], superblock: u16, tenant: u8, slot: u16)
     ensures { owners.new ≡ slice_set owners.old superblock (Some (owned_by tenant slot)) }
 {
@@ -130,7 +126,7 @@ pub(crate) fn set_owner(owners: &mut [Option<Owner>], superblock: u16, tenant: u
     }
 }
 
-/// The superblock under this slot of tenant `t` is nobody's.
+/// Makes the superblock under this slot of tenant `t` nobody's.
 pub(crate) fn give_up_slot(owners: &mut [Option<Owner>], t: u32, slot: u32)
     ensures { owners.new ≡ map (given_up (is_owner t slot)) owners.old }
 {
@@ -139,7 +135,7 @@ pub(crate) fn give_up_slot(owners: &mut [Option<Owner>], t: u32, slot: u32)
     }
 }
 
-/// No superblock is tenant `t`'s.
+/// Makes the superblocks of tenant `t` nobody's.
 pub(crate) fn give_up_all(owners: &mut [Option<Owner>], t: u32)
     ensures { owners.new ≡ map (given_up (is_of t)) owners.old }
 {
@@ -148,14 +144,14 @@ pub(crate) fn give_up_all(owners: &mut [Option<Owner>], t: u32)
     }
 }
 
-/// Nobody if this is the slot's owner.
+/// Returns nobody if this is the slot's owner, else the owner.
 fn without_slot(owner: Option<Owner>, t: u32, slot: u32) -> Option<Owner>
     ensures { result ≡ given_up (is_owner t slot) owner }
 {
     owner.filter(|owner| !(u32::from(owner.tenant) == t && u32::from(owner.slot) == slot))
 }
 
-/// Nobody if this is the tenant.
+/// Returns nobody if this is the tenant, else the owner.
 fn without_tenant(owner: Option<Owner>, t: u32) -> Option<Owner>
     ensures { result ≡ given_up (is_of t) owner }
 {

@@ -1,21 +1,15 @@
-//! A report's rows of the caches.
+//! A report's rows of the caches. `hides` is, by number of a cache, whether it may have a slab without live objects.
 
 ghost use Rattle.std.specs.Prelude.{◌≡◌, ℕ, ◌+◌, ◌*◌, ◌^◌, ◌≤◌, ◌<◌, ◌==◌, ◌&&◌, ◌||◌, not, length, filter, slice_index, slice_index_or, false};
 ghost use Rattle.std.specs.List.{list_all, zip};
 ghost use Rattle.promise_core.specs.Holdings.{slab_around, live_beside, is_slab_full};
 ghost use Rattle.promise_core.specs.Promises.{count_slabs, is_row};
 
-use judge_core::{Held, HeldCache, is_marked};
+use judge_core::{HeldCache, is_marked};
 use model_core::report::CacheRow;
 
-/// Whether each row is that of its cache, where `hides` tells by its number whether a slab without live objects may stand.
-pub(crate) fn are_rows(held: &Held, hides: &[bool], rows: &[CacheRow]) -> bool
-    ensures { result ≡ list_all (is_row (λ n. slice_index_or hides.now n false)) (zip held.now.caches rows.now) }
-{
-    are_rows_of(held.caches(), hides, rows)
-}
-
-fn are_rows_of(caches: &[HeldCache], hides: &[bool], rows: &[CacheRow]) -> bool
+/// Returns whether each row is that of its cache.
+pub(crate) fn are_rows(caches: &[HeldCache], hides: &[bool], rows: &[CacheRow]) -> bool
     ensures { result ≡ list_all (is_row (λ n. slice_index_or hides.now n false)) (zip caches.now rows.now) }
 {
     caches
@@ -24,22 +18,16 @@ fn are_rows_of(caches: &[HeldCache], hides: &[bool], rows: &[CacheRow]) -> bool
         .all(|(cache, row)| is_row(cache, hides, row))
 }
 
+/// Returns whether the row is of this cache, with its live objects and slabs, and with empty slabs only if it may have some.
 fn is_row(cache: &HeldCache, hides: &[bool], row: &CacheRow) -> bool
     ensures { result ≡ is_row (λ n. slice_index_or hides.now n false) (cache.now, row.now) }
 {
-    has_objects(cache, hides, row) && has_slabs(cache, row)
-}
-
-/// Whether the row is of this cache and tells its live objects, and empty slabs only where such may stand.
-fn has_objects(cache: &HeldCache, hides: &[bool], row: &CacheRow) -> bool
-    ensures { result ≡ ((row.now.cache == cache.now.number && row.now.live == length cache.now.live)
-        && (row.now.empty == 0 || slice_index_or hides.now cache.now.number false)) }
-{
     (row.cache == cache.number() && row.live as usize == cache.live().len())
         && (row.empty == 0 || is_marked(hides, cache.number()))
+        && has_slabs(cache, row)
 }
 
-/// Whether the row tells how many slabs of the cache have live objects.
+/// Returns whether the row has the numbers of slabs of the cache with live objects.
 fn has_slabs(cache: &HeldCache, row: &CacheRow) -> bool
     ensures { result ≡ (row.now.full == count_slabs (is_slab_full cache.now) cache.now
         && row.now.partial == count_slabs (λ p. not (is_slab_full cache.now p)) cache.now) }
@@ -48,7 +36,7 @@ fn has_slabs(cache: &HeldCache, row: &CacheRow) -> bool
     row.full as usize == full && row.partial as usize == partial
 }
 
-/// How many slabs have live objects alone, and how many have both live objects and others.
+/// Returns how many slabs have live objects only, and how many have both live objects and others.
 fn count_slabs(cache: &HeldCache) -> (usize, usize)
     ensures full { result.0 ≡ count_slabs (is_slab_full cache.now) cache.now }
     ensures partial { result.1 ≡ count_slabs (λ p. not (is_slab_full cache.now p)) cache.now }
@@ -65,8 +53,8 @@ fn count_slabs(cache: &HeldCache) -> (usize, usize)
     (full, partial)
 }
 
-/// The live objects of the slab that has the place, where `last` are those of the slab of some place. Live objects of one slab
-/// lie side by side, so it is looked up once for all of them.
+/// Returns the live objects of the slab that has the place, if `last` are those of the slab of some place. Live objects of one
+/// slab lie side by side, so it is looked up once for all of them.
 fn beside_next<'a>(cache: &'a HeldCache, last: &'a [u32], place: u32) -> &'a [u32]
     requires { (q : ℕ) × (last.now ≡ live_beside cache.now q) }
     ensures { result.now ≡ live_beside cache.now place }
@@ -77,14 +65,14 @@ fn beside_next<'a>(cache: &'a HeldCache, last: &'a [u32], place: u32) -> &'a [u3
     }
 }
 
-/// Whether the places are in one slab.
+/// Returns whether the places are in one slab.
 fn are_beside(cache: &HeldCache, p: u32, q: u32) -> bool
     ensures { result ≡ ((slab_around cache.now p).first == (slab_around cache.now q).first) }
 {
     cache.slab_around(p).first() == cache.slab_around(q).first()
 }
 
-/// Whether the first of these is at the place, if `counts`.
+/// Returns whether `counts` is set and the first of these is at the place.
 fn begins_at(beside: &[u32], place: u32, counts: bool) -> bool
     ensures { result ≡ (slice_index beside.now 0 == place && counts) }
 {

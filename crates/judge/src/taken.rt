@@ -1,4 +1,4 @@
-//! How many blocks are taken, and how many frames the empty slabs have, as the rows of a report tell it.
+//! Taken blocks, and frames of empty slabs, by the rows of a report.
 
 ghost use Rattle.std.specs.Prelude.{◌≡◌, ℕ, ◌+◌, ◌*◌, ◌^◌, ◌≤◌, ◌<◌, ◌==◌, if◌then◌else◌, length, filter, Option, true};
 ghost use Rattle.std.specs.List.{sum_by, zip};
@@ -23,14 +23,14 @@ pub(crate) fn are_taken(held: &Held, rows: &[CacheRow], k: u8, count: u32) -> bo
     }
 }
 
-/// How many page blocks have `2^k` frames.
+/// Returns how many page blocks have `2^k` frames.
 fn count_pages(pages: &[FrameBlock], k: u8) -> usize
     ensures { result ≡ length (filter (λ b. b.order == k) pages.now) }
 {
     pages.iter().filter(|page| page.order() == k).count()
 }
 
-/// How many slabs of `2^k` frames the rows tell.
+/// Returns how many slabs of `2^k` frames the rows have.
 #[tactic(auto, using(crate::proofs::Sums::one_more_pair))]
 fn count_slabs(caches: &[HeldCache], rows: &[CacheRow], k: u8) -> u64
     requires { length rows.now ≤ CACHES }
@@ -43,7 +43,7 @@ fn count_slabs(caches: &[HeldCache], rows: &[CacheRow], k: u8) -> u64
     count
 }
 
-/// How many slabs of `2^k` frames the cache has.
+/// Returns how many slabs of `2^k` frames the row of the cache has.
 fn slabs_in(cache: &HeldCache, row: &CacheRow, k: u8) -> u64
     ensures value { result ≡ (if cache.now.order == k then row.now.full + row.now.partial + row.now.empty else 0) }
     ensures most { result ≤ 2 ^ 34 }
@@ -55,7 +55,7 @@ fn slabs_in(cache: &HeldCache, row: &CacheRow, k: u8) -> u64
     }
 }
 
-/// How many frames the empty slabs have that the report told: those of the cache of the number `only`, or those of all.
+/// Returns how many frames the empty slabs of a report have: those of the cache of number `only`, or those of all.
 pub(crate) fn empty_frames(held: &Held, report: &Report, only: Option<u32>) -> u64
     ensures { result ≡ empty_frames (λ n. option_map_or (λ number. n == number) only true) held.now report.now }
 {
@@ -75,7 +75,7 @@ fn sum_empty(caches: &[HeldCache], rows: &[CacheRow], only: Option<u32>) -> u64
     frames
 }
 
-/// How many frames the empty slabs of the cache have, if it is asked for.
+/// Returns how many frames the empty slabs of the cache have, 0 if another cache is asked for.
 fn empty_in(cache: &HeldCache, row: &CacheRow, only: Option<u32>) -> u64
     ensures value { result
         ≡ (if option_map_or (λ number. cache.now.number == number) only true then row.now.empty * 2 ^ cache.now.order else 0) }
@@ -88,8 +88,8 @@ fn empty_in(cache: &HeldCache, row: &CacheRow, only: Option<u32>) -> u64
     }
 }
 
-/// Whether the cache is the one of the number `only`, or any.
-fn is_asked(cache: &HeldCache, only: Option<u32>) -> bool
+/// Returns whether the cache is the one of number `only`, or any is asked for.
+pub(crate) fn is_asked(cache: &HeldCache, only: Option<u32>) -> bool
     ensures { result ≡ option_map_or (λ number. cache.now.number == number) only true }
 {
     match only {

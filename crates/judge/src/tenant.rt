@@ -5,36 +5,32 @@ ghost use Rattle.model_core.specs.declared.limits.TheConstants.{MOST_ORDER, MOST
 ghost use Rattle.model_core.specs.Operations.{overlaps};
 ghost use Rattle.words_core.specs.Requests.{body_of_answer};
 ghost use Rattle.words_core.specs.declared.event.Event.TheVariants as On;
-ghost use Rattle.words_core.specs.declared.event.AdminCommand.TheVariants as Do;
-ghost use Rattle.words_core.specs.declared.event.Command.TheVariants as Asked;
 ghost use Rattle.promise_core.specs.State.{Known};
 ghost use Rattle.judge.specs.Judged.{IsVerdictFor, AreOwnersAfter};
 ghost use Rattle.judge.specs.Seen.{Seen, IsOpeningTenant};
 
-use crate::verdict::{Failure, on_refusal};
-use judge_core::{FrameBlock, Held};
+use crate::verdict::Failure;
+use judge_core::{FrameBlock, Held, ToldLayout};
 use model_core::owner::Owner;
-use promise_core::promise::Promise;
 use shadow_memory::ShadowMemory;
 use std::alloc::{AllocError, Global};
 use std::marker::Model;
 use words_core::{AdminCommand, Answer, CACHES, Command, Report};
 
-/// What a tenant has, as replies told it: its slots, pages, caches and objects, what was left at each place, of which caches
-/// empty slabs may stand, and the last report while it has to stand.
+/// What replies reported of a tenant: its slots, pages, caches and objects, what was left at each place, which caches may have
+/// empty slabs, and the last report while it is valid.
 #[derive(Debug, Drop)]
 pub struct Tenant {
     pub(crate) alloc: Global,
     pub(crate) held: Held,
     pub(crate) left: ShadowMemory,
-    /// By number, whether a slab of the cache without live objects may stand.
+    /// By number, whether the cache may have a slab without live objects.
     pub(crate) hides: [bool; CACHES],
     pub(crate) told: Option<Report>,
 }
 
 impl Model for Tenant {
-    ghost use Rattle.judge.specs.Seen.{Seen};
-    ghost use Rattle.judge.specs.Inside.{LieInSlots};
+    ghost use Rattle.judge.specs.Seen.{Seen, LieInSlots};
 
     ghost Value = { Seen };
 
@@ -44,7 +40,7 @@ impl Model for Tenant {
 }
 
 impl Tenant {
-    /// A tenant that has nothing, with room for so many slots of `2^order` frames. Fails where memory runs out.
+    /// Returns a tenant that has nothing, with room for `slots` slots of `2^order` frames. Fails if memory runs out.
     pub fn new(alloc: Global, order: u8, slots: u16) -> Result<Tenant, AllocError>
         requires order { order ≤ MOST_ORDER }
         requires slots { slots ≤ MOST_SUPERBLOCKS }
@@ -59,7 +55,7 @@ impl Tenant {
         })
     }
 
-    /// A slot has `2^order` frames.
+    /// Returns the order of a slot, which has `2^order` frames.
     pub fn order(&self) -> u8
         ensures value { result ≡ self.now.left.order }
         ensures most { result ≤ MOST_ORDER }
@@ -67,14 +63,14 @@ impl Tenant {
         self.left.order()
     }
 
-    /// The first live page block that shares a frame with the block.
+    /// Returns the first live page block that shares a frame with the block.
     pub fn page_over(&self, block: &FrameBlock) -> Option<FrameBlock>
         ensures { result ≡ find (overlaps block.now) self.now.has.pages }
     {
         self.held.page_over(block)
     }
 
-    /// How many caches the tenant has.
+    /// Returns how many caches the tenant has.
     pub fn caches(&self) -> usize
         ensures { result ≡ length self.now.has.caches }
     {
@@ -86,21 +82,46 @@ impl Tenant {
         ensures { (t : ℕ) (w : Known)
             → IsVerdictFor (On.Tenant t command.now) (body_of_answer answer.now) w self.old self.new result }
     {
-        match command {
-            Command::Alloc { order } => self.alloc(*order, answer),
-            Command::Free { frame } => self.free(*frame, answer),
-            Command::Read { place, len } => self.read(*place, *len, answer),
-            Command::Write { place, bytes } => self.write(*place, bytes, answer),
-            Command::Cache {
-                size,
-                align,
-                pattern,
-            } => self.cache(*size, *align, pattern, answer),
-            Command::Destroy { cache } => self.destroy(*cache, answer),
-            Command::Take { cache } => self.take(*cache, answer),
-            Command::Give { cache, place } => self.give(*cache, *place, answer),
-            Command::Reap => self.reap(answer),
-            Command::Report => judge_no_table(answer),
+        match (command, answer) {
+            (Command::Alloc { order }, Answer::Frame(frame)) => self.add_block(*order, *frame),
+            (Command::Free { frame }, Answer::Freed(order)) => self.drop_block(*frame, *order),
+            (Command::Read { place, len }, Answer::Bytes(bytes)) => {
+                self.read_bytes(*place, *len, bytes)
+            }
+            (Command::Write { place, bytes }, Answer::Written(count)) => {
+                self.write_bytes(*place, bytes, *count)
+            }
+            (
+                Command::Cache {
+                    size,
+                    align,
+                    pattern,
+                },
+                Answer::Cache {
+                    cache,
+                    chunk,
+                    order,
+                    objects,
+                    colours,
+                },
+            ) => {
+                let layout = ToldLayout {
+                    size: *size,
+                    align: *align,
+                    chunk: *chunk,
+                    order: *order,
+                    count: *objects,
+                    colours: *colours,
+                };
+                self.add_cache(*cache, layout, pattern)
+            }
+            (Command::Destroy { cache }, Answer::Destroyed(frames)) => {
+                self.drop_cache(*cache, *frames)
+            }
+            (Command::Take { cache }, Answer::Object(place)) => self.add_object(*cache, *place),
+            (Command::Give { cache, place }, Answer::Given) => self.drop_object(*cache, *place),
+            (Command::Reap, Answer::Reaped(frames)) => self.drop_empty_slabs(*frames),
+            _ => self.judge_refusal(command, answer),
         }
     }
 
@@ -115,26 +136,34 @@ impl Tenant {
             (record w { owners = owners.old }) self.old self.new result }
         ensures owners { AreOwnersAfter (On.Admin command.now) (body_of_answer answer.now) owners.old owners.new result }
     {
-        match command {
-            AdminCommand::Grant { tenant } => self.grant(owners, *tenant, answer),
-            AdminCommand::TakeBack { tenant, slot } => {
-                self.take_back(owners, *tenant, *slot, answer)
+        match (command, answer) {
+            (
+                AdminCommand::Grant { tenant: t },
+                Answer::Granted {
+                    tenant,
+                    slot,
+                    superblock,
+                },
+            ) => self.add_superblock(owners, *t, *tenant, *slot, *superblock),
+            (AdminCommand::TakeBack { tenant, slot }, Answer::TakenBack(superblock)) => {
+                self.drop_superblock(owners, *tenant, *slot, *superblock)
             }
-            AdminCommand::Reset { tenant } => self.reset(owners, *tenant, answer),
-            AdminCommand::Move { tenant, slot } => self.move_slot(owners, *tenant, *slot, answer),
-            AdminCommand::Pool => judge_no_table(answer),
+            (
+                AdminCommand::Reset { tenant: t },
+                Answer::WasReset {
+                    tenant,
+                    superblocks,
+                },
+            ) => self.drop_all(owners, *t, *tenant, *superblocks),
+            (
+                AdminCommand::Move { tenant: t, slot },
+                Answer::Moved {
+                    tenant,
+                    slot: told,
+                    superblock,
+                },
+            ) => self.put_over(owners, *t, *slot, *tenant, *told, *superblock),
+            _ => self.judge_admin_refusal(owners, command, answer),
         }
-    }
-}
-
-/// Judges an answer in one line where a table has to come: only a refusal may, which is never due.
-pub(crate) fn judge_no_table(answer: &Answer<'_>) -> Result<(), Failure>
-    ensures report { (t : ℕ) (w : Known) (x : Seen)
-        → IsVerdictFor (On.Tenant t Asked.Report) (body_of_answer answer.now) w x x result }
-    ensures pool { (w : Known) (x : Seen) → IsVerdictFor (On.Admin Do.Pool) (body_of_answer answer.now) w x x result }
-{
-    match answer {
-        Answer::Refused(refusal) => on_refusal(*refusal, None, false, false),
-        _ => Err(Failure::Broken(Promise::Form)),
     }
 }

@@ -3,8 +3,7 @@
 ghost use Rattle.std.specs.Prelude.{◌≡◌, [], ◌∷◌, is_none, ◌&&◌};
 ghost use Rattle.promise_core.specs.declared.promise.Promise.{Promise};
 ghost use Rattle.judge.specs.declared.verdict.Failure.TheVariants.{Broken, Memory};
-ghost use Rattle.judge.specs.Judged.{failing};
-ghost use Rattle.judge.specs.Verdicts.{broken, on_refusal};
+ghost use Rattle.judge.specs.Judged.{failing, broken, on_refusal};
 
 use promise_core::promise::Promise;
 use std::alloc::AllocError;
@@ -38,15 +37,15 @@ impl From<AllocError> for Failure {
     }
 }
 
-/// The verdict on an answer where `due` is the refusal that has to come, if one has, and the answer is such as it has to be
-/// where this promise is kept.
+/// Returns the verdict on an answer: `due` is the refusal that has to come in its place, if any, and `is_kept` whether the answer
+/// keeps this promise.
 pub(crate) fn on_answer(due: Option<Refusal>, promise: Promise, is_kept: bool) -> Verdict
     ensures { result ≡ broken ((Promise.Refusals, is_none due) ∷ (promise, is_kept) ∷ []) }
 {
     on_still_answer(due, promise, is_kept, true)
 }
 
-/// Like [`on_answer`], of an answer that also has to agree with the last report: `is_still` is whether it does.
+/// Returns the verdict on an answer that also has to agree with the last report: `is_still` is whether it does.
 pub(crate) fn on_still_answer(
     due: Option<Refusal>,
     promise: Promise,
@@ -66,8 +65,8 @@ pub(crate) fn on_still_answer(
     }
 }
 
-/// The verdict on a refusal, where `due` is the one that has to come, if one has: `full` where there is no room for what was
-/// asked, and `busy` where the slot may be.
+/// Returns the verdict on a refusal: `due` is the one that has to come, if any, `full` whether there are no frames for what was
+/// asked, and `busy` whether the slot may be busy.
 pub(crate) fn on_refusal(
     refusal: Refusal,
     due: Option<Refusal>,
@@ -90,7 +89,7 @@ pub(crate) fn on_refusal(
     }
 }
 
-/// A verdict after which nothing has to be done.
+/// Returns the verdict as a result of judging.
 pub(crate) fn followed(verdict: Verdict) -> Result<(), Failure>
     ensures { result ≡ failing verdict }
 {
@@ -100,7 +99,7 @@ pub(crate) fn followed(verdict: Verdict) -> Result<(), Failure>
     }
 }
 
-/// Whether both are so.
+/// Returns whether both are true.
 pub(crate) fn both(a: bool, b: bool) -> bool
     ensures { result ≡ (a && b) }
 {

@@ -2,7 +2,7 @@ use Rattle.std.proofs.Common.{true, [], ◌∷◌, ◌∙◌}
 use Rattle.promise_core.specs.declared.promise.Promise.{Promise}
 use Rattle.promise_core.specs.Promises.{due}
 use Rattle.promise_core.specs.State.{state_after}
-use Rattle.judge.specs.Verdicts.{broken}
+use Rattle.judge.specs.Judged.{broken}
 use Rattle.judge.proofs.owners.judge_pool.Goals as goal
 
 pub returns : goal.returns

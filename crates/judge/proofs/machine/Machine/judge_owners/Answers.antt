@@ -2,12 +2,10 @@ use Rattle.std.proofs.Common.{◌≡◌, true, false, Err, refl, ap, sym, subst,
 use Rattle.words_core.specs.declared.event.Event.TheVariants as On
 use Rattle.words_core.specs.declared.event.AdminCommand.TheVariants as Do
 use Rattle.promise_core.specs.declared.promise.Promise.{Promise}
-use Rattle.judge.specs.Judged.{failing}
+use Rattle.judge.specs.Judged.{failing, IsJudged, verdict_on}
 use Rattle.promise_core.specs.Promises.{is_for, allowed}
 use Rattle.promise_core.specs.State.{opening_state}
 use Rattle.judge.specs.Machine.{SeenMachine, known_of}
-use Rattle.judge.specs.Judged.{IsJudged}
-use Rattle.judge.specs.Verdicts.{verdict_on}
 use Rattle.judge.proofs.Bridging.{unnamed, pool_astray, pool_judged}
 use Rattle.judge.proofs.Verdicts.{formless}
 use Rattle.judge.proofs.Misfits.{no_pool_table}

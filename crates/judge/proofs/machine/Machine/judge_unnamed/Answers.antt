@@ -1,10 +1,16 @@
-use Rattle.std.proofs.Common.{◌≡◌, true, false, Err, refl, sym, subst, ◌∙◌}
+use Rattle.std.proofs.Common.{◌≡◌, true, false, None, Err, refl, sym, subst, ◌∙◌}
+use Rattle.words_core.specs.Requests.{body_of_answer, reply_to}
+use Rattle.words_core.specs.declared.event.Event.TheVariants as On
+use Rattle.words_core.specs.declared.event.AdminCommand.TheVariants as Do
 use Rattle.promise_core.specs.declared.promise.Promise.{Promise}
-use Rattle.words_core.specs.Requests.{reply_to}
-use Rattle.promise_core.specs.Promises.{is_for, allowed}
+use Rattle.promise_core.specs.Promises.{is_for, allowed, due}
 use Rattle.judge.specs.Machine.{known_of}
-use Rattle.judge.specs.Judged.{IsJudged}
+use Rattle.judge.specs.Seen.{state_of}
+use Rattle.judge.specs.Judged.{IsJudged, IsVerdictFor}
+use Rattle.judge.specs.declared.verdict.Failure.TheVariants as Of
 use Rattle.judge.proofs.Bridging.{unnamed, pool_astray, pool_answered}
+use Rattle.judge.proofs.Verdicts.{refused, misfit}
+use Rattle.judge.proofs.Misfits.{no_pool}
 use Rattle.judge.proofs.machine.Machine.judge_unnamed.Goals as goal
 
 pub returns-then-not-is_for : goal.returns-then-not-is_for
@@ -15,8 +21,18 @@ returns-then-not-is_for c =
       refl,
     )
 
-pub returns : goal.returns
-returns c =
+pub returns-in-Refused : goal.returns-in-Refused
+unfolding due
+returns-in-Refused c =
     let is = unnamed c.args.event.now c.requires in
-    subst (λ e. IsJudged e (reply_to c.args.addressee c.args.answer.now) c.args.self.now c.args.self.now c.judge_no_table.result) (sym is) (pool_answered (reply_to c.args.addressee c.args.answer.now) c.args.self.now c.judge_no_table.result
-    (subst (λ e. is_for e true c.args.addressee ≡ true) is (sym c.is_for.ensures ∙ c.if-not-is_for.false)) c.judge_no_table.ensures.pool)
+    subst (λ e. IsJudged e (reply_to c.args.addressee c.args.answer.now) c.args.self.now c.args.self.now c.on_refusal.result) (sym is) (pool_answered (reply_to c.args.addressee c.args.answer.now) c.args.self.now c.on_refusal.result
+    (subst (λ e. is_for e true c.args.addressee ≡ true) is (sym c.is_for.ensures ∙ c.if-not-is_for.false))
+    (λ w x. subst (λ a. IsVerdictFor (On.Admin Do.Pool) (body_of_answer a) w x x c.on_refusal.result) (sym c.in-Refused.is)
+    (refused (On.Admin Do.Pool) c.in-Refused.refusal w x c.on_refusal.result None false false c.on_refusal.ensures refl refl refl)))
+
+pub returns-in_default : goal.returns-in_default
+returns-in_default c =
+    let is = unnamed c.args.event.now c.requires in
+    subst (λ e. IsJudged e (reply_to c.args.addressee c.args.answer.now) c.args.self.now c.args.self.now (Err (Of.Broken Promise.Form))) (sym is) (pool_answered (reply_to c.args.addressee c.args.answer.now) c.args.self.now (Err (Of.Broken Promise.Form))
+    (subst (λ e. is_for e true c.args.addressee ≡ true) is (sym c.is_for.ensures ∙ c.if-not-is_for.false))
+    (λ w x. misfit (On.Admin Do.Pool) (body_of_answer c.args.answer.now) w x (no_pool x.left.order (state_of x) c.args.answer.now c.in_default.not-Refused)))

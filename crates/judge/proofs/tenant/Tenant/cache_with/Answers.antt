@@ -5,9 +5,8 @@ use Rattle.words_core.specs.declared.event.Command.TheVariants as Asked
 use Rattle.words_core.specs.declared.reply.Body.TheVariants as Say
 use Rattle.promise_core.specs.declared.promise.Promise.{Promise}
 use Rattle.promise_core.specs.Holdings.{cache_told, can_be_taken}
-use Rattle.judge.specs.Verdicts.{broken}
+use Rattle.judge.specs.Judged.{broken, tenant_verdict}
 use Rattle.judge.specs.Seen.{Seen}
-use Rattle.judge.specs.Judged.{tenant_verdict}
 use Rattle.judge.proofs.Deciding.{taken_if}
 use Rattle.judge.proofs.Reading.{none_of}
 use Rattle.judge.proofs.tenant.Tenant.cache_with.Goals as goal

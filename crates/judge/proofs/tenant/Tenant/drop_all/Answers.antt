@@ -1,18 +1,29 @@
-use Rattle.std.proofs.Common.{false, replicate, None, refl, ◌∙◌}
+use Rattle.std.proofs.Common.{false, replicate, None, refl, ◌∙◌, rules, true, [], ◌∷◌}
 use Rattle.words_core.specs.declared.event.Event.TheVariants as On
 use Rattle.words_core.specs.declared.event.AdminCommand.TheVariants as Do
 use Rattle.words_core.specs.declared.reply.Body.TheVariants as Say
+use Rattle.promise_core.specs.declared.promise.Promise.{Promise}
+use Rattle.promise_core.specs.State.{state_after}
+use Rattle.judge.specs.Judged.{broken}
+use Rattle.judge.proofs.Verdicts.{broken_off}
+use Rattle.promise_core.specs.Promises.{due}
 use Rattle.judge.specs.Seen.{Seen}
 use Rattle.judge.proofs.Keeping.{followed}
 use Rattle.judge.proofs.Owning.{emptied, none_marked, owners_emptied}
 use Rattle.judge.proofs.tenant.Tenant.drop_all.Goals as goal
 
+pub returns-in_err-on_answer-clause-judged : goal.returns-in_err-on_answer-clause-judged
+unfolding due state_after
+returns-in_err-on_answer-clause-judged c w = broken_off (On.Admin (Do.Reset c.args.t)) (Say.WasReset c.args.tenant c.args.superblocks) (record w { owners = c.args.owners.now }) c.args.self.now c.in_err-on_answer.field-0.0 c.from_residual.result c.from_residual.ensures.1 (c.in_err-on_answer.ensures ∙ (λ i. broken ((Promise.Refusals, true) ∷ (Promise.Owners, c.are_counted-is_counted.ensures i) ∷ [])))
+
 pub returns-clause-judged : goal.returns-clause-judged
+unfolding due state_after
 returns-clause-judged c w =
     let x : Seen = record { has = c.self.inside.held; left = c.self.inside.left; hides = c.self.inside.hides; told = c.self.inside.told } in
     let new : Seen = record { has = c.reset.new.self; left = c.reset-2.new.self; hides = replicate 32 false; told = None } in
-    followed (On.Admin (Do.Reset c.args.t)) (Say.WasReset c.args.tenant c.args.superblocks) (record w { owners = c.args.owners.now }) x c.args.self.now new c.self.view_is (c.in_ok-judge_reset.ensures w c.args.self.now)
+    followed (On.Admin (Do.Reset c.args.t)) (Say.WasReset c.args.tenant c.args.superblocks) (record w { owners = c.args.owners.now }) x c.args.self.now new c.self.view_is (c.in_ok-on_answer.ensures ∙ (λ i. broken ((Promise.Refusals, true) ∷ (Promise.Owners, c.are_counted-is_counted.ensures i) ∷ [])))
     (λ kept. emptied c.args.t c.args.tenant c.args.superblocks (record w { owners = c.args.owners.now }) x new kept c.reset.ensures c.reset-2.ensures (λ n. none_marked n 32) refl)
 
 pub returns-clause-owners : goal.returns-clause-owners
+unfolding due state_after
 returns-clause-owners c = c.give_up_all.ensures ∙ owners_emptied c.args.t c.args.tenant c.args.superblocks c.args.owners.now

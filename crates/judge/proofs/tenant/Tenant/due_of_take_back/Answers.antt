@@ -13,9 +13,9 @@ pub returns-in-Some : goal.returns-in-Some
 returns-in-Some c t w =
     let x : Seen = record { has = c.self.inside.held; left = c.self.inside.left; hides = c.self.inside.hides; told = c.self.inside.told } in
     let same = c.in-Some.ensures.0 in
-    let busy : c.is_slot_busy.result ≡ is_slot_busy x.left.order x.has c.args.slot = c.is_slot_busy.ensures ∙ (λ i. is_slot_busy (c.order.ensures.value i) x.has (same i)) in
-    subst (λ (y : Seen). c.due_where_busy.result ≡ due (On.Admin (Do.TakeBack t c.args.slot)) (known_at y w) (state_of y)) c.self.view_is
-    (c.due_where_busy.ensures ∙ ((λ i. first_due ((busy i, Refusal.SlotBusy) ∷ [])) ∙ due_of_slot t c.args.slot w x true c.in-Some.ensures.1))
+    let busy : c.is_slot_busy-is_busy.result ≡ is_slot_busy x.left.order x.has c.args.slot = c.is_slot_busy-is_busy.ensures ∙ (λ i. is_slot_busy (c.order.ensures.value i) x.has (same i)) in
+    subst (λ (y : Seen). c.due_if.result ≡ due (On.Admin (Do.TakeBack t c.args.slot)) (known_at y w) (state_of y)) c.self.view_is
+    (c.due_if.ensures ∙ ((λ i. first_due ((busy i, Refusal.SlotBusy) ∷ [])) ∙ due_of_slot t c.args.slot w x true c.in-Some.ensures.1))
 
 pub returns-in-None : goal.returns-in-None
 returns-in-None c t w =

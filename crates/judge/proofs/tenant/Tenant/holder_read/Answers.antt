@@ -11,9 +11,8 @@ use Rattle.promise_core.specs.Bytes.{Holder, holder_of, may_all_be}
 use Rattle.promise_core.specs.Promises.{first_due}
 use Rattle.judge_core.specs.Holders.{shown_holder}
 use Rattle.shadow_memory.specs.Left.{left_at}
-use Rattle.judge.specs.Verdicts.{broken}
+use Rattle.judge.specs.Judged.{broken, tenant_verdict}
 use Rattle.judge.specs.Seen.{Seen}
-use Rattle.judge.specs.Judged.{tenant_verdict}
 use Rattle.judge.proofs.Deciding.{read_if}
 use Rattle.judge.proofs.Reading.{places_held}
 use Rattle.judge.proofs.Reading.{none_of}

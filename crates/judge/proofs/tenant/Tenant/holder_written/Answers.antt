@@ -6,9 +6,8 @@ use Rattle.words_core.specs.declared.reply.Body.TheVariants as Say
 use Rattle.promise_core.specs.declared.promise.Promise.{Promise}
 use Rattle.promise_core.specs.Bytes.{Holder, holder_of}
 use Rattle.judge_core.specs.Holders.{shown_holder}
-use Rattle.judge.specs.Verdicts.{broken}
+use Rattle.judge.specs.Judged.{broken, tenant_verdict}
 use Rattle.judge.specs.Seen.{Seen}
-use Rattle.judge.specs.Judged.{tenant_verdict}
 use Rattle.judge.proofs.Deciding.{written_if}
 use Rattle.judge.proofs.Reading.{none_of}
 use Rattle.std.proofs.lemmas.Bool.{ne_eqb, eq-eqb}

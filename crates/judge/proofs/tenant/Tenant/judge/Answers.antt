@@ -1,36 +1,45 @@
-use Rattle.std.proofs.Common.{sym, subst}
-use Rattle.words_core.specs.Requests.{body_of_answer}
 use Rattle.words_core.specs.declared.event.Event.TheVariants as On
-use Rattle.judge.specs.Judged.{IsVerdictFor}
+use Rattle.judge.proofs.Misfits.{no_alloc, no_free, no_read, no_write, no_cache, no_destroy, no_take, no_give, no_reap, no_report}
 use Rattle.judge.proofs.tenant.Tenant.judge.Goals as goal
+use Rattle.judge.proofs.tenant.Tenant.judge.Goals.{in_default-via-in-Alloc+in_default, in_default-via-in-Free+in_default, in_default-via-in-Read+in_default, in_default-via-in-Write+in_default, in_default-via-in-Cache+in_default, in_default-via-in-Destroy+in_default, in_default-via-in-Take+in_default, in_default-via-in-Give+in_default, in_default-via-in-Reap+in_default, in_default-via-in_default}
 
-pub returns-in-Alloc : goal.returns-in-Alloc
-returns-in-Alloc c t w = subst (λ m. IsVerdictFor (On.Tenant t m) (body_of_answer c.args.answer.now) w c.args.self.now c.alloc.new.self c.alloc.result) (sym c.in-Alloc.is) (c.alloc.ensures t w)
+pub returns-in-Alloc-Frame : goal.returns-in-Alloc-Frame
+returns-in-Alloc-Frame c t w = rw (c.in-Alloc-Frame.is-0, c.in-Alloc-Frame.is-1) (c.add_block.ensures t w)
 
-pub returns-in-Free : goal.returns-in-Free
-returns-in-Free c t w = subst (λ m. IsVerdictFor (On.Tenant t m) (body_of_answer c.args.answer.now) w c.args.self.now c.free.new.self c.free.result) (sym c.in-Free.is) (c.free.ensures t w)
+pub returns-in-Free-Freed : goal.returns-in-Free-Freed
+returns-in-Free-Freed c t w = rw (c.in-Free-Freed.is-0, c.in-Free-Freed.is-1) (c.drop_block.ensures t w)
 
-pub returns-in-Read : goal.returns-in-Read
-returns-in-Read c t w = subst (λ m. IsVerdictFor (On.Tenant t m) (body_of_answer c.args.answer.now) w c.args.self.now c.read.new.self c.read.result) (sym c.in-Read.is) (c.read.ensures t w)
+pub returns-in-Read-Bytes : goal.returns-in-Read-Bytes
+returns-in-Read-Bytes c t w = rw (c.in-Read-Bytes.is-0, c.in-Read-Bytes.is-1) (c.read_bytes.ensures t w)
 
-pub returns-in-Write : goal.returns-in-Write
-returns-in-Write c t w = subst (λ m. IsVerdictFor (On.Tenant t m) (body_of_answer c.args.answer.now) w c.args.self.now c.write.new.self c.write.result) (sym c.in-Write.is) (c.write.ensures t w)
+pub returns-in-Write-Written : goal.returns-in-Write-Written
+returns-in-Write-Written c t w = rw (c.in-Write-Written.is-0, c.in-Write-Written.is-1) (c.write_bytes.ensures t w)
 
-pub returns-in-Cache : goal.returns-in-Cache
-returns-in-Cache c t w = subst (λ m. IsVerdictFor (On.Tenant t m) (body_of_answer c.args.answer.now) w c.args.self.now c.cache.new.self c.cache.result) (sym c.in-Cache.is) (c.cache.ensures t w)
+pub returns-in-Cache-Cache : goal.returns-in-Cache-Cache
+returns-in-Cache-Cache c t w = rw (c.in-Cache-Cache.is-0, c.in-Cache-Cache.is-1) (c.add_cache.ensures t w)
 
-pub returns-in-Destroy : goal.returns-in-Destroy
-returns-in-Destroy c t w = subst (λ m. IsVerdictFor (On.Tenant t m) (body_of_answer c.args.answer.now) w c.args.self.now c.destroy.new.self c.destroy.result) (sym c.in-Destroy.is) (c.destroy.ensures t w)
+pub returns-in-Destroy-Destroyed : goal.returns-in-Destroy-Destroyed
+returns-in-Destroy-Destroyed c t w = rw (c.in-Destroy-Destroyed.is-0, c.in-Destroy-Destroyed.is-1) (c.drop_cache.ensures t w)
 
-pub returns-in-Take : goal.returns-in-Take
-returns-in-Take c t w = subst (λ m. IsVerdictFor (On.Tenant t m) (body_of_answer c.args.answer.now) w c.args.self.now c.take.new.self c.take.result) (sym c.in-Take.is) (c.take.ensures t w)
+pub returns-in-Take-Object : goal.returns-in-Take-Object
+returns-in-Take-Object c t w = rw (c.in-Take-Object.is-0, c.in-Take-Object.is-1) (c.add_object.ensures t w)
 
-pub returns-in-Give : goal.returns-in-Give
-returns-in-Give c t w = subst (λ m. IsVerdictFor (On.Tenant t m) (body_of_answer c.args.answer.now) w c.args.self.now c.give.new.self c.give.result) (sym c.in-Give.is) (c.give.ensures t w)
+pub returns-in-Give-Given : goal.returns-in-Give-Given
+returns-in-Give-Given c t w = rw (c.in-Give-Given.is-0, c.in-Give-Given.is-1) (c.drop_object.ensures t w)
 
-pub returns-in-Reap : goal.returns-in-Reap
-returns-in-Reap c t w = subst (λ m. IsVerdictFor (On.Tenant t m) (body_of_answer c.args.answer.now) w c.args.self.now c.reap.new.self c.reap.result) (sym c.in-Reap.is) (c.reap.ensures t w)
+pub returns-in-Reap-Reaped : goal.returns-in-Reap-Reaped
+returns-in-Reap-Reaped c t w = rw (c.in-Reap-Reaped.is-0, c.in-Reap-Reaped.is-1) (c.drop_empty_slabs.ensures t w)
 
-pub returns-in-Report : goal.returns-in-Report
-returns-in-Report c t w = subst (λ m. IsVerdictFor (On.Tenant t m) (body_of_answer c.args.answer.now) w c.args.self.now c.args.self.now c.judge_no_table.result) (sym c.in-Report.is)
-    (c.judge_no_table.ensures.report t w c.args.self.now)
+pub judge_refusal-requires : goal.judge_refusal-requires
+judge_refusal-requires c t order s none = let a = c.args.answer.now in elim c.in_default.branch [
+  | in_default-via-in-Alloc+in_default w ↦ rw w.in_default.is-0 (no_alloc t order s _ a w.in_default.not-Frame-1 none)
+  | in_default-via-in-Free+in_default w ↦ rw w.in_default.is-0 (no_free t order s _ a w.in_default.not-Freed-1 none)
+  | in_default-via-in-Read+in_default w ↦ rw w.in_default.is-0 (no_read t order s _ _ a w.in_default.not-Bytes-1 none)
+  | in_default-via-in-Write+in_default w ↦ rw w.in_default.is-0 (no_write t order s _ _ a w.in_default.not-Written-1 none)
+  | in_default-via-in-Cache+in_default w ↦ rw w.in_default.is-0 (no_cache t order s _ _ _ a w.in_default.not-Cache-1 none)
+  | in_default-via-in-Destroy+in_default w ↦ rw w.in_default.is-0 (no_destroy t order s _ a w.in_default.not-Destroyed-1 none)
+  | in_default-via-in-Take+in_default w ↦ rw w.in_default.is-0 (no_take t order s _ a w.in_default.not-Object-1 none)
+  | in_default-via-in-Give+in_default w ↦ rw w.in_default.is-0 (no_give t order s _ _ a w.in_default.not-Given-1 none)
+  | in_default-via-in-Reap+in_default w ↦ rw w.in_default.is-0 (no_reap t order s a w.in_default.not-Reaped-1 none)
+  | in_default-via-in_default w ↦ rw w.in_default.is-0 (no_report t order s a none)
+]

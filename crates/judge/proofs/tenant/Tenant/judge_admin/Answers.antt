@@ -1,31 +1,24 @@
-use Rattle.std.proofs.Common.{sym, subst}
-use Rattle.words_core.specs.Requests.{body_of_answer}
-use Rattle.words_core.specs.declared.event.Event.TheVariants as On
-use Rattle.judge.specs.Judged.{IsVerdictFor}
-use Rattle.judge.specs.Judged.{AreOwnersAfter}
-use Rattle.judge.proofs.Owning.{owners_told}
+use Rattle.judge.proofs.Misfits.{no_grant, no_take_back, no_reset, no_move, no_pool}
 use Rattle.judge.proofs.tenant.Tenant.judge_admin.Goals as goal
+use Rattle.judge.proofs.tenant.Tenant.judge_admin.Goals.{in_default-via-in-Grant+in_default, in_default-via-in-TakeBack+in_default, in_default-via-in-Reset+in_default, in_default-via-in-Move+in_default, in_default-via-in_default}
 
-pub returns-in-Grant-clause-judged : goal.returns-in-Grant-clause-judged
-returns-in-Grant-clause-judged c w = subst (λ m. IsVerdictFor (On.Admin m) (body_of_answer c.args.answer.now) (record w { owners = c.args.owners.now }) c.args.self.now c.grant.new.self c.grant.result)
-    (sym c.in-Grant.is) (c.grant.ensures.judged w)
+pub returns-in-Grant-Granted-clause-judged : goal.returns-in-Grant-Granted-clause-judged
+returns-in-Grant-Granted-clause-judged c w = rw (c.in-Grant-Granted.is-0, c.in-Grant-Granted.is-1) (c.add_superblock.ensures.judged w)
 
-pub returns-in-TakeBack-clause-judged : goal.returns-in-TakeBack-clause-judged
-returns-in-TakeBack-clause-judged c w = subst (λ m. IsVerdictFor (On.Admin m) (body_of_answer c.args.answer.now) (record w { owners = c.args.owners.now }) c.args.self.now c.take_back.new.self c.take_back.result)
-    (sym c.in-TakeBack.is) (c.take_back.ensures.judged w)
+pub returns-in-TakeBack-TakenBack-clause-judged : goal.returns-in-TakeBack-TakenBack-clause-judged
+returns-in-TakeBack-TakenBack-clause-judged c w = rw (c.in-TakeBack-TakenBack.is-0, c.in-TakeBack-TakenBack.is-1) (c.drop_superblock.ensures.judged w)
 
-pub returns-in-Reset-clause-judged : goal.returns-in-Reset-clause-judged
-returns-in-Reset-clause-judged c w = subst (λ m. IsVerdictFor (On.Admin m) (body_of_answer c.args.answer.now) (record w { owners = c.args.owners.now }) c.args.self.now c.reset.new.self c.reset.result)
-    (sym c.in-Reset.is) (c.reset.ensures.judged w)
+pub returns-in-Reset-WasReset-clause-judged : goal.returns-in-Reset-WasReset-clause-judged
+returns-in-Reset-WasReset-clause-judged c w = rw (c.in-Reset-WasReset.is-0, c.in-Reset-WasReset.is-1) (c.drop_all.ensures.judged w)
 
-pub returns-in-Move-clause-judged : goal.returns-in-Move-clause-judged
-returns-in-Move-clause-judged c w = subst (λ m. IsVerdictFor (On.Admin m) (body_of_answer c.args.answer.now) (record w { owners = c.args.owners.now }) c.args.self.now c.args.self.now c.move_slot.result)
-    (sym c.in-Move.is) (c.move_slot.ensures.judged w)
+pub returns-in-Move-Moved-clause-judged : goal.returns-in-Move-Moved-clause-judged
+returns-in-Move-Moved-clause-judged c w = rw (c.in-Move-Moved.is-0, c.in-Move-Moved.is-1) (c.put_over.ensures.judged w)
 
-pub returns-in-Pool-clause-judged : goal.returns-in-Pool-clause-judged
-returns-in-Pool-clause-judged c w = subst (λ m. IsVerdictFor (On.Admin m) (body_of_answer c.args.answer.now) (record w { owners = c.args.owners.now }) c.args.self.now c.args.self.now c.judge_no_table.result)
-    (sym c.in-Pool.is) (c.judge_no_table.ensures.pool (record w { owners = c.args.owners.now }) c.args.self.now)
-
-pub returns-in-Pool-clause-owners : goal.returns-in-Pool-clause-owners
-returns-in-Pool-clause-owners c = subst (λ m. AreOwnersAfter (On.Admin m) (body_of_answer c.args.answer.now) c.args.owners.now c.args.owners.now c.judge_no_table.result) (sym c.in-Pool.is)
-    (owners_told (body_of_answer c.args.answer.now) c.args.owners.now c.judge_no_table.result)
+pub judge_admin_refusal-requires : goal.judge_admin_refusal-requires
+judge_admin_refusal-requires c order s none = let a = c.args.answer.now in elim c.in_default.branch [
+  | in_default-via-in-Grant+in_default w ↦ rw w.in_default.is-0 (no_grant _ order s a w.in_default.not-Granted-1 none)
+  | in_default-via-in-TakeBack+in_default w ↦ rw w.in_default.is-0 (no_take_back _ order s _ a w.in_default.not-TakenBack-1 none)
+  | in_default-via-in-Reset+in_default w ↦ rw w.in_default.is-0 (no_reset _ order s a w.in_default.not-WasReset-1 none)
+  | in_default-via-in-Move+in_default w ↦ rw w.in_default.is-0 (no_move _ order s _ a w.in_default.not-Moved-1 none)
+  | in_default-via-in_default w ↦ rw w.in_default.is-0 (no_pool order s a none)
+]

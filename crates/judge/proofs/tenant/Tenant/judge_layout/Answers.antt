@@ -1,14 +1,12 @@
-use Rattle.std.proofs.Common.{◌+◌, ◌*◌, ◌^◌, ◌&&◌, [], ◌∷◌, ap, ◌∙◌}
+use Rattle.std.proofs.Common.{◌+◌, ◌*◌, ◌^◌, ◌&&◌, [], ◌∷◌, ap, ◌∙◌, ◌-◌, ◌%◌}
 use Rattle.std.specs.Prelude.{◌==◌, is_none, nat_le}
 use Rattle.words_core.specs.declared.event.Event.TheVariants as On
 use Rattle.words_core.specs.declared.event.Command.TheVariants as Asked
 use Rattle.words_core.specs.declared.reply.Body.TheVariants as Say
 use Rattle.promise_core.specs.declared.promise.Promise.{Promise}
 use Rattle.promise_core.specs.State.{state_after}
-use Rattle.judge.specs.Verdicts.{broken}
+use Rattle.judge.specs.Judged.{broken, known_at}
 use Rattle.judge.specs.Seen.{Seen, state_of}
-use Rattle.judge.specs.Judged.{known_at}
-use Rattle.std.proofs.Common.{◌-◌, ◌%◌}
 use Rattle.promise_core.specs.Promises.{new_layout}
 use Rattle.judge.proofs.tenant.Tenant.judge_layout.Goals as goal
 

@@ -9,9 +9,8 @@ use Rattle.promise_core.specs.Holdings.{is_slot_busy}
 use Rattle.promise_core.specs.Promises.{due, first_due}
 use Rattle.judge.specs.Seen.{Seen}
 use Rattle.judge.specs.Judged.{failing, IsVerdictFor}
-use Rattle.judge.proofs.Verdicts.{refused}
+use Rattle.judge.proofs.Verdicts.{refused, late_busy}
 use Rattle.judge.proofs.Deciding.{due_of_slot}
-use Rattle.judge.proofs.Verdicts.{late_busy}
 use Rattle.judge.proofs.tenant.Tenant.judge_slot_kept.Goals as goal
 
 pub returns-in-Some : goal.returns-in-Some
@@ -21,9 +20,9 @@ returns-in-Some c t w =
     let same = c.in-Some.ensures.0 in
     let busy : c.is_slot_busy-is_busy.result ≡ is_slot_busy x.left.order x.has c.args.slot = c.is_slot_busy-is_busy.ensures ∙ (λ i. is_slot_busy (c.order.ensures.value i) x.has (same i)) in
     subst (λ (y : Seen). IsVerdictFor (On.Admin (Do.TakeBack t c.args.slot)) (Say.Refused c.args.refusal) w y y c.on_refusal.result) c.self.view_is
-    (refused (On.Admin (Do.TakeBack t c.args.slot)) c.args.refusal w x c.on_refusal.result c.due_where_busy.result false c.may_be_busy-may_be_busy.result
+    (refused (On.Admin (Do.TakeBack t c.args.slot)) c.args.refusal w x c.on_refusal.result c.due_if-due.result false c.may_be_busy-may_be_busy.result
     c.on_refusal.ensures
-    (c.due_where_busy.ensures ∙ ((λ i. first_due ((busy i, Refusal.SlotBusy) ∷ [])) ∙ due_of_slot t c.args.slot w x true c.in-Some.ensures.1)) refl
+    (c.due_if-due.ensures ∙ ((λ i. first_due ((busy i, Refusal.SlotBusy) ∷ [])) ∙ due_of_slot t c.args.slot w x true c.in-Some.ensures.1)) refl
     (c.may_be_busy-may_be_busy.ensures ∙ (λ i. busy i || list_any (λ y. slice_index_or (sym (ap (λ (z : Seen). z.hides) c.self.view_is) i) y.number false) (sym (ap (λ (z : Seen). z.has.caches) c.self.view_is) i))))
 
 pub returns-in-None : goal.returns-in-None
