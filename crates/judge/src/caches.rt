@@ -129,7 +129,8 @@ impl Tenant {
     /// Returns whether the slabs of the cache `only`, or those of all caches, can give back this many frames.
     fn can_come_back(&self, only: Option<u32>, frames: u32) -> bool
         ensures { result ≡ can_come_back self.now.left.order
-            (filter (λ c. option_map_or (λ number. c.number == number) only true) self.now.has.caches) frames (state_of self.now) }
+            (filter (λ c. option_map_or (λ number. c.number == number) only true) self.now.has.caches) frames
+            (state_of self.now) }
     {
         frames == 0
             || (u128::from(frames) <= self.held.count_vacant(self.left.order(), 0)

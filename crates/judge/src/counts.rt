@@ -46,7 +46,7 @@ pub(crate) fn frames_in(count: u32, order: u8) -> u64
     u64::from(count) * (1u64 << order)
 }
 
-/// Returns how many frames blocks of these numbers have, without those below order `k`, and the others taken for `k` orders smaller.
+/// Returns how many frames the blocks from order `k` on have, if they are taken for `k` orders smaller.
 pub(crate) fn frames_from(counts: &[u32], k: u8) -> u64
     requires { length counts.now ≤ ORDERS }
     ensures { result ≡ frames_of_counts (drop k counts.now) }

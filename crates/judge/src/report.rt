@@ -36,7 +36,8 @@ impl Tenant {
         }
     }
 
-    /// Judges and follows a report that was asked for. It is not inlined: a function clears space for a report that it copies on entry.
+    /// Judges and follows a report that was asked for. It is not inlined: a function clears space for a report that it copies on
+    /// entry.
     #[inline(never)]
     fn judge_report(&mut self, report: &Report) -> Verdict
         ensures { (t : ℕ) (w : Known)

@@ -65,7 +65,8 @@ pub(crate) fn empty_frames(held: &Held, report: &Report, only: Option<u32>) -> u
 #[tactic(auto, using(crate::proofs::Sums::one_more_pair))]
 fn sum_empty(caches: &[HeldCache], rows: &[CacheRow], only: Option<u32>) -> u64
     requires { length rows.now ≤ CACHES }
-    ensures { result ≡ sum_by (λ p. if option_map_or (λ number. p.0.number == number) only true then p.1.empty * 2 ^ p.0.order else 0)
+    ensures { result ≡ sum_by
+        (λ p. if option_map_or (λ number. p.0.number == number) only true then p.1.empty * 2 ^ p.0.order else 0)
         (zip caches.now rows.now) }
 {
     let mut frames = 0u64;

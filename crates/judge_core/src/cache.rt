@@ -1,4 +1,4 @@
-//! A cache of a tenant, as it was asked for and as its reply told it.
+//! A cache of a tenant, as it was asked for and as its reply reported it.
 
 ghost use Rattle.std.specs.Prelude.{◌≡◌, ℕ, ◌+◌, ◌-◌, ◌*◌, ◌/◌, ◌%◌, ◌^◌, ◌<◌, ◌≤◌, nat_le, nat_lt, ◌==◌, ◌&&◌, not};
 ghost use Rattle.std.specs.Prelude.{find, filter, length, [], IfOk, OnErr};
@@ -47,7 +47,7 @@ impl Model for HeldCache {
 }
 
 impl HeldCache {
-    /// A cache without live objects, whose objects are constructed as the pattern.
+    /// Returns a cache without live objects, whose objects are constructed as the pattern.
     pub fn new(
         alloc: Global,
         number: u8,
@@ -117,7 +117,7 @@ impl HeldCache {
         self.live.as_slice()
     }
 
-    /// A slab has `2^order` frames.
+    /// Returns the order of a slab, which has `2^order` frames.
     pub fn order(&self) -> u8
         ensures value { result ≡ self.now.order }
         ensures most { result ≤ MOST_ORDER }

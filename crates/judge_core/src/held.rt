@@ -1,4 +1,4 @@
-//! What a tenant has, as replies told it.
+//! What a tenant has, as replies reported it.
 
 ghost use Rattle.std.specs.Prelude.{◌≡◌, ℕ, ◌+◌, ◌-◌, ◌*◌, ◌/◌, ◌%◌, ◌^◌, ◌<◌, ◌≤◌, nat_le, nat_lt, ◌==◌, ◌&&◌, Bool, map, find, filter, length, Some, option_map, true, false, MatchOption, slice_index_or, position, IfSome};
 ghost use Rattle.std.specs.List.{list_any, list_all};
@@ -150,7 +150,7 @@ impl Held {
             .any(|page| block.overlaps(page))
     }
 
-    /// All live page blocks that end behind the frame `begin` and begin before the frame `end`, and maybe others.
+    /// Returns all live page blocks that end behind the frame `begin` and begin before the frame `end`, and maybe others.
     pub(crate) fn pages_near(&self, begin: u64, end: u64) -> &[FrameBlock]
         requires order { begin ≤ end }
         requires small { end < 2 ^ 33 }
@@ -265,7 +265,7 @@ impl Held {
             && cache.has_gap_among(place, beside)
     }
 
-    /// What has the `len` bytes from a place on, at least one: a live page block, or a live object.
+    /// Returns what has the `len` bytes from a place on, at least one: a live page block, or a live object.
     #[tactic(auto, unfolding(promise_core::specs::Bytes::holder_of))]
     pub fn holder_of(&self, place: u32, len: u32) -> Option<RangeHolder>
         ensures { option_map shown_holder result ≡ holder_of self.now place len }
@@ -313,7 +313,7 @@ pub fn is_marked(marks: &[bool], number: u8) -> bool
     marks.get(usize::from(number)).copied().unwrap_or(false)
 }
 
-/// Which of these is the cache of this number.
+/// Returns the index of the cache of this number.
 pub(crate) fn index_of_cache(caches: &[HeldCache], number: u32) -> Option<usize>
     ensures value { result ≡ position (λ c. c.number == number) caches.now }
     ensures inside { IfSome result (λ i. i < length caches.now) }

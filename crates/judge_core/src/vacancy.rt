@@ -18,7 +18,7 @@ use words_core::ORDERS;
 const MOST_FRAMES: usize = 256;
 
 impl Held {
-    /// Which frames of a slot are taken, from its first one on.
+    /// Returns which frames of a slot are taken, from its first one on.
     pub(crate) fn taken_in(&self, slot: &FrameBlock) -> [bool; MOST_FRAMES]
         ensures long { length result ≡ 256 }
         ensures taken { (f : ℕ) → f < 2 ^ slot.now.order
@@ -31,7 +31,7 @@ impl Held {
         taken
     }
 
-    /// [`Held::count_vacant`] of each order from 0 to that of a slot, in one pass over the slots.
+    /// Returns [`Held::count_vacant`] of each order from 0 to that of a slot, in one pass over the slots.
     pub fn vacant_by_order(&self, order: u8) -> [u128; ORDERS]
         requires { order ≤ MOST_ORDER }
         ensures long { length result ≡ 9 }

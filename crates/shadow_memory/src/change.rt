@@ -41,7 +41,7 @@ pub(crate) trait Change {
 pub(crate) struct Doubt<T>(pub T);
 
 impl<T: HolderTest> Doubt<T> {
-    /// What is stored of a place then.
+    /// Returns what is stored of a place then.
     fn doubted(&self, kept: KeptByte) -> KeptByte
         ensures { (place : ℕ) → shown_kept result ≡ doubted_of (T.test self.now.0) place (shown_kept kept) }
     {
@@ -96,7 +96,7 @@ impl<T: HolderTest> Change for Doubt<T> {
 pub(crate) struct Remove<T>(pub T);
 
 impl<T: HolderTest> Remove<T> {
-    /// What is stored of a place then.
+    /// Returns what is stored of a place then.
     fn without(&self, kept: KeptByte) -> KeptByte
         ensures { (place : ℕ) → shown_kept result ≡ removed_of (T.test self.now.0) place (shown_kept kept) }
     {

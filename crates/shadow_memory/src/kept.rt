@@ -30,7 +30,7 @@ pub(crate) enum KeptByte {
 const _: () = prove!(size_of::<KeptByte>() == 8);
 
 impl KeptByte {
-    /// What is stored of what was left.
+    /// Returns what is stored of what was left.
     pub fn of(left: LeftByte) -> KeptByte
         ensures { shown_kept result ≡ Some (shown_cell left) }
     {
@@ -48,7 +48,7 @@ impl KeptByte {
         }
     }
 
-    /// What was left.
+    /// Returns what was left.
     pub fn left(self) -> Option<LeftByte>
         ensures { option_map shown_cell result ≡ shown_kept self }
     {

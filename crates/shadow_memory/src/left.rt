@@ -139,7 +139,7 @@ impl ShadowMemory {
         ensures { (c : ToldCache) → c.number ≡ number → c.size ≡ size → slab_around c first ≡ slab.now
             → Becomes self.old (left_slots self.old) (with_object first (Some c)) self.new }
     {
-        // all of other caches goes; of its own cache only an object goes that begins before its end and ends behind its first byte
+        // All of other caches goes; of its own cache only an object that begins before its end and ends behind its first byte.
         let own = u32::from(number);
         let low = u64::from(first.saturating_sub(size));
         let end_of_own = u64::from(first) + u64::from(size);

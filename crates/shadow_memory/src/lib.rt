@@ -1,4 +1,4 @@
-//! Shadow memory: for each place of a tenant's slots the byte that was left there, its holder, and whether the byte is sure. So it
+//! Shadow memory: for each place of a tenant's slots the byte that was left there, its holder, and whether the byte is sure. It
 //! decides what a read may report.
 #![tactic(auto)]
 

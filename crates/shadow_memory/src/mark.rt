@@ -40,7 +40,7 @@ impl Mark {
         sure: true,
     };
 
-    /// Returns the same, or bytes of the holder that are surely there.
+    /// Returns the mark after bytes of the holder are surely there.
     pub fn with(self, holder: RangeHolder) -> Mark
         ensures more { (cell : Option Cell) → IsMarkedAs self cell → IsMarkedAs result cell }
         ensures owners { MayOwn result.owners (shown_holder holder) }
@@ -54,7 +54,7 @@ impl Mark {
 }
 
 impl Owners {
-    /// These, or the holder.
+    /// Returns these owners and the holder.
     fn with(self, holder: RangeHolder) -> Owners
         ensures more { (h : Holder) → MayOwn self h → MayOwn result h }
         ensures owners { MayOwn result (shown_holder holder) }
@@ -77,7 +77,7 @@ impl Owners {
     }
 }
 
-/// Two holders.
+/// Returns both holders as owners.
 fn both(one: RangeHolder, other: RangeHolder) -> Owners
     ensures one { MayOwn result (shown_holder one) }
     ensures other { MayOwn result (shown_holder other) }

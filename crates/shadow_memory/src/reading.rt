@@ -40,7 +40,7 @@ impl ShadowMemory {
         true
     }
 
-    /// What was left so far behind a place, from which on these are stored.
+    /// Returns what was left `i` places behind a place, from which on `kept` is stored.
     fn left_behind(&self, kept: &[KeptByte], place: u32, i: u32) -> Option<LeftByte>
         requires kept { AreFrom self.now place kept.now }
         requires low { place + i < 2 ^ 32 }

@@ -1,4 +1,4 @@
-use Rattle.std.proofs.Common.{◌≡◌, ℕ, ◌+◌, ◌*◌, ◌^◌, Bool, false, not, ◌&&◌, List, [], ◌∷◌, Option, slice_get, refl, ap, sym, subst, ◌∙◌, rules}
+use Rattle.std.proofs.Common.{◌≡◌, ℕ, ◌+◌, ◌*◌, ◌^◌, Bool, false, not, ◌&&◌, List, [], ◌∷◌, Option, slice_get, refl, ap, sym, subst, ◌∙◌}
 use Rattle.std.specs.Prelude.{Result, ◌==◌, filter, is_none, nat_le}
 use Rattle.std.specs.Option.{option_map_or}
 use Rattle.model_core.specs.declared.limits.TheConstants.{FRAME_BYTES}
@@ -38,9 +38,10 @@ pub returns-in_err-grant-clause-judged : goal.returns-in_err-grant-clause-judged
 returns-in_err-grant-clause-judged c w =
     let x : Seen = record { has = c.self.inside.held; left = c.self.inside.left; hides = c.self.inside.hides; told = c.self.inside.told } in
     failed_by (On.Admin (Do.Grant c.args.t)) (Say.Granted c.args.tenant c.args.slot c.args.superblock) (record w { owners = c.args.owners.now }) c.args.self.now _ _
-    c.from_residual-in_err-grant.result c.from_residual-in_err-grant.ensures.1
-    ((sym (granting c.args.t c.args.tenant c.args.slot c.args.superblock w c.args.self.now c.args.owners.now _ _ _ c.due_of_grant.ensures (c.both-is_right.ensures ∙ (λ j. c.is_granted_to-is_granted.ensures j && c.is_new_slot.ensures j)) c.in_ok-on_answer.ensures), refl),
-    ap (λ (h : Holdings). record x { has = h }) c.in_err-grant.ensures.kept ∙ c.self.view_is)
+    c.from_residual-in_err-grant.result c.from_residual-in_err-grant.ensures.1 (
+      (sym (granting c.args.t c.args.tenant c.args.slot c.args.superblock w c.args.self.now c.args.owners.now _ _ _ c.due_of_grant.ensures (c.both-is_right.ensures ∙ (λ j. c.is_granted_to-is_granted.ensures j && c.is_new_slot.ensures j)) c.in_ok-on_answer.ensures), refl),
+      ap (λ (h : Holdings). record x { has = h }) c.in_err-grant.ensures.kept ∙ c.self.view_is,
+    )
 
 pub grant-requires-2-clause-new : goal.grant-requires-2-clause-new
 grant-requires-2-clause-new c =

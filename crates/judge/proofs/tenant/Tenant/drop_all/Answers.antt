@@ -1,4 +1,4 @@
-use Rattle.std.proofs.Common.{false, replicate, None, refl, ◌∙◌, rules, true, [], ◌∷◌}
+use Rattle.std.proofs.Common.{false, replicate, None, refl, ◌∙◌, true, [], ◌∷◌}
 use Rattle.words_core.specs.declared.event.Event.TheVariants as On
 use Rattle.words_core.specs.declared.event.AdminCommand.TheVariants as Do
 use Rattle.words_core.specs.declared.reply.Body.TheVariants as Say

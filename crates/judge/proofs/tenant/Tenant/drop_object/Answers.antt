@@ -1,4 +1,4 @@
-use Rattle.std.proofs.Common.{ap, rules, true, [], ◌∷◌, ◌∙◌}
+use Rattle.std.proofs.Common.{ap, true, [], ◌∷◌, ◌∙◌}
 use Rattle.words_core.specs.declared.event.Event.TheVariants as On
 use Rattle.words_core.specs.declared.event.Command.TheVariants as Asked
 use Rattle.words_core.specs.declared.reply.Body.TheVariants as Say

@@ -1,4 +1,4 @@
-use Rattle.std.proofs.Common.{false, None, refl, sym, subst}
+use Rattle.std.proofs.Common.{false, refl}
 use Rattle.words_core.specs.Requests.{body_of_answer}
 use Rattle.words_core.specs.declared.event.Event.TheVariants as On
 use Rattle.promise_core.specs.Promises.{due}

@@ -1,4 +1,4 @@
-use Rattle.std.proofs.Common.{false, None, IfSome, refl, ap, sym, subst, ◌∙◌}
+use Rattle.std.proofs.Common.{false, IfSome, refl, ap, sym, subst, ◌∙◌}
 use Rattle.words_core.specs.Requests.{body_of_answer}
 use Rattle.words_core.specs.declared.event.Event.TheVariants as On
 use Rattle.words_core.specs.declared.reply.Body.TheVariants as Say

@@ -1,4 +1,4 @@
-use Rattle.std.proofs.Common.{rules, ◌&&◌, [], ◌∷◌, Some, ap, sym, ◌∙◌, slice_set}
+use Rattle.std.proofs.Common.{◌&&◌, [], ◌∷◌, Some, ap, sym, ◌∙◌, slice_set}
 use Rattle.promise_core.specs.declared.promise.Promise.{Promise}
 use Rattle.promise_core.specs.State.{state_after}
 use Rattle.judge.specs.Judged.{broken}
