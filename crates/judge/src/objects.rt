@@ -11,7 +11,7 @@ ghost use Rattle.judge.specs.Judged.{IsVerdictFor, known_at, tenant_verdict, onl
 ghost use Rattle.judge.specs.Seen.{state_of};
 
 use crate::marks::set_mark;
-use crate::tenant::Tenant;
+use crate::tenant::{Tenant, forget};
 use crate::verdict::{Failure, on_answer};
 use judge_core::HeldCache;
 use promise_core::promise::Promise;
@@ -30,7 +30,7 @@ impl Tenant {
         self.held.take(number, place)?;
         self.left.take(&slab, own_number, place, size);
         set_mark(&mut self.hides, number);
-        self.told = None;
+        forget(&mut self.told);
         Ok(())
     }
 
@@ -57,7 +57,7 @@ impl Tenant {
         on_answer(self.due_of_give(number, place), Promise::Gives, true)?;
         self.held.give(number, place);
         self.left.give(number, place);
-        self.told = None;
+        forget(&mut self.told);
         Ok(())
     }
 

@@ -8,7 +8,7 @@ ghost use Rattle.words_core.specs.declared.reply.Body.TheVariants as Say;
 ghost use Rattle.promise_core.specs.State.{Known};
 ghost use Rattle.judge.specs.Judged.{IsVerdictFor, tenant_verdict, only_verdict};
 
-use crate::tenant::Tenant;
+use crate::tenant::{Tenant, forget};
 use crate::verdict::Failure;
 use judge_core::FrameBlock;
 use promise_core::promise::Promise;
@@ -21,7 +21,7 @@ impl Tenant {
         let block = self.new_block(k, frame)?;
         self.held.alloc(block)?;
         self.left.alloc(&block);
-        self.told = None;
+        forget(&mut self.told);
         Ok(())
     }
 
@@ -49,7 +49,7 @@ impl Tenant {
         let block = self.live_block(frame, k)?;
         self.held.free(frame);
         self.left.free(&block);
-        self.told = None;
+        forget(&mut self.told);
         Ok(())
     }
 

@@ -1,6 +1,6 @@
 //! What is kept of a tenant.
 
-ghost use Rattle.std.specs.Prelude.{◌≡◌, ◌≤◌, ℕ, IfOk, find, length};
+ghost use Rattle.std.specs.Prelude.{◌≡◌, ◌≤◌, ℕ, IfOk, None, find, length};
 ghost use Rattle.model_core.specs.declared.limits.TheConstants.{MOST_ORDER, MOST_SUPERBLOCKS};
 ghost use Rattle.model_core.specs.Operations.{overlaps};
 ghost use Rattle.words_core.specs.Requests.{body_of_answer};
@@ -165,5 +165,14 @@ impl Tenant {
             ) => self.put_over(owners, *t, *slot, *tenant, *told, *superblock),
             _ => self.judge_admin_refusal(owners, command, answer),
         }
+    }
+}
+
+/// Forgets a report, if there is one. To store none costs as many bytes of zeroes as a report has, so that is done at need alone.
+pub(crate) fn forget(report: &mut Option<Report>)
+    ensures { report.new ≡ None }
+{
+    if report.is_some() {
+        *report = None;
     }
 }

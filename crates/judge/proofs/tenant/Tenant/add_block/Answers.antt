@@ -1,7 +1,10 @@
-use Rattle.std.proofs.Common.{ap}
+use Rattle.std.proofs.Common.{ap, sym, subst}
 use Rattle.words_core.specs.declared.event.Event.TheVariants as On
 use Rattle.words_core.specs.declared.event.Command.TheVariants as Asked
 use Rattle.words_core.specs.declared.reply.Body.TheVariants as Say
+use Rattle.std.specs.Prelude.{Option}
+use Rattle.words_core.specs.declared.report.Report.{Report}
+use Rattle.judge.specs.Judged.{IsFollowed}
 use Rattle.judge.specs.Seen.{Seen}
 use Rattle.judge.proofs.Keeping.{sound_in, followed, same_slots}
 use Rattle.judge.proofs.Following.{nothing, changed, allocated}
@@ -19,5 +22,6 @@ pub returns : goal.returns
 returns c t w =
     let x : Seen = record { has = c.self.inside.held; left = c.self.inside.left; hides = c.self.inside.hides; told = c.self.inside.told } in
     let new : Seen = changed x c.alloc.new.self c.alloc-2.new.self in
-    followed (On.Tenant t (Asked.Alloc c.args.k)) (Say.Frame c.args.frame) w x c.args.self.now new c.self.view_is (c.in_ok-block.ensures.judged t w)
-    (λ kept. allocated t c.args.k c.args.frame w c.in_ok-block.block x c.alloc.new.self c.alloc-2.new.self c.in_ok-block.ensures.is kept c.in_ok-alloc.ensures.taken c.alloc-2.ensures)
+    subst (λ (told : Option Report). IsFollowed (On.Tenant t (Asked.Alloc c.args.k)) (Say.Frame c.args.frame) w c.args.self.now (record new { told = told })) (sym c.forget.ensures)
+    (followed (On.Tenant t (Asked.Alloc c.args.k)) (Say.Frame c.args.frame) w x c.args.self.now new c.self.view_is (c.in_ok-block.ensures.judged t w)
+    (λ kept. allocated t c.args.k c.args.frame w c.in_ok-block.block x c.alloc.new.self c.alloc-2.new.self c.in_ok-block.ensures.is kept c.in_ok-alloc.ensures.taken c.alloc-2.ensures))

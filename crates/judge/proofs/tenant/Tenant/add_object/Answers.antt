@@ -1,8 +1,11 @@
-use Rattle.std.proofs.Common.{None, ap, sym, ◌∙◌}
+use Rattle.std.proofs.Common.{None, ap, sym, ◌∙◌, subst}
 use Rattle.words_core.specs.declared.event.Event.TheVariants as On
 use Rattle.words_core.specs.declared.event.Command.TheVariants as Asked
 use Rattle.words_core.specs.declared.reply.Body.TheVariants as Say
 use Rattle.promise_core.specs.Holdings.{cache_told}
+use Rattle.std.specs.Prelude.{Option}
+use Rattle.words_core.specs.declared.report.Report.{Report}
+use Rattle.judge.specs.Judged.{IsFollowed}
 use Rattle.judge.specs.Seen.{Seen}
 use Rattle.judge.proofs.Keeping.{sound_in, followed, same_slots}
 use Rattle.judge.proofs.Following.{nothing, taken, number_low}
@@ -21,9 +24,10 @@ pub returns : goal.returns
 returns c t w =
     let x : Seen = record { has = c.self.inside.held; left = c.self.inside.left; hides = c.self.inside.hides; told = c.self.inside.told } in
     let new : Seen = record { has = c.take.new.self; left = c.take-2.new.self; hides = c.set_mark.new.marks; told = None } in
-    followed (On.Tenant t (Asked.Take c.args.number)) (Say.Object c.args.place) w x c.args.self.now new c.self.view_is (c.in_ok-cache.ensures.judged t w)
+    subst (λ (told : Option Report). IsFollowed (On.Tenant t (Asked.Take c.args.number)) (Say.Object c.args.place) w c.args.self.now (record new { told = told })) (sym c.forget.ensures)
+    (followed (On.Tenant t (Asked.Take c.args.number)) (Say.Object c.args.place) w x c.args.self.now new c.self.view_is (c.in_ok-cache.ensures.judged t w)
     (λ kept. taken t c.args.number c.args.place w c.in_ok-cache.cache.now x c.take.new.self c.take-2.new.self c.set_mark.new.marks (ap (λ (y : Seen). cache_told y.has c.args.number) c.self.view_is ∙ c.in_ok-cache.ensures.is) kept c.in_ok-take.ensures.taken
-    (c.take-2.ensures c.in_ok-cache.cache.now (sym c.number-own_number.ensures) (sym c.size-size.ensures.value) (sym c.slab_around-slab.ensures)) c.set_mark.ensures)
+    (c.take-2.ensures c.in_ok-cache.cache.now (sym c.number-own_number.ensures) (sym c.size-size.ensures.value) (sym c.slab_around-slab.ensures)) c.set_mark.ensures))
 
 pub set_mark-requires : goal.set_mark-requires
 set_mark-requires c = number_low c.self.inside.held c.args.number c.in_ok-cache.cache.now c.self.invariant.numbered

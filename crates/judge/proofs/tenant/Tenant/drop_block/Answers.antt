@@ -1,7 +1,10 @@
-use Rattle.std.proofs.Common.{ap}
+use Rattle.std.proofs.Common.{ap, sym, subst}
 use Rattle.words_core.specs.declared.event.Event.TheVariants as On
 use Rattle.words_core.specs.declared.event.Command.TheVariants as Asked
 use Rattle.words_core.specs.declared.reply.Body.TheVariants as Say
+use Rattle.std.specs.Prelude.{Option}
+use Rattle.words_core.specs.declared.report.Report.{Report}
+use Rattle.judge.specs.Judged.{IsFollowed}
 use Rattle.judge.specs.Seen.{Seen}
 use Rattle.judge.proofs.Keeping.{sound_in, followed, same_slots}
 use Rattle.judge.proofs.Following.{nothing, changed, freed}
@@ -19,5 +22,6 @@ pub returns : goal.returns
 returns c t w =
     let x : Seen = record { has = c.self.inside.held; left = c.self.inside.left; hides = c.self.inside.hides; told = c.self.inside.told } in
     let new : Seen = changed x c.free.new.self c.free-2.new.self in
-    followed (On.Tenant t (Asked.Free c.args.frame)) (Say.Freed c.args.k) w x c.args.self.now new c.self.view_is (c.in_ok-block.ensures.judged t w)
-    (λ kept. freed t c.args.frame c.args.k w c.in_ok-block.block x c.free.new.self c.free-2.new.self c.in_ok-block.ensures.is kept c.free.ensures c.free-2.ensures)
+    subst (λ (told : Option Report). IsFollowed (On.Tenant t (Asked.Free c.args.frame)) (Say.Freed c.args.k) w c.args.self.now (record new { told = told })) (sym c.forget.ensures)
+    (followed (On.Tenant t (Asked.Free c.args.frame)) (Say.Freed c.args.k) w x c.args.self.now new c.self.view_is (c.in_ok-block.ensures.judged t w)
+    (λ kept. freed t c.args.frame c.args.k w c.in_ok-block.block x c.free.new.self c.free-2.new.self c.in_ok-block.ensures.is kept c.free.ensures c.free-2.ensures))

@@ -1,12 +1,13 @@
-use Rattle.std.proofs.Common.{ap, true, [], ◌∷◌, ◌∙◌}
+use Rattle.std.proofs.Common.{ap, true, [], ◌∷◌, ◌∙◌, sym, subst}
 use Rattle.words_core.specs.declared.event.Event.TheVariants as On
 use Rattle.words_core.specs.declared.event.Command.TheVariants as Asked
 use Rattle.words_core.specs.declared.reply.Body.TheVariants as Say
 use Rattle.promise_core.specs.declared.promise.Promise.{Promise}
 use Rattle.promise_core.specs.State.{state_after}
-use Rattle.judge.specs.Judged.{broken}
+use Rattle.judge.specs.Judged.{IsFollowed, broken}
 use Rattle.judge.proofs.Verdicts.{broken_off}
-use Rattle.std.specs.Prelude.{is_none}
+use Rattle.std.specs.Prelude.{Option, is_none}
+use Rattle.words_core.specs.declared.report.Report.{Report}
 use Rattle.judge.specs.Seen.{Seen}
 use Rattle.judge.proofs.Keeping.{sound_in, followed, same_slots}
 use Rattle.judge.proofs.Following.{nothing, changed, given}
@@ -30,5 +31,6 @@ unfolding state_after
 returns c t w =
     let x : Seen = record { has = c.self.inside.held; left = c.self.inside.left; hides = c.self.inside.hides; told = c.self.inside.told } in
     let new : Seen = changed x c.give.new.self c.give-2.new.self in
-    followed (On.Tenant t (Asked.Give c.args.number c.args.place)) Say.Given w x c.args.self.now new c.self.view_is (c.in_ok-on_answer.ensures ∙ (λ i. broken ((Promise.Refusals, is_none (c.due_of_give.ensures t w i)) ∷ (Promise.Gives, true) ∷ [])))
-    (λ kept. given t c.args.number c.args.place w x c.give.new.self c.give-2.new.self kept c.give.ensures c.give-2.ensures)
+    subst (λ (told : Option Report). IsFollowed (On.Tenant t (Asked.Give c.args.number c.args.place)) Say.Given w c.args.self.now (record new { told = told })) (sym c.forget.ensures)
+    (followed (On.Tenant t (Asked.Give c.args.number c.args.place)) Say.Given w x c.args.self.now new c.self.view_is (c.in_ok-on_answer.ensures ∙ (λ i. broken ((Promise.Refusals, is_none (c.due_of_give.ensures t w i)) ∷ (Promise.Gives, true) ∷ [])))
+    (λ kept. given t c.args.number c.args.place w x c.give.new.self c.give-2.new.self kept c.give.ensures c.give-2.ensures))
