@@ -1,7 +1,7 @@
 -- Reaping by need: what serves a request is the machine itself, or what is left when all its empty slabs are given back.
-use Rattle.std.proofs.Common.{◌≡◌, ℕ, ◌≤◌, Bool, true, false, ltb, Option, Some, None, refl, sym, ap, ◌∙◌, arith}
+use Rattle.std.proofs.Common.{◌≡◌, ℕ, Bool, true, false, Option, Some, None, refl, sym, ap, ◌∙◌}
 use Rattle.std.specs.Prelude.{if◌then◌else◌}
-use Rattle.std.proofs.lemmas.Bool.Decides.{nat_tests}
+use Rattle.std.proofs.lemmas.Bool.{le-ltb}
 use Rattle.model_core.specs.Machine.{Machine, choice}
 use Rattle.model_core.specs.Slabs.{reaped, by_need, choice_by_need}
 use Rattle.model_core.specs.Operations.{alloc_step}
@@ -41,15 +41,12 @@ by_need_none order k m none = go (choice order m k) refl (choice order (reaped m
 
 -- The steps
 
-not_above : (order k : ℕ) → k ≤ order → ltb order k ≡ false
-not_above order k le = grind (arith, nat_tests)
-
 pub alloc_reaps : AllocReaps
 unfolding alloc_step
 alloc_reaps order k m le = record {
-  found = λ first is. rw (not_above order k le) (rw (by_need_found order k first m is) (rw is refl));
-  reaps = λ first none is. rw (not_above order k le) (rw (by_need_reaps order k first m none is) (rw is refl));
-  stays = λ none still. rw (not_above order k le) (rw (by_need_stays order k m none still) (rw none refl));
+  found = λ first is. rw (le-ltb order k le) (rw (by_need_found order k first m is) (rw is refl));
+  reaps = λ first none is. rw (le-ltb order k le) (rw (by_need_reaps order k first m none is) (rw is refl));
+  stays = λ none still. rw (le-ltb order k le) (rw (by_need_stays order k m none still) (rw none refl));
 }
 
 pub take_reaps : TakeReaps

@@ -4,6 +4,7 @@ use Rattle.std.specs.Prelude.{if◌then◌else◌, is_some, slice_set}
 use Rattle.std.specs.List.{AllByRecursion as Each}
 use Rattle.std.proofs.Math.ListN.{length-set, length-replicate}
 use Rattle.std.proofs.Math.Nat.{mod-lt}
+use Rattle.std.proofs.lemmas.List.{map-append}
 use Rattle.model_core.specs.declared.limits.TheConstants.{FRAME_BYTES}
 use Rattle.model_core.specs.Blocks.{Block, block}
 use Rattle.model_core.specs.Layouts.{in_object}
@@ -12,7 +13,7 @@ use Rattle.model_core.specs.Slabs.{with_cache, with_slab, with_live, new_slab, f
 use Rattle.model_core.specs.WellFormed.{RisesFrom, IsApart, IsCut, IsCache, IsWellFormed}
 use Rattle.model_core.proofs.Layouts.{layouts_fit}
 use Rattle.model_core.specs.Elements.{IsIn}
-use Rattle.model_core.proofs.Lists.{each_left, each_right, each_put, each_less, each_middle, each_weaker, each_in, each_unmap, each_from, Found, found, found_replaced, PutIn, put_in, put_rises, map_append, in_left, in_right, in_map}
+use Rattle.model_core.proofs.Lists.{each_left, each_right, each_put, each_less, each_middle, each_weaker, each_in, each_unmap, each_from, Found, found, found_replaced, PutIn, put_in, put_rises, in_left, in_right, in_map}
 use Rattle.model_core.proofs.Apart.{apart_first}
 use Rattle.model_core.proofs.Chosen.{chosen_apart, chosen_placed}
 use Rattle.model_core.proofs.Laid.{Laid, laid, laid_in, all_laid, laid_block, IsLaidOut, taken_laid, laid_out, Numbered, well_formed}
@@ -27,7 +28,7 @@ in_all_laid c s (d ∷ cs) (inr i) j = in_right (laid c s) (laid_in d) (all_laid
 
 -- another element with the same key
 pub same_keys : {X : Type 0} (key : X → ℕ) (before later : List X) (x y : X) → key y ≡ key x → map key (before ++ y ∷ later) ≡ map key (before ++ x ∷ later)
-same_keys key before later x y e = map_append key before (y ∷ later) ∙ (ap (λ n. map key before ++ n ∷ map key later) e ∙ sym (map_append key before (x ∷ later)))
+same_keys key before later x y e = map-append key before (y ∷ later) ∙ (ap (λ n. map key before ++ n ∷ map key later) e ∙ sym (map-append key before (x ∷ later)))
 
 -- another cache with the same number has one within the limit too
 renumbered : (limit : ℕ) (before later was is : List Cache) (c d : Cache) → d.number ≡ c.number → was ≡ before ++ c ∷ later → is ≡ before ++ d ∷ later

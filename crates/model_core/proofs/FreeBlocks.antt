@@ -1,9 +1,10 @@
 -- The free blocks: each available frame lies in one, and what a reservation does to them.
-use Rattle.std.proofs.Common.{◌≡◌, ◌⊎◌, inl, inr, refl, sym, ◌∙◌, ap, subst, ℕ, suc, ◌+◌, ◌*◌, ◌/◌, ◌%◌, ◌^◌, ◌<◌, ◌≤◌, Bool, true, false, Option, Some, None, eq-eqb, arith}
-use Rattle.std.specs.Prelude.{◌==◌, unwrap_or}
+use Rattle.std.proofs.Common.{◌≡◌, ◌⊎◌, inl, inr, refl, sym, ◌∙◌, ap, subst, ℕ, suc, ◌+◌, ◌*◌, ◌/◌, ◌%◌, ◌^◌, ◌<◌, ◌≤◌, Bool, true, false, Some, None, eq-eqb, arith}
+use Rattle.std.specs.Prelude.{◌==◌}
 use Rattle.std.proofs.Math.Nat.{pow-suc, add-div_right, add-mod_right}
 use Rattle.std.proofs.lemmas.Nat.{pow_pos}
-use Rattle.std.proofs.lemmas.Bool.{false≢true, cases_eq, ne_eqb, cond-true, cond-false}
+use Rattle.std.proofs.lemmas.Bool.{cases_eq, ne_eqb, cond-true, cond-false}
+use Rattle.std.proofs.lemmas.Option.{none-some, same_Some}
 use Rattle.model_core.specs.Blocks.{Block, block, HasFrame, around, Taken, with_taken, without_taken, IsTaken, IsFree}
 use Rattle.model_core.specs.Numbered.{number_at, IsOpen}
 use Rattle.model_core.specs.Choice.{is_available}
@@ -22,16 +23,6 @@ same_bool true true to from = refl
 same_bool true false to from = sym (to refl)
 same_bool false true to from = from refl
 same_bool false false to from = refl
-
-pub same_some : (j k : ℕ) → Some j ≡ Some k → j ≡ k
-same_some j k e = ap (λ o. unwrap_or o 0) e
-
-pub none_some : (k : ℕ) → None ≡ Some k → ⊥
-none_some k e = false≢true (ap holds e)
-  where
-    holds : Option ℕ → Bool
-    holds None = false
-    holds (Some n) = true
 
 -- the block that begins at a frame has it
 pub has_first : (f k : ℕ) → HasFrame (block f k) f
@@ -55,7 +46,7 @@ pub taken_before : (taken : Taken) (f k x : ℕ) → IsTaken (with_taken taken f
 taken_before taken f k x (g, j, e, has) = go (cases_eq g f)
   where
     go : (g ≡ f) ⊎ (g ≡ f → ⊥) → HasFrame (block f k) x ⊎ IsTaken taken x
-    go (inl same) = inl (subst (λ b. HasFrame b x) (ap (λ n. block n j) same ∙ ap (block f) (same_some j k (sym e ∙ ap (with_taken taken f k) same ∙ with_here taken f k))) has)
+    go (inl same) = inl (subst (λ b. HasFrame b x) (ap (λ n. block n j) same ∙ ap (block f) (same_Some j k (sym e ∙ ap (with_taken taken f k) same ∙ with_here taken f k))) has)
     go (inr ne) = inr (g, j, sym (with_other taken f k g ne) ∙ e, has)
 
 -- a frame that was taken is taken after a release, or is one of the block's
@@ -63,7 +54,7 @@ pub taken_after : (taken : Taken) (f k x : ℕ) → taken f ≡ Some k → IsTak
 taken_after taken f k x here (g, j, e, has) = go (cases_eq g f)
   where
     go : (g ≡ f) ⊎ (g ≡ f → ⊥) → HasFrame (block f k) x ⊎ IsTaken (without_taken taken f) x
-    go (inl same) = inl (subst (λ b. HasFrame b x) (ap (λ n. block n j) same ∙ ap (block f) (same_some j k (sym e ∙ ap taken same ∙ here))) has)
+    go (inl same) = inl (subst (λ b. HasFrame b x) (ap (λ n. block n j) same ∙ ap (block f) (same_Some j k (sym e ∙ ap taken same ∙ here))) has)
     go (inr ne) = inr (g, j, without_other taken f g ne ∙ e, has)
 
 -- what is taken after a release was taken by another block
@@ -71,7 +62,7 @@ pub released_taken : (taken : Taken) (f x : ℕ) → IsTaken (without_taken take
 released_taken taken f x (g, j, e, has) = go (cases_eq g f)
   where
     go : (g ≡ f) ⊎ (g ≡ f → ⊥) → (g j : ℕ) × (g ≡ f → ⊥) × (taken g ≡ Some j) × HasFrame (block g j) x
-    go (inl same) = absurd (none_some j (sym (without_here taken f) ∙ ap (without_taken taken f) (sym same) ∙ e))
+    go (inl same) = absurd (none-some j (sym (without_here taken f) ∙ ap (without_taken taken f) (sym same) ∙ e))
     go (inr ne) = (g, j, ne, sym (without_other taken f g ne) ∙ e, has)
 
 -- each available frame lies in exactly one free block

@@ -3,6 +3,7 @@ use Rattle.std.proofs.Common.{◌≡◌, ◌⊎◌, inl, inr, refl, sym, ◌∙�
 use Rattle.std.specs.Prelude.{◌==◌, ◌↔◌}
 use Rattle.std.proofs.Math.Nat.{pow-suc, mul-mod_left}
 use Rattle.std.proofs.lemmas.Bool.{both_ways, cases_eq, ne_eqb, cond-true, cond-false}
+use Rattle.std.proofs.lemmas.Option.{same_Some, none-some}
 use Rattle.model_core.specs.Blocks.{Block, block, HasFrame, IsAligned, buddy, around, slot_block, Taken, with_taken, without_taken, IsTaken, HasTaken, IsFree, IsSound}
 use Rattle.model_core.specs.Numbered.{number_at, is_clear, IsOpen}
 use Rattle.model_core.specs.Choice.{is_available}
@@ -10,7 +11,7 @@ use Rattle.model_core.specs.BlockLaws.{Joins, JoinsTo, ReserveStaysSound, Releas
 use Rattle.model_core.proofs.Halves.{halves, clear_from, clear_whole, open_around, open_is_greatest, one_open, same_above}
 use Rattle.model_core.proofs.TakeOut.{TakesOut, IsOtherHalf, open_after, open_stays, open_half}
 use Rattle.model_core.proofs.BlocksByNumber.{number_is, number_first, aligned_first, number_around, number_of_frame, frame_of_number, same_slot, available_tells, available_is, taken_is_unavailable, free_is_open, open_is_free}
-use Rattle.model_core.proofs.FreeBlocks.{same_block, same_bool, same_some, none_some, has_first, with_here, with_other, without_here, without_other, taken_after, released_taken, even_number, reserved_is_untaken}
+use Rattle.model_core.proofs.FreeBlocks.{same_block, same_bool, has_first, with_here, with_other, without_here, without_other, taken_after, released_taken, even_number, reserved_is_untaken}
 
 -- the number of the buddy of the block of order i around x
 pub record IsBuddyNumber (x i r : ℕ) : Type 0 where
@@ -197,7 +198,7 @@ reserve_stays_sound top held taken f j k sound free le = record { placed = place
     ours = reserved_is_untaken top held taken f j k free le
 
     order_here : (i : ℕ) → with_taken taken f k f ≡ Some i → k ≡ i
-    order_here i e = same_some k i (sym (with_here taken f k) ∙ e)
+    order_here i e = same_Some k i (sym (with_here taken f k) ∙ e)
 
     placed : (g i : ℕ) → with_taken taken f k g ≡ Some i → IsAligned top (block g i) × (held (g / 2 ^ top) ≡ true)
     placed g i e = go (cases_eq g f)
@@ -224,7 +225,7 @@ still_taken : (taken : Taken) (f g i : ℕ) → without_taken taken f g ≡ Some
 still_taken taken f g i e = go (cases_eq g f)
   where
     go : (g ≡ f) ⊎ (g ≡ f → ⊥) → taken g ≡ Some i
-    go (inl same) = absurd (none_some i (sym (without_here taken f) ∙ ap (without_taken taken f) (sym same) ∙ e))
+    go (inl same) = absurd (none-some i (sym (without_here taken f) ∙ ap (without_taken taken f) (sym same) ∙ e))
     go (inr ne) = sym (without_other taken f g ne) ∙ e
 
 pub release_stays_sound : ReleaseStaysSound

@@ -1,5 +1,6 @@
 -- Slabs as they lie in memory: each with what its cache says of it.
 use Rattle.std.proofs.Common.{◌≡◌, ℕ, ◌-◌, ◌*◌, ◌/◌, ◌^◌, ◌<◌, Bool, true, not, ◌&&◌, ◌||◌, eqb, List, [], ◌∷◌, ◌++◌, map, length, Option, refl, sym, ap, ◌∙◌, subst}
+use Rattle.std.proofs.lemmas.List.{map-append}
 use Rattle.std.specs.Prelude.{flat_map, is_some}
 use Rattle.std.specs.List.{list_any, AllByRecursion as Each}
 use Rattle.model_core.specs.declared.limits.TheConstants.{FRAME_BYTES}
@@ -8,7 +9,7 @@ use Rattle.model_core.specs.Layouts.{Layout, layout_of, colour_offset, in_object
 use Rattle.model_core.specs.Machine.{Slab, Cache, Machine, slot_of, in_block, slab_block, slab_blocks, taken_blocks}
 use Rattle.model_core.specs.WellFormed.{RisesFrom, AreApart, IsPlaced, IsCut, IsCache, in_slab, in_cache, is_mapped, IsWellFormed}
 use Rattle.model_core.proofs.Layouts.{layouts_fit}
-use Rattle.model_core.proofs.Lists.{each_append, each_left, each_right, each_map, each_unmap, each_weaker, each_flat_map, any_append, any_map, map_append}
+use Rattle.model_core.proofs.Lists.{each_append, each_left, each_right, each_map, each_unmap, each_weaker, each_flat_map, any_append, any_map}
 use Rattle.model_core.proofs.Apart.{Across, apart_parts, apart_append}
 
 pub record Laid : Type 0 where
@@ -48,7 +49,7 @@ map_laid c (s ∷ ss) = ap (λ bs. slab_block c s ∷ bs) (map_laid c ss)
 pub blocks_laid : (cs : List Cache) → flat_map slab_blocks cs ≡ map laid_block (all_laid cs)
 blocks_laid [] = refl
 blocks_laid (c ∷ cs) = ap (λ bs. bs ++ flat_map slab_blocks cs) (map_laid c c.slabs)
-    ∙ (ap (λ bs. map laid_block (laid_in c) ++ bs) (blocks_laid cs) ∙ sym (map_append laid_block (laid_in c) (all_laid cs)))
+    ∙ (ap (λ bs. map laid_block (laid_in c) ++ bs) (blocks_laid cs) ∙ sym (map-append laid_block (laid_in c) (all_laid cs)))
 
 pub in_slab_laid : (m : Machine) (place : ℕ) → in_slab m place ≡ list_any (in_laid place) (all_laid m.caches)
 in_slab_laid m place = ap (λ bs. list_any (in_block place) bs) (blocks_laid m.caches) ∙ any_map (in_block place) laid_block (all_laid m.caches)

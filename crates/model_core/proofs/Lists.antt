@@ -2,7 +2,8 @@
 use Rattle.std.proofs.Common.{◌≡◌, ◌≢◌, ℕ, zero, suc, ◌+◌, ◌<◌, ◌≤◌, Bool, true, false, not, ◌||◌, cond, eqb, ltb, List, [], ◌∷◌, ◌++◌, map, get_or, replicate, Option, None, Some, refl, sym, ap, ◌∙◌, subst, ◌⊎◌, inl, inr, arith}
 use Rattle.std.specs.Prelude.{if◌then◌else◌, is_some, filter, find, flat_map}
 use Rattle.std.specs.List.{list_any, AllByRecursion as Each}
-use Rattle.std.proofs.lemmas.List.{map-id}
+use Rattle.std.proofs.lemmas.List.{map-id, map-append}
+pub use Rattle.std.proofs.lemmas.List.Folds.{list_any-append as any_append}
 use Rattle.std.proofs.lemmas.Bool.{eqb-true, eqb-false, ne_eqb, eq-eqb, ltb-true, ltb-false, false≢true, or_left, or_right, or_parts}
 use Rattle.model_core.specs.Elements.{IsIn}
 use Rattle.model_core.specs.Machine.{put_rising, least_missing}
@@ -21,10 +22,6 @@ pub or_turned : (a b c : Bool) → (a || (b || c)) ≡ (b || (a || c))
 or_turned true true c = refl
 or_turned true false c = refl
 or_turned false b c = refl
-
-pub map_append : {X Y : Type 0} (f : X → Y) (xs ys : List X) → map f (xs ++ ys) ≡ map f xs ++ map f ys
-map_append f [] ys = refl
-map_append f (x ∷ xs) ys = ap (λ zs. f x ∷ zs) (map_append f xs ys)
 
 -- Each element
 
@@ -105,6 +102,11 @@ pub each_from : {X : Type 0} (P : X → Type 0) (xs : List X) → ((x : X) → I
 each_from P [] f = tt
 each_from P (x ∷ xs) f = (f x (inl refl), each_from P xs (λ y i. f y (inr i)))
 
+-- a list without elements
+pub none_in : {X : Type 0} (xs : List X) → ((x : X) → IsIn x xs → ⊥) → xs ≡ []
+none_in [] f = refl
+none_in (x ∷ xs) f = absurd (f x (inl refl))
+
 pub in_left : {X : Type 0} (x : X) (xs ys : List X) → IsIn x xs → IsIn x (xs ++ ys)
 in_left x [] ys i = elim i [ ]
 in_left x (z ∷ xs) ys (inl e) = inl e
@@ -153,10 +155,6 @@ find_in {X} p x (y ∷ ys) e = go (p y) refl e (find_in p x ys)
 
 -- Any element
 
-pub any_append : {X : Type 0} (p : X → Bool) (xs ys : List X) → list_any p (xs ++ ys) ≡ (list_any p xs || list_any p ys)
-any_append p [] ys = refl
-any_append p (x ∷ xs) ys = or_first (p x) (list_any p xs) (list_any p ys) (list_any p (xs ++ ys)) (any_append p xs ys)
-
 pub any_map : {X Y : Type 0} (p : Y → Bool) (f : X → Y) (xs : List X) → list_any p (map f xs) ≡ list_any (λ x. p (f x)) xs
 any_map p f [] = refl
 any_map p f (x ∷ xs) = ap (λ b. p (f x) || b) (any_map p f xs)
@@ -172,6 +170,15 @@ any_none p (x ∷ xs) (e, a) = ap (λ b. b || list_any p xs) e ∙ any_none p xs
 pub none_any : {X : Type 0} (p : X → Bool) (xs : List X) → list_any p xs ≡ false → Each (λ x. p x ≡ false) xs
 none_any p [] e = tt
 none_any p (x ∷ xs) e = ((or_parts (p x) (list_any p xs) e).0, none_any p xs (or_parts (p x) (list_any p xs) e).1)
+
+-- none passes if none is found
+pub any_unfound : {X : Type 0} (p : X → Bool) (xs : List X) → find p xs ≡ None → list_any p xs ≡ false
+any_unfound p [] e = refl
+any_unfound {X} p (x ∷ xs) e = go (p x) e (any_unfound p xs)
+  where
+    go : (b : Bool) → cond b (Some x) (find p xs) ≡ None → (find p xs ≡ None → list_any p xs ≡ false) → (b || list_any p xs) ≡ false
+    go true e rest = absurd (cc)
+    go false e rest = rest e
 
 pub some_any : {X : Type 0} (p : X → Bool) (xs : List X) → list_any p xs ≡ true → (x : X) × IsIn x xs × (p x ≡ true)
 some_any p [] e = absurd (false≢true e)
@@ -205,6 +212,18 @@ rises_more n k (x ∷ xs) le (l, r) = (omega arith, r)
 pub rises_above : {X : Type 0} (key : X → ℕ) (n : ℕ) (xs : List X) → RisesFrom n (map key xs) → Each (λ x. n ≤ key x) xs
 rises_above key n [] r = tt
 rises_above key n (x ∷ xs) (l, r) = (l, each_weaker (λ y. key x + 1 ≤ key y) (λ y. n ≤ key y) (λ y h. omega arith) xs (rises_above key (key x + 1) xs r))
+
+pub key_above : {X : Type 0} (key : X → ℕ) (n : ℕ) (x : X) (xs : List X) → RisesFrom n (map key xs) → IsIn x xs → n ≤ key x
+key_above key n x xs r i = each_in (λ y. n ≤ key y) x xs (rises_above key n xs r) i
+
+-- an element of a rising list is found by its key
+pub in_found : {X : Type 0} (key : X → ℕ) (n : ℕ) (x : X) (xs : List X) → RisesFrom n (map key xs) → IsIn x xs → find (λ y. eqb (key y) (key x)) xs ≡ Some x
+in_found key n x [] rises i = elim i [ ]
+in_found key n x (y ∷ ys) (low, rises) (inl same) =
+    ap (λ b. cond b (Some y) (find (λ z. eqb (key z) (key x)) ys)) (eq-eqb (key y) (key x) (ap key same)) ∙ ap (λ z. Some z) same
+in_found key n x (y ∷ ys) (low, rises) (inr i) =
+    let above : key y + 1 ≤ key x = key_above key (key y + 1) x ys rises i in
+    ap (λ b. cond b (Some y) (find (λ z. eqb (key z) (key x)) ys)) (ne_eqb (key y) (key x) (λ same. absurd (omega arith))) ∙ in_found key (key y + 1) x ys rises i
 
 -- an element at its place in a list whose other elements have other keys
 pub record Found {X : Type 0} (key : X → ℕ) (x : X) (xs : List X) : Type 0 where
@@ -249,7 +268,7 @@ found_replaced {X} key x xs f y n e =
   where
     parts : (bs : List X) → Each (λ z. eqb (key z) (key x) ≡ false) bs
         → map (λ z. if eqb (key z) n then y else z) (bs ++ x ∷ f.later) ≡ bs ++ map (λ z. if eqb (key z) n then y else z) (x ∷ f.later)
-    parts bs a = map_append (λ z. if eqb (key z) n then y else z) bs (x ∷ f.later)
+    parts bs a = map-append (λ z. if eqb (key z) n then y else z) bs (x ∷ f.later)
         ∙ ap (λ zs. zs ++ map (λ z. if eqb (key z) n then y else z) (x ∷ f.later)) (map_others key n y bs (subst (λ k. Each (λ z. eqb (key z) k ≡ false) bs) (sym e) a))
 
 -- where put_rising puts an element
@@ -271,6 +290,30 @@ put_in {X} key x (y ∷ ys) = go (ltb (key x) (key y)) refl (put_in key x ys)
       was = ap (λ zs. y ∷ zs) p.was;
       is = ap (λ b. if b then x ∷ (y ∷ ys) else y ∷ put_rising key x ys) e ∙ ap (λ zs. y ∷ zs) p.is;
     }
+
+-- what is in the list then
+pub in_put : {X : Type 0} (key : X → ℕ) (x y : X) (ys : List X) → IsIn y (put_rising key x ys) → (x ≡ y) ⊎ IsIn y ys
+in_put key x y [] i = i
+in_put {X} key x y (z ∷ zs) i = go (ltb (key x) (key z)) i (in_put key x y zs)
+  where
+    go : (b : Bool) → IsIn y (if b then x ∷ (z ∷ zs) else z ∷ put_rising key x zs) → (IsIn y (put_rising key x zs) → (x ≡ y) ⊎ IsIn y zs) → (x ≡ y) ⊎ IsIn y (z ∷ zs)
+    go true i more = i
+    go false (inl e) more = inr (inl e)
+    go false (inr i) more = elim (more i) [ inl e ↦ inl e | inr j ↦ inr (inr j) ]
+
+pub put_has : {X : Type 0} (key : X → ℕ) (x y : X) (ys : List X) → (x ≡ y) ⊎ IsIn y ys → IsIn y (put_rising key x ys)
+put_has key x y [] i = i
+put_has {X} key x y (z ∷ zs) i = go (ltb (key x) (key z)) (put_has key x y zs) i
+  where
+    go : (b : Bool) → ((x ≡ y) ⊎ IsIn y zs → IsIn y (put_rising key x zs)) → (x ≡ y) ⊎ IsIn y (z ∷ zs) → IsIn y (if b then x ∷ (z ∷ zs) else z ∷ put_rising key x zs)
+    go true more i = i
+    go false more (inl e) = inr (more (inl e))
+    go false more (inr (inl e)) = inl e
+    go false more (inr (inr i)) = inr (more (inr i))
+
+-- if one passed, one passes
+pub any_with : {X : Type 0} (p : X → Bool) (key : X → ℕ) (x : X) (xs : List X) → list_any p xs ≡ true → list_any p (put_rising key x xs) ≡ true
+any_with p key x xs e = let s = some_any p xs e in any_in p s.0 (put_rising key x xs) (put_has key x s.0 xs (inr s.1)) s.2
 
 -- an element with a new key is put so that the list rises
 pub put_rises : {X : Type 0} (key : X → ℕ) (n : ℕ) (x : X) (xs : List X) → RisesFrom n (map key xs) → n ≤ key x → Each (λ y. key y ≢ key x) xs

@@ -2,7 +2,7 @@
 use Rattle.std.proofs.Common.{◌≡◌, ◌≢◌, ℕ, ◌-◌, ◌*◌, ◌/◌, ◌^◌, Bool, true, false, not, ◌&&◌, ◌||◌, eqb, List, [], ◌∷◌, ◌++◌, map, length, Option, Some, None, refl, sym, ap, ◌∙◌, subst}
 use Rattle.std.specs.Prelude.{if◌then◌else◌, is_some, filter}
 use Rattle.std.specs.List.{list_any, AllByRecursion as Each}
-use Rattle.std.proofs.lemmas.List.{map-id}
+use Rattle.std.proofs.lemmas.List.{map-id, map-append}
 use Rattle.std.proofs.lemmas.Map.Views.{any-filter_same}
 use Rattle.std.proofs.lemmas.Bool.{and_left, eqb-true, eqb-false, ne_eqb, eq-eqb, false≢true, not-true, not_from_false, or_left, or_right, false_from_ne_true}
 use Rattle.model_core.specs.declared.limits.TheConstants.{FRAME_BYTES}
@@ -13,7 +13,7 @@ use Rattle.model_core.specs.Slabs.{zeroed}
 use Rattle.model_core.specs.WellFormed.{IsApart, AreApart}
 use Rattle.model_core.proofs.BlocksByNumber.{number_of_frame, same_slot}
 use Rattle.model_core.specs.Elements.{IsIn}
-use Rattle.model_core.proofs.Lists.{each_put, each_less, each_middle, each_weaker, each_both, each_filtered, each_filter, each_in, each_map, each_unmap, any_append, any_none, none_any, some_any, any_map, any_split, map_append, or_turned}
+use Rattle.model_core.proofs.Lists.{each_put, each_less, each_middle, each_weaker, each_both, each_filtered, each_filter, each_in, each_map, each_unmap, any_append, any_none, none_any, some_any, any_map, any_split, or_turned}
 use Rattle.model_core.proofs.Apart.{apart_turned, in_block-true, apart_any, Across, apart_put, apart_filter, one_side}
 use Rattle.model_core.proofs.Laid.{Laid, laid_layout, laid_block, in_laid, in_laid_object, Placed, mapped_by, IsCutLaid, IsLaidOut}
 
@@ -75,7 +75,7 @@ with_flags flags l = record l { live = flags }
 pub flags_set : (order : ℕ) (slots : List ℕ) (bs : List Block) (xs ys : List Laid) (l : Laid) (flags : List Bool) (bytes : ℕ → Option ℕ) → length flags ≡ length l.live
     → IsLaidOut order slots bs (xs ++ l ∷ ys) bytes → IsLaidOut order slots bs (xs ++ with_flags flags l ∷ ys) bytes
 flags_set order slots bs xs ys l flags bytes e h =
-    let blocks : map laid_block (xs ++ l ∷ ys) ≡ map laid_block (xs ++ with_flags flags l ∷ ys) = map_append laid_block xs (l ∷ ys) ∙ sym (map_append laid_block xs (with_flags flags l ∷ ys)) in
+    let blocks : map laid_block (xs ++ l ∷ ys) ≡ map laid_block (xs ++ with_flags flags l ∷ ys) = map-append laid_block xs (l ∷ ys) ∙ sym (map-append laid_block xs (with_flags flags l ∷ ys)) in
     let cut : IsCutLaid l = each_middle IsCutLaid xs ys l h.cut in
     record {
       placed_blocks = h.placed_blocks;
@@ -104,8 +104,8 @@ slab_put order slots bs xs ys l bytes fresh h p e f c made = record {
   placed_blocks = h.placed_blocks;
   placed_slabs = each_put (λ k. Placed order slots (laid_block k)) xs ys l h.placed_slabs p;
   apart_blocks = h.apart_blocks;
-  apart_slabs = subst AreApart (sym (map_append laid_block xs (l ∷ ys))) (apart_put (map laid_block xs) (map laid_block ys) (laid_block l)
-      (subst AreApart (map_append laid_block xs ys) h.apart_slabs) (subst (Each (IsApart (laid_block l))) (map_append laid_block xs ys) f));
+  apart_slabs = subst AreApart (sym (map-append laid_block xs (l ∷ ys))) (apart_put (map laid_block xs) (map laid_block ys) (laid_block l)
+      (subst AreApart (map-append laid_block xs ys) h.apart_slabs) (subst (Each (IsApart (laid_block l))) (map-append laid_block xs ys) f));
   across = across_more bs e h.across;
   cut = each_put IsCutLaid xs ys l h.cut c;
   mapped = λ place. mapped_new place (in_laid place l) refl;
@@ -114,8 +114,8 @@ slab_put order slots bs xs ys l bytes fresh h p e f c made = record {
     across_more : (bs : List Block) → Each (IsApart (laid_block l)) bs → Across bs (map laid_block (xs ++ ys)) → Across bs (map laid_block (xs ++ l ∷ ys))
     across_more [] e a = tt
     across_more (b ∷ bs) (g, e) (k, a) = (
-      subst (Each (IsApart b)) (sym (map_append laid_block xs (l ∷ ys)))
-          (each_put (IsApart b) (map laid_block xs) (map laid_block ys) (laid_block l) (subst (Each (IsApart b)) (map_append laid_block xs ys) k) (apart_turned (laid_block l) b g)),
+      subst (Each (IsApart b)) (sym (map-append laid_block xs (l ∷ ys)))
+          (each_put (IsApart b) (map laid_block xs) (map laid_block ys) (laid_block l) (subst (Each (IsApart b)) (map-append laid_block xs ys) k) (apart_turned (laid_block l) b g)),
       across_more bs e a,
     )
 

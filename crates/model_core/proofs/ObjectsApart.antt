@@ -39,6 +39,11 @@ in_at (y ∷ xs) x (suc k) lt e = inr (in_at xs x k (omega arith) e)
 pub contains_in : {X : Type 0} (xs : List X) (x : X) → Contains xs x → IsIn x xs
 contains_in xs x (k, lt, e) = in_at xs x k lt e
 
+pub in_contains : {X : Type 0} (x : X) (xs : List X) → IsIn x xs → Contains xs x
+in_contains x [] i = elim i [ ]
+in_contains x (y ∷ ys) (inl e) = (0, omega arith, e)
+in_contains x (y ∷ ys) (inr i) = let c : Contains ys x = in_contains x ys i in (suc c.0, omega (arith, c.1), c.2)
+
 -- of a list that rises, what has one key is one
 pub one_key : {X : Type 0} (key : X → ℕ) (n : ℕ) (xs : List X) (x y : X) → RisesFrom n (map key xs) → IsIn x xs → IsIn y xs → key x ≡ key y → x ≡ y
 one_key key n [] x y r i j e = elim i [ ]

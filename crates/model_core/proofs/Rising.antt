@@ -1,13 +1,14 @@
--- Lists that rise by key: two with the same numbers are one, and what a list of blocks tells with one more.
-use Rattle.std.proofs.Common.{◌≡◌, ◌≢◌, ℕ, ◌+◌, ◌<◌, Bool, true, false, ◌||◌, eqb, List, [], ◌∷◌, ◌++◌, Option, Some, None, refl, sym, ap, ◌∙◌, subst, inl, inr, ⊎_elim, arith}
+-- Lists that rise by key: two with the same members are one, and what a list of blocks tells with one more.
+use Rattle.std.proofs.Common.{◌≡◌, ◌≢◌, ℕ, ◌+◌, ◌<◌, Bool, true, false, ◌||◌, eqb, List, [], ◌∷◌, ◌++◌, map, Option, Some, None, refl, sym, ap, ◌∙◌, subst, ◌⊎◌, inl, inr, arith}
 use Rattle.std.specs.Prelude.{if◌then◌else◌}
 use Rattle.std.specs.List.{list_any, AllByRecursion as Each}
-use Rattle.std.proofs.lemmas.Bool.{cases_eq, cases_lt, eqb-true, eqb-false, eq-eqb, ne_eqb, or_left, false≢true, false_from_ne_true, both_ways}
+use Rattle.std.proofs.lemmas.Bool.{cases_eq, eqb-true, eqb-false, eq-eqb, ne_eqb}
+use Rattle.std.proofs.lemmas.List.{map-id}
 use Rattle.model_core.specs.Blocks.{Block, with_taken}
 use Rattle.model_core.specs.Machine.{order_in}
 use Rattle.model_core.specs.WellFormed.{RisesFrom}
 use Rattle.model_core.specs.Elements.{IsIn}
-use Rattle.model_core.proofs.Lists.{some_any, any_in}
+use Rattle.model_core.proofs.Lists.{some_any, any_in, key_above}
 
 -- u is one of the numbers
 abbrev pub has : ℕ → List ℕ → Bool
@@ -19,51 +20,42 @@ none_below n u [] rises below = refl
 none_below n u (x ∷ xs) (low, rises) below =
     ap (λ b. b || has u xs) (ne_eqb x u (λ same. absurd (omega arith))) ∙ none_below (x + 1) u xs rises (omega arith)
 
-first_is : (x : ℕ) (xs : List ℕ) → has x (x ∷ xs) ≡ true
-first_is x xs = or_left (eqb x x) (has x xs) (eq-eqb x x refl)
-
--- the rest of two rising lists with one head
-same_after : (x u : ℕ) (xs ys : List ℕ) → RisesFrom (x + 1) xs → RisesFrom (x + 1) ys → has u (x ∷ xs) ≡ has u (x ∷ ys) → has u xs ≡ has u ys
-same_after x u xs ys rises rises' same = go (eqb x u) refl same
-  where
-    go : (b : Bool) → eqb x u ≡ b → (b || has u xs) ≡ (b || has u ys) → has u xs ≡ has u ys
-    go true is _ = let here : x ≡ u = eqb-true x u is in none_below (x + 1) u xs rises (omega arith) ∙ sym (none_below (x + 1) u ys rises' (omega arith))
-    go false is same = same
-
--- a number is not in a list whose head is higher
-higher_head : (x y : ℕ) (xs ys : List ℕ) → x < y → RisesFrom (y + 1) ys → has x (x ∷ xs) ≡ has x (y ∷ ys) → ⊥
-higher_head x y xs ys less rises same = false≢true (sym (none_below y x (y ∷ ys) (omega arith, rises) less) ∙ sym same ∙ first_is x xs)
-
--- two rising lists with the same numbers are one
-pub same_rising : (n : ℕ) (xs ys : List ℕ) → RisesFrom n xs → RisesFrom n ys → ((u : ℕ) → has u xs ≡ has u ys) → xs ≡ ys
-same_rising n [] [] _ _ _ = refl
-same_rising n [] (y ∷ ys) _ _ same = absurd (false≢true (same y ∙ first_is y ys))
-same_rising n (x ∷ xs) [] _ _ same = absurd (false≢true (sym (same x) ∙ first_is x xs))
-same_rising n (x ∷ xs) (y ∷ ys) (low, rises) (low', rises') same =
-    ⊎_elim
-    (λ heads.
-    subst (λ z. RisesFrom (z + 1) ys → ((u : ℕ) → has u (x ∷ xs) ≡ has u (z ∷ ys)) → x ∷ xs ≡ z ∷ ys) heads
-    (λ rises' same. ap (λ zs. x ∷ zs) (same_rising (x + 1) xs ys rises rises' (λ u. same_after x u xs ys rises rises' (same u)))) rises' same)
-    (λ differ.
-    ⊎_elim
-    (λ less. absurd (higher_head x y xs ys less rises' (same x)))
-    (λ le. absurd (higher_head y x ys xs (omega (arith, differ)) rises (sym (same y))))
-    (cases_lt x y))
-    (cases_eq x y)
-
 in_has : (u : ℕ) (xs : List ℕ) → IsIn u xs → has u xs ≡ true
 in_has u xs i = any_in (λ v. eqb v u) u xs i (eq-eqb u u refl)
 
 has_in : (u : ℕ) (xs : List ℕ) → has u xs ≡ true → IsIn u xs
 has_in u xs e = let r : (v : ℕ) × IsIn v xs × (eqb v u ≡ true) = some_any (λ v. eqb v u) xs e in subst (λ v. IsIn v xs) (eqb-true r.0 u r.2) r.1
 
--- two rising lists with the same members are one
-pub same_members : (n : ℕ) (xs ys : List ℕ) → RisesFrom n xs → RisesFrom n ys → ((u : ℕ) → IsIn u xs → IsIn u ys) → ((u : ℕ) → IsIn u ys → IsIn u xs) → xs ≡ ys
-same_members n xs ys r q there back = same_rising n xs ys r q (λ u. go u (has u ys) refl)
+-- two lists that rise by key are one if they have the same members
+pub same_keyed : {X : Type 0} (key : X → ℕ) (n : ℕ) (xs ys : List X) → RisesFrom n (map key xs) → RisesFrom n (map key ys)
+    → ((x : X) → IsIn x xs → IsIn x ys) → ((x : X) → IsIn x ys → IsIn x xs) → xs ≡ ys
+same_keyed key n [] [] r s f g = refl
+same_keyed key n [] (y ∷ ys) r s f g = absurd (g y (inl refl))
+same_keyed key n (x ∷ xs) [] r s f g = absurd (f x (inl refl))
+same_keyed {X} key n (x ∷ xs) (y ∷ ys) (lx, r) (ly, s) f g = same (f x (inl refl)) (g y (inl refl)) (same_keyed key (key x + 1) xs ys r)
   where
-    go : (u : ℕ) (b : Bool) → has u ys ≡ b → has u xs ≡ has u ys
-    go u true e = in_has u xs (back u (has_in u ys e)) ∙ sym e
-    go u false e = false_from_ne_true (has u xs) (λ t. both_ways (has u ys) e (in_has u ys (there u (has_in u xs t)))) ∙ sym e
+    More : Type 0
+    More = RisesFrom (key x + 1) (map key ys) → ((z : X) → IsIn z xs → IsIn z ys) → ((z : X) → IsIn z ys → IsIn z xs) → xs ≡ ys
+
+    tails : y ≡ x → More → (x ∷ xs) ≡ (y ∷ ys)
+    tails e more = let k : key y ≡ key x = ap key e in
+        ap (λ z. z ∷ xs) (sym e) ∙ ap (λ zs. y ∷ zs) (more (subst (λ m. RisesFrom (m + 1) (map key ys)) k s)
+        (λ z i. elim (f z (inr i)) [ inl q ↦ absurd (let u = key_above key (key x + 1) z xs r i in let v : key y ≡ key z = ap key q in omega arith) | inr j ↦ j ])
+        (λ z i. elim (g z (inr i)) [ inl q ↦ absurd (let u = key_above key (key y + 1) z ys s i in let v : key x ≡ key z = ap key q in omega arith) | inr j ↦ j ]))
+
+    same : (y ≡ x) ⊎ IsIn x ys → (x ≡ y) ⊎ IsIn y xs → More → (x ∷ xs) ≡ (y ∷ ys)
+    same (inl e) b more = tails e more
+    same (inr i) (inl e) more = tails (sym e) more
+    same (inr i) (inr j) more = absurd (let u = key_above key (key y + 1) x ys s i in let v = key_above key (key x + 1) y xs r j in omega arith)
+
+-- .. as rising lists of numbers, by membership and by a test of it
+pub same_members : (n : ℕ) (xs ys : List ℕ) → RisesFrom n xs → RisesFrom n ys → ((u : ℕ) → IsIn u xs → IsIn u ys) → ((u : ℕ) → IsIn u ys → IsIn u xs) → xs ≡ ys
+same_members n xs ys r q there back =
+    same_keyed (λ u. u) n xs ys (subst (λ us. RisesFrom n us) (sym (map-id xs)) r) (subst (λ us. RisesFrom n us) (sym (map-id ys)) q) there back
+
+pub same_rising : (n : ℕ) (xs ys : List ℕ) → RisesFrom n xs → RisesFrom n ys → ((u : ℕ) → has u xs ≡ has u ys) → xs ≡ ys
+same_rising n xs ys r q same =
+    same_members n xs ys r q (λ u i. has_in u ys (sym (same u) ∙ in_has u xs i)) (λ u i. has_in u xs (same u ∙ in_has u ys i))
 
 -- Blocks
 

@@ -3,12 +3,13 @@ use Rattle.std.proofs.Common.{◌≡◌, ◌≢◌, ℕ, Bool, true, false, not,
 use Rattle.std.specs.Prelude.{if◌then◌else◌, is_some, filter, flat_map}
 use Rattle.std.specs.List.{AllByRecursion as Each}
 use Rattle.std.proofs.lemmas.Bool.{eqb-true}
+use Rattle.std.proofs.lemmas.List.{map-append}
 use Rattle.model_core.specs.Blocks.{Block, block, with_taken}
 use Rattle.model_core.specs.Machine.{Cache, Machine, layout, taken_blocks, order_in}
 use Rattle.model_core.specs.Slabs.{new_slab, grown, empty_blocks, reaped}
 use Rattle.model_core.specs.WellFormed.{IsApart, AreApart}
 use Rattle.model_core.specs.Laws.{GrowthTakes, ReapReleases}
-use Rattle.model_core.proofs.Lists.{each_left, each_right, each_map, each_unmap, each_filter, map_append}
+use Rattle.model_core.proofs.Lists.{each_left, each_right, each_map, each_unmap, each_filter}
 use Rattle.model_core.proofs.Rising.{order_in-middle, none_found}
 use Rattle.model_core.proofs.Chosen.{chosen_apart}
 use Rattle.model_core.proofs.Laid.{Laid, laid, all_laid, laid_block, taken_laid}
@@ -28,11 +29,11 @@ growth_takes limit order first c m w in_c e f =
     let before : List Block = m.blocks ++ map laid_block g.xs in
     let later : List Block = map laid_block g.ys in
     let was : taken_blocks m ≡ before ++ later =
-    taken_laid m ∙ (ap (λ ls. m.blocks ++ map laid_block ls) g.was ∙ (ap (λ bs. m.blocks ++ bs) (map_append laid_block g.xs g.ys) ∙ sym (append_assoc m.blocks (map laid_block g.xs) later))) in
+    taken_laid m ∙ (ap (λ ls. m.blocks ++ map laid_block ls) g.was ∙ (ap (λ bs. m.blocks ++ bs) (map-append laid_block g.xs g.ys) ∙ sym (append_assoc m.blocks (map laid_block g.xs) later))) in
     let is : taken_blocks (grown first c m) ≡ before ++ b ∷ later =
     taken_laid (grown first c m) ∙ (ap (λ bs. bs ++ map laid_block (all_laid (grown first c m).caches)) (grown_blocks first c m)
     ∙ (ap (λ ls. m.blocks ++ map laid_block ls) g.is
-    ∙ (ap (λ bs. m.blocks ++ bs) (map_append laid_block g.xs (laid c (new_slab c first) ∷ g.ys)) ∙ sym (append_assoc m.blocks (map laid_block g.xs) (b ∷ later))))) in
+    ∙ (ap (λ bs. m.blocks ++ bs) (map-append laid_block g.xs (laid c (new_slab c first) ∷ g.ys)) ∙ sym (append_assoc m.blocks (map laid_block g.xs) (b ∷ later))))) in
     let others : Each (λ x. x.first ≢ first) before = each_left (λ x. x.first ≢ first) before later
     (subst (Each (λ x. x.first ≢ first)) was (apart_firsts b (taken_blocks m) (chosen_apart order (layout c).order first m w.apart e))) in
     ap (λ bs. order_in bs f) is ∙ (order_in-middle before later b others f ∙ ap (λ bs. with_taken (order_in bs) first b.order f) (sym was))

@@ -5,10 +5,11 @@ use Rattle.std.specs.List.{list_any, AllByRecursion as Each}
 use Rattle.std.proofs.lemmas.Bool.{eq-eqb}
 use Rattle.std.proofs.lemmas.List.Concat.{flat_map-append}
 use Rattle.std.proofs.lemmas.List.Elements.{filter-append}
+use Rattle.std.proofs.lemmas.List.{map-append, append-nil}
 use Rattle.model_core.specs.Machine.{Slab, Cache, slab_block}
 use Rattle.model_core.specs.Slabs.{is_empty, without_empty, empty_blocks}
 use Rattle.model_core.specs.Elements.{IsIn}
-use Rattle.model_core.proofs.Lists.{Found, map_append}
+use Rattle.model_core.proofs.Lists.{Found}
 use Rattle.model_core.proofs.Laid.{Laid, laid, laid_in, all_laid, laid_block, map_laid}
 
 pub in_middle : {X : Type 0} (xs ys : List X) (x : X) → IsIn x (xs ++ x ∷ ys)
@@ -20,7 +21,7 @@ pub laid_parts : (before later : List Cache) (c : Cache) (ss ts : List Slab) →
     → all_laid (before ++ c ∷ later) ≡ (all_laid before ++ map (laid c) ss) ++ (map (laid c) ts ++ all_laid later)
 laid_parts before later c ss ts e =
     flat_map-append laid_in before (c ∷ later)
-    ∙ (ap (λ ls. all_laid before ++ (ls ++ all_laid later)) (ap (λ xs. map (laid c) xs) e ∙ map_append (laid c) ss ts)
+    ∙ (ap (λ ls. all_laid before ++ (ls ++ all_laid later)) (ap (λ xs. map (laid c) xs) e ∙ map-append (laid c) ss ts)
     ∙ (ap (λ ls. all_laid before ++ ls) (append_assoc (map (laid c) ss) (map (laid c) ts) (all_laid later))
     ∙ sym (append_assoc (all_laid before) (map (laid c) ss) (map (laid c) ts ++ all_laid later))))
 
@@ -61,13 +62,9 @@ filter_found c cs f = ap (λ xs. filter (λ x. eqb x.number c.number) xs) f.is
     ∙ (ap (λ b. cond b (c ∷ filter (λ x. eqb x.number c.number) f.later) (filter (λ x. eqb x.number c.number) f.later)) (eq-eqb c.number c.number refl)
     ∙ ap (λ xs. c ∷ xs) (filter_none c.number f.later f.others_later))))
 
-append_none : {X : Type 0} (xs : List X) → xs ++ [] ≡ xs
-append_none [] = refl
-append_none (x ∷ xs) = ap (λ ys. x ∷ ys) (append_none xs)
-
 -- the slabs of one cache, by its number
 pub laid_of : (c : Cache) (cs : List Cache) → Found (λ c. c.number) c cs → filter (λ l. eqb l.number c.number) (all_laid cs) ≡ laid_in c
-laid_of c cs f = filter_laid (λ n. eqb n c.number) cs ∙ (ap all_laid (filter_found c cs f) ∙ append_none (laid_in c))
+laid_of c cs f = filter_laid (λ n. eqb n c.number) cs ∙ (ap all_laid (filter_found c cs f) ∙ append-nil (laid_in c))
 
 -- Empty slabs
 
@@ -97,5 +94,5 @@ gone_laid [] = refl
 gone_laid (c ∷ cs) =
     ap (λ bs. bs ++ flat_map empty_blocks cs) (map_laid c (filter is_empty c.slabs) ∙ ap (λ ls. map laid_block ls) (sym (filter_map_swap is_empty_laid (laid c) c.slabs)))
     ∙ (ap (λ bs. map laid_block (filter is_empty_laid (laid_in c)) ++ bs) (gone_laid cs)
-    ∙ (sym (map_append laid_block (filter is_empty_laid (laid_in c)) (filter is_empty_laid (all_laid cs)))
+    ∙ (sym (map-append laid_block (filter is_empty_laid (laid_in c)) (filter is_empty_laid (all_laid cs)))
     ∙ ap (λ ls. map laid_block ls) (sym (filter-append is_empty_laid (laid_in c) (all_laid cs)))))
