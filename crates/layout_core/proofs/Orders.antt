@@ -5,8 +5,7 @@ use Rattle.std.proofs.lemmas.Nat.{mod_below}
 use Rattle.std.proofs.Math.Nat.{div-le_of_le-mul}
 use Rattle.std.specs.Prelude.{if◌then◌else◌, nat_le}
 use borrow.Author.Count.{below_none}
-use Rattle.model_core.specs.Layouts.{chunk_of, slab_order, slab_room, is_size, is_small, is_thrifty, bytes_of_order}
-use Rattle.model_core.specs.Layouts.{layout_of}
+use Rattle.model_core.specs.Layouts.{chunk_of, slab_order, slab_room, is_size, is_small, is_thrifty, bytes_of_order, layout_of}
 use Rattle.model_core.proofs.Layouts.{layouts_fit, chunk_is}
 use Rattle.layout_core.specs.Laws.{IsLeastOrder, EverySizeHasAnOrder, OffsetsApart, FewObjects}
 use Rattle.layout_core.proofs.Objects.{holds_at}

@@ -1,7 +1,6 @@
 use Rattle.std.proofs.Common.{◌/◌, ◌%◌, arith, ◌∙◌, ap}
 use Rattle.layout_core.proofs.Objects.{holds_only, holds_at}
 use Rattle.layout_core.proofs.layout.Layout.holder.Goals as goal
-use Rattle.layout_core.proofs.layout.Layout.holder.Goals.{else-len-gt0-via-then-len-gt0+then-index-self+then-len-self+else-inside-self, else-len-gt0-via-then-len-gt0+then-index-self+else-len-self, else-len-gt0-via-then-len-gt0+else-index-self, else-len-gt0-via-else-len-gt0}
 
 pub returns-then-inside-self : goal.returns-then-inside-self
 returns-then-inside-self c =
@@ -17,8 +16,8 @@ returns-else-len-gt0 c = rw (← c.self.view_is) (λ i h.
     let object = h.object in
     let some = h.some in
     elim c.else-len-gt0.branch [
-      | else-len-gt0-via-then-len-gt0+then-index-self+then-len-self+else-inside-self w ↦ omega arith
-      | else-len-gt0-via-then-len-gt0+then-index-self+else-len-self w ↦ omega arith
-      | else-len-gt0-via-then-len-gt0+else-index-self w ↦ omega arith
-      | else-len-gt0-via-else-len-gt0 w ↦ omega arith
+      | goal.else-len-gt0-via-then-len-gt0+then-index-self+then-len-self+else-inside-self w ↦ omega arith
+      | goal.else-len-gt0-via-then-len-gt0+then-index-self+else-len-self w ↦ omega arith
+      | goal.else-len-gt0-via-then-len-gt0+else-index-self w ↦ omega arith
+      | goal.else-len-gt0-via-else-len-gt0 w ↦ omega arith
     ])

@@ -1,7 +1,6 @@
 use Rattle.std.proofs.Common.{◌/◌, ◌%◌, arith, ◌∙◌, ap}
 use Rattle.layout_core.proofs.Objects.{begins_only, begins_at}
 use Rattle.layout_core.proofs.layout.Layout.index_of.Goals as goal
-use Rattle.layout_core.proofs.layout.Layout.index_of.Goals.{else-index-self-via-then-index-self+else-from-self-eq0, else-index-self-via-else-index-self}
 
 pub returns-then-from-self-eq0 : goal.returns-then-from-self-eq0
 returns-then-from-self-eq0 c =
@@ -15,6 +14,6 @@ returns-else-index-self c = rw (← c.self.view_is) (λ i b.
     let byte_of = ap (λ n. n % c.self.inside.chunk) c.in_ok-from.ensures.1 ∙ at.byte_of in
     let object = b.object in
     elim c.else-index-self.branch [
-      | else-index-self-via-then-index-self+else-from-self-eq0 w ↦ w.if-from-self-eq0.false byte_of
-      | else-index-self-via-else-index-self w ↦ omega arith
+      | goal.else-index-self-via-then-index-self+else-from-self-eq0 w ↦ w.if-from-self-eq0.false byte_of
+      | goal.else-index-self-via-else-index-self w ↦ omega arith
     ])
