@@ -1,18 +1,21 @@
 -- An insertion and a removal change one list by exactly one pair.
-use Rattle.std.proofs.Common.{◌≡◌, ℕ, List, Option, Some, None, ap, sym, ◌∙◌, inl, inr, arith}
-use Rattle.std.specs.Prelude.{◌≢◌}
+use Rattle.std.proofs.Common.{◌≡◌, ℕ, eqb, List, Option, Some, None, ap, sym, ◌∙◌, inl, inr, arith}
+use Rattle.std.specs.Prelude.{◌≢◌, not}
+use Rattle.model_core.specs.Elements.{IsIn}
+use Rattle.model_core.proofs.Lists.{filter_rises}
+use Rattle.model_core.proofs.Rising.{same_keyed}
 use Rattle.klist_core.specs.Places.{Placed, ArePlaces, place_at, inserted, removed}
 use Rattle.klist_core.specs.Lists.{list_of, put_by_key, without_node}
 use Rattle.klist_core.specs.Laws.{MayInsert}
 use Rattle.klist_core.proofs.Changes.{IsPut, raised, lowered, others_lowered}
 use Rattle.klist_core.proofs.Tables.{put_by_insertion, put_by_removal, apart_large}
-use Rattle.klist_core.proofs.Listing.{IsAmong, IsDistinct, among_put, put_among, rises_put, same_rising, in_list, listed, list_rises, among_without, without_among, rises_without}
+use Rattle.klist_core.proofs.Listing.{IsDistinct, among_put, put_among, rises_put, in_list, listed, list_rises, among_without, without_among}
 
 -- two lists are one where the same nodes stand in them under the same keys
 same_nodes : (old new : List (Option (ℕ × ℕ))) (g : ℕ) → IsDistinct g old → IsDistinct g new
     → ((i k : ℕ) → place_at old i ≡ Some (g, k) → place_at new i ≡ Some (g, k)) → ((i k : ℕ) → place_at new i ≡ Some (g, k) → place_at old i ≡ Some (g, k))
     → list_of new g ≡ list_of old g
-same_nodes old new g d e to back = same_rising 0 (list_of new g) (list_of old g) (list_rises g 0 new e) (list_rises g 0 old d)
+same_nodes old new g d e to back = same_keyed (λ (p : ℕ × ℕ). p.0) 0 (list_of new g) (list_of old g) (list_rises g 0 new e) (list_rises g 0 old d)
     (λ x a. listed old g x.0 x.1 (back x.1 x.0 (in_list new g x.0 x.1 a))) (λ x a. listed new g x.0 x.1 (to x.1 x.0 (in_list old g x.0 x.1 a)))
 
 module _ (small large : List (Option (ℕ × ℕ))) (h n k : ℕ) (p : IsPut (place_at small) (place_at large) h n k)
@@ -27,32 +30,32 @@ module _ (small large : List (Option (ℕ × ℕ))) (h n k : ℕ) (p : IsPut (pl
   others_same g ne = same_nodes small large g (distinct_small g) (distinct_large g) (λ i k' e. raised p i (g, k') e) (λ i k' e. others_lowered (λ x. x) (place_at small) (place_at large) h n k p g i k' ne e)
 
   pub one_more : list_of large h ≡ put_by_key (k, n) (list_of small h)
-  one_more = same_rising 0 (list_of large h) (put_by_key (k, n) (list_of small h)) (list_rises h 0 large (distinct_large h))
+  one_more = same_keyed (λ (p : ℕ × ℕ). p.0) 0 (list_of large h) (put_by_key (k, n) (list_of small h)) (list_rises h 0 large (distinct_large h))
       (rises_put 0 (k, n) (list_of small h) (omega arith) (λ x a e. p.fresh x.1 (in_list small h x.0 x.1 a ∙ ap (λ (y : ℕ). Some (h, y)) e)) (list_rises h 0 small (distinct_small h)))
       to back
     where
-      to : (x : ℕ × ℕ) → IsAmong x (list_of large h) → IsAmong x (put_by_key (k, n) (list_of small h))
+      to : (x : ℕ × ℕ) → IsIn x (list_of large h) → IsIn x (put_by_key (k, n) (list_of small h))
       to x a = elim (lowered p x.1 h x.0 (in_list large h x.0 x.1 a)) [
         | inl e ↦ put_among x (k, n) (list_of small h) (inr (listed small h x.0 x.1 e))
         | inr w ↦ put_among x (k, n) (list_of small h) (inl (ap (λ (y : ℕ). (y, n)) (sym w.2) ∙ ap (λ (y : ℕ). (x.0, y)) (sym w.0)))
       ]
 
-      back : (x : ℕ × ℕ) → IsAmong x (put_by_key (k, n) (list_of small h)) → IsAmong x (list_of large h)
+      back : (x : ℕ × ℕ) → IsIn x (put_by_key (k, n) (list_of small h)) → IsIn x (list_of large h)
       back x a = elim (among_put x (k, n) (list_of small h) a) [
         | inl e ↦ listed large h x.0 x.1 (ap (place_at large) (sym (ap (λ (q : ℕ × ℕ). q.1) e)) ∙ (p.here ∙ ap (λ (q : ℕ × ℕ). Some (h, q.0)) e))
         | inr u ↦ listed large h x.0 x.1 (raised p x.1 (h, x.0) (in_list small h x.0 x.1 u))
       ]
 
   pub one_less : list_of small h ≡ without_node n (list_of large h)
-  one_less = same_rising 0 (list_of small h) (without_node n (list_of large h)) (list_rises h 0 small (distinct_small h)) (rises_without n 0 (list_of large h) (list_rises h 0 large (distinct_large h)))
+  one_less = same_keyed (λ (p : ℕ × ℕ). p.0) 0 (list_of small h) (without_node n (list_of large h)) (list_rises h 0 small (distinct_small h)) (filter_rises (λ (p : ℕ × ℕ). p.0) (λ p. not (eqb p.1 n)) 0 (list_of large h) (list_rises h 0 large (distinct_large h)))
       to back
     where
-      to : (x : ℕ × ℕ) → IsAmong x (list_of small h) → IsAmong x (without_node n (list_of large h))
+      to : (x : ℕ × ℕ) → IsIn x (list_of small h) → IsIn x (without_node n (list_of large h))
       to x a = let e = in_list small h x.0 x.1 a in
           without_among n x (list_of large h) (listed large h x.0 x.1 (raised p x.1 (h, x.0) e))
           (λ s. let f : ◌≡◌ {A = Option (ℕ × ℕ)} None (Some (h, x.0)) = sym p.free ∙ (sym (ap (place_at small) s) ∙ e) in cc)
 
-      back : (x : ℕ × ℕ) → IsAmong x (without_node n (list_of large h)) → IsAmong x (list_of small h)
+      back : (x : ℕ × ℕ) → IsIn x (without_node n (list_of large h)) → IsIn x (list_of small h)
       back x a = let w = among_without n x (list_of large h) a in elim (lowered p x.1 h x.0 (in_list large h x.0 x.1 w.0)) [
         | inl e ↦ listed small h x.0 x.1 e
         | inr v ↦ absurd (w.1 v.0)

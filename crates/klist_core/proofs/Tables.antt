@@ -1,10 +1,9 @@
 -- What an insertion and a removal leave of the places: the facts of a table, and how many nodes its lists have.
 use Rattle.std.proofs.Common.{◌≡◌, ℕ, zero, suc, ◌+◌, ◌^◌, ◌<◌, Bool, cond, List, Option, Some, None, length, set, refl, ap, sym, ◌∙◌, inl, inr, arith}
 use Rattle.std.specs.Prelude.{◌≢◌, count_by, IsSome, is_some}
-use Rattle.std.proofs.lemmas.Bool.{cases_eq, eq-eqb, ne_eqb}
+use Rattle.std.proofs.lemmas.Bool.{cases_eq, eq-eqb, ne_eqb, cases_lt, false≢true}
 use Rattle.std.proofs.lemmas.List.{length-set, get_or-set_same, get_or-set_other, get_or_past}
 use Rattle.std.proofs.lemmas.List.Sums.{sum_by-set}
-use Rattle.std.proofs.lemmas.Bool.{cases_lt, false≢true}
 use Rattle.klist_core.specs.Places.{Placed, place_at, is_in, ArePlaces, inserted, removed}
 use Rattle.klist_core.proofs.Changes.{IsPut, raised, lowered}
 

@@ -1,13 +1,14 @@
-use Rattle.std.proofs.Common.{ℕ, sym, ◌∙◌, ap, Some, arith}
+use Rattle.std.proofs.Common.{ℕ, List, sym, ◌∙◌, ap, Some, slice_get, arith}
+use Rattle.model_core.proofs.Lists.{none_in}
 use Rattle.klist_core.specs.Lists.{list_of}
-use Rattle.klist_core.proofs.Listing.{in_list, listed, list_rises, first_of_rising, none_listed}
+use Rattle.klist_core.proofs.Listing.{in_list, listed, list_rises, first_of_rising}
 use Rattle.klist_core.proofs.Lists.first_at.Goals as goal
 
 pub returns-in_err-node-clause-head : goal.returns-in_err-node-clause-head
 returns-in_err-node-clause-head c =
     let places = c.args.self.now.places in
     let least = rw c.in_err-node.was at c.requires in
-    c.from_residual.ensures ∙ sym (none_listed (list_of places c.args.head) (λ x a. let below = least.is x.1 x.0 (in_list places c.args.head x.0 x.1 a) in omega arith))
+    c.from_residual.ensures ∙ sym (ap (λ (qs : List (ℕ × ℕ)). slice_get qs 0) (none_in (list_of places c.args.head) (λ x a. let below = least.is x.1 x.0 (in_list places c.args.head x.0 x.1 a) in omega arith)))
 
 pub returns-clause-head : goal.returns-clause-head
 returns-clause-head c =
