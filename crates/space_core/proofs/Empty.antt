@@ -5,8 +5,7 @@ use Rattle.std.proofs.lemmas.List.Folds.{sum_by-replicate}
 use Rattle.std.proofs.lemmas.Bool.{cases_lt}
 use Rattle.model_core.specs.declared.owner.Owner.{Owner}
 use Rattle.model_core.specs.Owners.{is_of}
-use Rattle.model_core.specs.declared.limits.TheConstants.{MOST_ORDER, MOST_SUPERBLOCKS, MOST_TENANTS}
-use Rattle.model_core.specs.declared.limits.TheConstants.{FRAME_BYTES}
+use Rattle.model_core.specs.declared.limits.TheConstants.{MOST_ORDER, MOST_SUPERBLOCKS, MOST_TENANTS, FRAME_BYTES}
 use Rattle.model_core.proofs.Lists.{everywhere}
 use Rattle.space_core.specs.Content.{IsSpace, empty_space, superblock_at}
 

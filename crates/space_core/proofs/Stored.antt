@@ -32,10 +32,6 @@ pub full-from_length : (bytes : List ℕ) → 0 < length bytes → bytes ≢ []
 full-from_length [] lt = absurd (omega arith)
 full-from_length (x ∷ xs) lt = λ e. cc
 
-pub none-from_length : (bytes : List ℕ) → length bytes ≡ 0 → bytes ≡ []
-none-from_length [] e = refl
-none-from_length (x ∷ xs) e = absurd (omega arith)
-
 pub length-full : (bytes : List ℕ) → bytes ≢ [] → 0 < length bytes
 length-full [] full = absurd (full refl)
 length-full (x ∷ xs) full = omega arith
