@@ -13,14 +13,6 @@ use Rattle.buddy_core.proofs.Bounding.{bounded_dropped}
 use Rattle.buddy_core.proofs.Buddy.drop_slot.Goals as goal
 use Rattle.buddy_core.proofs.Buddy.drop_slot.Goals.{After-unwrap-m, After-root, Else-root-order, After-drop_slot}
 
--- the tenant as the code leaves it
-tenant_written : (old tenant : StoredTenant) (slot top : ℕ) (new : StoredTenant) → old ≡ tenant → new ≡ record old { slots = set old.slots slot None; free = set old.free top (slice_index old.free top - 1) }
-    → new ≡ record tenant { slots = set tenant.slots slot None; free = set tenant.free top (slice_index tenant.free top - 1) }
-tenant_written old tenant slot top new e is = is ∙ ap (λ (r : StoredTenant). after r) e
-  where
-    after : StoredTenant → StoredTenant
-    after r = record r { slots = set r.slots slot None; free = set r.free top (slice_index r.free top - 1) }
-
 -- the tenant, and the superblock under the slot
 shown : (c : After-unwrap-m) → IsShown c.self.inside.order c.self.inside.superblocks.items c.self.inside.tenants.items c.args.t c.args.self.now
 shown c = shown_is c.self.inside.order c.self.inside.superblocks.items c.self.inside.tenants.items c.args.t c.args.self.now c.self.view_is c.requires.tenant
@@ -96,8 +88,8 @@ written : (c : After-drop_slot) → c.args.t < length c.self.inside.tenants.item
     }
 written c lt =
     let a = c.self.inside in
-    tenant_written c.index_mut-2.result.now (stored_tenant c.args.t a.tenants.items) c.args.slot a.order c.drop_slot.new.self
-    (get_or_read a.tenants.items c.args.t c.index_mut-2.result.now lt c.index_mut-2.ensures.value blank_of) c.drop_slot.ensures
+    c.drop_slot.ensures ∙ ap (λ (r : StoredTenant). record r { slots = set r.slots c.args.slot None; free = set r.free a.order (slice_index r.free a.order - 1) })
+    (get_or_read a.tenants.items c.args.t c.index_mut-2.result.now lt c.index_mut-2.ensures.value blank_of)
 
 pub invariant_of-self : goal.invariant_of-self
 invariant_of-self c =

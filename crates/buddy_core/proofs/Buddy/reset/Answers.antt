@@ -10,7 +10,6 @@ use Rattle.buddy_core.proofs.ContentShown.{shown_is, slot_read, blank_of, bare_o
 use Rattle.buddy_core.proofs.NothingHeld.{cleared_tenant}
 use Rattle.buddy_core.proofs.Resetting.{Cleared, cleared_none, cleared_past, cleared_more, next_order, reset_kept, reset_shown, reset_bounded}
 use Rattle.buddy_core.proofs.Buddy.reset.Goals as goal
-use Rattle.buddy_core.proofs.Buddy.reset.Goals.{in-Some, in_default}
 
 pub loop-slot-init : goal.loop-slot-init
 loop-slot-init c =
@@ -27,7 +26,7 @@ loop-slot-preserved c =
     let read : c.index.result.now ≡ get_or a.tenants.items c.args.t c.index.result.now = c.index.ensures ∙ ap (λ (xs : List StoredTenant). get_or xs c.args.t c.index.result.now) l.invariant.1 in
     let apart = λ (w v i : ℕ) (p : superblock_at tenant w ≡ Some i) (q : superblock_at tenant v ≡ Some i). (c.self.invariant.0.apart c.args.t w c.args.t v i p q).1 in
     elim c.match-superblock_at.branch [
-      | in-Some w ↦
+      | goal.in-Some w ↦
           let m = w.in-Some.m in
           let at = slot_read a.tenants.items c.args.t c.index.result.now s.listed read l.slot (Some m) w.in-Some.ensures in
           let m_lt = (c.self.invariant.0.each c.args.t s.listed).within l.slot m at in
@@ -41,7 +40,7 @@ loop-slot-preserved c =
             ap (λ (z : Inside). z.order) w.self-inside-is ∙ l.invariant.2,
             ap (λ (z : Inside). z.bands.items) w.self-inside-is ∙ l.invariant.3,
           )
-      | in_default w ↦
+      | goal.in_default w ↦
           let at = slot_read a.tenants.items c.args.t c.index.result.now s.listed read l.slot None w.in_default.ensures in (
             subst (λ (xs : List StoredSuperblock). Cleared a.order a.superblocks.items xs tenant (l.slot + 1)) (sym (ap (λ (z : Inside). z.superblocks.items) w.self-inside-is))
                 (cleared_past a.order a.superblocks.items superblocks tenant l.slot (λ m there. none-some m (sym at ∙ there)) l.invariant.0),
