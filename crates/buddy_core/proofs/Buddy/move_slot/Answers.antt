@@ -1,4 +1,4 @@
-use Rattle.std.proofs.Common.{◌≡◌, sym, ◌∙◌, ap, subst, ℕ, ◌<◌, Some, set, length}
+use Rattle.std.proofs.Common.{◌≡◌, sym, ◌∙◌, ap, subst, ◌<◌, Some, set, length}
 use Rattle.std.proofs.lemmas.List.{get_or_read}
 use Rattle.buddy_core.specs.Content.{holding_of, with_holding, with_slot}
 use Rattle.buddy_core.specs.Stored.{StoredTenant, stored_tenant, superblock_at, holding_shown, content_shown}
