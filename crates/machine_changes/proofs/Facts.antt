@@ -9,6 +9,7 @@ use Rattle.model_core.specs.Machine.{Slab, Cache, Machine, slot_of, layout}
 use Rattle.model_core.specs.Slabs.{cache_of, slab_of}
 use Rattle.model_core.proofs.Apart.{in_block-true, in_block-from, has_first}
 use Rattle.model_core.proofs.BlocksByNumber.{number_of_frame, same_slot}
+use Rattle.model_core.proofs.Lists.{none_of}
 use Rattle.klist_core.specs.Places.{place_at}
 use Rattle.space_core.specs.Content as spaces
 use Rattle.buddy_core.specs.Content as buddies
@@ -18,17 +19,9 @@ use Rattle.slab_tables.specs.Content.{Content, kept_at, cache_at, index_of_cache
 use Rattle.machine_changes.specs.Records.{is_set, flags_from}
 use Rattle.machine_changes.specs.Shows.{frame_under, node_of, record_byte, is_live, live_of, is_of_cache, slab_placed, slab_under, slab_at, has_slab, bare, without_slabs, is_inside, IsSlab, ShowsMachine}
 use Rattle.machine_changes.specs.Steady.{IsSteady}
-use Rattle.machine_changes.proofs.Lookups.{some_none, some_same}
+use Rattle.machine_changes.proofs.Lookups.{some_none, some_same, mapped_from}
 
 -- Caches with and without their slabs
-
-pub some_mapped : (o : Option Cache) (b : Cache) → option_map without_slabs o ≡ Some b → (x : Cache) × (o ≡ Some x) × (without_slabs x ≡ b)
-some_mapped None b e = absurd (some_none (sym e))
-some_mapped (Some x) b e = (x, refl, some_same e)
-
-pub some_bare : (c : ℕ) (o : Option own.Cache) (b : Cache) → option_map (bare c) o ≡ Some b → (x : own.Cache) × (o ≡ Some x) × (bare c x ≡ b)
-some_bare c None b e = absurd (some_none (sym e))
-some_bare c (Some x) b e = (x, refl, some_same e)
 
 pub none_mapped : (o : Option Cache) → option_map without_slabs o ≡ None → o ≡ None
 none_mapped None e = refl
@@ -160,6 +153,38 @@ all_stay r r' t cache kept f few same =
     same_below 0 (layout_numbers cache).count (is_live r' t cache kept f) (is_live r t cache kept f)
     (λ i low high. one_stays r r' t cache kept f i same (omega arith))
 
+-- no slab is shown where none begins
+pub no_slab_under : (r : spaces.Content) (s : Content) (t n : ℕ) (cache : own.Cache) (f : ℕ) (o : Option ℕ) → has_slab s o ≡ false → slab_under r s t n cache f o ≡ None
+no_slab_under r s t n cache f None e = refl
+no_slab_under r s t n cache f (Some node) e =
+    ap (λ p. slab_placed (live_of r t cache (kept_at s.kept node) f) (kept_at s.kept node).colour f (is_of_cache n f p))
+    (none_of (place_at s.lists.places node) e)
+
+-- a slab is shown as it was if its node is the same, and if it is listed there as it was with what was kept of it and the same live objects
+pub same_slab : (r r' : spaces.Content) (s s' : Content) (t c f : ℕ) (cache : own.Cache) → node_of s'.top r'.slots t f ≡ node_of s.top r.slots t f
+    → ((n : ℕ) → node_of s.top r.slots t f ≡ Some n → is_of_cache (index_of_cache t c) f (place_at s'.lists.places n) ≡ is_of_cache (index_of_cache t c) f (place_at s.lists.places n))
+    → ((n : ℕ) → node_of s.top r.slots t f ≡ Some n → is_of_cache (index_of_cache t c) f (place_at s.lists.places n) ≡ true
+    → (kept_at s'.kept n ≡ kept_at s.kept n) × (live_of r' t cache (kept_at s.kept n) f ≡ live_of r t cache (kept_at s.kept n) f))
+    → slab_at r' s' t c cache f ≡ slab_at r s t c cache f
+same_slab r r' s s' t c f cache node listed stays =
+    ap (slab_under r' s' t (index_of_cache t c) cache f) node ∙ under (node_of s.top r.slots t f) refl
+  where
+    placed : (n : ℕ) → node_of s.top r.slots t f ≡ Some n → (w : Bool) → is_of_cache (index_of_cache t c) f (place_at s.lists.places n) ≡ w
+        → slab_placed (live_of r' t cache (kept_at s'.kept n) f) (kept_at s'.kept n).colour f w
+        ≡ slab_placed (live_of r t cache (kept_at s.kept n) f) (kept_at s.kept n).colour f w
+    placed n at false e = refl
+    placed n at true e =
+        let same = stays n at e in
+        ap (λ kept. slab_placed (live_of r' t cache kept f) kept.colour f true) same.0
+        ∙ ap (λ live. slab_placed live (kept_at s.kept n).colour f true) same.1
+
+    under : (o : Option ℕ) → node_of s.top r.slots t f ≡ o
+        → slab_under r' s' t (index_of_cache t c) cache f o ≡ slab_under r s t (index_of_cache t c) cache f o
+    under None at = refl
+    under (Some n) at =
+        ap (slab_placed (live_of r' t cache (kept_at s'.kept n) f) (kept_at s'.kept n).colour f) (listed n at)
+        ∙ placed n at (is_of_cache (index_of_cache t c) f (place_at s.lists.places n)) refl
+
 module _ (r : spaces.Content) (b : buddies.Content) (s : Content) (t : ℕ) (st : IsSteady r b s t) where
   -- the live objects of a slab whose record is the same
   pub live_stays : (r' : spaces.Content) (kept : Kept) (c f n : ℕ) (cache : own.Cache) → IsSlab r s t c f n cache
@@ -215,7 +240,7 @@ module _ (r : spaces.Content) (b : buddies.Content) (s : Content) (t : ℕ) (m :
 
   pub cache_shown : (c : ℕ) (cache : own.Cache) → cache_at s t c ≡ Some cache → IsCacheShown c cache
   cache_shown c cache e =
-      let there = some_mapped (cache_of m c) (bare c cache) (h.caches c ∙ ap (option_map (bare c)) e) in
+      let there = mapped_from without_slabs (cache_of m c) (bare c cache) (h.caches c ∙ ap (option_map (bare c)) e) in
       record { shown = there.0; cached = there.1; same = there.2; layout = layout_of_bare c there.0 cache there.2 }
 
   -- and back
@@ -227,7 +252,7 @@ module _ (r : spaces.Content) (b : buddies.Content) (s : Content) (t : ℕ) (m :
 
   pub cache_kept : (c : ℕ) (x : Cache) → cache_of m c ≡ Some x → IsCacheKept c x
   cache_kept c x e =
-      let there = some_bare c (cache_at s t c) (without_slabs x) (sym (h.caches c) ∙ ap (option_map without_slabs) e) in
+      let there = mapped_from (bare c) (cache_at s t c) (without_slabs x) (sym (h.caches c) ∙ ap (option_map without_slabs) e) in
       record {
         kept = there.0;
         cached = there.1;
@@ -262,14 +287,18 @@ module _ (r : spaces.Content) (b : buddies.Content) (s : Content) (t : ℕ) (m :
       let is = shown_is r s t c there.kept there.cached f y (sym (h.slabs c f x there.kept ex there.cached) ∙ ey) in
       record { kept = there.kept; node = is.node; slab = is.slab; is = is.is; layout = there.layout }
 
+-- the places of a slab lie in the slot of its first frame
+pub slot_inside : (r : spaces.Content) (b : buddies.Content) (s : Content) (t place c f n : ℕ) (cache : own.Cache) → IsSteady r b s t
+    → IsSlab r s t c f n cache → is_inside place f cache ≡ true → slot_of s.top place ≡ f / 2 ^ s.top
+slot_inside r b s t place c f n cache st q inside =
+    let k : ℕ = (layout_numbers cache).order in
+    let placed = st.sound.placed f k (st.stands c f n cache q).taken in
+    same_slot s.top k (place / 4096) f placed.0.0 (number_of_frame f k (place / 4096) placed.0.1 (in_block-true place (block f k) inside))
+
 module _ (r : spaces.Content) (b : buddies.Content) (s : Content) (t : ℕ) (st : IsSteady r b s t) where
   -- a slab lies in a held slot
   pub slot_held : (place c f n : ℕ) (cache : own.Cache) → IsSlab r s t c f n cache → is_inside place f cache ≡ true
       → is_some (spaces.superblock_at r.slots t (slot_of s.top place)) ≡ true
   slot_held place c f n cache q inside =
-      let k = (layout_numbers cache).order in
-      let placed = st.sound.placed f k (st.stands c f n cache q).taken in
-      let same : place / 4096 / 2 ^ s.top ≡ f / 2 ^ s.top =
-      same_slot s.top k (place / 4096) f placed.0.0
-      (number_of_frame f k (place / 4096) placed.0.1 (in_block-true place (block f k) inside)) in
-      ap (λ u. is_some (spaces.superblock_at r.slots t u)) same ∙ placed.1
+      ap (λ u. is_some (spaces.superblock_at r.slots t u)) (slot_inside r b s t place c f n cache st q inside)
+      ∙ (st.sound.placed f (layout_numbers cache).order (st.stands c f n cache q).taken).1

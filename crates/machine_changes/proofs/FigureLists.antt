@@ -5,14 +5,14 @@ use Rattle.model_core.specs.Blocks.{Block}
 use Rattle.model_core.specs.Machine.{Slab, Cache, Machine, slab_block, slab_blocks, taken_blocks, order_in}
 use Rattle.model_core.specs.WellFormed.{RisesFrom}
 use Rattle.model_core.specs.Elements.{IsIn}
-use Rattle.model_core.proofs.Lists.{map_in, flat_map_in}
+use Rattle.model_core.proofs.Lists.{map_in, flat_map_in, key_above}
 use Rattle.space_core.specs.Content as spaces
 use Rattle.buddy_core.specs.Content as buddies
 use Rattle.slab_tables.specs.Content.{Content}
 use Rattle.machine_changes.specs.Shows.{node_of, has_slab, ShowsMachine}
 use Rattle.machine_changes.specs.Steady.{IsSteady}
 use Rattle.machine_changes.proofs.Facts.{has_it, one_slab}
-use Rattle.machine_changes.proofs.Lookups.{some_none, key_above, in_found}
+use Rattle.machine_changes.proofs.Lookups.{some_none, in_found}
 use Rattle.machine_changes.proofs.Reserved.{order_found}
 use Rattle.machine_changes.proofs.Taken.{slab_kept}
 use Rattle.machine_changes.proofs.FigureSums.{AreKeyed, rising_keyed, append_keyed, mapped_keyed}

@@ -7,8 +7,7 @@ use Rattle.std.proofs.lemmas.List.{get_or_past, get_or-set_same, get_or-set_othe
 use Rattle.std.proofs.lemmas.List.Sums.{sum_by-cons, sum_by-set}
 use Rattle.model_core.specs.WellFormed.{RisesFrom}
 use Rattle.model_core.specs.Elements.{IsIn}
-use Rattle.model_core.proofs.Lists.{in_append, map_in}
-use Rattle.machine_changes.proofs.Lookups.{key_above}
+use Rattle.model_core.proofs.Lists.{in_append, map_in, key_above}
 
 -- Lists in which no two have one key
 

@@ -23,7 +23,7 @@ use Rattle.machine_changes.specs.Steady.{IsSteady}
 use Rattle.machine_changes.specs.Changes.{IsGrown}
 use Rattle.machine_changes.specs.Laws.{GrownShows}
 use Rattle.machine_changes.proofs.Lookups.{some_none, some_same, found_key, keys_replaced, found_new, found_other, in_found, found_put}
-use Rattle.machine_changes.proofs.Facts.{one_listed, one_slab, one_node, live_stays, record_inside, cache_kept}
+use Rattle.machine_changes.proofs.Facts.{one_listed, one_slab, one_node, same_slab, live_stays, record_inside, cache_kept}
 
 -- flags that are all down
 pub all_down : (k n : ℕ) (p : ℕ → Bool) → ((i : ℕ) → k ≤ i → i < k + n → p i ≡ false) → flags_from k n p ≡ replicate n false
@@ -194,27 +194,10 @@ module _ (r r' : spaces.Content) (b b' : buddies.Content) (s s' : Content) (t c 
       (λ small j less. ap byte_or_zero (k.bytes (4096 * g + 4064 + j)
       (apart_slab (4096 * g + 4064 + j) d g x other q (record_inside r b s t st d g x j other q less))))
 
-  other_placed : (d g x : ℕ) (other : own.Cache) → cache_at s t d ≡ Some other → g ≢ f → node_of s.top r.slots t g ≡ Some x → (w : Bool)
-      → is_of_cache (index_of_cache t d) g (place_at s.lists.places x) ≡ w
-      → slab_placed (live_of r' t other (kept_at s'.kept x) g) (kept_at s'.kept x).colour g w
-      ≡ slab_placed (live_of r t other (kept_at s.kept x) g) (kept_at s.kept x).colour g w
-  other_placed d g x other cached differ under false listed = refl
-  other_placed d g x other cached differ under true listed =
-      ap (λ kept. slab_placed (live_of r' t other kept g) kept.colour g true) (k.kept x (differs g x under differ))
-      ∙ ap (λ live. slab_placed live (kept_at s.kept x).colour g true)
-      (live_now d g x other (record { cached = cached; under = under; listed = listed }))
-
-  other_under : (d g : ℕ) (other : own.Cache) (o : Option ℕ) → cache_at s t d ≡ Some other → g ≢ f → node_of s.top r.slots t g ≡ o
-      → slab_under r' s' t (index_of_cache t d) other g o ≡ slab_under r s t (index_of_cache t d) other g o
-  other_under d g other None cached differ under = refl
-  other_under d g other (Some x) cached differ under =
-      ap (slab_placed (live_of r' t other (kept_at s'.kept x) g) (kept_at s'.kept x).colour g) (listed_other (index_of_cache t d) g x under differ)
-      ∙ other_placed d g x other cached differ under (is_of_cache (index_of_cache t d) g (place_at s.lists.places x)) refl
-
   slab_other : (d g : ℕ) (other : own.Cache) → cache_at s t d ≡ Some other → g ≢ f → slab_at r' s' t d other g ≡ slab_at r s t d other g
   slab_other d g other cached differ =
-      ap (slab_under r' s' t (index_of_cache t d) other g) (node_same g)
-      ∙ other_under d g other (node_of s.top r.slots t g) cached differ refl
+      same_slab r r' s s' t d g other (node_same g) (λ x under. listed_other (index_of_cache t d) g x under differ)
+      (λ x under listed. (k.kept x (differs g x under differ), live_now d g x other (record { cached = cached; under = under; listed = listed })))
 
   has_under : (g : ℕ) (o : Option ℕ) → node_of s.top r.slots t g ≡ o → g ≢ f → has_slab s' o ≡ has_slab s o
   has_under g None under differ = refl

@@ -1,17 +1,26 @@
 -- Look-ups by a key in lists of which one element is replaced, put in, or left out.
-use Rattle.std.proofs.Common.{◌≡◌, ◌≢◌, ℕ, ◌+◌, ◌≤◌, Bool, true, false, not, cond, eqb, ltb, List, [], ◌∷◌, map, Some, None, refl, sym, ap, ◌∙◌, subst, inl, inr, ⊎_elim, arith}
+use Rattle.std.proofs.Common.{◌≡◌, ◌≢◌, ℕ, Bool, true, false, not, cond, eqb, ltb, List, [], ◌∷◌, map, Some, None, refl, sym, ap, ◌∙◌, ⊎_elim}
 use Rattle.std.specs.Prelude.{find, filter, Option, option_map}
 use Rattle.std.proofs.lemmas.Bool.{false≢true, eqb-true, eq-eqb, ne_eqb, cases_eq}
 use Rattle.model_core.specs.Machine.{put_rising}
-use Rattle.model_core.specs.WellFormed.{RisesFrom}
-use Rattle.model_core.specs.Elements.{IsIn}
 use Rattle.model_core.proofs.Lists.{find_in}
+pub use Rattle.model_core.proofs.Lists.{in_found}
 
 pub some_none : {A : Type 0} {x : A} → Some x ≡ None → ⊥
 some_none {A} {x} e = cc
 
 pub some_same : {A : Type 0} {x y : A} → Some x ≡ Some y → x ≡ y
 some_same {A} {x} {y} e = cc
+
+-- a function of one of two values
+pub through : {A B : Type 0} (f : A → B) (v : Bool) (x y : A) → f (cond v x y) ≡ cond v (f x) (f y)
+through f true x y = refl
+through f false x y = refl
+
+-- what an option was before it was mapped
+pub mapped_from : {A B : Type 0} (f : A → B) (o : Option A) (y : B) → option_map f o ≡ Some y → (x : A) × (o ≡ Some x) × (f x ≡ y)
+mapped_from f None y e = absurd (some_none (sym e))
+mapped_from f (Some x) y e = (x, refl, some_same e)
 
 pub eq_turned : (a b : ℕ) → eqb a b ≡ eqb b a
 eq_turned a b =
@@ -69,20 +78,6 @@ module _ {X : Type 0} (key : X → ℕ) where
           at_past n new (replaced new xs) (λ same. differ (sym same)) ∙ more
           ∙ sym (at_past n x xs (λ same. differ (sym same ∙ eqb-true (key x) (key new) is)))
       go false is more = ap (λ o. cond (eqb (key x) n) (Some x) o) more
-
-  pub key_above : (n : ℕ) (x : X) (xs : List X) → RisesFrom n (map key xs) → IsIn x xs → n ≤ key x
-  key_above n x [] rises i = elim i [ ]
-  key_above n x (y ∷ ys) (low, rises) (inl same) = subst (λ z. n ≤ key z) same low
-  key_above n x (y ∷ ys) (low, rises) (inr i) = let above : key y + 1 ≤ key x = key_above (key y + 1) x ys rises i in omega arith
-
-  -- an element of a rising list is found by its key
-  pub in_found : (n : ℕ) (x : X) (xs : List X) → RisesFrom n (map key xs) → IsIn x xs → at (key x) xs ≡ Some x
-  in_found n x [] rises i = elim i [ ]
-  in_found n x (y ∷ ys) (low, rises) (inl same) =
-      subst (λ z. at (key z) (y ∷ ys) ≡ Some z) same (at_here (key y) y ys refl)
-  in_found n x (y ∷ ys) (low, rises) (inr i) =
-      let above : key y + 1 ≤ key x = key_above (key y + 1) x ys rises i in
-      at_past (key x) y ys (λ same. absurd (omega arith)) ∙ in_found (key y + 1) x ys rises i
 
   -- look-ups in a list whose elements were changed under their keys
   pub found_mapped : (g : X → X) (n : ℕ) (xs : List X) → ((x : X) → key (g x) ≡ key x) → at n (map g xs) ≡ option_map g (at n xs)

@@ -18,7 +18,7 @@ use Rattle.machine_changes.specs.Steady.{IsSteady}
 use Rattle.machine_changes.specs.Changes.{Found, IsMarked}
 use Rattle.machine_changes.specs.Laws.{MarkedShows}
 use Rattle.machine_changes.proofs.Lookups.{some_same, found_key, keys_replaced, found_new, found_other}
-use Rattle.machine_changes.proofs.Facts.{one_listed, one_node, live_stays, record_inside, shown, slab_shown}
+use Rattle.machine_changes.proofs.Facts.{one_listed, one_node, same_slab, live_stays, record_inside, shown, slab_shown}
 
 none_above : (colour offset count chunk size : ℕ) → 0 < chunk → colour + count * chunk ≤ offset
     → (leb colour offset && (ltb ((offset - colour) / chunk) count && ltb ((offset - colour) % chunk) size)) ≡ false
@@ -94,29 +94,15 @@ module _ (r r' : spaces.Content) (b : buddies.Content) (s s' : Content) (t c : �
       ap byte_or_zero (k.bytes (4096 * f + 4064 + j) (λ i few same. differ (omega arith)))
 
   -- slabs but the marked one
-  other_placed : (d f n : ℕ) (cache : own.Cache) → cache_at s t d ≡ Some cache → f ≢ o.first → node_of s.top r.slots t f ≡ Some n
-      → (listed : Bool) → is_of_cache (index_of_cache t d) f (place_at s.lists.places n) ≡ listed
-      → slab_placed (live_of r' t cache (kept_at s'.kept n) f) (kept_at s'.kept n).colour f listed
-      ≡ slab_placed (live_of r t cache (kept_at s.kept n) f) (kept_at s.kept n).colour f listed
-  other_placed d f n cache cached differ under false listed = refl
-  other_placed d f n cache cached differ under true listed =
-      let p : IsSlab r s t d f n cache = record { cached = cached; under = under; listed = listed } in
-      let other : n ≢ o.node = λ same. differ (one_node r b s t st f o.first n under (q.under ∙ ap (λ x. Some x) (sym same))) in
-      ap (λ kept. slab_placed (live_of r' t cache kept f) kept.colour f true) (k.kept n other)
-      ∙ ap (λ live. slab_placed live (kept_at s.kept n).colour f true)
-      (live_stays r b s t st r' (kept_at s.kept n) d f n cache p (λ small j less. record_stays f differ j less))
-
-  other_under : (d f : ℕ) (cache : own.Cache) → cache_at s t d ≡ Some cache → f ≢ o.first → (n : Option ℕ) → node_of s.top r.slots t f ≡ n
-      → slab_under r' s' t (index_of_cache t d) cache f n ≡ slab_under r s t (index_of_cache t d) cache f n
-  other_under d f cache cached differ None under = refl
-  other_under d f cache cached differ (Some n) under =
-      ap (slab_placed (live_of r' t cache (kept_at s'.kept n) f) (kept_at s'.kept n).colour f) (listed_same (index_of_cache t d) f n)
-      ∙ other_placed d f n cache cached differ under (is_of_cache (index_of_cache t d) f (place_at s.lists.places n)) refl
-
   pub slab_other : (d f : ℕ) (cache : own.Cache) → cache_at s t d ≡ Some cache → f ≢ o.first → slab_at r' s' t d cache f ≡ slab_at r s t d cache f
   slab_other d f cache cached differ =
-      ap (slab_under r' s' t (index_of_cache t d) cache f) (node_same f)
-      ∙ other_under d f cache cached differ (node_of s.top r.slots t f) refl
+      same_slab r r' s s' t d f cache (node_same f) (λ n under. listed_same (index_of_cache t d) f n)
+      (λ n under listed.
+      let other : n ≢ o.node = λ same. differ (one_node r b s t st f o.first n under (q.under ∙ ap (λ x. Some x) (sym same))) in (
+        k.kept n other,
+        live_stays r b s t st r' (kept_at s.kept n) d f n cache (record { cached = cached; under = under; listed = listed })
+            (λ small j less. record_stays f differ j less),
+      ))
 
   -- the marked frame has no slab of another cache
   pub slab_none : (d : ℕ) (cache : own.Cache) → d ≢ c → slab_at r' s' t d cache o.first ≡ slab_at r s t d cache o.first

@@ -4,17 +4,11 @@ use Rattle.std.specs.Prelude.{find}
 use Rattle.std.proofs.lemmas.Bool.{false≢true}
 use Rattle.model_core.specs.WellFormed.{RisesFrom}
 use Rattle.model_core.specs.Elements.{IsIn}
-use Rattle.machine_changes.proofs.Lookups.{some_none, key_above}
+use Rattle.model_core.proofs.Lists.{key_above, any_unfound, any_in}
 
 -- what passes is found, or something before it
 pub some_found : {X : Type 0} (p : X → Bool) (x : X) (xs : List X) → IsIn x xs → p x ≡ true → find p xs ≢ None
-some_found p x [] i e none = elim i [ ]
-some_found {X} p x (y ∷ ys) i e none = go (p y) refl i none (some_found p x ys)
-  where
-    go : (v : Bool) → p y ≡ v → IsIn x (y ∷ ys) → cond v (Some y) (find p ys) ≡ None → (IsIn x ys → p x ≡ true → find p ys ≢ None) → ⊥
-    go true is i none more = some_none none
-    go false is (inl same) none more = false≢true (sym is ∙ ap p same ∙ e)
-    go false is (inr j) none more = more j e none
+some_found p x xs i e none = false≢true (sym (any_unfound p xs none) ∙ any_in p x xs i e)
 
 -- none is found where none passes
 pub find_none : {X : Type 0} (p : X → Bool) (xs : List X) → ((x : X) → IsIn x xs → p x ≡ false) → find p xs ≡ None

@@ -8,25 +8,24 @@ use Rattle.klist_core.specs.Places.{place_at}
 use Rattle.space_core.specs.Content as spaces
 use Rattle.space_core.specs.Laws.{IsSameFor}
 use Rattle.buddy_core.specs.Content as buddies
-use Rattle.buddy_core.specs.Content.{Holding, no_tenant, holding_of, with_holding, taken_of}
 use Rattle.slab_tables.specs.declared.cache.Cache as own
 use Rattle.slab_tables.specs.Content.{Content, layout_numbers}
 use Rattle.machine_changes.specs.Shows.{node_of, has_slab, IsAgreed, Agree}
 use Rattle.machine_changes.specs.Keeps.{IsSameCaches, Spares}
 use Rattle.machine_changes.proofs.Lookups.{some_none}
 
-other_holding : (t u : ℕ) (h : Holding) (c : buddies.Content) → u ≢ t → holding_of u (with_holding t h c) ≡ holding_of u c
-other_holding t u h c other = get_or-set_other c.tenants t u h no_tenant other
+other_holding : (t u : ℕ) (h : buddies.Holding) (c : buddies.Content) → u ≢ t → buddies.holding_of u (buddies.with_holding t h c) ≡ buddies.holding_of u c
+other_holding t u h c other = get_or-set_other c.tenants t u h buddies.no_tenant other
 
 -- a change that leaves nothing as nothing
-pub own_changed : (t : ℕ) (change : Holding → Holding) (c : buddies.Content) → change no_tenant ≡ no_tenant
-    → holding_of t (with_holding t (change (holding_of t c)) c) ≡ change (holding_of t c)
+pub own_changed : (t : ℕ) (change : buddies.Holding → buddies.Holding) (c : buddies.Content) → change buddies.no_tenant ≡ buddies.no_tenant
+    → buddies.holding_of t (buddies.with_holding t (change (buddies.holding_of t c)) c) ≡ change (buddies.holding_of t c)
 own_changed t change c nothing =
     ⊎_elim
-    (λ below. get_or-set_same c.tenants t (change (holding_of t c)) no_tenant below)
+    (λ below. get_or-set_same c.tenants t (change (buddies.holding_of t c)) buddies.no_tenant below)
     (λ past.
-    get_or_past (set c.tenants t (change (holding_of t c))) t no_tenant (let long = length-set c.tenants t (change (holding_of t c)) in omega (arith, long))
-    ∙ sym (ap change (get_or_past c.tenants t no_tenant past) ∙ nothing))
+    get_or_past (set c.tenants t (change (buddies.holding_of t c))) t buddies.no_tenant (let long = length-set c.tenants t (change (buddies.holding_of t c)) in omega (arith, long))
+    ∙ sym (ap change (get_or_past c.tenants t buddies.no_tenant past) ∙ nothing))
     (cases_lt t (length c.tenants))
 
 -- a table with nothing at one place
@@ -50,32 +49,32 @@ pub same_caches : (t : ℕ) (r : spaces.Content) (s : Content) → IsSameCaches 
 same_caches t r s = record { top = refl; caches = λ c. refl; lists = λ f n under. refl; kept = λ f n under. refl }
 
 -- tenant t holds h now, with the same slots, and with the same taken blocks where slabs begin
-module _ (r : spaces.Content) (b : buddies.Content) (s : Content) (t : ℕ) (a : Agree r b s) (h : Holding)
-    (is : holding_of t (with_holding t h b) ≡ h) (slots : h.slots ≡ (holding_of t b).slots)
-    (stays : (f : ℕ) → has_slab s (node_of s.top r.slots t f) ≡ true → taken_of (holding_of t b) f ≢ None → taken_of h f ≡ taken_of (holding_of t b) f) where
+module _ (r : spaces.Content) (b : buddies.Content) (s : Content) (t : ℕ) (a : Agree r b s) (h : buddies.Holding)
+    (is : buddies.holding_of t (buddies.with_holding t h b) ≡ h) (slots : h.slots ≡ (buddies.holding_of t b).slots)
+    (stays : (f : ℕ) → has_slab s (node_of s.top r.slots t f) ≡ true → buddies.taken_of (buddies.holding_of t b) f ≢ None → buddies.taken_of h f ≡ buddies.taken_of (buddies.holding_of t b) f) where
   abbrev b' : buddies.Content
-  b' = with_holding t h b
+  b' = buddies.with_holding t h b
 
-  slots_same : (u : ℕ) → (holding_of u b').slots ≡ (holding_of u b).slots
+  slots_same : (u : ℕ) → (buddies.holding_of u b').slots ≡ (buddies.holding_of u b).slots
   slots_same u =
       ⊎_elim
-      (λ (same : u ≡ t). ap (λ v. (holding_of v b').slots) same ∙ (ap (λ x. x.slots) is ∙ (slots ∙ ap (λ v. (holding_of v b).slots) (sym same))))
+      (λ (same : u ≡ t). ap (λ v. (buddies.holding_of v b').slots) same ∙ (ap (λ x. x.slots) is ∙ (slots ∙ ap (λ v. (buddies.holding_of v b).slots) (sym same))))
       (λ (other : u ≢ t). ap (λ x. x.slots) (other_holding t u h b other))
       (cases_eq u t)
 
   -- the taken block of a slab, of whichever tenant
   taken_stays : (node head key : ℕ) (cache : own.Cache) → place_at s.lists.places node ≡ Some (head, key) → IsAgreed r b s node head key cache
-      → (u : ℕ) → head / 3 / MOST_CACHES ≡ u → taken_of (holding_of u b') key ≡ taken_of (holding_of u b) key
+      → (u : ℕ) → head / 3 / MOST_CACHES ≡ u → buddies.taken_of (buddies.holding_of u b') key ≡ buddies.taken_of (buddies.holding_of u b) key
   taken_stays node head key cache place x u tenant =
       ⊎_elim
       (λ (same : u ≡ t).
       let mine : head / 3 / MOST_CACHES ≡ t = tenant ∙ same in
       let has : has_slab s (node_of s.top r.slots t key) ≡ true =
       ap (λ v. has_slab s (node_of s.top r.slots v key)) (sym mine) ∙ (ap (has_slab s) x.under ∙ ap is_some place) in
-      let taken = subst (λ v. taken_of (holding_of v b) key ≡ Some (layout_numbers cache).order) mine x.taken in
-      subst (λ v. taken_of (holding_of v b') key ≡ taken_of (holding_of v b) key) (sym same)
-      (ap (λ y. taken_of y key) is ∙ stays key has (λ none. some_none (sym taken ∙ none))))
-      (λ (other : u ≢ t). ap (λ y. taken_of y key) (other_holding t u h b other))
+      let taken = subst (λ v. buddies.taken_of (buddies.holding_of v b) key ≡ Some (layout_numbers cache).order) mine x.taken in
+      subst (λ v. buddies.taken_of (buddies.holding_of v b') key ≡ buddies.taken_of (buddies.holding_of v b) key) (sym same)
+      (ap (λ y. buddies.taken_of y key) is ∙ stays key has (λ none. some_none (sym taken ∙ none))))
+      (λ (other : u ≢ t). ap (λ y. buddies.taken_of y key) (other_holding t u h b other))
       (cases_eq u t)
 
   pub agree_held : Agree r b' s
@@ -101,6 +100,6 @@ module _ (r : spaces.Content) (b : buddies.Content) (s : Content) (t : ℕ) (a :
   spares_held = record {
     others = λ u other. record { space = same_space u r; buddy = other_holding t u h b other; slabs = same_caches u r s };
     space = refl;
-    buddy = ap (λ y. with_holding t y b) (sym is);
+    buddy = ap (λ y. buddies.with_holding t y b) (sym is);
     spare = λ m none. refl;
   }

@@ -1,23 +1,19 @@
 -- Lists of blocks that rise by first frame.
-use Rattle.std.proofs.Common.{◌≡◌, ℕ, Bool, true, false, not, cond, List, map, Some, None, refl, sym, ap, ◌∙◌}
-use Rattle.std.specs.Prelude.{Option, option_map, filter, ◌==◌}
+use Rattle.std.proofs.Common.{◌≡◌, ℕ, not, cond, List, map, Some, None, sym, ap, ◌∙◌}
+use Rattle.std.specs.Prelude.{option_map, filter, ◌==◌}
 use Rattle.model_core.specs.Blocks.{Block}
 use Rattle.model_core.specs.Machine.{order_in}
 use Rattle.model_core.specs.WellFormed.{RisesFrom}
 use Rattle.model_core.specs.Elements.{IsIn}
-use Rattle.machine_changes.proofs.Lookups.{at, found_kept, in_found}
+use Rattle.machine_changes.proofs.Lookups.{at, found_kept, in_found, through}
 use Rattle.machine_changes.proofs.Reserved.{order_found}
-
-order_of : (b : Bool) (o : Option Block) → option_map (λ x. x.order) (cond b None o) ≡ cond b None (option_map (λ x. x.order) o)
-order_of true o = refl
-order_of false o = refl
 
 -- what a list of blocks tells less the one at a frame
 pub order_less : (f : ℕ) (bs : List Block) (g : ℕ) → order_in (filter (λ x. not (x.first == f)) bs) g ≡ cond (g == f) None (order_in bs g)
 order_less f bs g =
     order_found (filter (λ x. not (x.first == f)) bs) g
     ∙ ap (option_map (λ x. x.order)) (found_kept (λ x. x.first) (λ n. n == f) g bs)
-    ∙ order_of (g == f) (at (λ x. x.first) g bs)
+    ∙ through (option_map (λ x. x.order)) (g == f) None (at (λ x. x.first) g bs)
     ∙ ap (cond (g == f) None) (sym (order_found bs g))
 
 -- .. and the order of a block in a rising list is told

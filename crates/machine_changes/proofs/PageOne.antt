@@ -1,14 +1,16 @@
 -- The parts show one machine at most.
-use Rattle.std.proofs.Common.{◌≡◌, ◌≢◌, ℕ, zero, suc, ◌+◌, ◌-◌, ◌*◌, ◌/◌, ◌<◌, Bool, true, false, List, [], ◌∷◌, map, Some, None, refl, sym, ap, ◌∙◌, subst, ◌⊎◌, inl, inr, ⊎_elim, arith}
+use Rattle.std.proofs.Common.{◌≡◌, ◌≢◌, ℕ, zero, suc, ◌-◌, ◌*◌, ◌/◌, ◌<◌, Bool, true, false, List, map, Some, None, refl, sym, ap, ◌∙◌, subst, ◌⊎◌, inl, inr, ⊎_elim, arith, eqb}
 use Rattle.std.specs.Prelude.{Option, option_map, is_some, ◌==◌}
-use Rattle.std.proofs.lemmas.Bool.{false≢true, eqb-true, and_parts, cases_eq, cases_lt, false_from_ne_true}
+use Rattle.std.proofs.lemmas.Bool.{false≢true, eqb-true, and_parts, cases_eq, false_from_ne_true}
 use Rattle.model_core.specs.Blocks.{Block, block}
 use Rattle.model_core.specs.Machine.{Slab, Cache, Machine, slot_of, order_in}
 use Rattle.model_core.specs.Slabs.{cache_of}
 use Rattle.model_core.specs.WellFormed.{RisesFrom}
 use Rattle.model_core.specs.declared.limits.TheConstants.{MOST_CACHES}
+use Rattle.model_core.specs.Elements.{IsIn}
 use Rattle.model_core.proofs.Apart.{in_block-true}
-use Rattle.model_core.proofs.Rising.{same_rising}
+use Rattle.model_core.proofs.Lists.{find_in}
+use Rattle.model_core.proofs.Rising.{same_keyed, same_rising}
 use Rattle.model_core.proofs.TakenSteps.{same_block}
 use Rattle.klist_core.specs.Places.{place_at}
 use Rattle.space_core.specs.Content as spaces
@@ -16,53 +18,18 @@ use Rattle.buddy_core.specs.Content as buddies
 use Rattle.slab_tables.specs.declared.cache.Cache as own
 use Rattle.slab_tables.specs.Content.{Content, cache_at, index_of_cache, layout_numbers}
 use Rattle.machine_changes.specs.Shows.{node_of, is_of_cache, without_slabs, is_inside, IsSlab, ShowsMachine}
-use Rattle.machine_changes.proofs.Lookups.{some_none, some_same, at, at_here, at_past, found_key}
+use Rattle.machine_changes.proofs.Lookups.{some_none, some_same, at, found_key, in_found}
 use Rattle.machine_changes.proofs.Facts.{one_slab, cache_kept}
 use Rattle.machine_changes.proofs.Reserved.{order_found}
 use Rattle.machine_changes.specs.Pages.{OneMachine}
 
--- Rising lists
-
-module _ {X : Type 0} (key : X → ℕ) where
-  none_below : (n k : ℕ) (xs : List X) → RisesFrom n (map key xs) → k < n → at key k xs ≡ None
-  none_below n k [] rises less = refl
-  none_below n k (x ∷ xs) (low, rises) less =
-      at_past key k x xs (λ same. absurd (omega arith)) ∙ none_below (key x + 1) k xs rises (omega arith)
-
-  -- what follows one head is the same
-  rest_same : (x y : X) (xs ys : List X) → key x ≡ key y → RisesFrom (key x + 1) (map key xs) → RisesFrom (key y + 1) (map key ys)
-      → ((k : ℕ) → at key k (x ∷ xs) ≡ at key k (y ∷ ys)) → (k : ℕ) → at key k xs ≡ at key k ys
-  rest_same x y xs ys keys rises rises' same k =
-      ⊎_elim
-      (λ (here : key x ≡ k). none_below (key x + 1) k xs rises (omega arith) ∙ sym (none_below (key y + 1) k ys rises' (omega arith)))
-      (λ (other : key x ≢ k). sym (at_past key k x xs other) ∙ (same k ∙ at_past key k y ys (λ e. other (keys ∙ e))))
-      (cases_eq (key x) k)
-
-  -- a head is not in a list whose head is higher
-  not_higher : (x y : X) (xs ys : List X) → key x < key y → RisesFrom (key y + 1) (map key ys) → at key (key x) (x ∷ xs) ≡ at key (key x) (y ∷ ys) → ⊥
-  not_higher x y xs ys less rises same =
-      some_none (sym (at_here key (key x) x xs refl) ∙ (same ∙ none_below (key y) (key x) (y ∷ ys) (omega arith, rises) less))
-
-  -- rising lists with the same look-ups are one
-  pub same_keyed : (n : ℕ) (xs ys : List X) → RisesFrom n (map key xs) → RisesFrom n (map key ys) → ((k : ℕ) → at key k xs ≡ at key k ys) → xs ≡ ys
-  same_keyed n [] [] rises rises' same = refl
-  same_keyed n [] (y ∷ ys) rises rises' same = absurd (some_none (sym (at_here key (key y) y ys refl) ∙ sym (same (key y))))
-  same_keyed n (x ∷ xs) [] rises rises' same = absurd (some_none (sym (at_here key (key x) x xs refl) ∙ same (key x)))
-  same_keyed n (x ∷ xs) (y ∷ ys) (low, rises) (low', rises') same = go (same_keyed (key x + 1) xs ys rises)
-    where
-      go : (RisesFrom (key x + 1) (map key ys) → ((k : ℕ) → at key k xs ≡ at key k ys) → xs ≡ ys) → (x ∷ xs) ≡ (y ∷ ys)
-      go more =
-          ⊎_elim
-          (λ (keys : key x ≡ key y).
-          let one : x ≡ y = some_same (sym (at_here key (key x) x xs refl) ∙ (same (key x) ∙ at_here key (key x) y ys (sym keys))) in
-          ap (λ z. z ∷ xs) one
-          ∙ ap (λ zs. y ∷ zs) (more (subst (λ k. RisesFrom (k + 1) (map key ys)) (sym keys) rises') (rest_same x y xs ys keys rises rises' same)))
-          (λ (differ : key x ≢ key y).
-          ⊎_elim
-          (λ less. absurd (not_higher x y xs ys less rises' (same (key x))))
-          (λ le. absurd (not_higher y x ys xs (omega (arith, differ)) rises (sym (same (key y)))))
-          (cases_lt (key x) (key y)))
-          (cases_eq (key x) (key y))
+-- rising lists with the same look-ups are one
+same_found : {X : Type 0} (key : X → ℕ) (xs ys : List X) → RisesFrom 0 (map key xs) → RisesFrom 0 (map key ys) → ((k : ℕ) → at key k xs ≡ at key k ys) → xs ≡ ys
+same_found {X} key xs ys rises rises' same =
+    same_keyed key 0 xs ys rises rises' (carried xs ys rises same) (carried ys xs rises' (λ k. sym (same k)))
+  where
+    carried : (ws zs : List X) → RisesFrom 0 (map key ws) → ((k : ℕ) → at key k ws ≡ at key k zs) → (x : X) → IsIn x ws → IsIn x zs
+    carried ws zs r e x i = (find_in (λ y. eqb (key y) (key x)) x zs (sym (e (key x)) ∙ in_found key 0 x ws r i)).0
 
 -- the block found at a frame is that of the told order
 block_found : (bs : List Block) (f : ℕ) → at (λ z. z.first) f bs ≡ option_map (block f) (order_in bs f)
@@ -174,7 +141,7 @@ module _ (r : spaces.Content) (b : buddies.Content) (s : Content) (t : ℕ) (m n
       slabs_same : (x y : Cache) → cache_of m c ≡ Some x → cache_of n c ≡ Some y → x.slabs ≡ y.slabs
       slabs_same x y ex ey =
           let there = cache_kept r b s t m h c x ex in
-          same_keyed (λ z. z.first) 0 x.slabs y.slabs (h.slabs_rise c x ex) (h'.slabs_rise c y ey)
+          same_found (λ z. z.first) x.slabs y.slabs (h.slabs_rise c x ex) (h'.slabs_rise c y ey)
           (λ f. h.slabs c f x there.kept ex there.cached ∙ sym (h'.slabs c f y there.kept ey there.cached))
 
       go : (o o' : Option Cache) → cache_of m c ≡ o → cache_of n c ≡ o' → cache_of m c ≡ cache_of n c
@@ -204,9 +171,9 @@ module _ (r : spaces.Content) (b : buddies.Content) (s : Content) (t : ℕ) (m n
   one : m ≡ n
   one =
       let slots = same_rising 0 m.slots n.slots h.slots_rise h'.slots_rise (λ u. h.slots u ∙ sym (h'.slots u)) in
-      let blocks = same_keyed (λ z. z.first) 0 m.blocks n.blocks h.blocks_rise h'.blocks_rise
+      let blocks = same_found (λ z. z.first) m.blocks n.blocks h.blocks_rise h'.blocks_rise
       (λ f. block_found m.blocks f ∙ (ap (option_map (block f)) (h.blocks f ∙ sym (h'.blocks f)) ∙ sym (block_found n.blocks f))) in
-      let caches = same_keyed (λ z. z.number) 0 m.caches n.caches h.caches_rise h'.caches_rise cache_same in
+      let caches = same_found (λ z. z.number) m.caches n.caches h.caches_rise h'.caches_rise cache_same in
       λ i. record { slots = slots i; blocks = blocks i; caches = caches i; bytes = λ place. byte_same place i }
 
 pub one_machine : OneMachine

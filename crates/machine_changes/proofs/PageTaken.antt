@@ -4,14 +4,13 @@ use Rattle.std.specs.Prelude.{Option, not, ◌==◌}
 use Rattle.std.proofs.lemmas.Bool.{false≢true}
 use Rattle.model_core.proofs.Lists.{filter_rises}
 use Rattle.buddy_core.specs.Content as buddies
-use Rattle.buddy_core.specs.Content.{Holding, holding_of, taken_of, with_block, without_block}
 use Rattle.machine_changes.specs.Shows.{node_of, has_slab}
 use Rattle.machine_changes.specs.Pages.{released, ReleasedShows, ReleasedAgrees}
 use Rattle.machine_changes.proofs.PageLists.{order_less}
 use Rattle.machine_changes.proofs.PageHoldings.{own_changed, set_none, agree_held, spares_held}
 
-own_released : (t f : ℕ) (c : buddies.Content) → holding_of t (released t f c) ≡ without_block f (holding_of t c)
-own_released t f c = own_changed t (without_block f) c refl
+own_released : (t f : ℕ) (c : buddies.Content) → buddies.holding_of t (released t f c) ≡ buddies.without_block f (buddies.holding_of t c)
+own_released t f c = own_changed t (buddies.without_block f) c refl
 
 past_none : (has gone : Bool) (o : Option ℕ) → cond gone None (cond has None o) ≡ cond has None (cond gone None o)
 past_none true true o = refl
@@ -27,9 +26,9 @@ released_shows r b s t f m h = record {
   blocks = λ g.
       order_less f m.blocks g
       ∙ ap (cond (g == f) None) (h.blocks g)
-      ∙ past_none (has_slab s (node_of s.top r.slots t g)) (g == f) (taken_of (holding_of t b) g)
-      ∙ ap (cond (has_slab s (node_of s.top r.slots t g)) None) (sym (set_none (holding_of t b).taken f g))
-      ∙ ap (λ x. cond (has_slab s (node_of s.top r.slots t g)) None (taken_of x g)) (sym (own_released t f b));
+      ∙ past_none (has_slab s (node_of s.top r.slots t g)) (g == f) (buddies.taken_of (buddies.holding_of t b) g)
+      ∙ ap (cond (has_slab s (node_of s.top r.slots t g)) None) (sym (set_none (buddies.holding_of t b).taken f g))
+      ∙ ap (λ x. cond (has_slab s (node_of s.top r.slots t g)) None (buddies.taken_of x g)) (sym (own_released t f b));
   caches_rise = h.caches_rise;
   caches = h.caches;
   slabs_rise = h.slabs_rise;
@@ -41,12 +40,12 @@ released_shows r b s t f m h = record {
 
 pub released_agrees : ReleasedAgrees
 released_agrees r b s t f a page = (
-  agree_held r b s t a (without_block f (holding_of t b)) (own_released t f b) refl stays,
-  spares_held r b s t a (without_block f (holding_of t b)) (own_released t f b) refl stays,
+  agree_held r b s t a (buddies.without_block f (buddies.holding_of t b)) (own_released t f b) refl stays,
+  spares_held r b s t a (buddies.without_block f (buddies.holding_of t b)) (own_released t f b) refl stays,
 )
   where
-    stays : (g : ℕ) → has_slab s (node_of s.top r.slots t g) ≡ true → taken_of (holding_of t b) g ≢ None
-        → taken_of (without_block f (holding_of t b)) g ≡ taken_of (holding_of t b) g
+    stays : (g : ℕ) → has_slab s (node_of s.top r.slots t g) ≡ true → buddies.taken_of (buddies.holding_of t b) g ≢ None
+        → buddies.taken_of (buddies.without_block f (buddies.holding_of t b)) g ≡ buddies.taken_of (buddies.holding_of t b) g
     stays g has taken =
-        get_or-set_other (holding_of t b).taken f g None None
+        get_or-set_other (buddies.holding_of t b).taken f g None None
         (λ same. false≢true (sym page ∙ (ap (λ x. has_slab s (node_of s.top r.slots t x)) (sym same) ∙ has)))

@@ -1,6 +1,6 @@
 -- Bytes written over a range in reach.
-use Rattle.std.proofs.Common.{◌≡◌, ◌≢◌, ℕ, ◌+◌, ◌-◌, ◌*◌, ◌/◌, ◌%◌, ◌<◌, ◌≤◌, Bool, true, false, cond, List, Some, None, length, refl, sym, ap, ◌∙◌, subst, ⊎_elim, arith}
-use Rattle.std.specs.Prelude.{Option, IsSome, is_some, nat_lt, nat_le, ◌&&◌, slice_index, slice_get}
+use Rattle.std.proofs.Common.{◌≡◌, ◌≢◌, ℕ, ◌+◌, ◌-◌, ◌*◌, ◌/◌, ◌%◌, ◌<◌, ◌≤◌, Bool, true, false, cond, List, Some, length, refl, sym, ap, ◌∙◌, subst, ⊎_elim, arith}
+use Rattle.std.specs.Prelude.{IsSome, is_some, nat_lt, nat_le, ◌&&◌, slice_index, slice_get}
 use Rattle.std.proofs.lemmas.Bool.{false≢true, cases_eq, ltb-true, leb-true, and_parts, false_from_ne_true}
 use Rattle.std.proofs.lemmas.List.{set-get_or}
 use Rattle.std.proofs.lemmas.Option.{slice_get-get_or}
@@ -16,10 +16,10 @@ use Rattle.buddy_core.specs.Content as buddies
 use Rattle.slab_tables.specs.declared.cache.Cache as own
 use Rattle.slab_tables.specs.Content.{Content, IsSlabs, kept_at, cache_in, cache_at, index_of_cache, layout_numbers}
 use Rattle.machine_changes.specs.Records.{count_true}
-use Rattle.machine_changes.specs.Shows.{node_of, byte_or_zero, record_byte, live_of, is_of_cache, slab_placed, slab_under, slab_at, is_inside, IsSlab, IsAgreed, ShowsMachine, Agree}
+use Rattle.machine_changes.specs.Shows.{node_of, byte_or_zero, record_byte, live_of, slab_at, is_inside, IsSlab, IsAgreed, ShowsMachine, Agree}
 use Rattle.machine_changes.specs.Keeps.{Spares}
 use Rattle.machine_changes.specs.Steady.{IsSteady}
-use Rattle.machine_changes.proofs.Facts.{one_slab, one_first, one_stays, all_stay, record_inside}
+use Rattle.machine_changes.proofs.Facts.{one_slab, one_first, one_stays, all_stay, record_inside, same_slab}
 use Rattle.machine_changes.proofs.Objects.{fit_of}
 use Rattle.machine_changes.proofs.Steady.{slab_from}
 use Rattle.machine_changes.specs.Pages.{IsInReach, stored, WrittenShows, WrittenAgrees}
@@ -98,22 +98,10 @@ module _ (r : spaces.Content) (b : buddies.Content) (s : Content) (t place : ℕ
   slab_is : (c f n : ℕ) (cache : own.Cache) → IsSlab r s t c f n cache → IsSlab r' s t c f n cache
   slab_is c f n cache q = record { cached = q.cached; under = q.under; listed = q.listed }
 
-  placed_same : (c f n : ℕ) (cache : own.Cache) → cache_at s t c ≡ Some cache → node_of s.top r.slots t f ≡ Some n
-      → (listed : Bool) → is_of_cache (index_of_cache t c) f (place_at s.lists.places n) ≡ listed
-      → slab_placed (live_of r' t cache (kept_at s.kept n) f) (kept_at s.kept n).colour f listed
-      ≡ slab_placed (live_of r t cache (kept_at s.kept n) f) (kept_at s.kept n).colour f listed
-  placed_same c f n cache cached under false listed = refl
-  placed_same c f n cache cached under true listed =
-      ap (λ live. slab_placed live (kept_at s.kept n).colour f true)
-      (live_stays c f n cache (record { cached = cached; under = under; listed = listed }))
-
-  slab_same_under : (c f : ℕ) (cache : own.Cache) → cache_at s t c ≡ Some cache → (n : Option ℕ) → node_of s.top r.slots t f ≡ n
-      → slab_under r' s t (index_of_cache t c) cache f n ≡ slab_under r s t (index_of_cache t c) cache f n
-  slab_same_under c f cache cached None under = refl
-  slab_same_under c f cache cached (Some n) under = placed_same c f n cache cached under (is_of_cache (index_of_cache t c) f (place_at s.lists.places n)) refl
-
   slab_same : (c f : ℕ) (cache : own.Cache) → cache_at s t c ≡ Some cache → slab_at r' s t c cache f ≡ slab_at r s t c cache f
-  slab_same c f cache cached = slab_same_under c f cache cached (node_of s.top r.slots t f) refl
+  slab_same c f cache cached =
+      same_slab r r' s s t c f cache refl (λ n under. refl)
+      (λ n under listed. (refl, live_stays c f n cache (record { cached = cached; under = under; listed = listed })))
 
   -- Bytes
 

@@ -12,7 +12,7 @@ use Rattle.slab_tables.specs.Content.{Content}
 use Rattle.machine_changes.specs.Shows.{node_of, has_slab}
 use Rattle.machine_changes.specs.Steady.{IsSteady}
 use Rattle.machine_changes.specs.Laws.{ReservedShows}
-use Rattle.machine_changes.proofs.Lookups.{eq_turned, some_none, at, in_found, found_put}
+use Rattle.machine_changes.proofs.Lookups.{eq_turned, some_none, at, in_found, found_put, through}
 use Rattle.machine_changes.proofs.Facts.{some_slab}
 
 -- the order that a list of blocks tells at a frame is that of the block found there
@@ -29,17 +29,13 @@ none_found : (o : Option Block) → option_map (λ b. b.order) o ≡ None → o 
 none_found None e = refl
 none_found (Some b) e = absurd (some_none e)
 
-order_of : (b : Bool) (z : Block) (o : Option Block) → option_map (λ x. x.order) (cond b (Some z) o) ≡ cond b (Some z.order) (option_map (λ x. x.order) o)
-order_of true z o = refl
-order_of false z o = refl
-
 -- what a list of blocks tells with one put in at a new frame
 pub order_put : (z : Block) (bs : List Block) (g : ℕ) → order_in bs z.first ≡ None
     → order_in (put_rising (λ x. x.first) z bs) g ≡ cond (eqb z.first g) (Some z.order) (order_in bs g)
 order_put z bs g absent =
     order_found (put_rising (λ x. x.first) z bs) g
     ∙ ap (option_map (λ x. x.order)) (found_put (λ x. x.first) z g bs (none_found (at (λ x. x.first) z.first bs) (sym (order_found bs z.first) ∙ absent)))
-    ∙ order_of (eqb z.first g) z (at (λ x. x.first) g bs)
+    ∙ through (option_map (λ x. x.order)) (eqb z.first g) (Some z) (at (λ x. x.first) g bs)
     ∙ ap (cond (eqb z.first g) (Some z.order)) (sym (order_found bs g))
 
 -- a slab's frame is taken

@@ -15,26 +15,17 @@ use Rattle.space_core.specs.Windows.{byte_at}
 use Rattle.buddy_core.specs.Content as buddies
 use Rattle.slab_tables.specs.declared.cache.Cache as own
 use Rattle.slab_tables.specs.Content.{Content, kept_at, cache_at, index_of_cache, layout_numbers}
-use Rattle.machine_changes.specs.Shows.{frame_under, node_of, byte_or_zero, live_of, is_of_cache, slab_placed, slab_under, slab_at, has_slab, bare, without_slabs, is_inside, IsSlab, ShowsMachine}
+use Rattle.machine_changes.specs.Shows.{frame_under, node_of, byte_or_zero, live_of, is_of_cache, slab_at, has_slab, bare, without_slabs, is_inside, IsSlab, ShowsMachine}
 use Rattle.machine_changes.specs.Steady.{IsSteady}
 use Rattle.machine_changes.specs.Changes.{IsReturned, kept_slabs, gone_blocks, returned}
 use Rattle.machine_changes.specs.Laws.{ReturnedShows}
-use Rattle.machine_changes.proofs.Lookups.{some_none, some_same, in_found, found_mapped, keys_mapped, found_kept}
-use Rattle.machine_changes.proofs.Facts.{one_first, live_stays, record_inside, slot_held, slab_in, slab_of_machine}
-
--- what a list's element was before it was changed
-mapped_from : {X : Type 0} (g : X → X) (o : Option X) (z : X) → option_map g o ≡ Some z → (x : X) × (o ≡ Some x) × (z ≡ g x)
-mapped_from g None z e = absurd (some_none (sym e))
-mapped_from g (Some x) z e = (x, refl, sym (some_same e))
+use Rattle.machine_changes.proofs.Lookups.{in_found, found_mapped, keys_mapped, found_kept, mapped_from, through}
+use Rattle.machine_changes.proofs.Facts.{one_first, no_slab_under, same_slab, live_stays, record_inside, slot_held, slab_in, slab_of_machine}
 
 module _ (r r' : spaces.Content) (b b' : buddies.Content) (s s' : Content) (t : ℕ) (gone : ℕ → Bool)
     (k : IsReturned r r' b b' s s' t gone) (st : IsSteady r b s t) where
   pub node_same : (f : ℕ) → node_of s'.top r'.slots t f ≡ node_of s.top r.slots t f
   node_same f = ap (λ top. node_of top r'.slots t f) k.top ∙ ap (frame_under s.top f) (k.slots (f / 2 ^ s.top))
-
-  if_gone : (v : Bool) (place : Option (ℕ × ℕ)) → is_some (cond v None place) ≡ cond v false (is_some place)
-  if_gone true place = refl
-  if_gone false place = refl
 
   has_now_under : (f : ℕ) (o : Option ℕ) → node_of s.top r.slots t f ≡ o → has_slab s' o ≡ cond (gone f) false (has_slab s o)
   has_now_under f None under = none (gone f)
@@ -42,19 +33,15 @@ module _ (r r' : spaces.Content) (b b' : buddies.Content) (s s' : Content) (t : 
       none : (v : Bool) → false ≡ cond v false false
       none true = refl
       none false = refl
-  has_now_under f (Some n) under = ap is_some (k.lists f n under) ∙ if_gone (gone f) (place_at s.lists.places n)
+  has_now_under f (Some n) under = ap is_some (k.lists f n under) ∙ through is_some (gone f) None (place_at s.lists.places n)
 
   pub has_now : (f : ℕ) → has_slab s' (node_of s'.top r'.slots t f) ≡ cond (gone f) false (has_slab s (node_of s.top r.slots t f))
   has_now f = ap (has_slab s') (node_same f) ∙ has_now_under f (node_of s.top r.slots t f) refl
 
   -- the place in the lists, as a test of it
-  listed_if : (v : Bool) (d f : ℕ) (place : Option (ℕ × ℕ)) → is_of_cache d f (cond v None place) ≡ cond v false (is_of_cache d f place)
-  listed_if true d f place = refl
-  listed_if false d f place = refl
-
   pub listed_now : (d f n : ℕ) → node_of s.top r.slots t f ≡ Some n
       → is_of_cache d f (place_at s'.lists.places n) ≡ cond (gone f) false (is_of_cache d f (place_at s.lists.places n))
-  listed_now d f n under = ap (is_of_cache d f) (k.lists f n under) ∙ listed_if (gone f) d f (place_at s.lists.places n)
+  listed_now d f n under = ap (is_of_cache d f) (k.lists f n under) ∙ through (is_of_cache d f) (gone f) None (place_at s.lists.places n)
 
   true_unless : (v w : Bool) → cond v false w ≡ true → (v ≡ false) × (w ≡ true)
   true_unless true w e = absurd (false≢true e)
@@ -90,33 +77,18 @@ module _ (r r' : spaces.Content) (b b' : buddies.Content) (s s' : Content) (t : 
       (λ small j less. ap byte_or_zero (k.bytes (4096 * f + 4064 + j)
       (not_gone (4096 * f + 4064 + j) c f n cache q stays (record_inside r b s t st c f n j cache q less))))
 
-  slab_now_placed : (c f n : ℕ) (cache : own.Cache) → cache_at s t c ≡ Some cache → node_of s.top r.slots t f ≡ Some n
-      → (v w : Bool) → gone f ≡ v → is_of_cache (index_of_cache t c) f (place_at s.lists.places n) ≡ w
-      → slab_placed (live_of r' t cache (kept_at s'.kept n) f) (kept_at s'.kept n).colour f (cond v false w)
-      ≡ cond v None (slab_placed (live_of r t cache (kept_at s.kept n) f) (kept_at s.kept n).colour f w)
-  slab_now_placed c f n cache cached under true w goes listed = refl
-  slab_now_placed c f n cache cached under false false stays listed = refl
-  slab_now_placed c f n cache cached under false true stays listed =
-      ap (λ kept. slab_placed (live_of r' t cache kept f) kept.colour f true) (k.kept f n under)
-      ∙ ap (λ live. slab_placed live (kept_at s.kept n).colour f true)
-      (live_now c f n cache (record { cached = cached; under = under; listed = listed }) stays)
-
-  slab_now_under : (c f : ℕ) (cache : own.Cache) (o : Option ℕ) → cache_at s t c ≡ Some cache → node_of s.top r.slots t f ≡ o
-      → slab_under r' s' t (index_of_cache t c) cache f o ≡ cond (gone f) None (slab_under r s t (index_of_cache t c) cache f o)
-  slab_now_under c f cache None cached under = none (gone f)
-    where
-      none : (v : Bool) → slab_under r s t (index_of_cache t c) cache f None ≡ cond v None (slab_under r s t (index_of_cache t c) cache f None)
-      none true = refl
-      none false = refl
-  slab_now_under c f cache (Some n) cached under =
-      ap (slab_placed (live_of r' t cache (kept_at s'.kept n) f) (kept_at s'.kept n).colour f) (listed_now (index_of_cache t c) f n under)
-      ∙ slab_now_placed c f n cache cached under (gone f) (is_of_cache (index_of_cache t c) f (place_at s.lists.places n)) refl refl
-
   pub slab_now : (c f : ℕ) (cache : own.Cache) → cache_at s t c ≡ Some cache
       → slab_at r' s' t c cache f ≡ cond (gone f) None (slab_at r s t c cache f)
-  slab_now c f cache cached =
-      ap (slab_under r' s' t (index_of_cache t c) cache f) (node_same f)
-      ∙ slab_now_under c f cache (node_of s.top r.slots t f) cached refl
+  slab_now c f cache cached = go (gone f) refl
+    where
+      go : (v : Bool) → gone f ≡ v → slab_at r' s' t c cache f ≡ cond v None (slab_at r s t c cache f)
+      go true goes =
+          no_slab_under r' s' t (index_of_cache t c) cache f (node_of s'.top r'.slots t f)
+          (has_now f ∙ ap (λ v. cond v false (has_slab s (node_of s.top r.slots t f))) goes)
+      go false stays =
+          same_slab r r' s s' t c f cache (node_same f)
+          (λ n under. listed_now (index_of_cache t c) f n under ∙ ap (λ v. cond v false (is_of_cache (index_of_cache t c) f (place_at s.lists.places n))) stays)
+          (λ n under listed. (k.kept f n under, live_now c f n cache (record { cached = cached; under = under; listed = listed }) stays))
 
   module _ (m : Machine) (h : ShowsMachine r b s t m) where
     -- the slab that is gone and has this place
@@ -172,7 +144,7 @@ module _ (r r' : spaces.Content) (b b' : buddies.Content) (s s' : Content) (t : 
     bare_stays None = refl
     bare_stays (Some x) = refl
 
-    was_cache : (c : ℕ) (z : Cache) → cache_of (returned gone m) c ≡ Some z → (x : Cache) × (cache_of m c ≡ Some x) × (z ≡ kept_slabs gone x)
+    was_cache : (c : ℕ) (z : Cache) → cache_of (returned gone m) c ≡ Some z → (x : Cache) × (cache_of m c ≡ Some x) × (kept_slabs gone x ≡ z)
     was_cache c z e = mapped_from (kept_slabs gone) (cache_of m c) z (sym (cache_now c) ∙ e)
 
     -- page blocks are as they were
@@ -242,12 +214,12 @@ module _ (r r' : spaces.Content) (b b' : buddies.Content) (s s' : Content) (t : 
       caches = λ c. ap (option_map without_slabs) (cache_now c) ∙ bare_stays (cache_of m c) ∙ h.caches c ∙ ap (option_map (bare c)) (sym (k.caches c));
       slabs_rise = λ c z e.
           let was = was_cache c z e in
-          subst (λ w. RisesFrom 0 (map (λ y. y.first) w.slabs)) (sym was.2)
+          subst (λ w. RisesFrom 0 (map (λ y. y.first) w.slabs)) was.2
           (filter_rises (λ y. y.first) (λ y. not (gone y.first)) 0 was.0.slabs (h.slabs_rise c was.0 was.1));
       slabs = λ c f z cache e cached.
           let was = was_cache c z e in
           let cached_before : cache_at s t c ≡ Some cache = sym (k.caches c) ∙ cached in
-          ap (λ w. slab_of w f) was.2 ∙ found_kept (λ y. y.first) gone f was.0.slabs
+          ap (λ w. slab_of w f) (sym was.2) ∙ found_kept (λ y. y.first) gone f was.0.slabs
           ∙ ap (cond (gone f) None) (h.slabs c f was.0 cache was.1 cached_before) ∙ sym (slab_now c f cache cached_before);
       mapped = mapped_now;
       in_slab = in_slab_now;

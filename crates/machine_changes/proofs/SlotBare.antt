@@ -1,7 +1,6 @@
 -- No slab stands on a superblock without owner; and what one tenant has in parts that hold together is steady.
-use Rattle.std.proofs.Common.{◌≡◌, ℕ, ◌+◌, ◌*◌, ◌/◌, ◌%◌, ◌^◌, ◌<◌, ◌≤◌, Some, None, length, refl, sym, ap, ◌∙◌, subst, arith}
+use Rattle.std.proofs.Common.{◌≡◌, ℕ, ◌+◌, ◌*◌, ◌/◌, ◌%◌, ◌^◌, ◌<◌, Some, None, length, refl, sym, ap, ◌∙◌, arith}
 use Rattle.std.specs.Prelude.{Option}
-use Rattle.std.proofs.Math.Nat.{mul-le-mul_right}
 use Rattle.std.proofs.lemmas.Nat.{div-mul-add}
 use Rattle.model_core.specs.declared.limits.TheConstants.{MOST_CACHES}
 use Rattle.klist_core.specs.Places.{place_at}
@@ -14,7 +13,7 @@ use Rattle.machine_changes.specs.Steady.{IsSteady}
 use Rattle.machine_changes.proofs.Lookups.{some_none}
 use Rattle.machine_changes.proofs.Facts.{superblock_of_node, under_is}
 use Rattle.machine_changes.proofs.Steady.{agree_steady}
-use Rattle.machine_changes.specs.Slots.{HoldTogether, UnownedIsSpare, NodesWithin}
+use Rattle.machine_changes.specs.Slots.{HoldTogether, UnownedIsSpare}
 
 module _ (r : spaces.Content) (b : buddies.Content) (s : Content) (h : HoldTogether r b s) where
   pub steady_of : (t : ℕ) → t < length r.slots → IsSteady r b s t
@@ -69,14 +68,3 @@ unowned_is_spare r b s m h none = record {
   unused = λ t u under. is_owned r b s h t u m (sym (h.agree.slots t u) ∙ under) none;
   bare = λ i less. unowned_bare r b s h m i none less;
 }
-
--- Nodes
-
-nodes_below : (m superblocks size : ℕ) → m < superblocks → (m + 1) * size ≤ superblocks * size
-nodes_below m superblocks size less = mul-le-mul_right size (omega arith)
-
-pub nodes_within : NodesWithin
-nodes_within r b s m a less =
-    let below : (m + 1) * 2 ^ s.top ≤ b.superblocks * 2 ^ s.top = nodes_below m b.superblocks (2 ^ s.top) (let same = a.superblocks in omega arith) in
-    let same : length s.lists.places ≡ b.superblocks * 2 ^ s.top = a.nodes in
-    subst (λ n. (m + 1) * 2 ^ s.top ≤ n) (sym same) below

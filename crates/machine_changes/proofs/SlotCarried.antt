@@ -1,17 +1,26 @@
 -- A tenant's slabs stand on other nodes, with all that is kept of them, and its bytes are the same.
-use Rattle.std.proofs.Common.{◌≡◌, ℕ, ◌+◌, ◌-◌, ◌*◌, cond, Some, None, refl, sym, ap, ◌∙◌}
+use Rattle.std.proofs.Common.{◌≡◌, ℕ, ◌+◌, ◌-◌, ◌*◌, cond, Some, None, refl, sym, ap, ◌∙◌, ◌/◌, ◌%◌}
 use Rattle.std.specs.Prelude.{Option, option_map, is_some, ⊤}
-use Rattle.model_core.specs.Layouts.{in_object}
+use Rattle.model_core.specs.Layouts.{in_object, is_small}
 use Rattle.model_core.specs.Machine.{Machine, holds, slot_of}
 use Rattle.klist_core.specs.Places.{place_at}
 use Rattle.space_core.specs.Content as spaces
 use Rattle.space_core.specs.Windows.{byte_at}
 use Rattle.buddy_core.specs.Content as buddies
 use Rattle.slab_tables.specs.declared.cache.Cache as own
+use Rattle.slab_tables.specs.declared.cache.Kept.{Kept}
 use Rattle.slab_tables.specs.Content.{Content, kept_at, cache_at, index_of_cache, layout_numbers}
-use Rattle.machine_changes.specs.Shows.{node_of, byte_or_zero, live_of, is_of_cache, slab_placed, slab_under, slab_at, has_slab, bare, IsSlab, ShowsMachine}
+use Rattle.machine_changes.specs.Records.{is_set}
+use Rattle.machine_changes.specs.Shows.{node_of, byte_or_zero, live_of, is_of_cache, slab_placed, slab_under, slab_at, has_slab, bare, IsSlab, ShowsMachine, is_live, record_byte}
 use Rattle.machine_changes.proofs.Lookups.{some_none, some_same}
-use Rattle.machine_changes.proofs.Untouched.{live_same}
+use Rattle.machine_changes.proofs.Facts.{same_below}
+
+-- bytes that stay leave the live objects of a slab as they were
+live_same : (r r' : spaces.Content) (t : ℕ) (cache : own.Cache) (kept : Kept) (f : ℕ)
+    → ((j : ℕ) → record_byte r' t f j ≡ record_byte r t f j) → live_of r' t cache kept f ≡ live_of r t cache kept f
+live_same r r' t cache kept f same =
+    same_below 0 (layout_numbers cache).count (is_live r' t cache kept f) (is_live r t cache kept f)
+    (λ i low high. ap (λ x. cond (is_small (layout_numbers cache).chunk) (is_set x (i % 8)) (is_set kept.outside i)) (same (i / 8)))
 
 -- the second node has what the first one had
 pub record IsSameNode (s s' : Content) (n n' : ℕ) : Type 0 where

@@ -4,23 +4,20 @@ use Rattle.std.specs.Prelude.{Option, is_some}
 use Rattle.std.proofs.lemmas.Bool.{false≢true, ne_eqb, cases_eq}
 use Rattle.std.proofs.lemmas.Nat.{div-mul-add}
 use Rattle.std.proofs.Math.Nat.{div-div-eq-div-mul}
-use Rattle.model_core.specs.Blocks.{block}
 use Rattle.model_core.specs.Machine.{Machine, slot_of}
 use Rattle.model_core.specs.WellFormed.{RisesFrom}
 use Rattle.model_core.specs.declared.limits.TheConstants.{MOST_CACHES}
-use Rattle.model_core.proofs.Apart.{in_block-true}
-use Rattle.model_core.proofs.BlocksByNumber.{number_of_frame, same_slot}
 use Rattle.model_core.proofs.Rising.{has}
-use Rattle.model_core.proofs.Lists.{none_of}
 use Rattle.klist_core.specs.Places.{place_at}
 use Rattle.space_core.specs.Content as spaces
 use Rattle.space_core.specs.Windows.{byte_at}
 use Rattle.buddy_core.specs.Content as buddies
 use Rattle.slab_tables.specs.declared.cache.Cache as own
-use Rattle.slab_tables.specs.Content.{Content, IsSlabs, kept_at, cache_at, cache_in, index_of_cache, layout_numbers}
-use Rattle.machine_changes.specs.Shows.{frame_under, node_of, byte_or_zero, record_byte, live_of, is_of_cache, slab_placed, slab_under, slab_at, has_slab, is_inside, IsSlab, ShowsMachine, IsAgreed, Agree}
+use Rattle.slab_tables.specs.Content.{Content, IsSlabs, kept_at, cache_at, cache_in, index_of_cache}
+use Rattle.machine_changes.specs.Shows.{frame_under, node_of, byte_or_zero, record_byte, slab_at, has_slab, IsSlab, ShowsMachine, IsAgreed, Agree}
 use Rattle.machine_changes.specs.Steady.{IsSteady}
-use Rattle.machine_changes.proofs.Facts.{has_it, live_stays}
+use Rattle.machine_changes.proofs.Lookups.{through}
+use Rattle.machine_changes.proofs.Facts.{has_it, same_slab, live_stays, no_slab_under, slot_inside}
 use Rattle.machine_changes.proofs.SlotAgreed.{agreed_still}
 
 -- the slot of a place, by the bytes of a superblock
@@ -32,20 +29,6 @@ pub record_slot : (top f j : ℕ) → j < 32 → slot_of top (4096 * f + 4064 + 
 record_slot top f j less =
     let here : (4096 * f + 4064 + j) / 4096 ≡ f = ap (λ x. x / 4096) (omega arith) ∙ div-mul-add f 4096 (4064 + j) (omega arith) in
     ap (λ x. x / 2 ^ top) here
-
--- the places of a slab lie in the slot of its first frame
-pub slot_inside : (r : spaces.Content) (b : buddies.Content) (s : Content) (t place c f n : ℕ) (cache : own.Cache) → IsSteady r b s t
-    → IsSlab r s t c f n cache → is_inside place f cache ≡ true → slot_of s.top place ≡ f / 2 ^ s.top
-slot_inside r b s t place c f n cache st q inside =
-    let k : ℕ = (layout_numbers cache).order in
-    let placed = st.sound.placed f k (st.stands c f n cache q).taken in
-    same_slot s.top k (place / 4096) f placed.0.0 (number_of_frame f k (place / 4096) placed.0.1 (in_block-true place (block f k) inside))
-
-no_slab_under : (r : spaces.Content) (s : Content) (t n : ℕ) (cache : own.Cache) (f : ℕ) (o : Option ℕ) → has_slab s o ≡ false → slab_under r s t n cache f o ≡ None
-no_slab_under r s t n cache f None e = refl
-no_slab_under r s t n cache f (Some node) e =
-    ap (λ p. slab_placed (live_of r t cache (kept_at s.kept node) f) (kept_at s.kept node).colour f (is_of_cache n f p))
-    (none_of (place_at s.lists.places node) e)
 
 -- slot u of tenant t has this superblock now or none, and reads as this byte everywhere or has none; no slab stands there,
 -- neither before nor after
@@ -102,34 +85,14 @@ module _ (r r' : spaces.Content) (b b' : buddies.Content) (s : Content) (t u : �
   }
 
   module _ (st : IsSteady r b s t) where
-    slab_same_listed : (c f n : ℕ) (cache : own.Cache) → cache_at s t c ≡ Some cache → node_of s.top r.slots t f ≡ Some n → f / 2 ^ s.top ≢ u
-        → (listed : Bool) → is_of_cache (index_of_cache t c) f (place_at s.lists.places n) ≡ listed
-        → slab_placed (live_of r' t cache (kept_at s.kept n) f) (kept_at s.kept n).colour f listed
-        ≡ slab_placed (live_of r t cache (kept_at s.kept n) f) (kept_at s.kept n).colour f listed
-    slab_same_listed c f n cache cached at differ false is = refl
-    slab_same_listed c f n cache cached at differ true is =
-        ap (λ live. slab_placed live (kept_at s.kept n).colour f true)
-        (live_stays r b s t st r' (kept_at s.kept n) c f n cache (record { cached = cached; under = at; listed = is })
-        (λ small j less. record_same f j differ less))
-
-    slab_same_under : (c f : ℕ) (cache : own.Cache) → cache_at s t c ≡ Some cache → f / 2 ^ s.top ≢ u
-        → (o : Option ℕ) → node_of s.top r.slots t f ≡ o
-        → slab_under r' s t (index_of_cache t c) cache f o ≡ slab_under r s t (index_of_cache t c) cache f o
-    slab_same_under c f cache cached differ None at = refl
-    slab_same_under c f cache cached differ (Some n) at =
-        slab_same_listed c f n cache cached at differ (is_of_cache (index_of_cache t c) f (place_at s.lists.places n)) refl
-
     slab_same : (c f : ℕ) (cache : own.Cache) → cache_at s t c ≡ Some cache → slab_at r' s t c cache f ≡ slab_at r s t c cache f
     slab_same c f cache cached = ⊎_elim
         (λ e. no_slab_under r' s t (index_of_cache t c) cache f (node_of s.top r'.slots t f) (k.is_bare f e)
         ∙ sym (no_slab_under r s t (index_of_cache t c) cache f (node_of s.top r.slots t f) (k.was_bare f e)))
-        (λ differ. ap (slab_under r' s t (index_of_cache t c) cache f) (node_same f differ)
-        ∙ slab_same_under c f cache cached differ (node_of s.top r.slots t f) refl)
+        (λ differ. same_slab r r' s s t c f cache (node_same f differ) (λ n under. refl)
+        (λ n under listed. (refl, live_stays r b s t st r' (kept_at s.kept n) c f n cache (record { cached = cached; under = under; listed = listed })
+        (λ small j less. record_same f j differ less))))
         (cases_eq (f / 2 ^ s.top) u)
-
-    some_if : (x : Option ℕ) (v : Bool) (o : Option ℕ) → is_some (cond v x o) ≡ cond v (is_some x) (is_some o)
-    some_if x true o = refl
-    some_if x false o = refl
 
     -- the machine with the slots that are held now, and with the slot's bytes
     pub reslotted_shows : (m : Machine) (slots : List ℕ) → RisesFrom 0 slots
@@ -139,7 +102,7 @@ module _ (r r' : spaces.Content) (b b' : buddies.Content) (s : Content) (t u : �
     reslotted_shows m slots rises held same h = record {
       slots_rise = rises;
       slots = λ v. held v ∙ ap (cond (eqb v u) (is_some under)) (h.slots v)
-          ∙ sym (ap is_some (k.slots v) ∙ some_if under (eqb v u) (spaces.superblock_at r.slots t v));
+          ∙ sym (ap is_some (k.slots v) ∙ through is_some (eqb v u) under (spaces.superblock_at r.slots t v));
       blocks_rise = h.blocks_rise;
       blocks = λ f. h.blocks f
           ∙ ap (λ v. cond v None (buddies.taken_of (buddies.holding_of t b) f)) (sym (has_same f))
@@ -150,7 +113,7 @@ module _ (r r' : spaces.Content) (b b' : buddies.Content) (s : Content) (t u : �
       slabs = λ c f x cache ex cached. h.slabs c f x cache ex cached ∙ sym (slab_same c f cache cached);
       mapped = λ place out.
           let v : Bool = eqb (slot_of s.top place) u in
-          some_if byte v (m.bytes place)
+          through is_some v byte (m.bytes place)
           ∙ ap (cond v (is_some byte)) (h.mapped place (λ c f n cache q. out c f n cache (slab_is c f n cache q)))
           ∙ ap (λ x. cond v x (has (slot_of s.top place) m.slots)) same
           ∙ sym (held (slot_of s.top place));

@@ -7,7 +7,7 @@ use Rattle.model_core.specs.Machine.{put_rising, least_missing}
 use Rattle.model_core.specs.WellFormed.{RisesFrom}
 use Rattle.model_core.proofs.Lists.{any_in, each_from, put_rises, filter_rises, none_of}
 use Rattle.model_core.proofs.Rising.{has, none_below}
-use Rattle.machine_changes.proofs.Lookups.{eq_turned, found_put, found_kept}
+use Rattle.machine_changes.proofs.Lookups.{eq_turned, found_put, found_kept, through}
 
 -- the slot u, where it is one of these
 abbrev slot_in : ℕ → List ℕ → Option ℕ
@@ -27,13 +27,9 @@ pub has_put : (u : ℕ) (xs : List ℕ) (v : ℕ) → has u xs ≡ false → has
 has_put u xs v new =
     has_is v (put_rising (λ x. x) u xs)
     ∙ ap is_some (found_put (λ x. x) u v xs (none_of (slot_in u xs) (sym (has_is u xs) ∙ new)))
-    ∙ some_if (eqb u v) (slot_in v xs)
+    ∙ through is_some (eqb u v) (Some u) (slot_in v xs)
     ∙ ap (λ w. cond w true (is_some (slot_in v xs))) (eq_turned u v)
     ∙ ap (cond (eqb v u) true) (sym (has_is v xs))
-  where
-    some_if : (w : Bool) (o : Option ℕ) → is_some (cond w (Some u) o) ≡ cond w true (is_some o)
-    some_if true o = refl
-    some_if false o = refl
 
 pub put_still_rises : (u : ℕ) (xs : List ℕ) → RisesFrom 0 xs → has u xs ≡ false → RisesFrom 0 (put_rising (λ x. x) u xs)
 put_still_rises u xs rises new =
@@ -47,12 +43,8 @@ pub has_less : (u : ℕ) (xs : List ℕ) (v : ℕ) → has v (filter (λ x. not 
 has_less u xs v =
     has_is v (filter (λ x. not (eqb x u)) xs)
     ∙ ap is_some (found_kept (λ x. x) (λ x. eqb x u) v xs)
-    ∙ some_if (eqb v u) (slot_in v xs)
+    ∙ through is_some (eqb v u) None (slot_in v xs)
     ∙ ap (cond (eqb v u) false) (sym (has_is v xs))
-  where
-    some_if : (w : Bool) (o : Option ℕ) → is_some (cond w None o) ≡ cond w false (is_some o)
-    some_if true o = refl
-    some_if false o = refl
 
 pub less_still_rises : (u : ℕ) (xs : List ℕ) → RisesFrom 0 xs → RisesFrom 0 (filter (λ x. not (eqb x u)) xs)
 less_still_rises u xs rises =

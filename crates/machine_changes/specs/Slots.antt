@@ -1,5 +1,5 @@
 -- What becomes of the parts, and of the private machines that they show, where the slots of a tenant change.
-use Rattle.std.specs.Prelude.{◌≡◌, ◌≢◌, ◌↔◌, ℕ, ◌+◌, ◌*◌, ◌^◌, ◌<◌, ◌≤◌, true, Some, None, length}
+use Rattle.std.specs.Prelude.{◌≡◌, ◌≢◌, ◌↔◌, ℕ, ◌+◌, ◌*◌, ◌^◌, ◌<◌, true, Some, None, length}
 use Rattle.model_core.specs.declared.limits.TheConstants.{FRAME_BYTES}
 use Rattle.model_core.specs.Blocks.{slot_block, HasTaken}
 use Rattle.model_core.specs.Machine.{Machine, empty_machine}
@@ -62,11 +62,6 @@ pub record IsSpare (b : buddies.Content) (s : Content) (m : ℕ) : Type 0 where
 abbrev pub UnownedIsSpare : Type 0
 UnownedIsSpare = (r : spaces.Content) (b : buddies.Content) (s : Content) (m : ℕ)
     → HoldTogether r b s → spaces.owner_at r.owners m ≡ None → IsSpare b s m
-
--- each superblock's nodes are among those of the tables
-abbrev pub NodesWithin : Type 0
-NodesWithin = (r : spaces.Content) (b : buddies.Content) (s : Content) (m : ℕ)
-    → Agree r b s → m < length r.owners → (m + 1) * 2 ^ s.top ≤ length s.lists.places
 
 -- slot u of tenant t with_move from superblock `from` to superblock `to`, which has no owner
 abbrev pub MovedShows : Type 0
