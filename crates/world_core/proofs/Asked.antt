@@ -6,6 +6,7 @@ use Rattle.std.specs.Str.{bytes_eq}
 use Rattle.std.specs.Str.Lines.{strip_carriage_return}
 use Rattle.std.proofs.lemmas.Bool.{and_parts, and_from, leb-true, le-leb}
 use Rattle.std.proofs.lemmas.Grind.{flat_map-append}
+use Rattle.std.proofs.lemmas.Option.{same_Some}
 use Rattle.arrayvec.specs.ArrayVec.{ArrayVec}
 use Rattle.hex.specs.declared.error.FromHexError.{FromHexError}
 use Rattle.hex.specs.declared.error.FromHexError.TheVariants.{OddLength}
@@ -163,9 +164,6 @@ event_possible first rest event e =
     let parts = both (actor_of first) (λ actor. asked_of (command_rows actor) rest >>= λ command. Ok (event_by actor command)) event e in
     by_actor parts.value rest event parts.rest
 
-some_same : (a b : Event) → Some a ≡ Some b → a ≡ b
-some_same a b e = cc
-
 judged_possible : (words : List (List ℕ)) (event : Event) → reading_of_words words ≡ Ok (Some event) → IsPossibleEvent event
 unfolding reading_of_words
 judged_possible [] event e = absurd (cc)
@@ -175,7 +173,7 @@ judged_possible (first ∷ rest) event e = go (slice_index first 0 == 35) e
     go true e = absurd (cc)
     go false e =
         let parts = both (event_of first rest) (λ event. Ok (Some event)) (Some event) e in
-        subst IsPossibleEvent (some_same parts.value event (ok_same (Some parts.value) (Some event) parts.rest)) (event_possible first rest parts.value parts.is)
+        subst IsPossibleEvent (same_Some parts.value event (ok_same (Some parts.value) (Some event) parts.rest)) (event_possible first rest parts.value parts.is)
 
 -- an event that a line reads as can be asked for
 pub reading_possible : (line : List ℕ) (event : Event) → reading_of line ≡ Ok (Some event) → IsPossibleEvent event
@@ -189,7 +187,7 @@ reading_possible line event e = go (nat_lt 255 (length (strip_carriage_return li
     go true e = absurd (cc)
     go false e = judged_possible words event e
 
-events_possible : (lines : List (List ℕ)) → Each IsPossibleEvent (events_of lines)
+pub events_possible : (lines : List (List ℕ)) → Each IsPossibleEvent (events_of lines)
 events_possible [] = tt
 events_possible (line ∷ lines) = each_append IsPossibleEvent (event_in (reading_of line)) (events_of lines) (go (reading_of line) refl) (events_possible lines)
   where

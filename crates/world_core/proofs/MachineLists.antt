@@ -1,5 +1,5 @@
 -- The element at one index of a list of which one element was replaced, and of copies of one element.
-use Rattle.std.proofs.Common.{◌≡◌, ℕ, zero, suc, ◌<◌, ◌≢◌, List, [], ◌∷◌, Some, slice_get, slice_set, replicate, refl, ap, sym, arith}
+use Rattle.std.proofs.Common.{◌≡◌, ℕ, zero, suc, ◌<◌, ◌≢◌, List, [], ◌∷◌, Some, length, slice_get, slice_set, replicate, refl, ap, sym, arith}
 
 pub slice_get-set_same : {A : Type 0} (xs : List A) (i : ℕ) (x y : A) → slice_get xs i ≡ Some x → slice_get (slice_set xs i y) i ≡ Some y
 slice_get-set_same [] i x y h = cc
@@ -22,3 +22,9 @@ pub slice_get-replicate : {A : Type 0} (n i : ℕ) (x : A) → i < n → slice_g
 slice_get-replicate zero i x h = absurd (omega arith)
 slice_get-replicate (suc n) zero x h = refl
 slice_get-replicate (suc n) (suc i) x h = slice_get-replicate n i x (omega arith)
+
+-- an element that there is
+pub get_within : {A : Type 0} (xs : List A) (i : ℕ) → i < length xs → (x : A) × (slice_get xs i ≡ Some x)
+get_within [] i within = absurd (omega arith)
+get_within (x ∷ xs) zero within = (x, refl)
+get_within (x ∷ xs) (suc i) within = get_within xs i (omega arith)

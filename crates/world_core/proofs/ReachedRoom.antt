@@ -1,5 +1,6 @@
 -- Room in the machines that private runs leave, and in every world.
 use Rattle.std.proofs.Common.{◌≡◌, ℕ, List, Some, slice_get, sym, ap, subst, ◌∙◌}
+use Rattle.std.proofs.lemmas.Option.{same_Some}
 use Rattle.model_core.specs.Machine.{Machine}
 use Rattle.model_core.specs.Room.{IsAmple}
 use Rattle.model_core.proofs.Room.{alloc_is_promised, take_is_promised}
@@ -30,9 +31,6 @@ reached_object_room limit order number entries c asked cache room =
     let is = take_is_promised limit order number (reached_machine limit order entries) c (reached_well_formed limit order entries asked) cache room in
     (is.0, ap take_body is.1)
 
-some_same : (m n : Machine) → Some m ≡ Some n → m ≡ n
-some_same m n e = cc
-
 -- the reply to a tenant's command is what its machine answers
 told : (limit order t k : ℕ) (w : World) (m : Machine) → slice_get w.machines t ≡ Some m
     → (world_step limit order (On.Tenant t (Ask.Alloc k)) w).reply ≡ record { addressee = To.Tenant t; body = (command_step limit order (Ask.Alloc k) m).answer }
@@ -45,7 +43,7 @@ nobody_starves limit order superblocks tenants t k trace m is_tenant here room =
     let own : List Entry = own_list t (opening_history limit order superblocks tenants events) in
     let w : World = world_after limit order (opening_world superblocks tenants) events in
     let same : m ≡ reached_machine limit order own =
-    some_same m (reached_machine limit order own) (sym here ∙ (own_run limit order superblocks tenants t events is_tenant).machine) in
+    same_Some m (reached_machine limit order own) (sym here ∙ (own_run limit order superblocks tenants t events is_tenant).machine) in
     let served = reached_room limit order k own (own_lists_are_asked limit order superblocks tenants t trace) (subst (IsAmple order k) same room) in (
       served.0,
       told limit order t k w m here

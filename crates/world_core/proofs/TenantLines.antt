@@ -3,7 +3,7 @@ use Rattle.model_core.specs.declared.owner.Owner.{Owner}
 use Rattle.std.proofs.Common.{◌≡◌, ℕ, ◌+◌, count_by, ◌<◌, ◌≤◌, ◌^◌, ◌≢◌, ◌==◌, nat_eq, Bool, true, false, not, List, [], ◌∷◌, ◌++◌, Option, Some, None, Result, Ok, Err, is_none, position, length, slice_get, map, filter, codes, decimal, refl, ap, sym, subst, ◌∙◌, inl, inr, arith, append_assoc}
 use Rattle.std.specs.Prelude.{if◌then◌else◌}
 use Rattle.std.specs.List.{starts_with}
-use Rattle.std.proofs.lemmas.List.{append-nil, length-set, length-replicate}
+use Rattle.std.proofs.lemmas.List.{append-nil, length-set, length-replicate, map-append}
 use Rattle.std.proofs.lemmas.List.Elements.{filter-append}
 use Rattle.std.proofs.lemmas.Grind.{flat_map-append}
 use Rattle.std.proofs.lemmas.Option.{slice_get_within}
@@ -36,7 +36,6 @@ use Rattle.world_core.specs.OwnList.{if_for, replies_to}
 use Rattle.world_core.specs.Output.{shown_reading, shown_lines, output_of, event_in, events_of, lines_for, texts_for}
 use Rattle.world_core.specs.Laws.{OwnLines, SameLines, private_lines, opening_history}
 use Rattle.world_core.specs.PrivateRun.{private_run}
-use Rattle.model_core.proofs.Lists.{map_append}
 use Rattle.world_core.proofs.TextLines.{AreTexts, body_text, addressee_is_text, cut_rows, decimal_digits, starts_same, starts_apart, starts_number}
 use Rattle.world_core.proofs.Runs as runs
 
@@ -97,7 +96,7 @@ report_fronted front report =
     both_rows (frames_fronted front report)
     (ap (λ rows. rows ++ map (λ row. cache_text front row) report.caches.items) (orders_fronted front 0 report.orders.items)
     ∙ (ap (λ rows. map (λ row. front ++ row) (order_texts [] 0 report.orders.items) ++ rows) (caches_fronted front report.caches.items)
-    ∙ sym (map_append (λ row. front ++ row) (order_texts [] 0 report.orders.items) (map (λ row. cache_text [] row) report.caches.items))))
+    ∙ sym (map-append (λ row. front ++ row) (order_texts [] 0 report.orders.items) (map (λ row. cache_text [] row) report.caches.items))))
 
 alone : List ℕ → List (List ℕ)
 alone row = row ∷ []

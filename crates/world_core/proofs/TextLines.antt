@@ -4,7 +4,7 @@ use Rattle.std.proofs.Common.{◌≡◌, ℕ, zero, suc, ◌+◌, Option, Some, 
 use Rattle.std.specs.List.{list_all, concat, starts_with, onto_first}
 use Rattle.std.specs.Fmt.{digits, digits_onto, digit_glyph}
 use Rattle.std.proofs.lemmas.List.Folds.{list_all-append}
-use Rattle.std.proofs.lemmas.Bool.{eq-eqb, eqb-true, lt-ltb, le-leb, leb-true}
+use Rattle.std.proofs.lemmas.Bool.{eq-eqb, eqb-true, lt-ltb, le-leb, leb-true, and_from, and_parts, not-true}
 use Rattle.std.proofs.lemmas.Bool.Decides.{nat_tests}
 use Rattle.hex.specs.Hex.{encode_with, lower_digits, encode_lower}
 use Rattle.words_core.specs.declared.event.LineFault.TheVariants.{Long, Unknown, Words, Number, Hex}
@@ -38,30 +38,15 @@ abbrev pub AreTexts : List (List ℕ) → Type 0
 AreTexts [] = Unit {0}
 AreTexts (row ∷ rows) = IsText row × AreTexts rows
 
-both_true : (a b : Bool) → a ≡ true → b ≡ true → (a && b) ≡ true
-both_true a b p q = rw (p, q) refl
-
-first_true : (a b : Bool) → (a && b) ≡ true → a ≡ true
-first_true true b h = refl
-first_true false b h = h
-
-second_true : (a b : Bool) → (a && b) ≡ true → b ≡ true
-second_true true b h = h
-second_true false b h = cc
-
-not_true : (b : Bool) → not b ≡ true → b ≡ false
-not_true true h = cc
-not_true false h = refl
-
 -- decimals
 
 glyph_digit : (d : ℕ) → d < 10 → is_digit (digit_glyph false d) ≡ true
-glyph_digit d h = rw (lt-ltb d 10 h) (both_true _ _ (le-leb 48 (48 + d) (omega arith)) (le-leb (48 + d) 57 (omega arith)))
+glyph_digit d h = rw (lt-ltb d 10 h) (and_from _ _ (le-leb 48 (48 + d) (omega arith)) (le-leb (48 + d) 57 (omega arith)))
 
 digits_onto_are : (k n : ℕ) (acc : List ℕ) → list_all is_digit acc ≡ true → list_all is_digit (digits_onto k 10 false n acc) ≡ true
 digits_onto_are zero n acc h = h
 digits_onto_are (suc k) n acc h =
-    let one : list_all is_digit (digit_glyph false (n % 10) ∷ acc) ≡ true = both_true _ _ (glyph_digit (n % 10) (omega arith)) h in
+    let one : list_all is_digit (digit_glyph false (n % 10) ∷ acc) ≡ true = and_from _ _ (glyph_digit (n % 10) (omega arith)) h in
     elim (n / 10 == 0) as (λ b. list_all is_digit (if b then digit_glyph false (n % 10) ∷ acc else digits_onto k 10 false (n / 10) (digit_glyph false (n % 10) ∷ acc)) ≡ true) [
       | true ↦ one
       | false ↦ digits_onto_are k (n / 10) (digit_glyph false (n % 10) ∷ acc) one
@@ -73,14 +58,14 @@ decimal_digits n = digits_onto_are 64 n [] refl
 
 digit_text : (d : ℕ) → is_digit d ≡ true → is_text d ≡ true
 digit_text d h =
-    let low : 48 ≤ d = leb-true 48 d (first_true (nat_le 48 d) _ h) in
+    let low : 48 ≤ d = leb-true 48 d (and_parts (nat_le 48 d) _ h).0 in
     let other : (d == 10) ≡ false = grind (arith, nat_tests) in
     rw other refl
 
 digits_texts : (ds : List ℕ) → list_all is_digit ds ≡ true → list_all is_text ds ≡ true
 digits_texts [] h = refl
 digits_texts (d ∷ ds) h =
-    both_true _ _ (digit_text d (first_true (is_digit d) _ h)) (digits_texts ds (second_true (is_digit d) _ h))
+    and_from _ _ (digit_text d (and_parts (is_digit d) _ h).0) (digits_texts ds (and_parts (is_digit d) _ h).1)
 
 decimal_text : (n : ℕ) → list_all is_text (decimal n) ≡ true
 decimal_text n = digits_texts (decimal n) (decimal_digits n)
@@ -89,8 +74,8 @@ decimal_text n = digits_texts (decimal n) (decimal_digits n)
 
 at_text : (xs : List ℕ) (i : ℕ) → list_all is_text xs ≡ true → is_text (slice_index xs i) ≡ true
 at_text [] i h = refl
-at_text (x ∷ xs) zero h = first_true (is_text x) _ h
-at_text (x ∷ xs) (suc i) h = at_text xs i (second_true (is_text x) _ h)
+at_text (x ∷ xs) zero h = (and_parts (is_text x) _ h).0
+at_text (x ∷ xs) (suc i) h = at_text xs i (and_parts (is_text x) _ h).1
 
 nibble_text : (i : ℕ) → is_text (slice_index lower_digits i) ≡ true
 nibble_text i = at_text lower_digits i refl
@@ -98,14 +83,14 @@ nibble_text i = at_text lower_digits i refl
 hex_text : (bytes : List ℕ) → list_all is_text (encode_lower bytes) ≡ true
 unfolding encode_with
 hex_text [] = refl
-hex_text (b ∷ bytes) = both_true _ _ (nibble_text (b / 16)) (both_true _ _ (nibble_text (b % 16)) (hex_text bytes))
+hex_text (b ∷ bytes) = and_from _ _ (nibble_text (b / 16)) (and_from _ _ (nibble_text (b % 16)) (hex_text bytes))
 
 -- a text and its LF in front of the rest are cut off as one line
 cut_one : (text rest : List ℕ) → list_all is_text text ≡ true → lines_of_trace ((text ++ 10 ∷ []) ++ rest) ≡ text ∷ lines_of_trace rest
 cut_one [] rest h = refl
 cut_one (b ∷ text) rest h =
-    let other : (b == 10) ≡ false = not_true (b == 10) (first_true (is_text b) _ h) in
-    rw other (ap (onto_first b) (cut_one text rest (second_true (is_text b) _ h)))
+    let other : (b == 10) ≡ false = not-true (b == 10) (and_parts (is_text b) _ h).0 in
+    rw other (ap (onto_first b) (cut_one text rest (and_parts (is_text b) _ h).1))
 
 pub cut_rows : (rows : List (List ℕ)) (rest : List ℕ) → AreTexts rows
     → lines_of_trace (concat (map (λ text. text ++ 10 ∷ []) rows) ++ rest) ≡ rows ++ lines_of_trace rest
@@ -141,7 +126,7 @@ fault_text Hex = refl
 
 -- a text goes on with one more piece
 with_piece : {front : List ℕ} → IsText front → (more : List ℕ) → list_all is_text more ≡ true → IsText (front ++ more)
-with_piece {front} text more h = record { all = list_all-append is_text front more ∙ both_true _ _ text.all h }
+with_piece {front} text more h = record { all = list_all-append is_text front more ∙ and_from _ _ text.all h }
 
 with_number : {front : List ℕ} → IsText front → (n : ℕ) → IsText (front ++ decimal n)
 with_number text n = with_piece text (decimal n) (decimal_text n)
@@ -253,14 +238,14 @@ differ a b h = grind (arith, nat_tests)
 
 pub starts_same : (front rest : List ℕ) → starts_with nat_eq (front ++ rest) front ≡ true
 starts_same [] rest = refl
-starts_same (b ∷ front) rest = both_true _ _ (eq-eqb b b refl) (starts_same front rest)
+starts_same (b ∷ front) rest = and_from _ _ (eq-eqb b b refl) (starts_same front rest)
 
 -- a row that begins with a byte that is no digit and no `>` begins with no number and `>`
 pub starts_apart : (b : ℕ) (rest ds tail : List ℕ) → is_digit b ≡ false → (62 == b) ≡ false → list_all is_digit ds ≡ true
     → starts_with nat_eq (b ∷ rest) (ds ++ 62 ∷ tail) ≡ false
 starts_apart b rest [] tail unlike apart h = rw apart refl
 starts_apart b rest (d ∷ ds) tail unlike apart h =
-    let other : nat_eq d b ≡ false = differ d b (λ e. cc (unlike, subst (λ x. is_digit x ≡ true) e (first_true (is_digit d) _ h))) in
+    let other : nat_eq d b ≡ false = differ d b (λ e. cc (unlike, subst (λ x. is_digit x ≡ true) e (and_parts (is_digit d) _ h).0)) in
     rw other refl
 
 -- `>` is no digit
@@ -271,9 +256,9 @@ no_mark d h e = let wrong : false ≡ true = subst (λ x. is_digit x ≡ true) e
 pub starts_number : (ds es tail rest : List ℕ) → list_all is_digit ds ≡ true → list_all is_digit es ≡ true
     → starts_with nat_eq (ds ++ 62 ∷ rest) (es ++ 62 ∷ tail) ≡ true → es ≡ ds
 starts_number [] [] tail rest h g found = refl
-starts_number [] (e ∷ es) tail rest h g found = absurd (no_mark e (first_true (is_digit e) _ g) (eqb-true e 62 (first_true (nat_eq e 62) _ found)))
-starts_number (d ∷ ds) [] tail rest h g found = absurd (no_mark d (first_true (is_digit d) _ h) (sym (eqb-true 62 d (first_true (nat_eq 62 d) _ found))))
+starts_number [] (e ∷ es) tail rest h g found = absurd (no_mark e (and_parts (is_digit e) _ g).0 (eqb-true e 62 (and_parts (nat_eq e 62) _ found).0))
+starts_number (d ∷ ds) [] tail rest h g found = absurd (no_mark d (and_parts (is_digit d) _ h).0 (sym (eqb-true 62 d (and_parts (nat_eq 62 d) _ found).0)))
 starts_number (d ∷ ds) (e ∷ es) tail rest h g found =
-    let same = eqb-true e d (first_true (nat_eq e d) _ found) in
-    let more = starts_number ds es tail rest (second_true (is_digit d) _ h) (second_true (is_digit e) _ g) (second_true (nat_eq e d) _ found) in
+    let same = eqb-true e d (and_parts (nat_eq e d) _ found).0 in
+    let more = starts_number ds es tail rest (and_parts (is_digit d) _ h).1 (and_parts (is_digit e) _ g).1 (and_parts (nat_eq e d) _ found).1 in
     cc
