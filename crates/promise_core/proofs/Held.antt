@@ -33,28 +33,28 @@ in_slot order p h b aligned held low high =
     let frame : HasFrame b (p / 4096) = (omega (arith, low), omega (arith, high)) in
     subst (λ u. has_slot h u ≡ true) (sym (frame_slot order (p / 4096) b aligned frame)) held
 
--- a live object has the range
-pub record HasRange (place len : ℕ) (cs : List ToldCache) : Type 0 where
+-- the range is among the bytes of this live object
+pub record HasRange (place len : ℕ) (holder : Holder) (cs : List ToldCache) : Type 0 where
   pub cache : ToldCache
   pub first : ℕ
   pub listed : IsIn cache cs
   pub live : IsIn first cache.live
-  pub begins : first ≤ place
-  pub ends : place + len ≤ first + cache.size
+  pub is : holder ≡ Holder.Object cache.number first
+  pub within : is_within place len first cache.size ≡ true
 
-object_has : (place len : ℕ) (cs : List ToldCache) (holder : Holder) → object_with place len cs ≡ Some holder → HasRange place len cs
-object_has place len [] holder e = absurd (cc)
-object_has place len (c ∷ cs) holder e = go (find (λ p. is_within place len p c.size) c.live) refl e (object_has place len cs holder)
+pub object_has : (place len : ℕ) (holder : Holder) (cs : List ToldCache) → object_with place len cs ≡ Some holder → HasRange place len holder cs
+object_has place len holder [] e = absurd (cc)
+object_has place len holder (c ∷ cs) e = go (find (λ p. is_within place len p c.size) c.live) refl e (object_has place len holder cs)
   where
     go : (o : Option ℕ) → find (λ p. is_within place len p c.size) c.live ≡ o
         → option_map_or (λ p. Some (Holder.Object c.number p)) o (object_with place len cs) ≡ Some holder
-        → (object_with place len cs ≡ Some holder → HasRange place len cs) → HasRange place len (c ∷ cs)
-    go None is e rest = let r = rest e in
-        record { cache = r.cache; first = r.first; listed = inr r.listed; live = r.live; begins = r.begins; ends = r.ends }
-    go (Some p) is e rest =
+        → (object_with place len cs ≡ Some holder → HasRange place len holder cs) → HasRange place len holder (c ∷ cs)
+    go None is later rest = let r = rest later in
+        record { cache = r.cache; first = r.first; listed = inr r.listed; live = r.live; is = r.is; within = r.within }
+    go (Some p) is here rest =
         let f = find_in (λ q. is_within place len q c.size) p c.live is in
-        let at = and_parts _ _ f.1 in
-        record { cache = c; first = p; listed = inl refl; live = f.0; begins = leb-true p place at.0; ends = leb-true (place + len) (p + c.size) at.1 }
+        let same : Holder.Object c.number p ≡ holder = cc in
+        record { cache = c; first = p; listed = inl refl; live = f.0; is = sym same; within = f.1 }
 
 last_ends : (j n k : ℕ) → j < n → j * k ≤ (n - 1) * k
 last_ends j n k lt = mul-le j k (n - 1) k (omega (arith, lt)) (omega arith)
@@ -77,7 +77,7 @@ range_held order h laid gridded place len holder is j lt = go (not (nat_lt 0 len
         let at = laid.placed None b page.1 in
         in_slot order (place + j) h b at.0 at.1 (omega (arith, low)) (omega (arith, high, lt))
     go false false found e =
-        let o = object_has place len h.caches holder e in
+        let o = object_has place len holder h.caches e in
         let b = slab_around o.cache o.first in
         let at = laid.placed (Some o.cache.number) b (o.cache, o.first, o.listed, o.live, refl, refl) in
         let grid = (gridded o.cache o.listed).grids b.first in
@@ -86,8 +86,9 @@ range_held order h laid gridded place len holder is j lt = go (not (nat_lt 0 len
         let is : o.first ≡ grid.origin + on.0 * o.cache.chunk = on.2 in
         let low = grid.low in
         let high = grid.high in
-        let begins = o.begins in
-        let ends = o.ends in
+        let at_byte = and_parts _ _ o.within in
+        let begins : o.first ≤ place = leb-true o.first place at_byte.0 in
+        let ends : place + len ≤ o.first + o.cache.size = leb-true (place + len) (o.first + o.cache.size) at_byte.1 in
         in_slot order (place + j) h b at.0 at.1 (omega (arith, low, is, begins)) (omega (arith, high, is, row, ends, lt))
 
 -- A step

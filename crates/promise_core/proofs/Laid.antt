@@ -1,6 +1,6 @@
 -- What is live lies apart and in held slots, and stays so by each step.
 use Rattle.std.proofs.Common.{◌≡◌, ℕ, ◌+◌, ◌-◌, ◌*◌, ◌/◌, ◌%◌, ◌^◌, ◌≤◌, Bool, true, false, not, List, [], ◌∷◌, map, length, Option, Some, None, is_none, refl, ap, sym, subst, ◌∙◌, ◌⊎◌, inl, inr, arith}
-use Rattle.std.specs.Prelude.{if◌then◌else◌, filter, find, flat_map, nat_lt, ◌==◌}
+use Rattle.std.specs.Prelude.{if◌then◌else◌, filter, nat_lt, ◌==◌}
 use Rattle.std.specs.Option.{option_map_or}
 use Rattle.std.proofs.lemmas.Bool.{eq-eqb, ne_eqb, eqb-true, false≢true, or_cases, and_parts, leb-true, not-true, not-false}
 use Rattle.arrayvec.specs.ArrayVec.{ArrayVec}
@@ -9,7 +9,7 @@ use Rattle.model_core.specs.Layouts.{is_size, is_alignment}
 use Rattle.model_core.specs.Machine.{put_rising}
 use Rattle.model_core.specs.Operations.{overlaps}
 use Rattle.model_core.specs.Elements.{IsIn}
-use Rattle.model_core.proofs.Lists.{find_in, filter_in, in_filter, some_any, any_in, in_left, in_right, map_in, in_map, none_of}
+use Rattle.model_core.proofs.Lists.{find_in, filter_in, in_filter, some_any, any_in, in_left, in_right, map_in, in_map, none_of, any_with, any_unfound, in_flat_map}
 use Rattle.model_core.proofs.Apart.{overlap_from, has_first}
 use Rattle.model_core.proofs.PageSteps.{in_slot_overlaps}
 use Rattle.words_core.specs.declared.event.Event.{Event}
@@ -25,31 +25,6 @@ use Rattle.promise_core.specs.State.{State, Known, opening_state, state_after}
 use Rattle.promise_core.specs.Promises.{first_due, due, refusals, blocks, objects, new_layout}
 use Rattle.promise_core.proofs.Steps.{in_put, some_state}
 use Rattle.promise_core.proofs.Grids.{new_gridded, given_gridded, taken_gridded}
-
--- Lists
-
-put_keeps : {X : Type 0} (key : X → ℕ) (x y : X) (ys : List X) → IsIn y ys → IsIn y (put_rising key x ys)
-put_keeps key x y [] i = elim i [ ]
-put_keeps {X} key x y (z ∷ zs) i = go (nat_lt (key x) (key z)) i (put_keeps key x y zs)
-  where
-    go : (b : Bool) → IsIn y (z ∷ zs) → (IsIn y zs → IsIn y (put_rising key x zs)) → IsIn y (if b then x ∷ (z ∷ zs) else z ∷ put_rising key x zs)
-    go true j ih = inr j
-    go false (inl e) ih = inl e
-    go false (inr j) ih = inr (ih j)
-
-in_flat : {X Y : Type 0} (f : X → List Y) (x : X) (y : Y) (xs : List X) → IsIn x xs → IsIn y (f x) → IsIn y (flat_map f xs)
-in_flat f x y [] i j = elim i [ ]
-in_flat f x y (z ∷ zs) (inl e) j = in_left y (f z) (flat_map f zs) (subst (λ v. IsIn y (f v)) (sym e) j)
-in_flat f x y (z ∷ zs) (inr i) j = in_right y (f z) (flat_map f zs) (in_flat f x y zs i j)
-
-none_found : {X : Type 0} (p : X → Bool) (x : X) (xs : List X) → find p xs ≡ None → IsIn x xs → p x ≡ false
-none_found p x [] e i = elim i [ ]
-none_found {X} p x (y ∷ ys) e i = go (p y) refl e i (none_found p x ys)
-  where
-    go : (b : Bool) → p y ≡ b → ◌≡◌ {A = Option X} (if b then Some y else find p ys) None → IsIn x (y ∷ ys) → (find p ys ≡ None → IsIn x ys → p x ≡ false) → p x ≡ false
-    go true is e j ih = absurd (cc)
-    go false is e (inl same) ih = subst (λ z. p z ≡ false) same is
-    go false is e (inr j) ih = ih e j
 
 -- What has frames, and that it lies apart
 
@@ -89,7 +64,7 @@ used_taken : (h : Holdings) (by : Option ℕ) (b : Block) → Used h by b → Is
 unfolding told_blocks
 used_taken h None b i = in_left b h.pages _ i
 used_taken h (Some n) b (c, p, i, j, e, is) = in_right b h.pages _
-    (in_flat (λ d. map (slab_around d) d.live) c b h.caches i (subst (λ y. IsIn y (map (slab_around c) c.live)) (sym is) (in_map (slab_around c) p c.live j)))
+    (in_flat_map (λ d. map (slab_around d) d.live) b c h.caches i (subst (λ y. IsIn y (map (slab_around c) c.live)) (sym is) (in_map (slab_around c) p c.live j)))
 
 -- what shares a frame with a vacant block is not used
 vacant_apart : (h : Holdings) (n : Block) → is_vacant h n ≡ true → (by : Option ℕ) (b : Block) (x : ℕ) → Used h by b → HasFrame b x → HasFrame n x → ⊥
@@ -229,7 +204,7 @@ cache_laid : (order : ℕ) (h : Holdings) (new : ToldCache) → new.live ≡ [] 
 cache_laid order h new empty l none = fewer order h (record h { caches = put_rising (λ x. x.number) new h.caches }) l used (λ by b u held. held) numbers
   where
     other : (c : ToldCache) → IsIn c h.caches → c.number ≡ new.number → ⊥
-    other c i e = false≢true (sym (none_found (λ y. y.number == new.number) c h.caches (none_of _ (not-true _ none)) i) ∙ eq-eqb _ _ e)
+    other c i e = false≢true (sym (any_unfound (λ y. y.number == new.number) h.caches (none_of _ (not-true _ none))) ∙ any_in (λ y. y.number == new.number) c h.caches i (eq-eqb _ _ e))
 
     numbers : HaveOwnNumbers (record h { caches = put_rising (λ x. x.number) new h.caches })
     numbers c d i j e = elim (in_put (λ x. x.number) new c h.caches i) [
@@ -251,8 +226,7 @@ cache_laid order h new empty l none = fewer order h (record h { caches = put_ris
     ]
 
 pub slot_put : (u : ℕ) (h : Holdings) (v : ℕ) → has_slot h v ≡ true → has_slot (record h { slots = put_rising (λ x. x) u h.slots }) v ≡ true
-slot_put u h v e = let x : (x : ℕ) × IsIn x h.slots × ((x == v) ≡ true) = some_any _ h.slots e in
-    any_in _ x.0 (put_rising (λ x. x) u h.slots) (put_keeps (λ x. x) u x.0 h.slots x.1) x.2
+slot_put u h v e = any_with (λ x. x == v) (λ x. x) u h.slots e
 
 grant_laid : (order u : ℕ) (h : Holdings) → IsLaid order h → IsLaid order (record h { slots = put_rising (λ v. v) u h.slots })
 grant_laid order u h l = fewer order h (record h { slots = put_rising (λ v. v) u h.slots }) l same_used (λ by b i. slot_put u h (b.first / 2 ^ order)) l.numbers

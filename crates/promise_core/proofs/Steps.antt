@@ -3,26 +3,14 @@ use Rattle.std.proofs.Common.{◌≡◌, ℕ, zero, suc, ◌+◌, ◌-◌, ◌<�
 use Rattle.std.specs.Prelude.{nat_le, nat_lt, slice_index, if◌then◌else◌, ◌==◌}
 use Rattle.std.specs.Option.{option_map_or}
 use Rattle.std.proofs.lemmas.Bool.{cases_eq, and_parts, leb-true, ltb-true, cases_Bool}
-use Rattle.model_core.specs.Machine.{in_block, put_rising}
-use Rattle.model_core.specs.Elements.{IsIn}
+use Rattle.model_core.specs.Machine.{in_block}
+pub use Rattle.model_core.proofs.Lists.{in_put}
 use Rattle.world_core.proofs.MachineLists.{slice_get-set_other}
 use Rattle.promise_core.specs.Holdings.{ToldCache, slab_around, are_apart}
 use Rattle.promise_core.specs.Bytes.{Holder, is_object, Cell, Cells, with_bytes, doubted, without}
 use Rattle.promise_core.specs.State.{State, with_object}
 
 -- Lists
-
-pub in_put : {X : Type 0} (key : X → ℕ) (x y : X) (ys : List X) → IsIn y (put_rising key x ys) → (x ≡ y) ⊎ IsIn y ys
-in_put key x y [] (inl e) = inl e
-in_put key x y [] (inr i) = elim i [ ]
-in_put {X} key x y (z ∷ zs) i = go (nat_lt (key x) (key z)) i (in_put key x y zs)
-  where
-    go : (b : Bool) → IsIn y (if b then x ∷ (z ∷ zs) else z ∷ put_rising key x zs) → (IsIn y (put_rising key x zs) → (x ≡ y) ⊎ IsIn y zs)
-        → (x ≡ y) ⊎ IsIn y (z ∷ zs)
-    go true (inl e) ih = inl e
-    go true (inr j) ih = inr j
-    go false (inl e) ih = inr (inl e)
-    go false (inr j) ih = elim (ih j) [ inl e ↦ inl e | inr k ↦ inr (inr k) ]
 
 set_same : {X : Type 0} (xs : List X) (i : ℕ) (x y : X) → slice_get (slice_set xs i y) i ≡ Some x → x ≡ y
 set_same [] i x y e = absurd (cc)
