@@ -1,8 +1,7 @@
 -- A page block taken: every promise is kept.
-use Rattle.std.proofs.Common.{◌≡◌, ℕ, ◌+◌, ◌<◌, Bool, true, false, not, ◌&&◌, ltb, List, ◌++◌, Option, Some, None, refl, sym, ap, ◌∙◌, subst}
+use Rattle.std.proofs.Common.{◌≡◌, ℕ, ◌+◌, ◌<◌, Bool, true, false, not, ◌&&◌, ltb, Option, Some, None, refl, sym, ap, ◌∙◌, subst}
 use Rattle.std.specs.Prelude.{if◌then◌else◌}
-use Rattle.std.specs.List.{list_any}
-use Rattle.std.proofs.lemmas.Bool.{or_right, ltb-false}
+use Rattle.std.proofs.lemmas.Bool.{ltb-false, and_from}
 use Rattle.std.proofs.Math.Bool.{and-false}
 use Rattle.model_core.specs.declared.refusals.AllocRefusal.{AllocRefusal}
 use Rattle.model_core.specs.Blocks.{Block, block}
@@ -14,9 +13,8 @@ use Rattle.model_core.specs.Operations.{refuse, with_block, alloc_at, alloc_step
 use Rattle.model_core.specs.WellFormed.{IsApart, IsWellFormed}
 use Rattle.model_core.specs.Laws.{Object, IsObject, place_of}
 use Rattle.model_core.specs.Elements.{IsIn}
-use Rattle.model_core.proofs.Lists.{each_in, PutIn, put_in, in_right, in_map, in_flat_map}
+use Rattle.model_core.proofs.Lists.{each_in, any_with, in_right, in_map, in_flat_map}
 use Rattle.model_core.proofs.Apart.{apart_place, apart_turned}
-use Rattle.model_core.proofs.MemoryKept.{any_put}
 use Rattle.model_core.proofs.Chosen.{chosen_apart}
 use Rattle.model_core.proofs.ObjectsApart.{contains_in}
 use Rattle.model_core.proofs.ByNeed.{by_need_none}
@@ -33,7 +31,7 @@ use Rattle.promise_core.specs.State.{State, state_after}
 use Rattle.promise_core.specs.Promises.{due}
 use Rattle.promise_kept.specs.Meets.{holdings_of, is_object_live, Meets, IsKeptBy, IsPromiseKept}
 use Rattle.promise_kept.proofs.Stand.{by_need_stands, room_served}
-use Rattle.promise_kept.proofs.Cells.{all_kept, formed, without_some, without_may}
+use Rattle.promise_kept.proofs.Cells.{all_kept, formed, without_some, without_may, refused}
 use Rattle.promise_kept.proofs.Reaped.{untold, by_need_meets, object_in_slab}
 
 -- the cells of objects in this block
@@ -48,14 +46,9 @@ after_alloc b s = record s {
   told = None;
 }
 
-any_with : (p : Block → Bool) (b : Block) (bs : List Block) → list_any p bs ≡ true → list_any p (put_rising (λ x. x.first) b bs) ≡ true
-any_with p b bs e =
-    let i : PutIn (λ x. x.first) b bs = put_in (λ x. x.first) b bs in
-    ap (λ cs. list_any p cs) i.is ∙ (any_put p i.before i.later b ∙ or_right (p b) (list_any p (i.before ++ i.later)) (ap (λ cs. list_any p cs) (sym i.was) ∙ e))
-
 lives_on : (b : Block) (h : Holdings) (holder : Holder) (place : ℕ) → is_object_live h holder place ≡ true
     → is_object_live (record h { pages = put_rising (λ x. x.first) b h.pages }) holder place ≡ true
-lives_on b h Holder.Page place e = any_with (in_block place) b h.pages e
+lives_on b h Holder.Page place e = any_with (in_block place) (λ x. x.first) b h.pages e
 lives_on b h (Holder.Object n first) place e = e
 
 module _ {limit : ℕ} (order k first : ℕ) (s : State) (n : Machine) (w : IsWellFormed limit order n) (h : Meets order (untold s) n) (is : choice order n k ≡ Some first) where
@@ -89,24 +82,14 @@ module _ {limit : ℕ} (order k first : ℕ) (s : State) (n : Machine) (w : IsWe
 
 module _ (limit order k : ℕ) (m : Machine) (s : State) (w : IsWellFormed limit order m) (h : Meets order s m) where
   too_large : ltb order k ≡ true → IsKeptBy limit order (Asked.Alloc k) s (Say.Refused Refusal.BadOrder) m
-  unfolding due state_after
-  too_large e = record {
-    allowed = λ t owners states. all_kept (On.Tenant t (Asked.Alloc k)) (record { addressee = To.Tenant t; body = Say.Refused Refusal.BadOrder })
-        (record { limit = limit; order = order; owners = owners; states = states }) s
-        (formed t (Some s) refl) (rw e refl) refl refl refl refl refl refl refl refl refl refl;
-    meets = λ t. (s, refl, h);
-  }
+  unfolding due
+  too_large e = refused limit order (Asked.Alloc k) Refusal.BadOrder s m h (λ t owners states. (rw e refl, refl))
 
   no_frames : ltb order k ≡ false → choice_by_need order k m ≡ None → IsKeptBy limit order (Asked.Alloc k) s (Say.Refused Refusal.NoFrames) (by_need order k m)
-  unfolding due state_after
-  no_frames e none = record {
-    allowed = λ t owners states. all_kept (On.Tenant t (Asked.Alloc k)) (record { addressee = To.Tenant t; body = Say.Refused Refusal.NoFrames })
-        (record { limit = limit; order = order; owners = owners; states = states }) s
-        (formed t (Some s) refl) (rw e refl)
-        (ap (λ x. not (has_room order x k)) h.has ∙ ap not (room_served order k m w (ltb-false order k e) none))
-        refl refl refl refl refl refl refl refl refl;
-    meets = λ t. (s, refl, subst (λ n. Meets order s n) (sym (by_need_none order k m none)) h);
-  }
+  unfolding due
+  no_frames e none =
+      refused limit order (Asked.Alloc k) Refusal.NoFrames s (by_need order k m) (subst (λ n. Meets order s n) (sym (by_need_none order k m none)) h)
+      (λ t owners states. (rw e refl, and_from _ _ (ap (λ x. not (has_room order x k)) h.has ∙ ap not (room_served order k m w (ltb-false order k e) none)) refl))
 
   served : (first : ℕ) → ltb order k ≡ false → choice_by_need order k m ≡ Some first
       → IsKeptBy limit order (Asked.Alloc k) s (Say.Frame first) (with_block (block first k) (by_need order k m))

@@ -1,9 +1,9 @@
 -- A cache made: every promise is kept.
-use Rattle.std.proofs.Common.{◌≡◌, ◌≢◌, ℕ, suc, ◌+◌, ◌-◌, ◌*◌, ◌%◌, ◌^◌, ◌<◌, ◌≤◌, Bool, true, false, not, ◌&&◌, eqb, ltb, leb, List, [], ◌∷◌, ◌++◌, map, length, Option, Some, None, refl, sym, ap, ◌∙◌, subst, inl, inr, arith}
+use Rattle.std.proofs.Common.{◌≡◌, ◌≢◌, ℕ, suc, ◌+◌, ◌-◌, ◌*◌, ◌%◌, ◌^◌, ◌<◌, ◌≤◌, Bool, true, false, not, ◌&&◌, eqb, ltb, leb, List, [], ◌∷◌, map, length, Option, Some, None, refl, sym, ap, ◌∙◌, subst, inl, inr, arith}
 use Rattle.std.specs.Prelude.{if◌then◌else◌, Result, is_none, find}
 use Rattle.std.specs.List.{list_any, AllByRecursion as Each}
 use Rattle.std.proofs.Math.Nat.{zero-mod, mod-eq_of_lt}
-use Rattle.std.proofs.lemmas.Bool.{and_from, or_right, leb-true, leb-false, le-leb, lt-ltb, eq-eqb}
+use Rattle.std.proofs.lemmas.Bool.{and_from, leb-true, leb-false, le-leb, lt-ltb, eq-eqb, false_from_ne_true, ne_eqb}
 use Rattle.arrayvec.specs.ArrayVec.{ArrayVec}
 use Rattle.model_core.specs.declared.refusals.CacheRefusal.{CacheRefusal}
 use Rattle.model_core.specs.Layouts.{Layout, layout_of, is_size, is_alignment, IsLayout}
@@ -12,30 +12,24 @@ use Rattle.model_core.specs.Operations.{Step, refuse}
 use Rattle.model_core.specs.CacheOperations.{created, next_number, create_step, cache_answer, cache_step}
 use Rattle.model_core.specs.WellFormed.{RisesFrom, IsWellFormed}
 use Rattle.model_core.specs.Elements.{IsIn}
-use Rattle.model_core.proofs.Lists.{PutIn, put_in, in_left, in_right, in_append}
-use Rattle.model_core.proofs.MemoryKept.{any_put}
+use Rattle.model_core.proofs.Lists.{in_put, any_with, each_map, least_is_missing}
 use Rattle.model_core.proofs.Laid.{in_slab_laid, in_laid}
-use Rattle.model_core.proofs.ObjectsApart.{contains_in}
+use Rattle.model_core.proofs.ObjectsApart.{contains_in, in_contains}
 use Rattle.model_core.proofs.PageSteps.{created_laid}
-use Rattle.promise_core.specs.Holdings.{ToldCache, Holdings}
+use Rattle.promise_core.specs.Holdings.{ToldCache, Holdings, cache_told}
 use Rattle.promise_core.specs.Bytes.{Holder}
 use Rattle.promise_core.specs.State.{State, state_after}
-use Rattle.promise_kept.specs.Meets.{told_cache, holdings_of, is_object_live, Meets}
+use Rattle.promise_kept.specs.Meets.{told_cache, holdings_of, is_object_live, Meets, IsKeptBy, IsPromiseKept}
 use Rattle.std.proofs.lemmas.List.{length-map}
-use Rattle.std.proofs.lemmas.Bool.{false_from_ne_true, ne_eqb}
 use Rattle.model_core.proofs.Layouts.{layouts_fit}
-use Rattle.model_core.proofs.Lists.{each_map, least_is_missing}
 use Rattle.words_core.specs.declared.event.Event.TheVariants as On
 use Rattle.words_core.specs.declared.event.Command.TheVariants as Asked
 use Rattle.words_core.specs.declared.reply.Addressee.TheVariants as To
 use Rattle.words_core.specs.declared.reply.Body.TheVariants as Say
 use Rattle.words_core.specs.declared.reply.Refusal.{Refusal}
 use Rattle.world_core.specs.PrivateStep.{cache_body, command_step}
-use Rattle.promise_core.specs.Holdings.{cache_told}
 use Rattle.promise_core.specs.Promises.{due}
-use Rattle.promise_kept.specs.Meets.{IsKeptBy, IsPromiseKept}
-use Rattle.promise_kept.proofs.Stand.{in_contains}
-use Rattle.promise_kept.proofs.Cells.{all_kept, formed}
+use Rattle.promise_kept.proofs.Cells.{all_kept, formed, refused}
 
 -- The least number that no cache has
 
@@ -62,23 +56,6 @@ new_told c (d ∷ cs) = go (ltb c.number d.number) (new_told c cs)
         ≡ (if b then told_cache c ∷ (told_cache d ∷ map told_cache cs) else told_cache d ∷ put_rising (λ (x : ToldCache). x.number) (told_cache c) (map told_cache cs))
     go true e = refl
     go false e = ap (λ ts. told_cache d ∷ ts) e
-
-in_put : (c d : Cache) (cs : List Cache) → IsIn d (put_rising (λ x. x.number) c cs) → IsIn d (c ∷ cs)
-in_put c d cs i =
-    let p : PutIn (λ x. x.number) c cs = put_in (λ x. x.number) c cs in
-    elim (in_append d p.before (c ∷ p.later) (subst (λ xs. IsIn d xs) p.is i)) [
-      | inl j ↦ inr (subst (λ xs. IsIn d xs) (sym p.was) (in_left d p.before p.later j))
-      | inr j ↦ later p j
-    ]
-  where
-    later : (p : PutIn (λ x. x.number) c cs) → IsIn d (c ∷ p.later) → IsIn d (c ∷ cs)
-    later p (inl e) = inl e
-    later p (inr j) = inr (subst (λ xs. IsIn d xs) (sym p.was) (in_right d p.before p.later j))
-
-any_more : (q : ToldCache → Bool) (c : ToldCache) (cs : List ToldCache) → list_any q cs ≡ true → list_any q (put_rising (λ x. x.number) c cs) ≡ true
-any_more q c cs e =
-    let p : PutIn (λ x. x.number) c cs = put_in (λ x. x.number) c cs in
-    ap (λ xs. list_any q xs) p.is ∙ (any_put q p.before p.later c ∙ or_right (q c) (list_any q (p.before ++ p.later)) (ap (λ xs. list_any q xs) (sym p.was) ∙ e))
 
 missing_all : (n limit : ℕ) (xs : List ℕ) → RisesFrom n xs → Each (λ x. x < limit) xs → limit ≤ n + length xs → least_missing n xs ≡ n + length xs
 missing_all n limit [] r each le = omega arith
@@ -117,7 +94,7 @@ module _ (limit order size align : ℕ) (pattern : ArrayVec ℕ) (m : Machine) (
   after_cache = record s { has = record s.has { caches = put_rising (λ (x : ToldCache). x.number) (told_cache new) s.has.caches }; told = None }
 
   old : (c : Cache) (t : Slab) → IsIn c (created (next_number m) size align pattern.items m).caches → IsIn t c.slabs → IsIn c m.caches
-  old c t in_c in_t = go (in_put new c m.caches in_c)
+  old c t in_c in_t = go (in_put (λ x. x.number) new c m.caches in_c)
     where
       go : IsIn c (new ∷ m.caches) → IsIn c m.caches
       go (inl e) = absurd (subst (λ (x : Cache). IsIn t x.slabs) (sym e) in_t)
@@ -125,7 +102,7 @@ module _ (limit order size align : ℕ) (pattern : ArrayVec ℕ) (m : Machine) (
 
   cells_live : (holder : Holder) (place : ℕ) → is_object_live s.has holder place ≡ true → is_object_live after_cache.has holder place ≡ true
   cells_live Holder.Page place e = e
-  cells_live (Holder.Object n first) place e = any_more (λ c. eqb c.number n && list_any (λ p. eqb p first) c.live) (told_cache new) s.has.caches e
+  cells_live (Holder.Object n first) place e = any_with (λ c. eqb c.number n && list_any (λ p. eqb p first) c.live) (λ c. c.number) (told_cache new) s.has.caches e
 
   cache_meets : Meets order after_cache (created (next_number m) size align pattern.items m)
   unfolding holdings_of
@@ -146,33 +123,18 @@ module _ (limit order size align : ℕ) (pattern : ArrayVec ℕ) (m : Machine) (
   }
 
   no_slot : is_size size ≡ true → is_alignment align ≡ true → leb limit (next_number m) ≡ true → IsKeptBy limit order (Asked.Cache size align pattern) s (Say.Refused Refusal.NoCacheSlot) m
-  unfolding due state_after
+  unfolding due
   no_slot sized aligned full =
       let seen : leb limit (length s.has.caches) ≡ true = full_seen limit order m s w h ∙ full in
-      record {
-        allowed = λ t owners states. all_kept (On.Tenant t (Asked.Cache size align pattern)) (record { addressee = To.Tenant t; body = Say.Refused Refusal.NoCacheSlot })
-            (record { limit = limit; order = order; owners = owners; states = states }) s
-            (formed t (Some s) refl) (rw sized (rw aligned (rw seen refl))) refl refl refl refl refl refl refl refl refl refl;
-        meets = λ t. (s, refl, h);
-      }
+      refused limit order (Asked.Cache size align pattern) Refusal.NoCacheSlot s m h (λ t owners states. (rw sized (rw aligned (rw seen refl)), refl))
 
   bad_size : is_size size ≡ false → IsKeptBy limit order (Asked.Cache size align pattern) s (Say.Refused Refusal.BadSize) m
-  unfolding due state_after
-  bad_size e = record {
-    allowed = λ t owners states. all_kept (On.Tenant t (Asked.Cache size align pattern)) (record { addressee = To.Tenant t; body = Say.Refused Refusal.BadSize })
-        (record { limit = limit; order = order; owners = owners; states = states }) s
-        (formed t (Some s) refl) (rw e refl) refl refl refl refl refl refl refl refl refl refl;
-    meets = λ t. (s, refl, h);
-  }
+  unfolding due
+  bad_size e = refused limit order (Asked.Cache size align pattern) Refusal.BadSize s m h (λ t owners states. (rw e refl, refl))
 
   bad_align : is_size size ≡ true → is_alignment align ≡ false → IsKeptBy limit order (Asked.Cache size align pattern) s (Say.Refused Refusal.BadAlign) m
-  unfolding due state_after
-  bad_align sized e = record {
-    allowed = λ t owners states. all_kept (On.Tenant t (Asked.Cache size align pattern)) (record { addressee = To.Tenant t; body = Say.Refused Refusal.BadAlign })
-        (record { limit = limit; order = order; owners = owners; states = states }) s
-        (formed t (Some s) refl) (rw sized (rw e refl)) refl refl refl refl refl refl refl refl refl refl;
-    meets = λ t. (s, refl, h);
-  }
+  unfolding due
+  bad_align sized e = refused limit order (Asked.Cache size align pattern) Refusal.BadAlign s m h (λ t owners states. (rw sized (rw e refl), refl))
 
   laid : Layout
   laid = layout_of size align

@@ -1,15 +1,22 @@
 -- What may be at a place: cells in doubt, cells dropped, and what does not live.
-use Rattle.std.proofs.Common.{◌≡◌, ℕ, Bool, true, false, not, ◌||◌, ◌&&◌, eqb, Option, Some, None, refl, sym, ap, ◌∙◌}
-use Rattle.std.specs.Prelude.{if◌then◌else◌, is_some}
+use Rattle.std.proofs.Common.{◌≡◌, ℕ, Bool, true, false, not, ◌||◌, ◌&&◌, eqb, Option, Some, None, refl, sym, ap, ◌∙◌, List}
+use Rattle.std.specs.Prelude.{if◌then◌else◌, is_some, drop}
 use Rattle.std.specs.List.{list_all}
 use Rattle.std.proofs.lemmas.Bool.{false≢true, and_parts, and_from, or_right, eqb-true, eq-eqb, not-true}
+use Rattle.model_core.specs.declared.owner.Owner.{Owner}
+use Rattle.model_core.specs.Machine.{Machine}
 use Rattle.words_core.specs.declared.event.Event.{Event}
+use Rattle.words_core.specs.declared.event.Event.TheVariants as On
+use Rattle.words_core.specs.declared.event.Command.{Command}
+use Rattle.words_core.specs.declared.reply.Addressee.TheVariants as To
+use Rattle.words_core.specs.declared.reply.Body.TheVariants as Say
+use Rattle.words_core.specs.declared.reply.Refusal.{Refusal}
 use Rattle.words_core.specs.declared.reply.Reply.{Reply}
 use Rattle.promise_core.specs.Holdings.{Holdings}
 use Rattle.promise_core.specs.Bytes.{Holder, is_same, Cell, Cells, may_be, doubted, without}
-use Rattle.promise_core.specs.State.{State, Known}
+use Rattle.promise_core.specs.State.{State, Known, state_after}
 use Rattle.promise_core.specs.Promises.{form, refusals, room, busy, blocks, objects, new_layout, gives, owners, bytes, report, still, kept}
-use Rattle.promise_kept.specs.Meets.{is_object_live}
+use Rattle.promise_kept.specs.Meets.{is_object_live, Meets, IsKeptBy}
 
 -- each promise is kept
 pub all_kept : (event : Event) (reply : Reply) (w : Known) (s : State) → form event reply w s ≡ true → refusals event reply.body w s ≡ true → room event reply.body w s ≡ true
@@ -21,6 +28,18 @@ all_kept event reply w s a b c d e f g h i j k l =
 
 pub formed : (t : ℕ) (o : Option State) → is_some o ≡ true → (eqb t t && is_some o) ≡ true
 formed t o e = and_from (eqb t t) (is_some o) (eq-eqb t t refl) e
+
+-- a refusal that is due, and of which no other promise speaks, changes nothing
+pub refused : (limit order : ℕ) (command : Command) (refusal : Refusal) (s : State) (m : Machine) → Meets order s m
+    → ((t : ℕ) (owners : List (Option Owner)) (states : List State) → let w : Known = record { limit = limit; order = order; owners = owners; states = states } in
+    (refusals (On.Tenant t command) (Say.Refused refusal) w s ≡ true)
+    × (list_all (λ p. p.1) (drop 2 (kept (On.Tenant t command) (record { addressee = To.Tenant t; body = Say.Refused refusal }) w s)) ≡ true))
+    → IsKeptBy limit order command s (Say.Refused refusal) m
+unfolding state_after
+refused limit order command refusal s m h is_due = record {
+  allowed = λ t owners states. and_from _ _ (formed t (Some s) refl) (and_from _ _ (is_due t owners states).0 (is_due t owners states).1);
+  meets = λ t. (s, refl, h);
+}
 
 -- Holders
 

@@ -5,7 +5,7 @@ use Rattle.std.specs.List.{list_any, AllByRecursion as Each}
 use Rattle.std.specs.Option.{option_map_or}
 use Rattle.std.proofs.lemmas.Bool.{and_from, or_left, or_right, or_parts, le-leb, eqb-true, eq-eqb, not_from_false, not-true, not-false}
 use Rattle.std.proofs.lemmas.List.Concat.{flat_map-append}
-use Rattle.model_core.specs.Blocks.{Block}
+use Rattle.std.proofs.lemmas.List.{append-nil}
 use Rattle.model_core.specs.Layouts.{pattern_byte}
 use Rattle.model_core.specs.Machine.{Slab, Cache, Machine, layout, in_block, slab_block, slab_blocks}
 use Rattle.model_core.specs.Slabs.{LiveObject, live_objects, live_in, is_empty, empty_blocks, cache_of, destroyed}
@@ -16,7 +16,7 @@ use Rattle.model_core.specs.WellFormed.{in_slab, IsWellFormed}
 use Rattle.model_core.specs.Laws.{Object, IsObject, place_of}
 use Rattle.model_core.specs.Elements.{IsIn}
 use Rattle.model_core.proofs.Lists.{Found, found, find_in, filter_in, in_filter, any_in, any_map, any_split, some_any, each_map, each_true, in_map, in_flat_map}
-use Rattle.model_core.proofs.ObjectsApart.{contains_in}
+use Rattle.model_core.proofs.ObjectsApart.{contains_in, in_contains}
 use Rattle.model_core.proofs.Laid.{Laid, laid, all_laid, laid_block, in_laid, in_slab_laid, laid_out}
 use Rattle.model_core.proofs.Split.{filter_laid, laid_of, slab_blocks_laid}
 use Rattle.model_core.proofs.Constructed.{not_gone}
@@ -24,6 +24,7 @@ use Rattle.model_core.proofs.CacheSteps.{in_all_laid}
 use Rattle.words_core.specs.declared.event.Command.TheVariants as Asked
 use Rattle.words_core.specs.declared.report.Report.{Report}
 use Rattle.words_core.specs.declared.reply.Body.TheVariants as Say
+use Rattle.words_core.specs.declared.reply.Refusal.{Refusal}
 use Rattle.world_core.specs.PrivateStep.{command_step, destroy_body}
 use Rattle.promise_core.specs.Holdings.{vacant_blocks}
 use Rattle.promise_core.specs.Bytes.{Holder, is_object, may_be, without}
@@ -32,8 +33,8 @@ use Rattle.promise_core.specs.Promises.{due, can_come_back, empty_frames}
 use Rattle.promise_core.proofs.Causes.{listed_some}
 use Rattle.promise_kept.specs.Meets.{told_cache, holdings_of, is_object_live, Meets, IsKeptBy, IsPromiseKept}
 use Rattle.promise_kept.proofs.Seen.{none_live}
-use Rattle.promise_kept.proofs.Stand.{one_live, in_contains}
-use Rattle.promise_kept.proofs.Cells.{without_some, without_may, fresh_may}
+use Rattle.promise_kept.proofs.Stand.{one_live}
+use Rattle.promise_kept.proofs.Cells.{without_some, without_may, fresh_may, refused}
 use Rattle.promise_kept.proofs.Reaped.{slab_no_page, object_in_slab}
 use Rattle.promise_kept.proofs.Live.{apart_in}
 use Rattle.promise_kept.proofs.Known.{seen, seen_is, cache_seen, IsLiveIn, live_told, told_live}
@@ -59,17 +60,13 @@ none_pass : (k : ℕ) (cs : List Cache) → Each (λ c. eqb c.number k ≡ false
 none_pass k [] h = refl
 none_pass k (c ∷ cs) (e, h) = ap (λ b. (if b then empty_blocks c else []) ++ flat_map (empty_of (λ n. eqb n k)) cs) e ∙ none_pass k cs h
 
-append_none : (bs : List Block) → bs ++ [] ≡ bs
-append_none [] = refl
-append_none (b ∷ bs) = ap (λ xs. b ∷ xs) (append_none bs)
-
 one_passes : (c : Cache) (cs : List Cache) → Found (λ c. c.number) c cs → flat_map (empty_of (λ n. eqb n c.number)) cs ≡ empty_blocks c
 one_passes c cs f =
     ap (λ xs. flat_map (empty_of (λ n. eqb n c.number)) xs) f.is
     ∙ (flat_map-append (empty_of (λ n. eqb n c.number)) f.before (c ∷ f.later)
     ∙ (ap (λ bs. bs ++ flat_map (empty_of (λ n. eqb n c.number)) (c ∷ f.later)) (none_pass c.number f.before f.others_before)
     ∙ (ap (λ b. (if b then empty_blocks c else []) ++ flat_map (empty_of (λ n. eqb n c.number)) f.later) (eq-eqb c.number c.number refl)
-    ∙ (ap (λ bs. empty_blocks c ++ bs) (none_pass c.number f.later f.others_later) ∙ append_none (empty_blocks c)))))
+    ∙ (ap (λ bs. empty_blocks c ++ bs) (none_pass c.number f.later f.others_later) ∙ append-nil (empty_blocks c)))))
 
 filter_told : (k : ℕ) (cs : List Cache) → filter (λ c. not (eqb c.number k)) (map told_cache cs) ≡ map told_cache (filter (λ c. not (eqb c.number k)) cs)
 filter_told k [] = refl
@@ -211,10 +208,9 @@ destroy_seen limit order number m s w h k = go (cache_of m number) refl
 
     used : (c : Cache) → cache_of m number ≡ Some c → (b : Bool) → list_any (λ s. not (is_empty s)) c.slabs ≡ b
         → IsKeptBy limit order (Asked.Destroy number) (seen m s) (destroy_body (step c b).answer) (step c b).machine
-    used c e true u = record {
-      allowed = λ t owners states. rw (eq-eqb t t refl) (rw (cache_seen number m.caches ∙ ap (option_map told_cache) e) (rw (in_use c u) refl));
-      meets = λ t. (seen m s, refl, k);
-    }
+    used c e true u =
+        refused limit order (Asked.Destroy number) Refusal.CacheInUse (seen m s) m k
+        (λ t owners states. (rw (cache_seen number m.caches ∙ ap (option_map told_cache) e) (rw (in_use c u) refl), refl))
     used c e false u =
         let in_c : IsIn c m.caches × (eqb c.number number ≡ true) = find_in (λ x. eqb x.number number) c m.caches e in
         let same : c.number ≡ number = eqb-true c.number number in_c.1 in
@@ -222,10 +218,9 @@ destroy_seen limit order number m s w h k = go (cache_of m number) refl
         (gave_back limit order c m s w h in_c.0 u (subst (λ i. cache_of m i ≡ Some c) (sym same) e))
 
     go : (o : Option Cache) → cache_of m number ≡ o → IsKeptBy limit order (Asked.Destroy number) (seen m s) (destroy_body (destroy_of m o).answer) (destroy_of m o).machine
-    go None e = record {
-      allowed = λ t owners states. rw (eq-eqb t t refl) (rw (cache_seen number m.caches ∙ ap (option_map told_cache) e) refl);
-      meets = λ t. (seen m s, refl, k);
-    }
+    go None e =
+        refused limit order (Asked.Destroy number) Refusal.NoCache (seen m s) m k
+        (λ t owners states. (rw (cache_seen number m.caches ∙ ap (option_map told_cache) e) refl, refl))
     go (Some c) e = used c e (list_any (λ s. not (is_empty s)) c.slabs) refl
 
 pub destroy_kept : (limit order number : ℕ) (m : Machine) (s : State) → IsWellFormed limit order m → Meets order s m → IsPromiseKept limit order (Asked.Destroy number) m s

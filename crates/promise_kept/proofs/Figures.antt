@@ -10,7 +10,7 @@ use Rattle.std.proofs.Math.Bool.{and-true}
 use Rattle.model_core.specs.Blocks.{Block, block, slot_block, Taken, IsTaken, HasFrame}
 use Rattle.model_core.specs.Choice.{is_taken, is_available, is_free, count_below}
 use Rattle.model_core.specs.Numbered.{is_clear}
-use Rattle.model_core.specs.Machine.{Machine, holds, beyond, taken_in, order_in}
+use Rattle.model_core.specs.Machine.{Machine, holds, beyond, taken_in}
 use Rattle.model_core.specs.Machine as model
 use Rattle.model_core.specs.Operations.{overlaps}
 use Rattle.model_core.specs.CacheOperations.{frames_of}
@@ -22,7 +22,6 @@ use Rattle.model_core.proofs.BlocksByNumber.{number_first, number_of_frame, alig
 use Rattle.model_core.proofs.Halves.{clear_at}
 use Rattle.model_core.proofs.Counting.{count_same}
 use Rattle.model_core.proofs.FreeBlocks.{same_bool}
-use Rattle.model_core.proofs.Chosen.{held_below}
 use Rattle.model_core.proofs.Chosen as chosen
 use Rattle.model_core.proofs.MemoryKept.{frame_slot}
 use Rattle.model_core.proofs.TakenSteps.{order_in_is}
@@ -124,7 +123,7 @@ module _ {limit : ℕ} (order : ℕ) (m : Machine) (w : IsWellFormed limit order
 
   slot_below : (x : ℕ) → holds m (x / 2 ^ order) ≡ true → x < bound
   slot_below x e =
-      let u : x / 2 ^ order < beyond m.slots = held_below m.slots (x / 2 ^ order) e in
+      let u : x / 2 ^ order < beyond m.slots = chosen.held_below m.slots (x / 2 ^ order) e in
       let next : x / 2 ^ order + 1 ≤ beyond m.slots = omega (arith, u) in
       let le : (x / 2 ^ order + 1) * 2 ^ order ≤ bound = mul-le-mul_right (2 ^ order) next in
       let lt : x < x / 2 ^ order * 2 ^ order + 2 ^ order = lt-div-mul-add (pow_pos order) in
@@ -168,7 +167,7 @@ module _ {limit : ℕ} (order : ℕ) (m : Machine) (w : IsWellFormed limit order
       omega (arith, lt, pos)
 
   slots_below : (u : ℕ) → IsIn u m.slots → u * 2 ^ order + 2 ^ order ≤ bound
-  slots_below u i = let lt : u < beyond m.slots = held_below m.slots u (any_in (λ v. eqb v u) u m.slots i (eq-eqb u u refl)) in
+  slots_below u i = let lt : u < beyond m.slots = chosen.held_below m.slots u (any_in (λ v. eqb v u) u m.slots i (eq-eqb u u refl)) in
       let next : u + 1 ≤ beyond m.slots = omega (arith, lt) in
       let le : (u + 1) * 2 ^ order ≤ bound = mul-le-mul_right (2 ^ order) next in omega (arith, le)
 

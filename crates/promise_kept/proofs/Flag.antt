@@ -12,10 +12,9 @@ use Rattle.model_core.specs.Laws.{Object, IsObject, place_of}
 use Rattle.model_core.proofs.Layouts.{layouts_fit}
 use Rattle.model_core.specs.Elements.{IsIn}
 use Rattle.model_core.proofs.Lists.{each_in}
-use Rattle.model_core.proofs.ObjectsApart.{contains_in, one_key, objects_apart}
+use Rattle.model_core.proofs.ObjectsApart.{contains_in, one_key, objects_apart, in_contains}
 use Rattle.promise_core.specs.Holdings.{ToldCache}
 use Rattle.promise_kept.specs.Meets.{told_cache}
-use Rattle.promise_kept.proofs.Stand.{in_contains}
 use Rattle.promise_kept.proofs.Live.{IsSlab, slabs_of, IsLivePlace}
 
 -- One element replaced

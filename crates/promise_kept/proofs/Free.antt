@@ -25,7 +25,7 @@ use Rattle.promise_core.specs.Bytes.{Holder, is_same, doubted}
 use Rattle.promise_core.specs.State.{State, state_after}
 use Rattle.promise_core.specs.Promises.{due}
 use Rattle.promise_kept.specs.Meets.{holdings_of, is_object_live, Meets, IsKeptBy, IsPromiseKept}
-use Rattle.promise_kept.proofs.Cells.{all_kept, formed, doubt_may, doubt_lives}
+use Rattle.promise_kept.proofs.Cells.{all_kept, formed, doubt_may, doubt_lives, refused}
 
 -- the page cells of this block
 abbrev freed_there : Block → ℕ → Holder → Bool
@@ -69,15 +69,10 @@ module _ (limit order first : ℕ) (m : Machine) (s : State) (w : IsWellFormed l
   }
 
   no_block : order_in m.blocks first ≡ None → IsKeptBy limit order (Asked.Free first) s (Say.Refused Refusal.NotABlock) m
-  unfolding due state_after holdings_of
+  unfolding due holdings_of
   no_block none =
       let missing : order_in s.has.pages first ≡ None = ap (λ (x : Holdings). order_in x.pages first) h.has ∙ none in
-      record {
-        allowed = λ t owners states. all_kept (On.Tenant t (Asked.Free first)) (record { addressee = To.Tenant t; body = Say.Refused Refusal.NotABlock })
-            (record { limit = limit; order = order; owners = owners; states = states }) s
-            (formed t (Some s) refl) (rw missing refl) refl refl refl refl refl refl refl refl refl refl;
-        meets = λ t. (s, refl, h);
-      }
+      refused limit order (Asked.Free first) Refusal.NotABlock s m h (λ t owners states. (rw missing refl, refl))
 
   freed : (k : ℕ) → order_in m.blocks first ≡ Some k → IsKeptBy limit order (Asked.Free first) s (Say.Freed k) (without_block first m)
   unfolding due state_after holdings_of

@@ -1,5 +1,5 @@
 -- A give keeps the promises.
-use Rattle.std.proofs.Common.{◌≡◌, ℕ, ◌+◌, ◌<◌, Bool, true, false, not, ◌&&◌, ◌||◌, cond, eqb, List, [], ◌∷◌, map, Option, Some, None, refl, sym, ap, ◌∙◌, subst, ◌⊎◌, inl, inr}
+use Rattle.std.proofs.Common.{◌≡◌, ℕ, ◌+◌, ◌<◌, true, false, not, ◌&&◌, eqb, List, map, Option, Some, None, refl, sym, ap, ◌∙◌, subst, ◌⊎◌, inl, inr}
 use Rattle.std.specs.Prelude.{option_map, find, filter, Contains}
 use Rattle.std.specs.List.{list_any}
 use Rattle.std.proofs.lemmas.List.{map-id}
@@ -11,24 +11,24 @@ use Rattle.model_core.specs.CacheOperations.{give_object, give_of, give_step}
 use Rattle.model_core.specs.WellFormed.{RisesFrom, IsCache, IsWellFormed}
 use Rattle.model_core.specs.Laws.{Object, place_of}
 use Rattle.model_core.specs.Elements.{IsIn}
-use Rattle.model_core.proofs.Lists.{each_in, find_in, in_filter, filter_in, filter_rises, any_map, any_in}
-use Rattle.model_core.proofs.ObjectsApart.{contains_in, one_key}
+use Rattle.model_core.proofs.Lists.{each_in, find_in, in_filter, filter_in, filter_rises, any_map, any_in, any_unfound}
+use Rattle.model_core.proofs.ObjectsApart.{contains_in, one_key, in_contains}
 use Rattle.model_core.proofs.CacheSteps.{live_kept}
 use Rattle.model_core.proofs.SlabsLeave.{flagged_same}
 use Rattle.model_core.proofs.Objects.{IsLive, live_is}
 use Rattle.model_core.proofs.Rising.{same_members}
 use Rattle.words_core.specs.declared.event.Command.TheVariants as Asked
 use Rattle.words_core.specs.declared.reply.Body.TheVariants as Say
+use Rattle.words_core.specs.declared.reply.Refusal.{Refusal}
 use Rattle.world_core.specs.PrivateStep.{command_step, give_body}
 use Rattle.promise_core.specs.Holdings.{with_live_places as with_live_told}
 use Rattle.promise_core.specs.Bytes.{Holder, is_same, may_be, doubted}
 use Rattle.promise_core.specs.State.{State, state_after}
 use Rattle.promise_core.specs.Promises.{due}
 use Rattle.promise_kept.specs.Meets.{told_cache, holdings_of, is_object_live, Meets, IsKeptBy, IsPromiseKept}
-use Rattle.promise_kept.proofs.Stand.{in_contains}
 use Rattle.promise_kept.proofs.Live.{IsSlab, slabs_of, live_rises, IsLivePlace, live_place, place_listed}
 use Rattle.promise_kept.proofs.Flag.{replaced_is, replaced_one, live_after, live_other, WasObject, was_object, caches_told}
-use Rattle.promise_kept.proofs.Cells.{doubt_may, doubt_lives}
+use Rattle.promise_kept.proofs.Cells.{doubt_may, doubt_lives, refused}
 use Rattle.promise_kept.proofs.Known.{seen, seen_is, cache_seen, live_told, told_live, live_replaced}
 
 abbrev gone : ℕ → List ℕ → List ℕ
@@ -127,25 +127,19 @@ module _ (limit order place : ℕ) (c : Cache) (o : LiveObject) (m : Machine) (s
     meets = λ t. (record after { has = with_live_told c.number (gone place) (holdings_of m) }, refl, subst (λ x. Meets order (record after { has = x }) n) (sym has_after) meets);
   }
 
-pub none_any : {X : Type 0} (p : X → Bool) (xs : List X) → find p xs ≡ None → list_any p xs ≡ false
-none_any p [] e = refl
-none_any {X} p (x ∷ xs) e = go (p x) e (none_any p xs)
-  where
-    go : (b : Bool) → cond b (Some x) (find p xs) ≡ None → (find p xs ≡ None → list_any p xs ≡ false) → (b || list_any p xs) ≡ false
-    go true e rest = absurd (cc)
-    go false e rest = rest e
-
 give_seen : (limit order number place : ℕ) (m : Machine) (s : State) → IsWellFormed limit order m → Meets order s m → Meets order (seen m s) m → IsPromiseKept limit order (Asked.Give number place) m (seen m s)
 unfolding command_step give_step holdings_of due state_after
 give_seen limit order number place m s w h k = go (cache_of m number) refl
   where
     object : (c : Cache) → cache_of m number ≡ Some c → (o : Option LiveObject) → find (λ x. eqb x.place place) (live_objects c) ≡ o
         → IsKeptBy limit order (Asked.Give number place) (seen m s) (give_body (give_object c m o).answer) (give_object c m o).machine
-    object c e None f = record {
-      allowed = λ t owners states. rw (eq-eqb t t refl) (rw (cache_seen number m.caches ∙ ap (option_map told_cache) e)
-          (rw (any_map (λ p. eqb p place) (λ x. x.place) (live_objects c) ∙ none_any (λ x. eqb x.place place) (live_objects c) f) refl));
-      meets = λ t. (seen m s, refl, k);
-    }
+    object c e None f =
+        refused limit order (Asked.Give number place) Refusal.NotAnObject (seen m s) m k
+        (λ t owners states. (
+          rw (cache_seen number m.caches ∙ ap (option_map told_cache) e)
+              (rw (any_map (λ p. eqb p place) (λ x. x.place) (live_objects c) ∙ any_unfound (λ x. eqb x.place place) (live_objects c) f) refl),
+          refl,
+        ))
     object c e (Some o) f =
         let in_c : IsIn c m.caches × (eqb c.number number ≡ true) = find_in (λ x. eqb x.number number) c m.caches e in
         let in_o : IsIn o (live_objects c) × (eqb o.place place ≡ true) = find_in (λ x. eqb x.place place) o (live_objects c) f in
@@ -155,10 +149,9 @@ give_seen limit order number place m s w h k = go (cache_of m number) refl
         (any_map (λ p. eqb p place) (λ x. x.place) (live_objects c) ∙ any_in (λ x. eqb x.place place) o (live_objects c) in_o.0 in_o.1))
 
     go : (o : Option Cache) → cache_of m number ≡ o → IsKeptBy limit order (Asked.Give number place) (seen m s) (give_body (give_of place m o).answer) (give_of place m o).machine
-    go None e = record {
-      allowed = λ t owners states. rw (eq-eqb t t refl) (rw (cache_seen number m.caches ∙ ap (option_map told_cache) e) refl);
-      meets = λ t. (seen m s, refl, k);
-    }
+    go None e =
+        refused limit order (Asked.Give number place) Refusal.NoCache (seen m s) m k
+        (λ t owners states. (rw (cache_seen number m.caches ∙ ap (option_map told_cache) e) refl, refl))
     go (Some c) e = object c e (find (λ x. eqb x.place place) (live_objects c)) refl
 
 pub give_kept : (limit order number place : ℕ) (m : Machine) (s : State) → IsWellFormed limit order m → Meets order s m → IsPromiseKept limit order (Asked.Give number place) m s

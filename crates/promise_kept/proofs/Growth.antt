@@ -10,20 +10,18 @@ use Rattle.model_core.specs.WellFormed.{IsApart, IsCache, IsWellFormed, in_slab}
 use Rattle.model_core.specs.Laws.{Object, IsObject, place_of}
 use Rattle.model_core.proofs.Layouts.{layouts_fit}
 use Rattle.model_core.specs.Elements.{IsIn}
-use Rattle.model_core.proofs.Lists.{each_in, each_right, each_unmap}
+use Rattle.model_core.proofs.Lists.{each_in, each_right, each_unmap, in_put}
 use Rattle.model_core.proofs.Apart.{apart_place, apart_turned}
 use Rattle.model_core.proofs.Laid.{Laid, laid, all_laid, laid_block, in_laid, taken_laid, in_slab_laid}
 use Rattle.model_core.proofs.MemoryKept.{any_put}
 use Rattle.model_core.proofs.Chosen.{chosen_apart}
 use Rattle.model_core.proofs.Split.{in_middle}
 use Rattle.model_core.proofs.CacheSteps.{in_all_laid, IsGrown, grown_is, grown_kept}
-use Rattle.model_core.proofs.ObjectsApart.{contains_in, one_key}
+use Rattle.model_core.proofs.ObjectsApart.{contains_in, one_key, in_contains}
 use Rattle.model_core.proofs.Constructed.{IsFresh, AllFresh, grown_byte, fresh_grown}
 use Rattle.promise_core.specs.Bytes.{Holder, may_be}
 use Rattle.promise_core.specs.State.{State}
-use Rattle.promise_core.proofs.Steps.{in_put}
 use Rattle.promise_kept.specs.Meets.{told_cache, holdings_of, is_object_live, Meets}
-use Rattle.promise_kept.proofs.Stand.{in_contains}
 use Rattle.promise_kept.proofs.Seen.{none_live}
 use Rattle.promise_kept.proofs.Cells.{fresh_may}
 use Rattle.promise_kept.proofs.Reaped.{untold, object_in_slab}

@@ -6,10 +6,10 @@ use Rattle.std.proofs.lemmas.Bool.{and_parts, and_from, eqb-true, eq-eqb, cases_
 use Rattle.model_core.specs.Machine.{Cache, Machine}
 use Rattle.model_core.specs.Slabs.{live_objects, with_cache}
 use Rattle.model_core.specs.Elements.{IsIn}
-use Rattle.model_core.specs.WellFormed.{RisesFrom}
-use Rattle.model_core.proofs.Lists.{some_any, any_in, in_map, map_in}
+use Rattle.model_core.specs.WellFormed.{RisesFrom, IsWellFormed}
+use Rattle.model_core.proofs.Lists.{some_any, any_in, in_map, map_in, in_found}
 use Rattle.model_core.proofs.ObjectsApart.{one_key}
-use Rattle.promise_core.specs.Holdings.{ToldCache, Holdings}
+use Rattle.promise_core.specs.Holdings.{ToldCache, Holdings, cache_told}
 use Rattle.promise_core.specs.Bytes.{Holder}
 use Rattle.promise_core.specs.State.{State}
 use Rattle.promise_kept.specs.Meets.{told_cache, holdings_of, is_object_live}
@@ -32,6 +32,10 @@ cache_seen number (c ∷ cs) = go (eqb c.number number) (cache_seen number cs)
         → cond b (Some (told_cache c)) (find (λ c. eqb c.number number) (map told_cache cs)) ≡ option_map told_cache (cond b (Some c) (find (λ c. eqb c.number number) cs))
     go true e = refl
     go false e = e
+
+pub cache_known : {limit : ℕ} (order : ℕ) (m : Machine) (c : Cache) → IsWellFormed limit order m → IsIn c m.caches → cache_told (holdings_of m) c.number ≡ Some (told_cache c)
+unfolding holdings_of
+cache_known order m c w i = cache_seen c.number m.caches ∙ ap (option_map told_cache) (in_found (λ x. x.number) 0 c m.caches w.caches_rise i)
 
 -- A live object by its number and first place
 

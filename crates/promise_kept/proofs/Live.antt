@@ -4,13 +4,14 @@ use Rattle.std.specs.Prelude.{flat_map}
 use Rattle.std.specs.List.{AllByRecursion as Each}
 use Rattle.std.proofs.lemmas.Bool.{cases_lt}
 use Rattle.std.proofs.lemmas.Nat.{row_fits}
+use Rattle.std.proofs.lemmas.List.{map-append}
 use Rattle.model_core.specs.Layouts.{object_place, IsFit}
 use Rattle.model_core.specs.Machine.{Slab, Cache, Machine, layout, slab_block, slab_blocks, taken_blocks}
 use Rattle.model_core.specs.Slabs.{LiveObject, live_from, live_in, live_objects}
 use Rattle.model_core.specs.WellFormed.{RisesFrom, IsApart, AreApart, IsCut, IsCache, IsWellFormed}
 use Rattle.model_core.proofs.Layouts.{layouts_fit}
 use Rattle.model_core.specs.Elements.{IsIn}
-use Rattle.model_core.proofs.Lists.{each_in, each_true, each_both, each_weaker, each_unmap, map_append, rises_more, rises_above, in_left, in_right, map_in}
+use Rattle.model_core.proofs.Lists.{each_in, each_true, each_both, each_weaker, each_unmap, rises_more, rises_above, in_left, in_right, map_in}
 use Rattle.model_core.proofs.Apart.{apart_parts, has_first}
 use Rattle.model_core.proofs.Objects.{IsLive, live_is}
 
@@ -93,7 +94,7 @@ slabs_rise c (s ∷ ss) n low (k, h) (l, r) (a, rest) (b, bs) =
     let start : 4096 * s.first ≤ object_place (layout c) s.first s.colour 0 = omega arith in
     let after : Each (λ t. end ≤ 4096 * t.first) ss = each_both (λ t. IsApart (slab_block c s) (slab_block c t)) (λ t. s.first + 1 ≤ t.first) (λ t. end ≤ 4096 * t.first)
     (λ t p q. let e : s.first + 2 ^ (layout c).order ≤ t.first = apart_after c s t p q in omega (arith, e)) ss (each_unmap (IsApart (slab_block c s)) (slab_block c) ss a) (rises_above (λ t. t.first) (s.first + 1) ss r) in
-    subst (RisesFrom low) (sym (map_append (λ o. o.place) (live_in c s) (flat_map (live_in c) ss)))
+    subst (RisesFrom low) (sym (map-append (λ o. o.place) (live_in c s) (flat_map (live_in c) ss)))
     (rises_append low end (map (λ o. o.place) (live_in c s)) (map (λ o. o.place) (flat_map (live_in c) ss))
     (slab_rises c s 0 s.live low k.fit.chunked (omega (arith, b, start)))
     (live_low c s 0 end s.live (λ i lt. let p = place_below c s i k.fit (omega (arith, lt, k.count)) in omega (arith, p.1, k.fit.chunked)))
@@ -137,7 +138,7 @@ listed_from c s n (suc i) (flag ∷ flags) lt e = go flag
 
 in_flat : (c : Cache) (s : Slab) (u : ℕ) (ss : List Slab) → IsIn s ss → IsIn u (map (λ o. o.place) (live_in c s)) → IsIn u (map (λ o. o.place) (flat_map (live_in c) ss))
 in_flat c s u [] i j = elim i [ ]
-in_flat c s u (t ∷ ss) i j = subst (IsIn u) (sym (map_append (λ o. o.place) (live_in c t) (flat_map (live_in c) ss))) (go i (λ k. in_flat c s u ss k j))
+in_flat c s u (t ∷ ss) i j = subst (IsIn u) (sym (map-append (λ o. o.place) (live_in c t) (flat_map (live_in c) ss))) (go i (λ k. in_flat c s u ss k j))
   where
     go : IsIn s (t ∷ ss) → (IsIn s ss → IsIn u (map (λ o. o.place) (flat_map (live_in c) ss))) → IsIn u (map (λ o. o.place) (live_in c t) ++ map (λ o. o.place) (flat_map (live_in c) ss))
     go (inl e) rest = in_left u (map (λ o. o.place) (live_in c t)) (map (λ o. o.place) (flat_map (live_in c) ss)) (subst (λ x. IsIn u (map (λ o. o.place) (live_in c x))) (sym e) j)

@@ -111,12 +111,12 @@ owner_of t u v (Some o) e = let a : (eqb o.tenant t ≡ true) × (eqb o.slot u �
 -- How many there are
 
 -- a superblock without owner counts
-abbrev nobodys : Owners → ℕ
+abbrev pub nobodys : Owners → ℕ
 nobodys [] = 0
 nobodys (None ∷ xs) = 1 + nobodys xs
 nobodys (Some x ∷ xs) = nobodys xs
 
-some_free : (xs : Owners) (j : ℕ) → slice_get xs j ≡ Some None → 1 ≤ nobodys xs
+pub some_free : (xs : Owners) (j : ℕ) → slice_get xs j ≡ Some None → 1 ≤ nobodys xs
 some_free [] j e = absurd (cc)
 some_free (None ∷ xs) j e = omega arith
 some_free (Some x ∷ xs) zero e = absurd (cc)

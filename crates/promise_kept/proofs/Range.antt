@@ -1,12 +1,11 @@
 -- What holds a range in reach, and what is known after its bytes are told or written.
-use Rattle.std.proofs.Common.{◌≡◌, ℕ, zero, suc, ◌+◌, ◌-◌, ◌*◌, ◌^◌, ◌<◌, ◌≤◌, Bool, true, false, not, ◌||◌, ◌&&◌, eqb, ltb, leb, List, [], ◌∷◌, ◌++◌, map, length, Option, Some, None, refl, sym, ap, ◌∙◌, subst, inl, inr, arith}
-use Rattle.std.specs.Prelude.{if◌then◌else◌, find, slice_index}
+use Rattle.std.proofs.Common.{◌≡◌, ℕ, zero, suc, ◌+◌, ◌-◌, ◌*◌, ◌^◌, ◌<◌, ◌≤◌, Bool, true, false, not, ◌||◌, ◌&&◌, eqb, ltb, leb, List, [], ◌∷◌, ◌++◌, map, length, Option, Some, None, refl, sym, ap, ◌∙◌, subst, arith}
+use Rattle.std.specs.Prelude.{if◌then◌else◌, slice_index}
 use Rattle.std.specs.List.{list_any}
-use Rattle.std.specs.Option.{option_map_or}
 use Rattle.std.proofs.lemmas.Bool.{false≢true, and_parts, and_from, or_left, leb-true, ltb-true, eq-eqb}
 use Rattle.model_core.specs.Blocks.{Block}
 use Rattle.model_core.specs.Layouts.{pattern_byte}
-use Rattle.model_core.specs.Machine.{Slab, Cache, Machine, layout, in_block}
+use Rattle.model_core.specs.Machine.{Slab, Cache, Machine, in_block}
 use Rattle.model_core.specs.Machine as model
 use Rattle.model_core.specs.Slabs.{live_objects}
 use Rattle.model_core.specs.Reach.{is_within, within_block}
@@ -14,41 +13,19 @@ use Rattle.model_core.specs.Reports.{order_row, order_rows}
 use Rattle.model_core.specs.WellFormed.{IsWellFormed, in_slab}
 use Rattle.model_core.specs.Laws.{Object, IsObject, place_of}
 use Rattle.model_core.specs.Elements.{IsIn}
-use Rattle.model_core.proofs.Lists.{each_in, find_in, some_any, any_in, map_in}
+use Rattle.model_core.proofs.Lists.{each_in, some_any, any_in, map_in}
 use Rattle.model_core.proofs.Apart.{in_block-from}
 use Rattle.model_core.proofs.Laid.{laid, all_laid, in_laid, IsCutLaid, laid_out, in_slab_laid}
 use Rattle.model_core.proofs.CacheSteps.{in_all_laid}
 use Rattle.model_core.proofs.Objects.{IsLive, live_is, within_is}
-use Rattle.model_core.proofs.ObjectsApart.{contains_in, objects_apart}
+use Rattle.model_core.proofs.ObjectsApart.{contains_in, objects_apart, in_contains}
 use Rattle.promise_core.specs.Holdings.{ToldCache}
 use Rattle.promise_core.specs.Bytes.{Holder, is_same, Cell, may_be, with_bytes, object_with, holder_of}
 use Rattle.promise_core.specs.State.{State}
+use Rattle.promise_core.proofs.Held.{object_has}
 use Rattle.promise_kept.specs.Meets.{told_cache, holdings_of, is_object_live, Meets}
-use Rattle.promise_kept.proofs.Stand.{in_contains}
 use Rattle.promise_kept.proofs.Cells.{is_same_refl}
 use Rattle.promise_kept.proofs.Reaped.{slab_no_page, object_in_slab}
-
--- the range is among the bytes of this live object
-record IsObjects (place len : ℕ) (holder : Holder) (cs : List ToldCache) : Type 0 where
-  cache : ToldCache
-  first : ℕ
-  cache_in : IsIn cache cs
-  live : IsIn first cache.live
-  is : holder ≡ Holder.Object cache.number first
-  within : is_within place len first cache.size ≡ true
-
-objects_is : (place len : ℕ) (holder : Holder) (cs : List ToldCache) → object_with place len cs ≡ Some holder → IsObjects place len holder cs
-objects_is place len holder [] e = absurd (cc)
-objects_is place len holder (c ∷ cs) e = go (find (λ first. is_within place len first c.size) c.live) refl e (objects_is place len holder cs)
-  where
-    go : (o : Option ℕ) → find (λ first. is_within place len first c.size) c.live ≡ o → option_map_or (λ first. Some (Holder.Object c.number first)) o (object_with place len cs) ≡ Some holder
-        → (object_with place len cs ≡ Some holder → IsObjects place len holder cs) → IsObjects place len holder (c ∷ cs)
-    go None is later rest = let r = rest later in
-        record { cache = r.cache; first = r.first; cache_in = inr r.cache_in; live = r.live; is = r.is; within = r.within }
-    go (Some first) is here rest =
-        let f = find_in (λ first. is_within place len first c.size) first c.live is in
-        let same : Holder.Object c.number first ≡ holder = cc in
-        record { cache = c; first = first; cache_in = inl refl; live = f.0; is = sym same; within = f.1 }
 
 -- the holder of a range is a live page block or a live object, and has all of it
 pub data IsHolder (m : Machine) (place len : ℕ) (holder : Holder) : Type 0 where
@@ -62,8 +39,8 @@ holder_is order m place len holder w e = go (ltb 0 len) (list_any (within_block 
   where
     of_object : object_with place len (map told_cache m.caches) ≡ Some holder → IsHolder m place len holder
     of_object e =
-        let r = objects_is place len holder (map told_cache m.caches) e in
-        let d = map_in told_cache r.cache m.caches r.cache_in in
+        let r = object_has place len holder (map told_cache m.caches) e in
+        let d = map_in told_cache r.cache m.caches r.listed in
         let lo = map_in (λ x. x.place) r.first (live_objects d.0) (subst (λ (x : ToldCache). IsIn r.first x.live) (sym d.2) r.live) in
         let l : IsLive d.0 lo.0 = live_is d.0 lo.0 lo.1 in
         let o : Object = record { cache = d.0; slab = lo.0.slab; index = lo.0.index } in
@@ -75,7 +52,7 @@ holder_is order m place len holder w e = go (ltb 0 len) (list_any (within_block 
         (r.is ∙ (ap (λ n. Holder.Object n r.first) number ∙ ap (λ p. Holder.Object d.0.number p) first))
         (ap (λ n. is_within place len (place_of o) n) (sym size) ∙ (ap (λ p. is_within place len p r.cache.size) (sym first) ∙ r.within))
         (ap (λ x. is_object_live (holdings_of m) x place) r.is
-        ∙ any_in (λ c. eqb c.number r.cache.number && list_any (λ p. eqb p r.first) c.live) r.cache (map told_cache m.caches) r.cache_in
+        ∙ any_in (λ c. eqb c.number r.cache.number && list_any (λ p. eqb p r.first) c.live) r.cache (map told_cache m.caches) r.listed
         (and_from _ _ (eq-eqb r.cache.number r.cache.number refl) (any_in (λ p. eqb p r.first) r.first r.cache.live r.live (eq-eqb r.first r.first refl))))
 
     go : (some in_page : Bool) → list_any (within_block place len) m.blocks ≡ in_page

@@ -1,22 +1,21 @@
 -- Bytes read: every promise is kept.
-use Rattle.std.proofs.Common.{◌≡◌, ℕ, zero, suc, ◌+◌, ◌-◌, ◌*◌, ◌^◌, ◌<◌, ◌≤◌, Bool, true, false, not, ◌&&◌, eqb, leb, List, [], ◌∷◌, map, length, get_or, Option, Some, None, refl, sym, ap, ◌∙◌, subst, inl, inr, arith}
-use Rattle.std.specs.Prelude.{if◌then◌else◌, Result, is_some, filter_map, find, Ok}
+use Rattle.std.proofs.Common.{◌≡◌, ℕ, zero, suc, ◌+◌, ◌-◌, ◌*◌, ◌^◌, ◌<◌, ◌≤◌, Bool, true, false, not, ◌&&◌, eqb, leb, List, [], ◌∷◌, length, get_or, Option, Some, None, refl, sym, ap, ◌∙◌, subst, arith}
+use Rattle.std.specs.Prelude.{if◌then◌else◌, Result, is_some, filter_map, Ok}
 use Rattle.std.specs.List.{range_with_len, cons_option}
 use Rattle.std.specs.Option.{option_map_or}
-use Rattle.std.proofs.lemmas.Bool.{false≢true, and_from, eq-eqb, eqb-true}
+use Rattle.std.proofs.lemmas.Bool.{and_from, eq-eqb}
 use Rattle.model_core.specs.declared.limits.TheConstants.{MOST_BYTES}
 use Rattle.model_core.specs.declared.refusals.ReadRefusal.{ReadRefusal}
 use Rattle.model_core.specs.Layouts.{pattern_byte}
-use Rattle.model_core.specs.Machine.{Cache, Machine}
+use Rattle.model_core.specs.Machine.{Machine}
 use Rattle.model_core.specs.Reach.{in_reach}
 use Rattle.model_core.specs.Operations.{Step, refuse, read_step}
-use Rattle.model_core.specs.WellFormed.{IsWellFormed, RisesFrom}
+use Rattle.model_core.specs.WellFormed.{IsWellFormed}
 use Rattle.model_core.specs.Laws.{place_of}
-use Rattle.model_core.specs.Elements.{IsIn}
 use Rattle.model_core.proofs.Apart.{in_block-from}
 use Rattle.model_core.proofs.Laid.{laid_out, in_slab_laid}
 use Rattle.model_core.proofs.Objects.{IsPageByte, page_apart, reached, reached_mapped, within_is}
-use Rattle.model_core.proofs.ObjectsApart.{contains_in, one_key}
+use Rattle.model_core.proofs.ObjectsApart.{contains_in}
 use Rattle.model_core.proofs.Lists.{none_of, some_of}
 use Rattle.words_core.specs.declared.event.Event.TheVariants as On
 use Rattle.words_core.specs.declared.event.Command.TheVariants as Asked
@@ -24,14 +23,15 @@ use Rattle.words_core.specs.declared.reply.Addressee.TheVariants as To
 use Rattle.words_core.specs.declared.reply.Body.TheVariants as Say
 use Rattle.words_core.specs.declared.reply.Refusal.{Refusal}
 use Rattle.world_core.specs.PrivateStep.{read_body, command_step}
-use Rattle.promise_core.specs.Holdings.{ToldCache, Holdings, cache_told}
+use Rattle.promise_core.specs.Holdings.{Holdings, cache_told}
 use Rattle.promise_core.specs.Bytes.{Holder, Cells, told_fresh_byte, may_be, may_all_be, with_bytes, holder_of}
 use Rattle.promise_core.specs.State.{State, with_range, state_after}
 use Rattle.promise_core.specs.Promises.{due}
-use Rattle.promise_kept.specs.Meets.{told_cache, holdings_of, Meets, IsKeptBy, IsPromiseKept}
-use Rattle.promise_kept.proofs.Cells.{all_kept, formed}
+use Rattle.promise_kept.specs.Meets.{told_cache, Meets, IsKeptBy, IsPromiseKept}
+use Rattle.promise_kept.proofs.Cells.{all_kept, formed, refused}
 use Rattle.promise_kept.proofs.Range.{IsHolder, holder_is, range_meets}
 use Rattle.promise_kept.proofs.Write.{reach_seen}
+use Rattle.promise_kept.proofs.Known.{cache_known}
 
 -- the bytes of a range all of whose places have one
 read_all : (bytes : ℕ → Option ℕ) (place len : ℕ) → ((p : ℕ) → place ≤ p → p < place + len → is_some (bytes p) ≡ true)
@@ -62,19 +62,6 @@ all_may h cells holder place (byte ∷ bytes) all =
     (all_may h cells holder (place + 1) bytes (λ p low high. let next : p - place ≡ suc (p - (place + 1)) = omega (arith, low) in
     ap (λ k. may_be holder (told_fresh_byte h holder p) (cells p) (get_or (byte ∷ bytes) k 0)) (sym next) ∙ all p (omega (arith, low)) (omega (arith, high))))
 
-cache_seen : (cs : List Cache) (c : Cache) (n : ℕ) → RisesFrom n (map (λ x. x.number) cs) → IsIn c cs → find (λ (x : ToldCache). eqb x.number c.number) (map told_cache cs) ≡ Some (told_cache c)
-cache_seen [] c n r i = elim i [ ]
-cache_seen (d ∷ cs) c n r i = go (eqb d.number c.number) refl i (cache_seen cs c (d.number + 1) r.1)
-  where
-    go : (b : Bool) → eqb d.number c.number ≡ b → IsIn c (d ∷ cs) → (IsIn c cs → find (λ (x : ToldCache). eqb x.number c.number) (map told_cache cs) ≡ Some (told_cache c)) → (if b then Some (told_cache d) else find (λ (x : ToldCache). eqb x.number c.number) (map told_cache cs)) ≡ Some (told_cache c)
-    go true e j rest = ap (λ x. Some (told_cache x)) (one_key (λ x. x.number) n (d ∷ cs) d c r (inl refl) j (eqb-true d.number c.number e))
-    go false e (inl same) rest = absurd (false≢true (sym e ∙ eq-eqb d.number c.number (ap (λ x. x.number) same)))
-    go false e (inr j) rest = rest j
-
-seen_in : (limit order : ℕ) (m : Machine) (c : Cache) → IsWellFormed limit order m → IsIn c m.caches → cache_told (holdings_of m) c.number ≡ Some (told_cache c)
-unfolding holdings_of
-seen_in limit order m c w i = cache_seen m.caches c 0 w.caches_rise i
-
 -- what the holder of a range has at a place of it may be there
 byte_may : {limit : ℕ} (order : ℕ) (s : State) (m : Machine) (place len : ℕ) (holder : Holder) → IsWellFormed limit order m → Meets order s m → IsHolder m place len holder
     → (p byte : ℕ) → place ≤ p → p < place + len → m.bytes p ≡ Some byte → may_be holder (told_fresh_byte s.has holder p) (s.cells p) byte ≡ true
@@ -86,7 +73,7 @@ byte_may {limit} order s m place len holder w h (IsHolder.object o i is t l) p b
     let r = within_is place len (place_of o) o.cache.size t in
     let j : ℕ = p - place_of o in
     let at : place_of o + j ≡ p = omega (arith, r.0, low) in
-    let seen : cache_told s.has o.cache.number ≡ Some (told_cache o.cache) = ap (λ x. cache_told x o.cache.number) h.has ∙ seen_in limit order m o.cache w (contains_in m.caches o.cache i.cache_in) in
+    let seen : cache_told s.has o.cache.number ≡ Some (told_cache o.cache) = ap (λ x. cache_told x o.cache.number) h.has ∙ cache_known order m o.cache w (contains_in m.caches o.cache i.cache_in) in
     ap (λ x. may_be x (told_fresh_byte s.has x p) (s.cells p) byte) is
     ∙ (ap (λ x. may_be (Holder.Object o.cache.number (place_of o)) (option_map_or (λ c. pattern_byte c.pattern j) x 0) (s.cells p) byte) seen
     ∙ (ap (λ q. may_be (Holder.Object o.cache.number (place_of o)) (pattern_byte o.cache.pattern j) (s.cells q) byte) (sym at)
@@ -97,24 +84,14 @@ module _ (limit order place len : ℕ) (m : Machine) (s : State) (w : IsWellForm
   is_length = leb 1 len && leb len MOST_BYTES
 
   bad_length : is_length ≡ false → IsKeptBy limit order (Asked.Read place len) s (Say.Refused Refusal.BadLength) m
-  unfolding due state_after
-  bad_length e = record {
-    allowed = λ t owners states. all_kept (On.Tenant t (Asked.Read place len)) (record { addressee = To.Tenant t; body = Say.Refused Refusal.BadLength })
-        (record { limit = limit; order = order; owners = owners; states = states }) s
-        (formed t (Some s) refl) (rw e refl) refl refl refl refl refl refl refl refl refl refl;
-    meets = λ t. (s, refl, h);
-  }
+  unfolding due
+  bad_length e = refused limit order (Asked.Read place len) Refusal.BadLength s m h (λ t owners states. (rw e refl, refl))
 
   unreached : is_length ≡ true → in_reach m place len ≡ false → IsKeptBy limit order (Asked.Read place len) s (Say.Refused Refusal.OutOfReach) m
-  unfolding due state_after
+  unfolding due
   unreached e out =
       let none : holder_of s.has place len ≡ None = none_of (holder_of s.has place len) (reach_seen order m s place len h ∙ out) in
-      record {
-        allowed = λ t owners states. all_kept (On.Tenant t (Asked.Read place len)) (record { addressee = To.Tenant t; body = Say.Refused Refusal.OutOfReach })
-            (record { limit = limit; order = order; owners = owners; states = states }) s
-            (formed t (Some s) refl) (rw e (rw none refl)) refl refl refl refl refl refl refl refl refl refl;
-        meets = λ t. (s, refl, h);
-      }
+      refused limit order (Asked.Read place len) Refusal.OutOfReach s m h (λ t owners states. (rw e (rw none refl), refl))
 
   there : List ℕ
   there = filter_map m.bytes (range_with_len place len)

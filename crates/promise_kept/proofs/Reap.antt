@@ -1,9 +1,9 @@
 -- A reap keeps the promises.
-use Rattle.std.proofs.Common.{◌≡◌, ℕ, ◌+◌, ◌%◌, ◌^◌, ◌<◌, Bool, true, false, not, ◌&&◌, cond, eqb, leb, List, [], ◌∷◌, map, length, Option, Some, None, refl, sym, ap, ◌∙◌, subst, ◌⊎◌, inl, inr, arith}
-use Rattle.std.specs.Prelude.{option_map, find, flat_map, Contains}
+use Rattle.std.proofs.Common.{◌≡◌, ℕ, ◌+◌, ◌%◌, ◌^◌, ◌<◌, true, false, not, ◌&&◌, eqb, leb, [], map, length, Option, Some, None, refl, sym, ap, ◌∙◌, subst, ◌⊎◌, inl, inr, arith}
+use Rattle.std.specs.Prelude.{flat_map, Contains}
 use Rattle.std.specs.List.{list_any}
 use Rattle.std.specs.Option.{option_map_or}
-use Rattle.std.proofs.lemmas.Bool.{and_from, or_left, or_right, le-leb, eqb-true, eq-eqb, not_from_true, not-true, not-false, false≢true}
+use Rattle.std.proofs.lemmas.Bool.{and_from, or_left, or_right, le-leb, eq-eqb, not_from_true, not-true, not-false}
 use Rattle.model_core.specs.Layouts.{object_place, pattern_byte}
 use Rattle.model_core.specs.Machine.{Slab, Cache, Machine, layout, in_block, slab_block}
 use Rattle.model_core.specs.Slabs.{LiveObject, live_objects, live_in, is_empty, without_empty, empty_blocks, reaped}
@@ -12,7 +12,7 @@ use Rattle.model_core.specs.WellFormed.{IsCache, IsWellFormed}
 use Rattle.model_core.specs.Laws.{Object, place_of}
 use Rattle.model_core.specs.Elements.{IsIn}
 use Rattle.model_core.proofs.Lists.{each_in, filter_in, any_in, in_map, map_in, in_flat_map}
-use Rattle.model_core.proofs.ObjectsApart.{contains_in, one_key}
+use Rattle.model_core.proofs.ObjectsApart.{contains_in, in_contains}
 use Rattle.model_core.proofs.Layouts.{layouts_fit}
 use Rattle.words_core.specs.declared.event.Command.TheVariants as Asked
 use Rattle.words_core.specs.declared.event.Event.TheVariants as On
@@ -26,28 +26,12 @@ use Rattle.promise_core.specs.State.{State, is_in_use, is_in_no_slab, state_afte
 use Rattle.promise_core.specs.Promises.{due, can_come_back, empty_frames}
 use Rattle.promise_core.proofs.Causes.{listed_some}
 use Rattle.promise_kept.specs.Meets.{told_cache, holdings_of, Meets, IsPromiseKept}
-use Rattle.promise_kept.proofs.Stand.{one_live, slab_seen, in_contains}
+use Rattle.promise_kept.proofs.Stand.{one_live, slab_seen}
 use Rattle.promise_kept.proofs.Cells.{all_kept, without_some, without_may}
 use Rattle.promise_kept.proofs.Reaped.{untold, meets_reaped, object_in_slab}
-use Rattle.promise_kept.proofs.Known.{seen, seen_is, cache_seen}
+use Rattle.promise_kept.proofs.Known.{seen, seen_is, cache_known}
 use Rattle.promise_kept.proofs.Counts.{empty_vacant, empty_apart}
 use Rattle.promise_kept.proofs.Frames.{IsLeast, least_order, frames_divide, told_frames}
-
--- the one element that passes is found
-pub find_one : {X : Type 0} (p : X → Bool) (x : X) (xs : List X) → IsIn x xs → p x ≡ true → ((y : X) → IsIn y xs → p y ≡ true → y ≡ x) → find p xs ≡ Some x
-find_one p x [] i e one = elim i [ ]
-find_one {X} p x (y ∷ ys) i e one = go (p y) refl i (λ j. find_one p x ys j e (λ z k. one z (inr k)))
-  where
-    go : (b : Bool) → p y ≡ b → IsIn x (y ∷ ys) → (IsIn x ys → find p ys ≡ Some x) → cond b (Some y) (find p ys) ≡ Some x
-    go true t j rest = ap (λ z. Some z) (one y (inl refl) t)
-    go false t (inl same) rest = absurd (false≢true (sym t ∙ (ap p same ∙ e)))
-    go false t (inr j) rest = rest j
-
--- a cache of a well formed machine is seen by its number
-pub cache_known : {limit : ℕ} (order : ℕ) (m : Machine) (c : Cache) → IsWellFormed limit order m → IsIn c m.caches → cache_told (holdings_of m) c.number ≡ Some (told_cache c)
-unfolding holdings_of
-cache_known order m c w i = cache_seen c.number m.caches ∙ ap (option_map told_cache) (find_one (λ x. eqb x.number c.number) c m.caches i (eq-eqb c.number c.number refl)
-    (λ x j e. one_key (λ y. y.number) 0 m.caches x c w.caches_rise j i (eqb-true x.number c.number e)))
 
 module _ (limit order : ℕ) (m : Machine) (s : State) (w : IsWellFormed limit order m) (h : Meets order s m) (k : Meets order (seen m s) m) where
   comes_back : can_come_back order (holdings_of m).caches (frames_of (flat_map empty_blocks m.caches)) (seen m s) ≡ true

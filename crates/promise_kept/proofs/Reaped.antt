@@ -1,5 +1,5 @@
 -- What is known of a machine is so once all its empty slabs are given back, but for what a report told.
-use Rattle.std.proofs.Common.{◌≡◌, ℕ, ◌+◌, ◌<◌, Bool, true, false, not, ◌||◌, List, [], ◌∷◌, map, Some, None, refl, sym, ap, ◌∙◌, subst, inl, inr}
+use Rattle.std.proofs.Common.{◌≡◌, ℕ, ◌+◌, ◌<◌, Bool, true, false, not, ◌||◌, map, Some, None, refl, sym, ap, ◌∙◌, subst}
 use Rattle.std.specs.Prelude.{if◌then◌else◌, filter, flat_map, Contains}
 use Rattle.std.specs.List.{list_any}
 use Rattle.std.proofs.lemmas.Bool.{false≢true, false_from_ne_true, or_left}
@@ -9,11 +9,11 @@ use Rattle.model_core.specs.Slabs.{is_empty, without_empty, empty_blocks, reaped
 use Rattle.model_core.specs.WellFormed.{IsWellFormed, in_slab}
 use Rattle.model_core.specs.Laws.{Object, IsObject, place_of}
 use Rattle.model_core.specs.Elements.{IsIn}
-use Rattle.model_core.proofs.Lists.{each_in, filter_in, some_any, any_split, any_map, map_in}
+use Rattle.model_core.proofs.Lists.{each_in, filter_in, some_any, any_split, any_map, map_in, in_map}
 use Rattle.model_core.proofs.Laid.{Laid, laid, all_laid, laid_block, in_laid, IsCutLaid, IsLaidOut, laid_out, in_slab_laid}
 use Rattle.model_core.proofs.CacheSteps.{in_all_laid}
 use Rattle.model_core.proofs.Objects.{byte_is_of, IsPageByte, page_apart}
-use Rattle.model_core.proofs.ObjectsApart.{contains_in}
+use Rattle.model_core.proofs.ObjectsApart.{contains_in, in_contains}
 use Rattle.model_core.proofs.Split.{is_empty_laid, kept_laid, gone_laid}
 use Rattle.model_core.proofs.Constructed.{not_gone}
 use Rattle.model_core.proofs.ByNeed.{by_need_keeps}
@@ -21,7 +21,6 @@ use Rattle.promise_core.specs.Bytes.{Holder, may_be}
 use Rattle.promise_core.specs.State.{State}
 use Rattle.promise_kept.specs.Meets.{holdings_of, is_object_live, Meets}
 use Rattle.promise_kept.proofs.Seen.{holdings_reaped}
-use Rattle.promise_kept.proofs.Stand.{in_contains}
 use Rattle.promise_kept.proofs.Cells.{fresh_may}
 
 -- no report has to stand
@@ -88,16 +87,11 @@ module _ {limit : ℕ} (order : ℕ) (s : State) (m : Machine) (w : IsWellFormed
       let o : Object = record { cache = c; slab = t; index = i } in
       let k : Laid = laid c t in
       let kept : IsIn k (filter (λ l. not (is_empty_laid l)) (all_laid m.caches)) =
-      subst (λ ls. IsIn k ls) (sym (kept_laid m.caches)) (in_all_laid (without_empty c) t (map without_empty m.caches) (in_reaped m.caches c in_c) in_t) in
+      subst (λ ls. IsIn k ls) (sym (kept_laid m.caches)) (in_all_laid (without_empty c) t (map without_empty m.caches) (in_map without_empty c m.caches in_c) in_t) in
       let same : (reaped m).bytes (place_of o + j) ≡ m.bytes (place_of o + j) =
       ap (λ b. if b then Some 0 else m.bytes (place_of o + j)) (ap (λ bs. list_any (in_block (place_of o + j)) bs) (gone_laid m.caches)
       ∙ not_gone is_empty_laid (all_laid m.caches) (place_of o + j) k (laid_out order m w).apart_slabs kept (object_in_slab order m c t i j w in_c f.0 index_in byte_in)) in
       h.object_bytes o j byte (record { cache_in = in_contains c m.caches in_c; slab_in = in_contains t c.slabs f.0; index_in = index_in }) byte_in (sym same ∙ is)
-    where
-      in_reaped : (cs : List Cache) (d : Cache) → IsIn d cs → IsIn (without_empty d) (map without_empty cs)
-      in_reaped [] d i = elim i [ ]
-      in_reaped (x ∷ cs) d (inl e) = inl (ap without_empty e)
-      in_reaped (x ∷ cs) d (inr i) = inr (in_reaped cs d i)
 
   hidden : (c : Cache) (t : Slab) → Contains (reaped m).caches c → Contains c.slabs t → s.hides c.number ≡ true
   unfolding reaped

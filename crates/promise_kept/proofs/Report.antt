@@ -4,7 +4,7 @@ use Rattle.std.specs.Prelude.{if◌then◌else◌, filter, drop, slice_index}
 use Rattle.std.specs.List.{list_all, zip, range_with_len}
 use Rattle.std.specs.Option.{option_map_or, option_eq}
 use Rattle.std.proofs.lemmas.Bool.{and_from, eqb-true, eq-eqb, ne_eqb, le-leb, cases_eq}
-use Rattle.std.proofs.lemmas.List.{length-map}
+use Rattle.std.proofs.lemmas.List.{length-map, map-append}
 use Rattle.std.proofs.lemmas.List.FromFn.{length-map-range_with_len, get_or-map-range_with_len}
 use Rattle.model_core.specs.declared.report.OrderRow.{OrderRow}
 use Rattle.model_core.specs.declared.owner.Owner.{Owner}
@@ -17,7 +17,8 @@ use Rattle.model_core.specs.Reports as reports
 use Rattle.model_core.specs.WellFormed.{IsPlaced, IsWellFormed}
 use Rattle.model_core.proofs.Counting.{bit}
 use Rattle.model_core.specs.Elements.{IsIn}
-use Rattle.model_core.proofs.Lists.{each_in, map_append}
+use Rattle.model_core.proofs.Lists.{each_in}
+use Rattle.model_core.proofs.ObjectsApart.{in_contains}
 use Rattle.words_core.specs.declared.event.Event.TheVariants as On
 use Rattle.words_core.specs.declared.event.Command.TheVariants as Asked
 use Rattle.words_core.specs.declared.report.Report.{Report}
@@ -28,7 +29,6 @@ use Rattle.promise_core.specs.Holdings.{vacant_blocks}
 use Rattle.promise_core.specs.State.{State, state_after}
 use Rattle.promise_core.specs.Promises.{frames_of_counts, told_count, due, report, still}
 use Rattle.promise_kept.specs.Meets.{told_cache, holdings_of, Meets, IsPromiseKept}
-use Rattle.promise_kept.proofs.Stand.{in_contains}
 use Rattle.promise_kept.proofs.Cells.{all_kept, formed}
 use Rattle.promise_kept.proofs.Known.{seen, seen_is}
 use Rattle.promise_kept.proofs.Figures.{available_count, free_frames, free_fits}
@@ -44,7 +44,7 @@ range_last f a (suc n) = let e : a + 1 + n ≡ a + suc n = omega arith in
 rows_told : (order : ℕ) (m : Machine) (g : OrderRow → ℕ) (n : ℕ) → map g (order_rows order m n) ≡ map (λ k. g (order_row order m k)) (range_with_len 0 n)
 rows_told order m g zero = refl
 rows_told order m g (suc n) = let e : 0 + n ≡ n = omega arith in
-    map_append g (order_rows order m n) (order_row order m n ∷ [])
+    map-append g (order_rows order m n) (order_row order m n ∷ [])
     ∙ (ap (λ xs. xs ++ (g (order_row order m n) ∷ [])) (rows_told order m g n)
     ∙ (ap (λ i. map (λ k. g (order_row order m k)) (range_with_len 0 n) ++ (g (order_row order m i) ∷ [])) (sym e)
     ∙ sym (range_last (λ k. g (order_row order m k)) 0 n)))

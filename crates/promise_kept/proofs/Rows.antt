@@ -3,7 +3,7 @@ use Rattle.std.proofs.Common.{◌≡◌, ℕ, ◌+◌, ◌<◌, ◌≤◌, Bool,
 use Rattle.std.specs.Prelude.{if◌then◌else◌, filter, flat_map, slice_index}
 use Rattle.std.specs.List.{list_any, list_all, zip, sum_by}
 use Rattle.std.proofs.lemmas.Bool.{and_from, eq-eqb, ne_eqb, false≢true}
-use Rattle.std.proofs.lemmas.List.{length-append, length-map, append-nil}
+use Rattle.std.proofs.lemmas.List.{length-append, length-map, append-nil, map-append}
 use Rattle.std.proofs.lemmas.List.Elements.{filter-append}
 use Rattle.std.proofs.lemmas.List.Sums.{sum_by-cons}
 use Rattle.std.proofs.Math.Bool.{or-true}
@@ -17,7 +17,6 @@ use Rattle.model_core.specs.Reports as reports
 use Rattle.model_core.specs.WellFormed.{RisesFrom, IsWellFormed}
 use Rattle.model_core.proofs.Counting.{bit}
 use Rattle.model_core.specs.Elements.{IsIn}
-use Rattle.model_core.proofs.Lists.{map_append}
 use Rattle.promise_core.specs.Holdings.{ToldCache, live_beside}
 use Rattle.promise_core.specs.Holdings as told
 use Rattle.promise_core.specs.Promises.{count_slabs, is_row, told_count}
@@ -120,7 +119,7 @@ module _ {limit : ℕ} (order : ℕ) (c : Cache) (m : Machine) (w : IsWellFormed
         let rest : length (filter counts (map (λ o. o.place) (flat_map (live_in c) ss))) ≡ length (filter kind ss) = all_slabs ss (λ t i. all t (inr i)) in
         let here : length (filter counts (map (λ o. o.place) (live_in c s))) ≡ bit (kind s) = ap (λ os. length (filter counts (map (λ o. o.place) os))) (sym (append-nil (live_in c s))) ∙ one_slab s (all s (inl refl)) in
         let parts : length (filter counts (map (λ o. o.place) (live_in c s ++ flat_map (live_in c) ss))) ≡ length (filter counts (map (λ o. o.place) (live_in c s))) + length (filter counts (map (λ o. o.place) (flat_map (live_in c) ss))) =
-        ap (λ ps. length (filter counts ps)) (map_append (λ o. o.place) (live_in c s) (flat_map (live_in c) ss))
+        ap (λ ps. length (filter counts ps)) (map-append (λ o. o.place) (live_in c s) (flat_map (live_in c) ss))
         ∙ (ap length (filter-append counts (map (λ o. o.place) (live_in c s)) (map (λ o. o.place) (flat_map (live_in c) ss)))
         ∙ length-append (filter counts (map (λ o. o.place) (live_in c s))) (filter counts (map (λ o. o.place) (flat_map (live_in c) ss)))) in
         let last : length (filter kind (s ∷ ss)) ≡ bit (kind s) + length (filter kind ss) = filter_length kind s ss in

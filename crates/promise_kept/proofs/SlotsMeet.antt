@@ -7,7 +7,6 @@ use Rattle.model_core.specs.Blocks.{Block, slot_block}
 use Rattle.model_core.specs.Layouts.{pattern_byte}
 use Rattle.model_core.specs.Machine.{Slab, Cache, Machine, empty_machine, holds, slot_of, in_block, slab_block, slab_blocks, put_rising}
 use Rattle.model_core.specs.Machine as model
-use Rattle.model_core.specs.Operations.{next_slot, after_grant, after_take_back, overlaps}
 use Rattle.model_core.specs.Operations as operations
 use Rattle.model_core.specs.WellFormed.{IsWellFormed, in_slab}
 use Rattle.model_core.specs.Laws.{Object, IsObject, place_of}
@@ -17,13 +16,13 @@ use Rattle.model_core.proofs.MemoryKept.{any_put, place_held}
 use Rattle.model_core.proofs.Laid.{laid, all_laid, laid_block, IsLaidOut, laid_out, Placed}
 use Rattle.model_core.proofs.CacheSteps.{in_all_laid}
 use Rattle.model_core.proofs.Constructed.{next_unheld}
-use Rattle.model_core.proofs.ObjectsApart.{contains_in}
+use Rattle.model_core.proofs.ObjectsApart.{contains_in, in_contains}
 use Rattle.promise_core.specs.Holdings.{Holdings, told_blocks, is_slot_busy}
 use Rattle.promise_core.specs.Bytes.{Holder, may_be, without}
 use Rattle.promise_core.specs.State.{State, opening_state}
 use Rattle.promise_kept.specs.Meets.{told_cache, holdings_of, is_object_live, Meets}
 use Rattle.promise_kept.proofs.Owning.{below_missing}
-use Rattle.promise_kept.proofs.Stand.{taken_seen, in_contains}
+use Rattle.promise_kept.proofs.Stand.{taken_seen}
 use Rattle.promise_kept.proofs.Cells.{fresh_may, without_some, without_may}
 use Rattle.promise_kept.proofs.Reaped.{object_in_slab}
 
@@ -58,40 +57,40 @@ module _ {limit : ℕ} (order : ℕ) (m : Machine) (s : State) (w : IsWellFormed
       let placed : Placed order m.slots (laid_block (laid o.cache o.slab)) = each_in (λ l. Placed order m.slots (laid_block l)) (laid o.cache o.slab) (all_laid m.caches) l.placed_slabs (in_all_laid o.cache o.slab m.caches in_c in_s) in
       place_held order m.slots (place_of o + j) (laid_block (laid o.cache o.slab)) placed (object_in_slab order m o.cache o.slab o.index j w in_c in_s i.index_in below)
 
-  outside : (o : Object) (j : ℕ) → IsObject m o → j < o.cache.size → eqb (slot_of order (place_of o + j)) (next_slot m) ≡ false
-  outside o j i below = ne_eqb (slot_of order (place_of o + j)) (next_slot m) (λ same. false≢true (sym (next_unheld order m w) ∙ (ap (holds m) (sym same) ∙ object_held o j i below)))
+  outside : (o : Object) (j : ℕ) → IsObject m o → j < o.cache.size → eqb (slot_of order (place_of o + j)) (operations.next_slot m) ≡ false
+  outside o j i below = ne_eqb (slot_of order (place_of o + j)) (operations.next_slot m) (λ same. false≢true (sym (next_unheld order m w) ∙ (ap (holds m) (sym same) ∙ object_held o j i below)))
 
   -- no page block lies in the slot that is granted next
-  none_lives : (place : ℕ) → eqb (slot_of order place) (next_slot m) ≡ true → is_object_live s.has Holder.Page place ≡ false
+  none_lives : (place : ℕ) → eqb (slot_of order place) (operations.next_slot m) ≡ true → is_object_live s.has Holder.Page place ≡ false
   unfolding holdings_of
   none_lives place at = ap (λ (x : Holdings). list_any (in_block place) x.pages) h.has ∙ any_none (in_block place) m.blocks
       (each_from (λ b. in_block place b ≡ false) m.blocks (λ b i. false_from_ne_true (in_block place b) (λ inside. apart b i inside)))
     where
       apart : (b : Block) → IsIn b m.blocks → in_block place b ≡ true → ⊥
-      apart b i inside = false≢true (sym (next_unheld order m w) ∙ (ap (holds m) (sym (eqb-true (slot_of order place) (next_slot m) at))
+      apart b i inside = false≢true (sym (next_unheld order m w) ∙ (ap (holds m) (sym (eqb-true (slot_of order place) (operations.next_slot m) at))
           ∙ place_held order m.slots place b (each_in (Placed order m.slots) b m.blocks (laid_out order m w).placed_blocks i) inside))
 
-  pub grant_meets : Meets order (granted (next_slot m) s) (after_grant order m)
-  unfolding holdings_of after_grant
+  pub grant_meets : Meets order (granted (operations.next_slot m) s) (operations.after_grant order m)
+  unfolding holdings_of operations.after_grant
   grant_meets = record {
-    has = ap (λ (x : Holdings). record x { slots = put_rising (λ v. v) (next_slot m) x.slots }) h.has;
+    has = ap (λ (x : Holdings). record x { slots = put_rising (λ v. v) (operations.next_slot m) x.slots }) h.has;
     hides = h.hides;
-    lives = λ place cell e sure. lives_still (put_rising (λ v. v) (next_slot m) s.has.slots) s.has cell.holder place (h.lives place cell e sure);
-    page_bytes = λ place byte out e. page place byte out (eqb (slot_of order place) (next_slot m)) refl e;
+    lives = λ place cell e sure. lives_still (put_rising (λ v. v) (operations.next_slot m) s.has.slots) s.has cell.holder place (h.lives place cell e sure);
+    page_bytes = λ place byte out e. page place byte out (eqb (slot_of order place) (operations.next_slot m)) refl e;
     object_bytes = λ o j byte i below e. let is : IsObject m o = record { cache_in = i.cache_in; slab_in = i.slab_in; index_in = i.index_in } in
         h.object_bytes o j byte is below (sym (ap (λ b. if b then Some 0 else m.bytes (place_of o + j)) (outside o j is below)) ∙ e);
     empty_told = λ r e. absurd (cc);
     free_told = λ r e. absurd (cc);
   }
     where
-      page : (place byte : ℕ) → in_slab m place ≡ false → (b : Bool) → eqb (slot_of order place) (next_slot m) ≡ b → (if b then Some 0 else m.bytes place) ≡ Some byte
+      page : (place byte : ℕ) → in_slab m place ≡ false → (b : Bool) → eqb (slot_of order place) (operations.next_slot m) ≡ b → (if b then Some 0 else m.bytes place) ≡ Some byte
           → may_be Holder.Page 0 (s.cells place) byte ≡ true
       page place byte out true is e = let zero_it : 0 ≡ byte = cc in
           subst (λ x. may_be Holder.Page 0 (s.cells place) x ≡ true) zero_it (fresh_may s.has s.cells h.lives Holder.Page place 0 (none_lives place is))
       page place byte out false is e = h.page_bytes place byte out e
 
-  pub take_back_meets : (u : ℕ) → Meets order (taken_back order u s) (after_take_back order u m)
-  unfolding holdings_of after_take_back
+  pub take_back_meets : (u : ℕ) → Meets order (taken_back order u s) (operations.after_take_back order u m)
+  unfolding holdings_of operations.after_take_back
   take_back_meets u = record {
     has = ap (λ (x : Holdings). record x { slots = filter (λ v. not (eqb v u)) x.slots }) h.has;
     hides = h.hides;
@@ -113,17 +112,17 @@ module _ {limit : ℕ} (order : ℕ) (m : Machine) (s : State) (w : IsWellFormed
   -- what is seen as busy is so
   pub busy_seen : (u : ℕ) → operations.is_busy order m u ≡ false → is_slot_busy order (holdings_of m) u ≡ false
   unfolding operations.is_busy
-  busy_seen u e = ap (λ b. not (not b)) (any_none (overlaps (slot_block order u)) (told_blocks (holdings_of m)) (each_from (λ t. overlaps (slot_block order u) t ≡ false) (told_blocks (holdings_of m))
-      (λ t i. each_in (λ t. overlaps (slot_block order u) t ≡ false) t (model.taken_blocks m) (none_any (overlaps (slot_block order u)) (model.taken_blocks m) e) (taken_seen order m t w i))))
+  busy_seen u e = ap (λ b. not (not b)) (any_none (operations.overlaps (slot_block order u)) (told_blocks (holdings_of m)) (each_from (λ t. operations.overlaps (slot_block order u) t ≡ false) (told_blocks (holdings_of m))
+      (λ t i. each_in (λ t. operations.overlaps (slot_block order u) t ≡ false) t (model.taken_blocks m) (none_any (operations.overlaps (slot_block order u)) (model.taken_blocks m) e) (taken_seen order m t w i))))
 
   -- a slot is busy only where it is seen so, or a slab may stand
   pub busy_may : (u : ℕ) → operations.is_busy order m u ≡ true → (is_slot_busy order (holdings_of m) u || list_any (λ c. s.hides c.number) (holdings_of m).caches) ≡ true
   unfolding operations.is_busy model.taken_blocks holdings_of told_blocks
   busy_may u e =
-      let b : (b : Block) × IsIn b (model.taken_blocks m) × (overlaps (slot_block order u) b ≡ true) = some_any (overlaps (slot_block order u)) (model.taken_blocks m) e in
+      let b : (b : Block) × IsIn b (model.taken_blocks m) × (operations.overlaps (slot_block order u) b ≡ true) = some_any (operations.overlaps (slot_block order u)) (model.taken_blocks m) e in
       ⊎_elim
       (λ (page : IsIn b.0 m.blocks). or_left (is_slot_busy order (holdings_of m) u) (list_any (λ c. s.hides c.number) (map told_cache m.caches))
-      (ap (λ x. not (not x)) (any_in (overlaps (slot_block order u)) b.0 (told_blocks (holdings_of m)) (in_left b.0 m.blocks _ page) b.2)))
+      (ap (λ x. not (not x)) (any_in (operations.overlaps (slot_block order u)) b.0 (told_blocks (holdings_of m)) (in_left b.0 m.blocks _ page) b.2)))
       (λ (slab : IsIn b.0 (flat_map slab_blocks m.caches)).
       let c : (c : Cache) × IsIn c m.caches × IsIn b.0 (slab_blocks c) = flat_map_in slab_blocks b.0 m.caches slab in
       let x : (x : Slab) × IsIn x c.0.slabs × (slab_block c.0 x ≡ b.0) = map_in (slab_block c.0) b.0 c.0.slabs c.2 in
@@ -133,15 +132,15 @@ module _ {limit : ℕ} (order : ℕ) (m : Machine) (s : State) (w : IsWellFormed
 
 -- Which slots are held
 
-pub below_next : (m : Machine) (v : ℕ) → v < next_slot m → holds m v ≡ true
-unfolding next_slot
+pub below_next : (m : Machine) (v : ℕ) → v < operations.next_slot m → holds m v ≡ true
+unfolding operations.next_slot
 below_next m v lt = below_missing 0 v m.slots (omega arith) lt
 
-pub grant_holds : (order : ℕ) (m : Machine) (v : ℕ) → holds (after_grant order m) v ≡ (eqb (next_slot m) v || holds m v)
-unfolding after_grant
+pub grant_holds : (order : ℕ) (m : Machine) (v : ℕ) → holds (operations.after_grant order m) v ≡ (eqb (operations.next_slot m) v || holds m v)
+unfolding operations.after_grant
 grant_holds order m v =
-    let i : PutIn (λ u. u) (next_slot m) m.slots = put_in (λ u. u) (next_slot m) m.slots in
-    ap (list_any (λ u. eqb u v)) i.is ∙ (any_put (λ u. eqb u v) i.before i.later (next_slot m) ∙ ap (λ us. eqb (next_slot m) v || list_any (λ u. eqb u v) us) (sym i.was))
+    let i : PutIn (λ u. u) (operations.next_slot m) m.slots = put_in (λ u. u) (operations.next_slot m) m.slots in
+    ap (list_any (λ u. eqb u v)) i.is ∙ (any_put (λ u. eqb u v) i.before i.later (operations.next_slot m) ∙ ap (λ us. eqb (operations.next_slot m) v || list_any (λ u. eqb u v) us) (sym i.was))
 
 filter_own : (u v : ℕ) (us : List ℕ) → v ≡ u → list_any (λ x. eqb x v) (filter (λ x. not (eqb x u)) us) ≡ false
 filter_own u v [] same = refl
@@ -161,12 +160,12 @@ filter_other u v (x ∷ us) differ = go (eqb x u) refl (filter_other u v us diff
     go true is rest = rest ∙ ap (λ b. b || list_any (λ x. eqb x v) us) (sym (ne_eqb x v (λ same. differ (sym same ∙ eqb-true x u is))))
     go false is rest = ap (λ b. eqb x v || b) rest
 
-pub taken_unheld : (order u : ℕ) (m : Machine) (v : ℕ) → v ≡ u → holds (after_take_back order u m) v ≡ false
-unfolding after_take_back
+pub taken_unheld : (order u : ℕ) (m : Machine) (v : ℕ) → v ≡ u → holds (operations.after_take_back order u m) v ≡ false
+unfolding operations.after_take_back
 taken_unheld order u m v same = filter_own u v m.slots same
 
-pub others_held : (order u : ℕ) (m : Machine) (v : ℕ) → v ≢ u → holds (after_take_back order u m) v ≡ holds m v
-unfolding after_take_back
+pub others_held : (order u : ℕ) (m : Machine) (v : ℕ) → v ≢ u → holds (operations.after_take_back order u m) v ≡ holds m v
+unfolding operations.after_take_back
 others_held order u m v differ = filter_other u v m.slots differ
 
 pub nothing_meets : (order : ℕ) → Meets order opening_state empty_machine

@@ -1,6 +1,6 @@
 -- The taken blocks that are seen of a machine, and what can stand beside them.
-use Rattle.std.proofs.Common.{◌≡◌, ℕ, suc, ◌+◌, ◌-◌, ◌*◌, ◌/◌, ◌%◌, ◌^◌, ◌<◌, ◌≤◌, Bool, true, false, not, eqb, ltb, List, [], ◌∷◌, ◌++◌, map, length, Option, Some, None, refl, sym, ap, ◌∙◌, subst, inl, inr, ⊎_elim, arith}
-use Rattle.std.specs.Prelude.{filter, flat_map, is_some, option_map, Contains}
+use Rattle.std.proofs.Common.{◌≡◌, ℕ, ◌+◌, ◌-◌, ◌*◌, ◌/◌, ◌%◌, ◌^◌, ◌<◌, ◌≤◌, Bool, true, false, not, eqb, ltb, List, [], ◌∷◌, ◌++◌, map, length, Option, Some, None, refl, sym, ap, ◌∙◌, subst, inl, inr, ⊎_elim, arith}
+use Rattle.std.specs.Prelude.{filter, flat_map, is_some, option_map}
 use Rattle.std.specs.List.{list_any, range_with_len, AllByRecursion as Each}
 use Rattle.std.proofs.Math.Nat.{div-div-eq-div-mul, div-eq_of_lt-le, mul-div_cancel}
 use Rattle.std.proofs.lemmas.Nat.{pow_pos, pow-add}
@@ -14,7 +14,7 @@ use Rattle.model_core.specs.Slabs.{LiveObject, live_from, live_in, live_objects,
 use Rattle.model_core.specs.Operations.{overlaps}
 use Rattle.model_core.specs.WellFormed.{IsApart, IsWellFormed}
 use Rattle.model_core.specs.Elements.{IsIn}
-use Rattle.model_core.proofs.Lists.{each_in, each_from, filter_in, any_none, none_any, any_in, in_left, in_right, in_map, map_in, in_append, flat_map_in, in_flat_map}
+use Rattle.model_core.proofs.Lists.{none_in, each_in, each_from, filter_in, any_none, none_any, any_in, in_left, in_right, in_map, map_in, in_append, flat_map_in, in_flat_map}
 use Rattle.model_core.proofs.BlocksByNumber.{aligned_first}
 use Rattle.model_core.proofs.Apart.{in_block-true, overlap_from}
 use Rattle.model_core.proofs.Laid.{Laid, laid, all_laid, laid_block, IsCutLaid, IsLaidOut, laid_out}
@@ -30,13 +30,6 @@ use Rattle.promise_core.specs.Holdings.{slab_around, told_blocks, is_vacant, can
 use Rattle.promise_core.proofs.Grids.{around_is}
 use Rattle.promise_kept.specs.Meets.{told_cache, holdings_of}
 use Rattle.promise_kept.proofs.Seen.{holdings_reaped}
-
--- Lists
-
-pub in_contains : {X : Type 0} (x : X) (xs : List X) → IsIn x xs → Contains xs x
-in_contains x [] i = elim i [ ]
-in_contains x (y ∷ ys) (inl e) = (0, omega arith, e)
-in_contains x (y ∷ ys) (inr i) = let c : Contains ys x = in_contains x ys i in (suc c.0, omega (arith, c.1), c.2)
 
 -- Blocks
 
@@ -168,20 +161,16 @@ some_first : (o : Option Block) → is_some o ≡ true → option_map (λ b. b.f
 some_first None e none = false≢true e
 some_first (Some b) e none = absurd (cc)
 
-none_listed : {X : Type 0} (xs : List X) → ((x : X) → IsIn x xs → ⊥) → ltb 0 (length xs) ≡ false
-none_listed [] f = refl
-none_listed (x ∷ xs) f = absurd (f x (inl refl))
-
 unserved : {limit : ℕ} (order k : ℕ) (m : Machine) → IsWellFormed limit order m → k ≤ order → choice order (reaped m) k ≡ None → has_room order (holdings_of m) k ≡ false
 unfolding vacant_blocks choice reaped holdings_of
-unserved order k m w of_slot none = none_listed _ (λ b i.
+unserved order k m w of_slot none = ap (λ bs. ltb 0 (length bs)) (none_in _ (λ b i.
     let f = filter_in (is_vacant (holdings_of m)) b (flat_map (blocks_of_slot order k) m.slots) i in
     let u = flat_map_in (blocks_of_slot order k) b m.slots f.0 in
     let q = map_in (λ i. block (i * 2 ^ k) k) b (range_with_len (u.0 * 2 ^ (order - k)) (2 ^ (order - k))) u.2 in
     let r = range_in q.0 (u.0 * 2 ^ (order - k)) (2 ^ (order - k)) q.1 in
     let v = vacant_is order k of_slot m u.0 q.0 w u.1 r.0 r.1 (ap (is_vacant (holdings_of m)) q.2 ∙ f.1) in
     some_first (choose order (holds m) (taken_in (reaped m)) (beyond m.slots) k)
-    (some_choice order (holds m) (taken_in (reaped m)) (beyond m.slots) (held_below m.slots) (q.0 * 2 ^ k) k v) none)
+    (some_choice order (holds m) (taken_in (reaped m)) (beyond m.slots) (held_below m.slots) (q.0 * 2 ^ k) k v) none))
 
 -- where a request gets nothing there is no room
 pub room_served : {limit : ℕ} (order k : ℕ) (m : Machine) → IsWellFormed limit order m → k ≤ order → choice_by_need order k m ≡ None → has_room order (holdings_of m) k ≡ false

@@ -1,20 +1,20 @@
 -- An object that is not live is handed out: every promise is kept.
-use Rattle.std.proofs.Common.{◌≡◌, ℕ, ◌+◌, ◌/◌, ◌<◌, Bool, true, false, not, ◌&&◌, ◌||◌, eqb, [], ◌∷◌, get_or, Option, Some, None, refl, sym, ap, ◌∙◌, subst, ◌⊎◌, inl, inr}
-use Rattle.std.specs.Prelude.{find, is_none, option_map, Contains}
+use Rattle.std.proofs.Common.{◌≡◌, ℕ, ◌+◌, ◌/◌, ◌<◌, Bool, true, false, not, ◌&&◌, ◌||◌, eqb, [], ◌∷◌, get_or, Some, None, refl, sym, ap, ◌∙◌, subst, ◌⊎◌, inl, inr}
+use Rattle.std.specs.Prelude.{is_none, Contains}
 use Rattle.std.specs.List.{list_all}
 use Rattle.std.specs.Option.{option_map_or}
-use Rattle.std.proofs.lemmas.Bool.{eq-eqb, eqb-true, false≢true, cases_eq, and_from, or_left, or_right}
+use Rattle.std.proofs.lemmas.Bool.{eq-eqb, false≢true, cases_eq, and_from, or_left, or_right}
 use Rattle.model_core.specs.Layouts.{object_place, pattern_byte}
 use Rattle.model_core.specs.Machine.{Slab, Cache, Machine, in_block, layout, slab_block, put_rising}
-use Rattle.model_core.specs.Slabs.{cache_of, with_cache, with_slab, with_live}
+use Rattle.model_core.specs.Slabs.{with_cache, with_slab, with_live}
 use Rattle.model_core.specs.WellFormed.{IsWellFormed, in_slab}
 use Rattle.model_core.specs.Laws.{Object, IsObject, place_of}
 use Rattle.model_core.specs.Elements.{IsIn}
-use Rattle.model_core.proofs.Lists.{each_in, find_in, none_any as none_of, any_in}
+use Rattle.model_core.proofs.Lists.{each_in, none_any as none_of}
 use Rattle.model_core.proofs.Apart.{in_block-true, one_holder}
 use Rattle.model_core.proofs.Laid.{laid, all_laid, laid_layout, laid_block, in_laid, laid_out, in_slab_laid}
 use Rattle.model_core.proofs.CacheSteps.{in_all_laid}
-use Rattle.model_core.proofs.ObjectsApart.{contains_in, one_key}
+use Rattle.model_core.proofs.ObjectsApart.{contains_in, one_key, in_contains}
 use Rattle.model_core.proofs.SlabsLeave.{flagged_same}
 use Rattle.words_core.specs.declared.event.Event.TheVariants as On
 use Rattle.words_core.specs.declared.event.Command.TheVariants as Asked
@@ -26,13 +26,11 @@ use Rattle.promise_core.specs.Bytes.{Holder, is_object, may_be, without}
 use Rattle.promise_core.specs.State.{State, state_after, with_object}
 use Rattle.promise_core.specs.Promises.{due, first_due}
 use Rattle.promise_kept.specs.Meets.{told_cache, holdings_of, is_object_live, Meets, IsKeptBy}
-use Rattle.promise_kept.proofs.Stand.{in_contains}
 use Rattle.promise_kept.proofs.Cells.{all_kept, formed, without_some, without_may}
 use Rattle.promise_kept.proofs.Reaped.{object_in_slab}
 use Rattle.promise_kept.proofs.Live.{IsLivePlace}
 use Rattle.promise_kept.proofs.Flag.{replaced_is, replaced_one, IsOne, one_place, live_other, WasObject, was_object, caches_told}
-use Rattle.promise_kept.proofs.Known.{seen, cache_seen, live_told, told_live, live_replaced}
-use Rattle.promise_kept.proofs.Give.{none_any}
+use Rattle.promise_kept.proofs.Known.{seen, live_told, told_live, live_replaced, cache_known}
 use Rattle.promise_kept.proofs.TakePlaces.{place_put}
 use Rattle.promise_kept.proofs.Beside.{is_slab, slab_here}
 use Rattle.promise_kept.proofs.Handed.{two_apart, can_take}
@@ -40,16 +38,6 @@ use Rattle.promise_kept.proofs.Handed.{two_apart, can_take}
 -- a slab of the cache with this number may stand empty, and no report has to stand
 abbrev pub hidden : ℕ → State → State
 hidden number s = record s { hides = λ n. eqb n number || s.hides n; told = None }
-
--- a cache is found by its number
-pub cache_found : {limit : ℕ} (order : ℕ) (c : Cache) (m : Machine) → IsWellFormed limit order m → IsIn c m.caches → cache_of m c.number ≡ Some c
-cache_found order c m w i = go (find (λ x. eqb x.number c.number) m.caches) refl
-  where
-    go : (o : Option Cache) → find (λ x. eqb x.number c.number) m.caches ≡ o → find (λ x. eqb x.number c.number) m.caches ≡ Some c
-    go None e = absurd (false≢true (sym (none_any (λ x. eqb x.number c.number) m.caches e) ∙ any_in (λ x. eqb x.number c.number) c m.caches i (eq-eqb c.number c.number refl)))
-    go (Some x) e =
-        let f : IsIn x m.caches × (eqb x.number c.number ≡ true) = find_in (λ x. eqb x.number c.number) x m.caches e in
-        e ∙ ap (λ y. Some y) (one_key (λ y. y.number) 0 m.caches x c w.caches_rise f.0 i (eqb-true x.number c.number f.1))
 
 -- the cells of the slab's bytes that are no object's of the cache, beside the one taken
 abbrev left_beside : ToldCache → ℕ → ℕ → Holder → Bool
@@ -151,8 +139,7 @@ module _ {limit : ℕ} (order : ℕ) (c : Cache) (s : Slab) (i : ℕ) (m : Machi
       (ap (λ ps. record (told_cache c) { live = ps }) (place_put order c s i m w in_c in_s lt not_live)))
 
   told_here : cache_told (holdings_of m) c.number ≡ Some (told_cache c)
-  unfolding holdings_of
-  told_here = cache_seen c.number m.caches ∙ ap (option_map told_cache) (cache_found order c m w in_c)
+  told_here = cache_known order m c w in_c
 
   -- what the promises say of the state after
   abbrev said : State

@@ -1,28 +1,16 @@
 -- An object that is taken: its first place is put into its cache's.
-use Rattle.std.proofs.Common.{◌≡◌, ◌≢◌, ℕ, ◌<◌, true, List, ◌∷◌, ◌++◌, map, refl, sym, subst, ◌⊎◌, inl, inr, arith}
+use Rattle.std.proofs.Common.{◌≡◌, ◌≢◌, ℕ, ◌<◌, true, List, map, refl, sym, subst, ◌⊎◌, inl, inr, arith}
 use Rattle.std.proofs.lemmas.List.{map-id}
 use Rattle.model_core.specs.Layouts.{object_place}
 use Rattle.model_core.specs.Machine.{Slab, Cache, Machine, put_rising, layout}
 use Rattle.model_core.specs.Slabs.{live_objects, with_cache, with_slab, with_live}
 use Rattle.model_core.specs.WellFormed.{RisesFrom, IsWellFormed}
 use Rattle.model_core.specs.Elements.{IsIn}
-use Rattle.model_core.proofs.Lists.{PutIn, put_in, put_rises, each_from, in_left, in_right, in_append}
+use Rattle.model_core.proofs.Lists.{put_rises, each_from, in_put, put_has}
 use Rattle.model_core.proofs.CacheSteps.{live_kept}
 use Rattle.model_core.proofs.Rising.{same_members}
 use Rattle.promise_kept.proofs.Live.{live_rises, IsLivePlace, live_place, place_listed}
 use Rattle.promise_kept.proofs.Flag.{replaced_one, live_after, live_other, live_this}
-use Rattle.promise_core.proofs.Steps.{in_put}
-
-has_put : (u p : ℕ) (ps : List ℕ) → (p ≡ u) ⊎ IsIn u ps → IsIn u (put_rising (λ x. x) p ps)
-has_put u p ps i = let k : PutIn (λ x. x) p ps = put_in (λ x. x) p ps in subst (IsIn u) (sym k.is) (go k i)
-  where
-    old : (k : PutIn (λ x. x) p ps) → IsIn u k.before ⊎ IsIn u k.later → IsIn u (k.before ++ p ∷ k.later)
-    old k (inl j) = in_left u k.before (p ∷ k.later) j
-    old k (inr j) = in_right u k.before (p ∷ k.later) (inr j)
-
-    go : (k : PutIn (λ x. x) p ps) → (p ≡ u) ⊎ IsIn u ps → IsIn u (k.before ++ p ∷ k.later)
-    go k (inl e) = in_right u k.before (p ∷ k.later) (inl e)
-    go k (inr j) = old k (in_append u k.before k.later (subst (IsIn u) k.was j))
 
 -- the object, which isn't live, is taken
 pub place_put : {limit : ℕ} (order : ℕ) (c : Cache) (s : Slab) (i : ℕ) (m : Machine) → IsWellFormed limit order m → IsIn c m.caches → IsIn s c.slabs → i < (layout c).count
@@ -38,7 +26,7 @@ place_put {limit} order c s i m w in_c in_s lt dead =
     (each_from (λ y. y ≢ p) ps (λ y j e. dead (subst (IsLivePlace c) e (live_place c y j))))))
     (live_rises order d (with_cache d m) (live_kept order c s i true m w in_c in_s) d_in)
     (λ u j. there u (in_put (λ x. x) p u ps j))
-    (λ u j. has_put u p ps (back u (live_after limit order c s i true m w in_c in_s lt u (live_place d u j))))
+    (λ u j. put_has (λ x. x) p u ps (back u (live_after limit order c s i true m w in_c in_s lt u (live_place d u j))))
   where
     there : (u : ℕ) → (object_place (layout c) s.first s.colour i ≡ u) ⊎ IsIn u (map (λ o. o.place) (live_objects c)) → IsIn u (map (λ o. o.place) (live_objects (with_slab (with_live i true s) c)))
     there u (inl e) = place_listed (with_slab (with_live i true s) c) u (subst (IsLivePlace (with_slab (with_live i true s) c)) e (live_this limit order c s i true m w in_c in_s lt refl))

@@ -12,27 +12,24 @@ use Rattle.model_core.specs.CacheOperations.{hand_out, take_new, take_from, take
 use Rattle.model_core.specs.WellFormed.{IsCache, IsWellFormed}
 use Rattle.model_core.proofs.Layouts.{layouts_fit}
 use Rattle.model_core.specs.Elements.{IsIn}
-use Rattle.model_core.proofs.Lists.{each_in, find_in, none_any as none_of}
+use Rattle.model_core.proofs.Lists.{each_in, find_in, none_any, any_unfound}
 use Rattle.model_core.proofs.ByNeed.{by_need_none}
 use Rattle.model_core.proofs.PageSteps.{by_need_kept}
 use Rattle.model_core.proofs.Outcomes.{used_in, stands_by_need}
 use Rattle.model_core.proofs.CacheSteps.{IsGrown, grown_is, grown_kept}
-use Rattle.words_core.specs.declared.event.Event.TheVariants as On
 use Rattle.words_core.specs.declared.event.Command.TheVariants as Asked
-use Rattle.words_core.specs.declared.reply.Addressee.TheVariants as To
 use Rattle.words_core.specs.declared.reply.Body.TheVariants as Say
 use Rattle.words_core.specs.declared.reply.Refusal.{Refusal}
 use Rattle.world_core.specs.PrivateStep.{take_body, command_step}
 use Rattle.promise_core.specs.Holdings.{live_beside, is_slab_full as is_full_there, has_room, cache_told as cache_told}
-use Rattle.promise_core.specs.State.{State, state_after}
+use Rattle.promise_core.specs.State.{State}
 use Rattle.promise_core.specs.Promises.{due, first_due, is_used_up, is_one}
 use Rattle.promise_kept.specs.Meets.{told_cache, holdings_of, Meets, IsKeptBy, IsPromiseKept}
 use Rattle.promise_kept.proofs.Stand.{room_served}
-use Rattle.promise_kept.proofs.Cells.{all_kept, formed}
+use Rattle.promise_kept.proofs.Cells.{refused}
 use Rattle.promise_kept.proofs.Reaped.{untold, meets_untold, by_need_meets}
 use Rattle.promise_kept.proofs.Live.{IsSlab, IsLivePlace, live_place}
 use Rattle.promise_kept.proofs.Known.{seen_is, cache_seen}
-use Rattle.promise_kept.proofs.Give.{none_any}
 use Rattle.promise_kept.proofs.Beside.{full_count, is_slab, beside_is}
 use Rattle.promise_core.proofs.Grids.{all_from}
 use Rattle.promise_kept.proofs.Take.{hidden, handed}
@@ -78,8 +75,8 @@ all_full c e s i = go (find is_partial c.slabs) refl e
     go : (o : Option Slab) → find is_partial c.slabs ≡ o → slab_to_use o (find is_empty c.slabs) ≡ None → is_full s ≡ true
     go (Some t) f e = absurd (cc)
     go None f e = full (is_full s) (is_empty s)
-        (each_in (λ x. is_partial x ≡ false) s c.slabs (none_of is_partial c.slabs (none_any is_partial c.slabs f)) i)
-        (each_in (λ x. is_empty x ≡ false) s c.slabs (none_of is_empty c.slabs (none_any is_empty c.slabs e)) i)
+        (each_in (λ x. is_partial x ≡ false) s c.slabs (none_any is_partial c.slabs (any_unfound is_partial c.slabs f)) i)
+        (each_in (λ x. is_empty x ≡ false) s c.slabs (none_any is_empty c.slabs (any_unfound is_empty c.slabs e)) i)
 
 meets_hidden : (order number : ℕ) (s : State) (m : Machine) → Meets order (untold s) m → Meets order (hidden number s) m
 meets_hidden order number s m h = record {
@@ -118,15 +115,10 @@ module _ (limit order number : ℕ) (m : Machine) (s : State) (w : IsWellFormed 
   told_of o e = ap (λ x. cache_told x number) h.has ∙ (cache_seen number m.caches ∙ ap (option_map told_cache) e)
 
   no_cache : cache_of m number ≡ None → IsKeptBy limit order (Asked.Take number) s (Say.Refused Refusal.NoCache) m
-  unfolding due state_after
-  no_cache e = record {
-    allowed = λ t owners states. all_kept (On.Tenant t (Asked.Take number)) (record { addressee = To.Tenant t; body = Say.Refused Refusal.NoCache })
-        (record { limit = limit; order = order; owners = owners; states = states }) s
-        (formed t (Some s) refl)
-        (ap (λ o. option_map_or (is_one Refusal.NoCache) (first_due ((is_none o, Refusal.NoCache) ∷ [])) (is_one Refusal.NoCache Refusal.NoFrames)) (told_of None e))
-        refl refl refl refl refl refl refl refl refl refl;
-    meets = λ t. (s, refl, h);
-  }
+  unfolding due
+  no_cache e =
+      refused limit order (Asked.Take number) Refusal.NoCache s m h (λ t owners states.
+      (ap (λ o. option_map_or (is_one Refusal.NoCache) (first_due ((is_none o, Refusal.NoCache) ∷ [])) (is_one Refusal.NoCache Refusal.NoFrames)) (told_of None e), refl))
 
   -- all objects of its slabs are live, and there is no room for another slab
   used_up : (c : Cache) → 3 ≤ order → IsIn c m.caches → slab_to_use (find is_partial c.slabs) (find is_empty c.slabs) ≡ None → choice_by_need order (layout c).order m ≡ None
@@ -146,16 +138,13 @@ module _ (limit order number : ℕ) (m : Machine) (s : State) (w : IsWellFormed 
 
   no_frames : (c : Cache) → 3 ≤ order → cache_of m number ≡ Some c → IsIn c m.caches → slab_to_use (find is_partial c.slabs) (find is_empty c.slabs) ≡ None → choice_by_need order (layout c).order m ≡ None
       → IsKeptBy limit order (Asked.Take number) s (Say.Refused Refusal.NoFrames) (by_need order (layout c).order m)
-  unfolding due state_after
-  no_frames c large is in_c e none = record {
-    allowed = λ t owners states. all_kept (On.Tenant t (Asked.Take number)) (record { addressee = To.Tenant t; body = Say.Refused Refusal.NoFrames })
-        (record { limit = limit; order = order; owners = owners; states = states }) s
-        (formed t (Some s) refl)
-        (ap (λ o. option_map_or (is_one Refusal.NoFrames) (first_due ((is_none o, Refusal.NoCache) ∷ [])) true) (told_of (Some c) is))
-        (ap (λ o. option_map_or (is_used_up order s.has) o false) (told_of (Some c) is) ∙ used_up c large in_c e none)
-        refl refl refl refl refl refl refl refl refl;
-    meets = λ t. (s, refl, subst (λ n. Meets order s n) (sym (by_need_none order (layout c).order m none)) h);
-  }
+  unfolding due
+  no_frames c large is in_c e none =
+      refused limit order (Asked.Take number) Refusal.NoFrames s (by_need order (layout c).order m)
+      (subst (λ n. Meets order s n) (sym (by_need_none order (layout c).order m none)) h) (λ t owners states. (
+        ap (λ o. option_map_or (is_one Refusal.NoFrames) (first_due ((is_none o, Refusal.NoCache) ∷ [])) true) (told_of (Some c) is),
+        and_from _ _ (ap (λ o. option_map_or (is_used_up order s.has) o false) (told_of (Some c) is) ∙ used_up c large in_c e none) refl,
+      ))
 
   from_slab : (c : Cache) → 3 ≤ order → cache_of m number ≡ Some c → IsIn c m.caches → c.number ≡ number → (o : Option Slab) → slab_to_use (find is_partial c.slabs) (find is_empty c.slabs) ≡ o
       → IsKeptBy limit order (Asked.Take number) s (take_body (take_from order c m o).answer) (take_from order c m o).machine

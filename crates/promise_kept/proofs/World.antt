@@ -6,6 +6,7 @@ use Rattle.std.specs.Option.{option_map_or}
 use Rattle.std.proofs.Math.Nat.{mul-le-mul_right}
 use Rattle.std.proofs.lemmas.Bool.{and_from, eq-eqb, ne_eqb, le-leb, cases_eq, false≢true, false_from_ne_true}
 use Rattle.std.proofs.lemmas.List.{length-map, length-set}
+use Rattle.std.proofs.lemmas.Option.{same_Some, slice_get_within}
 use Rattle.model_core.specs.declared.owner.Owner.{Owner}
 use Rattle.model_core.specs.Machine.{Machine, empty_machine, holds}
 use Rattle.model_core.specs.Owners.{owned_by, is_of, is_owner}
@@ -25,9 +26,8 @@ use Rattle.words_core.specs.declared.reply.Refusal.{Refusal}
 use Rattle.words_core.specs.declared.reply.Reply.{Reply}
 use Rattle.world_core.specs.PrivateStep.{command_step}
 use Rattle.world_core.specs.World.{World, given_up}
-use Rattle.world_core.proofs.MachineLists.{slice_get-set_same, slice_get-set_other, slice_set-same}
+use Rattle.world_core.proofs.MachineLists.{slice_get-set_same, slice_get-set_other, slice_set-same, get_within}
 use Rattle.promise_core.specs.declared.promise.Promise.{Promise}
-use Rattle.promise_core.specs.Holdings.{Holdings}
 use Rattle.promise_core.specs.Holdings as seen
 use Rattle.promise_core.specs.State.{State, Known, opening_state, state_after, owners_after}
 use Rattle.promise_core.specs.Promises.{is_for, first_due, due, is_one, named, known_after, verdict, kept, is_no_tenant, judged, allowed}
@@ -40,19 +40,13 @@ use Rattle.promise_kept.proofs.SlotsMeet.{granted, taken_back, grant_meets, take
 -- Lists
 
 pub beside : {A B : Type 0} (xs : List A) (ys : List B) (t : ℕ) (y : B) → length xs ≡ length ys → slice_get ys t ≡ Some y → (x : A) × (slice_get xs t ≡ Some x)
-beside xs [] t y e is = absurd (cc)
-beside [] (z ∷ ys) t y e is = absurd (omega (arith, e))
-beside (x ∷ xs) (z ∷ ys) zero y e is = (x, refl)
-beside (x ∷ xs) (z ∷ ys) (suc t) y e is = beside xs ys t y (omega (arith, e)) is
+beside xs ys t y e is = get_within xs t (omega (arith, e, slice_get_within ys t y is))
 
 pub none_beside : {A B : Type 0} (xs : List A) (ys : List B) (t : ℕ) → length xs ≡ length ys → slice_get ys t ≡ None → slice_get xs t ≡ None
 none_beside [] ys t e is = refl
 none_beside (x ∷ xs) [] t e is = absurd (omega (arith, e))
 none_beside (x ∷ xs) (z ∷ ys) zero e is = absurd (cc)
 none_beside (x ∷ xs) (z ∷ ys) (suc t) e is = none_beside xs ys t (omega (arith, e)) is
-
-some_same : {A : Type 0} {x y : A} → Some x ≡ Some y → x ≡ y
-some_same e = cc
 
 -- The relation
 
@@ -87,22 +81,22 @@ allowed_stranger event reply k t name is for says =
 
 slots_after : (order t : ℕ) (command : Command) (body : Body) (s next : State) → state_after order (On.Tenant t command) body s ≡ Some next → s.has.slots ≡ next.has.slots
 unfolding state_after
-slots_after order t command (Say.Refused refusal) s next e = ap (λ (x : State). x.has.slots) (some_same e)
-slots_after order t (Asked.Alloc k) (Say.Frame f) s next e = ap (λ (x : State). x.has.slots) (some_same e)
-slots_after order t (Asked.Free f) (Say.Freed k) s next e = ap (λ (x : State). x.has.slots) (some_same e)
-slots_after order t (Asked.Read place len) (Say.Bytes bytes) s next e = ap (λ (x : State). x.has.slots) (some_same e)
-slots_after order t (Asked.Write place bytes) (Say.Written n) s next e = ap (λ (x : State). x.has.slots) (some_same e)
-slots_after order t (Asked.Cache size align pattern) (Say.Cache number chunk q n colours) s next e = ap (λ (x : State). x.has.slots) (some_same e)
-slots_after order t (Asked.Destroy number) (Say.Destroyed frames) s next e = ap (λ (x : State). x.has.slots) (some_same e)
-slots_after order t (Asked.Take number) (Say.Object place) s next e = ap (λ (x : State). x.has.slots) (some_same e)
-slots_after order t (Asked.Give number place) Say.Given s next e = ap (λ (x : State). x.has.slots) (some_same e)
-slots_after order t Asked.Reap (Say.Reaped frames) s next e = ap (λ (x : State). x.has.slots) (some_same e)
-slots_after order t Asked.Report (Say.Report r) s next e = ap (λ (x : State). x.has.slots) (some_same e)
+slots_after order t command (Say.Refused refusal) s next e = ap (λ (x : State). x.has.slots) (same_Some _ next e)
+slots_after order t (Asked.Alloc k) (Say.Frame f) s next e = ap (λ (x : State). x.has.slots) (same_Some _ next e)
+slots_after order t (Asked.Free f) (Say.Freed k) s next e = ap (λ (x : State). x.has.slots) (same_Some _ next e)
+slots_after order t (Asked.Read place len) (Say.Bytes bytes) s next e = ap (λ (x : State). x.has.slots) (same_Some _ next e)
+slots_after order t (Asked.Write place bytes) (Say.Written n) s next e = ap (λ (x : State). x.has.slots) (same_Some _ next e)
+slots_after order t (Asked.Cache size align pattern) (Say.Cache number chunk q n colours) s next e = ap (λ (x : State). x.has.slots) (same_Some _ next e)
+slots_after order t (Asked.Destroy number) (Say.Destroyed frames) s next e = ap (λ (x : State). x.has.slots) (same_Some _ next e)
+slots_after order t (Asked.Take number) (Say.Object place) s next e = ap (λ (x : State). x.has.slots) (same_Some _ next e)
+slots_after order t (Asked.Give number place) Say.Given s next e = ap (λ (x : State). x.has.slots) (same_Some _ next e)
+slots_after order t Asked.Reap (Say.Reaped frames) s next e = ap (λ (x : State). x.has.slots) (same_Some _ next e)
+slots_after order t Asked.Report (Say.Report r) s next e = ap (λ (x : State). x.has.slots) (same_Some _ next e)
 slots_after order t command body s next e = absurd (cc)
 
 slots_stay : (order : ℕ) (m after : Machine) (s next : State) → Meets order s m → Meets order next after → s.has.slots ≡ next.has.slots → after.slots ≡ m.slots
 unfolding holdings_of
-slots_stay order m after s next met later e = sym (ap (λ (x : Holdings). x.slots) later.has) ∙ (sym e ∙ ap (λ (x : Holdings). x.slots) met.has)
+slots_stay order m after s next met later e = sym (ap (λ (x : seen.Holdings). x.slots) later.has) ∙ (sym e ∙ ap (λ (x : seen.Holdings). x.slots) met.has)
 
 -- The world
 
@@ -209,7 +203,7 @@ module _ (limit order : ℕ) (w : World) (states : List State) where
           let next : next_slot m + 1 ≤ length w.owners = omega (arith, fewer) in
           let le : (next_slot m + 1) * 2 ^ order ≤ length w.owners * 2 ^ order = mul-le-mul_right (2 ^ order) next in
           let below : (next_slot m + 1) * 2 ^ order * 4096 ≤ 2 ^ 32 = omega (arith, le, h.ram) in
-          let unheld : not (seen.has_slot s.has (next_slot m)) ≡ true = ap (λ (x : Holdings). not (seen.has_slot x (next_slot m))) met.has ∙ not_held in
+          let unheld : not (seen.has_slot s.has (next_slot m)) ≡ true = ap (λ (x : seen.Holdings). not (seen.has_slot x (next_slot m))) met.has ∙ not_held in
           record {
             after = record { limit = limit; order = order; owners = slice_set w.owners j (Some (owned_by t (next_slot m))); states = slice_set states t (granted (next_slot m) s) };
             is_allowed = allowed_if (On.Admin (Do.Grant t)) (told (Say.Granted t (next_slot m) j)) now t s (granted (next_slot m) s) refl (state_of t m is).1
@@ -231,11 +225,11 @@ module _ (limit order : ℕ) (w : World) (states : List State) where
 
       unheld_slot : (u : ℕ) → holds m u ≡ false → not (seen.has_slot s.has u) ≡ true
       unfolding holdings_of
-      unheld_slot u e = ap (λ (x : Holdings). not (seen.has_slot x u)) met.has ∙ ap not e
+      unheld_slot u e = ap (λ (x : seen.Holdings). not (seen.has_slot x u)) met.has ∙ ap not e
 
       held_slot : (u : ℕ) → holds m u ≡ true → not (seen.has_slot s.has u) ≡ false
       unfolding holdings_of
-      held_slot u e = ap (λ (x : Holdings). not (seen.has_slot x u)) met.has ∙ ap not e
+      held_slot u e = ap (λ (x : seen.Holdings). not (seen.has_slot x u)) met.has ∙ ap not e
 
       pub no_slot : (u : ℕ) → holds m u ≡ false → IsKeptIn limit order (On.Admin (Do.TakeBack t u)) now (record { reply = told (Say.Refused Refusal.NoSlot); world = w })
       unfolding due state_after owners_after
@@ -250,7 +244,7 @@ module _ (limit order : ℕ) (w : World) (states : List State) where
       slot_busy u e busy = unchanged (On.Admin (Do.TakeBack t u)) (told (Say.Refused Refusal.SlotBusy)) t m s refl is (state_of t m is).1
           (all_kept (On.Admin (Do.TakeBack t u)) (told (Say.Refused Refusal.SlotBusy)) now s refl
           (ap (λ b. option_map_or (is_one Refusal.SlotBusy) (first_due ((b, Refusal.NoSlot) ∷ (seen.is_slot_busy order s.has u, Refusal.SlotBusy) ∷ [])) true) (held_slot u e) ∙ either (seen.is_slot_busy order s.has u))
-          refl (ap (λ (x : Holdings). seen.is_slot_busy order x u || list_any (λ c. s.hides c.number) x.caches) met.has ∙ busy_may order m s formed met u busy)
+          refl (ap (λ (x : seen.Holdings). seen.is_slot_busy order x u || list_any (λ c. s.hides c.number) x.caches) met.has ∙ busy_may order m s formed met u busy)
           refl refl refl refl refl refl refl refl) refl refl
         where
           either : (b : Bool) → option_map_or (is_one Refusal.SlotBusy) (first_due ((b, Refusal.SlotBusy) ∷ [])) true ≡ true
@@ -274,7 +268,7 @@ module _ (limit order : ℕ) (w : World) (states : List State) where
       })
       unfolding due state_after owners_after
       back_done u e free =
-          let idle : seen.is_slot_busy order s.has u ≡ false = ap (λ (x : Holdings). seen.is_slot_busy order x u) met.has ∙ busy_seen order m s formed met u free in
+          let idle : seen.is_slot_busy order s.has u ≡ false = ap (λ (x : seen.Holdings). seen.is_slot_busy order x u) met.has ∙ busy_seen order m s formed met u free in
           record {
             after = record { limit = limit; order = order; owners = map (given_up (is_owner t u)) w.owners; states = slice_set states t (taken_back order u s) };
             is_allowed = allowed_if (On.Admin (Do.TakeBack t u)) (told (Say.TakenBack (position_or_len (is_owner t u) w.owners))) now t s (taken_back order u s) refl (state_of t m is).1

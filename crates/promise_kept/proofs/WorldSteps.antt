@@ -1,5 +1,5 @@
 -- The world keeps the promises in every step, and so in every run from the opening world.
-use Rattle.std.proofs.Common.{◌≡◌, ℕ, zero, suc, ◌*◌, ◌^◌, ◌≤◌, Bool, true, false, not, eqb, List, [], ◌∷◌, length, Option, Some, None, Result, Ok, Err, is_none, position, slice_get, append-nil, refl, sym, ap, ◌∙◌, subst, arith}
+use Rattle.std.proofs.Common.{◌≡◌, ℕ, zero, suc, ◌*◌, ◌^◌, ◌≤◌, Bool, true, false, not, eqb, List, [], ◌∷◌, length, Option, Some, None, Result, Ok, is_none, position, slice_get, append-nil, refl, sym, ap, ◌∙◌, subst, arith}
 use Rattle.std.specs.Prelude.{if◌then◌else◌, replicate, flat_map}
 use Rattle.std.specs.List.{list_any, AllByRecursion as Each}
 use Rattle.std.proofs.lemmas.Bool.{and_from, eq-eqb}
@@ -11,7 +11,7 @@ use Rattle.model_core.specs.Owners.{is_owner}
 use Rattle.model_core.specs.Operations.{Step, refuse, is_busy, after_take_back, take_back_step}
 use Rattle.model_core.specs.Runs.{ArePossible}
 use Rattle.model_core.specs.WellFormed.{IsWellFormed}
-use Rattle.model_core.proofs.Lists.{each_append}
+use Rattle.model_core.proofs.Lists.{each_weaker}
 use Rattle.model_core.proofs.PageSteps.{empty_kept}
 use Rattle.model_core.proofs.WellFormedRuns as formed
 use Rattle.words_core.specs.declared.event.Event.{Event}
@@ -19,7 +19,6 @@ use Rattle.words_core.specs.declared.event.Event.TheVariants as On
 use Rattle.words_core.specs.declared.event.AdminCommand.TheVariants as Do
 use Rattle.words_core.specs.declared.event.Command.{Command}
 use Rattle.words_core.specs.declared.event.Command.TheVariants as Asked
-use Rattle.words_core.specs.declared.event.LineFault.{LineFault}
 use Rattle.words_core.specs.declared.reply.Addressee.{Addressee}
 use Rattle.words_core.specs.declared.reply.Addressee.TheVariants as To
 use Rattle.words_core.specs.declared.reply.Body.TheVariants as Say
@@ -29,13 +28,14 @@ use Rattle.words_core.specs.Grammar.{reading_of}
 use Rattle.world_core.specs.PrivateStep.{Entry, private_step, command_step}
 use Rattle.world_core.specs.World.{World, WorldStep, answer, grant_step, slot_step, reset_step, moved_to, move_step, tenant_step, world_step, history, world_after, opening_world}
 use Rattle.world_core.specs.World as world
-use Rattle.world_core.specs.Output.{event_in, events_of}
+use Rattle.world_core.specs.Output.{events_of}
 use Rattle.world_core.specs.Laws.{opening_history}
 use Rattle.world_core.specs.Reached.{operations_in}
 use Rattle.world_core.proofs.Operations.{entries_are_operations}
-use Rattle.world_core.proofs.Asked.{reading_possible}
+use Rattle.world_core.proofs.Asked.{IsPossibleEvent, reading_possible, events_possible}
 use Rattle.promise_core.specs.State.{State, Known, opening_state, opening, state_after, owners_after}
 use Rattle.promise_core.specs.Promises.{is_for, due, named, kept, allowed, all_allowed}
+use Rattle.promise_core.proofs.Steps.{replicated}
 use Rattle.promise_kept.specs.Meets.{Meets, IsPromiseKept}
 use Rattle.promise_kept.specs.MeetsWorld.{MeetsWorld, IsKeptIn, IsEventKept}
 use Rattle.promise_kept.specs.WorldLaws.{CanBeAsked, KeepsPromises, TraceKeepsPromises, StrangerChangesNothing}
@@ -52,7 +52,6 @@ use Rattle.promise_kept.proofs.Destroy as destroy
 use Rattle.promise_kept.proofs.Taking as taking
 use Rattle.promise_kept.proofs.Give as give
 use Rattle.promise_kept.proofs.Reap as reap
-use Rattle.std.proofs.lemmas.Option.{slice_get_past}
 use Rattle.promise_kept.proofs.Report.{report_kept}
 
 -- Commands
@@ -207,19 +206,14 @@ stranger_event limit order t (On.Admin Do.Pool) k w h name past = absurd (cc)
 
 -- Runs
 
-replicated : {A : Type 0} (n t : ℕ) (x y : A) → slice_get (replicate n x) t ≡ Some y → x ≡ y
-replicated zero t x y e = absurd (cc)
-replicated (suc n) zero x y e = cc
-replicated (suc n) (suc t) x y e = replicated n t x y e
-
 pub opening_meets : (limit order superblocks tenants : ℕ) → superblocks * 2 ^ order * 4096 ≤ 2 ^ 32 → MeetsWorld limit order (opening limit order superblocks tenants) (opening_world superblocks tenants)
 unfolding opening opening_world empty_machine
 opening_meets limit order superblocks tenants ram = record {
   known = refl;
   tenants = length-replicate tenants opening_state ∙ sym (length-replicate tenants empty_machine);
-  meets = λ t s m is_s is_m. subst (λ x. Meets order x m) (replicated tenants t opening_state s is_s) (subst (λ x. Meets order opening_state x) (replicated tenants t empty_machine m is_m) (nothing_meets order));
-  formed = λ t m is. subst (IsWellFormed limit order) (replicated tenants t empty_machine m is) (empty_kept order);
-  held = λ t u m is. ap (λ x. holds x u) (sym (replicated tenants t empty_machine m is)) ∙ sym (unowned t u superblocks);
+  meets = λ t s m is_s is_m. subst (λ x. Meets order x m) (sym (replicated tenants t opening_state s is_s)) (subst (λ x. Meets order opening_state x) (sym (replicated tenants t empty_machine m is_m)) (nothing_meets order));
+  formed = λ t m is. subst (IsWellFormed limit order) (sym (replicated tenants t empty_machine m is)) (empty_kept order);
+  held = λ t u m is. ap (λ x. holds x u) (replicated tenants t empty_machine m is) ∙ sym (unowned t u superblocks);
   ram = subst (λ n. n * 2 ^ order * 4096 ≤ 2 ^ 32) (sym (length-replicate superblocks None)) ram;
 }
   where
@@ -245,18 +239,15 @@ keeps_promises limit order superblocks tenants events le ram can =
 
 -- what a line reads as can be asked for
 
+can_ask : (event : Event) → IsPossibleEvent event → CanBeAsked event
+can_ask (On.Tenant t command) h = h
+can_ask (On.Admin command) h = tt
+
 pub read_asked : (line : List ℕ) (event : Event) → reading_of line ≡ Ok (Some event) → CanBeAsked event
-read_asked line (On.Tenant t command) e = reading_possible line (On.Tenant t command) e
-read_asked line (On.Admin command) e = tt
+read_asked line event e = can_ask event (reading_possible line event e)
 
 pub lines_asked : (lines : List (List ℕ)) → Each CanBeAsked (events_of lines)
-lines_asked [] = tt
-lines_asked (line ∷ lines) = each_append CanBeAsked (event_in (reading_of line)) (events_of lines) (go (reading_of line) refl) (lines_asked lines)
-  where
-    go : (reading : Result (Option Event) LineFault) → reading_of line ≡ reading → Each CanBeAsked (event_in reading)
-    go (Ok None) is = tt
-    go (Ok (Some event)) is = (read_asked line event is, tt)
-    go (Err fault) is = tt
+lines_asked lines = each_weaker IsPossibleEvent CanBeAsked can_ask (events_of lines) (events_possible lines)
 
 pub trace_keeps_promises : TraceKeepsPromises
 trace_keeps_promises limit order superblocks tenants trace le ram = keeps_promises limit order superblocks tenants (events_of (lines_of_trace trace)) le ram (lines_asked (lines_of_trace trace))

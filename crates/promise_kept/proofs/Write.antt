@@ -20,7 +20,7 @@ use Rattle.promise_core.specs.State.{State, with_range, state_after}
 use Rattle.promise_core.specs.Promises.{due}
 use Rattle.promise_kept.specs.Meets.{Meets, IsKeptBy, IsPromiseKept}
 use Rattle.promise_kept.proofs.Seen.{reach_same}
-use Rattle.promise_kept.proofs.Cells.{all_kept, formed}
+use Rattle.promise_kept.proofs.Cells.{all_kept, formed, refused}
 use Rattle.promise_kept.proofs.Range.{range_meets}
 
 -- what holds a range is seen where the range is in reach
@@ -29,15 +29,10 @@ reach_seen order m s place len h = ap (λ x. is_some (holder_of x place len)) h.
 
 module _ (limit order place : ℕ) (new : ArrayVec ℕ) (m : Machine) (s : State) (w : IsWellFormed limit order m) (h : Meets order s m) where
   out_of_reach : in_reach m place (length new.items) ≡ false → IsKeptBy limit order (Asked.Write place new) s (Say.Refused Refusal.OutOfReach) m
-  unfolding due state_after
+  unfolding due
   out_of_reach out =
       let none : holder_of s.has place (length new.items) ≡ None = none_of (holder_of s.has place (length new.items)) (reach_seen order m s place (length new.items) h ∙ out) in
-      record {
-        allowed = λ t owners states. all_kept (On.Tenant t (Asked.Write place new)) (record { addressee = To.Tenant t; body = Say.Refused Refusal.OutOfReach })
-            (record { limit = limit; order = order; owners = owners; states = states }) s
-            (formed t (Some s) refl) (rw none refl) refl refl refl refl refl refl refl refl refl refl;
-        meets = λ t. (s, refl, h);
-      }
+      refused limit order (Asked.Write place new) Refusal.OutOfReach s m h (λ t owners states. (rw none refl, refl))
 
   write_meets : (holder : Holder) → holder_of s.has place (length new.items) ≡ Some holder
       → Meets order (record s { cells = with_bytes holder place new.items s.cells }) (record m { bytes = written place new.items m.bytes })
