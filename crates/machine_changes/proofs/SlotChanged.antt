@@ -90,8 +90,11 @@ module _ (r r' : spaces.Content) (b b' : buddies.Content) (s : Content) (t u : �
         (λ e. no_slab_under r' s t (index_of_cache t c) cache f (node_of s.top r'.slots t f) (k.is_bare f e)
         ∙ sym (no_slab_under r s t (index_of_cache t c) cache f (node_of s.top r.slots t f) (k.was_bare f e)))
         (λ differ. same_slab r r' s s t c f cache (node_same f differ) (λ n under. refl)
-        (λ n under listed. (refl, live_stays r b s t st r' (kept_at s.kept n) c f n cache (record { cached = cached; under = under; listed = listed })
-        (λ small j less. record_same f j differ less))))
+        (λ n under listed. (
+          refl,
+          live_stays r b s t st r' (kept_at s.kept n) c f n cache (record { cached = cached; under = under; listed = listed })
+              (λ small j less. record_same f j differ less),
+        )))
         (cases_eq (f / 2 ^ s.top) u)
 
     -- the machine with the slots that are held now, and with the slot's bytes
