@@ -1,5 +1,5 @@
 -- Each list has exactly the first frames of the cache's slabs of its kind.
-use Rattle.std.proofs.Common.{ℕ, map, subst}
+use Rattle.std.proofs.Common.{ℕ, List, map, subst}
 use Rattle.std.specs.Prelude.{filter}
 use Rattle.model_core.specs.Elements.{IsIn}
 use Rattle.model_core.proofs.Lists.{filter_in, in_filter, filter_rises, in_map, map_in}
@@ -9,6 +9,10 @@ use Rattle.klist_core.proofs.Listing.{list_rises, in_list, listed, key_among}
 use Rattle.slab_tables.specs.Content.{head_of}
 use Rattle.machine_changes.specs.Laws.{is_kind, KindsHold}
 use Rattle.machine_changes.proofs.ByKind.{to_list, from_list}
+
+-- listings have the model's membership
+pub in_among : {X : Type 0} (x : X) (xs : List X) → IsIn x xs → IsIn x xs
+in_among x xs i = i
 
 pub kinds_hold : KindsHold
 kinds_hold s w table r b t c kind m x a st h ex less =
