@@ -1,8 +1,8 @@
 -- What a tenant sees of actions is what its private machine gives to its own list.
 use Rattle.std.proofs.Common.{◌≡◌, ℕ, ◌<◌, ◌==◌, Bool, true, false, List, [], ◌∷◌, ◌++◌, Some, map, slice_get, if◌then◌else◌, append_assoc, refl, sym, ap, ◌∙◌, subst}
 use Rattle.std.proofs.lemmas.Bool.{eqb-true}
+use Rattle.std.proofs.lemmas.List.{map-append}
 use Rattle.model_core.specs.Machine.{Machine, empty_machine}
-use Rattle.model_core.proofs.Lists.{map_append}
 use Rattle.words_core.specs.declared.event.Event.{Event}
 use Rattle.words_core.specs.declared.event.Event.TheVariants.{Tenant}
 use Rattle.words_core.specs.declared.event.Command.TheVariants.{Write}
@@ -43,7 +43,7 @@ entered limit order (entry ∷ entries) m =
     let first = private_step limit order entry m in
     let rest = private_run limit order entries first.machine in
     ap (then_seen (map Told first.replies)) (entered limit order entries first.machine)
-    ∙ ap (λ sights. record { sights = sights; machine = rest.machine }) (sym (map_append Told first.replies rest.replies))
+    ∙ ap (λ sights. record { sights = sights; machine = rest.machine }) (sym (map-append Told first.replies rest.replies))
 
 -- Actions
 

@@ -1,10 +1,8 @@
 -- What a kernel lends of a tenant, and what a call leaves: marks, what others have, the machine of the tenant.
-use Rattle.std.proofs.Common.{◌≡◌, ℕ, ◌≤◌, nat_lt, false, refl, arith, ◌<◌, Bool, Option, Some, None, length, slice_set, sym, ap, ◌∙◌, ⊎_elim, subst, ◌⊎◌, inl, inr, [], slice_index_or}
+use Rattle.std.proofs.Common.{◌≡◌, ℕ, ◌≤◌, false, refl, arith, ◌<◌, Bool, Option, Some, None, length, slice_set, sym, ap, ◌∙◌, ⊎_elim, subst, ◌⊎◌, inl, inr, [], slice_index_or}
 use Rattle.std.proofs.lemmas.Bool.{cases_eq, cases_lt}
-use Rattle.std.proofs.lemmas.Bool.Decides.{nat_tests}
 use Rattle.model_core.specs.declared.owner.Owner.{Owner}
 use Rattle.std.proofs.lemmas.List.{get_or-set_same, get_or-set_other, length-set, get_or_past}
-use Rattle.space_core.specs.Content.{Content, owner_at, mark_at}
 use Rattle.kernel_core.specs.Content.{mark_after, MarksFollow, KernelContent, Keeps, content_of, PartsAgree, SameSizes}
 use Rattle.model_core.specs.Machine.{Machine}
 use Rattle.model_core.specs.Operations.{Step}
@@ -21,9 +19,6 @@ use Rattle.machine_changes.proofs.Steady.{agree_steady}
 use Rattle.machine_changes.proofs.PageHoldings.{same_space}
 use Rattle.machine_changes.specs.Slots.{HoldTogether}
 
-pub not_less : (a b : ℕ) → b ≤ a → nat_lt a b ≡ false
-not_less a b le = grind (arith, nat_tests)
-
 -- Marks
 
 mark_kept : (o : Option Owner) (was : Bool) → mark_after o o was ≡ was
@@ -31,27 +26,27 @@ mark_kept None was = refl
 mark_kept (Some o) was = refl
 
 -- no owner and no mark changes
-pub marks_kept : (old new : Content) → new.owners ≡ old.owners → new.marks ≡ old.marks → MarksFollow old new
+pub marks_kept : (old new : spaces.Content) → new.owners ≡ old.owners → new.marks ≡ old.marks → MarksFollow old new
 marks_kept old new owners marks m =
-    ap (λ bs. mark_at bs m) marks
-    ∙ sym (ap (λ os. mark_after (owner_at old.owners m) (owner_at os m) (mark_at old.marks m)) owners
-    ∙ mark_kept (owner_at old.owners m) (mark_at old.marks m))
+    ap (λ bs. spaces.mark_at bs m) marks
+    ∙ sym (ap (λ os. mark_after (spaces.owner_at old.owners m) (spaces.owner_at os m) (spaces.mark_at old.marks m)) owners
+    ∙ mark_kept (spaces.owner_at old.owners m) (spaces.mark_at old.marks m))
 
 -- then superblock m gets another owner, and the mark that this asks for
-pub marks_replaced : (old now : Content) (m : ℕ) (o : Option Owner) (is : Bool) → MarksFollow old now → m < length now.owners → m < length now.marks
-    → mark_after (owner_at old.owners m) o (mark_at old.marks m) ≡ is
+pub marks_replaced : (old now : spaces.Content) (m : ℕ) (o : Option Owner) (is : Bool) → MarksFollow old now → m < length now.owners → m < length now.marks
+    → mark_after (spaces.owner_at old.owners m) o (spaces.mark_at old.marks m) ≡ is
     → MarksFollow old (record now { owners = slice_set now.owners m o; marks = slice_set now.marks m is })
 marks_replaced old now m o is follows owner mark told n = ⊎_elim
     (λ same.
-    ap (λ i. mark_at (slice_set now.marks m is) i) same
+    ap (λ i. spaces.mark_at (slice_set now.marks m is) i) same
     ∙ get_or-set_same now.marks m is false mark
     ∙ sym told
-    ∙ ap (λ x. mark_after (owner_at old.owners m) x (mark_at old.marks m)) (sym (get_or-set_same now.owners m o None owner))
-    ∙ ap (λ i. mark_after (owner_at old.owners i) (owner_at (slice_set now.owners m o) i) (mark_at old.marks i)) (sym same))
+    ∙ ap (λ x. mark_after (spaces.owner_at old.owners m) x (spaces.mark_at old.marks m)) (sym (get_or-set_same now.owners m o None owner))
+    ∙ ap (λ i. mark_after (spaces.owner_at old.owners i) (spaces.owner_at (slice_set now.owners m o) i) (spaces.mark_at old.marks i)) (sym same))
     (λ other.
     get_or-set_other now.marks m n is false other
     ∙ follows n
-    ∙ ap (λ x. mark_after (owner_at old.owners n) x (mark_at old.marks n)) (sym (get_or-set_other now.owners m n o None other)))
+    ∙ ap (λ x. mark_after (spaces.owner_at old.owners n) x (spaces.mark_at old.marks n)) (sym (get_or-set_other now.owners m n o None other)))
     (cases_eq n m)
 
 -- Calls

@@ -2,6 +2,7 @@
 use Rattle.std.proofs.Common.{◌≡◌, ℕ, true, false, Option, Some, None, Result, Ok, Err, IfNone, refl, sym, ap, ◌∙◌, subst}
 use Rattle.std.specs.Prelude.{OnErr, IsErrAnd}
 use Rattle.std.proofs.lemmas.Result.{err_from_is_err_and}
+use Rattle.std.proofs.lemmas.Bool.{both_ways}
 use Rattle.model_core.specs.Machine.{Machine}
 use Rattle.model_core.specs.Operations.{Step}
 use Rattle.space_core.specs.Content as spaces
@@ -24,7 +25,6 @@ use Rattle.kernel_core.specs.Shows.{ShowsMachine}
 use Rattle.kernel_core.specs.Does.{Does}
 use Rattle.kernel_core.proofs.Changing.{does_called, does_nothing, same_of}
 use Rattle.kernel_core.specs.Steps.{StepsMachine, body_of}
-use Rattle.kernel_core.proofs.Worlds.{false_is}
 
 -- the call does the step that the command is, and the tenant is told its answer
 pub commanded : {A : Type 0} (k k' : KernelContent) (t : ℕ) (command : Command) (body : A → Body) (step : Machine → Step A) (told : A)
@@ -57,11 +57,11 @@ called r r' b b' s s' t spares command body step told same answer shows refused 
 
 -- only what is refused is told as a refusal
 pub by_err : {A E P : Type 0} (body : Result A E → Body) (x : Result A E) → ((a : A) → is_refused (body (Ok a)) ≡ false) → OnErr x P → is_refused (body x) ≡ true → P
-by_err body (Ok a) done same is = absurd (false_is (is_refused (body (Ok a))) (done a) is)
+by_err body (Ok a) done same is = absurd (both_ways (is_refused (body (Ok a))) (done a) is)
 by_err body (Err e) done same is = same
 
 pub by_none : {A P : Type 0} (body : Option A → Body) (x : Option A) → ((a : A) → is_refused (body (Some a)) ≡ false) → IfNone x P → is_refused (body x) ≡ true → P
-by_none body (Some a) done same is = absurd (false_is (is_refused (body (Some a))) (done a) is)
+by_none body (Some a) done same is = absurd (both_ways (is_refused (body (Some a))) (done a) is)
 by_none body None done same is = same
 
 -- a refusal that `?` passes on

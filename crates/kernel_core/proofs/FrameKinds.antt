@@ -17,7 +17,6 @@ use Rattle.space_core.specs.Content as spaces
 use Rattle.buddy_core.specs.Content as buddies
 use Rattle.slab_tables.specs.Content.{Content, IsSlabs, layout_numbers, head_of, index_of_cache}
 use Rattle.machine_changes.specs.Shows as showing
-use Rattle.machine_changes.specs.Shows.{node_of, has_slab, Agree}
 use Rattle.machine_changes.specs.Steady.{IsSteady}
 use Rattle.machine_changes.specs.Laws.{is_kind}
 use Rattle.machine_changes.proofs.Facts.{cache_shown}
@@ -104,13 +103,13 @@ module _ (r : spaces.Content) (b : buddies.Content) (s : Content) (t : ℕ) (st 
 
   -- a taken block that is no slab's is a page block
   pub in_page : (first k : ℕ) → buddies.taken_of (buddies.holding_of t b) first ≡ Some k → HasFrame (block first k) f
-      → has_slab s (node_of s.top r.slots t first) ≡ false → IsTaken (order_in m.blocks) f
+      → showing.has_slab s (showing.node_of s.top r.slots t first) ≡ false → IsTaken (order_in m.blocks) f
   in_page first k taken here none =
       (first, k, h.blocks first ∙ ap (λ v. cond v None (buddies.taken_of (buddies.holding_of t b) first)) none ∙ taken, here)
 
   -- a taken block on which a slab stands is the block of a slab of the kind of its list
-  pub in_slab : IsSlabs s → Agree r b s → (first k : ℕ) → buddies.taken_of (buddies.holding_of t b) first ≡ Some k → HasFrame (block first k) f
-      → (node head key kind : ℕ) → node_of s.top r.slots t first ≡ Some node → place_at s.lists.places node ≡ Some (head, key)
+  pub in_slab : IsSlabs s → showing.Agree r b s → (first k : ℕ) → buddies.taken_of (buddies.holding_of t b) first ≡ Some k → HasFrame (block first k) f
+      → (node head key kind : ℕ) → showing.node_of s.top r.slots t first ≡ Some node → place_at s.lists.places node ≡ Some (head, key)
       → kind < 3 → head % 3 ≡ kind → IsInSlab m f (is_kind kind)
   in_slab w a first k taken here node head key kind under place less is =
       let q = st.listed first node head key under place in
@@ -134,7 +133,7 @@ module _ (r : spaces.Content) (b : buddies.Content) (s : Content) (t : ℕ) (st 
 
 -- the list has the slab that begins at a frame
 abbrev pub IsListed : KernelContent → ℕ → ℕ → ℕ → Type 0
-IsListed k t first list = (node key : ℕ) × (node_of k.slabs.top k.space.slots t first ≡ Some node) × (place_at k.slabs.lists.places node ≡ Some (list, key))
+IsListed k t first list = (node key : ℕ) × (showing.node_of k.slabs.top k.space.slots t first ≡ Some node) × (place_at k.slabs.lists.places node ≡ Some (list, key))
 
 -- The same, of the fields and of what they show.
 module _ (r : spaces.Content) (b : buddies.Content) (s : Content) (t : ℕ) (k : KernelContent) (is : content_of r b s ≡ k) (holds : HoldTogether k.space k.buddy k.slabs)

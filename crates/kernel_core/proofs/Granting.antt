@@ -4,7 +4,6 @@ use Rattle.std.proofs.lemmas.Option.{slice_get_past}
 use Rattle.model_core.specs.Operations.{after_grant, next_slot}
 use Rattle.model_core.specs.Owners.{owned_by}
 use Rattle.space_core.specs.Content as spaces
-use Rattle.space_core.specs.Content.{mark_at}
 use Rattle.space_core.specs.Changes.{IsLeastSlot, with_grant}
 use Rattle.space_core.proofs.Vacancy.{unowned-from_position}
 use Rattle.buddy_core.specs.Content as buddies
@@ -26,9 +25,10 @@ use Rattle.words_core.specs.declared.reply.Body.TheVariants.{Granted, Refused}
 use Rattle.words_core.specs.declared.reply.Refusal.TheVariants.{NoTenant, PoolEmpty}
 use Rattle.world_core.specs.Limits.{cache_limit}
 use Rattle.world_core.specs.World.{World, WorldStep, grant_step, world_step}
+use Rattle.world_core.proofs.MachineLists.{get_within}
 use Rattle.kernel_core.specs.Does as calls
 use Rattle.kernel_core.specs.Steps.{Steps}
-use Rattle.kernel_core.proofs.Worlds.{get_within, steps_done, steps_answered, unnamed}
+use Rattle.kernel_core.proofs.Worlds.{steps_done, steps_answered, unnamed}
 
 -- it stands under no slot, and no slab begins on it
 pub free_is_spare : (r : spaces.Content) (b : buddies.Content) (s : tables.Content) (m : ℕ) → HoldTogether r b s → position is_none r.owners ≡ Some m → IsSpare b s m
@@ -65,7 +65,7 @@ does_granted r b s t u m g =
       owners = refl;
       marks = marks_replaced r r m (Some (owned_by t u)) false (marks_kept r r refl refl) g.below
           (omega (arith, g.below, g.together.space.facts.flagged))
-          (ap (λ o. mark_after o (Some (owned_by t u)) (mark_at r.marks m)) (unowned-from_position r.owners m g.free));
+          (ap (λ o. mark_after o (Some (owned_by t u)) (spaces.mark_at r.marks m)) (unowned-from_position r.owners m g.free));
       spare = g.together.space.spare.grant t u m g.below;
     }
 

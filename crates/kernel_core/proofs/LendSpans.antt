@@ -1,7 +1,7 @@
 -- Which bytes can be lent: a page block around a place, a live object that begins at one.
 use Rattle.std.proofs.Common.{◌≡◌, inl, inr, ℕ, ◌*◌, ◌/◌, ◌%◌, ◌^◌, ◌<◌, ◌≤◌, Bool, true, false, if◌then◌else◌, Option, Some, None, refl, sym, ap, ◌∙◌, subst, arith}
 use Rattle.std.specs.Prelude.{is_some}
-use Rattle.std.proofs.lemmas.Bool.{false≢true, lt-ltb}
+use Rattle.std.proofs.lemmas.Bool.{false≢true, lt-ltb, le-ltb}
 use Rattle.std.proofs.Math.Nat.{pow-le-pow_right, mod-eq_of_lt}
 use Rattle.model_core.specs.Blocks.{block, HasFrame, IsTaken}
 use Rattle.model_core.specs.Machine.{Machine, order_in}
@@ -27,11 +27,9 @@ use Rattle.kernel_core.specs.Content.{KernelContent, PartsAgree, content_of}
 use Rattle.kernel_core.specs.Steps.{Steps, StepsMachine}
 use Rattle.kernel_core.specs.Shows.{ShowsMachine}
 use Rattle.kernel_core.specs.Lending.{IsLive, HasBlock, IsBlockSpan, reply_for}
-use Rattle.kernel_core.proofs.Changing.{not_less}
 use Rattle.kernel_core.proofs.Worlds.{unknown_tenant, steps_asked}
 use Rattle.kernel_core.proofs.Changing.{steady}
-use Rattle.kernel_core.proofs.PageCalls.{block_slot}
-use Rattle.kernel_core.proofs.PageCalls.{IsAsked, not_held, home_is}
+use Rattle.kernel_core.proofs.PageCalls.{block_slot, IsAsked, not_held, home_is}
 
 -- a block of no slab
 record IsPage (v : Bool) (o : Option ℕ) (k : ℕ) : Type 0 where
@@ -172,7 +170,7 @@ pub reply_unknown : (k : KernelContent) (tenant : ℕ) (command : Command) → k
     → Steps k (On.Tenant tenant command) k (reply_for k tenant (Refused NoTenant))
 reply_unknown k tenant command past =
     subst (λ v. Steps k (On.Tenant tenant command) k (record { addressee = if v then To.Tenant tenant else To.Nobody; body = Refused NoTenant }))
-    (sym (not_less tenant k.tenants past)) (unknown_tenant k tenant command past)
+    (sym (le-ltb tenant k.tenants past)) (unknown_tenant k tenant command past)
 
 pub reply_known : (k k' : KernelContent) (t tenant : ℕ) (command : Command) (body : Body) → t ≡ tenant → t < k.tenants → PartsAgree k'
     → StepsMachine k t command k' body → Steps k (On.Tenant tenant command) k' (reply_for k tenant body)

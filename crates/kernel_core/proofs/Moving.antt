@@ -1,10 +1,9 @@
 -- A slot is moved to a superblock without owner.
-use Rattle.std.proofs.Common.{◌≡◌, ℕ, ◌<◌, true, false, Some, None, is_none, length, position, slice_set, refl, ap, arith, ◌≤◌, Option, is_some, IsSome, List, [], map, slice_get, sym, ◌∙◌, subst}
+use Rattle.std.proofs.Common.{◌≡◌, ℕ, ◌<◌, true, false, Some, None, is_none, length, position, slice_set, refl, ap, arith, ◌≤◌, Option, is_some, IsSome, List, map, slice_get, sym, ◌∙◌, subst}
 use Rattle.std.proofs.lemmas.List.{length-set}
 use Rattle.std.proofs.lemmas.Option.{slice_get_past}
 use Rattle.model_core.specs.Owners.{owned_by, is_owner}
 use Rattle.space_core.specs.Content as spaces
-use Rattle.space_core.specs.Content.{mark_at}
 use Rattle.space_core.specs.Changes.{with_move}
 use Rattle.space_core.proofs.Vacancy.{unowned-from_position}
 use Rattle.buddy_core.specs.Content as buddies
@@ -26,10 +25,10 @@ use Rattle.words_core.specs.declared.reply.Body.TheVariants.{Moved, Refused}
 use Rattle.words_core.specs.declared.reply.Refusal.TheVariants.{NoTenant, NoSlot, PoolEmpty}
 use Rattle.world_core.specs.Limits.{cache_limit}
 use Rattle.world_core.specs.World.{World, WorldStep, answer, given_up, moved_to, move_step, world_step}
-use Rattle.world_core.proofs.MachineLists.{slice_set-same}
+use Rattle.world_core.proofs.MachineLists.{slice_set-same, get_within}
 use Rattle.kernel_core.specs.Shows.{Shows}
 use Rattle.kernel_core.specs.Steps.{Steps}
-use Rattle.kernel_core.proofs.Worlds.{get_within, steps_done, steps_answered, unnamed}
+use Rattle.kernel_core.proofs.Worlds.{steps_done, steps_answered, unnamed}
 use Rattle.kernel_core.proofs.Owners.{is_under, given_up_one}
 
 -- superblock `from` stands under slot u of tenant t, and `to` is the least without owner
@@ -63,7 +62,7 @@ moves r b s s' t u from to g =
         marks = marks_replaced r left to (Some (owned_by t u)) false left_follows
             (omega (arith, g.to_below, length-set r.owners from None))
             (omega (arith, g.to_below, g.together.space.facts.flagged, length-set r.marks from true))
-            (ap (λ o. mark_after o (Some (owned_by t u)) (mark_at r.marks to)) (unowned-from_position r.owners to g.free));
+            (ap (λ o. mark_after o (Some (owned_by t u)) (spaces.mark_at r.marks to)) (unowned-from_position r.owners to g.free));
         spare = g.together.space.spare.move t u from to g.to_below;
       };
     }
@@ -74,7 +73,7 @@ moves r b s s' t u from to g =
 
     left_follows : MarksFollow r left
     left_follows = marks_replaced r r from None true (marks_kept r r refl refl) g.below (omega (arith, g.below, g.together.space.facts.flagged))
-        (ap (λ o. mark_after o None (mark_at r.marks from)) ((g.together.space.facts.agree t u from).0 g.here))
+        (ap (λ o. mark_after o None (spaces.mark_at r.marks from)) ((g.together.space.facts.agree t u from).0 g.here))
 
 -- What it is to the world
 

@@ -7,7 +7,6 @@ use Rattle.std.proofs.lemmas.List.{length-set, get_or-set_same, get_or-set_other
 use Rattle.std.proofs.lemmas.List.Sums.{position_or_len_is}
 use Rattle.std.proofs.Math.ListN.{length-map}
 use Rattle.space_core.specs.Content as spaces
-use Rattle.space_core.specs.Content.{IsSpace, owner_at}
 use Rattle.model_core.specs.Owners.{owned_by, is_owner}
 use Rattle.world_core.specs.World.{given_up}
 use Rattle.world_core.proofs.Runs.{is_same}
@@ -28,17 +27,17 @@ owner_self t u = ap (λ b. b && (u == u)) (is_same t) ∙ is_same u
 -- superblock m is the one under slot u of tenant t
 pub record IsUnder (s : spaces.Content) (t u m : ℕ) : Type 0 where
   pub within : m < length s.owners
-  pub owner : owner_at s.owners m ≡ Some (owned_by t u)
-  pub only : (n : ℕ) → n ≢ m → is_owner t u (owner_at s.owners n) ≡ false
+  pub owner : spaces.owner_at s.owners m ≡ Some (owned_by t u)
+  pub only : (n : ℕ) → n ≢ m → is_owner t u (spaces.owner_at s.owners n) ≡ false
 
-pub is_under : (s : spaces.Content) (t u m : ℕ) → IsSpace s → spaces.superblock_at s.slots t u ≡ Some m → IsUnder s t u m
+pub is_under : (s : spaces.Content) (t u m : ℕ) → spaces.IsSpace s → spaces.superblock_at s.slots t u ≡ Some m → IsUnder s t u m
 is_under s t u m space here = record {
   within = ⊎_elim (λ less. less)
       (λ past. absurd (some_none (sym ((space.agree t u m).0 here) ∙ get_or_past s.owners m None past)))
       (cases_lt m (length s.owners));
   owner = (space.agree t u m).0 here;
-  only = λ n other. false_from_ne_true (is_owner t u (owner_at s.owners n)) (λ owns.
-      other (some_same (sym ((space.agree t u n).1 (owner_is t u (owner_at s.owners n) owns)) ∙ here)));
+  only = λ n other. false_from_ne_true (is_owner t u (spaces.owner_at s.owners n)) (λ owns.
+      other (some_same (sym ((space.agree t u n).1 (owner_is t u (spaces.owner_at s.owners n) owns)) ∙ here)));
 }
 
 -- its number is found by its owner
@@ -63,12 +62,12 @@ given_up_one s t u m under =
         (λ same.
         ap (λ i. slice_index_or (slice_set s.owners m None) i d) same ∙ get_or-set_same s.owners m None d under.within
         ∙ sym (get_or-map (given_up (is_owner t u)) s.owners n None d within
-        ∙ ap (λ i. given_up (is_owner t u) (owner_at s.owners i)) same
+        ∙ ap (λ i. given_up (is_owner t u) (spaces.owner_at s.owners i)) same
         ∙ ap (given_up (is_owner t u)) under.owner
         ∙ ap (λ b. if b then None else Some (owned_by t u)) (owner_self t u)))
         (λ other.
         get_or-set_other s.owners m n None d other
         ∙ get_or_default s.owners n d None within
         ∙ sym (get_or-map (given_up (is_owner t u)) s.owners n None d within
-        ∙ ap (λ b. if b then None else owner_at s.owners n) (under.only n other)))
+        ∙ ap (λ b. if b then None else spaces.owner_at s.owners n) (under.only n other)))
         (cases_eq n m)

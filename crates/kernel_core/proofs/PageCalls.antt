@@ -19,12 +19,12 @@ use Rattle.machine_changes.proofs.PageTaken.{released_shows, released_agrees}
 use Rattle.machine_changes.specs.Shows.{Agree, frame_under, node_of, has_slab}
 use Rattle.machine_changes.specs.Steady.{IsSteady}
 use Rattle.std.specs.Prelude.{is_some}
-use Rattle.std.proofs.lemmas.Bool.{false≢true, le-leb, leb-true, and_parts, and_from, false_from_ne_true}
+use Rattle.std.proofs.lemmas.Bool.{false≢true, le-leb, leb-true, and_parts, and_from, false_from_ne_true, le-ltb}
 use Rattle.machine_changes.specs.Keeps.{Spares}
 use Rattle.kernel_core.specs.Content.{KernelContent, content_of}
 use Rattle.kernel_core.specs.Shows.{ShowsMachine}
 use Rattle.kernel_core.specs.Steps.{StepsMachine, body_of}
-use Rattle.kernel_core.proofs.Changing.{not_less, steady}
+use Rattle.kernel_core.proofs.Changing.{steady}
 use Rattle.kernel_core.proofs.Commanding.{answered, called, by_none}
 use Rattle.std.specs.List.{range_with_len}
 use Rattle.model_core.specs.Reach.{in_reach}
@@ -54,7 +54,7 @@ alloc_told : (order o : ℕ) (m : Machine) (x : Option ℕ) → o ≤ order → 
     → ok_or x AllocRefusal.NoFrames ≡ (alloc_step order o m).answer
 unfolding alloc_step
 alloc_told order o m x small is =
-    rw (not_less order o small) (told_at o (by_need order o m) x ∙ ap (λ y. (alloc_at o (by_need order o m) y).answer) is)
+    rw (le-ltb order o small) (told_at o (by_need order o m) x ∙ ap (λ y. (alloc_at o (by_need order o m) y).answer) is)
 
 -- What a call for a page block does: it answers the machine's choice, and what it makes of the parts shows what the step makes
 -- of the machine.

@@ -1,7 +1,7 @@
 -- All that a tenant has is taken from it; and who owns each superblock.
 use Rattle.model_core.specs.declared.owner.Owner.{Owner}
 use Rattle.std.proofs.Common.{◌≡◌, ◌≢◌, ℕ, ◌+◌, ◌<◌, ◌≤◌, nat_lt, true, if◌then◌else◌, Option, Some, None, length, map, take, count_by, slice_index_or, slice_set, refl, sym, ap, ◌∙◌, ⊎_elim, arith, List, slice_get, subst}
-use Rattle.std.proofs.lemmas.Bool.{cases_eq, cases_lt, eq-eqb, lt-ltb}
+use Rattle.std.proofs.lemmas.Bool.{cases_eq, cases_lt, eq-eqb, lt-ltb, le-ltb}
 use Rattle.std.proofs.lemmas.List.{length-set, get_or-set_same, get_or-set_other, get_or-map, get_or_default, get_or_past, same_lists}
 use Rattle.std.proofs.lemmas.List.Sums.{count_by_more_yes}
 use Rattle.std.proofs.Math.ListN.{length-map}
@@ -14,7 +14,7 @@ use Rattle.model_core.specs.Owners.{owned_by, is_of}
 use Rattle.kernel_core.specs.Content.{mark_after, MarksFollow, content_of, KernelContent, PartsAgree}
 use Rattle.kernel_core.specs.GivenUp.{GivesUp, owner_without}
 use Rattle.machine_changes.proofs.Lookups.{some_none}
-use Rattle.kernel_core.proofs.Changing.{not_less, marks_replaced, has_row, same_sizes}
+use Rattle.kernel_core.proofs.Changing.{marks_replaced, has_row, same_sizes}
 use Rattle.model_core.specs.Machine.{empty_machine, Machine}
 use Rattle.space_core.specs.Content as spaces
 use Rattle.space_core.proofs.Reading.{same_twice}
@@ -51,12 +51,12 @@ pub record IsGivingUp (old now : Content) (t m told : ℕ) : Type 0 where
   pub others : (u : ℕ) → u ≢ t → IsSameFor u old now
 
 still : (old now : Content) (t m told : ℕ) → IsGivingUp old now t m told → owner_at now.owners m ≡ owner_at old.owners m
-still old now t m told g = g.owners m ∙ ap (λ b. if b then owner_without t (owner_at old.owners m) else owner_at old.owners m) (not_less m m (omega arith))
+still old now t m told g = g.owners m ∙ ap (λ b. if b then owner_without t (owner_at old.owners m) else owner_at old.owners m) (le-ltb m m (omega arith))
 
 next_less : (n m : ℕ) → n ≢ m → nat_lt n (m + 1) ≡ nat_lt n m
 next_less n m other = ⊎_elim
     (λ less. lt-ltb n (m + 1) (omega arith) ∙ sym (lt-ltb n m less))
-    (λ le. not_less n (m + 1) (omega (arith, other)) ∙ sym (not_less n m le))
+    (λ le. le-ltb n (m + 1) (omega (arith, other)) ∙ sym (le-ltb n m le))
     (cases_lt n m)
 
 -- the next one is the tenant's, and taken back

@@ -7,7 +7,6 @@ use Rattle.model_core.specs.Machine.{Machine, holds}
 use Rattle.model_core.specs.Operations.{Step, is_busy, after_take_back, take_back_step}
 use Rattle.model_core.specs.declared.refusals.TakeBackRefusal.{TakeBackRefusal}
 use Rattle.space_core.specs.Content as spaces
-use Rattle.space_core.specs.Content.{mark_at}
 use Rattle.space_core.specs.Changes.{with_take_back}
 use Rattle.buddy_core.specs.Content as buddies
 use Rattle.slab_tables.specs.Content as tables
@@ -30,8 +29,9 @@ use Rattle.words_core.specs.declared.reply.Refusal.TheVariants.{NoTenant}
 use Rattle.words_core.specs.Refusals.{take_back_refusal}
 use Rattle.world_core.specs.Limits.{cache_limit}
 use Rattle.world_core.specs.World.{World, WorldStep, given_up, take_back_answered, slot_step, world_step}
+use Rattle.world_core.proofs.MachineLists.{get_within}
 use Rattle.kernel_core.specs.Steps.{Steps}
-use Rattle.kernel_core.proofs.Worlds.{get_within, steps_done, steps_answered, unnamed}
+use Rattle.kernel_core.proofs.Worlds.{steps_done, steps_answered, unnamed}
 use Rattle.kernel_core.proofs.Owners.{is_under, found_under, given_up_one}
 
 -- tenant t has frames of slot u taken
@@ -102,7 +102,7 @@ does_taken r b s t u m g =
       others = does.others;
       owners = refl;
       marks = marks_replaced r r m None true (marks_kept r r refl refl) g.below (omega (arith, g.below, g.together.space.facts.flagged))
-          (ap (λ o. mark_after o None (mark_at r.marks m)) ((g.together.space.facts.agree t u m).0 g.here));
+          (ap (λ o. mark_after o None (spaces.mark_at r.marks m)) ((g.together.space.facts.agree t u m).0 g.here));
       spare = g.together.space.spare.take_back t u m;
     }
 

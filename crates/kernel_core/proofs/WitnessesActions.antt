@@ -1,7 +1,7 @@
 -- For each law of stores and of actions an instance of its premises. In one world tenant 0 is alone: it takes a frame, 100 bytes are
 -- stored there, more than one write has, and it reads the last of them. In the other one tenant 1 is first, and has a frame and stores
 -- of its own.
-use Rattle.std.proofs.Common.{◌≡◌, ℕ, List, [], ◌∷◌, Some, None, refl, ◌∙◌, arith}
+use Rattle.std.proofs.Common.{◌≡◌, ℕ, List, [], ◌∷◌, Some, None, refl, ◌∙◌, arith, length, ◌<◌, position, is_none}
 use Rattle.std.specs.Prelude.{replicate}
 use Rattle.model_core.specs.Machine.{empty_machine}
 use Rattle.words_core.specs.declared.event.Event.TheVariants as On
@@ -13,18 +13,32 @@ use Rattle.world_core.specs.Limits.{cache_limit}
 use Rattle.world_core.specs.PrivateStep.{Ask, Grant}
 use Rattle.space_core.specs.Content as spaces
 use Rattle.space_core.specs.Changes.{with_grant}
+use Rattle.buddy_core.specs.Content as buddies
 use Rattle.machine_changes.specs.Pages.{stored}
+use Rattle.machine_changes.specs.Slots.{HoldTogether}
 use Rattle.kernel_core.specs.Content.{KernelContent, content_of}
 use Rattle.kernel_core.specs.Steps.{Steps}
 use Rattle.kernel_core.specs.Stores.{IsKernel, Stores, Loads, StoresAreWrites, LoadsAreOwn}
 use Rattle.kernel_core.specs.Actions.{Action, Runs, StoresAt, LoadsAt, Acts, AllAct, Sight, Told, Loaded, sights_of, Own, Enters, Stored, LoadedAt, own_seen, OwnSights, SameSights}
 use Rattle.kernel_core.proofs.Actions.{booted_has, all_follow}
-use Rattle.kernel_core.proofs.Granting.{granted_reply}
+use Rattle.kernel_core.proofs.Granting.{IsGrantable, granted_reply}
 use Rattle.kernel_core.proofs.MadeKernels.{to_tenant, grant_acts, alloc_acts, read_acts, in_frame, holders, holders_laws, chosen, opened_space, no_slabs, opened, is_opened}
 use Rattle.kernel_core.proofs.Stores.{stores_are_writes}
 
 abbrev pub bytes : List ℕ
 bytes = replicate 100 7
+
+-- superblock m, the least without owner, becomes slot 0 of a tenant that has none
+first_slot : (r : spaces.Content) (b : buddies.Content) (t m : ℕ) → HoldTogether r b no_slabs → t < length b.tenants → position is_none r.owners ≡ Some m
+    → spaces.superblock_at r.slots t 0 ≡ None → m < length r.owners → IsGrantable r b no_slabs t 0 m
+first_slot r b t m together tenant free vacant below = record {
+  together = together;
+  tenant = tenant;
+  free = free;
+  least = record { vacant = vacant; below = λ v less. absurd (omega arith) };
+  slot_below = omega arith;
+  below = below;
+}
 
 -- Alone
 
@@ -43,14 +57,7 @@ alone_3 = record alone_2 { space = stored 0 5 bytes space_1 }
 pub alone_granted : Acts opened (Runs (On.Admin (Do.Grant 0)) (granted_reply 0 0 0)) alone_1
 alone_granted =
     grant_acts opened_space (holders None None None None) no_slabs 0 0 0
-    (record {
-      together = is_opened.kernel.together;
-      tenant = omega arith;
-      free = refl;
-      least = record { vacant = refl; below = λ v less. absurd (omega arith) };
-      slot_below = omega arith;
-      below = omega arith;
-    })
+    (first_slot opened_space (holders None None None None) 0 0 is_opened.kernel.together (omega arith) refl refl (omega arith))
     (holders_laws (Some 0) None None None (λ k is. absurd (cc)) (λ k is. absurd (cc)) (λ m is is'. cc))
 
 pub alone_taken : Acts alone_1 (Runs (On.Tenant 0 (Asked.Alloc 0)) (to_tenant 0 (Frame 0))) alone_2
@@ -112,14 +119,7 @@ beside_7 = record beside_6 { space = stored 1 104 (9 ∷ []) beside_6.space }
 granted_1 : Acts opened (Runs (On.Admin (Do.Grant 1)) (granted_reply 1 0 0)) beside_1
 granted_1 =
     grant_acts opened_space (holders None None None None) no_slabs 1 0 0
-    (record {
-      together = is_opened.kernel.together;
-      tenant = omega arith;
-      free = refl;
-      least = record { vacant = refl; below = λ v less. absurd (omega arith) };
-      slot_below = omega arith;
-      below = omega arith;
-    })
+    (first_slot opened_space (holders None None None None) 1 0 is_opened.kernel.together (omega arith) refl refl (omega arith))
     (holders_laws None None (Some 0) None (λ k is. absurd (cc)) (λ k is. absurd (cc)) (λ m is is'. cc))
 
 taken_1 : Acts beside_1 (Runs (On.Tenant 1 (Asked.Alloc 0)) (to_tenant 1 (Frame 0))) beside_2
@@ -136,14 +136,7 @@ kernel_3 = (stores_are_writes beside_2 beside_3 1 5 (replicate 100 9) taken_1.1 
 granted_0 : Acts beside_3 (Runs (On.Admin (Do.Grant 0)) (granted_reply 0 0 1)) beside_4
 granted_0 =
     grant_acts beside_3.space (holders None None (Some 0) (Some 0)) no_slabs 0 0 1
-    (record {
-      together = kernel_3.together;
-      tenant = omega arith;
-      free = refl;
-      least = record { vacant = refl; below = λ v less. absurd (omega arith) };
-      slot_below = omega arith;
-      below = omega arith;
-    })
+    (first_slot beside_3.space (holders None None (Some 0) (Some 0)) 0 1 kernel_3.together (omega arith) refl refl (omega arith))
     (holders_laws (Some 1) None (Some 0) (Some 0) (λ k is. absurd (cc)) (λ k is. (cc, refl)) (λ m is is'. cc))
 
 taken_0 : Acts beside_4 (Runs (On.Tenant 0 (Asked.Alloc 0)) (to_tenant 0 (Frame 0))) beside_5

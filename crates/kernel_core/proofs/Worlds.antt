@@ -1,9 +1,9 @@
 -- From what one event does to a kernel to what it does to the world that it shows, which is the only one.
 use Rattle.model_core.specs.declared.owner.Owner.{Owner}
-use Rattle.std.proofs.Common.{◌≡◌, ◌≢◌, ℕ, zero, suc, ◌<◌, ◌≤◌, ◌==◌, Bool, true, false, Option, Some, List, [], ◌∷◌, length, slice_get, slice_set, refl, sym, ap, ◌∙◌, subst, ⊎_elim, arith}
-use Rattle.std.proofs.lemmas.Bool.{cases_eq, eq-eqb}
-use Rattle.std.proofs.lemmas.List.{length-set}
-use Rattle.std.proofs.lemmas.Option.{slice_get_past}
+use Rattle.std.proofs.Common.{◌≡◌, ◌≢◌, ℕ, ◌<◌, ◌≤◌, ◌==◌, false, Option, Some, List, length, slice_get, slice_set, refl, sym, ap, ◌∙◌, subst, ⊎_elim, arith, get_or}
+use Rattle.std.proofs.lemmas.Bool.{cases_eq, eq-eqb, both_ways}
+use Rattle.std.proofs.lemmas.List.{length-set, same_lists}
+use Rattle.std.proofs.lemmas.Option.{slice_get_past, slice_get-get_or}
 use Rattle.model_core.specs.Machine.{Machine}
 use Rattle.model_core.specs.Operations.{Step}
 use Rattle.machine_changes.proofs.Lookups.{some_same}
@@ -21,22 +21,13 @@ use Rattle.world_core.specs.Limits.{cache_limit}
 use Rattle.world_core.specs.PrivateStep.{command_step}
 use Rattle.world_core.specs.World.{World, WorldStep, answer, tenant_step, world_step}
 use Rattle.world_core.specs.OwnList.{is_refused}
-use Rattle.world_core.proofs.MachineLists.{slice_get-set_same, slice_get-set_other}
+use Rattle.world_core.proofs.MachineLists.{slice_get-set_same, slice_get-set_other, get_within}
 use Rattle.kernel_core.specs.Content.{KernelContent, PartsAgree, Keeps}
 use Rattle.kernel_core.specs.Shows.{ShowsMachine, Shows, OneWorld}
 use Rattle.kernel_core.specs.Does.{Does}
 use Rattle.kernel_core.proofs.Changing.{keeps_all, marks_kept}
 use Rattle.kernel_core.specs.Steps.{is_named, Steps, StepsMachine}
-use Rattle.std.proofs.lemmas.Option.{slice_get_past}
 use Rattle.machine_changes.proofs.PageOne.{one_machine}
-
-pub get_within : {A : Type 0} (xs : List A) (i : ℕ) → i < length xs → (x : A) × (slice_get xs i ≡ Some x)
-get_within [] i within = absurd (omega arith)
-get_within (x ∷ xs) zero within = (x, refl)
-get_within (x ∷ xs) (suc i) within = get_within xs i (omega arith)
-
-pub false_is : (b : Bool) → b ≡ false → b ≡ true → ⊥
-false_is b isnt is = cc
 
 -- parts that keep what a tenant has show the same machine for it
 pub keeps_shows : (k k' : KernelContent) (t : ℕ) (m : Machine) → Keeps k k' t → ShowsMachine k t m → ShowsMachine k' t m
@@ -91,7 +82,7 @@ steps_done k k' event reply t step owned told known agree does same only done = 
   answer = λ w shown.
       let (m, here) = get_within w.machines t (omega (arith, shown.tenants)) in
       sym (ap (λ (s : WorldStep). s.reply) (same w m shown (shown.machines t m here) here));
-  refused = λ refused. absurd (false_is (is_refused reply.body) done refused);
+  refused = λ refused. absurd (both_ways (is_refused reply.body) done refused);
   others = λ u unnamed. does.others u (only u unnamed);
   marks = does.marks;
   spare = does.spare;
@@ -99,7 +90,7 @@ steps_done k k' event reply t step owned told known agree does same only done = 
 
 -- a tenant that is not named is another one
 pub unnamed : (t u : ℕ) → (t == u) ≡ false → u ≢ t
-unnamed t u named same = false_is (t == u) named (eq-eqb t u (sym same))
+unnamed t u named same = both_ways (t == u) named (eq-eqb t u (sym same))
 
 -- the tenant has no machine
 pub unknown_tenant : (k : KernelContent) (t : ℕ) (command : Command) → k.tenants ≤ t
@@ -130,17 +121,11 @@ steps_asked k k' t u command body same known agree steps = subst (λ v. Steps k 
   spare = steps.does.spare;
 })
 
--- lists of one length with the same elements are one
-same_by_get : {A : Type 0} (xs ys : List A) → length xs ≡ length ys → ((i : ℕ) (x y : A) → slice_get xs i ≡ Some x → slice_get ys i ≡ Some y → x ≡ y) → xs ≡ ys
-same_by_get [] [] _ _ = refl
-same_by_get [] (y ∷ ys) long _ = absurd (omega arith)
-same_by_get (x ∷ xs) [] long _ = absurd (omega arith)
-same_by_get (x ∷ xs) (y ∷ ys) long same =
-    ap (λ z. z ∷ xs) (same 0 x y refl refl) ∙ ap (λ zs. y ∷ zs) (same_by_get xs ys (omega arith) (λ i a b here there. same (suc i) a b here there))
-
 pub one_world : OneWorld
 one_world k w v shown shown' =
     let owners = shown.owners ∙ sym shown'.owners in
-    let machines = same_by_get w.machines v.machines (shown.tenants ∙ sym shown'.tenants)
-    (λ t m n here there. one_machine k.space k.buddy k.slabs t m n (shown.machines t m here) (shown'.machines t n there)) in
+    let many : length w.machines ≡ length v.machines = shown.tenants ∙ sym shown'.tenants in
+    let machines = same_lists w.machines v.machines many
+    (λ t d below. one_machine k.space k.buddy k.slabs t (get_or w.machines t d) (get_or v.machines t d)
+    (shown.machines t _ (slice_get-get_or w.machines t d below)) (shown'.machines t _ (slice_get-get_or v.machines t d (omega (arith, many, below))))) in
     λ i. record { owners = owners i; machines = machines i }

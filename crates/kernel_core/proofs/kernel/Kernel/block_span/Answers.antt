@@ -10,8 +10,7 @@ use Rattle.machine_changes.specs.Shows.{node_of, has_slab}
 use Rattle.kernel_core.specs.Content as content
 use Rattle.kernel_core.specs.Content.{KernelContent}
 use Rattle.kernel_core.proofs.Changing.{steady, opened, known}
-use Rattle.kernel_core.proofs.PageCalls.{block_slot}
-use Rattle.kernel_core.proofs.PageCalls.{IsAsked}
+use Rattle.kernel_core.proofs.PageCalls.{block_slot, IsAsked}
 use Rattle.kernel_core.proofs.LendSpans.{refused_for, unheld_no_page, free_no_page, slab_no_page, few, block_live, has_block}
 use Rattle.kernel_core.proofs.kernel.Kernel.block_span.Goals as goal
 use Rattle.kernel_core.proofs.kernel.Kernel.block_span.Goals.{After-machine_of, After-is_slab_in}

@@ -13,7 +13,6 @@ use Rattle.kernel_core.specs.Shows.{Shows}
 use Rattle.kernel_core.proofs.Commanding.{reported}
 use Rattle.kernel_core.proofs.Worlds.{steps_asked}
 use Rattle.kernel_core.proofs.kernel.Kernel.figures.Goals as goal
-use Rattle.kernel_core.proofs.kernel.Kernel.figures.Goals.{then-free-eq0, else-free-eq0}
 
 pub orders_of-blocks-requires-clause-fit : goal.orders_of-blocks-requires-clause-fit
 orders_of-blocks-requires-clause-fit c = rw c.buddy-buddy.ensures (within c.args.self.now c.args.t c.laws.ensures.agree c.laws.ensures.together c.requires)
@@ -41,8 +40,8 @@ returns-clause-machine c = λ m shown.
     let free_is : c.slots.result * 2 ^ c.order.result % 4294967296 - c.orders_of-blocks.result.live ≡ frames_free b.top m
     = ap₂ (λ n j. n - j) frames_is live_is in
     let top_is : c.if-free-eq0.top ≡ greatest_free b.top m = elim c.if-free-eq0.branch [
-      | then-free-eq0 w ↦ top_none b.top m _ c.if-free-eq0.top free_is w.if-free-eq0.true w.top-is
-      | else-free-eq0 w ↦ top_some b.top m _ c.if-free-eq0.top free_is w.if-free-eq0.false (w.top-is ∙ c.orders_of-blocks.ensures.top m has)
+      | goal.then-free-eq0 w ↦ top_none b.top m _ c.if-free-eq0.top free_is w.if-free-eq0.true w.top-is
+      | goal.else-free-eq0 w ↦ top_some b.top m _ c.if-free-eq0.top free_is w.if-free-eq0.false (w.top-is ∙ c.orders_of-blocks.ensures.top m has)
     ] in
     let rows : c.rows.result.items ≡ rows_of_caches m = subst (λ (s : tables.Content). showing.Agree k.space k.buddy s → IsSteady k.space k.buddy s t
     → showing.ShowsMachine k.space k.buddy s t m → c.rows.result.items ≡ rows_of_caches m) c.slabs.ensures (c.rows.ensures k.space k.buddy m)

@@ -5,7 +5,6 @@ use Rattle.words_core.specs.declared.event.Request.{Request}
 use Rattle.kernel_core.specs.Content.{KernelContent}
 use Rattle.kernel_core.specs.Steps.{StepsMachine}
 use Rattle.kernel_core.proofs.kernel.Kernel.run.Goals as goal
-use Rattle.kernel_core.proofs.kernel.Kernel.run.Goals.{in-Alloc+in-Ok, in-Alloc+in-Err, in-Free+in-Ok-free, in-Free+in-Err-free, in-Write+in-Ok-write, in-Write+in-Err-write, in-Cache+in-Ok-make_cache, in-Cache+in-Err-make_cache, in-Destroy+in-Ok-destroy, in-Destroy+in-Err-destroy, in-Take+in-Ok-take, in-Take+in-Err-take, in-Give+in-Ok-give, in-Give+in-Err-give, in-Reap}
 
 -- the command was a step of the tenant's machine, and what its answer tells
 abbrev IsRun : KernelContent → ℕ → Request → KernelContent → Answer → Type 0
@@ -15,21 +14,21 @@ IsRun k t request k' answer =
 pub returns : goal.returns
 returns c =
     let run : IsRun c.args.self.now c.args.t c.args.request c.match-request.self c.match-request.answer = elim c.match-request.branch [
-      | in-Alloc+in-Ok w ↦ rw (w.in-Alloc.is, w.answer-is, w.self-is) (w.in-Ok.ensures.steps, (tt, λ _. refl))
-      | in-Alloc+in-Err w ↦ rw (w.in-Alloc.is, w.answer-is, w.self-is) (w.in-Err.ensures.steps, (tt, λ _. refl))
-      | in-Free+in-Ok-free w ↦ rw (w.in-Free.is, w.answer-is, w.self-is) (w.in-Ok-free.ensures, (tt, λ _. refl))
-      | in-Free+in-Err-free w ↦ rw (w.in-Free.is, w.answer-is, w.self-is) (w.in-Err-free.ensures, (tt, λ _. refl))
-      | in-Write+in-Ok-write w ↦ rw (w.in-Write.is, w.answer-is, w.self-is) (w.in-Ok-write.ensures.steps, (tt, λ _. refl))
-      | in-Write+in-Err-write w ↦ rw (w.in-Write.is, w.answer-is, w.self-is) (w.in-Err-write.ensures.steps, (tt, λ _. refl))
-      | in-Cache+in-Ok-make_cache w ↦ rw (w.in-Cache.is, w.answer-is, w.self-is) (w.in-Ok-make_cache.ensures.steps, (w.in-Ok-make_cache.ensures.few, λ _. w.in-Ok-make_cache.ensures.bytes))
-      | in-Cache+in-Err-make_cache w ↦ rw (w.in-Cache.is, w.answer-is, w.self-is) (w.in-Err-make_cache.ensures.steps, (tt, λ _. refl))
-      | in-Destroy+in-Ok-destroy w ↦ rw (w.in-Destroy.is, w.answer-is, w.self-is) (w.in-Ok-destroy.ensures, (tt, λ _. refl))
-      | in-Destroy+in-Err-destroy w ↦ rw (w.in-Destroy.is, w.answer-is, w.self-is) (w.in-Err-destroy.ensures, (tt, λ _. refl))
-      | in-Take+in-Ok-take w ↦ rw (w.in-Take.is, w.answer-is, w.self-is) (w.in-Ok-take.ensures.steps, (tt, λ _. refl))
-      | in-Take+in-Err-take w ↦ rw (w.in-Take.is, w.answer-is, w.self-is) (w.in-Err-take.ensures.steps, (tt, λ _. refl))
-      | in-Give+in-Ok-give w ↦ rw (w.in-Give.is, w.answer-is, w.self-is) (w.in-Ok-give.ensures, (tt, λ _. refl))
-      | in-Give+in-Err-give w ↦ rw (w.in-Give.is, w.answer-is, w.self-is) (w.in-Err-give.ensures, (tt, λ _. refl))
-      | in-Reap w ↦ rw (w.in-Reap.is, w.answer-is, w.self-is) (w.reap.ensures, (tt, λ _. refl))
+      | goal.in-Alloc+in-Ok w ↦ rw (w.in-Alloc.is, w.answer-is, w.self-is) (w.in-Ok.ensures.steps, (tt, λ _. refl))
+      | goal.in-Alloc+in-Err w ↦ rw (w.in-Alloc.is, w.answer-is, w.self-is) (w.in-Err.ensures.steps, (tt, λ _. refl))
+      | goal.in-Free+in-Ok-free w ↦ rw (w.in-Free.is, w.answer-is, w.self-is) (w.in-Ok-free.ensures, (tt, λ _. refl))
+      | goal.in-Free+in-Err-free w ↦ rw (w.in-Free.is, w.answer-is, w.self-is) (w.in-Err-free.ensures, (tt, λ _. refl))
+      | goal.in-Write+in-Ok-write w ↦ rw (w.in-Write.is, w.answer-is, w.self-is) (w.in-Ok-write.ensures.steps, (tt, λ _. refl))
+      | goal.in-Write+in-Err-write w ↦ rw (w.in-Write.is, w.answer-is, w.self-is) (w.in-Err-write.ensures.steps, (tt, λ _. refl))
+      | goal.in-Cache+in-Ok-make_cache w ↦ rw (w.in-Cache.is, w.answer-is, w.self-is) (w.in-Ok-make_cache.ensures.steps, (w.in-Ok-make_cache.ensures.few, λ _. w.in-Ok-make_cache.ensures.bytes))
+      | goal.in-Cache+in-Err-make_cache w ↦ rw (w.in-Cache.is, w.answer-is, w.self-is) (w.in-Err-make_cache.ensures.steps, (tt, λ _. refl))
+      | goal.in-Destroy+in-Ok-destroy w ↦ rw (w.in-Destroy.is, w.answer-is, w.self-is) (w.in-Ok-destroy.ensures, (tt, λ _. refl))
+      | goal.in-Destroy+in-Err-destroy w ↦ rw (w.in-Destroy.is, w.answer-is, w.self-is) (w.in-Err-destroy.ensures, (tt, λ _. refl))
+      | goal.in-Take+in-Ok-take w ↦ rw (w.in-Take.is, w.answer-is, w.self-is) (w.in-Ok-take.ensures.steps, (tt, λ _. refl))
+      | goal.in-Take+in-Err-take w ↦ rw (w.in-Take.is, w.answer-is, w.self-is) (w.in-Err-take.ensures.steps, (tt, λ _. refl))
+      | goal.in-Give+in-Ok-give w ↦ rw (w.in-Give.is, w.answer-is, w.self-is) (w.in-Ok-give.ensures, (tt, λ _. refl))
+      | goal.in-Give+in-Err-give w ↦ rw (w.in-Give.is, w.answer-is, w.self-is) (w.in-Err-give.ensures, (tt, λ _. refl))
+      | goal.in-Reap w ↦ rw (w.in-Reap.is, w.answer-is, w.self-is) (w.reap.ensures, (tt, λ _. refl))
     ] in (
       (refl, λ _. tt, record { steps = run.0; agree = λ _. c.parts_agree.ensures }),
       record { steps = tt; few = run.1.0; bytes = run.1.1 },
