@@ -7,6 +7,7 @@ use Rattle.std.specs.Str.Lines.{strip_carriage_return}
 use Rattle.std.proofs.lemmas.Bool.Decides.{Decides-eqb, nat_tests, not_from_Decides}
 use Rattle.std.proofs.lemmas.List.Elements.{All-contains, All-from_recursion}
 use Rattle.std.proofs.lemmas.Slice.Eq.{bytes_eq-Decides}
+use Rattle.std.proofs.lemmas.Bool.{cases_Bool}
 use Rattle.words_core.specs.Cases.{IsComment, Names, AsksFor, FirstFault, AllMake, CaseOfWords, blank, comment, nobody, alone, no_command, wrong_count, faulty, event, CaseOfBytes, too_long, of_words, Case, Says}
 use Rattle.words_core.specs.Commands.{or_fault, Form, Given, Maker, CommandRow, read_as, Actor, administrator, tenant, CommandOf, admin_rows, tenant_rows, command_rows, event_by, nobody_fault}
 use Rattle.words_core.specs.Grammar.{◌>>=◌, are_as_many, made_of, command_by, command_of, asked_of, tenant_of, actor_of, event_of, reading_of_words, reading_within, reading_of}
@@ -48,10 +49,6 @@ words_case [] = 2
 words_case (first ∷ rest) = if slice_index first 0 == 35 then 2 else actor_case (actor_of first) rest
 
 -- ---- the first word
-
-true_or_false : (b : Bool) → (b ≡ true) ⊎ (b ≡ false)
-true_or_false true = inl refl
-true_or_false false = inr refl
 
 -- a test is false where what it decides isn't so
 refused : {P : Type 0} (b : Bool) → Decides b P → (P → ⊥) → b ≡ false
@@ -98,7 +95,7 @@ actor_of-nobody word none = actor_of-other word None (none administrator) (no_nu
   no_number None is = is
 
 named_or_nobody : (word : List ℕ) → ((actor : Actor) × Names word actor) ⊎ ((actor : Actor) → Names word actor → ⊥)
-named_or_nobody word = by (true_or_false (bytes_eq word (codes "admin"))) (number_of word) refl where
+named_or_nobody word = by (cases_Bool (bytes_eq word (codes "admin"))) (number_of word) refl where
   neither : bytes_eq word (codes "admin") ≡ false → number_of word ≡ None → (actor : Actor) → Names word actor → ⊥
   neither other none administrator names = not_from_Decides _ (bytes_eq-Decides word (codes "admin")) other names
   neither other none (tenant t) names = let both : Some t ≡ None = sym names ∙ none in cc
@@ -155,7 +152,7 @@ row_or_none : {C : Type 0} (rows : List (CommandRow C)) (word : List ℕ)
 row_or_none {C} [] word = inr none where
   none : (row : CommandRow C) → Contains [] row × (word ≡ row.word) → ⊥
   none row ((k, below, is), same) = omega (arith, below)
-row_or_none {C} (first ∷ rows) word = by (true_or_false (bytes_eq word first.word)) (row_or_none rows word) where
+row_or_none {C} (first ∷ rows) word = by (cases_Bool (bytes_eq word first.word)) (row_or_none rows word) where
   neither : bytes_eq word first.word ≡ false → ((row : CommandRow C) → Contains rows row × (word ≡ row.word) → ⊥)
       → (row : CommandRow C) → Contains (first ∷ rows) row × (word ≡ row.word) → ⊥
   neither other never row ((zero, below, is), same) =
@@ -292,7 +289,7 @@ SomeCase words = (number : ℕ) × (reading : Result (Option Event) LineFault) �
 some_of_row : (first word : List ℕ) (arguments : List (List ℕ)) (actor : Actor) → Names first actor
     → (row : CommandRow (CommandOf actor)) → AsksFor actor word row → SomeCase (first ∷ word ∷ arguments)
 some_of_row first word arguments actor names row asks =
-    by (true_or_false (length arguments == length row.forms)) where
+    by (cases_Bool (length arguments == length row.forms)) where
       counted : length arguments ≡ length row.forms
           → ((fault : LineFault) × FirstFault row.forms arguments fault) ⊎ ((command : CommandOf actor) × AllMake row.forms row.makes arguments command)
           → SomeCase (first ∷ word ∷ arguments)
@@ -314,7 +311,7 @@ some_of_actor first (word ∷ arguments) actor names = by (row_or_none (command_
 
 some_of_words : (words : List (List ℕ)) → SomeCase words
 some_of_words [] = (2, Ok None, blank)
-some_of_words (first ∷ rest) = by (true_or_false (slice_index first 0 == 35)) (named_or_nobody first) where
+some_of_words (first ∷ rest) = by (cases_Bool (slice_index first 0 == 35)) (named_or_nobody first) where
   by : ((slice_index first 0 == 35) ≡ true) ⊎ ((slice_index first 0 == 35) ≡ false)
       → ((actor : Actor) × Names first actor) ⊎ ((actor : Actor) → Names first actor → ⊥) → SomeCase (first ∷ rest)
   by (inl is) who = (2, Ok None, comment ((Decides-eqb (slice_index first 0) 35).0 is))
@@ -355,7 +352,7 @@ one_number line number other reading second is says =
     (sym second_number ∙ first_number, sym second_reading ∙ first_reading)
 
 pub says_reading : (line : List ℕ) → Says line (reading_of line)
-says_reading line = found (true_or_false (nat_lt MOST_LINE_BYTES (length (strip_carriage_return line)))) where
+says_reading line = found (cases_Bool (nat_lt MOST_LINE_BYTES (length (strip_carriage_return line)))) where
   read : (reading : Result (Option Event) LineFault) → Says line reading → Says line (reading_of line)
   read reading says = subst (Says line) (only_reading line reading says) says
 

@@ -1,6 +1,8 @@
 -- The lines of a report, by their rows.
 use Rattle.std.proofs.Common.{◌≡◌, ◌<◌, ◌+◌, ℕ, zero, suc, List, [], ◌∷◌, ◌++◌, length, map, get_or, Some, slice_get, refl, sym, ◌∙◌, ap, arith, add-zero, length-append}
+use Rattle.std.specs.Prelude.{option_map}
 use Rattle.std.proofs.lemmas.List.{length-map}
+use Rattle.std.proofs.lemmas.Option.{slice_get-map, slice_get-get_or}
 use Rattle.model_core.specs.declared.report.OrderRow.{OrderRow}
 use Rattle.model_core.specs.declared.report.CacheRow.{CacheRow}
 use Rattle.words_core.specs.ReportTexts.{order_text, order_texts, cache_text, report_texts}
@@ -29,12 +31,6 @@ after_orders front first j k [] rest is = ap (slice_get rest) (omega (arith, is)
 after_orders front first zero k (row ∷ rows) rest is = absurd (omega (arith, is))
 after_orders front first (suc j) k (row ∷ rows) rest is = after_orders front (first + 1) j k rows rest (omega (arith, is))
 
-row-cache_texts : (front : List ℕ) (k : ℕ) (rows : List CacheRow) (d : CacheRow) → k < length rows
-    → slice_get (map (λ row. cache_text front row) rows) k ≡ Some (cache_text front (get_or rows k d))
-row-cache_texts front k [] d within = absurd (omega arith)
-row-cache_texts front zero (row ∷ rows) d within = refl
-row-cache_texts front (suc k) (row ∷ rows) d within = row-cache_texts front k rows d (omega arith)
-
 -- below the frames, the row of an order
 pub order_row_of : (front : List ℕ) (report : Report) (row k : ℕ) (orders : List OrderRow) (d : OrderRow) → orders ≡ report.orders.items
     → row ≡ suc k → k < length orders → slice_get (report_texts front report) row ≡ Some (order_text front k (get_or orders k d))
@@ -51,7 +47,8 @@ pub cache_row_of : (front : List ℕ) (report : Report) (row k : ℕ) (caches : 
 cache_row_of front report row k caches d caches_are row_is within =
     ap (slice_get (report_texts front report)) row_is
     ∙ after_orders front 0 _ k report.orders.items _ refl
-    ∙ row-cache_texts front k report.caches.items d (omega (arith, within, ap length caches_are))
+    ∙ slice_get-map (λ (row : CacheRow). cache_text front row) report.caches.items k
+    ∙ ap (option_map (λ (row : CacheRow). cache_text front row)) (slice_get-get_or report.caches.items k d (omega (arith, within, ap length caches_are)))
     ∙ ap (λ rows. Some (cache_text front (get_or rows k d))) (sym caches_are)
 
 pub length-report_texts : (front : List ℕ) (report : Report)
