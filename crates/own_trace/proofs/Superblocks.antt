@@ -7,7 +7,7 @@ use Rattle.std.proofs.Math.Bool.{or-true}
 use Rattle.model_core.specs.declared.owner.Owner.{Owner}
 use Rattle.model_core.specs.Owners.{is_of, is_owner}
 use Rattle.world_core.specs.World.{given_up}
-use Rattle.promise_kept.proofs.Owning.{pool_empty, pool_first, one_owner}
+use Rattle.promise_kept.proofs.Owning.{pool_empty, pool_first, one_owner, nobodys, some_free}
 
 abbrev pub Owners : Type 0
 Owners = List (Option Owner)
@@ -25,27 +25,15 @@ abbrev pub times : (Option Owner → Bool) → Owners → ℕ
 times test [] = 0
 times test (x ∷ xs) = one (test x) + times test xs
 
--- how many have no owner
-abbrev pub free : Owners → ℕ
-free [] = 0
-free (None ∷ xs) = 1 + free xs
-free (Some x ∷ xs) = free xs
-
 -- without the first that passes
 abbrev without : (Option Owner → Bool) → Owners → Owners
 without test [] = []
 without test (x ∷ xs) = if test x then xs else x ∷ without test xs
 
-free_few : (xs : Owners) → free xs ≤ length xs
+free_few : (xs : Owners) → nobodys xs ≤ length xs
 free_few [] = omega arith
 free_few (None ∷ xs) = omega (arith, free_few xs)
 free_few (Some x ∷ xs) = omega (arith, free_few xs)
-
-some_free : (xs : Owners) (j : ℕ) → slice_get xs j ≡ Some None → 1 ≤ free xs
-some_free [] j e = absurd (cc)
-some_free (None ∷ xs) j e = omega arith
-some_free (Some x ∷ xs) zero e = absurd (cc)
-some_free (Some x ∷ xs) (suc j) e = some_free xs j e
 
 -- it is one less
 less_one : (test : Option Owner → Bool) (xs : Owners) → list_any test xs ≡ true → length xs ≡ suc (length (without test xs))
@@ -57,12 +45,12 @@ less_one test (x ∷ xs) any = go (test x) any (less_one test xs)
     go true any later = refl
     go false any later = ap suc (later any)
 
-same_free : (test : Option Owner → Bool) (xs : Owners) → test None ≡ false → free (without test xs) ≡ free xs
+same_free : (test : Option Owner → Bool) (xs : Owners) → test None ≡ false → nobodys (without test xs) ≡ nobodys xs
 same_free test [] none = refl
 same_free test (None ∷ xs) none = rw none (ap (λ n. 1 + n) (same_free test xs none))
 same_free test (Some x ∷ xs) none = go (test (Some x)) (same_free test xs none)
   where
-    go : (b : Bool) → free (without test xs) ≡ free xs → free (if b then xs else Some x ∷ without test xs) ≡ free xs
+    go : (b : Bool) → nobodys (without test xs) ≡ nobodys xs → nobodys (if b then xs else Some x ∷ without test xs) ≡ nobodys xs
     go true later = refl
     go false later = later
 
@@ -95,7 +83,7 @@ no_times test (x ∷ xs) none = go (test x) none (no_times test xs)
 
 -- each is there under its slot
 pigeons : (t : ℕ) (xs ys : Owners) → list_all (is_of t) xs ≡ true → ((u : ℕ) → times (is_owner t u) xs ≤ 1)
-    → ((u : ℕ) → list_any (is_owner t u) xs ≡ true → list_any (is_owner t u) ys ≡ true) → length xs + free ys ≤ length ys
+    → ((u : ℕ) → list_any (is_owner t u) xs ≡ true → list_any (is_owner t u) ys ≡ true) → length xs + nobodys ys ≤ length ys
 pigeons t [] ys all once there = omega (arith, free_few ys)
 pigeons t (None ∷ xs) ys all once there = absurd (false≢true all)
 pigeons t (Some x ∷ xs) ys all once there =
@@ -103,7 +91,7 @@ pigeons t (Some x ∷ xs) ys all once there =
     let mine : Option Owner → Bool = is_owner t x.slot in
     let here : mine (Some x) ≡ true = and_from (x.tenant == t) (x.slot == x.slot) parts.0 (eq-eqb x.slot x.slot refl) in
     let found : list_any mine ys ≡ true = there x.slot (ap (λ b. b || list_any mine xs) here) in
-    let rest : length xs + free (without mine ys) ≤ length (without mine ys) =
+    let rest : length xs + nobodys (without mine ys) ≤ length (without mine ys) =
     pigeons t xs (without mine ys) parts.1
     (λ u. omega (arith, once u))
     (λ u any. others_stay mine (is_owner t u) ys (apart u (λ same. absurd (omega (arith, once u, some_times (is_owner t u) xs any, again u same)))) ∙ there u (ap (λ b. is_owner t u (Some x) || b) any ∙ or-true (is_owner t u (Some x)))) in
