@@ -3,7 +3,6 @@ use Rattle.std.proofs.Common.{◌≡◌, ℕ, ◌+◌, ◌-◌, ◌*◌, ◌^◌
 use Rattle.std.specs.List.{list_all, slice_range}
 use Rattle.std.specs.Char.{is_ascii_digit}
 use Rattle.std.proofs.Math.Nat.{pow-le-pow_right}
-use Rattle.std.proofs.lemmas.Bool.Decides.{nat_tests}
 use Rattle.std.proofs.lemmas.Grind.{fold-append, pow_more}
 use Rattle.std.proofs.lemmas.List.Edits.{between_more}
 use Rattle.std.proofs.lemmas.List.Folds.{list_all-append}
@@ -12,10 +11,6 @@ use Rattle.words_core.specs.Numbers.{value_of}
 pub small : (value count : ℕ) → value < 10 ^ count → count < 9 → value < 100000000
 small value count below few =
     let most : 10 ^ count ≤ 10 ^ 8 = pow-le-pow_right {n = 10} (omega arith) {i = count} {j = 8} (omega arith) in omega arith
-
--- the value of a digit
-pub digit_value : (b : ℕ) → is_ascii_digit b ≡ true → b - 48 < 10
-digit_value b digit = grind (arith, nat_tests)
 
 one_longer : (bytes : List ℕ) (from count : ℕ) → from + count < length bytes
     → slice_range bytes from (from + (count + 1)) ≡ slice_range bytes from (from + count) ++ get_or bytes (from + count) 0 ∷ []
