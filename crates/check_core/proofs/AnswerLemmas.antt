@@ -84,7 +84,7 @@ said_text front (Fault fault) answers = one_line front (codes "fault " ∷ name_
 said_text front (Owners owners) answers = absurd answers
 said_text front (Report report) answers = absurd answers
 
-answer_text : (reply : Reply) → IsAnswer reply.body → text_of reply ≡ addressee_text reply.addressee ++ spelled reply.body
+pub answer_text : (reply : Reply) → IsAnswer reply.body → text_of reply ≡ addressee_text reply.addressee ++ spelled reply.body
 answer_text reply answers = said_text (addressee_text reply.addressee) reply.body answers
 
 abbrev pub alone_of : Addressee → Body × List ℕ → Option Reply

@@ -132,7 +132,7 @@ fault_judged (Err promise) fault bytes w m left is shows =
 
 -- the finding
 
-abbrev Line : Type 0
+abbrev pub Line : Type 0
 Line = Result (Option Event) LineFault
 
 pub goes_on : (line at lines : ℕ) (reading : Line) (readings : List Line) (bytes : List ℕ) (w after : Known) → verdict_at reading bytes w ≡ Ok after

@@ -12,7 +12,9 @@ pub mod TableSteps
 pub mod ReadingLemmas
 pub mod Ending
 pub mod CheckLemmas
-pub mod KeptLemmas
+pub mod TextLemmas
+pub mod CountLemmas
+pub mod LawLemmas
 pub mod Witnesses
 pub mod Examples
 pub mod ShortLemmas

@@ -75,15 +75,15 @@ longer_differs xs ys h = elim (bytes_eq xs ys) as (λ b. bytes_eq xs ys ≡ b �
 
 -- a line with its LF
 
-ended_first : (line rest : List ℕ) → IsOneLine line → first_line ((line ++ 10 ∷ []) ++ rest) ≡ line ++ 10 ∷ []
+pub ended_first : (line rest : List ℕ) → IsOneLine line → first_line ((line ++ 10 ∷ []) ++ rest) ≡ line ++ 10 ∷ []
 ended_first [] rest h = refl
 ended_first (b ∷ line) rest h = rw h.0 (ap (λ more. b ∷ more) (ended_first line rest h.1))
 
-ended_after : (line rest : List ℕ) → IsOneLine line → after_line ((line ++ 10 ∷ []) ++ rest) ≡ rest
+pub ended_after : (line rest : List ℕ) → IsOneLine line → after_line ((line ++ 10 ∷ []) ++ rest) ≡ rest
 ended_after [] rest h = refl
 ended_after (b ∷ line) rest h = rw h.0 (ended_after line rest h.1)
 
-ended_has_end : (line rest : List ℕ) → IsOneLine line → has_end ((line ++ 10 ∷ []) ++ rest) ≡ true
+pub ended_has_end : (line rest : List ℕ) → IsOneLine line → has_end ((line ++ 10 ∷ []) ++ rest) ≡ true
 ended_has_end [] rest h = refl
 ended_has_end (b ∷ line) rest h = rw h.0 (ended_has_end line rest h.1)
 

@@ -12,7 +12,7 @@ use Rattle.words_core.specs.declared.reply.Body.{Body}
 use Rattle.words_core.specs.declared.reply.Body.TheVariants.{Owners, Report, Bytes}
 use Rattle.check_core.specs.Ranges.{AddresseeFits, BodyFits, Fits}
 use Rattle.check_core.specs.Forms.{◌>>=◌, Gives, mark_at, form_at}
-use Rattle.check_core.specs.Replies.{said_at, written_at, bytes_at, frame_at, freed_at, object_at, given_at, refused_at, cache_at, destroyed_at, reaped_at, granted_at, taken_at, reset_at, moved_at, fault_at, some_fault_at, notice_at, rare_at, answer_of}
+use Rattle.check_core.specs.Replies.{◌or_else◌, said_at, written_at, bytes_at, frame_at, freed_at, object_at, given_at, refused_at, cache_at, destroyed_at, reaped_at, granted_at, taken_at, reset_at, moved_at, fault_at, some_fault_at, notice_at, rare_at, answer_of}
 use Rattle.check_core.specs.Tables.{table_of, reply_of_text}
 use Rattle.check_core.proofs.KindLemmas.{either}
 use Rattle.check_core.proofs.SaidLemmas.{IsAnswer}
@@ -72,3 +72,12 @@ table_again text who _ who_fits fits table is = absurd cc
 -- the text of a table is read as it
 pub table_only : (text : List ℕ) (due : Reply) → Fits due → is_table due.body ≡ true → text_of due ≡ text → table_of text ≡ Some due
 table_only text due fits table is = table_again text due.addressee due.body fits.0 fits.1 table is
+
+-- the text of any reply is read as it
+pub reply_again : (text : List ℕ) (due : Reply) → Fits due → text_of due ≡ text → reply_of_text text ≡ Some due
+unfolding reply_of_text
+reply_again text due fits same =
+    elim (is_table due.body) as (λ is. is_table due.body ≡ is → answer_of text ≡ cond is None (Some due) → (answer_of text or_else table_of text) ≡ Some due) [
+      | true ↦ λ table none. ap (λ found. found or_else table_of text) none ∙ table_only text due fits table same
+      | false ↦ λ _ found. ap (λ found. found or_else table_of text) found
+    ] refl (again text due.addressee due.body fits.0 fits.1 same)

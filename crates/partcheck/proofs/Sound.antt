@@ -5,10 +5,10 @@ use Rattle.model_core.specs.declared.limits.TheConstants.{MOST_CACHES}
 use Rattle.check_core.specs.declared.finding.Finding.{Finding}
 use Rattle.check_core.specs.declared.finding.Finding.TheVariants.{Kept, Broken}
 use Rattle.check_core.specs.Finding.{finding_of}
-use Rattle.check_core.specs.Laws.{KeptIsAllowed}
+use Rattle.check_core.specs.Laws.{BrokenIsNotAllowed, KeptIsAllowed}
 use Rattle.partcheck.specs.Checked.{IsSoundFinding, opening_of}
 
-pub sound : KeptIsAllowed → (config : Config) (finding : Finding) (asked told : List ℕ) → finding ≡ finding_of (opening_of config) asked told
-    → IsSoundFinding config finding asked told
-sound law config (Kept lines) asked told is = law MOST_CACHES config.order config.superblocks config.tenants lines asked told (sym is)
-sound law config (Broken breach) asked told is = tt
+pub sound : KeptIsAllowed → BrokenIsNotAllowed → (config : Config) (finding : Finding) (asked told : List ℕ)
+    → finding ≡ finding_of (opening_of config) asked told → IsSoundFinding config finding asked told
+sound kept broken config (Kept lines) asked told is = kept MOST_CACHES config.order config.superblocks config.tenants lines asked told (sym is)
+sound kept broken config (Broken breach) asked told is = broken MOST_CACHES config.order config.superblocks config.tenants asked told breach (sym is)

@@ -8,6 +8,7 @@ use Rattle.promise_kept.specs.Written.{IsAllowedText}
 use Rattle.check_core.specs.declared.finding.Finding.{Finding}
 use Rattle.check_core.specs.declared.finding.Finding.TheVariants.{Kept, Broken}
 use Rattle.check_core.specs.declared.finding.Unchecked.TheVariants as Not
+use Rattle.check_core.specs.Laws.{IsBreach}
 use Rattle.partcheck.specs.declared.checked.Checked.{Checked}
 use Rattle.partcheck.specs.declared.checked.Checked.TheVariants.{Found, Failed, Unwritten}
 
@@ -24,8 +25,10 @@ status_of_check Unwritten = 1
 abbrev pub opening_of : Config → Known
 opening_of config = opening MOST_CACHES config.order config.superblocks config.tenants
 
--- where they are found kept, the replies are the text of replies to the trace's events, each of which is allowed
+-- if they are found kept, the replies are the text of replies to the trace's events, each of which is allowed; if they are found
+-- broken, no reply that begins at the breach is
 abbrev pub IsSoundFinding : Config → Finding → (trace replies : List ℕ) → Type 0
 IsSoundFinding config (Kept lines) trace replies =
     IsAllowedText None MOST_CACHES config.order config.superblocks config.tenants (lines_of_trace trace) replies
-IsSoundFinding config (Broken breach) trace replies = Unit {0}
+IsSoundFinding config (Broken breach) trace replies =
+    IsBreach MOST_CACHES config.order config.superblocks config.tenants (lines_of_trace trace) replies breach

@@ -37,6 +37,7 @@ pub fn run<T: Feed, R: Feed>(
         → replies.old.left ≡ Some told → ComesToAdd (readings_of asked) told (opening_of config))) }
 {
     laws::kept_is_allowed();
+    laws::broken_is_not_allowed();
     let mut machine = Machine::new(
         alloc,
         config.order as u8,

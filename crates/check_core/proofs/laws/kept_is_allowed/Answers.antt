@@ -1,4 +1,4 @@
-use Rattle.check_core.proofs.KeptLemmas.{kept_is_allowed}
+use Rattle.check_core.proofs.LawLemmas.{kept_is_allowed}
 use Rattle.check_core.proofs.laws.kept_is_allowed.Goals as goal
 
 pub returns : goal.returns
