@@ -1,31 +1,25 @@
 -- A list that is filled from its first element on.
-use Rattle.std.proofs.Common.{◌≡◌, ◌≢◌, ℕ, ◌+◌, ◌<◌, ◌≤◌, List, Some, length, get_or, slice_get, slice_set, subst, sym, ◌∙◌, arith, ◌⊎◌, inl, inr}
+use Rattle.std.proofs.Common.{◌≡◌, ◌≢◌, ℕ, ◌+◌, ◌<◌, ◌≤◌, List, Some, length, get_or, slice_get, slice_set, subst, sym, ◌∙◌, arith, ◌⊎◌, inl, inr, slice_index_or}
 use Rattle.std.proofs.lemmas.Bool.{cases_order}
 use Rattle.std.proofs.lemmas.Option.{slice_get_within, slice_get-get_or, get_or_from_slice_get}
 use Rattle.std.proofs.lemmas.List.{get_or-set_same, get_or-set_other}
-use Rattle.std.proofs.Math.ListN.{length-set}
 
 -- what holds of the elements before i, and of the new one at i, holds of all up to it
+pub more_set : {X : Type 0} (d : X) (P : ℕ → X → Type 0) (xs : List X) (i : ℕ) (v : X) → i < length xs
+    → ((k : ℕ) → k < i → P k (slice_index_or xs k d)) → P i v → (k : ℕ) → k < i + 1 → P k (slice_index_or (slice_set xs i v) k d)
+more_set {X} d P xs i v within before here k less = go (cases_order k i)
+  where
+    go : (k ≡ i) ⊎ ((k < i) ⊎ (i < k)) → P k (slice_index_or (slice_set xs i v) k d)
+    go (inl e) = subst (λ j. P j (slice_index_or (slice_set xs i v) j d)) (sym e) (subst (P i) (sym (get_or-set_same xs i v d within)) here)
+    go (inr (inl below)) = let other : k ≢ i = omega arith in subst (P k) (sym (get_or-set_other xs i k v d other)) (before k below)
+    go (inr (inr above)) = absurd (omega arith)
+
 pub more_filled : {X : Type 0} (P : ℕ → X → Type 0) (xs : List X) (i : ℕ) (v : X) → i < length xs
     → ((k : ℕ) (x : X) → k < i → slice_get xs k ≡ Some x → P k x) → P i v
     → (k : ℕ) (x : X) → k < i + 1 → slice_get (slice_set xs i v) k ≡ Some x → P k x
-more_filled {X} P xs i v within before here k x less is = go (cases_order k i)
-  where
-    there : k < length (slice_set xs i v)
-    there = slice_get_within (slice_set xs i v) k x is
-
-    at : get_or (slice_set xs i v) k x ≡ x
-    at = get_or_from_slice_get (slice_set xs i v) k x x is
-
-    go : (k ≡ i) ⊎ ((k < i) ⊎ (i < k)) → P k x
-    go (inl e) =
-        let same : v ≡ x = sym (get_or-set_same xs i v x within) ∙ subst (λ j. get_or (slice_set xs i v) j x ≡ x) e at in
-        subst (λ j. P j x) (sym e) (subst (P i) same here)
-    go (inr (inl below)) =
-        let other : k ≢ i = omega arith in
-        let e : get_or xs k x ≡ x = sym (get_or-set_other xs i k v x other) ∙ at in
-        before k x below (subst (λ y. slice_get xs k ≡ Some y) e (slice_get-get_or xs k x (omega (arith, there, length-set {A = X}))))
-    go (inr (inr above)) = absurd (omega arith)
+more_filled P xs i v within before here k x less is =
+    subst (P k) (get_or_from_slice_get (slice_set xs i v) k x x is)
+    (more_set x P xs i v within (λ j below. before j (get_or xs j x) below (slice_get-get_or xs j x (omega arith))) here k less)
 
 -- where one element may be added behind the others, each is an old one or the new one
 pub old_or_new : {X : Type 0} (P : X → Type 0) (old new : List X) (room : ℕ) → (length old < room → length new ≡ length old + 1)

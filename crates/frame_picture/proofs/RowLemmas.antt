@@ -1,8 +1,8 @@
 -- The kind of a row: its cells, sheet by sheet, and their counts.
-use Rattle.std.proofs.Common.{◌≡◌, ◌≢◌, ℕ, ◌+◌, ◌-◌, ◌*◌, ◌^◌, ◌<◌, ◌≤◌, ◌==◌, ◌⊎◌, inl, inr, cond, Bool, true, false, List, [], ◌∷◌, ◌++◌, Some, length, count_by, get_or, set, take, slice_index_or, slice_set, ap, subst, sym, ◌∙◌, refl, append_assoc, arith}
-use Rattle.std.proofs.lemmas.Bool.{cases_order, eq-eqb}
+use Rattle.std.proofs.Common.{◌≡◌, ◌≢◌, ℕ, ◌+◌, ◌-◌, ◌*◌, ◌^◌, ◌<◌, ◌≤◌, ◌==◌, ◌⊎◌, inl, inr, cond, Bool, true, false, List, [], ◌∷◌, ◌++◌, Some, length, count_by, get_or, set, take, ap, subst, sym, ◌∙◌, refl, append_assoc, arith}
+use Rattle.std.proofs.lemmas.Bool.{eq-eqb}
 use Rattle.std.proofs.lemmas.Bool.Decides.{eqb_tells}
-use Rattle.std.proofs.lemmas.List.{take_more, get_or-set_same, get_or-set_other}
+use Rattle.std.proofs.lemmas.List.{take_more, get_or-set_same, get_or-set_other, append-nil}
 use Rattle.model_core.specs.declared.owner.Owner.{Owner}
 use Rattle.kernel_core.specs.declared.frames.FrameKind.{FrameKind}
 use Rattle.frame_picture.specs.declared.history.Sheet.{Sheet}
@@ -23,10 +23,6 @@ row_cells-append order t first end (x ∷ xs) ys =
     ap (λ cells. cells_in order t first end x ++ cells) (row_cells-append order t first end xs ys)
     ∙ sym (append_assoc (cells_in order t first end x) (row_cells order t first end xs) (row_cells order t first end ys))
 
-append_none : (xs : List FrameKind) → xs ++ [] ≡ xs
-append_none [] = refl
-append_none (x ∷ xs) = ap (λ ys. x ∷ ys) (append_none xs)
-
 -- with one more sheet
 pub row_cells_more : (order t first end : ℕ) (sheets : List Sheet) (i : ℕ) (sheet : Sheet) → i < length sheets → sheet ≡ get_or sheets i sheet
     → row_cells order t first end (take (i + 1) sheets) ≡ row_cells order t first end (take i sheets) ++ cells_in order t first end sheet
@@ -34,7 +30,7 @@ row_cells_more order t first end sheets i sheet within is =
     ap (row_cells order t first end) (take_more sheets i sheet within)
     ∙ row_cells-append order t first end (take i sheets) (get_or sheets i sheet ∷ [])
     ∙ ap (λ x. row_cells order t first end (take i sheets) ++ (cells_in order t first end x ++ [])) (sym is)
-    ∙ ap (λ cells. row_cells order t first end (take i sheets) ++ cells) (append_none (cells_in order t first end sheet))
+    ∙ ap (λ cells. row_cells order t first end (take i sheets) ++ cells) (append-nil (cells_in order t first end sheet))
 
 -- the counts of the cells, to the last of which the frames are added that have none
 pub counted : (counts : List ℕ) (cells : List FrameKind) (frames v : ℕ) → length counts ≡ 6
@@ -81,13 +77,3 @@ pub drawn_along : (count same : ℕ → ℕ) (kind : ℕ) → ((k : ℕ) → k <
 drawn_along count same kind equal most =
     subst (λ taken. IsMostCommon (drawn_kinds taken) same kind) (taken_along count same equal)
     (most_along (drawn_kinds (taken_cells count)) count same kind (few_kinds (taken_cells count)) equal most)
-
--- what holds of the elements before i, and of the new one at i, holds of all up to it
-pub more_set : {X : Type 0} (d : X) (P : ℕ → X → Type 0) (xs : List X) (i : ℕ) (v : X) → i < length xs
-    → ((k : ℕ) → k < i → P k (slice_index_or xs k d)) → P i v → (k : ℕ) → k < i + 1 → P k (slice_index_or (slice_set xs i v) k d)
-more_set {X} d P xs i v within before here k less = go (cases_order k i)
-  where
-    go : (k ≡ i) ⊎ ((k < i) ⊎ (i < k)) → P k (slice_index_or (slice_set xs i v) k d)
-    go (inl e) = subst (λ j. P j (slice_index_or (slice_set xs i v) j d)) (sym e) (subst (P i) (sym (get_or-set_same xs i v d within)) here)
-    go (inr (inl below)) = let other : k ≢ i = omega arith in subst (P k) (sym (get_or-set_other xs i k v d other)) (before k below)
-    go (inr (inr above)) = absurd (omega arith)

@@ -4,7 +4,6 @@ use Rattle.std.proofs.Math.ListN.{length-set}
 use Rattle.frame_picture.specs.Rows.{cells_in}
 use Rattle.frame_picture.proofs.OwnedLemmas.{passed_more, listed_set, listed_inside}
 use Rattle.frame_picture.proofs.owned.OwnSheets.list.Goals as goal
-use Rattle.frame_picture.proofs.owned.OwnSheets.list.Goals.{then-is_of, else-is_of}
 
 pub sheets-preserved : goal.sheets-preserved
 sheets-preserved c =
@@ -13,7 +12,7 @@ sheets-preserved c =
     let before = c.sheets.invariant in
     let within : here.rest < length sheets = omega (arith, c.sheets-test.true, c.min-most.ensures) in
     elim c.if-is_of.branch [
-      | then-is_of w ↦ rw w.self-is (record {
+      | goal.then-is_of w ↦ rw w.self-is (record {
         long = length-set {A = ℕ} here.listed here.len here.rest ∙ before.long;
         rest = omega (arith, c.sheets-test.true);
         few = omega (arith, c.if-self-lt-MOST_LISTED.true);
@@ -24,7 +23,7 @@ sheets-preserved c =
             ∙ sym (listed_set order c.args.t first end sheets here.listed here.len here.rest c.index-sheets-self.result
             (omega (arith, c.if-self-lt-MOST_LISTED.true, before.long)) within c.index-sheets-self.is);
       })
-      | else-is_of w ↦ rw w.self-is (record {
+      | goal.else-is_of w ↦ rw w.self-is (record {
         long = before.long;
         rest = omega (arith, c.sheets-test.true);
         few = before.few;
