@@ -10,7 +10,6 @@ use Rattle.world_core.specs.Limits.{cache_limit}
 use Rattle.world_core.specs.World.{World, opening_world, world_after}
 use Rattle.world_core.specs.Output.{event_in, events_of, shown_reading, shown_lines, output_of, lines_for, with_line_feeds}
 use Rattle.world_core.specs.Laws as world
-use Rattle.world_core.specs.Laws.{HaveSameOwnList}
 use Rattle.world_core.proofs.Worlds.{world_both, opening_tenants}
 use Rattle.kernel_core.specs.Content.{KernelContent}
 use Rattle.kernel_core.specs.Shows.{Shows}

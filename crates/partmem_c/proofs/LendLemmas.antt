@@ -1,12 +1,12 @@
 -- What commands that lend return.
-use Rattle.std.proofs.Common.{◌≡◌, ℕ, ◌*◌, ◌/◌, ◌^◌, Some, Result, Ok, Err, IfOk, sym, ap, subst}
+use Rattle.std.proofs.Common.{◌≡◌, ℕ, ◌*◌, ◌/◌, ◌^◌, Some, Result, Ok, Err, IfOk, sym, subst}
 use Rattle.model_core.specs.declared.limits.TheConstants.{FRAME_BYTES}
 use Rattle.words_core.specs.declared.reply.Refusal.{Refusal}
 use Rattle.kernel_core.specs.Content.{KernelContent}
 use Rattle.partmem_c.specs.declared.lends.Lent.{Lent}
 use Rattle.partmem_c.specs.Calls.{numbers_in_reply, call_status}
 use Rattle.partmem_c.specs.Finding.{Returns}
-use Rattle.partmem_c.specs.Lends.{no_lent, IsLentAt, IsBlockLent, IsObjectLent, IsObjectOf, alloc_reply, take_reply}
+use Rattle.partmem_c.specs.Lends.{no_lent, IsLentAt, IsBlockLent, IsObjectLent, alloc_reply, take_reply}
 
 pub block_returned : (k : KernelContent) (t order : ℕ) (outcome : Result Lent Refusal) (status : ℕ) (lent : Lent) → Returns no_lent outcome status lent
     → IfOk outcome (λ b. IsLentAt (FRAME_BYTES * (b.place / FRAME_BYTES)) (FRAME_BYTES * 2 ^ order) b)
@@ -21,8 +21,3 @@ pub object_returned : (k : KernelContent) (t : ℕ) (outcome : Result Lent Refus
 object_returned k t (Ok b) status lent returned is =
     (returned.0, subst (λ (l : Lent). IsLentAt b.place l.bytes l) (sym returned.1) is)
 object_returned k t (Err refusal) status lent returned is = (returned.0, returned.1)
-
-pub object_is : (k : KernelContent) (t cache : ℕ) (outcome : Result Lent Refusal) (status : ℕ) (lent : Lent) → Returns no_lent outcome status lent
-    → IfOk outcome (IsObjectOf k t cache) → IsObjectOf k t cache lent
-object_is k t cache (Ok b) status lent returned is = subst (λ (l : Lent). IsObjectOf k t cache l) (sym returned.1) is
-object_is k t cache (Err refusal) status lent returned is = λ some. absurd (some (ap (λ (l : Lent). l.at) returned.1))

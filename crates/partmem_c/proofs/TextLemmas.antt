@@ -10,16 +10,13 @@ use Rattle.words_core.specs.declared.event.Event.TheVariants.{Tenant}
 use Rattle.quick_core.specs.Lines.{ReadsAs}
 use Rattle.kernel_core.specs.Content.{KernelContent}
 use Rattle.std.proofs.lemmas.Option.{same_Some}
+use Rattle.std.proofs.lemmas.Bool.{or_parts}
 use Rattle.streams.specs.Lines.{IsOneLine}
 use Rattle.partmem_c.specs.Lines.{has_line_feed, AnswersLine}
 
-neither : (x y : Bool) → (x || y) ≡ false → (x ≡ false) × (y ≡ false)
-neither false y h = (refl, h)
-neither true y h = cc
-
 pub one_line : (bytes : List ℕ) → has_line_feed bytes ≡ false → IsOneLine bytes
 one_line [] none = tt
-one_line (b ∷ bytes) none = let facts = neither (b == 10) (has_line_feed bytes) none in (facts.0, one_line bytes facts.1)
+one_line (b ∷ bytes) none = let facts = or_parts (b == 10) (has_line_feed bytes) none in (facts.0, one_line bytes facts.1)
 
 -- of the text all but the rest is written
 pub record IsPart (text rest buffer buffer' : List ℕ) (written : ℕ) : Type 0 where
@@ -94,7 +91,7 @@ ended_put line old mid out line_first second =
 found_end : (k : ℕ) (line rest : List ℕ) → has_line_feed line ≡ false → position_from (λ b. b == 10) k (line ++ 10 ∷ rest) ≡ Some (k + length line)
 found_end k [] rest none = ap (λ n. Some n) (omega arith)
 found_end k (b ∷ line) rest none =
-    let facts = neither (b == 10) (has_line_feed line) none in
+    let facts = or_parts (b == 10) (has_line_feed line) none in
     rw facts.0 (found_end (k + 1) line rest facts.1 ∙ ap (λ n. Some n) (omega arith))
 
 -- what is read of these bytes is what the line reads as
