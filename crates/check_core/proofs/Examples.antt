@@ -3,7 +3,7 @@ use Rattle.std.proofs.Common.{◌≡◌, ℕ, List, refl, codes}
 use Rattle.words_core.specs.Grammar.{reading_of, reading_of_words, event_of}
 use Rattle.words_core.specs.Words.{words_of}
 use Rattle.promise_core.specs.declared.promise.Promise.{Promise}
-use Rattle.promise_core.specs.Holdings.{told_blocks, can_stand, vacant_blocks, can_be_taken}
+use Rattle.promise_core.specs.Holdings.{known_blocks, can_stand, vacant_blocks, can_be_taken}
 use Rattle.promise_core.specs.Bytes.{holder_of}
 use Rattle.promise_core.specs.State.{opening_state, opening, state_after, owners_after}
 use Rattle.promise_core.specs.Promises.{due, allowed}
@@ -42,7 +42,7 @@ pub texts_are_found : record {
   -- a faulty line has its fault, and no other
   other_fault : found (codes "frob\n") (codes "!> fault Words\n") ≡ broken_at 1 1 Promise.Form;
 }
-unfolding reading_of reading_of_words event_of words_of told_blocks can_stand vacant_blocks can_be_taken holder_of opening_state opening state_after owners_after due allowed number_at mark_at form_at frame_at freed_at written_at cache_at destroyed_at object_at given_at reaped_at refused_at bytes_of bytes_at said_at tenant_at admin_at nobody_at addressee_at answer_of granted_at taken_at reset_at moved_at fault_at some_fault_at notice_at rare_at after_front rows_from order_at cache_row_at top_at no_top_at some_top_at report_at unowned_at owned_at owner_at pool_at table_of reply_of_text
+unfolding reading_of reading_of_words event_of words_of known_blocks can_stand vacant_blocks can_be_taken holder_of opening_state opening state_after owners_after due allowed number_at mark_at form_at frame_at freed_at written_at cache_at destroyed_at object_at given_at reaped_at refused_at bytes_of bytes_at said_at tenant_at admin_at nobody_at addressee_at answer_of granted_at taken_at reset_at moved_at fault_at some_fault_at notice_at rare_at after_front rows_from order_at cache_row_at top_at no_top_at some_top_at report_at unowned_at owned_at owner_at pool_at table_of reply_of_text
 texts_are_found = record {
   all_kept = refl;
   not_aligned = refl;

@@ -214,7 +214,7 @@ pub pool_answered : (reply : Reply) (x : SeenMachine) (result : Result (Unit {0}
 pool_answered reply x result right judged = go result (judged (known_of x) nobody)
   where
     nobody : Seen
-    nobody = record { has = record { slots = []; pages = []; caches = [] }; left = record { order = x.order; slots = [] }; hides = []; told = None }
+    nobody = record { has = record { slots = []; pages = []; caches = [] }; left = record { order = x.order; slots = [] }; may_have_empty = []; told = None }
 
     verdict_is_at : (v : Result (Unit {0}) Promise) → tenant_verdict (On.Admin Do.Pool) reply.body (known_of x) nobody ≡ v
         → v ≡ verdict_on (On.Admin Do.Pool) reply.body (known_of x) opening_state

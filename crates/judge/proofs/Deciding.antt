@@ -13,7 +13,7 @@ use Rattle.words_core.specs.declared.reply.Body.TheVariants as Say
 use Rattle.words_core.specs.declared.reply.Refusal.{Refusal}
 use Rattle.promise_core.specs.declared.promise.Promise.{Promise}
 use Rattle.promise_core.specs.Bytes.{Holder, holder_of, may_all_be}
-use Rattle.promise_core.specs.Holdings.{ToldCache, cache_told, can_be_taken, can_stand, has_slot, is_slot_busy}
+use Rattle.promise_core.specs.Holdings.{KnownCache, known_cache, can_be_taken, can_stand, has_slot, is_slot_busy}
 use Rattle.promise_core.specs.Promises.{due, first_due}
 use Rattle.promise_core.specs.State.{Known, state_after}
 use Rattle.judge_core.proofs.Lists.{order_found}
@@ -51,7 +51,7 @@ module _ (t f k : ℕ) (w : Known) (x : Seen) where
 
 -- An object
 
-module _ (t number : ℕ) (w : Known) (x : Seen) (o : Option ToldCache) (is : cache_told x.has number ≡ o) where
+module _ (t number : ℕ) (w : Known) (x : Seen) (o : Option KnownCache) (is : known_cache x.has number ≡ o) where
   pub taken_if : (place : ℕ) → tenant_verdict (On.Tenant t (Asked.Take number)) (Say.Object place) w x
       ≡ broken ((Promise.Refusals, is_none (first_due ((is_none o, Refusal.NoCache) ∷ [])))
       ∷ (Promise.Objects, option_map_or (λ c. can_be_taken x.left.order x.has c place) o false) ∷ [])

@@ -14,7 +14,7 @@ use Rattle.words_core.specs.declared.event.Command.TheVariants as Asked
 use Rattle.words_core.specs.declared.report.Report.{Report}
 use Rattle.words_core.specs.declared.reply.Body.TheVariants as Say
 use Rattle.promise_core.specs.Bytes.{Holder, is_same, is_object, with_bytes, doubted, without, holder_of}
-use Rattle.promise_core.specs.Holdings.{ToldCache, Holdings, cache_told, with_live_places}
+use Rattle.promise_core.specs.Holdings.{KnownCache, Holdings, known_cache, with_live_places}
 use Rattle.promise_core.specs.State.{Known, is_in_use, with_range, with_object, is_in_no_slab, state_after}
 use Rattle.shadow_memory.specs.Left.{Left, left_slots, left_at, Becomes}
 use Rattle.judge.specs.Seen.{Seen, state_of, AreNumbered}
@@ -40,9 +40,9 @@ allocated t k f w b old h l is kept has left = record {
   state = (λ i. Some (record {
     has = record old.has { pages = put_rising (λ x. x.first) (sym is i) old.has.pages };
     cells = without (λ place holder. in_block place (sym is i) && not (is_same Holder.Page holder)) (left_at old.left);
-    hides = λ n. slice_index_or old.hides n false;
+    may_have_empty = λ n. slice_index_or old.may_have_empty n false;
     told = None;
-  })) ∙ (λ i. Some (record { has = sym has i; cells = sym left.cells i; hides = λ n. slice_index_or old.hides n false; told = None }));
+  })) ∙ (λ i. Some (record { has = sym has i; cells = sym left.cells i; may_have_empty = λ n. slice_index_or old.may_have_empty n false; told = None }));
 }
 
 pub freed : (t f k : ℕ) (w : Known) (b : Block) (old : Seen) (h : Holdings) (l : Left) → b ≡ block f k
@@ -57,9 +57,9 @@ freed t f k w b old h l is kept has left = record {
   state = (λ i. Some (record {
     has = record old.has { pages = filter (λ x. not (x.first == f)) old.has.pages };
     cells = doubted (λ place holder. in_block place (sym is i) && is_same Holder.Page holder) (left_at old.left);
-    hides = λ n. slice_index_or old.hides n false;
+    may_have_empty = λ n. slice_index_or old.may_have_empty n false;
     told = None;
-  })) ∙ (λ i. Some (record { has = sym has i; cells = sym left.cells i; hides = λ n. slice_index_or old.hides n false; told = None }));
+  })) ∙ (λ i. Some (record { has = sym has i; cells = sym left.cells i; may_have_empty = λ n. slice_index_or old.may_have_empty n false; told = None }));
 }
 
 module _ (t place len : ℕ) (bytes : ArrayVec ℕ) (w : Known) (old : Seen) (l : Left) (holder : Holder) (is : holder_of old.has place len ≡ Some holder)
@@ -82,7 +82,7 @@ module _ (t place len : ℕ) (bytes : ArrayVec ℕ) (w : Known) (old : Seen) (l 
     state = (λ i. Some (with_range place bytes.items (state_of old) (is i))) ∙ (λ i. Some (record (state_of old) { cells = sym left.cells i }));
   }
 
-pub made : (t size align : ℕ) (pattern : ArrayVec ℕ) (number chunk q n colours : ℕ) (w : Known) (c : ToldCache) (old : Seen) (h : Holdings)
+pub made : (t size align : ℕ) (pattern : ArrayVec ℕ) (number chunk q n colours : ℕ) (w : Known) (c : KnownCache) (old : Seen) (h : Holdings)
     → c ≡ record { number = number; size = size; align = align; pattern = pattern.items; chunk = chunk; order = q; count = n; live = [] }
     → tenant_verdict (On.Tenant t (Asked.Cache size align pattern)) (Say.Cache number chunk q n colours) w old ≡ Ok tt
     → h ≡ record old.has { caches = put_rising (λ x. x.number) c old.has.caches }
@@ -92,9 +92,9 @@ made t size align pattern number chunk q n colours w c old h is kept has = recor
   kept = kept;
   order = refl;
   state = λ i. Some (record {
-    has = sym (has ∙ ap (λ (y : ToldCache). record old.has { caches = put_rising (λ x. x.number) y old.has.caches }) is) i;
+    has = sym (has ∙ ap (λ (y : KnownCache). record old.has { caches = put_rising (λ x. x.number) y old.has.caches }) is) i;
     cells = left_at old.left;
-    hides = λ n. slice_index_or old.hides n false;
+    may_have_empty = λ n. slice_index_or old.may_have_empty n false;
     told = None;
   });
 }
@@ -103,29 +103,29 @@ pub destroyed : (t number frames : ℕ) (w : Known) (old : Seen) (h : Holdings) 
     → tenant_verdict (On.Tenant t (Asked.Destroy number)) (Say.Destroyed frames) w old ≡ Ok tt
     → h ≡ record old.has { caches = filter (λ c. not (c.number == number)) old.has.caches }
     → Becomes old.left (left_slots old.left) (without (λ place. is_object (λ n p. n == number))) l
-    → ((n : ℕ) → slice_index_or marks n false ≡ (not (n == number) && slice_index_or old.hides n false))
-    → IsFollowed (On.Tenant t (Asked.Destroy number)) (Say.Destroyed frames) w old (record { has = h; left = l; hides = marks; told = None })
+    → ((n : ℕ) → slice_index_or marks n false ≡ (not (n == number) && slice_index_or old.may_have_empty n false))
+    → IsFollowed (On.Tenant t (Asked.Destroy number)) (Say.Destroyed frames) w old (record { has = h; left = l; may_have_empty = marks; told = None })
 unfolding state_after
-destroyed t number frames w old h l marks kept has left hides = record {
+destroyed t number frames w old h l marks kept has left may_have_empty = record {
   kept = kept;
   order = left.order;
-  state = λ i. Some (record { has = sym has i; cells = sym left.cells i; hides = λ n. sym (hides n) i; told = None });
+  state = λ i. Some (record { has = sym has i; cells = sym left.cells i; may_have_empty = λ n. sym (may_have_empty n) i; told = None });
 }
 
-pub taken : (t number place : ℕ) (w : Known) (c : ToldCache) (old : Seen) (h : Holdings) (l : Left) (marks : List Bool) → cache_told old.has number ≡ Some c
+pub taken : (t number place : ℕ) (w : Known) (c : KnownCache) (old : Seen) (h : Holdings) (l : Left) (marks : List Bool) → known_cache old.has number ≡ Some c
     → tenant_verdict (On.Tenant t (Asked.Take number)) (Say.Object place) w old ≡ Ok tt
     → h ≡ with_live_places number (put_rising (λ p. p) place) old.has
     → Becomes old.left (left_slots old.left) (with_object place (Some c)) l
-    → ((n : ℕ) → slice_index_or marks n false ≡ (n == number || slice_index_or old.hides n false))
-    → IsFollowed (On.Tenant t (Asked.Take number)) (Say.Object place) w old (record { has = h; left = l; hides = marks; told = None })
+    → ((n : ℕ) → slice_index_or marks n false ≡ (n == number || slice_index_or old.may_have_empty n false))
+    → IsFollowed (On.Tenant t (Asked.Take number)) (Say.Object place) w old (record { has = h; left = l; may_have_empty = marks; told = None })
 unfolding state_after
-taken t number place w c old h l marks is kept has left hides = record {
+taken t number place w c old h l marks is kept has left may_have_empty = record {
   kept = kept;
   order = left.order;
   state = λ i. Some (record {
     has = sym has i;
     cells = (ap (λ o. with_object place o (left_at old.left)) is ∙ sym left.cells) i;
-    hides = λ n. sym (hides n) i;
+    may_have_empty = λ n. sym (may_have_empty n) i;
     told = None;
   });
 }
@@ -139,14 +139,14 @@ unfolding state_after
 given t number place w old h l kept has left = record {
   kept = kept;
   order = left.order;
-  state = λ i. Some (record { has = sym has i; cells = sym left.cells i; hides = λ n. slice_index_or old.hides n false; told = None });
+  state = λ i. Some (record { has = sym has i; cells = sym left.cells i; may_have_empty = λ n. slice_index_or old.may_have_empty n false; told = None });
 }
 
 -- no cache has a greater number
-in_use_below : (h : Holdings) (n : ℕ) → AreNumbered h → (nat_lt n MOST_CACHES && is_in_use (cache_told h n)) ≡ is_in_use (cache_told h n)
-in_use_below h n low = go (nat_lt n MOST_CACHES) refl (cache_told h n) refl
+in_use_below : (h : Holdings) (n : ℕ) → AreNumbered h → (nat_lt n MOST_CACHES && is_in_use (known_cache h n)) ≡ is_in_use (known_cache h n)
+in_use_below h n low = go (nat_lt n MOST_CACHES) refl (known_cache h n) refl
   where
-    go : (b : Bool) → nat_lt n MOST_CACHES ≡ b → (o : Option ToldCache) → cache_told h n ≡ o → (b && is_in_use o) ≡ is_in_use o
+    go : (b : Bool) → nat_lt n MOST_CACHES ≡ b → (o : Option KnownCache) → known_cache h n ≡ o → (b && is_in_use o) ≡ is_in_use o
     go true lt o e = refl
     go false ge None e = refl
     go false ge (Some c) e =
@@ -159,16 +159,16 @@ in_use_below h n low = go (nat_lt n MOST_CACHES) refl (cache_told h n) refl
 pub reaped : (t frames : ℕ) (w : Known) (old : Seen) (l : Left) (marks : List Bool) → AreNumbered old.has
     → tenant_verdict (On.Tenant t Asked.Reap) (Say.Reaped frames) w old ≡ Ok tt
     → Becomes old.left (left_slots old.left) (without (λ place. is_object (is_in_no_slab old.has))) l
-    → ((n : ℕ) → slice_index_or marks n false ≡ (nat_lt n MOST_CACHES && is_in_use (cache_told old.has n)))
-    → IsFollowed (On.Tenant t Asked.Reap) (Say.Reaped frames) w old (record { has = old.has; left = l; hides = marks; told = None })
+    → ((n : ℕ) → slice_index_or marks n false ≡ (nat_lt n MOST_CACHES && is_in_use (known_cache old.has n)))
+    → IsFollowed (On.Tenant t Asked.Reap) (Say.Reaped frames) w old (record { has = old.has; left = l; may_have_empty = marks; told = None })
 unfolding state_after
-reaped t frames w old l marks low kept left hides = record {
+reaped t frames w old l marks low kept left may_have_empty = record {
   kept = kept;
   order = left.order;
   state = λ i. Some (record {
     has = old.has;
     cells = sym left.cells i;
-    hides = λ n. sym (hides n ∙ in_use_below old.has n low) i;
+    may_have_empty = λ n. sym (may_have_empty n ∙ in_use_below old.has n low) i;
     told = None;
   });
 }
@@ -178,16 +178,16 @@ pub reported : (t : ℕ) (r : Report) (w : Known) (old : Seen) → tenant_verdic
 unfolding state_after
 reported t r w old kept = record { kept = kept; order = refl; state = refl }
 
-pub number_low : (h : Holdings) (number : ℕ) (c : ToldCache) → AreNumbered h → cache_told h number ≡ Some c → number < MOST_CACHES
+pub number_low : (h : Holdings) (number : ℕ) (c : KnownCache) → AreNumbered h → known_cache h number ≡ Some c → number < MOST_CACHES
 number_low h number c low e =
     let at : IsIn c h.caches × ((c.number == number) ≡ true) = find_in (λ y. y.number == number) c h.caches e in
     subst (λ n. n < MOST_CACHES) (eqb-true c.number number at.1) (low c at.0)
 
-pub all_marked : (h : Holdings) (marks : List Bool) → length marks ≡ 32 → ((k : ℕ) → k < 32 → slice_index_or marks k false ≡ is_in_use (cache_told h k))
-    → (n : ℕ) → slice_index_or marks n false ≡ (nat_lt n MOST_CACHES && is_in_use (cache_told h n))
+pub all_marked : (h : Holdings) (marks : List Bool) → length marks ≡ 32 → ((k : ℕ) → k < 32 → slice_index_or marks k false ≡ is_in_use (known_cache h k))
+    → (n : ℕ) → slice_index_or marks n false ≡ (nat_lt n MOST_CACHES && is_in_use (known_cache h n))
 all_marked h marks len set n = go (nat_lt n MOST_CACHES) refl
   where
-    go : (b : Bool) → nat_lt n MOST_CACHES ≡ b → slice_index_or marks n false ≡ (b && is_in_use (cache_told h n))
+    go : (b : Bool) → nat_lt n MOST_CACHES ≡ b → slice_index_or marks n false ≡ (b && is_in_use (known_cache h n))
     go true lt = set n (ltb-true n MOST_CACHES lt)
     go false ge = let beyond : MOST_CACHES ≤ n = ltb-false n MOST_CACHES ge in get_or_past marks n false (omega (arith, len, beyond))
 

@@ -15,7 +15,7 @@ use Rattle.words_core.specs.declared.reply.Body.{Body}
 use Rattle.words_core.specs.declared.reply.Body.TheVariants as Say
 use Rattle.promise_core.specs.declared.promise.Promise.{Promise}
 use Rattle.promise_core.specs.Bytes.{Cells}
-use Rattle.promise_core.specs.Holdings.{ToldCache, Holdings, has_slot, with_live_places}
+use Rattle.promise_core.specs.Holdings.{KnownCache, Holdings, has_slot, with_live_places}
 use Rattle.promise_core.specs.Lying.{IsLaid, AllGridded}
 use Rattle.promise_core.specs.Promises.{refusals, blocks, objects, new_layout, owners}
 use Rattle.promise_core.specs.State.{State, Known, opening_state, state_after}
@@ -57,13 +57,13 @@ kept_all event body w x ok =
 
 -- The numbers of caches stay below the limit
 
-live_number : (b : Bool) (c : ToldCache) (live : List ℕ) → (if b then record c { live = live } else c).number ≡ c.number
+live_number : (b : Bool) (c : KnownCache) (live : List ℕ) → (if b then record c { live = live } else c).number ≡ c.number
 live_number true c live = refl
 live_number false c live = refl
 
 live_numbered : (h : Holdings) (number : ℕ) (change : List ℕ → List ℕ) → AreNumbered h → AreNumbered (with_live_places number change h)
 live_numbered h number change low c i =
-    let x : (y : ToldCache) × IsIn y h.caches × ((if y.number == number then record y { live = change y.live } else y) ≡ c) = map_in _ c h.caches i in
+    let x : (y : KnownCache) × IsIn y h.caches × ((if y.number == number then record y { live = change y.live } else y) ≡ c) = map_in _ c h.caches i in
     subst (λ n. n < MOST_CACHES) (sym (live_number (x.0.number == number) x.0 (change x.0.live)) ∙ ap (λ y. y.number) x.2) (low x.0 x.1)
 
 number_step : (w : Known) (event : Event) (body : Body) (s s' : State) → state_after w.order event body s ≡ Some s' → w.limit ≡ MOST_CACHES
@@ -80,7 +80,7 @@ number_step w (On.Tenant i (Asked.Cache size align pattern)) (Say.Cache number c
       | inr old ↦ g d old
     ])
   where
-    new : ToldCache
+    new : KnownCache
     new = record { number = number; size = size; align = align; pattern = pattern.items; chunk = chunk; order = q; count = n; live = [] }
 number_step w (On.Tenant i (Asked.Destroy number)) (Say.Destroyed frames) s s' e limit l g = subst (λ y. AreNumbered y.has) (some_state e)
     (λ d m. g d (filter_in _ d s.has.caches m).0)

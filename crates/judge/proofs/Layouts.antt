@@ -9,10 +9,10 @@ use Rattle.words_core.specs.declared.event.Event.TheVariants as On
 use Rattle.words_core.specs.declared.event.Command.TheVariants as Asked
 use Rattle.words_core.specs.declared.reply.Body.TheVariants as Say
 use Rattle.words_core.specs.declared.reply.Refusal.{Refusal}
-use Rattle.promise_core.specs.Holdings.{cache_told}
+use Rattle.promise_core.specs.Holdings.{known_cache}
 use Rattle.promise_core.specs.State.{Known}
 use Rattle.promise_core.specs.Promises.{first_due, due, new_layout}
-use Rattle.judge_core.specs.Inside.{IsToldLayout}
+use Rattle.judge_core.specs.Inside.{IsKnownLayout}
 use Rattle.judge.specs.Judged.{kept_by, known_at, tenant_verdict}
 use Rattle.model_core.specs.declared.limits.TheConstants.{MOST_CACHES}
 use Rattle.judge.specs.Seen.{Seen, state_of}
@@ -35,7 +35,7 @@ module _ (size align t number chunk q n colours : ℕ) (p : ArrayVec ℕ) (w : K
       (all.1.0, all.1.1.1.1.1.1.0)
 
   abbrev new : Bool
-  new = nat_lt number MOST_CACHES && is_none (cache_told x.has number)
+  new = nat_lt number MOST_CACHES && is_none (known_cache x.has number)
 
   abbrev told : Bool
   told = nat_le size chunk && (chunk % align == 0 && nat_le q x.left.order)
@@ -48,9 +48,9 @@ module _ (size align t number chunk q n colours : ℕ) (p : ArrayVec ℕ) (w : K
 
   -- the number of a new cache is new
   pub new_where_allowed : tenant_verdict (On.Tenant t (Asked.Cache size align p)) (Say.Cache number chunk q n colours) w x ≡ Ok tt
-      → cache_told x.has number ≡ None
-  new_where_allowed ok = none_is (cache_told x.has number)
-      (and_parts (nat_lt number MOST_CACHES) (is_none (cache_told x.has number))
+      → known_cache x.has number ≡ None
+  new_where_allowed ok = none_is (known_cache x.has number)
+      (and_parts (nat_lt number MOST_CACHES) (is_none (known_cache x.has number))
       (and_parts new (told && (counts && inside)) (kept ok).1).0).1
 
   sized : is_none (due (On.Tenant t (Asked.Cache size align p)) (known_at x w) (state_of x)) ≡ true → (is_size size ≡ true) × (is_alignment align ≡ true)
@@ -66,7 +66,7 @@ module _ (size align t number chunk q n colours : ℕ) (p : ArrayVec ℕ) (w : K
   -- .. and its objects fit into a slab
   pub cut_where_allowed : x.left.order ≤ MOST_ORDER
       → tenant_verdict (On.Tenant t (Asked.Cache size align p)) (Say.Cache number chunk q n colours) w x ≡ Ok tt
-      → IsToldLayout size align chunk q n
+      → IsKnownLayout size align chunk q n
   cut_where_allowed order ok =
       let sizes = sized (kept ok).0 in
       let range = and_parts (nat_le 1 size) (nat_le size MOST_SIZE) sizes.0 in

@@ -34,9 +34,9 @@ pub none_marked : (n k : ℕ) → slice_index_or (replicate k false) n false ≡
 none_marked n k = grind (arith, common_steps)
 
 pub opened : (x : Seen) (order : ℕ) → x.has ≡ record { slots = []; pages = []; caches = [] } → x.left ≡ record { order = order; slots = [] }
-    → ((n : ℕ) → slice_index_or x.hides n false ≡ false) → x.told ≡ None → state_of x ≡ opening_state
+    → ((n : ℕ) → slice_index_or x.may_have_empty n false ≡ false) → x.told ≡ None → state_of x ≡ opening_state
 unfolding opening_state
-opened x order has left hides told i = record { has = has i; cells = left_at (left i); hides = λ n. hides n i; told = told i }
+opened x order has left may_have_empty told i = record { has = has i; cells = left_at (left i); may_have_empty = λ n. may_have_empty n i; told = told i }
 
 -- A grant
 
@@ -68,7 +68,7 @@ unfolding state_after
 granted t told u m w old h l kept has left = record {
   kept = kept;
   order = left.order;
-  state = λ i. Some (record { has = sym has i; cells = sym left.cells i; hides = λ n. slice_index_or old.hides n false; told = None });
+  state = λ i. Some (record { has = sym has i; cells = sym left.cells i; may_have_empty = λ n. slice_index_or old.may_have_empty n false; told = None });
 }
 
 -- what is granted is new, and its places are below 2 ^ 32
@@ -146,19 +146,19 @@ unfolding state_after
 taken_back t u m w old h l kept has left = record {
   kept = kept;
   order = left.order;
-  state = λ i. Some (record { has = sym has i; cells = sym left.cells i; hides = λ n. slice_index_or old.hides n false; told = None });
+  state = λ i. Some (record { has = sym has i; cells = sym left.cells i; may_have_empty = λ n. slice_index_or old.may_have_empty n false; told = None });
 }
 
 -- A reset
 
 pub emptied : (t told m : ℕ) (w : Known) (old new : Seen) → tenant_verdict (On.Admin (Do.Reset t)) (Say.WasReset told m) w old ≡ Ok tt
     → new.has ≡ record { slots = []; pages = []; caches = [] } → new.left ≡ record old.left { slots = [] }
-    → ((n : ℕ) → slice_index_or new.hides n false ≡ false) → new.told ≡ None → IsFollowed (On.Admin (Do.Reset t)) (Say.WasReset told m) w old new
+    → ((n : ℕ) → slice_index_or new.may_have_empty n false ≡ false) → new.told ≡ None → IsFollowed (On.Admin (Do.Reset t)) (Say.WasReset told m) w old new
 unfolding state_after
-emptied t told m w old new kept has left hides none = record {
+emptied t told m w old new kept has left may_have_empty none = record {
   kept = kept;
   order = ap (λ (l : Left). l.order) left;
-  state = ap (λ s. Some s) (sym (opened new old.left.order has left hides none));
+  state = ap (λ s. Some s) (sym (opened new old.left.order has left may_have_empty none));
 }
 
 -- A move

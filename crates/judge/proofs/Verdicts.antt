@@ -8,7 +8,7 @@ use Rattle.model_core.specs.Layouts.{is_size, is_alignment}
 use Rattle.model_core.specs.Machine.{order_in}
 use Rattle.model_core.specs.declared.limits.TheConstants.{MOST_BYTES}
 use Rattle.promise_core.specs.Bytes.{holder_of}
-use Rattle.promise_core.specs.Holdings.{cache_told}
+use Rattle.promise_core.specs.Holdings.{known_cache}
 use Rattle.words_core.specs.declared.event.Event.{Event}
 use Rattle.words_core.specs.declared.event.Event.TheVariants as On
 use Rattle.words_core.specs.declared.event.AdminCommand.{AdminCommand}
@@ -103,10 +103,10 @@ plain_due t (Asked.Read place len) w s = first_plain ((not (nat_le 1 len && nat_
 plain_due t (Asked.Write place bytes) w s = first_plain ((is_none (holder_of s.has place (length bytes.items)), Refusal.OutOfReach) ∷ []) (refl, tt)
 plain_due t (Asked.Cache size align pattern) w s = first_plain ((not (is_size size), Refusal.BadSize) ∷ (not (is_alignment align), Refusal.BadAlign)
     ∷ (nat_le w.limit (length s.has.caches), Refusal.NoCacheSlot) ∷ []) (refl, (refl, (refl, tt)))
-plain_due t (Asked.Destroy number) w s = let cache = cache_told s.has number in
+plain_due t (Asked.Destroy number) w s = let cache = known_cache s.has number in
     first_plain ((is_none cache, Refusal.NoCache) ∷ (is_in_use cache, Refusal.CacheInUse) ∷ []) (refl, (refl, tt))
-plain_due t (Asked.Take number) w s = first_plain ((is_none (cache_told s.has number), Refusal.NoCache) ∷ []) (refl, tt)
-plain_due t (Asked.Give number place) w s = let cache = cache_told s.has number in first_plain ((is_none cache, Refusal.NoCache)
+plain_due t (Asked.Take number) w s = first_plain ((is_none (known_cache s.has number), Refusal.NoCache) ∷ []) (refl, tt)
+plain_due t (Asked.Give number place) w s = let cache = known_cache s.has number in first_plain ((is_none cache, Refusal.NoCache)
     ∷ (not (option_map_or (λ c. list_any (λ p. p == place) c.live) cache false), Refusal.NotAnObject) ∷ []) (refl, (refl, tt))
 plain_due t Asked.Reap w s = tt
 plain_due t Asked.Report w s = tt

@@ -5,7 +5,7 @@ use Rattle.model_core.specs.Elements.{IsIn}
 use Rattle.model_core.specs.declared.limits.TheConstants.{MOST_CACHES, MOST_ORDER}
 use Rattle.words_core.specs.declared.report.Report.{Report}
 use Rattle.promise_core.specs.Lying.{IsLaid, AllGridded}
-use Rattle.promise_core.specs.Holdings.{ToldCache, Holdings, has_slot}
+use Rattle.promise_core.specs.Holdings.{KnownCache, Holdings, has_slot}
 use Rattle.promise_core.specs.State.{State, opening_state}
 use Rattle.shadow_memory.specs.Left.{Left, left_at, left_slots}
 
@@ -14,11 +14,11 @@ pub record Seen : Type 0 where
   pub has : Holdings
   pub left : Left
   -- by number of a cache, whether a slab without live objects may stand
-  pub hides : List Bool
+  pub may_have_empty : List Bool
   pub told : Option Report
 
 abbrev pub state_of : Seen → State
-state_of x = record { has = x.has; cells = left_at x.left; hides = λ n. slice_index_or x.hides n false; told = x.told }
+state_of x = record { has = x.has; cells = left_at x.left; may_have_empty = λ n. slice_index_or x.may_have_empty n false; told = x.told }
 
 -- the tenant of a machine whose slots have 2 ^ order frames, before the first event
 pub record IsOpeningTenant (order : ℕ) (x : Seen) : Type 0 where
@@ -26,7 +26,7 @@ pub record IsOpeningTenant (order : ℕ) (x : Seen) : Type 0 where
   pub state : state_of x ≡ opening_state
 
 abbrev pub AreNumbered : Holdings → Type 0
-AreNumbered h = (c : ToldCache) → IsIn c h.caches → c.number < MOST_CACHES
+AreNumbered h = (c : KnownCache) → IsIn c h.caches → c.number < MOST_CACHES
 
 -- what was left is of the held slots; blocks and slabs lie in them, objects in their slabs
 pub record LieInSlots (h : Holdings) (left : Left) : Type 0 where

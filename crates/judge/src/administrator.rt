@@ -99,7 +99,7 @@ impl Tenant {
         on_answer(None, Promise::Owners, is_counted)?;
         self.held.reset();
         self.left.reset();
-        self.hides = [false; CACHES];
+        self.may_have_empty = [false; CACHES];
         self.told = None;
         give_up_all(owners, t);
         Ok(())
@@ -174,9 +174,9 @@ impl Tenant {
 
     /// Returns whether the slot may be busy: a frame of it is taken, or a cache may have an empty slab.
     fn may_be_busy(&self, is_busy: bool) -> bool
-        ensures { result ≡ (is_busy || list_any (λ c. slice_index_or self.now.hides c.number false) self.now.has.caches) }
+        ensures { result ≡ (is_busy || list_any (λ c. slice_index_or self.now.may_have_empty c.number false) self.now.has.caches) }
     {
-        is_busy || self.held.hides_some(&self.hides)
+        is_busy || self.held.may_have_some_empty(&self.may_have_empty)
     }
 
     /// Returns the refusal that taking a slot back has to get, if any.

@@ -9,7 +9,7 @@ ghost use Rattle.arrayvec.specs.ArrayVec.{ArrayVec as Pattern};
 ghost use Rattle.words_core.specs.declared.event.Event.TheVariants as On;
 ghost use Rattle.words_core.specs.declared.event.Command.TheVariants as Asked;
 ghost use Rattle.words_core.specs.declared.reply.Body.TheVariants as Say;
-ghost use Rattle.promise_core.specs.Holdings.{cache_told};
+ghost use Rattle.promise_core.specs.Holdings.{known_cache};
 ghost use Rattle.promise_core.specs.State.{Known};
 ghost use Rattle.promise_core.specs.Promises.{due, can_come_back, empty_frames};
 ghost use Rattle.judge.specs.Judged.{IsVerdictFor, known_at, tenant_verdict};
@@ -20,7 +20,7 @@ use crate::taken::{empty_frames, is_asked};
 use crate::tenant::Tenant;
 use crate::verdict::{Failure, Verdict, both, on_answer, on_still_answer};
 use arrayvec::ArrayVec;
-use judge_core::{HeldCache, ToldLayout, is_marked};
+use judge_core::{HeldCache, KnownLayout, is_marked};
 use model_core::limits::{MOST_CACHES, MOST_PATTERN, MOST_SIZE};
 use promise_core::promise::Promise;
 use words_core::Refusal;
@@ -30,7 +30,7 @@ impl Tenant {
     pub(crate) fn add_cache(
         &mut self,
         number: u8,
-        layout: ToldLayout,
+        layout: KnownLayout,
         pattern: &ArrayVec<u8, MOST_PATTERN>,
     ) -> Result<(), Failure>
         ensures { (t : ℕ) (w : Known) → let l = layout in IsVerdictFor (On.Tenant t (Asked.Cache l.size l.align pattern.now))
@@ -44,7 +44,7 @@ impl Tenant {
     }
 
     /// Returns the verdict on that.
-    fn judge_layout(&self, number: u8, layout: &ToldLayout) -> Verdict
+    fn judge_layout(&self, number: u8, layout: &KnownLayout) -> Verdict
         ensures { (t : ℕ) (p : Pattern ℕ) (w : Known) → let l = layout.now in result
             ≡ tenant_verdict (On.Tenant t (Asked.Cache l.size l.align p)) (Say.Cache number l.chunk l.order l.count l.colours) w
             self.now }
@@ -60,7 +60,7 @@ impl Tenant {
 
     /// Returns whether a cache may have this number, and none has it.
     fn is_new_cache(&self, number: u8) -> bool
-        ensures { result ≡ (nat_lt number MOST_CACHES && is_none (cache_told self.now.has number)) }
+        ensures { result ≡ (nat_lt number MOST_CACHES && is_none (known_cache self.now.has number)) }
     {
         number < MOST_CACHES && self.held.cache(number.into()).is_none()
     }
@@ -94,7 +94,7 @@ impl Tenant {
         on_still_answer(due, Promise::Gives, can_come, is_still)?;
         self.held.destroy(number);
         self.left.destroy(number);
-        clear_mark(&mut self.hides, number);
+        clear_mark(&mut self.may_have_empty, number);
         self.told = None;
         Ok(())
     }
@@ -121,7 +121,7 @@ impl Tenant {
         on_still_answer(None, Promise::Gives, can_come, is_still)?;
         let used = marks_of_used(&self.held);
         self.left.reap(&self.held);
-        self.hides = used;
+        self.may_have_empty = used;
         self.told = None;
         Ok(())
     }
@@ -134,7 +134,7 @@ impl Tenant {
     {
         frames == 0
             || (u128::from(frames) <= self.held.count_vacant(self.left.order(), 0)
-                && some_may_have(self.held.caches(), &self.hides, only, frames))
+                && some_may_have(self.held.caches(), &self.may_have_empty, only, frames))
     }
 
     /// Returns whether the last report, if it is valid, has this many frames in empty slabs: of the cache `only`, or of all.
@@ -164,19 +164,24 @@ fn is_alignment(align: u32) -> bool
 }
 
 /// Returns whether the cache `only`, or some cache, may have empty slabs that have this many frames.
-fn some_may_have(caches: &[HeldCache], hides: &[bool], only: Option<u32>, frames: u32) -> bool
-    ensures { result ≡ list_any (λ c. slice_index_or hides.now c.number false && frames % 2 ^ c.order == 0)
+fn some_may_have(
+    caches: &[HeldCache],
+    may_have_empty: &[bool],
+    only: Option<u32>,
+    frames: u32,
+) -> bool
+    ensures { result ≡ list_any (λ c. slice_index_or may_have_empty.now c.number false && frames % 2 ^ c.order == 0)
         (filter (λ c. option_map_or (λ number. c.number == number) only true) caches.now) }
 {
     caches
         .iter()
         .filter(|cache| is_asked(cache, only))
-        .any(|cache| may_have(cache, hides, frames))
+        .any(|cache| may_have(cache, may_have_empty, frames))
 }
 
 /// Returns whether the cache may have empty slabs that have this many frames.
-fn may_have(cache: &HeldCache, hides: &[bool], frames: u32) -> bool
-    ensures { result ≡ (slice_index_or hides.now cache.now.number false && frames % 2 ^ cache.now.order == 0) }
+fn may_have(cache: &HeldCache, may_have_empty: &[bool], frames: u32) -> bool
+    ensures { result ≡ (slice_index_or may_have_empty.now cache.now.number false && frames % 2 ^ cache.now.order == 0) }
 {
-    is_marked(hides, cache.number()) && frames % (1u32 << cache.order()) == 0
+    is_marked(may_have_empty, cache.number()) && frames % (1u32 << cache.order()) == 0
 }

@@ -2,7 +2,7 @@
 
 ghost use Rattle.std.specs.Prelude.{◌≡◌, ◌<◌, ◌==◌, ◌&&◌, ◌||◌, ℕ, false, not, nat_lt, slice_index_or};
 ghost use Rattle.model_core.specs.declared.limits.TheConstants.{MOST_CACHES};
-ghost use Rattle.promise_core.specs.Holdings.{cache_told};
+ghost use Rattle.promise_core.specs.Holdings.{known_cache};
 ghost use Rattle.promise_core.specs.State.{is_in_use};
 
 use judge_core::Held;
@@ -27,7 +27,7 @@ pub(crate) fn clear_mark(marks: &mut [bool; CACHES], number: u32)
 
 /// Returns marks of the caches that have a live object.
 pub(crate) fn marks_of_used(held: &Held) -> [bool; CACHES]
-    ensures { (n : ℕ) → slice_index_or result n false ≡ (nat_lt n MOST_CACHES && is_in_use (cache_told held.now n)) }
+    ensures { (n : ℕ) → slice_index_or result n false ≡ (nat_lt n MOST_CACHES && is_in_use (known_cache held.now n)) }
 {
     let mut marks = [false; CACHES];
     for n in 0..CACHES {
@@ -38,7 +38,7 @@ pub(crate) fn marks_of_used(held: &Held) -> [bool; CACHES]
 
 /// Returns whether the cache of this number exists and has a live object.
 fn is_used(held: &Held, number: u32) -> bool
-    ensures { result ≡ is_in_use (cache_told held.now number) }
+    ensures { result ≡ is_in_use (known_cache held.now number) }
 {
     match held.cache(number) {
         Some(cache) => cache.is_in_use(),

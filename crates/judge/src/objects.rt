@@ -4,7 +4,7 @@ ghost use Rattle.std.specs.Prelude.{◌≡◌, ◌≤◌, ◌<◌, ℕ, Some, If
 ghost use Rattle.words_core.specs.declared.event.Event.TheVariants as On;
 ghost use Rattle.words_core.specs.declared.event.Command.TheVariants as Asked;
 ghost use Rattle.words_core.specs.declared.reply.Body.TheVariants as Say;
-ghost use Rattle.promise_core.specs.Holdings.{cache_told};
+ghost use Rattle.promise_core.specs.Holdings.{known_cache};
 ghost use Rattle.promise_core.specs.State.{Known};
 ghost use Rattle.promise_core.specs.Promises.{due};
 ghost use Rattle.judge.specs.Judged.{IsVerdictFor, known_at, tenant_verdict, only_verdict};
@@ -29,7 +29,7 @@ impl Tenant {
         let size = cache.size();
         self.held.take(number, place)?;
         self.left.take(&slab, own_number, place, size);
-        set_mark(&mut self.hides, number);
+        set_mark(&mut self.may_have_empty, number);
         forget(&mut self.told);
         Ok(())
     }
@@ -38,7 +38,7 @@ impl Tenant {
     fn cache_with(&self, number: u32, place: u32) -> Result<&HeldCache, Promise>
         ensures judged { (t : ℕ) (w : Known)
             → only_verdict result ≡ tenant_verdict (On.Tenant t (Asked.Take number)) (Say.Object place) w self.now }
-        ensures is { IfOk result (λ cache. cache_told self.now.has number ≡ Some cache.now) }
+        ensures is { IfOk result (λ cache. known_cache self.now.has number ≡ Some cache.now) }
     {
         let Some(cache) = self.held.cache(number) else {
             return Err(Promise::Refusals);

@@ -1,4 +1,4 @@
-//! A report. Slots have `2^order` frames; `hides` is, by number of a cache, whether the cache may have a slab without live
+//! A report. Slots have `2^order` frames; `may_have_empty` is, by number of a cache, whether the cache may have a slab without live
 //! objects; `told` is the last report, while it is valid.
 
 ghost use Rattle.std.specs.Prelude.{◌≡◌, ℕ, ◌+◌, ◌*◌, ◌^◌, ◌≤◌, ◌<◌, ◌==◌, ◌&&◌, nat_le, drop, length, slice_index, slice_index_or, false, true};
@@ -11,7 +11,7 @@ ghost use Rattle.words_core.specs.declared.event.Command.TheVariants as Asked;
 ghost use Rattle.words_core.specs.declared.reply.Body.TheVariants as Say;
 ghost use Rattle.promise_core.specs.Holdings.{vacant_blocks};
 ghost use Rattle.promise_core.specs.State.{State, Known};
-ghost use Rattle.promise_core.specs.Promises.{report, frames_of_counts, told_count};
+ghost use Rattle.promise_core.specs.Promises.{report, frames_of_counts, known_count};
 ghost use Rattle.judge.specs.Judged.{IsVerdictFor, failing};
 
 use crate::counts::{count_at, counts_of, frames_from, frames_of_counts, greatest, split_share};
@@ -43,7 +43,7 @@ impl Tenant {
         ensures { (t : ℕ) (w : Known)
             → IsVerdictFor (On.Tenant t Asked.Report) (Say.Report report.now) w self.old self.new (failing result) }
     {
-        let is_right = tells_state(&self.held, self.left.order(), &self.hides, report);
+        let is_right = tells_state(&self.held, self.left.order(), &self.may_have_empty, report);
         let is_still = tells_same(self.told.as_ref(), report);
         on_still_answer(None, Promise::Report, is_right, is_still)?;
         self.told = Some(copy_of(report));
@@ -52,10 +52,10 @@ impl Tenant {
 }
 
 /// Returns whether the report has the figures of what the tenant has.
-fn tells_state(held: &Held, order: u8, hides: &[bool], r: &Report) -> bool
+fn tells_state(held: &Held, order: u8, may_have_empty: &[bool], r: &Report) -> bool
     requires { order ≤ MOST_ORDER }
     ensures { (t : ℕ) (w : Known) (s : State) → result ≡ report (On.Tenant t Asked.Report) (Say.Report r.now)
-        (record w { order = order }) (record s { has = held.now; hides = λ n. slice_index_or hides.now n false }) }
+        (record w { order = order }) (record s { has = held.now; may_have_empty = λ n. slice_index_or may_have_empty.now n false }) }
 {
     let (free, taken) = counts_of(&r.orders);
     let (free, taken) = (free.as_slice(), taken.as_slice());
@@ -64,7 +64,7 @@ fn tells_state(held: &Held, order: u8, hides: &[bool], r: &Report) -> bool
         has_rows(held, order, free, rows),
         has_frames(held, order, r, free, taken),
         is_split(order, r, free),
-        are_rows(held.caches(), hides, rows),
+        are_rows(held.caches(), may_have_empty, rows),
         are_all_taken(held, order, rows, taken),
         have_room(held, order, free),
     ])
@@ -113,7 +113,7 @@ fn is_split(order: u8, r: &Report, free: &[u32]) -> bool
 fn are_all_taken(held: &Held, order: u8, rows: &[CacheRow], taken: &[u32]) -> bool
     requires order { order ≤ MOST_ORDER }
     requires rows { length rows.now ≤ CACHES }
-    ensures { result ≡ list_all (λ k. slice_index taken.now k == told_count held.now rows.now k) (range_with_len 0 (order + 1)) }
+    ensures { result ≡ list_all (λ k. slice_index taken.now k == known_count held.now rows.now k) (range_with_len 0 (order + 1)) }
 {
     (0..order + 1).all(|k| are_taken(held, rows, k, count_at(taken, k)))
 }

@@ -1,4 +1,4 @@
-//! A report's rows of the caches. `hides` is, by number of a cache, whether it may have a slab without live objects.
+//! A report's rows of the caches. `may_have_empty` is, by number of a cache, whether it may have a slab without live objects.
 
 ghost use Rattle.std.specs.Prelude.{◌≡◌, ℕ, ◌+◌, ◌*◌, ◌^◌, ◌≤◌, ◌<◌, ◌==◌, ◌&&◌, ◌||◌, not, length, filter, slice_index, slice_index_or, false};
 ghost use Rattle.std.specs.List.{list_all, zip};
@@ -9,21 +9,21 @@ use judge_core::{HeldCache, is_marked};
 use model_core::report::CacheRow;
 
 /// Returns whether each row is that of its cache.
-pub(crate) fn are_rows(caches: &[HeldCache], hides: &[bool], rows: &[CacheRow]) -> bool
-    ensures { result ≡ list_all (is_row (λ n. slice_index_or hides.now n false)) (zip caches.now rows.now) }
+pub(crate) fn are_rows(caches: &[HeldCache], may_have_empty: &[bool], rows: &[CacheRow]) -> bool
+    ensures { result ≡ list_all (is_row (λ n. slice_index_or may_have_empty.now n false)) (zip caches.now rows.now) }
 {
     caches
         .iter()
         .zip(rows)
-        .all(|(cache, row)| is_row(cache, hides, row))
+        .all(|(cache, row)| is_row(cache, may_have_empty, row))
 }
 
 /// Returns whether the row is of this cache, with its live objects and slabs, and with empty slabs only if it may have some.
-fn is_row(cache: &HeldCache, hides: &[bool], row: &CacheRow) -> bool
-    ensures { result ≡ is_row (λ n. slice_index_or hides.now n false) (cache.now, row.now) }
+fn is_row(cache: &HeldCache, may_have_empty: &[bool], row: &CacheRow) -> bool
+    ensures { result ≡ is_row (λ n. slice_index_or may_have_empty.now n false) (cache.now, row.now) }
 {
     (row.cache == cache.number() && row.live as usize == cache.live().len())
-        && (row.empty == 0 || is_marked(hides, cache.number()))
+        && (row.empty == 0 || is_marked(may_have_empty, cache.number()))
         && has_slabs(cache, row)
 }
 

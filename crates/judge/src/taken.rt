@@ -4,7 +4,7 @@ ghost use Rattle.std.specs.Prelude.{◌≡◌, ℕ, ◌+◌, ◌*◌, ◌^◌, �
 ghost use Rattle.std.specs.List.{sum_by, zip};
 ghost use Rattle.std.specs.Option.{option_map_or};
 ghost use Rattle.model_core.specs.declared.limits.TheConstants.{MOST_ORDER};
-ghost use Rattle.promise_core.specs.Promises.{told_count, empty_frames};
+ghost use Rattle.promise_core.specs.Promises.{known_count, empty_frames};
 
 use crate::counts::frames_in;
 use judge_core::{FrameBlock, Held, HeldCache};
@@ -14,7 +14,7 @@ use words_core::{CACHES, Report};
 /// Returns whether `count` blocks of `2^k` frames are taken, by these rows of the caches.
 pub(crate) fn are_taken(held: &Held, rows: &[CacheRow], k: u8, count: u32) -> bool
     requires { length rows.now ≤ CACHES }
-    ensures { result ≡ (count == told_count held.now rows.now k) }
+    ensures { result ≡ (count == known_count held.now rows.now k) }
 {
     let pages = count_pages(held.pages(), k);
     match u64::from(count).checked_sub(count_slabs(held.caches(), rows, k)) {

@@ -10,7 +10,7 @@ ghost use Rattle.judge.specs.Judged.{IsVerdictFor, AreOwnersAfter};
 ghost use Rattle.judge.specs.Seen.{Seen, IsOpeningTenant};
 
 use crate::verdict::Failure;
-use judge_core::{FrameBlock, Held, ToldLayout};
+use judge_core::{FrameBlock, Held, KnownLayout};
 use model_core::owner::Owner;
 use shadow_memory::ShadowMemory;
 use std::alloc::{AllocError, Global};
@@ -25,7 +25,7 @@ pub struct Tenant {
     pub(crate) held: Held,
     pub(crate) left: ShadowMemory,
     /// By number, whether the cache may have a slab without live objects.
-    pub(crate) hides: [bool; CACHES],
+    pub(crate) may_have_empty: [bool; CACHES],
     pub(crate) told: Option<Report>,
 }
 
@@ -34,7 +34,7 @@ impl Model for Tenant {
 
     ghost Value = { Seen };
 
-    ghost view = { λ t. record { has = t.held; left = t.left; hides = t.hides; told = t.told } };
+    ghost view = { λ t. record { has = t.held; left = t.left; may_have_empty = t.may_have_empty; told = t.told } };
 
     ghost invariant = { λ t. LieInSlots t.held t.left };
 }
@@ -50,7 +50,7 @@ impl Tenant {
             alloc,
             held: Held::new(alloc, order, slots)?,
             left: ShadowMemory::new(alloc, order),
-            hides: [false; CACHES],
+            may_have_empty: [false; CACHES],
             told: None,
         })
     }
@@ -105,7 +105,7 @@ impl Tenant {
                     colours,
                 },
             ) => {
-                let layout = ToldLayout {
+                let layout = KnownLayout {
                     size: *size,
                     align: *align,
                     chunk: *chunk,

@@ -6,7 +6,7 @@ use Rattle.std.specs.Prelude.{if◌then◌else◌, find, position, Result, Ok, E
 use Rattle.std.specs.List.{prefix_len, AllByRecursion as Each}
 use Rattle.std.proofs.lemmas.Bool.{eqb-true, eqb-false, ne_eqb, ltb-true, ltb-false}
 use Rattle.model_core.specs.WellFormed.{RisesFrom}
-use Rattle.promise_core.specs.Holdings.{ToldCache}
+use Rattle.promise_core.specs.Holdings.{KnownCache}
 
 -- where the first one with the key is
 abbrev index : {X : Type 0} → (X → ℕ) → ℕ → List X → ℕ
@@ -76,10 +76,10 @@ changed_none key n change xs none = go (ltb (index key n xs) (length xs)) refl n
     go false lt is = nowhere key n change xs (ltb-false _ _ lt)
 
 -- a cache whose live objects are changed, or that stays, keeps its number
-pub number_stays : {E : Type 0} (r : Result (Unit {0}) E) (change : List ℕ → List ℕ) (old new : ToldCache)
+pub number_stays : {E : Type 0} (r : Result (Unit {0}) E) (change : List ℕ → List ℕ) (old new : KnownCache)
     → IfOk r (λ _. new ≡ record old { live = change old.live }) → OnErr r (new ≡ old) → new.number ≡ old.number
-number_stays (Ok u) change old new ok err = ap (λ (c : ToldCache). c.number) ok
-number_stays (Err e) change old new ok err = ap (λ (c : ToldCache). c.number) err
+number_stays (Ok u) change old new ok err = ap (λ (c : KnownCache). c.number) ok
+number_stays (Err e) change old new ok err = ap (λ (c : KnownCache). c.number) err
 
 pub if_ok : {A E : Type 0} (r : Result A E) (P Q : A → Type 0) → ((a : A) → P a → Q a) → IfOk r P → IfOk r Q
 if_ok (Ok a) P Q f p = f a p

@@ -8,7 +8,7 @@ use Rattle.std.proofs.lemmas.Bool.{lt-ltb, and_from, or_left, or_right, cases_lt
 use Rattle.std.proofs.lemmas.List.Filters.{length-filter_more}
 use Rattle.model_core.specs.Blocks.{Block, block}
 use Rattle.model_core.specs.Operations.{overlaps}
-use Rattle.promise_core.specs.Holdings.{Holdings, told_blocks, is_vacant}
+use Rattle.promise_core.specs.Holdings.{Holdings, known_blocks, is_vacant}
 use Rattle.judge_core.proofs.Lists.{vacant_from, more_vacant, more_taken}
 use Rattle.judge_core.proofs.Pages.{overlap_near}
 
@@ -64,9 +64,9 @@ over_halves f k (b ∷ bs) = (λ i. over_half f k b i || over_halves f k bs i)
 
 taken_halves : (h : Holdings) (f k : ℕ)
     → not (is_vacant h (block f (k + 1))) ≡ (not (is_vacant h (block f k)) || not (is_vacant h (block (f + 2 ^ k) k)))
-taken_halves h f k = not-not (list_any (overlaps (block f (k + 1))) (told_blocks h)) ∙ over_halves f k (told_blocks h)
-    ∙ (λ i. sym (not-not (list_any (overlaps (block f k)) (told_blocks h))) i
-    || sym (not-not (list_any (overlaps (block (f + 2 ^ k) k)) (told_blocks h))) i)
+taken_halves h f k = not-not (list_any (overlaps (block f (k + 1))) (known_blocks h)) ∙ over_halves f k (known_blocks h)
+    ∙ (λ i. sym (not-not (list_any (overlaps (block f k)) (known_blocks h))) i
+    || sym (not-not (list_any (overlaps (block (f + 2 ^ k) k)) (known_blocks h))) i)
 
 -- a mark for each block of order k in slot u, which is set where a frame of the block is taken
 abbrev pub AreMarks : Holdings → ℕ → ℕ → ℕ → List Bool → Type 0

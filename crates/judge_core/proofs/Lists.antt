@@ -17,11 +17,11 @@ use Rattle.model_core.proofs.Lists.{any_append, any_map, any_flat_map}
 use Rattle.model_core.specs.Blocks.{Block, block}
 use Rattle.model_core.specs.Machine.{order_in}
 use Rattle.model_core.specs.Operations.{overlaps}
-use Rattle.promise_core.specs.Holdings.{ToldCache, Holdings, told_blocks, is_vacant, slab_around, blocks_of_slot, vacant_blocks}
+use Rattle.promise_core.specs.Holdings.{KnownCache, Holdings, known_blocks, is_vacant, slab_around, blocks_of_slot, vacant_blocks}
 
 pub vacant_is : (h : Holdings) (b : Block)
     → is_vacant h b ≡ not (list_any (overlaps b) h.pages || list_any (λ c. list_any (λ p. overlaps b (slab_around c p)) c.live) h.caches)
-unfolding told_blocks
+unfolding known_blocks
 vacant_is h b = ap not (any_append (overlaps b) h.pages (flat_map (λ c. map (slab_around c) c.live) h.caches)
     ∙ ap (λ x. list_any (overlaps b) h.pages || x) (any_flat_map (overlaps b) (λ c. map (slab_around c) c.live) h.caches
     ∙ (λ i. list_any (λ c. any_map (overlaps b) (slab_around c) c.live i) h.caches)))
@@ -70,7 +70,7 @@ more_taken h k begin i e = ap length (filter_of_map_range_with_len_more (is_vaca
     ∙ length-append (filter (is_vacant h) (map (λ i. block (i * 2 ^ k) k) (range_with_len begin i))) []
     ∙ omega arith
 
-pub next_object : (place len i first : ℕ) (cs : List ToldCache) (c : ToldCache) → i < length cs → c ≡ get_or cs i c
+pub next_object : (place len i first : ℕ) (cs : List KnownCache) (c : KnownCache) → i < length cs → c ≡ get_or cs i c
     → find (λ first. is_within place len first c.size) c.live ≡ Some first → object_with place len (drop i cs) ≡ Some (Holder.Object c.number first)
 next_object place len i first cs c lt is found = at_drop_more (object_with place len) cs i c lt
     ∙ ap (λ d. object_with place len (d ∷ drop (i + 1) cs)) (sym is)

@@ -9,7 +9,7 @@ use Rattle.std.proofs.lemmas.List.Folds.{list_any_none}
 use Rattle.std.proofs.lemmas.Bool.{le-ltb, lt-ltb, ltb-true, and_right, false≢true}
 use Rattle.model_core.specs.Blocks.{Block, block}
 use Rattle.model_core.specs.Operations.{overlaps}
-use Rattle.promise_core.specs.Holdings.{ToldCache, slab_around}
+use Rattle.promise_core.specs.Holdings.{KnownCache, slab_around}
 use Rattle.judge_core.proofs.Keys.{behind_cons, each_from}
 use Rattle.judge_core.proofs.Slabs.{first_of, place_inside, first_same, first_rises, ends_before}
 
@@ -18,7 +18,7 @@ abbrev pub has_over_block : ℕ → Block → Bool
 has_over_block x b = overlaps (block x 0) b
 
 -- whether the slab of the object at a place has the frame
-abbrev pub has_over : ToldCache → ℕ → ℕ → Bool
+abbrev pub has_over : KnownCache → ℕ → ℕ → Bool
 has_over c x p = overlaps (block x 0) (slab_around c p)
 
 pub or_false : (p : Bool) → (p || false) ≡ p
@@ -30,7 +30,7 @@ or_assoc true q r = refl
 or_assoc false q r = refl
 
 -- objects before the slab that has the slot's first frame have their slabs before the slot
-pub any_from : (c : ToldCache) (first x a : ℕ) (live : List ℕ) → a ≡ 4096 * (first / 2 ^ c.order * 2 ^ c.order) → first ≤ x
+pub any_from : (c : KnownCache) (first x a : ℕ) (live : List ℕ) → a ≡ 4096 * (first / 2 ^ c.order * 2 ^ c.order) → first ≤ x
     → list_any (has_over c x) (drop (prefix_len (λ p. nat_lt p a) live) live) ≡ list_any (has_over c x) live
 any_from c first x a [] is_a from = refl
 any_from c first x a (p ∷ live) is_a from = ap (list_any (has_over c x)) (behind_cons (λ q. nat_lt q a) p live) ∙ go (nat_lt p a) refl (any_from c first x a live is_a from)
@@ -63,7 +63,7 @@ same_passed test p v (x ∷ xs) (same, all) = ap (λ ys. v || list_any test ys) 
     go false e rest = refl
 
 -- from the first object on those before the end of its slab have the same slab
-module _ (c : ToldCache) (first b : ℕ) (rest : List ℕ) (rise : IsNonDecreasing rest) (some : 0 < length rest) (here : first ≡ get_or rest 0 first)
+module _ (c : KnownCache) (first b : ℕ) (rest : List ℕ) (rise : IsNonDecreasing rest) (some : 0 < length rest) (here : first ≡ get_or rest 0 first)
     (is_b : b ≡ 4096 * ((slab_around c first).first + 2 ^ c.order)) where
   later : (k d : ℕ) → k < length rest → first ≤ get_or rest k d
   later k d lt = let up = rise 0 k d (omega arith) lt in let same : get_or rest 0 d ≡ get_or rest 0 first = one rest some in omega (arith, up, same, here)

@@ -11,7 +11,7 @@ use Rattle.model_core.specs.Blocks.{Block}
 use Rattle.model_core.specs.Choice.{is_any_below}
 use Rattle.model_core.specs.Operations.{overlaps}
 use Rattle.model_core.specs.Reach.{is_within}
-use Rattle.promise_core.specs.Holdings.{ToldCache, slab_around, is_grid}
+use Rattle.promise_core.specs.Holdings.{KnownCache, slab_around, is_grid}
 use Rattle.judge_core.specs.Inside.{IsObjectAt}
 use Rattle.judge_core.proofs.Keys.{first_decides, any_found}
 
@@ -49,7 +49,7 @@ first_same k p q from below =
     ap (λ (n : ℕ). n * 2 ^ k) same
 
 -- the places of a slab
-pub in_slab : (c : ToldCache) (place a b p : ℕ) → a ≡ 4096 * (slab_around c place).first → b ≡ 4096 * ((slab_around c place).first + 2 ^ c.order)
+pub in_slab : (c : KnownCache) (place a b p : ℕ) → a ≡ 4096 * (slab_around c place).first → b ≡ 4096 * ((slab_around c place).first + 2 ^ c.order)
     → (nat_le a p && nat_lt p b) ≡ ((slab_around c p).first == (slab_around c place).first)
 in_slab c place a b p is_a is_b = elim (cases_lt p a) [
   | inl before ↦ and_left _ _ (lt-leb a p before) ∙ sym (ne_eqb _ _ (λ e. absurd (omega (arith, own.0, e, is_a, before))))
@@ -64,7 +64,7 @@ in_slab c place a b p is_a is_b = elim (cases_lt p a) [
     own = place_inside c.order p
 
 -- a slab before the block
-pub ends_before : (c : ToldCache) (b : Block) (a p : ℕ) → a ≡ 4096 * (b.first / 2 ^ c.order * 2 ^ c.order) → p < a
+pub ends_before : (c : KnownCache) (b : Block) (a p : ℕ) → a ≡ 4096 * (b.first / 2 ^ c.order * 2 ^ c.order) → p < a
     → overlaps b (slab_around c p) ≡ false
 ends_before c b a p is_a lt =
     let low : first_of c.order p ≤ p / 4096 = div-mul-le_self (p / 4096) (2 ^ c.order) in
@@ -74,7 +74,7 @@ ends_before c b a p is_a lt =
     and_left _ _ (le-ltb b.first (first_of c.order p + 2 ^ c.order) (omega (arith, next, first)))
 
 -- a slab behind one that ends behind the block's first frame and shares none with it
-begins_behind : (c : ToldCache) (b : Block) (a p q : ℕ) → a ≡ 4096 * (b.first / 2 ^ c.order * 2 ^ c.order) → a ≤ p → p ≤ q
+begins_behind : (c : KnownCache) (b : Block) (a p q : ℕ) → a ≡ 4096 * (b.first / 2 ^ c.order * 2 ^ c.order) → a ≤ p → p ≤ q
     → overlaps b (slab_around c p) ≡ false → overlaps b (slab_around c q) ≡ false
 begins_behind c b a p q is_a from le off =
     let high : p / 4096 < first_of c.order p + 2 ^ c.order = lt-div-mul-add (pow_pos c.order) in
@@ -88,7 +88,7 @@ begins_behind c b a p q is_a from le off =
     and_right _ _ (le-ltb (first_of c.order q) (b.first + 2 ^ b.order) (omega (arith, rises, ltb-false _ _ far)))
 
 -- the first live object that does not end before the block tells whether the slab of one shares a frame with the block
-pub over_first : (c : ToldCache) (b : Block) (a : ℕ) → IsNonDecreasing c.live → a ≡ 4096 * (b.first / 2 ^ c.order * 2 ^ c.order)
+pub over_first : (c : KnownCache) (b : Block) (a : ℕ) → IsNonDecreasing c.live → a ≡ 4096 * (b.first / 2 ^ c.order * 2 ^ c.order)
     → list_any (λ p. overlaps b (slab_around c p)) c.live ≡ option_map_or (λ p. overlaps b (slab_around c p)) (find (λ p. nat_le a p) c.live) false
 over_first c b a rise is_a = sym (any_found over c.live)
     ∙ ap is_some (first_decides (λ p. p) a over over c.live rise (λ p lt. ends_before c b a p is_a lt) (λ p le. refl) (λ p q from le. begins_behind c b a p q is_a from le))
@@ -130,7 +130,7 @@ number_before i chunk place b high count pos lt is le inside =
     let d : i ≤ (place - b) / chunk = le-div i (place - b) chunk pos (omega arith) in
     omega (arith, d)
 
-pub grid_tells : (c : ToldCache) (place i : ℕ) (beside : List ℕ)
+pub grid_tells : (c : KnownCache) (place i : ℕ) (beside : List ℕ)
     → (nat_le (i * c.chunk) place && is_grid c (slab_around c place) (place - i * c.chunk) beside) ≡ true → IsObjectAt c place i
 grid_tells c place i beside e =
     let p = and_parts _ _ e in
@@ -142,7 +142,7 @@ none_below p zero fails = refl
 none_below p (suc n) fails = ap (λ (t : Bool). t || p n) (none_below p n (λ i lt. fails i (omega arith))) ∙ fails n (omega arith)
 
 -- no number but those passes, and none of those
-pub on_no_grid : (c : ToldCache) (place low high : ℕ) (beside : List ℕ)
+pub on_no_grid : (c : KnownCache) (place low high : ℕ) (beside : List ℕ)
     → ((i : ℕ) → i < c.count → IsObjectAt c place i → (low ≤ i) × (i < high))
     → ((i : ℕ) → low ≤ i → i < high → (nat_le (i * c.chunk) place && is_grid c (slab_around c place) (place - i * c.chunk) beside) ≡ false)
     → is_any_below (λ i. nat_le (i * c.chunk) place && is_grid c (slab_around c place) (place - i * c.chunk) beside) c.count ≡ false

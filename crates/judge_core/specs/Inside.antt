@@ -6,10 +6,10 @@ use Rattle.model_core.specs.declared.limits.TheConstants.{FRAME_BYTES, MOST_SIZE
 use Rattle.model_core.specs.Blocks.{Block}
 use Rattle.model_core.specs.Layouts.{is_alignment}
 use Rattle.model_core.specs.WellFormed.{RisesFrom}
-use Rattle.promise_core.specs.Holdings.{ToldCache, slab_around}
+use Rattle.promise_core.specs.Holdings.{KnownCache, slab_around}
 
 -- the numbers of a cache: size, alignment, chunk, order of a slab, objects of a slab
-pub record IsToldLayout (size align chunk order count : ℕ) : Type 0 where
+pub record IsKnownLayout (size align chunk order count : ℕ) : Type 0 where
   pub some : 1 ≤ size
   pub most : size ≤ MOST_SIZE
   pub alignment : is_alignment align ≡ true
@@ -20,7 +20,7 @@ pub record IsToldLayout (size align chunk order count : ℕ) : Type 0 where
   pub fits : count * chunk ≤ FRAME_BYTES * 2 ^ order
 
 -- object `i` of a slab is at the place, and all of its objects lie in the frames of the slab that has the place
-abbrev pub IsObjectAt : ToldCache → ℕ → ℕ → Type 0
+abbrev pub IsObjectAt : KnownCache → ℕ → ℕ → Type 0
 IsObjectAt c place i = let slab = slab_around c place in let origin = place - i * c.chunk in
     (i * c.chunk ≤ place) × (FRAME_BYTES * slab.first ≤ origin)
     × (origin + (c.count - 1) * c.chunk + c.size ≤ FRAME_BYTES * (slab.first + 2 ^ slab.order))
@@ -32,5 +32,5 @@ pub record ArePages (longest : ℕ) (pages : List Block) : Type 0 where
   pub short : All (λ b. b.order ≤ longest) pages
 
 -- the caches
-abbrev pub AreListed : List ToldCache → Type 0
+abbrev pub AreListed : List KnownCache → Type 0
 AreListed caches = RisesFrom 0 (map (λ c. c.number) caches)

@@ -10,10 +10,10 @@ ghost use Rattle.model_core.specs.Layouts.{pattern_byte};
 ghost use Rattle.model_core.specs.Reach.{is_within};
 ghost use Rattle.model_core.specs.Machine.{put_rising};
 ghost use Rattle.promise_core.specs.Holdings.{slab_around, live_beside, is_slab_full, are_apart, is_grid};
-ghost use Rattle.judge_core.specs.Inside.{IsToldLayout, IsObjectAt};
+ghost use Rattle.judge_core.specs.Inside.{IsKnownLayout, IsObjectAt};
 
 use crate::block::FrameBlock;
-use crate::layout::ToldLayout;
+use crate::layout::KnownLayout;
 use crate::rising::{all_within, first_from, first_within, put, remove, with_key};
 use arrayvec::ArrayVec;
 use model_core::limits::{FRAME_BYTES, MOST_PATTERN};
@@ -35,15 +35,15 @@ pub struct HeldCache {
 }
 
 impl Model for HeldCache {
-    ghost use Rattle.promise_core.specs.Holdings.{ToldCache};
+    ghost use Rattle.promise_core.specs.Holdings.{KnownCache};
     ghost use Rattle.std.specs.List.Sorted.{IsNonDecreasing};
-    ghost use Rattle.judge_core.specs.Inside.{IsToldLayout};
+    ghost use Rattle.judge_core.specs.Inside.{IsKnownLayout};
 
-    ghost Value = { ToldCache };
+    ghost Value = { KnownCache };
 
     ghost view = { λ c. record { number = c.number; size = c.size; align = c.align; pattern = c.pattern.items; chunk = c.chunk; order = c.order; count = c.count; live = c.live.items } };
 
-    ghost invariant = { λ c. IsToldLayout c.size c.align c.chunk c.order c.count × IsNonDecreasing c.live.items };
+    ghost invariant = { λ c. IsKnownLayout c.size c.align c.chunk c.order c.count × IsNonDecreasing c.live.items };
 }
 
 impl HeldCache {
@@ -51,10 +51,10 @@ impl HeldCache {
     pub fn new(
         alloc: Global,
         number: u8,
-        layout: ToldLayout,
+        layout: KnownLayout,
         pattern: &ArrayVec<u8, MOST_PATTERN>,
     ) -> HeldCache
-        requires { IsToldLayout layout.size layout.align layout.chunk layout.order layout.count }
+        requires { IsKnownLayout layout.size layout.align layout.chunk layout.order layout.count }
         ensures { result ≡ record {
           number = number;
           size = layout.size;

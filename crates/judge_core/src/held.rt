@@ -11,7 +11,7 @@ ghost use Rattle.model_core.specs.Operations.{overlaps};
 ghost use Rattle.model_core.specs.Reach.{within_block};
 ghost use Rattle.promise_core.specs.Bytes.{holder_of, object_with};
 ghost use Rattle.judge_core.specs.Holders.{shown_holder};
-ghost use Rattle.promise_core.specs.Holdings.{blocks_of_slot, vacant_blocks, has_room, can_be_taken, slab_around, has_slot, cache_told, is_vacant, can_stand, is_slot_busy};
+ghost use Rattle.promise_core.specs.Holdings.{blocks_of_slot, vacant_blocks, has_room, can_be_taken, slab_around, has_slot, known_cache, is_vacant, can_stand, is_slot_busy};
 
 use crate::block::FrameBlock;
 use crate::cache::HeldCache;
@@ -88,13 +88,13 @@ impl Held {
             .find(|held| u32::from(*held) == slot)
     }
 
-    /// Returns whether some cache may have a slab without live objects; `hides` says by number which ones may.
-    pub fn hides_some(&self, hides: &[bool]) -> bool
-        ensures { result ≡ list_any (λ c. slice_index_or hides.now c.number false) self.now.caches }
+    /// Returns whether some cache may have a slab without live objects; `may_have_empty` says by number which ones may.
+    pub fn may_have_some_empty(&self, may_have_empty: &[bool]) -> bool
+        ensures { result ≡ list_any (λ c. slice_index_or may_have_empty.now c.number false) self.now.caches }
     {
         self.caches
             .iter()
-            .any(|cache| is_marked(hides, cache.number()))
+            .any(|cache| is_marked(may_have_empty, cache.number()))
     }
 
     /// Returns the order of the live page block that begins at the frame, if one does.
@@ -117,7 +117,7 @@ impl Held {
 
     /// Returns the cache of this number.
     pub fn cache(&self, number: u32) -> Option<&HeldCache>
-        ensures { option_copied result ≡ cache_told self.now number }
+        ensures { option_copied result ≡ known_cache self.now number }
     {
         self.caches
             .iter()

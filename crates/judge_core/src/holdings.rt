@@ -3,7 +3,7 @@
 ghost use Rattle.std.specs.Prelude.{◌≡◌, ◌≤◌, ◌==◌, not, filter, [], None, IfOk, OnErr};
 ghost use Rattle.model_core.specs.declared.limits.TheConstants.{MOST_ORDER, MOST_SUPERBLOCKS};
 ghost use Rattle.model_core.specs.Machine.{put_rising};
-ghost use Rattle.promise_core.specs.Holdings.{cache_told, with_live_places};
+ghost use Rattle.promise_core.specs.Holdings.{known_cache, with_live_places};
 
 use crate::block::FrameBlock;
 use crate::cache::HeldCache;
@@ -50,7 +50,7 @@ impl Held {
 
     /// Adds a cache. Fails if memory runs out, and then nothing is changed.
     pub fn make_cache(&mut self, cache: HeldCache) -> Result<(), AllocError>
-        requires { cache_told self.old cache.number ≡ None }
+        requires { known_cache self.old cache.number ≡ None }
         ensures made { IfOk result (λ _.
             self.new ≡ record self.old { caches = put_rising (λ x. x.number) cache self.old.caches }) }
         ensures kept { OnErr result (self.new ≡ self.old) }

@@ -15,4 +15,4 @@ pub use block::FrameBlock;
 pub use cache::{HeldCache, copy_of};
 pub use held::{Held, is_marked};
 pub use holder::{LeftByte, RangeHolder};
-pub use layout::ToldLayout;
+pub use layout::KnownLayout;

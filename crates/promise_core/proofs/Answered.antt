@@ -16,8 +16,8 @@ use Rattle.words_core.specs.declared.reply.Body.TheVariants as Say
 use Rattle.words_core.specs.declared.reply.Refusal.{Refusal}
 use Rattle.words_core.specs.declared.reply.Reply.{Reply}
 use Rattle.promise_core.specs.declared.promise.Promise.{Promise}
-use Rattle.promise_core.specs.Holdings.{ToldCache, Holdings, cache_told}
-use Rattle.promise_core.specs.Bytes.{Holder, is_same, Cell, Cells, told_fresh_byte, may_be, may_all_be, holder_of}
+use Rattle.promise_core.specs.Holdings.{KnownCache, Holdings, known_cache}
+use Rattle.promise_core.specs.Bytes.{Holder, is_same, Cell, Cells, known_fresh_byte, may_be, may_all_be, holder_of}
 use Rattle.promise_core.specs.State.{State, Known, state_after}
 use Rattle.promise_core.specs.Promises.{first_due, is_one, due, form, refusals, room, busy, blocks, objects, new_layout, gives, owners, bytes, report, still, kept, judged, allowed}
 use Rattle.promise_core.specs.Laws.{may_tell, uses_memory, UseAnswerable}
@@ -40,7 +40,7 @@ one_byte holder fresh (Some cell) = go (is_same cell.holder holder)
 some_bytes : (h : Holdings) (cells : Cells) (holder : Holder) (place n : ℕ) → (bs : List ℕ) × (length bs ≡ n) × (may_all_be h cells holder place bs ≡ true)
 some_bytes h cells holder place zero = ([], refl, refl)
 some_bytes h cells holder place (suc n) =
-    let b : (b : ℕ) × (may_be holder (told_fresh_byte h holder place) (cells place) b ≡ true) = one_byte holder (told_fresh_byte h holder place) (cells place) in
+    let b : (b : ℕ) × (may_be holder (known_fresh_byte h holder place) (cells place) b ≡ true) = one_byte holder (known_fresh_byte h holder place) (cells place) in
     let rest : (bs : List ℕ) × (length bs ≡ n) × (may_all_be h cells holder (place + 1) bs ≡ true) = some_bytes h cells holder (place + 1) n in
     (b.0 ∷ rest.0, ap suc rest.1, and_from _ _ b.1 rest.2)
 
@@ -121,25 +121,25 @@ module _ (w : Known) (s : State) (t : ℕ) (is : slice_get w.states t ≡ Some s
 
   give_reply : (number place : ℕ) → HasReply w t (Asked.Give number place)
   unfolding due state_after
-  give_reply number place = go (cache_told s.has number) refl (option_map_or (λ c. list_any (λ p. p == place) c.live) (cache_told s.has number) false) refl
+  give_reply number place = go (known_cache s.has number) refl (option_map_or (λ c. list_any (λ p. p == place) c.live) (known_cache s.has number) false) refl
     where
-      go : (o : Option ToldCache) → cache_told s.has number ≡ o → (b : Bool) → option_map_or (λ c. list_any (λ p. p == place) c.live) (cache_told s.has number) false ≡ b
+      go : (o : Option KnownCache) → known_cache s.has number ≡ o → (b : Bool) → option_map_or (λ c. list_any (λ p. p == place) c.live) (known_cache s.has number) false ≡ b
           → HasReply w t (Asked.Give number place)
       go None e b live = told (Asked.Give number place) (Say.Refused Refusal.NoCache)
           to_it
           (ap (λ o. option_map_or (is_one Refusal.NoCache) (first_due ((is_none o, Refusal.NoCache)
-          ∷ (not (option_map_or (λ c. list_any (λ p. p == place) c.live) (cache_told s.has number) false), Refusal.NotAnObject) ∷ [])) false) e)
+          ∷ (not (option_map_or (λ c. list_any (λ p. p == place) c.live) (known_cache s.has number) false), Refusal.NotAnObject) ∷ [])) false) e)
           refl refl refl refl refl refl refl refl refl refl
       go (Some c) e false live = told (Asked.Give number place) (Say.Refused Refusal.NotAnObject)
           to_it
           (ap (λ o. option_map_or (is_one Refusal.NotAnObject) (first_due ((is_none o, Refusal.NoCache)
-          ∷ (not (option_map_or (λ c. list_any (λ p. p == place) c.live) (cache_told s.has number) false), Refusal.NotAnObject) ∷ [])) false) e
+          ∷ (not (option_map_or (λ c. list_any (λ p. p == place) c.live) (known_cache s.has number) false), Refusal.NotAnObject) ∷ [])) false) e
           ∙ ap (λ b. option_map_or (is_one Refusal.NotAnObject) (first_due ((not b, Refusal.NotAnObject) ∷ [])) false) live)
           refl refl refl refl refl refl refl refl refl refl
       go (Some c) e true live = told (Asked.Give number place) Say.Given
           to_it
           (ap (λ o. is_none (first_due ((is_none o, Refusal.NoCache)
-          ∷ (not (option_map_or (λ c. list_any (λ p. p == place) c.live) (cache_told s.has number) false), Refusal.NotAnObject) ∷ []))) e
+          ∷ (not (option_map_or (λ c. list_any (λ p. p == place) c.live) (known_cache s.has number) false), Refusal.NotAnObject) ∷ []))) e
           ∙ ap (λ b. is_none (first_due ((not b, Refusal.NotAnObject) ∷ []))) live)
           refl refl refl refl refl refl refl refl refl refl
 
@@ -155,7 +155,7 @@ module _ (w : Known) (s : State) (t : ℕ) (is : slice_get w.states t ≡ Some s
       go false e true refused = (Say.Refused Refusal.NoFrames, refused)
       go false e false refused = let f = (refused_for_cause w s t k is (ltb-false w.order k e)).answered refused in (Say.Frame f.0, f.1)
 
-  no_cache_reply : (number : ℕ) → cache_told s.has number ≡ None → HasReply w t (Asked.Take number)
+  no_cache_reply : (number : ℕ) → known_cache s.has number ≡ None → HasReply w t (Asked.Take number)
   unfolding due state_after
   no_cache_reply number e = told (Asked.Take number) (Say.Refused Refusal.NoCache)
       to_it
@@ -172,7 +172,7 @@ no_tenant_reply w t command e =
 pub use_answerable : UseAnswerable
 use_answerable limit order superblocks tenants t command es w run used = go (slice_get w.states t) refl
   where
-    take_reply : (s : State) → slice_get w.states t ≡ Some s → (number : ℕ) → (o : Option ToldCache) → cache_told s.has number ≡ o
+    take_reply : (s : State) → slice_get w.states t ≡ Some s → (number : ℕ) → (o : Option KnownCache) → known_cache s.has number ≡ o
         → (full : Bool) → may_tell w t (Asked.Take number) (Say.Refused Refusal.NoFrames) ≡ full → HasReply w t (Asked.Take number)
     take_reply s is number None e full refused = no_cache_reply w s t is number e
     take_reply s is number (Some c) e true refused = (Say.Refused Refusal.NoFrames, refused)
@@ -184,7 +184,7 @@ use_answerable limit order superblocks tenants t command es w run used = go (sli
     body_of s is (Asked.Free f) used = free_reply w s t is f
     body_of s is (Asked.Read place len) used = read_reply w s t is place len
     body_of s is (Asked.Write place new) used = write_reply w s t is place new
-    body_of s is (Asked.Take number) used = take_reply s is number (cache_told s.has number) refl (may_tell w t (Asked.Take number) (Say.Refused Refusal.NoFrames)) refl
+    body_of s is (Asked.Take number) used = take_reply s is number (known_cache s.has number) refl (may_tell w t (Asked.Take number) (Say.Refused Refusal.NoFrames)) refl
     body_of s is (Asked.Give number place) used = give_reply w s t is number place
     body_of s is command used = absurd (false≢true used)
 

@@ -20,7 +20,7 @@ use Rattle.words_core.specs.declared.reply.Body.{Body}
 use Rattle.words_core.specs.declared.reply.Body.TheVariants as Say
 use Rattle.words_core.specs.declared.reply.Refusal.{Refusal}
 use Rattle.promise_core.specs.declared.promise.Promise.{Promise}
-use Rattle.promise_core.specs.Holdings.{ToldCache, Holdings, has_slot, cache_told, slab_around, is_vacant, can_stand, blocks_of_slot, vacant_blocks, has_room, live_beside, is_slab_full, can_be_taken}
+use Rattle.promise_core.specs.Holdings.{KnownCache, Holdings, has_slot, known_cache, slab_around, is_vacant, can_stand, blocks_of_slot, vacant_blocks, has_room, live_beside, is_slab_full, can_be_taken}
 use Rattle.promise_core.specs.State.{State, Known, state_after}
 use Rattle.promise_core.specs.Promises.{first_due, is_one, due, is_used_up, verdict, kept, judged, allowed}
 use Rattle.promise_core.specs.Laws.{may_tell, RefusedForCause, TakeRefusedForCause}
@@ -134,12 +134,12 @@ refused_for_cause w s t k is of_slot = record {
 
 -- An object
 
-module _ (w : Known) (s : State) (t number : ℕ) (c : ToldCache) (is : slice_get w.states t ≡ Some s) (told : cache_told s.has number ≡ Some c) where
+module _ (w : Known) (s : State) (t number : ℕ) (c : KnownCache) (is : slice_get w.states t ≡ Some s) (told : known_cache s.has number ≡ Some c) where
   take_refusal_is : may_tell w t (Asked.Take number) (Say.Refused Refusal.NoFrames) ≡ is_used_up w.order s.has c
   unfolding due state_after
   take_refusal_is = tells_as w s t (Asked.Take number) (Say.Refused Refusal.NoFrames) is
-      ∙ (ap (λ b. (b && true) && (option_map_or (is_one Refusal.NoFrames) (first_due ((is_none (cache_told s.has number), Refusal.NoCache) ∷ [])) true
-      && (option_map_or (is_used_up w.order s.has) (cache_told s.has number) false && true))) (eq-eqb t t refl)
+      ∙ (ap (λ b. (b && true) && (option_map_or (is_one Refusal.NoFrames) (first_due ((is_none (known_cache s.has number), Refusal.NoCache) ∷ [])) true
+      && (option_map_or (is_used_up w.order s.has) (known_cache s.has number) false && true))) (eq-eqb t t refl)
       ∙ (ap (λ o. option_map_or (is_one Refusal.NoFrames) (first_due ((is_none o, Refusal.NoCache) ∷ [])) true
       && (option_map_or (is_used_up w.order s.has) o false && true)) told
       ∙ and-true (is_used_up w.order s.has c)))
@@ -147,8 +147,8 @@ module _ (w : Known) (s : State) (t number : ℕ) (c : ToldCache) (is : slice_ge
   place_is : (place : ℕ) → may_tell w t (Asked.Take number) (Say.Object place) ≡ can_be_taken w.order s.has c place
   unfolding due state_after
   place_is place = tells_as w s t (Asked.Take number) (Say.Object place) is
-      ∙ (ap (λ b. (b && true) && (is_none (first_due ((is_none (cache_told s.has number), Refusal.NoCache) ∷ []))
-      && (option_map_or (λ x. can_be_taken w.order s.has x place) (cache_told s.has number) false && true))) (eq-eqb t t refl)
+      ∙ (ap (λ b. (b && true) && (is_none (first_due ((is_none (known_cache s.has number), Refusal.NoCache) ∷ []))
+      && (option_map_or (λ x. can_be_taken w.order s.has x place) (known_cache s.has number) false && true))) (eq-eqb t t refl)
       ∙ (ap (λ o. is_none (first_due ((is_none o, Refusal.NoCache) ∷ [])) && (option_map_or (λ x. can_be_taken w.order s.has x place) o false && true)) told
       ∙ and-true (can_be_taken w.order s.has c place)))
 
@@ -164,7 +164,7 @@ not_less : (a b n : ℕ) → a ≡ n → a ≡ b → b < n → ⊥
 not_less a b n full same few = omega (arith, full, same, few)
 
 -- where all is used up no object can be taken
-nothing_left : (order : ℕ) (h : Holdings) (c : ToldCache) (place : ℕ) → is_used_up order h c ≡ true → can_be_taken order h c place ≡ true → ⊥
+nothing_left : (order : ℕ) (h : Holdings) (c : KnownCache) (place : ℕ) → is_used_up order h c ≡ true → can_be_taken order h c place ≡ true → ⊥
 unfolding can_be_taken can_stand
 nothing_left order h c place used can =
     let u : (list_all (is_slab_full c) c.live ≡ true) × (not (has_room order h c.order) ≡ true) = and_parts _ _ used in
@@ -183,7 +183,7 @@ nothing_left order h c place used can =
     ]
 
 -- where not, there is a place: in a slab that has a live object, or in a vacant block
-something_left : (order : ℕ) (h : Holdings) (c : ToldCache) → IsIn c h.caches → IsGridded order c → is_used_up order h c ≡ false
+something_left : (order : ℕ) (h : Holdings) (c : KnownCache) → IsIn c h.caches → IsGridded order c → is_used_up order h c ≡ false
     → (place : ℕ) × (can_be_taken order h c place ≡ true)
 something_left order h c i g unused = go (has_room order h c.order) refl (list_all (is_slab_full c) c.live) refl unused
   where

@@ -19,8 +19,8 @@ use Rattle.words_core.specs.declared.reply.Refusal.{Refusal}
 use Rattle.words_core.specs.declared.reply.Reply.{Reply}
 use Rattle.world_core.specs.World.{Exchange}
 use Rattle.promise_core.specs.declared.promise.Promise.{Promise}
-use Rattle.promise_core.specs.Holdings.{ToldCache, has_slot, cache_told, with_live_places}
-use Rattle.promise_core.specs.Bytes.{Holder, is_object, is_same, Cell, told_fresh_byte, may_be, with_bytes, may_all_be, holder_of}
+use Rattle.promise_core.specs.Holdings.{KnownCache, has_slot, known_cache, with_live_places}
+use Rattle.promise_core.specs.Bytes.{Holder, is_object, is_same, Cell, known_fresh_byte, may_be, with_bytes, may_all_be, holder_of}
 use Rattle.promise_core.specs.State.{State, Known, opening_state, opening, is_in_no_slab, state_after}
 use Rattle.promise_core.specs.Promises.{is_no_tenant, named, owners, bytes, allowed, all_allowed}
 use Rattle.promise_core.specs.Laws.{gives_pattern, writes_byte, grants_slot, was_given, was_written, is_own, Confined}
@@ -41,7 +41,7 @@ get_index (x ∷ xs) (suc i) h = get_index xs i (omega arith)
 
 -- each pattern and the byte at the place are those of the state before
 pub record IsCarried (place : ℕ) (s s' : State) : Type 0 where
-  pub patterns : (c : ToldCache) → IsIn c s'.has.caches → (d : ToldCache) × IsIn d s.has.caches × (d.pattern ≡ c.pattern)
+  pub patterns : (c : KnownCache) → IsIn c s'.has.caches → (d : KnownCache) × IsIn d s.has.caches × (d.pattern ≡ c.pattern)
   pub cells : (cell : Cell) → s'.cells place ≡ Some cell → (old : Cell) × (s.cells place ≡ Some old) × (old.byte ≡ cell.byte)
 
 pub carried : (given written given' written' : ℕ → Bool) (place : ℕ) (s s' : State) → ((b : ℕ) → given b ≡ true → given' b ≡ true)
@@ -52,17 +52,17 @@ carried given written given' written' place s s' more_given more_written c x = r
       subst (λ b. own given' written' b ≡ true) d.2 (own_more given written given' written' more_given more_written _ (x.cells d.0 d.1));
 }
 
-same_patterns : (s : State) (c : ToldCache) → IsIn c s.has.caches → (d : ToldCache) × IsIn d s.has.caches × (d.pattern ≡ c.pattern)
+same_patterns : (s : State) (c : KnownCache) → IsIn c s.has.caches → (d : KnownCache) × IsIn d s.has.caches × (d.pattern ≡ c.pattern)
 same_patterns s c i = (c, i, refl)
 
-live_pattern : (b : Bool) (c : ToldCache) (live : List ℕ) → (if b then record c { live = live } else c).pattern ≡ c.pattern
+live_pattern : (b : Bool) (c : KnownCache) (live : List ℕ) → (if b then record c { live = live } else c).pattern ≡ c.pattern
 live_pattern true c live = refl
 live_pattern false c live = refl
 
-live_patterns : (s : State) (number : ℕ) (change : List ℕ → List ℕ) (c : ToldCache) → IsIn c (with_live_places number change s.has).caches
-    → (d : ToldCache) × IsIn d s.has.caches × (d.pattern ≡ c.pattern)
+live_patterns : (s : State) (number : ℕ) (change : List ℕ → List ℕ) (c : KnownCache) → IsIn c (with_live_places number change s.has).caches
+    → (d : KnownCache) × IsIn d s.has.caches × (d.pattern ≡ c.pattern)
 live_patterns s number change c i =
-    let from : (d : ToldCache) × IsIn d s.has.caches × ((if d.number == number then record d { live = change d.live } else d) ≡ c) = map_in _ c s.has.caches i in
+    let from : (d : KnownCache) × IsIn d s.has.caches × ((if d.number == number then record d { live = change d.live } else d) ≡ c) = map_in _ c s.has.caches i in
     (from.0, from.1, sym (live_pattern (from.0.number == number) from.0 (change from.0.live)) ∙ ap (λ x. x.pattern) from.2)
 
 -- Which exchanges give, write and grant
@@ -126,7 +126,7 @@ module _ (order t place : ℕ) (given written : ℕ → Bool) where
         let may = each_may s.has s.cells y begin told (place - begin) _ (subst (λ o. option_map_or (λ x. may_all_be s.has s.cells x begin told) o false ≡ true) is all)
         (get_index told (place - begin) j) in
         subst (λ b. own given written b ≡ true) (sym byte)
-        (may_own given written place s y _ x (subst (λ p. may_be y (told_fresh_byte s.has y p) (s.cells p) (slice_index told (place - begin)) ≡ true) whole may))
+        (may_own given written place s y _ x (subst (λ p. may_be y (known_fresh_byte s.has y p) (s.cells p) (slice_index told (place - begin)) ≡ true) whole may))
     | inr was ↦ x.cells cell was
   ]
 
@@ -185,7 +185,7 @@ module _ (order t place : ℕ) (given written : ℕ → Bool) where
       carry (On.Tenant i (Asked.Destroy number)) (Say.Destroyed frames) s _ s' refl e
       (record { patterns = λ c m. (c, (filter_in _ c s.has.caches m).0, refl); cells = without_cells (λ p. is_object (λ m q. m == number)) place s }) x
   step w (On.Tenant i (Asked.Take number)) (Say.Object first) s s' e own b l n x =
-      carry (On.Tenant i (Asked.Take number)) (Say.Object first) s _ s' refl e (record { patterns = live_patterns s number _; cells = object_cells first place s (cache_told s.has number) }) x
+      carry (On.Tenant i (Asked.Take number)) (Say.Object first) s _ s' refl e (record { patterns = live_patterns s number _; cells = object_cells first place s (known_cache s.has number) }) x
   step w (On.Tenant i (Asked.Give number first)) Say.Given s s' e own b l n x =
       carry (On.Tenant i (Asked.Give number first)) Say.Given s _ s' refl e
       (record { patterns = live_patterns s number _; cells = doubted_cells (λ p. is_same (Holder.Object number first)) place s }) x

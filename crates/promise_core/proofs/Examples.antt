@@ -12,7 +12,7 @@ use Rattle.words_core.specs.declared.reply.Body.TheVariants as Say
 use Rattle.words_core.specs.declared.reply.Refusal.{Refusal}
 use Rattle.world_core.specs.World.{Exchange}
 use Rattle.promise_core.specs.declared.promise.Promise.{Promise}
-use Rattle.promise_core.specs.Holdings.{told_blocks, can_stand, vacant_blocks, can_be_taken}
+use Rattle.promise_core.specs.Holdings.{known_blocks, can_stand, vacant_blocks, can_be_taken}
 use Rattle.promise_core.specs.Bytes.{holder_of}
 use Rattle.promise_core.specs.State.{Known, opening_state, opening, state_after, owners_after}
 use Rattle.promise_core.specs.Promises.{due, allowed, all_allowed}
@@ -64,7 +64,7 @@ every_command : verdict_on (begun
     ∷ ordered Do.Pool (Say.Owners (record { items = None ∷ Some (owned_by 1 0) ∷ Some (owned_by 0 0) ∷ [] }))
     ∷ ordered (Do.TakeBack 1 0) (Say.TakenBack 1) ∷ ordered (Do.Reset 0) (Say.WasReset 0 1)
     ∷ record { event = On.Tenant 5 (Asked.Alloc 0); reply = record { addressee = To.Nobody; body = Say.Refused Refusal.NoTenant } } ∷ [])) ≡ None
-unfolding opening opening_state told_blocks can_stand vacant_blocks can_be_taken holder_of state_after owners_after due allowed
+unfolding opening opening_state known_blocks can_stand vacant_blocks can_be_taken holder_of state_after owners_after due allowed
 every_command = refl
 
 -- another policy: the last superblock and a slot of its own choice, blocks from the top, no colours, slabs given back at once
@@ -72,71 +72,71 @@ another_policy : verdict_on (ordered (Do.Grant 0) (Say.Granted 0 5 2)
     ∷ asked 0 (Asked.Cache 2000 8 (record { items = 90 ∷ [] })) (Say.Cache 7 2048 1 4 1) ∷ asked 0 (Asked.Take 7) (Say.Object 192512)
     ∷ asked 0 (Asked.Alloc 1) (Say.Frame 44) ∷ asked 0 (Asked.Take 7) (Say.Object 188416) ∷ asked 0 (Asked.Give 7 192512) Say.Given
     ∷ asked 0 (Asked.Give 7 188416) Say.Given ∷ asked 0 Asked.Reap (Say.Reaped 0) ∷ []) ≡ None
-unfolding opening opening_state told_blocks can_stand vacant_blocks can_be_taken holder_of state_after owners_after due allowed
+unfolding opening opening_state known_blocks can_stand vacant_blocks can_be_taken holder_of state_after owners_after due allowed
 another_policy = refl
 
 -- For each promise a reply that breaks it
 
 no_form : verdict_on (begun ++ (asked 0 (Asked.Alloc 0) (Say.Freed 0) ∷ [])) ≡ Some Promise.Form
-unfolding opening opening_state told_blocks can_stand vacant_blocks can_be_taken holder_of state_after owners_after due allowed
+unfolding opening opening_state known_blocks can_stand vacant_blocks can_be_taken holder_of state_after owners_after due allowed
 no_form = refl
 
 -- no block begins at frame 3
 no_refusal : verdict_on (begun ++ (asked 0 (Asked.Free 3) (Say.Freed 0) ∷ [])) ≡ Some Promise.Refusals
-unfolding opening opening_state told_blocks can_stand vacant_blocks can_be_taken holder_of state_after owners_after due allowed
+unfolding opening opening_state known_blocks can_stand vacant_blocks can_be_taken holder_of state_after owners_after due allowed
 no_refusal = refl
 
 -- frames 4 to 7 are free
 no_room : verdict_on (begun ++ (asked 0 (Asked.Alloc 2) (Say.Refused Refusal.NoFrames) ∷ [])) ≡ Some Promise.Room
-unfolding opening opening_state told_blocks can_stand vacant_blocks can_be_taken holder_of state_after owners_after due allowed
+unfolding opening opening_state known_blocks can_stand vacant_blocks can_be_taken holder_of state_after owners_after due allowed
 no_room = refl
 
 -- nothing was ever there
 not_busy : verdict_on (ordered (Do.Grant 1) (Say.Granted 1 0 0) ∷ ordered (Do.TakeBack 1 0) (Say.Refused Refusal.SlotBusy) ∷ []) ≡ Some Promise.Busy
-unfolding opening opening_state told_blocks can_stand vacant_blocks can_be_taken holder_of state_after owners_after due allowed
+unfolding opening opening_state known_blocks can_stand vacant_blocks can_be_taken holder_of state_after owners_after due allowed
 not_busy = refl
 
 -- frame 3 is of the page block
 no_block : verdict_on (begun ++ (asked 0 (Asked.Alloc 0) (Say.Frame 3) ∷ [])) ≡ Some Promise.Blocks
-unfolding opening opening_state told_blocks can_stand vacant_blocks can_be_taken holder_of state_after owners_after due allowed
+unfolding opening opening_state known_blocks can_stand vacant_blocks can_be_taken holder_of state_after owners_after due allowed
 no_block = refl
 
 -- the last bytes of the first object
 no_object : verdict_on (begun ++ (asked 0 (Asked.Take 0) (Say.Object 1992) ∷ [])) ≡ Some Promise.Objects
-unfolding opening opening_state told_blocks can_stand vacant_blocks can_be_taken holder_of state_after owners_after due allowed
+unfolding opening opening_state known_blocks can_stand vacant_blocks can_be_taken holder_of state_after owners_after due allowed
 no_object = refl
 
 -- three such objects do not fit into a frame
 no_layout : verdict_on (begun ++ (asked 0 (Asked.Cache 2000 8 (record { items = 1 ∷ [] })) (Say.Cache 1 2000 0 3 1) ∷ [])) ≡ Some Promise.Layout
-unfolding opening opening_state told_blocks can_stand vacant_blocks can_be_taken holder_of state_after owners_after due allowed
+unfolding opening opening_state known_blocks can_stand vacant_blocks can_be_taken holder_of state_after owners_after due allowed
 no_layout = refl
 
 -- five frames are not taken
 no_gift : verdict_on (begun ++ (asked 0 Asked.Reap (Say.Reaped 6) ∷ [])) ≡ Some Promise.Gives
-unfolding opening opening_state told_blocks can_stand vacant_blocks can_be_taken holder_of state_after owners_after due allowed
+unfolding opening opening_state known_blocks can_stand vacant_blocks can_be_taken holder_of state_after owners_after due allowed
 no_gift = refl
 
 -- superblock 0 is tenant 0's
 no_owner : verdict_on (begun ++ (ordered (Do.Grant 1) (Say.Granted 1 0 0) ∷ [])) ≡ Some Promise.Owners
-unfolding opening opening_state told_blocks can_stand vacant_blocks can_be_taken holder_of state_after owners_after due allowed
+unfolding opening opening_state known_blocks can_stand vacant_blocks can_be_taken holder_of state_after owners_after due allowed
 no_owner = refl
 
 -- the byte after the two that were written
 no_byte : verdict_on (begun ++ (asked 0 (Asked.Read 8194 1) (Say.Bytes (record { items = 3 ∷ [] })) ∷ [])) ≡ Some Promise.Bytes
-unfolding opening opening_state told_blocks can_stand vacant_blocks can_be_taken holder_of state_after owners_after due allowed
+unfolding opening opening_state known_blocks can_stand vacant_blocks can_be_taken holder_of state_after owners_after due allowed
 no_byte = refl
 
 -- the object is live
 no_report : verdict_on (begun ++ (reported ∷ [])) ≡ Some Promise.Report
-unfolding opening opening_state told_blocks can_stand vacant_blocks can_be_taken holder_of state_after owners_after due allowed
+unfolding opening opening_state known_blocks can_stand vacant_blocks can_be_taken holder_of state_after owners_after due allowed
 no_report = refl
 
 -- one empty slab was told
 not_still : verdict_on (emptied ++ (reported ∷ asked 0 Asked.Reap (Say.Reaped 0) ∷ [])) ≡ Some Promise.Still
-unfolding opening opening_state told_blocks can_stand vacant_blocks can_be_taken holder_of state_after owners_after due allowed
+unfolding opening opening_state known_blocks can_stand vacant_blocks can_be_taken holder_of state_after owners_after due allowed
 not_still = refl
 
 -- without the report nobody can tell
 still_unknown : verdict_on (emptied ++ (asked 0 Asked.Reap (Say.Reaped 0) ∷ [])) ≡ None
-unfolding opening opening_state told_blocks can_stand vacant_blocks can_be_taken holder_of state_after owners_after due allowed
+unfolding opening opening_state known_blocks can_stand vacant_blocks can_be_taken holder_of state_after owners_after due allowed
 still_unknown = refl

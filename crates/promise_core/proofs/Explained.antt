@@ -7,8 +7,8 @@ use Rattle.std.proofs.lemmas.Bool.{eq-eqb, eqb-true, or_left, or_right, or_cases
 use Rattle.model_core.specs.Layouts.{pattern_byte}
 use Rattle.model_core.specs.Elements.{IsIn}
 use Rattle.model_core.proofs.Lists.{find_in}
-use Rattle.promise_core.specs.Holdings.{ToldCache, Holdings, cache_told}
-use Rattle.promise_core.specs.Bytes.{Holder, Cell, Cells, is_same, told_fresh_byte, may_be, may_all_be}
+use Rattle.promise_core.specs.Holdings.{KnownCache, Holdings, known_cache}
+use Rattle.promise_core.specs.Bytes.{Holder, Cell, Cells, is_same, known_fresh_byte, may_be, may_all_be}
 use Rattle.promise_core.specs.State.{State}
 
 -- zero, of a pattern that was given, or written
@@ -16,7 +16,7 @@ abbrev pub own : (ℕ → Bool) → (ℕ → Bool) → ℕ → Bool
 own given written byte = byte == 0 || (given byte || written byte)
 
 pub record IsExplained (given written : ℕ → Bool) (place : ℕ) (s : State) : Type 0 where
-  pub patterns : (c : ToldCache) → IsIn c s.has.caches → (b : ℕ) → list_any (λ x. x == b) c.pattern ≡ true → given b ≡ true
+  pub patterns : (c : KnownCache) → IsIn c s.has.caches → (b : ℕ) → list_any (λ x. x == b) c.pattern ≡ true → given b ≡ true
   pub cells : (cell : Cell) → s.cells place ≡ Some cell → own given written cell.byte ≡ true
 
 own_zero : (given written : ℕ → Bool) (byte : ℕ) → byte ≡ 0 → own given written byte ≡ true
@@ -46,11 +46,11 @@ index_is (x ∷ xs) (suc i) = elim (index_is xs i) [ inl e ↦ inl e | inr e ↦
 
 -- what something fresh has is explained
 fresh_own : (given written : ℕ → Bool) (place p : ℕ) (s : State) (holder : Holder) → IsExplained given written place s
-    → own given written (told_fresh_byte s.has holder p) ≡ true
+    → own given written (known_fresh_byte s.has holder p) ≡ true
 fresh_own given written place p s Holder.Page x = refl
-fresh_own given written place p s (Holder.Object number first) x = go (cache_told s.has number) refl
+fresh_own given written place p s (Holder.Object number first) x = go (known_cache s.has number) refl
   where
-    go : (found : Option ToldCache) → cache_told s.has number ≡ found
+    go : (found : Option KnownCache) → known_cache s.has number ≡ found
         → own given written (option_map_or (λ c. pattern_byte c.pattern (p - first)) found 0) ≡ true
     go None e = refl
     go (Some c) e = elim (index_is c.pattern ((p - first) % length c.pattern)) [
@@ -60,37 +60,37 @@ fresh_own given written place p s (Holder.Object number first) x = go (cache_tol
 
 -- so is what may be there
 pub may_own : (given written : ℕ → Bool) (place : ℕ) (s : State) (holder : Holder) (byte : ℕ) → IsExplained given written place s
-    → may_be holder (told_fresh_byte s.has holder place) (s.cells place) byte ≡ true → own given written byte ≡ true
+    → may_be holder (known_fresh_byte s.has holder place) (s.cells place) byte ≡ true → own given written byte ≡ true
 may_own given written place s holder byte x = go (s.cells place) refl
   where
-    fresh_one : (byte == told_fresh_byte s.has holder place) ≡ true → own given written byte ≡ true
+    fresh_one : (byte == known_fresh_byte s.has holder place) ≡ true → own given written byte ≡ true
     fresh_one e = subst (λ b. own given written b ≡ true) (sym (eqb-true byte _ e)) (fresh_own given written place place s holder x)
 
-    same : (cell : Cell) (sure : Bool) → s.cells place ≡ Some cell → (byte == cell.byte || (not sure && byte == told_fresh_byte s.has holder place)) ≡ true
+    same : (cell : Cell) (sure : Bool) → s.cells place ≡ Some cell → (byte == cell.byte || (not sure && byte == known_fresh_byte s.has holder place)) ≡ true
         → own given written byte ≡ true
     same cell sure is e = elim (or_cases (byte == cell.byte) _ e) [
       | inl b ↦ subst (λ b. own given written b ≡ true) (sym (eqb-true byte _ b)) (x.cells cell is)
       | inr f ↦ fresh_one (and_parts (not sure) _ f).1
     ]
 
-    go : (found : Option Cell) → s.cells place ≡ found → may_be holder (told_fresh_byte s.has holder place) found byte ≡ true → own given written byte ≡ true
+    go : (found : Option Cell) → s.cells place ≡ found → may_be holder (known_fresh_byte s.has holder place) found byte ≡ true → own given written byte ≡ true
     go None is e = fresh_one e
     go (Some cell) is e = by_holder (is_same cell.holder holder) e
       where
-        by_holder : (b : Bool) → (if b then byte == cell.byte || (not cell.sure && byte == told_fresh_byte s.has holder place) else byte == told_fresh_byte s.has holder place) ≡ true
+        by_holder : (b : Bool) → (if b then byte == cell.byte || (not cell.sure && byte == known_fresh_byte s.has holder place) else byte == known_fresh_byte s.has holder place) ≡ true
             → own given written byte ≡ true
         by_holder true e = same cell cell.sure is e
         by_holder false e = fresh_one e
 
 -- of bytes that may be there each may
 pub each_may : (h : Holdings) (cells : Cells) (holder : Holder) (begin : ℕ) (bytes : List ℕ) (j b : ℕ) → may_all_be h cells holder begin bytes ≡ true
-    → slice_get bytes j ≡ Some b → may_be holder (told_fresh_byte h holder (begin + j)) (cells (begin + j)) b ≡ true
+    → slice_get bytes j ≡ Some b → may_be holder (known_fresh_byte h holder (begin + j)) (cells (begin + j)) b ≡ true
 each_may h cells holder begin [] j b e at = absurd (cc)
 each_may h cells holder begin (x ∷ xs) zero b e at =
     let same : x ≡ b = cc in
     let here : begin + 0 ≡ begin = omega arith in
-    subst (λ p. may_be holder (told_fresh_byte h holder p) (cells p) b ≡ true) (sym here)
-    (subst (λ y. may_be holder (told_fresh_byte h holder begin) (cells begin) y ≡ true) same (and_parts _ _ e).0)
+    subst (λ p. may_be holder (known_fresh_byte h holder p) (cells p) b ≡ true) (sym here)
+    (subst (λ y. may_be holder (known_fresh_byte h holder begin) (cells begin) y ≡ true) same (and_parts _ _ e).0)
 each_may h cells holder begin (x ∷ xs) (suc j) b e at =
     let here : (begin + 1) + j ≡ begin + suc j = omega arith in
-    subst (λ p. may_be holder (told_fresh_byte h holder p) (cells p) b ≡ true) here (each_may h cells holder (begin + 1) xs j b (and_parts _ _ e).1 at)
+    subst (λ p. may_be holder (known_fresh_byte h holder p) (cells p) b ≡ true) here (each_may h cells holder (begin + 1) xs j b (and_parts _ _ e).1 at)

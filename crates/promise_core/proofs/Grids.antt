@@ -15,7 +15,7 @@ use Rattle.model_core.specs.Elements.{IsIn}
 use Rattle.model_core.proofs.Lists.{filter_in, in_filter, some_any, any_in}
 use Rattle.model_core.proofs.BlocksByNumber.{number_is, first_is, number_of_frame, any_below_tells, any_below_is}
 use Rattle.promise_core.specs.Lying.{IsFitted, live_of_slab, OnGrid, HasGrid, IsGridded}
-use Rattle.promise_core.specs.Holdings.{ToldCache, Holdings, slab_around, can_stand, are_apart, is_grid, can_be_taken}
+use Rattle.promise_core.specs.Holdings.{KnownCache, Holdings, slab_around, can_stand, are_apart, is_grid, can_be_taken}
 use Rattle.promise_core.proofs.Steps.{in_put}
 
 -- Lists
@@ -101,7 +101,7 @@ from_rest : (p origin n r : ℕ) → origin ≤ p → r ≡ 0 → n + r ≡ p - 
 from_rest p origin n r low none split = omega (arith, low, none, split)
 
 -- a new cache: its slabs can begin with an object
-pub new_gridded : (order : ℕ) (c : ToldCache) → c.live ≡ [] → IsFitted order c → IsGridded order c
+pub new_gridded : (order : ℕ) (c : KnownCache) → c.live ≡ [] → IsFitted order c → IsGridded order c
 new_gridded order c empty fit = record { fitted = fit; grids = grids }
   where
     grids : (f : ℕ) → HasGrid c f
@@ -116,12 +116,12 @@ new_gridded order c empty fit = record { fitted = fit; grids = grids }
           few = let none : length (live_of_slab c f) ≡ 0 = ap (λ ps. length (filter (λ p. (slab_around c p).first == f) ps)) empty in omega (arith, none);
         }
 
-fitted_with : (order : ℕ) (c : ToldCache) (live : List ℕ) → IsFitted order c → IsFitted order (record c { live = live })
+fitted_with : (order : ℕ) (c : KnownCache) (live : List ℕ) → IsFitted order c → IsFitted order (record c { live = live })
 fitted_with order c live f =
     record { of_slot = f.of_slot; sized = f.sized; chunked = f.chunked; some = f.some; room = f.room; steps = f.steps; aligned = f.aligned }
 
 -- fewer objects
-pub given_gridded : (order : ℕ) (c : ToldCache) (test : ℕ → Bool) → IsGridded order c → IsGridded order (record c { live = filter test c.live })
+pub given_gridded : (order : ℕ) (c : KnownCache) (test : ℕ → Bool) → IsGridded order c → IsGridded order (record c { live = filter test c.live })
 given_gridded order c test g = record {
   fitted = fitted_with order c (filter test c.live) g.fitted;
   grids = λ f. record {
@@ -135,11 +135,11 @@ given_gridded order c test g = record {
 }
 
 -- one object more
-module _ (order : ℕ) (h : Holdings) (c : ToldCache) (place : ℕ) (g : IsGridded order c) (can : can_be_taken order h c place ≡ true) where
+module _ (order : ℕ) (h : Holdings) (c : KnownCache) (place : ℕ) (g : IsGridded order c) (can : can_be_taken order h c place ≡ true) where
   abbrev slab : Block
   slab = slab_around c place
 
-  abbrev after : ToldCache
+  abbrev after : KnownCache
   after = record c { live = put_rising (λ p. p) place c.live }
 
   record IsTakable : Type 0 where
@@ -236,12 +236,12 @@ around_is b x aligned has = ap (λ f. block f b.order)
     (ap (λ n. n * 2 ^ b.order) (sym (number_is b.order x) ∙ number_of_frame b.first b.order x aligned has) ∙ first_is b.first b.order aligned)
 
 -- the test of `can_be_taken`, of this slab
-abbrev is_takable : ℕ → Holdings → ToldCache → ℕ → Block → Bool
+abbrev is_takable : ℕ → Holdings → KnownCache → ℕ → Block → Bool
 is_takable order h c place b = (place % c.align == 0 && (nat_lt 0 (length (live_of_slab c b.first)) || can_stand order h b))
     && (nat_lt (length (live_of_slab c b.first)) c.count && (list_all (are_apart c place) (live_of_slab c b.first)
     && is_any_below (λ i. nat_le (i * c.chunk) place && is_grid c b (place - i * c.chunk) (live_of_slab c b.first)) c.count))
 
-module _ (order : ℕ) (h : Holdings) (c : ToldCache) (g : IsGridded order c) (f : ℕ) (begins : f % 2 ^ c.order ≡ 0)
+module _ (order : ℕ) (h : Holdings) (c : KnownCache) (g : IsGridded order c) (f : ℕ) (begins : f % 2 ^ c.order ≡ 0)
     (free : length (live_of_slab c f) < c.count) (stands : (nat_lt 0 (length (live_of_slab c f)) || can_stand order h (block f c.order)) ≡ true) where
   abbrev grid : HasGrid c f
   grid = g.grids f

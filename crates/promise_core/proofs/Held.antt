@@ -18,7 +18,7 @@ use Rattle.words_core.specs.declared.event.Command.TheVariants as Asked
 use Rattle.words_core.specs.declared.reply.Body.{Body}
 use Rattle.words_core.specs.declared.reply.Body.TheVariants as Say
 use Rattle.promise_core.specs.Bytes.{Holder, is_object, is_same, Cell, without, object_with, holder_of}
-use Rattle.promise_core.specs.Holdings.{ToldCache, Holdings, has_slot, cache_told, slab_around}
+use Rattle.promise_core.specs.Holdings.{KnownCache, Holdings, has_slot, known_cache, slab_around}
 use Rattle.promise_core.specs.Lying.{IsLaid, AllGridded, AreOfHeld}
 use Rattle.promise_core.specs.State.{State, Known, opening_state, with_range, is_in_no_slab, state_after}
 use Rattle.promise_core.specs.Promises.{bytes}
@@ -34,15 +34,15 @@ in_slot order p h b aligned held low high =
     subst (λ u. has_slot h u ≡ true) (sym (frame_slot order (p / 4096) b aligned frame)) held
 
 -- the range is among the bytes of this live object
-pub record HasRange (place len : ℕ) (holder : Holder) (cs : List ToldCache) : Type 0 where
-  pub cache : ToldCache
+pub record HasRange (place len : ℕ) (holder : Holder) (cs : List KnownCache) : Type 0 where
+  pub cache : KnownCache
   pub first : ℕ
   pub listed : IsIn cache cs
   pub live : IsIn first cache.live
   pub is : holder ≡ Holder.Object cache.number first
   pub within : is_within place len first cache.size ≡ true
 
-pub object_has : (place len : ℕ) (holder : Holder) (cs : List ToldCache) → object_with place len cs ≡ Some holder → HasRange place len holder cs
+pub object_has : (place len : ℕ) (holder : Holder) (cs : List KnownCache) → object_with place len cs ≡ Some holder → HasRange place len holder cs
 object_has place len holder [] e = absurd (cc)
 object_has place len holder (c ∷ cs) e = go (find (λ p. is_within place len p c.size) c.live) refl e (object_has place len holder cs)
   where
@@ -135,7 +135,7 @@ held_step w (On.Tenant i (Asked.Cache size align pattern)) (Say.Cache number chu
 held_step w (On.Tenant i (Asked.Destroy number)) (Say.Destroyed frames) s s' e b l g h = stays_held w.order s _ s' e (λ u is. is)
     (λ place. without_cells (λ p. is_object (λ m q. m == number)) place s) h
 held_step w (On.Tenant i (Asked.Take number)) (Say.Object first) s s' e b l g h = stays_held w.order s _ s' e (λ u is. is)
-    (λ place. object_cells first place s (cache_told s.has number)) h
+    (λ place. object_cells first place s (known_cache s.has number)) h
 held_step w (On.Tenant i (Asked.Give number first)) Say.Given s s' e b l g h = stays_held w.order s _ s' e (λ u is. is)
     (λ place. doubted_cells (λ p. is_same (Holder.Object number first)) place s) h
 held_step w (On.Tenant i Asked.Reap) (Say.Reaped frames) s s' e b l g h = stays_held w.order s _ s' e (λ u is. is)

@@ -19,7 +19,7 @@ use Rattle.words_core.specs.declared.event.Command.TheVariants as Asked
 use Rattle.words_core.specs.declared.reply.Body.{Body}
 use Rattle.words_core.specs.declared.reply.Body.TheVariants as Say
 use Rattle.words_core.specs.declared.reply.Refusal.{Refusal}
-use Rattle.promise_core.specs.Holdings.{ToldCache, Holdings, has_slot, cache_told, with_live_places, slab_around, told_blocks, is_vacant, can_stand, is_slot_busy, live_beside, can_be_taken}
+use Rattle.promise_core.specs.Holdings.{KnownCache, Holdings, has_slot, known_cache, with_live_places, slab_around, known_blocks, is_vacant, can_stand, is_slot_busy, live_beside, can_be_taken}
 use Rattle.promise_core.specs.Lying.{Used, HaveOwnNumbers, IsLaid, IsFitted, IsGridded, AllGridded, live_of_slab}
 use Rattle.promise_core.specs.State.{State, Known, opening_state, state_after}
 use Rattle.promise_core.specs.Promises.{first_due, due, refusals, blocks, objects, new_layout}
@@ -60,8 +60,8 @@ more order h h' new n l used held aligned here vacant numbers = record {
   numbers = numbers;
 }
 
-used_taken : (h : Holdings) (by : Option ℕ) (b : Block) → Used h by b → IsIn b (told_blocks h)
-unfolding told_blocks
+used_taken : (h : Holdings) (by : Option ℕ) (b : Block) → Used h by b → IsIn b (known_blocks h)
+unfolding known_blocks
 used_taken h None b i = in_left b h.pages _ i
 used_taken h (Some n) b (c, p, i, j, e, is) = in_right b h.pages _
     (in_flat_map (λ d. map (slab_around d) d.live) b c h.caches i (subst (λ y. IsIn y (map (slab_around c) c.live)) (sym is) (in_map (slab_around c) p c.live j)))
@@ -69,7 +69,7 @@ used_taken h (Some n) b (c, p, i, j, e, is) = in_right b h.pages _
 -- what shares a frame with a vacant block is not used
 vacant_apart : (h : Holdings) (n : Block) → is_vacant h n ≡ true → (by : Option ℕ) (b : Block) (x : ℕ) → Used h by b → HasFrame b x → HasFrame n x → ⊥
 vacant_apart h n e by b x u hb hn =
-    false≢true (sym (not-true _ e) ∙ any_in (overlaps n) b (told_blocks h) (used_taken h by b u) (overlap_from n b x hn hb))
+    false≢true (sym (not-true _ e) ∙ any_in (overlaps n) b (known_blocks h) (used_taken h by b u) (overlap_from n b x hn hb))
 
 pub record CanStand (order : ℕ) (h : Holdings) (b : Block) : Type 0 where
   pub aligned : IsAligned order b
@@ -82,7 +82,7 @@ can_stand_is order h b e = let p = and_parts _ _ e in let q = and_parts _ _ p.0 
     record { aligned = (leb-true b.order order q.0, eqb-true _ 0 q.1); held = r.0; vacant = r.1 }
 
 -- a vacant block has no live object of a cache of its order
-pub empty_slab : (order : ℕ) (h : Holdings) (c : ToldCache) → IsIn c h.caches → (f : ℕ) → is_vacant h (block f c.order) ≡ true → length (live_of_slab c f) ≡ 0
+pub empty_slab : (order : ℕ) (h : Holdings) (c : KnownCache) → IsIn c h.caches → (f : ℕ) → is_vacant h (block f c.order) ≡ true → length (live_of_slab c f) ≡ 0
 empty_slab order h c i f vacant = go (live_of_slab c f) refl
   where
     go : (ps : List ℕ) → live_of_slab c f ≡ ps → length ps ≡ 0
@@ -95,30 +95,30 @@ empty_slab order h c i f vacant = go (live_of_slab c f) refl
 
 -- Live objects changed
 
-live_number : (b : Bool) (c : ToldCache) (live : List ℕ) → (if b then record c { live = live } else c).number ≡ c.number
+live_number : (b : Bool) (c : KnownCache) (live : List ℕ) → (if b then record c { live = live } else c).number ≡ c.number
 live_number true c live = refl
 live_number false c live = refl
 
 live_numbers : (h : Holdings) (number : ℕ) (change : List ℕ → List ℕ) → HaveOwnNumbers h → HaveOwnNumbers (with_live_places number change h)
 live_numbers h number change own c d i j e =
-    let x : (y : ToldCache) × IsIn y h.caches × ((if y.number == number then record y { live = change y.live } else y) ≡ c) = map_in _ c h.caches i in
-    let z : (y : ToldCache) × IsIn y h.caches × ((if y.number == number then record y { live = change y.live } else y) ≡ d) = map_in _ d h.caches j in
+    let x : (y : KnownCache) × IsIn y h.caches × ((if y.number == number then record y { live = change y.live } else y) ≡ c) = map_in _ c h.caches i in
+    let z : (y : KnownCache) × IsIn y h.caches × ((if y.number == number then record y { live = change y.live } else y) ≡ d) = map_in _ d h.caches j in
     let same : x.0 ≡ z.0 = own x.0 z.0 x.1 z.1 (sym (live_number (x.0.number == number) x.0 (change x.0.live)) ∙ ap (λ y. y.number) x.2
     ∙ e ∙ ap (λ y. y.number) (sym z.2) ∙ live_number (z.0.number == number) z.0 (change z.0.live)) in
-    sym x.2 ∙ ap (λ (y : ToldCache). if y.number == number then record y { live = change y.live } else y) same ∙ z.2
+    sym x.2 ∙ ap (λ (y : KnownCache). if y.number == number then record y { live = change y.live } else y) same ∙ z.2
 
 -- what has frames then: what had them, or the slab of an object of that cache after the change
 abbrev Changed : Holdings → ℕ → (List ℕ → List ℕ) → Option ℕ → Block → Type 0
-Changed h number change by b = (c : ToldCache) × (p : ℕ) × IsIn c h.caches × (c.number ≡ number) × IsIn p (change c.live) × (by ≡ Some number) × (b ≡ slab_around c p)
+Changed h number change by b = (c : KnownCache) × (p : ℕ) × IsIn c h.caches × (c.number ≡ number) × IsIn p (change c.live) × (by ≡ Some number) × (b ≡ slab_around c p)
 
 live_used : (h : Holdings) (number : ℕ) (change : List ℕ → List ℕ) (by : Option ℕ) (b : Block) → Used (with_live_places number change h) by b
     → Used h by b ⊎ Changed h number change by b
 live_used h number change None b i = inl i
 live_used h number change (Some n) b (c, p, i, j, e, is) =
-    let x : (y : ToldCache) × IsIn y h.caches × ((if y.number == number then record y { live = change y.live } else y) ≡ c) = map_in _ c h.caches i in
+    let x : (y : KnownCache) × IsIn y h.caches × ((if y.number == number then record y { live = change y.live } else y) ≡ c) = map_in _ c h.caches i in
     go x.0 x.1 (x.0.number == number) refl x.2
   where
-    go : (y : ToldCache) → IsIn y h.caches → (test : Bool) → (y.number == number) ≡ test → (if test then record y { live = change y.live } else y) ≡ c
+    go : (y : KnownCache) → IsIn y h.caches → (test : Bool) → (y.number == number) ≡ test → (if test then record y { live = change y.live } else y) ≡ c
         → Used h (Some n) b ⊎ Changed h number change (Some n) b
     go y m true t same = let at : y.number ≡ number = eqb-true _ _ t in
         inr (y, p, m, at, subst (λ z. IsIn p z.live) (sym same) j, ap Some (sym e ∙ ap (λ z. z.number) (sym same) ∙ at), is ∙ ap (λ z. slab_around z p) (sym same))
@@ -139,7 +139,7 @@ some_in : (xs : List ℕ) → nat_lt 0 (length xs) ≡ true → (x : ℕ) × IsI
 some_in [] e = absurd (false≢true e)
 some_in (x ∷ xs) e = (x, inl refl)
 
-take_laid : (order number place : ℕ) (h : Holdings) (c : ToldCache) → IsLaid order h → cache_told h number ≡ Some c → can_be_taken order h c place ≡ true
+take_laid : (order number place : ℕ) (h : Holdings) (c : KnownCache) → IsLaid order h → known_cache h number ≡ Some c → can_be_taken order h c place ≡ true
     → IsLaid order (with_live_places number (put_rising (λ p. p) place) h)
 unfolding can_be_taken
 take_laid order number place h c l e can = elim (or_cases _ _ (and_parts _ _ (and_parts _ _ can).0).1) [
@@ -199,11 +199,11 @@ destroy_laid order number h l = fewer order h (record h { caches = filter (λ c.
     used None b i = i
     used (Some n) b (c, p, i, j, e, is) = (c, p, (filter_in (λ c. not (c.number == number)) c h.caches i).0, j, e, is)
 
-cache_laid : (order : ℕ) (h : Holdings) (new : ToldCache) → new.live ≡ [] → IsLaid order h → is_none (cache_told h new.number) ≡ true
+cache_laid : (order : ℕ) (h : Holdings) (new : KnownCache) → new.live ≡ [] → IsLaid order h → is_none (known_cache h new.number) ≡ true
     → IsLaid order (record h { caches = put_rising (λ x. x.number) new h.caches })
 cache_laid order h new empty l none = fewer order h (record h { caches = put_rising (λ x. x.number) new h.caches }) l used (λ by b u held. held) numbers
   where
-    other : (c : ToldCache) → IsIn c h.caches → c.number ≡ new.number → ⊥
+    other : (c : KnownCache) → IsIn c h.caches → c.number ≡ new.number → ⊥
     other c i e = false≢true (sym (any_unfound (λ y. y.number == new.number) h.caches (none_of _ (not-true _ none))) ∙ any_in (λ y. y.number == new.number) c h.caches i (eq-eqb _ _ e))
 
     numbers : HaveOwnNumbers (record h { caches = put_rising (λ x. x.number) new h.caches })
@@ -243,7 +243,7 @@ take_back_laid order u h idle l = fewer order h (record h { slots = filter (λ v
     same_used (Some n) b i = i
 
     outside : (by : Option ℕ) (b : Block) → Used h by b → b.first / 2 ^ order ≡ u → ⊥
-    outside by b i e = false≢true (sym (not-true _ (not-false _ idle)) ∙ any_in (overlaps (slot_block order u)) b (told_blocks h) (used_taken h by b i)
+    outside by b i e = false≢true (sym (not-true _ (not-false _ idle)) ∙ any_in (overlaps (slot_block order u)) b (known_blocks h) (used_taken h by b i)
         (in_slot_overlaps order u b e))
 
     held : (by : Option ℕ) (b : Block) → Used (record h { slots = filter (λ v. not (v == u)) h.slots }) by b → has_slot h (b.first / 2 ^ order) ≡ true
@@ -287,7 +287,7 @@ step w (On.Tenant i (Asked.Cache size align pattern)) (Say.Cache number chunk q 
     (cache_laid w.order s.has (record { number = number; size = size; align = align; pattern = pattern.items; chunk = chunk; order = q; count = n; live = [] }) refl l
     (and_parts _ _ (and_parts _ _ c).0).1)
 step w (On.Tenant i (Asked.Destroy number)) (Say.Destroyed frames) s s' e f b o c l = subst (λ y. IsLaid w.order y.has) (some_state e) (destroy_laid w.order number s.has l)
-step w (On.Tenant i (Asked.Take number)) (Say.Object place) s s' e f b o c l = let v = value_of _ (cache_told s.has number) o in
+step w (On.Tenant i (Asked.Take number)) (Say.Object place) s s' e f b o c l = let v = value_of _ (known_cache s.has number) o in
     subst (λ y. IsLaid w.order y.has) (some_state e) (take_laid w.order number place s.has v.0 l v.1 v.2)
 step w (On.Tenant i (Asked.Give number place)) Say.Given s s' e f b o c l = subst (λ y. IsLaid w.order y.has) (some_state e) (give_laid w.order number place s.has l)
 step w (On.Tenant i Asked.Reap) (Say.Reaped frames) s s' e f b o c l = subst (λ y. IsLaid w.order y.has) (some_state e) l
@@ -313,12 +313,12 @@ three_none false false c r q p e = (refl, refl)
 
 -- caches of which one has its live objects changed
 live_gridded : (order number : ℕ) (change : List ℕ → List ℕ) (h : Holdings) → AllGridded order h
-    → ((c : ToldCache) → IsIn c h.caches → c.number ≡ number → IsGridded order (record c { live = change c.live })) → AllGridded order (with_live_places number change h)
+    → ((c : KnownCache) → IsIn c h.caches → c.number ≡ number → IsGridded order (record c { live = change c.live })) → AllGridded order (with_live_places number change h)
 live_gridded order number change h g changed c i =
-    let x : (y : ToldCache) × IsIn y h.caches × ((if y.number == number then record y { live = change y.live } else y) ≡ c) = map_in _ c h.caches i in
+    let x : (y : KnownCache) × IsIn y h.caches × ((if y.number == number then record y { live = change y.live } else y) ≡ c) = map_in _ c h.caches i in
     subst (IsGridded order) x.2 (go x.0 x.1 (x.0.number == number) refl)
   where
-    go : (y : ToldCache) → IsIn y h.caches → (test : Bool) → (y.number == number) ≡ test → IsGridded order (if test then record y { live = change y.live } else y)
+    go : (y : KnownCache) → IsIn y h.caches → (test : Bool) → (y.number == number) ≡ test → IsGridded order (if test then record y { live = change y.live } else y)
     go y m true e = changed y m (eqb-true _ _ e)
     go y m false e = g y m
 
@@ -361,12 +361,12 @@ grid_step w (On.Tenant i (Asked.Cache size align pattern)) (Say.Cache number chu
       | inr old ↦ g d old
     ])
   where
-    new : ToldCache
+    new : KnownCache
     new = record { number = number; size = size; align = align; pattern = pattern.items; chunk = chunk; order = q; count = n; live = [] }
 grid_step w (On.Tenant i (Asked.Destroy number)) (Say.Destroyed frames) s s' e f o c own g = subst (λ y. AllGridded w.order y.has) (some_state e)
     (λ d m. g d (filter_in (λ x. not (x.number == number)) d s.has.caches m).0)
 grid_step w (On.Tenant i (Asked.Take number)) (Say.Object place) s s' e f o c own g =
-    let v = value_of _ (cache_told s.has number) o in
+    let v = value_of _ (known_cache s.has number) o in
     let at = find_in (λ y. y.number == number) v.0 s.has.caches v.1 in
     subst (λ y. AllGridded w.order y.has) (some_state e) (live_gridded w.order number (put_rising (λ p. p) place) s.has g
     (λ d m is. subst (λ y. IsGridded w.order (record y { live = put_rising (λ p. p) place y.live })) (own v.0 d at.0 m (eqb-true _ _ at.1 ∙ sym is))

@@ -8,7 +8,7 @@ use Rattle.words_core.specs.declared.event.Event.{Event}
 use Rattle.words_core.specs.declared.reply.Reply.{Reply}
 use Rattle.world_core.specs.World.{Exchange}
 use Rattle.promise_core.specs.declared.promise.Promise.{Promise}
-use Rattle.promise_core.specs.Holdings.{ToldCache, Holdings}
+use Rattle.promise_core.specs.Holdings.{KnownCache, Holdings}
 use Rattle.promise_core.specs.Lying.{Used, IsLaid, IsGridded, AllGridded, AreOfHeld}
 use Rattle.promise_core.specs.State.{State, Known, opening_state, opening}
 use Rattle.promise_core.specs.Promises.{named, allowed, all_allowed}
@@ -71,7 +71,7 @@ reached : (limit order superblocks tenants : ℕ) (es : List Exchange) (w : Know
 reached limit order superblocks tenants es w e = run order es (opening limit order superblocks tenants) w e (opening_laid limit order superblocks tenants)
 
 pub reached_gridded : (limit order superblocks tenants t : ℕ) (es : List Exchange) (w : Known) (s : State) → all_allowed es (Ok (opening limit order superblocks tenants)) ≡ Ok w
-    → slice_get w.states t ≡ Some s → (c : ToldCache) → IsIn c s.has.caches → IsGridded w.order c
+    → slice_get w.states t ≡ Some s → (c : KnownCache) → IsIn c s.has.caches → IsGridded w.order c
 reached_gridded limit order superblocks tenants t es w s e h c i =
     let r = reached limit order superblocks tenants es w e in subst (λ k. IsGridded k c) (sym r.0) ((r.1 t s h).gridded c i)
 

@@ -6,7 +6,7 @@ use Rattle.std.proofs.lemmas.Bool.{cases_eq, and_parts, leb-true, ltb-true, case
 use Rattle.model_core.specs.Machine.{in_block}
 pub use Rattle.model_core.proofs.Lists.{in_put}
 use Rattle.world_core.proofs.MachineLists.{slice_get-set_other}
-use Rattle.promise_core.specs.Holdings.{ToldCache, slab_around, are_apart}
+use Rattle.promise_core.specs.Holdings.{KnownCache, slab_around, are_apart}
 use Rattle.promise_core.specs.Bytes.{Holder, is_object, Cell, Cells, with_bytes, doubted, without}
 use Rattle.promise_core.specs.State.{State, with_object}
 
@@ -77,7 +77,7 @@ pub without_cells : (test : ℕ → Holder → Bool) (place : ℕ) (s : State) (
     → (old : Cell) × (s.cells place ≡ Some old) × (old.byte ≡ cell.byte)
 without_cells test place s cell e = let l = without_left test s.cells place cell e in (l.old, l.was, l.byte)
 
-pub object_cells : (first place : ℕ) (s : State) (cache : Option ToldCache) (cell : Cell) → with_object first cache s.cells place ≡ Some cell
+pub object_cells : (first place : ℕ) (s : State) (cache : Option KnownCache) (cell : Cell) → with_object first cache s.cells place ≡ Some cell
     → (old : Cell) × (s.cells place ≡ Some old) × (old.byte ≡ cell.byte)
 object_cells first place s None cell e = (cell, e, refl)
 object_cells first place s (Some c) cell e =

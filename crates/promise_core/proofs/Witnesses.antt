@@ -9,7 +9,7 @@ use Rattle.words_core.specs.declared.reply.Addressee.TheVariants as To
 use Rattle.words_core.specs.declared.reply.Body.TheVariants as Say
 use Rattle.words_core.specs.declared.reply.Reply.{Reply}
 use Rattle.promise_core.specs.declared.promise.Promise.{Promise}
-use Rattle.promise_core.specs.Holdings.{ToldCache, has_slot, told_blocks, can_stand, vacant_blocks, can_be_taken}
+use Rattle.promise_core.specs.Holdings.{KnownCache, has_slot, known_blocks, can_stand, vacant_blocks, can_be_taken}
 use Rattle.promise_core.specs.Bytes.{Holder, holder_of}
 use Rattle.promise_core.specs.State.{State, Known, opening_state, opening, state_after, owners_after}
 use Rattle.promise_core.specs.Promises.{due, allowed, all_allowed}
@@ -28,25 +28,25 @@ known = known_of (all_allowed begun (Ok (opening 32 3 3 2)))
 abbrev the_state : State
 the_state = unwrap_or (slice_get known.states 0) opening_state
 
-abbrev the_cache : ToldCache
+abbrev the_cache : KnownCache
 the_cache = record { number = 0; size = 2000; align = 8; pattern = 90 ∷ []; chunk = 2000; order = 0; count = 2; live = 0 ∷ [] }
 
 none_is_some : {n : ℕ} → ◌≡◌ {A = Option ℕ} None (Some n) → ⊥
 none_is_some e = absurd (cc)
 
 LiveApart-met : LiveApart → (x : ℕ) → HasFrame (block 2 1) x → HasFrame (block 0 0) x → ⊥
-unfolding opening opening_state told_blocks can_stand vacant_blocks can_be_taken holder_of state_after owners_after due allowed
+unfolding opening opening_state known_blocks can_stand vacant_blocks can_be_taken holder_of state_after owners_after due allowed
 LiveApart-met law x page slab = none_is_some ((law 32 3 3 2 0 begun known the_state refl refl).apart None (Some 0) (block 2 1) (block 0 0) x
     (0, omega arith, refl) (the_cache, 0, (0, omega arith, refl), (0, omega arith, refl), refl, refl) page slab).0
 
 -- of the first of the two bytes that were written
 LeftInHeld-met : LeftInHeld → has_slot the_state.has (slot_of 3 8192) ≡ true
-unfolding opening opening_state told_blocks can_stand vacant_blocks can_be_taken holder_of state_after owners_after due allowed
+unfolding opening opening_state known_blocks can_stand vacant_blocks can_be_taken holder_of state_after owners_after due allowed
 LeftInHeld-met law = law 32 3 3 2 0 begun known the_state refl refl 8192 (record { holder = Holder.Page; byte = 1; sure = true }) refl
 
 -- the second of the bytes that were written, in a page block
 Confined-met : Confined → is_own 3 0 8193 2 begun ≡ true
-unfolding opening opening_state told_blocks can_stand vacant_blocks can_be_taken holder_of state_after owners_after due allowed
+unfolding opening opening_state known_blocks can_stand vacant_blocks can_be_taken holder_of state_after owners_after due allowed
 Confined-met law = law 32 3 3 2 0 8192 3 1 2 begun (To.Tenant 0) (record { items = 1 ∷ 2 ∷ 0 ∷ [] }) known
     (known_of (allowed (On.Tenant 0 (Asked.Read 8192 3)) (record { addressee = To.Tenant 0; body = Say.Bytes (record { items = 1 ∷ 2 ∷ 0 ∷ [] }) }) known)) refl refl refl
 
@@ -56,15 +56,15 @@ not_own = refl
 
 -- in the run's state a frame can be answered, and no want of frames
 RefusedForCause-met : RefusedForCause → (f : ℕ) × (may_tell known 0 (Asked.Alloc 0) (Say.Frame f) ≡ true)
-unfolding opening opening_state told_blocks can_stand vacant_blocks can_be_taken holder_of state_after owners_after due allowed
+unfolding opening opening_state known_blocks can_stand vacant_blocks can_be_taken holder_of state_after owners_after due allowed
 RefusedForCause-met law = (law known the_state 0 0 refl (omega arith)).answered refl
 
 -- and the second object of the slab, or one elsewhere
 TakeRefusedForCause-met : TakeRefusedForCause → (place : ℕ) × (may_tell known 0 (Asked.Take 0) (Say.Object place) ≡ true)
-unfolding opening opening_state told_blocks can_stand vacant_blocks can_be_taken holder_of state_after owners_after due allowed
+unfolding opening opening_state known_blocks can_stand vacant_blocks can_be_taken holder_of state_after owners_after due allowed
 TakeRefusedForCause-met law = (law 32 3 3 2 0 0 begun known the_state the_cache refl refl refl).answered refl
 
 -- the object can be given back
 UseAnswerable-met : UseAnswerable → (reply : Reply) × (is_ok (allowed (On.Tenant 0 (Asked.Give 0 0)) reply known) ≡ true)
-unfolding opening opening_state told_blocks can_stand vacant_blocks can_be_taken holder_of state_after owners_after due allowed
+unfolding opening opening_state known_blocks can_stand vacant_blocks can_be_taken holder_of state_after owners_after due allowed
 UseAnswerable-met law = law 32 3 3 2 0 (Asked.Give 0 0) begun known refl refl

@@ -5,7 +5,7 @@ use Rattle.std.specs.List.{list_any}
 use Rattle.std.specs.Option.{option_and_then, option_map_or}
 use Rattle.model_core.specs.Layouts.{pattern_byte}
 use Rattle.model_core.specs.Reach.{is_within, within_block}
-use Rattle.promise_core.specs.Holdings.{ToldCache, Holdings, cache_told}
+use Rattle.promise_core.specs.Holdings.{KnownCache, Holdings, known_cache}
 
 -- what has a byte: a page block, or the object of this cache and this first place, live or not
 pub data Holder : Type 0 where
@@ -32,10 +32,10 @@ abbrev pub Cells : Type 0
 Cells = ℕ → Option Cell
 
 -- the byte that something fresh has at a place
-abbrev pub told_fresh_byte : Holdings → Holder → ℕ → ℕ
-told_fresh_byte h Holder.Page place = 0
-told_fresh_byte h (Holder.Object number first) place =
-    option_map_or (λ c. pattern_byte c.pattern (place - first)) (cache_told h number) 0
+abbrev pub known_fresh_byte : Holdings → Holder → ℕ → ℕ
+known_fresh_byte h Holder.Page place = 0
+known_fresh_byte h (Holder.Object number first) place =
+    option_map_or (λ c. pattern_byte c.pattern (place - first)) (known_cache h number) 0
 
 -- the byte may be the holder's, where a fresh one has the byte `fresh`
 abbrev pub may_be : Holder → ℕ → Option Cell → ℕ → Bool
@@ -47,7 +47,7 @@ may_be holder fresh (Some cell) byte =
 abbrev pub may_all_be : Holdings → Cells → Holder → ℕ → List ℕ → Bool
 may_all_be h cells holder place [] = true
 may_all_be h cells holder place (byte ∷ bytes) =
-    may_be holder (told_fresh_byte h holder place) (cells place) byte && may_all_be h cells holder (place + 1) bytes
+    may_be holder (known_fresh_byte h holder place) (cells place) byte && may_all_be h cells holder (place + 1) bytes
 
 -- these bytes are told or written from `begin` on
 abbrev pub with_bytes : Holder → ℕ → List ℕ → Cells → Cells
@@ -66,7 +66,7 @@ abbrev pub without : (ℕ → Holder → Bool) → Cells → Cells
 without test cells place = option_and_then (λ (cell : Cell). if test place cell.holder then None else Some cell) (cells place)
 
 -- the live object of these caches that has the whole range
-abbrev pub object_with : ℕ → ℕ → List ToldCache → Option Holder
+abbrev pub object_with : ℕ → ℕ → List KnownCache → Option Holder
 object_with place len [] = None
 object_with place len (c ∷ cs) =
     option_map_or (λ first. Some (Holder.Object c.number first)) (find (λ first. is_within place len first c.size) c.live) (object_with place len cs)

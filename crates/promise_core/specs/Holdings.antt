@@ -8,7 +8,7 @@ use Rattle.model_core.specs.Operations.{overlaps}
 
 -- a cache, as it was asked for and as its reply told it: a slab has 2 ^ order frames and `count` objects, from the first byte of
 -- one to that of the next are `chunk` bytes; `live` are the first places of its live objects, rising
-pub record ToldCache : Type 0 where
+pub record KnownCache : Type 0 where
   pub number : ℕ
   pub size : ℕ
   pub align : ℕ
@@ -22,31 +22,31 @@ pub record ToldCache : Type 0 where
 pub record Holdings : Type 0 where
   pub slots : List ℕ
   pub pages : List Block
-  pub caches : List ToldCache
+  pub caches : List KnownCache
 
 abbrev pub has_slot : Holdings → ℕ → Bool
 has_slot h u = list_any (λ v. v == u) h.slots
 
-abbrev pub cache_told : Holdings → ℕ → Option ToldCache
-cache_told h number = find (λ c. c.number == number) h.caches
+abbrev pub known_cache : Holdings → ℕ → Option KnownCache
+known_cache h number = find (λ c. c.number == number) h.caches
 
 -- the holdings with the live objects of this cache changed
 abbrev pub with_live_places : ℕ → (List ℕ → List ℕ) → Holdings → Holdings
 with_live_places number change h = record h {
-  caches = map {B = ToldCache} (λ (c : ToldCache). if c.number == number then record c { live = change c.live } else c) h.caches;
+  caches = map {B = KnownCache} (λ (c : KnownCache). if c.number == number then record c { live = change c.live } else c) h.caches;
 }
 
 -- the slab that an object at this place is in
-abbrev pub slab_around : ToldCache → ℕ → Block
+abbrev pub slab_around : KnownCache → ℕ → Block
 slab_around c place = around (place / FRAME_BYTES) c.order
 
 -- the page blocks, and the slabs of live objects
-unfoldable pub told_blocks : Holdings → List Block
-told_blocks h = h.pages ++ flat_map (λ c. map (slab_around c) c.live) h.caches
+unfoldable pub known_blocks : Holdings → List Block
+known_blocks h = h.pages ++ flat_map (λ c. map (slab_around c) c.live) h.caches
 
 -- no frame of the block is taken
 abbrev pub is_vacant : Holdings → Block → Bool
-is_vacant h b = not (list_any (overlaps b) (told_blocks h))
+is_vacant h b = not (list_any (overlaps b) (known_blocks h))
 
 -- the block is aligned, lies in a held slot, and no frame of it is taken; slots have 2 ^ order frames
 unfoldable pub can_stand : ℕ → Holdings → Block → Bool
@@ -68,25 +68,25 @@ abbrev pub is_slot_busy : ℕ → Holdings → ℕ → Bool
 is_slot_busy order h u = not (is_vacant h (slot_block order u))
 
 -- the live objects in the slab that has this place
-abbrev pub live_beside : ToldCache → ℕ → List ℕ
+abbrev pub live_beside : KnownCache → ℕ → List ℕ
 live_beside c place = filter (λ p. (slab_around c p).first == (slab_around c place).first) c.live
 
 -- all objects of that slab are live
-abbrev pub is_slab_full : ToldCache → ℕ → Bool
+abbrev pub is_slab_full : KnownCache → ℕ → Bool
 is_slab_full c place = length (live_beside c place) == c.count
 
 -- objects of the cache at these two places share no byte
-abbrev pub are_apart : ToldCache → ℕ → ℕ → Bool
+abbrev pub are_apart : KnownCache → ℕ → ℕ → Bool
 are_apart c p q = nat_le (p + c.size) q || nat_le (q + c.size) p
 
 -- the objects of the slab b fit into it if the first of them is at `origin`, and each of these places is that of one
-abbrev pub is_grid : ToldCache → Block → ℕ → List ℕ → Bool
+abbrev pub is_grid : KnownCache → Block → ℕ → List ℕ → Bool
 is_grid c b origin places =
     (nat_le (FRAME_BYTES * b.first) origin && nat_le (origin + (c.count - 1) * c.chunk + c.size) (FRAME_BYTES * (b.first + 2 ^ b.order)))
     && list_all (λ p. nat_le origin p && ((p - origin) % c.chunk == 0 && nat_lt ((p - origin) / c.chunk) c.count)) places
 
 -- an object of the cache can be handed out at this place
-unfoldable pub can_be_taken : ℕ → Holdings → ToldCache → ℕ → Bool
+unfoldable pub can_be_taken : ℕ → Holdings → KnownCache → ℕ → Bool
 can_be_taken order h c place = let beside = live_beside c place in
     (place % c.align == 0 && (nat_lt 0 (length beside) || can_stand order h (slab_around c place)))
     && (nat_lt (length beside) c.count && (list_all (are_apart c place) beside

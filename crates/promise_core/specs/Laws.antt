@@ -16,7 +16,7 @@ use Rattle.words_core.specs.declared.reply.Body.TheVariants as Say
 use Rattle.words_core.specs.declared.reply.Refusal.{Refusal}
 use Rattle.words_core.specs.declared.reply.Reply.{Reply}
 use Rattle.world_core.specs.World.{Exchange}
-use Rattle.promise_core.specs.Holdings.{ToldCache, Holdings, has_slot, cache_told, slab_around}
+use Rattle.promise_core.specs.Holdings.{KnownCache, Holdings, has_slot, known_cache, slab_around}
 use Rattle.promise_core.specs.Lying.{AreOfHeld}
 use Rattle.promise_core.specs.State.{State, Known, opening}
 use Rattle.promise_core.specs.Promises.{allowed, all_allowed}
@@ -63,7 +63,7 @@ Confined = (limit order superblocks tenants t begin len j byte : ℕ) (es : List
 -- what has frames: page blocks, by None, and the slabs of live objects, by the number of their cache
 abbrev pub Uses : Holdings → Option ℕ → Block → Type 0
 Uses h None b = Contains h.pages b
-Uses h (Some number) b = (c : ToldCache) × (place : ℕ) × Contains h.caches c × Contains c.live place × (c.number ≡ number) × (b ≡ slab_around c place)
+Uses h (Some number) b = (c : KnownCache) × (place : ℕ) × Contains h.caches c × Contains c.live place × (c.number ≡ number) × (b ≡ slab_around c place)
 
 -- these are aligned and in held slots, and two of them that share a frame are one; slots have 2 ^ order frames
 pub record LiesApart (order : ℕ) (h : Holdings) : Type 0 where
@@ -98,9 +98,9 @@ RefusedForCause = (w : Known) (s : State) (t k : ℕ) → slice_get w.states t �
 
 -- and for an object of a cache that is there, whatever was asked and answered before, if each reply was allowed
 abbrev pub TakeRefusedForCause : Type 0
-TakeRefusedForCause = (limit order superblocks tenants t number : ℕ) (es : List Exchange) (w : Known) (s : State) (c : ToldCache)
+TakeRefusedForCause = (limit order superblocks tenants t number : ℕ) (es : List Exchange) (w : Known) (s : State) (c : KnownCache)
     → all_allowed es (Ok (opening limit order superblocks tenants)) ≡ Ok w → slice_get w.states t ≡ Some s
-    → cache_told s.has number ≡ Some c → IsRefusedForCause w t (Asked.Take number) Say.Object
+    → known_cache s.has number ≡ Some c → IsRefusedForCause w t (Asked.Take number) Say.Object
 
 -- the commands by which a tenant uses its memory
 abbrev pub uses_memory : Command → Bool

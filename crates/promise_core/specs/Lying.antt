@@ -5,16 +5,16 @@ use Rattle.model_core.specs.Blocks.{Block, HasFrame, IsAligned}
 use Rattle.model_core.specs.Elements.{IsIn}
 use Rattle.model_core.specs.Layouts.{is_alignment}
 use Rattle.model_core.specs.Machine.{slot_of}
-use Rattle.promise_core.specs.Holdings.{ToldCache, Holdings, has_slot, slab_around}
+use Rattle.promise_core.specs.Holdings.{KnownCache, Holdings, has_slot, slab_around}
 use Rattle.promise_core.specs.Bytes.{Cell, Cells}
 
 -- the block is a live page block, or the slab of a live object of cache n
 abbrev pub Used : Holdings → Option ℕ → Block → Type 0
 Used h None b = IsIn b h.pages
-Used h (Some n) b = (c : ToldCache) × (p : ℕ) × IsIn c h.caches × IsIn p c.live × (c.number ≡ n) × (b ≡ slab_around c p)
+Used h (Some n) b = (c : KnownCache) × (p : ℕ) × IsIn c h.caches × IsIn p c.live × (c.number ≡ n) × (b ≡ slab_around c p)
 
 abbrev pub HaveOwnNumbers : Holdings → Type 0
-HaveOwnNumbers h = (c d : ToldCache) → IsIn c h.caches → IsIn d h.caches → c.number ≡ d.number → c ≡ d
+HaveOwnNumbers h = (c d : KnownCache) → IsIn c h.caches → IsIn d h.caches → c.number ≡ d.number → c ≡ d
 
 -- used blocks are aligned, lie in held slots, and share no frame unless they are one block of one user
 pub record IsLaid (order : ℕ) (h : Holdings) : Type 0 where
@@ -23,7 +23,7 @@ pub record IsLaid (order : ℕ) (h : Holdings) : Type 0 where
   pub numbers : HaveOwnNumbers h
 
 -- a slab of the cache fits into a slot, and its objects fit into the slab
-pub record IsFitted (order : ℕ) (c : ToldCache) : Type 0 where
+pub record IsFitted (order : ℕ) (c : KnownCache) : Type 0 where
   pub of_slot : c.order ≤ order
   pub sized : 1 ≤ c.size
   pub chunked : c.size ≤ c.chunk
@@ -33,14 +33,14 @@ pub record IsFitted (order : ℕ) (c : ToldCache) : Type 0 where
   pub aligned : is_alignment c.align ≡ true
 
 -- the live objects in the slab that begins at frame f
-abbrev pub live_of_slab : ToldCache → ℕ → List ℕ
+abbrev pub live_of_slab : KnownCache → ℕ → List ℕ
 live_of_slab c f = filter (λ p. (slab_around c p).first == f) c.live
 
-abbrev pub OnGrid : ToldCache → ℕ → ℕ → Type 0
+abbrev pub OnGrid : KnownCache → ℕ → ℕ → Type 0
 OnGrid c origin p = (j : ℕ) × (j < c.count) × (p ≡ origin + j * c.chunk)
 
 -- the live objects of the slab at frame f lie one chunk apart, counted from an aligned origin, inside the slab
-pub record HasGrid (c : ToldCache) (f : ℕ) : Type 0 where
+pub record HasGrid (c : KnownCache) (f : ℕ) : Type 0 where
   pub origin : ℕ
   pub aligned : origin % c.align ≡ 0
   pub low : 4096 * f ≤ origin
@@ -48,12 +48,12 @@ pub record HasGrid (c : ToldCache) (f : ℕ) : Type 0 where
   pub on : (p : ℕ) → IsIn p c.live → (slab_around c p).first ≡ f → OnGrid c origin p
   pub few : length (live_of_slab c f) ≤ c.count
 
-pub record IsGridded (order : ℕ) (c : ToldCache) : Type 0 where
+pub record IsGridded (order : ℕ) (c : KnownCache) : Type 0 where
   pub fitted : IsFitted order c
   pub grids : (f : ℕ) → HasGrid c f
 
 abbrev pub AllGridded : ℕ → Holdings → Type 0
-AllGridded order h = (c : ToldCache) → IsIn c h.caches → IsGridded order c
+AllGridded order h = (c : KnownCache) → IsIn c h.caches → IsGridded order c
 
 -- what was left is of held slots; slots have 2 ^ order frames
 abbrev pub AreOfHeld : ℕ → Holdings → Cells → Type 0

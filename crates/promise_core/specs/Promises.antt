@@ -24,7 +24,7 @@ use Rattle.words_core.specs.declared.reply.Refusal.{Refusal}
 use Rattle.words_core.specs.declared.reply.Reply.{Reply}
 use Rattle.world_core.specs.World.{Exchange}
 use Rattle.promise_core.specs.declared.promise.Promise.{Promise}
-use Rattle.promise_core.specs.Holdings.{ToldCache, Holdings, has_slot, cache_told, can_stand, vacant_blocks, has_room, is_slot_busy, live_beside, is_slab_full, can_be_taken}
+use Rattle.promise_core.specs.Holdings.{KnownCache, Holdings, has_slot, known_cache, can_stand, vacant_blocks, has_room, is_slot_busy, live_beside, is_slab_full, can_be_taken}
 use Rattle.promise_core.specs.Bytes.{may_all_be, holder_of}
 use Rattle.promise_core.specs.State.{State, Known, opening_state, is_in_use, state_after, owners_after}
 
@@ -54,10 +54,10 @@ due (On.Tenant t (Asked.Write place bytes)) w s =
     first_due ((is_none (holder_of s.has place (length bytes.items)), Refusal.OutOfReach) ∷ [])
 due (On.Tenant t (Asked.Cache size align pattern)) w s = first_due ((not (is_size size), Refusal.BadSize)
     ∷ (not (is_alignment align), Refusal.BadAlign) ∷ (nat_le w.limit (length s.has.caches), Refusal.NoCacheSlot) ∷ [])
-due (On.Tenant t (Asked.Destroy number)) w s = let cache = cache_told s.has number in
+due (On.Tenant t (Asked.Destroy number)) w s = let cache = known_cache s.has number in
     first_due ((is_none cache, Refusal.NoCache) ∷ (is_in_use cache, Refusal.CacheInUse) ∷ [])
-due (On.Tenant t (Asked.Take number)) w s = first_due ((is_none (cache_told s.has number), Refusal.NoCache) ∷ [])
-due (On.Tenant t (Asked.Give number place)) w s = let cache = cache_told s.has number in first_due ((is_none cache, Refusal.NoCache)
+due (On.Tenant t (Asked.Take number)) w s = first_due ((is_none (known_cache s.has number), Refusal.NoCache) ∷ [])
+due (On.Tenant t (Asked.Give number place)) w s = let cache = known_cache s.has number in first_due ((is_none cache, Refusal.NoCache)
     ∷ (not (option_map_or (λ c. list_any (λ p. p == place) c.live) cache false), Refusal.NotAnObject) ∷ [])
 due (On.Admin (Do.Grant t)) w s = first_due ((list_all is_some w.owners, Refusal.PoolEmpty) ∷ [])
 due (On.Admin (Do.TakeBack t u)) w s =
@@ -76,21 +76,21 @@ refusals event (Say.Refused refusal) w s =
 refusals event body w s = is_none (due event w s)
 
 -- all objects in the cache's slabs are live, and there is no room for another slab
-abbrev pub is_used_up : ℕ → Holdings → ToldCache → Bool
+abbrev pub is_used_up : ℕ → Holdings → KnownCache → Bool
 is_used_up order h c = list_all (is_slab_full c) c.live && not (has_room order h c.order)
 
 -- there are no frames where there is no room
 abbrev pub room : Event → Body → Known → State → Bool
 room (On.Tenant t (Asked.Alloc k)) (Say.Refused Refusal.NoFrames) w s = not (has_room w.order s.has k)
 room (On.Tenant t (Asked.Take number)) (Say.Refused Refusal.NoFrames) w s =
-    option_map_or (is_used_up w.order s.has) (cache_told s.has number) false
+    option_map_or (is_used_up w.order s.has) (known_cache s.has number) false
 room event (Say.Refused Refusal.NoFrames) w s = false
 room event body w s = true
 
 -- a slot is busy where a frame of it is taken, or a slab without live objects may stand
 abbrev pub busy : Event → Body → Known → State → Bool
 busy (On.Admin (Do.TakeBack t u)) (Say.Refused Refusal.SlotBusy) w s =
-    is_slot_busy w.order s.has u || list_any (λ c. s.hides c.number) s.has.caches
+    is_slot_busy w.order s.has u || list_any (λ c. s.may_have_empty c.number) s.has.caches
 busy event (Say.Refused Refusal.SlotBusy) w s = false
 busy event body w s = true
 
@@ -100,20 +100,20 @@ blocks event body w s = true
 
 abbrev pub objects : Event → Body → Known → State → Bool
 objects (On.Tenant t (Asked.Take number)) (Say.Object place) w s =
-    option_map_or (λ c. can_be_taken w.order s.has c place) (cache_told s.has number) false
+    option_map_or (λ c. can_be_taken w.order s.has c place) (known_cache s.has number) false
 objects event body w s = true
 
 -- a new cache has a number of its own, and its objects fit into a slab at each of its colours
 abbrev pub new_layout : Event → Body → Known → State → Bool
 new_layout (On.Tenant t (Asked.Cache size align pattern)) (Say.Cache number chunk q n colours) w s =
-    (nat_lt number w.limit && is_none (cache_told s.has number)) && ((nat_le size chunk && (chunk % align == 0 && nat_le q w.order))
+    (nat_lt number w.limit && is_none (known_cache s.has number)) && ((nat_le size chunk && (chunk % align == 0 && nat_le q w.order))
     && ((nat_le 1 n && nat_le 1 colours) && nat_le (align * (colours - 1) + n * chunk) (FRAME_BYTES * 2 ^ q)))
 new_layout event body w s = true
 
 -- no more frames than are not taken, out of slabs of these caches that may stand
-abbrev pub can_come_back : ℕ → List ToldCache → ℕ → State → Bool
+abbrev pub can_come_back : ℕ → List KnownCache → ℕ → State → Bool
 can_come_back order caches frames s = frames == 0 || (nat_le frames (length (vacant_blocks order s.has 0))
-    && list_any (λ c. s.hides c.number && frames % 2 ^ c.order == 0) caches)
+    && list_any (λ c. s.may_have_empty c.number && frames % 2 ^ c.order == 0) caches)
 
 abbrev pub gives : Event → Body → Known → State → Bool
 gives (On.Tenant t (Asked.Free f)) (Say.Freed k) w s = option_eq (λ i j. i == j) (order_in s.has.pages f) (Some k)
@@ -150,16 +150,16 @@ frames_of_counts [] = 0
 frames_of_counts (n ∷ ns) = n + 2 * frames_of_counts ns
 
 -- how many slabs have a live object and pass the test, which is of the first one
-abbrev pub count_slabs : (ℕ → Bool) → ToldCache → ℕ
+abbrev pub count_slabs : (ℕ → Bool) → KnownCache → ℕ
 count_slabs test c = length (filter (λ p. slice_index (live_beside c p) 0 == p && test p) c.live)
 
-abbrev pub is_row : (ℕ → Bool) → ToldCache × CacheRow → Bool
-is_row hides (c, row) = ((row.cache == c.number && row.live == length c.live) && (row.empty == 0 || hides c.number))
+abbrev pub is_row : (ℕ → Bool) → KnownCache × CacheRow → Bool
+is_row may_have_empty (c, row) = ((row.cache == c.number && row.live == length c.live) && (row.empty == 0 || may_have_empty c.number))
     && (row.full == count_slabs (is_slab_full c) c && row.partial == count_slabs (λ p. not (is_slab_full c p)) c)
 
 -- how many blocks of order k are taken
-abbrev pub told_count : Holdings → List CacheRow → ℕ → ℕ
-told_count h rows k = length (filter (λ b. b.order == k) h.pages)
+abbrev pub known_count : Holdings → List CacheRow → ℕ → ℕ
+known_count h rows k = length (filter (λ b. b.order == k) h.pages)
     + sum_by (λ p. if p.0.order == k then p.1.full + p.1.partial + p.1.empty else 0) (zip h.caches rows)
 
 -- there are a row of each order and of each cache; the figures are those of the state, and the free blocks such as there can be
@@ -172,8 +172,8 @@ report (On.Tenant t Asked.Report) (Say.Report r) w s =
     ∷ (r.frames == length s.has.slots * 2 ^ w.order) ∷ (r.live + r.free == r.frames) ∷ (r.free == frames_of_counts free)
     ∷ (r.live == frames_of_counts taken)
     ∷ option_eq (λ i j. i == j) r.top (greatest (slice_index free) (w.order + 1)) ∷ (r.split == split_share r.free r.top)
-    ∷ list_all (is_row s.hides) (zip s.has.caches r.caches.items)
-    ∷ list_all (λ k. slice_index taken k == told_count s.has r.caches.items k) orders
+    ∷ list_all (is_row s.may_have_empty) (zip s.has.caches r.caches.items)
+    ∷ list_all (λ k. slice_index taken k == known_count s.has r.caches.items k) orders
     ∷ list_all (λ k. nat_le (frames_of_counts (drop k free)) (length (vacant_blocks w.order s.has k))) orders ∷ [])
 report event body w s = true
 

@@ -14,19 +14,19 @@ use Rattle.words_core.specs.declared.report.Report.{Report}
 use Rattle.words_core.specs.declared.reply.Body.{Body}
 use Rattle.words_core.specs.declared.reply.Body.TheVariants as Say
 use Rattle.world_core.specs.World.{given_up}
-use Rattle.promise_core.specs.Holdings.{ToldCache, Holdings, cache_told, with_live_places, slab_around, are_apart}
+use Rattle.promise_core.specs.Holdings.{KnownCache, Holdings, known_cache, with_live_places, slab_around, are_apart}
 use Rattle.promise_core.specs.Bytes.{Holder, is_object, is_same, Cells, with_bytes, doubted, without, holder_of}
 
--- of a tenant: of the caches that pass `hides` a slab without live objects may stand; `told` is the last report, while it stands
+-- Of a tenant: the caches that pass `may_have_empty` may have a slab without live objects; `told` is the last report, while it holds.
 pub record State : Type 0 where
   pub has : Holdings
   pub cells : Cells
-  pub hides : ℕ → Bool
+  pub may_have_empty : ℕ → Bool
   pub told : Option Report
 
 unfoldable pub opening_state : State
 opening_state =
-    record { has = record { slots = []; pages = []; caches = [] }; cells = λ place. None; hides = λ n. false; told = None }
+    record { has = record { slots = []; pages = []; caches = [] }; cells = λ place. None; may_have_empty = λ n. false; told = None }
 
 -- by superblock the tenant and the slot that own it, by tenant its state; limit on its caches, slots have 2 ^ order frames
 pub record Known : Type 0 where
@@ -40,14 +40,14 @@ opening limit order superblocks tenants =
     record { limit = limit; order = order; owners = replicate superblocks None; states = replicate tenants opening_state }
 
 -- a cache has a live object
-abbrev pub is_in_use : Option ToldCache → Bool
+abbrev pub is_in_use : Option KnownCache → Bool
 is_in_use cache = option_map_or (λ c. nat_lt 0 (length c.live)) cache false
 
 abbrev pub with_range : ℕ → List ℕ → State → Option Holder → State
 with_range place bytes s holder = record s { cells = option_map_or (λ x. with_bytes x place bytes s.cells) holder s.cells }
 
 -- an object taken at `first` has its slab to itself and to others of its cache: what else was left there is gone
-abbrev pub with_object : ℕ → Option ToldCache → Cells → Cells
+abbrev pub with_object : ℕ → Option KnownCache → Cells → Cells
 with_object first cache cells = option_map_or (λ c. without (λ place holder. in_block place (slab_around c first)
     && not (is_object (λ n p. n == c.number && (p == first || are_apart c first p)) holder)) cells) cache cells
 
@@ -69,7 +69,7 @@ state_after order (On.Tenant t (Asked.Read place len)) (Say.Bytes bytes) s =
 state_after order (On.Tenant t (Asked.Write place bytes)) (Say.Written n) s =
     Some (with_range place bytes.items s (holder_of s.has place n))
 state_after order (On.Tenant t (Asked.Cache size align pattern)) (Say.Cache number chunk q n colours) s =
-    let c : ToldCache = record {
+    let c : KnownCache = record {
       number = number;
       size = size;
       align = align;
@@ -83,17 +83,17 @@ state_after order (On.Tenant t (Asked.Cache size align pattern)) (Say.Cache numb
 state_after order (On.Tenant t (Asked.Destroy number)) (Say.Destroyed frames) s =
     let caches = filter (λ c. not (c.number == number)) s.has.caches in
     let cells = without (λ place. is_object (λ n p. n == number)) s.cells in
-    Some (record { has = record s.has { caches = caches }; cells = cells; hides = λ n. not (n == number) && s.hides n; told = None })
+    Some (record { has = record s.has { caches = caches }; cells = cells; may_have_empty = λ n. not (n == number) && s.may_have_empty n; told = None })
 state_after order (On.Tenant t (Asked.Take number)) (Say.Object place) s =
     let has = with_live_places number (put_rising (λ p. p) place) s.has in
-    let cells = with_object place (cache_told s.has number) s.cells in
-    Some (record { has = has; cells = cells; hides = λ n. n == number || s.hides n; told = None })
+    let cells = with_object place (known_cache s.has number) s.cells in
+    Some (record { has = has; cells = cells; may_have_empty = λ n. n == number || s.may_have_empty n; told = None })
 state_after order (On.Tenant t (Asked.Give number place)) Say.Given s =
     let has = with_live_places number (filter (λ p. not (p == place))) s.has in
     Some (record s { has = has; cells = doubted (λ p. is_same (Holder.Object number place)) s.cells; told = None })
 state_after order (On.Tenant t Asked.Reap) (Say.Reaped frames) s =
     let cells = without (λ place. is_object (is_in_no_slab s.has)) s.cells in
-    Some (record s { cells = cells; hides = λ n. is_in_use (cache_told s.has n); told = None })
+    Some (record s { cells = cells; may_have_empty = λ n. is_in_use (known_cache s.has n); told = None })
 state_after order (On.Tenant t Asked.Report) (Say.Report r) s = Some (record s { told = Some r })
 state_after order (On.Admin (Do.Grant t)) (Say.Granted named u superblock) s =
     Some (record s { has = record s.has { slots = put_rising (λ v. v) u s.has.slots }; told = None })

@@ -68,7 +68,7 @@ module _ {limit : ℕ} (order k first : ℕ) (s : State) (n : Machine) (w : IsWe
   unfolding holdings_of
   alloc_meets = record {
     has = ap (λ (x : Holdings). record x { pages = put_rising (λ y. y.first) (block first k) x.pages }) h.has;
-    hides = h.hides;
+    may_have_empty = h.may_have_empty;
     lives = λ place cell e sure. let was = without_some (left_there (block first k)) s.cells place cell e in
         lives_on (block first k) s.has cell.holder place (h.lives place cell was.0 sure);
     page_bytes = λ place byte out there. without_may (left_there (block first k)) s.cells Holder.Page place 0 byte

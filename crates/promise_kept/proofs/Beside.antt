@@ -17,7 +17,7 @@ use Rattle.model_core.proofs.Objects.{IsByteOf, byte_is_of}
 use Rattle.model_core.proofs.ObjectsApart.{one_key}
 use Rattle.model_core.proofs.Rising.{same_members}
 use Rattle.promise_core.specs.Holdings.{slab_around, live_beside}
-use Rattle.promise_kept.specs.Meets.{told_cache}
+use Rattle.promise_kept.specs.Meets.{cache_as_known}
 use Rattle.promise_core.proofs.Grids.{around_is}
 use Rattle.promise_kept.proofs.Live.{IsSlab, slabs_of, slabs_rise, live_rises, IsLivePlace, live_place, place_listed}
 
@@ -85,14 +85,14 @@ beside_at c s u i = let l : IsLivePlace (alone c s) u = live_place (alone c s) u
 
 -- the slab told by this place is the one told by the other
 abbrev is_here : Cache → ℕ → ℕ → Bool
-is_here c place p = eqb (slab_around (told_cache c) p).first (slab_around (told_cache c) place).first
+is_here c place p = eqb (slab_around (cache_as_known c) p).first (slab_around (cache_as_known c) place).first
 
 module _ {limit : ℕ} (order : ℕ) (c : Cache) (m : Machine) (w : IsWellFormed limit order m) (in_c : IsIn c m.caches) where
   pub is_slab : (s : Slab) → IsIn s c.slabs → IsSlab c s
   is_slab s in_s = each_in (IsSlab c) s c.slabs (slabs_of c (each_in IsCache c m.caches w.caches in_c)) in_s
 
   -- the slab that is told by the place of an object, live or not, is its slab
-  pub slab_here : (s : Slab) (i : ℕ) → IsIn s c.slabs → i < (layout c).count → slab_around (told_cache c) (object_place (layout c) s.first s.colour i) ≡ slab_block c s
+  pub slab_here : (s : Slab) (i : ℕ) → IsIn s c.slabs → i < (layout c).count → slab_around (cache_as_known c) (object_place (layout c) s.first s.colour i) ≡ slab_block c s
   slab_here s i in_s lt =
       let p : ℕ = object_place (layout c) s.first s.colour i in
       let k : Laid = laid c s in
@@ -102,13 +102,13 @@ module _ {limit : ℕ} (order : ℕ) (c : Cache) (m : Machine) (w : IsWellFormed
       let byte : IsByteOf k i 0 p = byte_is_of k cut i 0 p (record { index_in = lt; byte_in = cut.fit.sized; at = omega arith }) in
       around_is (slab_block c s) (p / 4096) (each_in _ k (all_laid m.caches) l.placed_slabs j).0.1 (in_block-true p (laid_block k) byte.in_slab)
 
-  pub slab_of_live : (u : ℕ) (l : IsLivePlace c u) → slab_around (told_cache c) u ≡ slab_block c l.slab
-  slab_of_live u l = ap (λ p. slab_around (told_cache c) p) l.at
+  pub slab_of_live : (u : ℕ) (l : IsLivePlace c u) → slab_around (cache_as_known c) u ≡ slab_block c l.slab
+  slab_of_live u l = ap (λ p. slab_around (cache_as_known c) p) l.at
       ∙ slab_here l.slab l.index l.slab_in (subst (λ n. l.index < n) (is_slab l.slab l.slab_in).count l.index_in)
 
   -- those beside an object, live or not, are those of its slab
-  pub beside_is : (s : Slab) (i : ℕ) → IsIn s c.slabs → i < (layout c).count → live_beside (told_cache c) (object_place (layout c) s.first s.colour i) ≡ places_in c s
-  beside_is s i in_s lt = same_members 0 (live_beside (told_cache c) place) (places_in c s)
+  pub beside_is : (s : Slab) (i : ℕ) → IsIn s c.slabs → i < (layout c).count → live_beside (cache_as_known c) (object_place (layout c) s.first s.colour i) ≡ places_in c s
+  beside_is s i in_s lt = same_members 0 (live_beside (cache_as_known c) place) (places_in c s)
       (subst (RisesFrom 0) (map-id (filter (is_here c place) live)) (filter_rises (λ p. p) (is_here c place) 0 live (subst (RisesFrom 0) (sym (map-id live)) (live_rises order c m w in_c))))
       (slabs_rise (alone c s) (s ∷ []) 0 0 (record { fit = (is_slab s in_s).fit; count = (is_slab s in_s).count }, tt) (omega arith, tt) (tt, tt) (omega arith, tt))
       there back
@@ -119,17 +119,17 @@ module _ {limit : ℕ} (order : ℕ) (c : Cache) (m : Machine) (w : IsWellFormed
       live : List ℕ
       live = map (λ o. o.place) (live_objects c)
 
-      there : (u : ℕ) → IsIn u (live_beside (told_cache c) place) → IsIn u (places_in c s)
+      there : (u : ℕ) → IsIn u (live_beside (cache_as_known c) place) → IsIn u (places_in c s)
       there u j =
           let f : IsIn u live × (is_here c place u ≡ true) = filter_in (is_here c place) u live j in
           let l : IsLivePlace c u = live_place c u f.0 in
-          let first : l.slab.first ≡ s.first = sym (ap (λ b. b.first) (slab_of_live u l)) ∙ (eqb-true (slab_around (told_cache c) u).first (slab_around (told_cache c) place).first f.1 ∙ ap (λ b. b.first) (slab_here s i in_s lt)) in
+          let first : l.slab.first ≡ s.first = sym (ap (λ b. b.first) (slab_of_live u l)) ∙ (eqb-true (slab_around (cache_as_known c) u).first (slab_around (cache_as_known c) place).first f.1 ∙ ap (λ b. b.first) (slab_here s i in_s lt)) in
           let same : l.slab ≡ s = one_key (λ x. x.first) 0 c.slabs l.slab s (each_in IsCache c m.caches w.caches in_c).slabs_rise l.slab_in in_s first in
           place_listed (alone c s) u (record { slab = l.slab; index = l.index; slab_in = inl (sym same); index_in = l.index_in; live = l.live; at = l.at })
 
-      back : (u : ℕ) → IsIn u (places_in c s) → IsIn u (live_beside (told_cache c) place)
+      back : (u : ℕ) → IsIn u (places_in c s) → IsIn u (live_beside (cache_as_known c) place)
       back u j =
           let b : IsBeside c s u = beside_at c s u j in
           let l : IsLivePlace c u = record { slab = s; index = b.index; slab_in = in_s; index_in = b.index_in; live = b.live; at = b.at } in
           in_filter (is_here c place) u live (place_listed c u l)
-          (eq-eqb (slab_around (told_cache c) u).first (slab_around (told_cache c) place).first (ap (λ b. b.first) (slab_of_live u l) ∙ sym (ap (λ b. b.first) (slab_here s i in_s lt))))
+          (eq-eqb (slab_around (cache_as_known c) u).first (slab_around (cache_as_known c) place).first (ap (λ b. b.first) (slab_of_live u l) ∙ sym (ap (λ b. b.first) (slab_here s i in_s lt))))

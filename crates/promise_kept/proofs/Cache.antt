@@ -16,10 +16,10 @@ use Rattle.model_core.proofs.Lists.{in_put, any_with, each_map, least_is_missing
 use Rattle.model_core.proofs.Laid.{in_slab_laid, in_laid}
 use Rattle.model_core.proofs.ObjectsApart.{contains_in, in_contains}
 use Rattle.model_core.proofs.PageSteps.{created_laid}
-use Rattle.promise_core.specs.Holdings.{ToldCache, Holdings, cache_told}
+use Rattle.promise_core.specs.Holdings.{KnownCache, Holdings, known_cache}
 use Rattle.promise_core.specs.Bytes.{Holder}
 use Rattle.promise_core.specs.State.{State, state_after}
-use Rattle.promise_kept.specs.Meets.{told_cache, holdings_of, is_object_live, Meets, IsKeptBy, IsPromiseKept}
+use Rattle.promise_kept.specs.Meets.{cache_as_known, holdings_of, is_object_live, Meets, IsKeptBy, IsPromiseKept}
 use Rattle.std.proofs.lemmas.List.{length-map}
 use Rattle.model_core.proofs.Layouts.{layouts_fit}
 use Rattle.words_core.specs.declared.event.Event.TheVariants as On
@@ -47,15 +47,15 @@ few_below n limit [] le r each = omega arith
 few_below n limit (x ∷ xs) le (l, r) (b, each) = let rest = few_below (x + 1) limit xs (omega arith) r each in omega (arith, rest, l)
 
 -- the new cache, as it is told
-new_told : (c : Cache) (cs : List Cache) → map told_cache (put_rising (λ x. x.number) c cs) ≡ put_rising (λ (x : ToldCache). x.number) (told_cache c) (map told_cache cs)
+new_told : (c : Cache) (cs : List Cache) → map cache_as_known (put_rising (λ x. x.number) c cs) ≡ put_rising (λ (x : KnownCache). x.number) (cache_as_known c) (map cache_as_known cs)
 new_told c [] = refl
 new_told c (d ∷ cs) = go (ltb c.number d.number) (new_told c cs)
   where
-    go : (b : Bool) → map told_cache (put_rising (λ x. x.number) c cs) ≡ put_rising (λ (x : ToldCache). x.number) (told_cache c) (map told_cache cs)
-        → map told_cache (if b then c ∷ (d ∷ cs) else d ∷ put_rising (λ x. x.number) c cs)
-        ≡ (if b then told_cache c ∷ (told_cache d ∷ map told_cache cs) else told_cache d ∷ put_rising (λ (x : ToldCache). x.number) (told_cache c) (map told_cache cs))
+    go : (b : Bool) → map cache_as_known (put_rising (λ x. x.number) c cs) ≡ put_rising (λ (x : KnownCache). x.number) (cache_as_known c) (map cache_as_known cs)
+        → map cache_as_known (if b then c ∷ (d ∷ cs) else d ∷ put_rising (λ x. x.number) c cs)
+        ≡ (if b then cache_as_known c ∷ (cache_as_known d ∷ map cache_as_known cs) else cache_as_known d ∷ put_rising (λ (x : KnownCache). x.number) (cache_as_known c) (map cache_as_known cs))
     go true e = refl
-    go false e = ap (λ ts. told_cache d ∷ ts) e
+    go false e = ap (λ ts. cache_as_known d ∷ ts) e
 
 missing_all : (n limit : ℕ) (xs : List ℕ) → RisesFrom n xs → Each (λ x. x < limit) xs → limit ≤ n + length xs → least_missing n xs ≡ n + length xs
 missing_all n limit [] r each le = omega arith
@@ -68,7 +68,7 @@ missing_all n limit (x ∷ xs) (l, r) (b, each) le =
 -- all numbers below the limit are used where there are as many caches
 full_seen : (limit order : ℕ) (m : Machine) (s : State) → IsWellFormed limit order m → Meets order s m → leb limit (length s.has.caches) ≡ leb limit (next_number m)
 unfolding next_number holdings_of
-full_seen limit order m s w h = ap (λ (x : Holdings). leb limit (length x.caches)) h.has ∙ (ap (leb limit) (length-map m.caches told_cache) ∙ go (leb limit (least_missing 0 numbers)) refl)
+full_seen limit order m s w h = ap (λ (x : Holdings). leb limit (length x.caches)) h.has ∙ (ap (leb limit) (length-map m.caches cache_as_known) ∙ go (leb limit (least_missing 0 numbers)) refl)
   where
     numbers : List ℕ
     numbers = map (λ c. c.number) m.caches
@@ -82,16 +82,16 @@ full_seen limit order m s w h = ap (λ (x : Holdings). leb limit (length x.cache
         let all : least_missing 0 numbers ≡ 0 + length numbers = missing_all 0 limit numbers w.caches_rise (each_map (λ x. x < limit) (λ c. c.number) m.caches w.numbered) (omega (arith, many, leb-true limit (length m.caches) t)) in
         absurd (omega (arith, all, many, leb-true limit (length m.caches) t, leb-false limit (least_missing 0 numbers) e))) ∙ sym e
 
-unseen : (n : ℕ) (cs : List Cache) → Each (λ x. x ≢ n) (map (λ c. c.number) cs) → find (λ (c : ToldCache). eqb c.number n) (map told_cache cs) ≡ None
+unseen : (n : ℕ) (cs : List Cache) → Each (λ x. x ≢ n) (map (λ c. c.number) cs) → find (λ (c : KnownCache). eqb c.number n) (map cache_as_known cs) ≡ None
 unseen n [] e = refl
-unseen n (c ∷ cs) (ne, e) = ap (λ b. if b then Some (told_cache c) else find (λ (x : ToldCache). eqb x.number n) (map told_cache cs)) (ne_eqb c.number n ne) ∙ unseen n cs e
+unseen n (c ∷ cs) (ne, e) = ap (λ b. if b then Some (cache_as_known c) else find (λ (x : KnownCache). eqb x.number n) (map cache_as_known cs)) (ne_eqb c.number n ne) ∙ unseen n cs e
 
 module _ (limit order size align : ℕ) (pattern : ArrayVec ℕ) (m : Machine) (s : State) (w : IsWellFormed limit order m) (h : Meets order s m) where
   abbrev new : Cache
   new = record { number = next_number m; size = size; align = align; pattern = pattern.items; made = 0; slabs = [] }
 
   abbrev after_cache : State
-  after_cache = record s { has = record s.has { caches = put_rising (λ (x : ToldCache). x.number) (told_cache new) s.has.caches }; told = None }
+  after_cache = record s { has = record s.has { caches = put_rising (λ (x : KnownCache). x.number) (cache_as_known new) s.has.caches }; told = None }
 
   old : (c : Cache) (t : Slab) → IsIn c (created (next_number m) size align pattern.items m).caches → IsIn t c.slabs → IsIn c m.caches
   old c t in_c in_t = go (in_put (λ x. x.number) new c m.caches in_c)
@@ -102,14 +102,14 @@ module _ (limit order size align : ℕ) (pattern : ArrayVec ℕ) (m : Machine) (
 
   cells_live : (holder : Holder) (place : ℕ) → is_object_live s.has holder place ≡ true → is_object_live after_cache.has holder place ≡ true
   cells_live Holder.Page place e = e
-  cells_live (Holder.Object n first) place e = any_with (λ c. eqb c.number n && list_any (λ p. eqb p first) c.live) (λ c. c.number) (told_cache new) s.has.caches e
+  cells_live (Holder.Object n first) place e = any_with (λ c. eqb c.number n && list_any (λ p. eqb p first) c.live) (λ c. c.number) (cache_as_known new) s.has.caches e
 
   cache_meets : Meets order after_cache (created (next_number m) size align pattern.items m)
   unfolding holdings_of
   cache_meets = record {
-    has = ap (λ (x : Holdings). record x { caches = put_rising (λ (y : ToldCache). y.number) (told_cache new) x.caches }) h.has
+    has = ap (λ (x : Holdings). record x { caches = put_rising (λ (y : KnownCache). y.number) (cache_as_known new) x.caches }) h.has
         ∙ ap (λ cs. record (holdings_of m) { caches = cs }) (sym (new_told new m.caches));
-    hides = λ c t in_c in_t. h.hides c t (in_contains c m.caches (old c t (contains_in _ c in_c) (contains_in c.slabs t in_t))) in_t;
+    may_have_empty = λ c t in_c in_t. h.may_have_empty c t (in_contains c m.caches (old c t (contains_in _ c in_c) (contains_in c.slabs t in_t))) in_t;
     lives = λ place cell e sure. cells_live cell.holder place (h.lives place cell e sure);
     page_bytes = λ place byte out there. h.page_bytes place byte
         (in_slab_laid m place ∙ (ap (λ ls. list_any (in_laid place) ls) (sym (created_laid (next_number m) size align pattern.items m)) ∙ (sym (in_slab_laid (created (next_number m) size align pattern.items m) place) ∙ out))) there;
@@ -158,7 +158,7 @@ module _ (limit order size align : ℕ) (pattern : ArrayVec ℕ) (m : Machine) (
   unfolding due state_after laid holdings_of next_number
   cache_made large sized aligned below =
       let seen : leb limit (length s.has.caches) ≡ false = full_seen limit order m s w h ∙ below in
-      let other : cache_told s.has (next_number m) ≡ None = ap (λ (x : Holdings). find (λ (c : ToldCache). eqb c.number (next_number m)) x.caches) h.has
+      let other : known_cache s.has (next_number m) ≡ None = ap (λ (x : Holdings). find (λ (c : KnownCache). eqb c.number (next_number m)) x.caches) h.has
       ∙ unseen (next_number m) m.caches (least_is_missing 0 (map (λ c. c.number) m.caches) w.caches_rise) in
       record {
         allowed = λ t owners states. all_kept (On.Tenant t (Asked.Cache size align pattern)) (record { addressee = To.Tenant t; body = Say.Cache (next_number m) laid.chunk laid.order laid.count laid.colours })

@@ -23,7 +23,7 @@ use Rattle.model_core.proofs.Split.{is_empty_laid, kept_laid, gone_laid}
 use Rattle.model_core.proofs.PageSteps.{reaped_kept}
 use Rattle.model_core.proofs.Objects.{IsPageByte, page_apart}
 use Rattle.model_core.proofs.Room.{in_range}
-use Rattle.promise_core.specs.Holdings.{told_blocks, is_vacant, blocks_of_slot, vacant_blocks}
+use Rattle.promise_core.specs.Holdings.{known_blocks, is_vacant, blocks_of_slot, vacant_blocks}
 use Rattle.promise_core.proofs.Grids.{listed}
 use Rattle.promise_kept.specs.Meets.{holdings_of}
 use Rattle.promise_kept.proofs.Seen.{holdings_reaped}
@@ -65,7 +65,7 @@ module _ (limit order : ℕ) (m : Machine) (w : IsWellFormed limit order m) wher
   laid_m = laid_out order m w
 
   -- no block that is seen as taken has a frame of an empty slab
-  not_taken : (b t : Block) (x : ℕ) → IsIn b (flat_map empty_blocks m.caches) → IsIn t (told_blocks (holdings_of m)) → HasFrame b x → HasFrame t x → ⊥
+  not_taken : (b t : Block) (x : ℕ) → IsIn b (flat_map empty_blocks m.caches) → IsIn t (known_blocks (holdings_of m)) → HasFrame b x → HasFrame t x → ⊥
   unfolding model.taken_blocks reaped
   not_taken b t x in_b in_t has_b has_t =
       let place : ℕ = x * 4096 in
@@ -74,7 +74,7 @@ module _ (limit order : ℕ) (m : Machine) (w : IsWellFormed limit order m) wher
       ∙ any_in (in_block place) b (map laid_block list_empty) (subst (IsIn b) (gone_laid m.caches) in_b) (in_block-from place b (subst (HasFrame b) (sym here) has_b)) in
       let there : in_block place t ≡ true = in_block-from place t (subst (HasFrame t) (sym here) has_t) in
       go place gone there (in_append t m.blocks (flat_map slab_blocks (map without_empty m.caches))
-      (taken_seen order (reaped m) t (reaped_kept order m w) (subst (λ h. IsIn t (told_blocks h)) (sym (holdings_reaped m)) in_t)))
+      (taken_seen order (reaped m) t (reaped_kept order m w) (subst (λ h. IsIn t (known_blocks h)) (sym (holdings_reaped m)) in_t)))
     where
       list_empty : List Laid
       list_empty = filter is_empty_laid (all_laid m.caches)
@@ -111,7 +111,7 @@ module _ (limit order : ℕ) (m : Machine) (w : IsWellFormed limit order m) wher
       in_filter (is_vacant (holdings_of m)) (block x 0) (flat_map (blocks_of_slot order 0) m.slots)
       (in_flat_map (blocks_of_slot order 0) (block x 0) u.0 m.slots u.1 (subst (λ d. IsIn d (blocks_of_slot order 0 u.0)) same
       (in_map (λ i. block (i * 2 ^ 0) 0) x (range_with_len (u.0 * 2 ^ (order - 0)) (2 ^ (order - 0))) (in_range x (u.0 * 2 ^ (order - 0)) (2 ^ (order - 0)) (omega (arith, low, row)) (omega (arith, high, power, row))))))
-      (not_from_false (list_any (overlaps (block x 0)) (told_blocks (holdings_of m))) (any_none (overlaps (block x 0)) (told_blocks (holdings_of m)) (each_from (λ t. overlaps (block x 0) t ≡ false) (told_blocks (holdings_of m))
+      (not_from_false (list_any (overlaps (block x 0)) (known_blocks (holdings_of m))) (any_none (overlaps (block x 0)) (known_blocks (holdings_of m)) (each_from (λ t. overlaps (block x 0) t ≡ false) (known_blocks (holdings_of m))
       (λ t in_t. false_from_ne_true (overlaps (block x 0) t) (λ e. not_taken b t x i in_t has (shares x t e))))))
 
   -- empty slabs have no more frames than are seen as vacant

@@ -31,7 +31,7 @@ use Rattle.promise_core.specs.Bytes.{Holder, is_object, may_be, without}
 use Rattle.promise_core.specs.State.{State, state_after}
 use Rattle.promise_core.specs.Promises.{due, can_come_back, empty_frames}
 use Rattle.promise_core.proofs.Causes.{listed_some}
-use Rattle.promise_kept.specs.Meets.{told_cache, holdings_of, is_object_live, Meets, IsKeptBy, IsPromiseKept}
+use Rattle.promise_kept.specs.Meets.{cache_as_known, holdings_of, is_object_live, Meets, IsKeptBy, IsPromiseKept}
 use Rattle.promise_kept.proofs.Seen.{none_live}
 use Rattle.promise_kept.proofs.Stand.{one_live}
 use Rattle.promise_kept.proofs.Cells.{without_some, without_may, fresh_may, refused}
@@ -68,15 +68,15 @@ one_passes c cs f =
     ∙ (ap (λ b. (if b then empty_blocks c else []) ++ flat_map (empty_of (λ n. eqb n c.number)) f.later) (eq-eqb c.number c.number refl)
     ∙ (ap (λ bs. empty_blocks c ++ bs) (none_pass c.number f.later f.others_later) ∙ append-nil (empty_blocks c)))))
 
-filter_told : (k : ℕ) (cs : List Cache) → filter (λ c. not (eqb c.number k)) (map told_cache cs) ≡ map told_cache (filter (λ c. not (eqb c.number k)) cs)
+filter_told : (k : ℕ) (cs : List Cache) → filter (λ c. not (eqb c.number k)) (map cache_as_known cs) ≡ map cache_as_known (filter (λ c. not (eqb c.number k)) cs)
 filter_told k [] = refl
 filter_told k (c ∷ cs) = go (eqb c.number k) (filter_told k cs)
   where
-    go : (b : Bool) → filter (λ c. not (eqb c.number k)) (map told_cache cs) ≡ map told_cache (filter (λ c. not (eqb c.number k)) cs)
-        → cond (not b) (told_cache c ∷ filter (λ c. not (eqb c.number k)) (map told_cache cs)) (filter (λ c. not (eqb c.number k)) (map told_cache cs))
-        ≡ map told_cache (cond (not b) (c ∷ filter (λ c. not (eqb c.number k)) cs) (filter (λ c. not (eqb c.number k)) cs))
+    go : (b : Bool) → filter (λ c. not (eqb c.number k)) (map cache_as_known cs) ≡ map cache_as_known (filter (λ c. not (eqb c.number k)) cs)
+        → cond (not b) (cache_as_known c ∷ filter (λ c. not (eqb c.number k)) (map cache_as_known cs)) (filter (λ c. not (eqb c.number k)) (map cache_as_known cs))
+        ≡ map cache_as_known (cond (not b) (c ∷ filter (λ c. not (eqb c.number k)) cs) (filter (λ c. not (eqb c.number k)) cs))
     go true e = e
-    go false e = ap (λ ts. told_cache c ∷ ts) e
+    go false e = ap (λ ts. cache_as_known c ∷ ts) e
 
 module _ (limit order : ℕ) (c : Cache) (m : Machine) (s : State) (w : IsWellFormed limit order m) (h : Meets order s m) (in_c : IsIn c m.caches) (unused : list_any (λ s. not (is_empty s)) c.slabs ≡ false) where
   at : Found (λ c. c.number) c m.caches
@@ -85,20 +85,20 @@ module _ (limit order : ℕ) (c : Cache) (m : Machine) (s : State) (w : IsWellFo
   blocks_are : empty_blocks c ≡ slab_blocks c
   blocks_are = ap (λ ss. map (slab_block c) ss) (all_empty c.slabs unused)
 
-  comes_back : can_come_back order (filter (λ x. eqb x.number c.number) (map told_cache m.caches)) (frames_of (slab_blocks c)) (seen m s) ≡ true
+  comes_back : can_come_back order (filter (λ x. eqb x.number c.number) (map cache_as_known m.caches)) (frames_of (slab_blocks c)) (seen m s) ≡ true
   comes_back = go c.slabs refl
     where
       all : ℕ
       all = frames_of (slab_blocks c)
 
-      go : (ss : List Slab) → c.slabs ≡ ss → can_come_back order (filter (λ x. eqb x.number c.number) (map told_cache m.caches)) (frames_of (slab_blocks c)) (seen m s) ≡ true
+      go : (ss : List Slab) → c.slabs ≡ ss → can_come_back order (filter (λ x. eqb x.number c.number) (map cache_as_known m.caches)) (frames_of (slab_blocks c)) (seen m s) ≡ true
       go [] e = or_left (eqb all 0) _ (eq-eqb all 0 (ap (λ ss. frames_of (map (slab_block c) ss)) e))
-      go (t ∷ ts) e = or_right (eqb all 0) _ (and_from (leb all (length (vacant_blocks order (holdings_of m) 0))) (list_any (λ x. s.hides x.number && eqb (all % 2 ^ x.order) 0) (filter (λ x. eqb x.number c.number) (map told_cache m.caches)))
+      go (t ∷ ts) e = or_right (eqb all 0) _ (and_from (leb all (length (vacant_blocks order (holdings_of m) 0))) (list_any (λ x. s.may_have_empty x.number && eqb (all % 2 ^ x.order) 0) (filter (λ x. eqb x.number c.number) (map cache_as_known m.caches)))
           (le-leb all (length (vacant_blocks order (holdings_of m) 0)) (empty_vacant limit order m w (slab_blocks c) (apart_in order c m w in_c)
           (λ b i. in_flat_map empty_blocks b c m.caches in_c (subst (IsIn b) (sym blocks_are) i))))
-          (any_in (λ x. s.hides x.number && eqb (all % 2 ^ x.order) 0) (told_cache c) (filter (λ x. eqb x.number c.number) (map told_cache m.caches))
-          (in_filter (λ x. eqb x.number c.number) (told_cache c) (map told_cache m.caches) (in_map told_cache c m.caches in_c) (eq-eqb c.number c.number refl))
-          (and_from (s.hides c.number) (eqb (all % 2 ^ (layout c).order) 0) (h.hides c t (in_contains c m.caches in_c) (in_contains t c.slabs (subst (IsIn t) (sym e) (inl refl))))
+          (any_in (λ x. s.may_have_empty x.number && eqb (all % 2 ^ x.order) 0) (cache_as_known c) (filter (λ x. eqb x.number c.number) (map cache_as_known m.caches))
+          (in_filter (λ x. eqb x.number c.number) (cache_as_known c) (map cache_as_known m.caches) (in_map cache_as_known c m.caches in_c) (eq-eqb c.number c.number refl))
+          (and_from (s.may_have_empty c.number) (eqb (all % 2 ^ (layout c).order) 0) (h.may_have_empty c t (in_contains c m.caches in_c) (in_contains t c.slabs (subst (IsIn t) (sym e) (inl refl))))
           (eq-eqb (all % 2 ^ (layout c).order) 0 (frames_divide (layout c).order (slab_blocks c)
           (each_map (λ b. (layout c).order ≤ b.order) (slab_block c) c.slabs (each_true (λ x. (layout c).order ≤ (layout c).order) (λ x. omega arith) c.slabs)))))))
 
@@ -114,7 +114,7 @@ module _ (limit order : ℕ) (c : Cache) (m : Machine) (s : State) (w : IsWellFo
   after = record {
     has = record (holdings_of m) { caches = filter (λ x. not (eqb x.number c.number)) (holdings_of m).caches };
     cells = without (λ place. is_object (λ n p. eqb n c.number)) s.cells;
-    hides = λ n. not (eqb n c.number) && s.hides n;
+    may_have_empty = λ n. not (eqb n c.number) && s.may_have_empty n;
     told = None;
   }
 
@@ -175,7 +175,7 @@ module _ (limit order : ℕ) (c : Cache) (m : Machine) (s : State) (w : IsWellFo
   unfolding after
   meets = record {
     has = has_after;
-    hides = λ x t in_x in_t. let k : IsIn x m.caches × (not (eqb x.number c.number) ≡ true) = left x in_x in and_from (not (eqb x.number c.number)) (s.hides x.number) k.1 (h.hides x t (in_contains x m.caches k.0) in_t);
+    may_have_empty = λ x t in_x in_t. let k : IsIn x m.caches × (not (eqb x.number c.number) ≡ true) = left x in_x in and_from (not (eqb x.number c.number)) (s.may_have_empty x.number) k.1 (h.may_have_empty x t (in_contains x m.caches k.0) in_t);
     lives = λ p cell e sure. let k : (s.cells p ≡ Some cell) × (is_object (λ n q. eqb n c.number) cell.holder ≡ false) = without_some (λ place. is_object (λ n q. eqb n c.number)) s.cells p cell e in
         ap (λ x. is_object_live x cell.holder p) has_after ∙ still_live p cell.holder (ap (λ x. is_object_live x cell.holder p) (sym h.has) ∙ h.lives p cell k.0 sure) k.1;
     page_bytes = λ p byte out is. without_may (λ place. is_object (λ n q. eqb n c.number)) s.cells Holder.Page p 0 byte refl (page_at p byte out is);
@@ -188,7 +188,7 @@ module _ (limit order : ℕ) (c : Cache) (m : Machine) (s : State) (w : IsWellFo
   gave_back : cache_of m c.number ≡ Some c → IsKeptBy limit order (Asked.Destroy c.number) (seen m s) (Say.Destroyed (frames_of (slab_blocks c))) (destroyed c m)
   unfolding holdings_of due state_after after
   gave_back e = record {
-    allowed = λ t owners states. rw (eq-eqb t t refl) (rw (cache_seen c.number m.caches ∙ ap (option_map told_cache) e) (rw (ap (λ os. ltb 0 (length (map (λ o. o.place) os))) (none_in_use c c.slabs unused))
+    allowed = λ t owners states. rw (eq-eqb t t refl) (rw (cache_seen c.number m.caches ∙ ap (option_map cache_as_known) e) (rw (ap (λ os. ltb 0 (length (map (λ o. o.place) os))) (none_in_use c c.slabs unused))
         (and_from _ _ comes_back (and_from _ _ stays_told refl))));
     meets = λ t. (after, refl, meets);
   }
@@ -210,7 +210,7 @@ destroy_seen limit order number m s w h k = go (cache_of m number) refl
         → IsKeptBy limit order (Asked.Destroy number) (seen m s) (destroy_body (step c b).answer) (step c b).machine
     used c e true u =
         refused limit order (Asked.Destroy number) Refusal.CacheInUse (seen m s) m k
-        (λ t owners states. (rw (cache_seen number m.caches ∙ ap (option_map told_cache) e) (rw (in_use c u) refl), refl))
+        (λ t owners states. (rw (cache_seen number m.caches ∙ ap (option_map cache_as_known) e) (rw (in_use c u) refl), refl))
     used c e false u =
         let in_c : IsIn c m.caches × (eqb c.number number ≡ true) = find_in (λ x. eqb x.number number) c m.caches e in
         let same : c.number ≡ number = eqb-true c.number number in_c.1 in
@@ -220,7 +220,7 @@ destroy_seen limit order number m s w h k = go (cache_of m number) refl
     go : (o : Option Cache) → cache_of m number ≡ o → IsKeptBy limit order (Asked.Destroy number) (seen m s) (destroy_body (destroy_of m o).answer) (destroy_of m o).machine
     go None e =
         refused limit order (Asked.Destroy number) Refusal.NoCache (seen m s) m k
-        (λ t owners states. (rw (cache_seen number m.caches ∙ ap (option_map told_cache) e) refl, refl))
+        (λ t owners states. (rw (cache_seen number m.caches ∙ ap (option_map cache_as_known) e) refl, refl))
     go (Some c) e = used c e (list_any (λ s. not (is_empty s)) c.slabs) refl
 
 pub destroy_kept : (limit order number : ℕ) (m : Machine) (s : State) → IsWellFormed limit order m → Meets order s m → IsPromiseKept limit order (Asked.Destroy number) m s

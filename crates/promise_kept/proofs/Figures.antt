@@ -26,7 +26,7 @@ use Rattle.model_core.proofs.Chosen as chosen
 use Rattle.model_core.proofs.MemoryKept.{frame_slot}
 use Rattle.model_core.proofs.TakenSteps.{order_in_is}
 use Rattle.model_core.proofs.Room.{in_range}
-use Rattle.promise_core.specs.Holdings.{told_blocks, is_vacant, blocks_of_slot, vacant_blocks}
+use Rattle.promise_core.specs.Holdings.{known_blocks, is_vacant, blocks_of_slot, vacant_blocks}
 use Rattle.promise_core.specs.Promises.{frames_of_counts}
 use Rattle.promise_kept.specs.Meets.{holdings_of}
 use Rattle.promise_kept.proofs.Stand.{overlap_shares, taken_seen}
@@ -202,7 +202,7 @@ module _ {limit : ℕ} (order : ℕ) (m : Machine) (w : IsWellFormed limit order
       in_filter (is_vacant (holdings_of m)) b (flat_map (blocks_of_slot order k) m.slots)
       (in_flat_map (blocks_of_slot order k) b u.0 m.slots u.1 (in_map (λ i. block (i * 2 ^ k) k) q (range_with_len (u.0 * share) share)
       (in_range q (u.0 * share) share (subst (λ v. v * share ≤ q) (sym slot) low) (subst (λ v. q < v * share + share) (sym slot) high))))
-      (not_from_false (list_any (overlaps b) (told_blocks (holdings_of m))) (any_none (overlaps b) (told_blocks (holdings_of m)) (each_from (λ t. overlaps b t ≡ false) (told_blocks (holdings_of m))
+      (not_from_false (list_any (overlaps b) (known_blocks (holdings_of m))) (any_none (overlaps b) (known_blocks (holdings_of m)) (each_from (λ t. overlaps b t ≡ false) (known_blocks (holdings_of m))
       (λ t in_t. false_from_ne_true (overlaps b t) (λ o. overlap_shares b t o (λ x has other.
       (available_tells order (holds m) (taken_in m) x (free_frame x has)).1
       (t.first, t.order, chosen.order_in_listed (model.taken_blocks m) t w.apart (taken_seen order m t w in_t), other)))))))

@@ -13,8 +13,8 @@ use Rattle.model_core.proofs.Layouts.{layouts_fit}
 use Rattle.model_core.specs.Elements.{IsIn}
 use Rattle.model_core.proofs.Lists.{each_in}
 use Rattle.model_core.proofs.ObjectsApart.{contains_in, one_key, objects_apart, in_contains}
-use Rattle.promise_core.specs.Holdings.{ToldCache}
-use Rattle.promise_kept.specs.Meets.{told_cache}
+use Rattle.promise_core.specs.Holdings.{KnownCache}
+use Rattle.promise_kept.specs.Meets.{cache_as_known}
 use Rattle.promise_kept.proofs.Live.{IsSlab, slabs_of, IsLivePlace}
 
 -- One element replaced
@@ -188,24 +188,24 @@ module _ (limit order : ℕ) (c : Cache) (s : Slab) (i : ℕ) (b : Bool) (m : Ma
       }
 
 -- the holdings with other live objects of one cache
-abbrev pub with_places : (List ℕ → List ℕ) → ToldCache → ToldCache
+abbrev pub with_places : (List ℕ → List ℕ) → KnownCache → KnownCache
 with_places change c = record c { live = change c.live }
 
-pub caches_told : (number : ℕ) (change : List ℕ → List ℕ) (c d : Cache) (cs : List Cache) → d.number ≡ number → ((x : Cache) → IsIn x cs → x.number ≡ number → x ≡ c)
-    → with_places change (told_cache c) ≡ told_cache d
-    → map (λ x. if eqb x.number number then with_places change x else x) (map told_cache cs) ≡ map told_cache (map (λ x. if eqb x.number d.number then d else x) cs)
-caches_told number change c d [] e one same = refl
-caches_told number change c d (x ∷ xs) e one same = both (go (eqb x.number number) refl) (caches_told number change c d xs e (λ y i. one y (inr i)) same)
+pub caches_known : (number : ℕ) (change : List ℕ → List ℕ) (c d : Cache) (cs : List Cache) → d.number ≡ number → ((x : Cache) → IsIn x cs → x.number ≡ number → x ≡ c)
+    → with_places change (cache_as_known c) ≡ cache_as_known d
+    → map (λ x. if eqb x.number number then with_places change x else x) (map cache_as_known cs) ≡ map cache_as_known (map (λ x. if eqb x.number d.number then d else x) cs)
+caches_known number change c d [] e one same = refl
+caches_known number change c d (x ∷ xs) e one same = both (go (eqb x.number number) refl) (caches_known number change c d xs e (λ y i. one y (inr i)) same)
   where
-    both : {a b : ToldCache} {us vs : List ToldCache} → a ≡ b → us ≡ vs → a ∷ us ≡ b ∷ vs
+    both : {a b : KnownCache} {us vs : List KnownCache} → a ≡ b → us ≡ vs → a ∷ us ≡ b ∷ vs
     both p q = cc
 
-    go : (b : Bool) → eqb x.number number ≡ b → (if eqb x.number number then with_places change (told_cache x) else told_cache x) ≡ told_cache (if eqb x.number d.number then d else x)
+    go : (b : Bool) → eqb x.number number ≡ b → (if eqb x.number number then with_places change (cache_as_known x) else cache_as_known x) ≡ cache_as_known (if eqb x.number d.number then d else x)
     go true t =
         let is : x ≡ c = one x (inl refl) (eqb-true x.number number t) in
-        ap (λ b. if b then with_places change (told_cache x) else told_cache x) t
-        ∙ (ap (λ y. with_places change (told_cache y)) is
-        ∙ (same ∙ sym (ap (λ b. told_cache (if b then d else x)) (eq-eqb x.number d.number (eqb-true x.number number t ∙ sym e)))))
+        ap (λ b. if b then with_places change (cache_as_known x) else cache_as_known x) t
+        ∙ (ap (λ y. with_places change (cache_as_known y)) is
+        ∙ (same ∙ sym (ap (λ b. cache_as_known (if b then d else x)) (eq-eqb x.number d.number (eqb-true x.number number t ∙ sym e)))))
     go false t =
-        ap (λ b. if b then with_places change (told_cache x) else told_cache x) t
-        ∙ sym (ap (λ b. told_cache (if b then d else x)) (ne_eqb x.number d.number (λ k. eqb-false x.number number t (k ∙ e))))
+        ap (λ b. if b then with_places change (cache_as_known x) else cache_as_known x) t
+        ∙ sym (ap (λ b. cache_as_known (if b then d else x)) (ne_eqb x.number d.number (λ k. eqb-false x.number number t (k ∙ e))))

@@ -14,8 +14,8 @@ use Rattle.model_core.specs.Reports.{row_of_cache}
 use Rattle.model_core.specs.CacheOperations.{frames_of}
 use Rattle.model_core.specs.Elements.{IsIn}
 use Rattle.model_core.proofs.Lists.{each_append, each_weaker, each_map, each_true, filter_in}
-use Rattle.promise_core.specs.Holdings.{ToldCache}
-use Rattle.promise_kept.specs.Meets.{told_cache}
+use Rattle.promise_core.specs.Holdings.{KnownCache}
+use Rattle.promise_kept.specs.Meets.{cache_as_known}
 
 -- The least order
 
@@ -102,18 +102,18 @@ frames_map c (s ∷ ss) = let rest : frames_of (map (slab_block c) ss) ≡ lengt
 abbrev pub empty_of : (ℕ → Bool) → Cache → List Block
 empty_of test c = if test c.number then empty_blocks c else []
 
-abbrev frames_told : (ℕ → Bool) → ToldCache → CacheRow → ℕ
+abbrev frames_told : (ℕ → Bool) → KnownCache → CacheRow → ℕ
 frames_told test c row = if test c.number then row.empty * 2 ^ c.order else 0
 
 pub told_frames : (test : ℕ → Bool) (cs : List Cache) (rows : List CacheRow) → map (λ row. row.empty) rows ≡ map (λ row. row.empty) (map row_of_cache cs)
-    → sum_by (λ p. frames_told test p.0 p.1) (zip (map told_cache cs) rows) ≡ frames_of (flat_map (empty_of test) cs)
+    → sum_by (λ p. frames_told test p.0 p.1) (zip (map cache_as_known cs) rows) ≡ frames_of (flat_map (empty_of test) cs)
 told_frames test [] rows e = refl
 told_frames test (c ∷ cs) [] e = absurd (cc)
 told_frames test (c ∷ cs) (row ∷ rows) e =
-    let rest : sum_by (λ p. frames_told test p.0 p.1) (zip (map told_cache cs) rows) ≡ frames_of (flat_map (empty_of test) cs) = told_frames test cs rows cc in
+    let rest : sum_by (λ p. frames_told test p.0 p.1) (zip (map cache_as_known cs) rows) ≡ frames_of (flat_map (empty_of test) cs) = told_frames test cs rows cc in
     let here : row.empty ≡ length (filter is_empty c.slabs) = cc in
-    sum_by-cons (λ p. frames_told test p.0 p.1) (told_cache c, row) (zip (map told_cache cs) rows)
-    ∙ (ap (λ n. (if test c.number then n * 2 ^ (layout c).order else 0) + sum_by (λ p. frames_told test p.0 p.1) (zip (map told_cache cs) rows)) here
+    sum_by-cons (λ p. frames_told test p.0 p.1) (cache_as_known c, row) (zip (map cache_as_known cs) rows)
+    ∙ (ap (λ n. (if test c.number then n * 2 ^ (layout c).order else 0) + sum_by (λ p. frames_told test p.0 p.1) (zip (map cache_as_known cs) rows)) here
     ∙ (ap (λ n. (if test c.number then length (filter is_empty c.slabs) * 2 ^ (layout c).order else 0) + n) rest
     ∙ (ap (λ n. n + frames_of (flat_map (empty_of test) cs)) (go (test c.number)) ∙ sym (frames_append (empty_of test c) (flat_map (empty_of test) cs)))))
   where

@@ -56,7 +56,7 @@ module _ (limit order first : ℕ) (m : Machine) (s : State) (w : IsWellFormed l
   unfolding holdings_of
   free_meets k is = record {
     has = ap (without_pages first) h.has;
-    hides = h.hides;
+    may_have_empty = h.may_have_empty;
     lives = λ place cell e sure. let was = doubt_lives (freed_there (block first k)) s.cells place cell e sure in
         lives_still first k s.has (subst (λ (x : Holdings). RisesFrom 0 (map (λ b. b.first) x.pages)) (sym h.has) w.blocks_rise)
         (ap (λ (x : Holdings). order_in x.pages first) h.has ∙ is) cell.holder place

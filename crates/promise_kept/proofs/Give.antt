@@ -25,9 +25,9 @@ use Rattle.promise_core.specs.Holdings.{with_live_places as with_live_told}
 use Rattle.promise_core.specs.Bytes.{Holder, is_same, may_be, doubted}
 use Rattle.promise_core.specs.State.{State, state_after}
 use Rattle.promise_core.specs.Promises.{due}
-use Rattle.promise_kept.specs.Meets.{told_cache, holdings_of, is_object_live, Meets, IsKeptBy, IsPromiseKept}
+use Rattle.promise_kept.specs.Meets.{cache_as_known, holdings_of, is_object_live, Meets, IsKeptBy, IsPromiseKept}
 use Rattle.promise_kept.proofs.Live.{IsSlab, slabs_of, live_rises, IsLivePlace, live_place, place_listed}
-use Rattle.promise_kept.proofs.Flag.{replaced_is, replaced_one, live_after, live_other, WasObject, was_object, caches_told}
+use Rattle.promise_kept.proofs.Flag.{replaced_is, replaced_one, live_after, live_other, WasObject, was_object, caches_known}
 use Rattle.promise_kept.proofs.Cells.{doubt_may, doubt_lives, refused}
 use Rattle.promise_kept.proofs.Known.{seen, seen_is, cache_seen, live_told, told_live, live_replaced}
 
@@ -89,7 +89,7 @@ module _ (limit order place : ℕ) (c : Cache) (o : LiveObject) (m : Machine) (s
   unfolding after
   meets = record {
     has = refl;
-    hides = λ x slab i j. go_hides x slab (contains_in n.caches x i) j;
+    may_have_empty = λ x slab i j. go_may_have_empty x slab (contains_in n.caches x i) j;
     lives = λ p cell e sure. let k = doubt_lives (λ p. is_same (Holder.Object c.number place)) s.cells p cell e sure in
         still_live p cell.holder (subst (λ x. is_object_live (holdings_of m) x p ≡ true) k.3 (ap (λ x. is_object_live x k.0.holder p) (sym h.has) ∙ h.lives p k.0 k.1 k.2)) k.4;
     page_bytes = λ p byte out is. doubt_may (λ p. is_same (Holder.Object c.number place)) s.cells Holder.Page p 0 byte
@@ -99,12 +99,12 @@ module _ (limit order place : ℕ) (c : Cache) (o : LiveObject) (m : Machine) (s
     free_told = λ r e. absurd (cc);
   }
     where
-      go_hides : (x : Cache) (slab : Slab) → IsIn x n.caches → Contains x.slabs slab → s.hides x.number ≡ true
-      go_hides x slab i j = go (replaced_is (λ y. y.number) d x m.caches i)
+      go_may_have_empty : (x : Cache) (slab : Slab) → IsIn x n.caches → Contains x.slabs slab → s.may_have_empty x.number ≡ true
+      go_may_have_empty x slab i j = go (replaced_is (λ y. y.number) d x m.caches i)
         where
-          go : (d ≡ x) ⊎ (IsIn x m.caches × (eqb x.number c.number ≡ false)) → s.hides x.number ≡ true
-          go (inl e) = ap (λ (y : Cache). s.hides y.number) (sym e) ∙ h.hides c o.slab (in_contains c m.caches in_c) (in_contains o.slab c.slabs l.slab_in)
-          go (inr k) = h.hides x slab (in_contains x m.caches k.0) j
+          go : (d ≡ x) ⊎ (IsIn x m.caches × (eqb x.number c.number ≡ false)) → s.may_have_empty x.number ≡ true
+          go (inl e) = ap (λ (y : Cache). s.may_have_empty y.number) (sym e) ∙ h.may_have_empty c o.slab (in_contains c m.caches in_c) (in_contains o.slab c.slabs l.slab_in)
+          go (inr k) = h.may_have_empty x slab (in_contains x m.caches k.0) j
 
       go_bytes : (x : Object) (j byte : ℕ) → j < x.cache.size → m.bytes (place_of x + j) ≡ Some byte → WasObject m x
           → may_be (Holder.Object x.cache.number (place_of x)) (pattern_byte x.cache.pattern j) (doubted (λ p. is_same (Holder.Object c.number place)) s.cells (place_of x + j)) byte ≡ true
@@ -117,13 +117,13 @@ module _ (limit order place : ℕ) (c : Cache) (o : LiveObject) (m : Machine) (s
   has_after : with_live_told c.number (gone place) (holdings_of m) ≡ holdings_of n
   unfolding holdings_of
   has_after = ap (λ cs. record { slots = m.slots; pages = m.blocks; caches = cs })
-      (caches_told c.number (gone place) c d m.caches refl (λ x i e. one_key (λ y. y.number) 0 m.caches x c w.caches_rise i in_c e)
-      (ap (λ ps. record (told_cache c) { live = ps }) left))
+      (caches_known c.number (gone place) c d m.caches refl (λ x i e. one_key (λ y. y.number) 0 m.caches x c w.caches_rise i in_c e)
+      (ap (λ ps. record (cache_as_known c) { live = ps }) left))
 
   given : cache_of m c.number ≡ Some c → list_any (λ p. eqb p place) (map (λ x. x.place) (live_objects c)) ≡ true → IsKeptBy limit order (Asked.Give c.number place) (seen m s) Say.Given n
   unfolding holdings_of due state_after after
   given e f = record {
-    allowed = λ t owners states. rw (eq-eqb t t refl) (rw (cache_seen c.number m.caches ∙ ap (option_map told_cache) e) (rw f refl));
+    allowed = λ t owners states. rw (eq-eqb t t refl) (rw (cache_seen c.number m.caches ∙ ap (option_map cache_as_known) e) (rw f refl));
     meets = λ t. (record after { has = with_live_told c.number (gone place) (holdings_of m) }, refl, subst (λ x. Meets order (record after { has = x }) n) (sym has_after) meets);
   }
 
@@ -136,7 +136,7 @@ give_seen limit order number place m s w h k = go (cache_of m number) refl
     object c e None f =
         refused limit order (Asked.Give number place) Refusal.NotAnObject (seen m s) m k
         (λ t owners states. (
-          rw (cache_seen number m.caches ∙ ap (option_map told_cache) e)
+          rw (cache_seen number m.caches ∙ ap (option_map cache_as_known) e)
               (rw (any_map (λ p. eqb p place) (λ x. x.place) (live_objects c) ∙ any_unfound (λ x. eqb x.place place) (live_objects c) f) refl),
           refl,
         ))
@@ -151,7 +151,7 @@ give_seen limit order number place m s w h k = go (cache_of m number) refl
     go : (o : Option Cache) → cache_of m number ≡ o → IsKeptBy limit order (Asked.Give number place) (seen m s) (give_body (give_of place m o).answer) (give_of place m o).machine
     go None e =
         refused limit order (Asked.Give number place) Refusal.NoCache (seen m s) m k
-        (λ t owners states. (rw (cache_seen number m.caches ∙ ap (option_map told_cache) e) refl, refl))
+        (λ t owners states. (rw (cache_seen number m.caches ∙ ap (option_map cache_as_known) e) refl, refl))
     go (Some c) e = object c e (find (λ x. eqb x.place place) (live_objects c)) refl
 
 pub give_kept : (limit order number place : ℕ) (m : Machine) (s : State) → IsWellFormed limit order m → Meets order s m → IsPromiseKept limit order (Asked.Give number place) m s

@@ -21,7 +21,7 @@ use Rattle.model_core.proofs.ObjectsApart.{contains_in, one_key, in_contains}
 use Rattle.model_core.proofs.Constructed.{IsFresh, AllFresh, grown_byte, fresh_grown}
 use Rattle.promise_core.specs.Bytes.{Holder, may_be}
 use Rattle.promise_core.specs.State.{State}
-use Rattle.promise_kept.specs.Meets.{told_cache, holdings_of, is_object_live, Meets}
+use Rattle.promise_kept.specs.Meets.{cache_as_known, holdings_of, is_object_live, Meets}
 use Rattle.promise_kept.proofs.Seen.{none_live}
 use Rattle.promise_kept.proofs.Cells.{fresh_may}
 use Rattle.promise_kept.proofs.Reaped.{untold, object_in_slab}
@@ -44,20 +44,20 @@ live_put c t (s ∷ ss) e = go (ltb t.first s.first) (live_put c t ss e)
     go true rest = ap (λ ls. ls ++ (live_in c s ++ flat_map (live_in c) ss)) e
     go false rest = ap (λ ls. live_in c s ++ ls) rest
 
-told_grown : (first : ℕ) (c : Cache) → told_cache (grown_cache first c) ≡ told_cache c
+told_grown : (first : ℕ) (c : Cache) → cache_as_known (grown_cache first c) ≡ cache_as_known c
 unfolding grown_cache
-told_grown first c = ap (λ ls. record (told_cache c) { live = map (λ o. o.place) ls })
+told_grown first c = ap (λ ls. record (cache_as_known c) { live = map (λ o. o.place) ls })
     (live_put c (new_slab c first) c.slabs (none_live c (new_slab c first) 0 (replicate (layout c).count false) (none_set (layout c).count)))
 
-told_replaced : (g : Cache) (cs : List Cache) → ((x : Cache) → IsIn x cs → x.number ≡ g.number → told_cache g ≡ told_cache x)
-    → map told_cache (map (λ x. if eqb x.number g.number then g else x) cs) ≡ map told_cache cs
+told_replaced : (g : Cache) (cs : List Cache) → ((x : Cache) → IsIn x cs → x.number ≡ g.number → cache_as_known g ≡ cache_as_known x)
+    → map cache_as_known (map (λ x. if eqb x.number g.number then g else x) cs) ≡ map cache_as_known cs
 told_replaced g [] f = refl
 told_replaced g (x ∷ xs) f = go (eqb x.number g.number) refl (told_replaced g xs (λ y i. f y (inr i)))
   where
-    go : (b : Bool) → eqb x.number g.number ≡ b → map told_cache (map (λ x. if eqb x.number g.number then g else x) xs) ≡ map told_cache xs
-        → told_cache (if b then g else x) ∷ map told_cache (map (λ x. if eqb x.number g.number then g else x) xs) ≡ told_cache x ∷ map told_cache xs
-    go true e rest = ap (λ t. t ∷ map told_cache (map (λ x. if eqb x.number g.number then g else x) xs)) (f x (inl refl) (eqb-true x.number g.number e)) ∙ ap (λ ts. told_cache x ∷ ts) rest
-    go false e rest = ap (λ ts. told_cache x ∷ ts) rest
+    go : (b : Bool) → eqb x.number g.number ≡ b → map cache_as_known (map (λ x. if eqb x.number g.number then g else x) xs) ≡ map cache_as_known xs
+        → cache_as_known (if b then g else x) ∷ map cache_as_known (map (λ x. if eqb x.number g.number then g else x) xs) ≡ cache_as_known x ∷ map cache_as_known xs
+    go true e rest = ap (λ t. t ∷ map cache_as_known (map (λ x. if eqb x.number g.number then g else x) xs)) (f x (inl refl) (eqb-true x.number g.number e)) ∙ ap (λ ts. cache_as_known x ∷ ts) rest
+    go false e rest = ap (λ ts. cache_as_known x ∷ ts) rest
 
 module _ {limit : ℕ} (order first : ℕ) (c : Cache) (m : Machine) (st : State) (w : IsWellFormed limit order m) (h : Meets order (untold st) m) (in_c : IsIn c m.caches)
     (e : choice order m (layout c).order ≡ Some first) where
@@ -71,7 +71,7 @@ module _ {limit : ℕ} (order first : ℕ) (c : Cache) (m : Machine) (st : State
   pub grown_seen : holdings_of n ≡ holdings_of m
   unfolding holdings_of grown grown_cache
   grown_seen = ap (λ cs. record { slots = m.slots; pages = m.blocks; caches = cs })
-      (told_replaced (grown_cache first c) m.caches (λ x i same. told_grown first c ∙ ap told_cache (one_key (λ y. y.number) 0 m.caches c x w.caches_rise in_c i (sym same))))
+      (told_replaced (grown_cache first c) m.caches (λ x i same. told_grown first c ∙ ap cache_as_known (one_key (λ y. y.number) 0 m.caches c x w.caches_rise in_c i (sym same))))
 
   -- the new slab shares no place with another
   off_new : (l : Laid) → IsIn l (all_laid m.caches) → (p : ℕ) → in_laid p l ≡ true → in_block p (slab_block c new) ≡ false
@@ -137,7 +137,7 @@ module _ {limit : ℕ} (order first : ℕ) (c : Cache) (m : Machine) (st : State
   unfolding grown grown_cache
   grown_meets = record {
     has = h.has ∙ sym grown_seen;
-    hides = λ x slab i j. go_hides x slab (contains_in n.caches x i) j;
+    may_have_empty = λ x slab i j. go_may_have_empty x slab (contains_in n.caches x i) j;
     lives = h.lives;
     page_bytes = λ p byte out is.
         let off : (in_block p (slab_block c new) ≡ false) × (in_slab m p ≡ false) = or_parts (in_block p (slab_block c new)) (in_slab m p) (sym (in_grown p) ∙ out) in
@@ -147,12 +147,12 @@ module _ {limit : ℕ} (order first : ℕ) (c : Cache) (m : Machine) (st : State
     free_told = λ r e. absurd (cc);
   }
     where
-      go_hides : (x : Cache) (slab : Slab) → IsIn x n.caches → Contains x.slabs slab → (eqb x.number c.number || st.hides x.number) ≡ true
-      go_hides x slab i j = go (replaced_is (λ y. y.number) (grown_cache first c) x m.caches i)
+      go_may_have_empty : (x : Cache) (slab : Slab) → IsIn x n.caches → Contains x.slabs slab → (eqb x.number c.number || st.may_have_empty x.number) ≡ true
+      go_may_have_empty x slab i j = go (replaced_is (λ y. y.number) (grown_cache first c) x m.caches i)
         where
-          go : (grown_cache first c ≡ x) ⊎ (IsIn x m.caches × (eqb x.number c.number ≡ false)) → (eqb x.number c.number || st.hides x.number) ≡ true
-          go (inl e) = or_left (eqb x.number c.number) (st.hides x.number) (eq-eqb x.number c.number (ap (λ (y : Cache). y.number) (sym e)))
-          go (inr l) = or_right (eqb x.number c.number) (st.hides x.number) (h.hides x slab (in_contains x m.caches l.0) j)
+          go : (grown_cache first c ≡ x) ⊎ (IsIn x m.caches × (eqb x.number c.number ≡ false)) → (eqb x.number c.number || st.may_have_empty x.number) ≡ true
+          go (inl e) = or_left (eqb x.number c.number) (st.may_have_empty x.number) (eq-eqb x.number c.number (ap (λ (y : Cache). y.number) (sym e)))
+          go (inr l) = or_right (eqb x.number c.number) (st.may_have_empty x.number) (h.may_have_empty x slab (in_contains x m.caches l.0) j)
 
       go_bytes : (o : Object) (j byte : ℕ) → j < o.cache.size → n.bytes (place_of o + j) ≡ Some byte → IsObject n o → (grown_cache first c ≡ o.cache) ⊎ (IsIn o.cache m.caches × (eqb o.cache.number c.number ≡ false))
           → may_be (Holder.Object o.cache.number (place_of o)) (pattern_byte o.cache.pattern j) (st.cells (place_of o + j)) byte ≡ true

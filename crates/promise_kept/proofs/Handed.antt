@@ -19,9 +19,9 @@ use Rattle.model_core.proofs.Apart.{apart_turned, one_holder}
 use Rattle.model_core.proofs.BlocksByNumber.{any_below_is}
 use Rattle.model_core.proofs.Laid.{laid, all_laid, laid_block, Placed, IsLaidOut, laid_out}
 use Rattle.model_core.proofs.CacheSteps.{in_all_laid}
-use Rattle.promise_core.specs.Holdings.{ToldCache, Holdings, slab_around, told_blocks, can_stand, are_apart, is_grid, can_be_taken}
+use Rattle.promise_core.specs.Holdings.{KnownCache, Holdings, slab_around, known_blocks, can_stand, are_apart, is_grid, can_be_taken}
 use Rattle.promise_core.proofs.Grids.{all_from}
-use Rattle.promise_kept.specs.Meets.{told_cache, holdings_of}
+use Rattle.promise_kept.specs.Meets.{cache_as_known, holdings_of}
 use Rattle.promise_kept.proofs.Stand.{overlap_shares}
 use Rattle.promise_kept.proofs.Live.{IsLivePlace, live_place}
 use Rattle.promise_kept.proofs.Beside.{places_in, less_count, some_count, IsBeside, beside_at, is_slab, slab_here, slab_of_live, beside_is}
@@ -38,7 +38,7 @@ frame_aligned = for_alignment (λ a. (f n : ℕ) → n % a ≡ 0 → (4096 * f +
     (λ f n e. omega (arith, e)) (λ f n e. omega (arith, e)) (λ f n e. omega (arith, e)) (λ f n e. omega (arith, e)) (λ f n e. omega (arith, e)) (λ f n e. omega (arith, e))
 
 -- the test of `can_be_taken`, of these live objects beside it and this slab
-abbrev is_takable : ℕ → Holdings → ToldCache → ℕ → List ℕ → Block → Bool
+abbrev is_takable : ℕ → Holdings → KnownCache → ℕ → List ℕ → Block → Bool
 is_takable order h c place beside b = (eqb (place % c.align) 0 && (ltb 0 (length beside) || can_stand order h b))
     && (ltb (length beside) c.count && (list_all (are_apart c place) beside
     && is_any_below (λ i. leb (i * c.chunk) place && is_grid c b (place - i * c.chunk) beside) c.count))
@@ -51,7 +51,7 @@ module _ {limit : ℕ} (order : ℕ) (c : Cache) (s : Slab) (m : Machine) (w : I
   fit = (is_slab order c m w in_c s in_s).fit
 
   -- two objects of the slab share no byte
-  pub two_apart : (i j : ℕ) → (j ≡ i → ⊥) → are_apart (told_cache c) (object_place (layout c) s.first s.colour i) (object_place (layout c) s.first s.colour j) ≡ true
+  pub two_apart : (i j : ℕ) → (j ≡ i → ⊥) → are_apart (cache_as_known c) (object_place (layout c) s.first s.colour i) (object_place (layout c) s.first s.colour j) ≡ true
   two_apart i j differ = go (cases_lt i j)
     where
       p : ℕ
@@ -70,9 +70,9 @@ module _ {limit : ℕ} (order : ℕ) (c : Cache) (s : Slab) (m : Machine) (w : I
 
   -- Where none of the slab's objects is live it can stand
 
-  other_apart : list_any (λ live. live) s.live ≡ false → (b : Block) → IsIn b (told_blocks (holdings_of m)) → IsApart (slab_block c s) b
-  unfolding told_blocks holdings_of
-  other_apart none b i = go (in_append b m.blocks (flat_map (λ x. map (slab_around x) x.live) (map told_cache m.caches)) i)
+  other_apart : list_any (λ live. live) s.live ≡ false → (b : Block) → IsIn b (known_blocks (holdings_of m)) → IsApart (slab_block c s) b
+  unfolding known_blocks holdings_of
+  other_apart none b i = go (in_append b m.blocks (flat_map (λ x. map (slab_around x) x.live) (map cache_as_known m.caches)) i)
     where
       l : IsLaidOut order m.slots m.blocks (all_laid m.caches) m.bytes
       l = laid_out order m w
@@ -85,18 +85,18 @@ module _ {limit : ℕ} (order : ℕ) (c : Cache) (s : Slab) (m : Machine) (w : I
           let one : laid c s ≡ laid d o.slab = one_holder laid_block (all_laid m.caches) (laid c s) (laid d o.slab) y l.apart_slabs here (in_all_laid d o.slab m.caches in_d o.slab_in) in_one in_other in
           false≢true (sym none ∙ flag_any s.live o.index (ap (λ k. get_or k.live o.index false) one ∙ o.live))
 
-      told : (d : Cache) → IsIn d m.caches → IsIn b (map (slab_around (told_cache d)) (map (λ o. o.place) (live_objects d))) → IsApart (slab_block c s) b
+      told : (d : Cache) → IsIn d m.caches → IsIn b (map (slab_around (cache_as_known d)) (map (λ o. o.place) (live_objects d))) → IsApart (slab_block c s) b
       told d in_d j =
-          let u : (u : ℕ) × IsIn u (map (λ o. o.place) (live_objects d)) × (slab_around (told_cache d) u ≡ b) = map_in (slab_around (told_cache d)) b (map (λ o. o.place) (live_objects d)) j in
+          let u : (u : ℕ) × IsIn u (map (λ o. o.place) (live_objects d)) × (slab_around (cache_as_known d) u ≡ b) = map_in (slab_around (cache_as_known d)) b (map (λ o. o.place) (live_objects d)) j in
           let o : IsLivePlace d u.0 = live_place d u.0 u.1 in
           subst (IsApart (slab_block c s)) (sym (slab_of_live order d m w in_d u.0 o) ∙ u.2) (slab d in_d u.0 o)
 
-      go : IsIn b m.blocks ⊎ IsIn b (flat_map (λ x. map (slab_around x) x.live) (map told_cache m.caches)) → IsApart (slab_block c s) b
+      go : IsIn b m.blocks ⊎ IsIn b (flat_map (λ x. map (slab_around x) x.live) (map cache_as_known m.caches)) → IsApart (slab_block c s) b
       go (inl j) = apart_turned b (slab_block c s) (each_in (IsApart b) (slab_block c s) (map laid_block (all_laid m.caches))
           (each_in (λ a. Each (IsApart a) (map laid_block (all_laid m.caches))) b m.blocks l.across j) (in_map laid_block (laid c s) (all_laid m.caches) here))
       go (inr j) =
-          let t : (t : ToldCache) × IsIn t (map told_cache m.caches) × IsIn b (map (slab_around t) t.live) = flat_map_in (λ x. map (slab_around x) x.live) b (map told_cache m.caches) j in
-          let d : (d : Cache) × IsIn d m.caches × (told_cache d ≡ t.0) = map_in told_cache t.0 m.caches t.1 in
+          let t : (t : KnownCache) × IsIn t (map cache_as_known m.caches) × IsIn b (map (slab_around t) t.live) = flat_map_in (λ x. map (slab_around x) x.live) b (map cache_as_known m.caches) j in
+          let d : (d : Cache) × IsIn d m.caches × (cache_as_known d ≡ t.0) = map_in cache_as_known t.0 m.caches t.1 in
           told d.0 d.1 (subst (λ x. IsIn b (map (slab_around x) x.live)) (sym d.2) t.2)
 
   stands : list_any (λ live. live) s.live ≡ false → can_stand order (holdings_of m) (slab_block c s) ≡ true
@@ -105,7 +105,7 @@ module _ {limit : ℕ} (order : ℕ) (c : Cache) (s : Slab) (m : Machine) (w : I
       let b : Block = slab_block c s in
       let placed : Placed order m.slots b = each_in (λ k. Placed order m.slots (laid_block k)) (laid c s) (all_laid m.caches) (laid_out order m w).placed_slabs (in_all_laid c s m.caches in_c in_s) in
       and_from _ _ (and_from _ _ (le-leb b.order order placed.0.0) (eq-eqb (b.first % 2 ^ b.order) 0 placed.0.1))
-      (and_from _ _ placed.1 (not_from_false _ (any_none (overlaps b) (told_blocks (holdings_of m)) (each_from (λ x. overlaps b x ≡ false) (told_blocks (holdings_of m)) (λ x i.
+      (and_from _ _ placed.1 (not_from_false _ (any_none (overlaps b) (known_blocks (holdings_of m)) (each_from (λ x. overlaps b x ≡ false) (known_blocks (holdings_of m)) (λ x i.
       false_from_ne_true (overlaps b x) (λ e. overlap_shares b x e (other_apart none x i)))))))
 
   -- The slab's objects lie on its grid
@@ -123,7 +123,7 @@ module _ {limit : ℕ} (order : ℕ) (c : Cache) (s : Slab) (m : Machine) (w : I
       (lt-ltb ((u - origin) / chunk) (layout c).count (subst (λ n. n < (layout c).count) (sym (ap (λ n. n / chunk) rest ∙ mul-div_cancel b.index (omega (arith, fit.chunked))))
       (subst (λ n. b.index < n) (is_slab order c m w in_c s in_s).count b.index_in))))
 
-  grid : is_grid (told_cache c) (slab_block c s) (4096 * s.first + s.colour) (places_in c s) ≡ true
+  grid : is_grid (cache_as_known c) (slab_block c s) (4096 * s.first + s.colour) (places_in c s) ≡ true
   grid =
       let origin : ℕ = 4096 * s.first + s.colour in
       let l = layout c in
@@ -149,23 +149,23 @@ module _ {limit : ℕ} (order : ℕ) (c : Cache) (s : Slab) (m : Machine) (w : I
     stood true e = or_left (ltb 0 (length (places_in c s))) _ (lt-ltb 0 (length (places_in c s)) (some_count c s e))
     stood false e = or_right (ltb 0 (length (places_in c s))) _ (stands e)
 
-    off_others : list_all (are_apart (told_cache c) place) (places_in c s) ≡ true
-    off_others = all_from (are_apart (told_cache c) place) (places_in c s) (λ u j.
+    off_others : list_all (are_apart (cache_as_known c) place) (places_in c s) ≡ true
+    off_others = all_from (are_apart (cache_as_known c) place) (places_in c s) (λ u j.
         let b : IsBeside c s u = beside_at c s u j in
-        ap (are_apart (told_cache c) place) b.at ∙ two_apart i b.index (λ e. false≢true (sym dead ∙ (ap (λ n. get_or s.live n false) (sym e) ∙ b.live))))
+        ap (are_apart (cache_as_known c) place) b.at ∙ two_apart i b.index (λ e. false≢true (sym dead ∙ (ap (λ n. get_or s.live n false) (sym e) ∙ b.live))))
 
-    steps : is_any_below (λ k. leb (k * (layout c).chunk) place && is_grid (told_cache c) (slab_block c s) (place - k * (layout c).chunk) (places_in c s)) (layout c).count ≡ true
+    steps : is_any_below (λ k. leb (k * (layout c).chunk) place && is_grid (cache_as_known c) (slab_block c s) (place - k * (layout c).chunk) (places_in c s)) (layout c).count ≡ true
     steps =
         let origin : place - i * (layout c).chunk ≡ 4096 * s.first + s.colour = omega arith in
-        any_below_is (λ k. leb (k * (layout c).chunk) place && is_grid (told_cache c) (slab_block c s) (place - k * (layout c).chunk) (places_in c s)) (layout c).count i lt
-        (and_from _ _ (le-leb (i * (layout c).chunk) place (omega arith)) (ap (λ n. is_grid (told_cache c) (slab_block c s) n (places_in c s)) origin ∙ grid))
+        any_below_is (λ k. leb (k * (layout c).chunk) place && is_grid (cache_as_known c) (slab_block c s) (place - k * (layout c).chunk) (places_in c s)) (layout c).count i lt
+        (and_from _ _ (le-leb (i * (layout c).chunk) place (omega arith)) (ap (λ n. is_grid (cache_as_known c) (slab_block c s) n (places_in c s)) origin ∙ grid))
 
-    takable : is_takable order (holdings_of m) (told_cache c) place (places_in c s) (slab_block c s) ≡ true
+    takable : is_takable order (holdings_of m) (cache_as_known c) place (places_in c s) (slab_block c s) ≡ true
     takable = and_from _ _ (and_from _ _ (eq-eqb (place % c.align) 0 aligned) (stood (list_any (λ live. live) s.live) refl))
         (and_from _ _ (lt-ltb (length (places_in c s)) (layout c).count (subst (λ n. length (places_in c s) < n) (is_slab order c m w in_c s in_s).count (less_count c s some)))
         (and_from _ _ off_others steps))
 
-    pub can_take : can_be_taken order (holdings_of m) (told_cache c) place ≡ true
+    pub can_take : can_be_taken order (holdings_of m) (cache_as_known c) place ≡ true
     unfolding can_be_taken
-    can_take = ap (λ ps. is_takable order (holdings_of m) (told_cache c) place ps (slab_around (told_cache c) place)) (beside_is order c m w in_c s i in_s lt)
-        ∙ (ap (λ b. is_takable order (holdings_of m) (told_cache c) place (places_in c s) b) (slab_here order c m w in_c s i in_s lt) ∙ takable)
+    can_take = ap (λ ps. is_takable order (holdings_of m) (cache_as_known c) place ps (slab_around (cache_as_known c) place)) (beside_is order c m w in_c s i in_s lt)
+        ∙ (ap (λ b. is_takable order (holdings_of m) (cache_as_known c) place (places_in c s) b) (slab_here order c m w in_c s i in_s lt) ∙ takable)

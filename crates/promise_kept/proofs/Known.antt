@@ -9,10 +9,10 @@ use Rattle.model_core.specs.Elements.{IsIn}
 use Rattle.model_core.specs.WellFormed.{RisesFrom, IsWellFormed}
 use Rattle.model_core.proofs.Lists.{some_any, any_in, in_map, map_in, in_found}
 use Rattle.model_core.proofs.ObjectsApart.{one_key}
-use Rattle.promise_core.specs.Holdings.{ToldCache, Holdings, cache_told}
+use Rattle.promise_core.specs.Holdings.{KnownCache, Holdings, known_cache}
 use Rattle.promise_core.specs.Bytes.{Holder}
 use Rattle.promise_core.specs.State.{State}
-use Rattle.promise_kept.specs.Meets.{told_cache, holdings_of, is_object_live}
+use Rattle.promise_kept.specs.Meets.{cache_as_known, holdings_of, is_object_live}
 use Rattle.promise_kept.proofs.Live.{IsLivePlace, live_place, place_listed}
 use Rattle.promise_kept.proofs.Flag.{replaced_other, replaced_one}
 
@@ -24,18 +24,18 @@ pub seen_is : (m : Machine) (s : State) → s.has ≡ holdings_of m → seen m s
 seen_is m s e = sym (ap (λ (h : Holdings). record s { has = h }) e)
 
 -- a cache is seen by its number
-pub cache_seen : (number : ℕ) (cs : List Cache) → find (λ c. eqb c.number number) (map told_cache cs) ≡ option_map told_cache (find (λ c. eqb c.number number) cs)
+pub cache_seen : (number : ℕ) (cs : List Cache) → find (λ c. eqb c.number number) (map cache_as_known cs) ≡ option_map cache_as_known (find (λ c. eqb c.number number) cs)
 cache_seen number [] = refl
 cache_seen number (c ∷ cs) = go (eqb c.number number) (cache_seen number cs)
   where
-    go : (b : Bool) → find (λ c. eqb c.number number) (map told_cache cs) ≡ option_map told_cache (find (λ c. eqb c.number number) cs)
-        → cond b (Some (told_cache c)) (find (λ c. eqb c.number number) (map told_cache cs)) ≡ option_map told_cache (cond b (Some c) (find (λ c. eqb c.number number) cs))
+    go : (b : Bool) → find (λ c. eqb c.number number) (map cache_as_known cs) ≡ option_map cache_as_known (find (λ c. eqb c.number number) cs)
+        → cond b (Some (cache_as_known c)) (find (λ c. eqb c.number number) (map cache_as_known cs)) ≡ option_map cache_as_known (cond b (Some c) (find (λ c. eqb c.number number) cs))
     go true e = refl
     go false e = e
 
-pub cache_known : {limit : ℕ} (order : ℕ) (m : Machine) (c : Cache) → IsWellFormed limit order m → IsIn c m.caches → cache_told (holdings_of m) c.number ≡ Some (told_cache c)
+pub cache_known : {limit : ℕ} (order : ℕ) (m : Machine) (c : Cache) → IsWellFormed limit order m → IsIn c m.caches → known_cache (holdings_of m) c.number ≡ Some (cache_as_known c)
 unfolding holdings_of
-cache_known order m c w i = cache_seen c.number m.caches ∙ ap (option_map told_cache) (in_found (λ x. x.number) 0 c m.caches w.caches_rise i)
+cache_known order m c w i = cache_seen c.number m.caches ∙ ap (option_map cache_as_known) (in_found (λ x. x.number) 0 c m.caches w.caches_rise i)
 
 -- A live object by its number and first place
 
@@ -45,7 +45,7 @@ pub record IsLiveIn (number first : ℕ) (cs : List Cache) : Type 0 where
   pub number_is : cache.number ≡ number
   pub place : IsLivePlace cache first
 
-abbrev is_told : ℕ → ℕ → ToldCache → Bool
+abbrev is_told : ℕ → ℕ → KnownCache → Bool
 is_told number first c = eqb c.number number && list_any (λ p. eqb p first) c.live
 
 place_any : (first : ℕ) (c : Cache) → list_any (λ p. eqb p first) (map (λ o. o.place) (live_objects c)) ≡ true → IsLivePlace c first
@@ -59,15 +59,15 @@ any_place first c l = any_in (λ p. eqb p first) first (map (λ o. o.place) (liv
 pub live_told : (m : Machine) (number first place : ℕ) → is_object_live (holdings_of m) (Holder.Object number first) place ≡ true → IsLiveIn number first m.caches
 unfolding holdings_of
 live_told m number first place e =
-    let r : (t : ToldCache) × IsIn t (map told_cache m.caches) × (is_told number first t ≡ true) = some_any (is_told number first) (map told_cache m.caches) e in
-    let c : (c : Cache) × IsIn c m.caches × (told_cache c ≡ r.0) = map_in told_cache r.0 m.caches r.1 in
+    let r : (t : KnownCache) × IsIn t (map cache_as_known m.caches) × (is_told number first t ≡ true) = some_any (is_told number first) (map cache_as_known m.caches) e in
+    let c : (c : Cache) × IsIn c m.caches × (cache_as_known c ≡ r.0) = map_in cache_as_known r.0 m.caches r.1 in
     let p : (eqb c.0.number number ≡ true) × (list_any (λ p. eqb p first) (map (λ o. o.place) (live_objects c.0)) ≡ true) =
     and_parts (eqb c.0.number number) (list_any (λ p. eqb p first) (map (λ o. o.place) (live_objects c.0))) (ap (is_told number first) c.2 ∙ r.2) in
     record { cache = c.0; cache_in = c.1; number_is = eqb-true c.0.number number p.0; place = place_any first c.0 p.1 }
 
 pub told_live : (m : Machine) (number first place : ℕ) → IsLiveIn number first m.caches → is_object_live (holdings_of m) (Holder.Object number first) place ≡ true
 unfolding holdings_of
-told_live m number first place l = any_in (is_told number first) (told_cache l.cache) (map told_cache m.caches) (in_map told_cache l.cache m.caches l.cache_in)
+told_live m number first place l = any_in (is_told number first) (cache_as_known l.cache) (map cache_as_known m.caches) (in_map cache_as_known l.cache m.caches l.cache_in)
     (and_from (eqb l.cache.number number) (list_any (λ p. eqb p first) (map (λ o. o.place) (live_objects l.cache))) (eq-eqb l.cache.number number l.number_is) (any_place first l.cache l.place))
 
 -- such an object is live too where another cache of its number stands in place of its own

@@ -19,11 +19,11 @@ use Rattle.model_core.proofs.Laid.{laid, all_laid, in_laid, IsCutLaid, laid_out,
 use Rattle.model_core.proofs.CacheSteps.{in_all_laid}
 use Rattle.model_core.proofs.Objects.{IsLive, live_is, within_is}
 use Rattle.model_core.proofs.ObjectsApart.{contains_in, objects_apart, in_contains}
-use Rattle.promise_core.specs.Holdings.{ToldCache}
+use Rattle.promise_core.specs.Holdings.{KnownCache}
 use Rattle.promise_core.specs.Bytes.{Holder, is_same, Cell, may_be, with_bytes, object_with, holder_of}
 use Rattle.promise_core.specs.State.{State}
 use Rattle.promise_core.proofs.Held.{object_has}
-use Rattle.promise_kept.specs.Meets.{told_cache, holdings_of, is_object_live, Meets}
+use Rattle.promise_kept.specs.Meets.{cache_as_known, holdings_of, is_object_live, Meets}
 use Rattle.promise_kept.proofs.Cells.{is_same_refl}
 use Rattle.promise_kept.proofs.Reaped.{slab_no_page, object_in_slab}
 
@@ -37,26 +37,26 @@ pub holder_is : {limit : ℕ} (order : ℕ) (m : Machine) (place len : ℕ) (hol
 unfolding holder_of holdings_of
 holder_is order m place len holder w e = go (ltb 0 len) (list_any (within_block place len) m.blocks) refl e
   where
-    of_object : object_with place len (map told_cache m.caches) ≡ Some holder → IsHolder m place len holder
+    of_object : object_with place len (map cache_as_known m.caches) ≡ Some holder → IsHolder m place len holder
     of_object e =
-        let r = object_has place len holder (map told_cache m.caches) e in
-        let d = map_in told_cache r.cache m.caches r.listed in
-        let lo = map_in (λ x. x.place) r.first (live_objects d.0) (subst (λ (x : ToldCache). IsIn r.first x.live) (sym d.2) r.live) in
+        let r = object_has place len holder (map cache_as_known m.caches) e in
+        let d = map_in cache_as_known r.cache m.caches r.listed in
+        let lo = map_in (λ x. x.place) r.first (live_objects d.0) (subst (λ (x : KnownCache). IsIn r.first x.live) (sym d.2) r.live) in
         let l : IsLive d.0 lo.0 = live_is d.0 lo.0 lo.1 in
         let o : Object = record { cache = d.0; slab = lo.0.slab; index = lo.0.index } in
         let cut : IsCutLaid (laid d.0 lo.0.slab) = each_in IsCutLaid (laid d.0 lo.0.slab) (all_laid m.caches) (laid_out order m w).cut (in_all_laid d.0 lo.0.slab m.caches d.1 l.slab_in) in
         let first : r.first ≡ place_of o = sym lo.2 ∙ l.at in
-        let number : r.cache.number ≡ d.0.number = ap (λ (x : ToldCache). x.number) (sym d.2) in
-        let size : r.cache.size ≡ d.0.size = ap (λ (x : ToldCache). x.size) (sym d.2) in
+        let number : r.cache.number ≡ d.0.number = ap (λ (x : KnownCache). x.number) (sym d.2) in
+        let size : r.cache.size ≡ d.0.size = ap (λ (x : KnownCache). x.size) (sym d.2) in
         object o (record { cache_in = in_contains d.0 m.caches d.1; slab_in = in_contains lo.0.slab d.0.slabs l.slab_in; index_in = subst (λ n. lo.0.index < n) cut.count l.index_in })
         (r.is ∙ (ap (λ n. Holder.Object n r.first) number ∙ ap (λ p. Holder.Object d.0.number p) first))
         (ap (λ n. is_within place len (place_of o) n) (sym size) ∙ (ap (λ p. is_within place len p r.cache.size) (sym first) ∙ r.within))
         (ap (λ x. is_object_live (holdings_of m) x place) r.is
-        ∙ any_in (λ c. eqb c.number r.cache.number && list_any (λ p. eqb p r.first) c.live) r.cache (map told_cache m.caches) r.listed
+        ∙ any_in (λ c. eqb c.number r.cache.number && list_any (λ p. eqb p r.first) c.live) r.cache (map cache_as_known m.caches) r.listed
         (and_from _ _ (eq-eqb r.cache.number r.cache.number refl) (any_in (λ p. eqb p r.first) r.first r.cache.live r.live (eq-eqb r.first r.first refl))))
 
     go : (some in_page : Bool) → list_any (within_block place len) m.blocks ≡ in_page
-        → (if not some then None else (if in_page then Some Holder.Page else object_with place len (map told_cache m.caches))) ≡ Some holder → IsHolder m place len holder
+        → (if not some then None else (if in_page then Some Holder.Page else object_with place len (map cache_as_known m.caches))) ≡ Some holder → IsHolder m place len holder
     go false in_page is e = absurd (cc)
     go true true is e = let b = some_any (within_block place len) m.blocks is in let same : Holder.Page ≡ holder = cc in page (sym same) b.0 b.1 b.2
     go true false is e = of_object e
@@ -156,7 +156,7 @@ module _ {limit : ℕ} (order : ℕ) (s : State) (m : Machine) (w : IsWellFormed
   unfolding holdings_of
   range_meets = record {
     has = h.has;
-    hides = h.hides;
+    may_have_empty = h.may_have_empty;
     lives = range_lives;
     page_bytes = range_page;
     object_bytes = λ o j byte i byte_in there. range_object o j byte (record { cache_in = i.cache_in; slab_in = i.slab_in; index_in = i.index_in }) byte_in there;

@@ -23,11 +23,11 @@ use Rattle.words_core.specs.declared.reply.Addressee.TheVariants as To
 use Rattle.words_core.specs.declared.reply.Body.TheVariants as Say
 use Rattle.words_core.specs.declared.reply.Refusal.{Refusal}
 use Rattle.world_core.specs.PrivateStep.{read_body, command_step}
-use Rattle.promise_core.specs.Holdings.{Holdings, cache_told}
-use Rattle.promise_core.specs.Bytes.{Holder, Cells, told_fresh_byte, may_be, may_all_be, with_bytes, holder_of}
+use Rattle.promise_core.specs.Holdings.{Holdings, known_cache}
+use Rattle.promise_core.specs.Bytes.{Holder, Cells, known_fresh_byte, may_be, may_all_be, with_bytes, holder_of}
 use Rattle.promise_core.specs.State.{State, with_range, state_after}
 use Rattle.promise_core.specs.Promises.{due}
-use Rattle.promise_kept.specs.Meets.{told_cache, Meets, IsKeptBy, IsPromiseKept}
+use Rattle.promise_kept.specs.Meets.{cache_as_known, Meets, IsKeptBy, IsPromiseKept}
 use Rattle.promise_kept.proofs.Cells.{all_kept, formed, refused}
 use Rattle.promise_kept.proofs.Range.{IsHolder, holder_is, range_meets}
 use Rattle.promise_kept.proofs.Write.{reach_seen}
@@ -52,29 +52,29 @@ read_all bytes place (suc n) all =
         later p (omega arith) (omega arith) ∙ (ap (λ k. Some (get_or (filter_map bytes (range_with_len (place + 1) n)) k 0)) next ∙ ap (λ xs. Some (get_or xs (suc i) 0)) (sym is))
 
 all_may : (h : Holdings) (cells : Cells) (holder : Holder) (place : ℕ) (bytes : List ℕ)
-    → ((p : ℕ) → place ≤ p → p < place + length bytes → may_be holder (told_fresh_byte h holder p) (cells p) (get_or bytes (p - place) 0) ≡ true)
+    → ((p : ℕ) → place ≤ p → p < place + length bytes → may_be holder (known_fresh_byte h holder p) (cells p) (get_or bytes (p - place) 0) ≡ true)
     → may_all_be h cells holder place bytes ≡ true
 all_may h cells holder place [] all = refl
 all_may h cells holder place (byte ∷ bytes) all =
     let first : place - place ≡ 0 = omega arith in
-    and_from (may_be holder (told_fresh_byte h holder place) (cells place) byte) _
-    (ap (λ k. may_be holder (told_fresh_byte h holder place) (cells place) (get_or (byte ∷ bytes) k 0)) (sym first) ∙ all place (omega arith) (omega arith))
+    and_from (may_be holder (known_fresh_byte h holder place) (cells place) byte) _
+    (ap (λ k. may_be holder (known_fresh_byte h holder place) (cells place) (get_or (byte ∷ bytes) k 0)) (sym first) ∙ all place (omega arith) (omega arith))
     (all_may h cells holder (place + 1) bytes (λ p low high. let next : p - place ≡ suc (p - (place + 1)) = omega (arith, low) in
-    ap (λ k. may_be holder (told_fresh_byte h holder p) (cells p) (get_or (byte ∷ bytes) k 0)) (sym next) ∙ all p (omega (arith, low)) (omega (arith, high))))
+    ap (λ k. may_be holder (known_fresh_byte h holder p) (cells p) (get_or (byte ∷ bytes) k 0)) (sym next) ∙ all p (omega (arith, low)) (omega (arith, high))))
 
 -- what the holder of a range has at a place of it may be there
 byte_may : {limit : ℕ} (order : ℕ) (s : State) (m : Machine) (place len : ℕ) (holder : Holder) → IsWellFormed limit order m → Meets order s m → IsHolder m place len holder
-    → (p byte : ℕ) → place ≤ p → p < place + len → m.bytes p ≡ Some byte → may_be holder (told_fresh_byte s.has holder p) (s.cells p) byte ≡ true
+    → (p byte : ℕ) → place ≤ p → p < place + len → m.bytes p ≡ Some byte → may_be holder (known_fresh_byte s.has holder p) (s.cells p) byte ≡ true
 byte_may {limit} order s m place len holder w h (IsHolder.page is b i t) p byte low high there =
     let r = within_is place len (4096 * b.first) (4096 * 2 ^ b.order) t in
     let at : IsPageByte m p = record { page = b; page_in = i; in_page = in_block-from p b (omega (arith, r.0), omega (arith, r.1)) } in
-    ap (λ x. may_be x (told_fresh_byte s.has x p) (s.cells p) byte) is ∙ h.page_bytes p byte (in_slab_laid m p ∙ page_apart order m p (laid_out order m w) at) there
+    ap (λ x. may_be x (known_fresh_byte s.has x p) (s.cells p) byte) is ∙ h.page_bytes p byte (in_slab_laid m p ∙ page_apart order m p (laid_out order m w) at) there
 byte_may {limit} order s m place len holder w h (IsHolder.object o i is t l) p byte low high there =
     let r = within_is place len (place_of o) o.cache.size t in
     let j : ℕ = p - place_of o in
     let at : place_of o + j ≡ p = omega (arith, r.0, low) in
-    let seen : cache_told s.has o.cache.number ≡ Some (told_cache o.cache) = ap (λ x. cache_told x o.cache.number) h.has ∙ cache_known order m o.cache w (contains_in m.caches o.cache i.cache_in) in
-    ap (λ x. may_be x (told_fresh_byte s.has x p) (s.cells p) byte) is
+    let seen : known_cache s.has o.cache.number ≡ Some (cache_as_known o.cache) = ap (λ x. known_cache x o.cache.number) h.has ∙ cache_known order m o.cache w (contains_in m.caches o.cache i.cache_in) in
+    ap (λ x. may_be x (known_fresh_byte s.has x p) (s.cells p) byte) is
     ∙ (ap (λ x. may_be (Holder.Object o.cache.number (place_of o)) (option_map_or (λ c. pattern_byte c.pattern j) x 0) (s.cells p) byte) seen
     ∙ (ap (λ q. may_be (Holder.Object o.cache.number (place_of o)) (pattern_byte o.cache.pattern j) (s.cells q) byte) (sym at)
     ∙ h.object_bytes o j byte i (omega (arith, r.0, r.1, low, high)) (ap m.bytes at ∙ there)))

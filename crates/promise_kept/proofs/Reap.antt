@@ -20,12 +20,12 @@ use Rattle.words_core.specs.declared.report.Report.{Report}
 use Rattle.words_core.specs.declared.reply.Addressee.TheVariants as To
 use Rattle.words_core.specs.declared.reply.Body.TheVariants as Say
 use Rattle.world_core.specs.PrivateStep.{command_step}
-use Rattle.promise_core.specs.Holdings.{cache_told, slab_around, vacant_blocks}
+use Rattle.promise_core.specs.Holdings.{known_cache, slab_around, vacant_blocks}
 use Rattle.promise_core.specs.Bytes.{Holder, is_object, without}
 use Rattle.promise_core.specs.State.{State, is_in_use, is_in_no_slab, state_after}
 use Rattle.promise_core.specs.Promises.{due, can_come_back, empty_frames}
 use Rattle.promise_core.proofs.Causes.{listed_some}
-use Rattle.promise_kept.specs.Meets.{told_cache, holdings_of, Meets, IsPromiseKept}
+use Rattle.promise_kept.specs.Meets.{cache_as_known, holdings_of, Meets, IsPromiseKept}
 use Rattle.promise_kept.proofs.Stand.{one_live, slab_seen}
 use Rattle.promise_kept.proofs.Cells.{all_kept, without_some, without_may}
 use Rattle.promise_kept.proofs.Reaped.{untold, meets_reaped, object_in_slab}
@@ -41,12 +41,12 @@ module _ (limit order : ℕ) (m : Machine) (s : State) (w : IsWellFormed limit o
       all : ℕ
       all = frames_of (flat_map empty_blocks m.caches)
 
-      go : (flat_map empty_blocks m.caches ≡ []) ⊎ IsLeast m.caches → can_come_back order (map told_cache m.caches) (frames_of (flat_map empty_blocks m.caches)) (seen m s) ≡ true
+      go : (flat_map empty_blocks m.caches ≡ []) ⊎ IsLeast m.caches → can_come_back order (map cache_as_known m.caches) (frames_of (flat_map empty_blocks m.caches)) (seen m s) ≡ true
       go (inl none) = or_left (eqb all 0) _ (eq-eqb all 0 (ap frames_of none))
-      go (inr l) = or_right (eqb all 0) _ (and_from (leb all (length (vacant_blocks order (holdings_of m) 0))) (list_any (λ c. s.hides c.number && eqb (all % 2 ^ c.order) 0) (map told_cache m.caches))
+      go (inr l) = or_right (eqb all 0) _ (and_from (leb all (length (vacant_blocks order (holdings_of m) 0))) (list_any (λ c. s.may_have_empty c.number && eqb (all % 2 ^ c.order) 0) (map cache_as_known m.caches))
           (le-leb all (length (vacant_blocks order (holdings_of m) 0)) (empty_vacant limit order m w (flat_map empty_blocks m.caches) (empty_apart limit order m w) (λ b i. i)))
-          (any_in (λ c. s.hides c.number && eqb (all % 2 ^ c.order) 0) (told_cache l.cache) (map told_cache m.caches) (in_map told_cache l.cache m.caches l.cache_in)
-          (and_from (s.hides l.cache.number) (eqb (all % 2 ^ (layout l.cache).order) 0) (h.hides l.cache l.slab (in_contains l.cache m.caches l.cache_in) (in_contains l.slab l.cache.slabs l.slab_in))
+          (any_in (λ c. s.may_have_empty c.number && eqb (all % 2 ^ c.order) 0) (cache_as_known l.cache) (map cache_as_known m.caches) (in_map cache_as_known l.cache m.caches l.cache_in)
+          (and_from (s.may_have_empty l.cache.number) (eqb (all % 2 ^ (layout l.cache).order) 0) (h.may_have_empty l.cache l.slab (in_contains l.cache m.caches l.cache_in) (in_contains l.slab l.cache.slabs l.slab_in))
           (eq-eqb (all % 2 ^ (layout l.cache).order) 0 (frames_divide (layout l.cache).order (flat_map empty_blocks m.caches) l.least)))))
 
   stays_told : option_map_or (λ r. eqb (frames_of (flat_map empty_blocks m.caches)) (empty_frames (λ n. true) (holdings_of m) r)) s.told true ≡ true
@@ -64,7 +64,7 @@ module _ (limit order : ℕ) (m : Machine) (s : State) (w : IsWellFormed limit o
       let o : (o : LiveObject) × IsIn o (live_in d t) × (o.slab ≡ t) = one_live d t 0 t.live (not-false _ (not-true (is_empty t) f.1)) in
       (o.0, in_flat_map (live_in d) o.0 t d.slabs f.0 o.1, o.2)
 
-  in_use : (d : Cache) (t : Slab) → IsIn d m.caches → IsIn t (without_empty d).slabs → is_in_use (cache_told (holdings_of m) d.number) ≡ true
+  in_use : (d : Cache) (t : Slab) → IsIn d m.caches → IsIn t (without_empty d).slabs → is_in_use (known_cache (holdings_of m) d.number) ≡ true
   in_use d t in_d in_t =
       let o : (o : LiveObject) × IsIn o (live_objects d) × (o.slab ≡ t) = beside d t in_d in_t in
       ap is_in_use (cache_known order m d w in_d) ∙ listed_some o.0.place (map (λ x. x.place) (live_objects d)) (in_map (λ x. x.place) o.0 (live_objects d) o.1)
@@ -78,9 +78,9 @@ module _ (limit order : ℕ) (m : Machine) (s : State) (w : IsWellFormed limit o
       let p : ℕ = object_place (layout d) t.first t.colour i in
       let zero : p + 0 ≡ p = omega arith in
       let here : in_block p (slab_block d t) ≡ true = ap (λ x. in_block x (slab_block d t)) (sym zero) ∙ object_in_slab order m d t i 0 w in_d f.0 lt some in
-      not_from_true _ (any_in (λ c. eqb c.number d.number && list_any (λ q. in_block p (slab_around c q)) c.live) (told_cache d) (map told_cache m.caches) (in_map told_cache d m.caches in_d)
-      (and_from (eqb d.number d.number) (list_any (λ q. in_block p (slab_around (told_cache d) q)) (map (λ x. x.place) (live_objects d))) (eq-eqb d.number d.number refl)
-      (any_in (λ q. in_block p (slab_around (told_cache d) q)) o.0.place (map (λ x. x.place) (live_objects d)) (in_map (λ x. x.place) o.0 (live_objects d) o.1)
+      not_from_true _ (any_in (λ c. eqb c.number d.number && list_any (λ q. in_block p (slab_around c q)) c.live) (cache_as_known d) (map cache_as_known m.caches) (in_map cache_as_known d m.caches in_d)
+      (and_from (eqb d.number d.number) (list_any (λ q. in_block p (slab_around (cache_as_known d) q)) (map (λ x. x.place) (live_objects d))) (eq-eqb d.number d.number refl)
+      (any_in (λ q. in_block p (slab_around (cache_as_known d) q)) o.0.place (map (λ x. x.place) (live_objects d)) (in_map (λ x. x.place) o.0 (live_objects d) o.1)
       (ap (in_block p) (slab_seen order m d o.0 w in_d o.1 ∙ ap (slab_block d) o.2) ∙ here))))
     where
       some : 0 < d.size
@@ -90,7 +90,7 @@ module _ (limit order : ℕ) (m : Machine) (s : State) (w : IsWellFormed limit o
   after = record {
     has = holdings_of m;
     cells = without (λ place. is_object (is_in_no_slab (holdings_of m))) s.cells;
-    hides = λ n. is_in_use (cache_told (holdings_of m) n);
+    may_have_empty = λ n. is_in_use (known_cache (holdings_of m) n);
     told = None;
   }
 
@@ -102,7 +102,7 @@ module _ (limit order : ℕ) (m : Machine) (s : State) (w : IsWellFormed limit o
   unfolding after
   meets = let r : Meets order (untold (seen m s)) (reaped m) = meets_reaped order (seen m s) m w k in record {
     has = r.has;
-    hides = λ c t in_c in_t. go_hides c t (was c in_c) (contains_in c.slabs t in_t);
+    may_have_empty = λ c t in_c in_t. go_may_have_empty c t (was c in_c) (contains_in c.slabs t in_t);
     lives = λ p cell e sure. r.lives p cell (without_some (λ place. is_object (is_in_no_slab (holdings_of m))) s.cells p cell e).0 sure;
     page_bytes = λ p byte out is. without_may (λ place. is_object (is_in_no_slab (holdings_of m))) s.cells Holder.Page p 0 byte refl (r.page_bytes p byte out is);
     object_bytes = λ o j byte i below is. without_may (λ place. is_object (is_in_no_slab (holdings_of m))) s.cells (Holder.Object o.cache.number (place_of o)) (place_of o + j) (pattern_byte o.cache.pattern j) byte
@@ -111,8 +111,8 @@ module _ (limit order : ℕ) (m : Machine) (s : State) (w : IsWellFormed limit o
     free_told = λ r e. absurd (cc);
   }
     where
-      go_hides : (c : Cache) (t : Slab) → ((d : Cache) × IsIn d m.caches × (without_empty d ≡ c)) → IsIn t c.slabs → is_in_use (cache_told (holdings_of m) c.number) ≡ true
-      go_hides c t (d, in_d, e) in_t = subst (λ x. IsIn t x.slabs → is_in_use (cache_told (holdings_of m) x.number) ≡ true) e (λ i. in_use d t in_d i) in_t
+      go_may_have_empty : (c : Cache) (t : Slab) → ((d : Cache) × IsIn d m.caches × (without_empty d ≡ c)) → IsIn t c.slabs → is_in_use (known_cache (holdings_of m) c.number) ≡ true
+      go_may_have_empty c t (d, in_d, e) in_t = subst (λ x. IsIn t x.slabs → is_in_use (known_cache (holdings_of m) x.number) ≡ true) e (λ i. in_use d t in_d i) in_t
 
       go_object : (o : Object) → ((d : Cache) × IsIn d m.caches × (without_empty d ≡ o.cache)) → IsIn o.slab o.cache.slabs → o.index < (layout o.cache).count → is_in_no_slab (holdings_of m) o.cache.number (place_of o) ≡ false
       go_object o (d, in_d, e) in_t lt =

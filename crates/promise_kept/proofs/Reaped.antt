@@ -30,7 +30,7 @@ untold s = record s { told = None }
 pub meets_untold : (order : ℕ) (s : State) (m : Machine) → Meets order s m → Meets order (untold s) m
 meets_untold order s m h = record {
   has = h.has;
-  hides = h.hides;
+  may_have_empty = h.may_have_empty;
   lives = h.lives;
   page_bytes = h.page_bytes;
   object_bytes = h.object_bytes;
@@ -93,13 +93,13 @@ module _ {limit : ℕ} (order : ℕ) (s : State) (m : Machine) (w : IsWellFormed
       ∙ not_gone is_empty_laid (all_laid m.caches) (place_of o + j) k (laid_out order m w).apart_slabs kept (object_in_slab order m c t i j w in_c f.0 index_in byte_in)) in
       h.object_bytes o j byte (record { cache_in = in_contains c m.caches in_c; slab_in = in_contains t c.slabs f.0; index_in = index_in }) byte_in (sym same ∙ is)
 
-  hidden : (c : Cache) (t : Slab) → Contains (reaped m).caches c → Contains c.slabs t → s.hides c.number ≡ true
+  hidden : (c : Cache) (t : Slab) → Contains (reaped m).caches c → Contains c.slabs t → s.may_have_empty c.number ≡ true
   unfolding reaped
   hidden c t in_c in_t =
       let d = map_in without_empty c m.caches (contains_in (map without_empty m.caches) c in_c) in
       let kept : IsIn t (without_empty d.0).slabs = subst (λ x. IsIn t x.slabs) (sym d.2) (contains_in c.slabs t in_t) in
-      subst (λ x. s.hides x.number ≡ true) d.2
-      (h.hides d.0 t (in_contains d.0 m.caches d.1) (in_contains t d.0.slabs (filter_in (λ x. not (is_empty x)) t d.0.slabs kept).0))
+      subst (λ x. s.may_have_empty x.number ≡ true) d.2
+      (h.may_have_empty d.0 t (in_contains d.0 m.caches d.1) (in_contains t d.0.slabs (filter_in (λ x. not (is_empty x)) t d.0.slabs kept).0))
 
   object_at : (o : Object) (j byte : ℕ) → IsObject (reaped m) o → j < o.cache.size → (reaped m).bytes (place_of o + j) ≡ Some byte
       → may_be (Holder.Object o.cache.number (place_of o)) (pattern_byte o.cache.pattern j) (s.cells (place_of o + j)) byte ≡ true
@@ -114,7 +114,7 @@ module _ {limit : ℕ} (order : ℕ) (s : State) (m : Machine) (w : IsWellFormed
   pub meets_reaped : Meets order (untold s) (reaped m)
   meets_reaped = record {
     has = h.has ∙ sym (holdings_reaped m);
-    hides = hidden;
+    may_have_empty = hidden;
     lives = h.lives;
     page_bytes = reaped_page;
     object_bytes = object_at;

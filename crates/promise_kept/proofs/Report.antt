@@ -27,8 +27,8 @@ use Rattle.words_core.specs.declared.reply.Body.TheVariants as Say
 use Rattle.world_core.specs.PrivateStep.{figures_of, report_step, command_step}
 use Rattle.promise_core.specs.Holdings.{vacant_blocks}
 use Rattle.promise_core.specs.State.{State, state_after}
-use Rattle.promise_core.specs.Promises.{frames_of_counts, told_count, due, report, still}
-use Rattle.promise_kept.specs.Meets.{told_cache, holdings_of, Meets, IsPromiseKept}
+use Rattle.promise_core.specs.Promises.{frames_of_counts, known_count, due, report, still}
+use Rattle.promise_kept.specs.Meets.{cache_as_known, holdings_of, Meets, IsPromiseKept}
 use Rattle.promise_kept.proofs.Cells.{all_kept, formed}
 use Rattle.promise_kept.proofs.Known.{seen, seen_is}
 use Rattle.promise_kept.proofs.Figures.{available_count, free_frames, free_fits}
@@ -175,23 +175,23 @@ module _ (limit order : ℕ) (m : Machine) (s : State) (w : IsWellFormed limit o
   free_drop : (k : ℕ) → k ≤ order → drop k free ≡ map (free_count order m) (range_with_len k (order + 1 - k))
   free_drop k le = ap (drop k) free_is ∙ (range_drop (free_count order m) k 0 (order + 1) ∙ ap (λ i. map (free_count order m) (range_with_len i (order + 1 - k))) (omega arith))
 
-  hides_slab : (c : Cache) (x : Slab) → IsIn c m.caches → IsIn x c.slabs → s.hides c.number ≡ true
-  hides_slab c x i j = h.hides c x (in_contains c m.caches i) (in_contains x c.slabs j)
+  has_empty_slab : (c : Cache) (x : Slab) → IsIn c m.caches → IsIn x c.slabs → s.may_have_empty c.number ≡ true
+  has_empty_slab c x i j = h.may_have_empty c x (in_contains c m.caches i) (in_contains x c.slabs j)
 
   reported : (t : ℕ) (owners : List (Option Owner)) (states : List State)
       → report (On.Tenant t Asked.Report) (Say.Report (figures_of order m)) (record { limit = limit; order = order; owners = owners; states = states }) (seen m s) ≡ true
   unfolding figures_of holdings_of
   reported t owners states =
       and_from _ _ (eq-eqb _ _ (ap length free_is ∙ length-map-range_with_len (free_count order m) 0 (order + 1)))
-      (and_from _ _ (eq-eqb _ _ (length-map m.caches reports.row_of_cache ∙ sym (length-map m.caches told_cache)))
+      (and_from _ _ (eq-eqb _ _ (length-map m.caches reports.row_of_cache ∙ sym (length-map m.caches cache_as_known)))
       (and_from _ _ (eq-eqb (frames_held order m) (frames_held order m) refl)
       (and_from _ _ (eq-eqb (frames_taken m + frames_free order m) (frames_held order m) held_is)
       (and_from _ _ (eq-eqb (frames_free order m) (frames_of_counts free) (sym (ap frames_of_counts free_is ∙ free_frames order m w)))
       (and_from _ _ (eq-eqb (frames_taken m) (frames_of_counts taken) taken_frames)
       (and_from _ _ (ap (option_eq (λ i j. eqb i j) (greatest_free order m)) (sym top_is) ∙ same_order (greatest_free order m))
       (and_from _ _ (eq-eqb _ _ refl)
-      (and_from _ _ (rows_seen order m w s.hides hides_slab)
-      (and_from _ _ (all_range _ 0 (order + 1) (λ k low high. eq-eqb (slice_index taken k) (told_count (holdings_of m) (rows_of_caches m) k)
+      (and_from _ _ (rows_seen order m w s.may_have_empty has_empty_slab)
+      (and_from _ _ (all_range _ 0 (order + 1) (λ k low high. eq-eqb (slice_index taken k) (known_count (holdings_of m) (rows_of_caches m) k)
       (ap (λ xs. slice_index xs k) taken_is ∙ (get_or-map-range_with_len (reports.taken_count m) 0 (order + 1) k k 0 (omega (arith, high)) (omega arith) ∙ taken_seen_by_order order m w k))))
       (and_from _ _ (all_range _ 0 (order + 1) (λ k low high. le-leb (frames_of_counts (drop k free)) (length (vacant_blocks order (holdings_of m) k))
       (subst (λ xs. frames_of_counts xs ≤ length (vacant_blocks order (holdings_of m) k)) (sym (free_drop k (omega (arith, high)))) (free_fits order m w k (omega (arith, high))))))
@@ -217,7 +217,7 @@ module _ (limit order : ℕ) (m : Machine) (s : State) (w : IsWellFormed limit o
   unfolding figures_of after
   meets = record {
     has = refl;
-    hides = h.hides;
+    may_have_empty = h.may_have_empty;
     lives = h.lives;
     page_bytes = h.page_bytes;
     object_bytes = h.object_bytes;

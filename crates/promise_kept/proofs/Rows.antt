@@ -17,10 +17,10 @@ use Rattle.model_core.specs.Reports as reports
 use Rattle.model_core.specs.WellFormed.{RisesFrom, IsWellFormed}
 use Rattle.model_core.proofs.Counting.{bit}
 use Rattle.model_core.specs.Elements.{IsIn}
-use Rattle.promise_core.specs.Holdings.{ToldCache, live_beside}
+use Rattle.promise_core.specs.Holdings.{KnownCache, live_beside}
 use Rattle.promise_core.specs.Holdings as told
-use Rattle.promise_core.specs.Promises.{count_slabs, is_row, told_count}
-use Rattle.promise_kept.specs.Meets.{told_cache, holdings_of}
+use Rattle.promise_core.specs.Promises.{count_slabs, is_row, known_count}
+use Rattle.promise_kept.specs.Meets.{cache_as_known, holdings_of}
 use Rattle.promise_kept.proofs.Live.{slabs_rise}
 use Rattle.promise_kept.proofs.Beside.{alone, places_in, full_count, less_count, some_count, IsBeside, beside_at, is_slab, beside_is}
 use Rattle.promise_kept.proofs.Seen.{none_live}
@@ -73,12 +73,12 @@ module _ {limit : ℕ} (order : ℕ) (c : Cache) (m : Machine) (w : IsWellFormed
       go false true e = refl
       go false false e = refl
 
-  beside_there : (s : Slab) (p : ℕ) → IsIn s c.slabs → IsIn p (places_in c s) → live_beside (told_cache c) p ≡ places_in c s
+  beside_there : (s : Slab) (p : ℕ) → IsIn s c.slabs → IsIn p (places_in c s) → live_beside (cache_as_known c) p ≡ places_in c s
   beside_there s p i j = let b : IsBeside c s p = beside_at c s p j in
-      ap (λ x. live_beside (told_cache c) x) b.at ∙ beside_is order c m w in_c s b.index i (subst (λ n. b.index < n) (is_slab order c m w in_c s i).count b.index_in)
+      ap (λ x. live_beside (cache_as_known c) x) b.at ∙ beside_is order c m w in_c s b.index i (subst (λ n. b.index < n) (is_slab order c m w in_c s i).count b.index_in)
 
   -- by the place of a live object its slab is told full or not
-  full_told : (s : Slab) (p : ℕ) → IsIn s c.slabs → IsIn p (places_in c s) → told.is_slab_full (told_cache c) p ≡ is_full s
+  full_told : (s : Slab) (p : ℕ) → IsIn s c.slabs → IsIn p (places_in c s) → told.is_slab_full (cache_as_known c) p ≡ is_full s
   full_told s p i j = ap (λ ps. eqb (length ps) (layout c).count) (beside_there s p i j) ∙ go (is_full s) refl (is_slab order c m w in_c s i).count
     where
       go : (full : Bool) → is_full s ≡ full → length s.live ≡ (layout c).count → eqb (length (places_in c s)) (layout c).count ≡ full
@@ -103,7 +103,7 @@ module _ {limit : ℕ} (order : ℕ) (c : Cache) (m : Machine) (w : IsWellFormed
       (same : (s : Slab) (p : ℕ) → IsIn s c.slabs → IsIn p (places_in c s) → test p ≡ kind s)
       (off : (s : Slab) → IsIn s c.slabs → list_any (λ live. live) s.live ≡ false → kind s ≡ false) where
     abbrev counts : ℕ → Bool
-    counts p = eqb (slice_index (live_beside (told_cache c) p) 0) p && test p
+    counts p = eqb (slice_index (live_beside (cache_as_known c) p) 0) p && test p
 
     one_slab : (s : Slab) → IsIn s c.slabs → length (filter counts (places_in c s)) ≡ bit (kind s)
     one_slab s i = go (list_any (λ live. live) s.live) refl
@@ -125,18 +125,18 @@ module _ {limit : ℕ} (order : ℕ) (c : Cache) (m : Machine) (w : IsWellFormed
         let last : length (filter kind (s ∷ ss)) ≡ bit (kind s) + length (filter kind ss) = filter_length kind s ss in
         omega (arith, rest, here, parts, last)
 
-    pub counted : count_slabs test (told_cache c) ≡ length (filter kind c.slabs)
+    pub counted : count_slabs test (cache_as_known c) ≡ length (filter kind c.slabs)
     counted = all_slabs c.slabs (λ s i. i)
 
-  full_counted : count_slabs (told.is_slab_full (told_cache c)) (told_cache c) ≡ length (filter is_full c.slabs)
-  full_counted = counted (told.is_slab_full (told_cache c)) is_full full_told (λ s i e. go (is_full s) (full_some s i) e)
+  full_counted : count_slabs (told.is_slab_full (cache_as_known c)) (cache_as_known c) ≡ length (filter is_full c.slabs)
+  full_counted = counted (told.is_slab_full (cache_as_known c)) is_full full_told (λ s i e. go (is_full s) (full_some s i) e)
     where
       go : {some : Bool} (b : Bool) → (b ≡ true → some ≡ true) → some ≡ false → b ≡ false
       go true f e = absurd (false≢true (sym e ∙ f refl))
       go false f e = refl
 
-  partial_counted : count_slabs (λ p. not (told.is_slab_full (told_cache c) p)) (told_cache c) ≡ length (filter is_partial c.slabs)
-  partial_counted = counted (λ p. not (told.is_slab_full (told_cache c) p)) is_partial
+  partial_counted : count_slabs (λ p. not (told.is_slab_full (cache_as_known c) p)) (cache_as_known c) ≡ length (filter is_partial c.slabs)
+  partial_counted = counted (λ p. not (told.is_slab_full (cache_as_known c) p)) is_partial
       (λ s p i j. ap not (full_told s p i j) ∙ go (is_full s) (list_any (λ live. live) s.live) (place_some s p j))
       (λ s i e. off (is_full s) (list_any (λ live. live) s.live) e)
     where
@@ -161,13 +161,13 @@ module _ {limit : ℕ} (order : ℕ) (c : Cache) (m : Machine) (w : IsWellFormed
       omega (arith, rest, one, full, partial, empty)
 
   -- the row of the cache is that of what is seen of it
-  pub row_seen : (hides : ℕ → Bool) → ((s : Slab) → IsIn s c.slabs → hides c.number ≡ true) → is_row hides (told_cache c, row_of_cache c) ≡ true
-  row_seen hides may = and_from _ _
+  pub row_seen : (may_have_empty : ℕ → Bool) → ((s : Slab) → IsIn s c.slabs → may_have_empty c.number ≡ true) → is_row may_have_empty (cache_as_known c, row_of_cache c) ≡ true
+  row_seen may_have_empty may = and_from _ _
       (and_from _ _ (and_from _ _ (eq-eqb c.number c.number refl) (eq-eqb (length (live_objects c)) (length (map (λ o. o.place) (live_objects c))) (sym (length-map (live_objects c) (λ o. o.place))))) (hidden c.slabs may))
-      (and_from _ _ (eq-eqb (length (filter is_full c.slabs)) (count_slabs (told.is_slab_full (told_cache c)) (told_cache c)) (sym full_counted))
-      (eq-eqb (length (filter is_partial c.slabs)) (count_slabs (λ p. not (told.is_slab_full (told_cache c) p)) (told_cache c)) (sym partial_counted)))
+      (and_from _ _ (eq-eqb (length (filter is_full c.slabs)) (count_slabs (told.is_slab_full (cache_as_known c)) (cache_as_known c)) (sym full_counted))
+      (eq-eqb (length (filter is_partial c.slabs)) (count_slabs (λ p. not (told.is_slab_full (cache_as_known c) p)) (cache_as_known c)) (sym partial_counted)))
     where
-      hidden : (ss : List Slab) → ((s : Slab) → IsIn s ss → hides c.number ≡ true) → (eqb (length (filter is_empty ss)) 0 || hides c.number) ≡ true
+      hidden : (ss : List Slab) → ((s : Slab) → IsIn s ss → may_have_empty c.number ≡ true) → (eqb (length (filter is_empty ss)) 0 || may_have_empty c.number) ≡ true
       hidden [] may = refl
       hidden (s ∷ ss) may = ap (λ b. eqb (length (filter is_empty (s ∷ ss))) 0 || b) (may s (inl refl)) ∙ or-true (eqb (length (filter is_empty (s ∷ ss))) 0)
 
@@ -187,32 +187,32 @@ slabs_of_order k c ss = go (eqb (layout c).order k) refl ss
     go false e (s ∷ ss) = let rest : length (filter (is_order k) (map (slab_block c) ss)) ≡ 0 = go false e ss in
         let one : bit (is_order k (slab_block c s)) ≡ 0 = ap bit e in omega (arith, filter_length (is_order k) (slab_block c s) (map (slab_block c) ss), rest, one)
 
-abbrev slabs_told : ℕ → ToldCache × CacheRow → ℕ
+abbrev slabs_told : ℕ → KnownCache × CacheRow → ℕ
 slabs_told k p = if eqb p.0.order k then p.1.full + p.1.partial + p.1.empty else 0
 
 module _ {limit : ℕ} (order : ℕ) (m : Machine) (w : IsWellFormed limit order m) where
   slabs_seen : (k : ℕ) (cs : List Cache) → ((c : Cache) → IsIn c cs → IsIn c m.caches)
-      → sum_by (slabs_told k) (zip (map told_cache cs) (map row_of_cache cs)) ≡ length (filter (is_order k) (flat_map slab_blocks cs))
+      → sum_by (slabs_told k) (zip (map cache_as_known cs) (map row_of_cache cs)) ≡ length (filter (is_order k) (flat_map slab_blocks cs))
   slabs_seen k [] all = refl
   slabs_seen k (c ∷ cs) all =
-      let rest : sum_by (slabs_told k) (zip (map told_cache cs) (map row_of_cache cs)) ≡ length (filter (is_order k) (flat_map slab_blocks cs)) = slabs_seen k cs (λ d i. all d (inr i)) in
+      let rest : sum_by (slabs_told k) (zip (map cache_as_known cs) (map row_of_cache cs)) ≡ length (filter (is_order k) (flat_map slab_blocks cs)) = slabs_seen k cs (λ d i. all d (inr i)) in
       let sum : length (filter is_full c.slabs) + length (filter is_partial c.slabs) + length (filter is_empty c.slabs) ≡ length c.slabs = kinds order c m w (all c (inl refl)) c.slabs (λ s i. i) in
-      let here : slabs_told k (told_cache c, row_of_cache c) ≡ length (filter (is_order k) (slab_blocks c)) = ap (λ n. if eqb (layout c).order k then n else 0) sum ∙ sym (slabs_of_order k c c.slabs) in
+      let here : slabs_told k (cache_as_known c, row_of_cache c) ≡ length (filter (is_order k) (slab_blocks c)) = ap (λ n. if eqb (layout c).order k then n else 0) sum ∙ sym (slabs_of_order k c c.slabs) in
       let parts : length (filter (is_order k) (slab_blocks c ++ flat_map slab_blocks cs)) ≡ length (filter (is_order k) (slab_blocks c)) + length (filter (is_order k) (flat_map slab_blocks cs)) =
       ap length (filter-append (is_order k) (slab_blocks c) (flat_map slab_blocks cs)) ∙ length-append (filter (is_order k) (slab_blocks c)) (filter (is_order k) (flat_map slab_blocks cs)) in
-      omega (arith, sum_by-cons (slabs_told k) (told_cache c, row_of_cache c) (zip (map told_cache cs) (map row_of_cache cs)), rest, here, parts)
+      omega (arith, sum_by-cons (slabs_told k) (cache_as_known c, row_of_cache c) (zip (map cache_as_known cs) (map row_of_cache cs)), rest, here, parts)
 
   -- the taken blocks of an order, by what is seen and the rows
-  pub taken_seen_by_order : (k : ℕ) → reports.taken_count m k ≡ told_count (holdings_of m) (rows_of_caches m) k
+  pub taken_seen_by_order : (k : ℕ) → reports.taken_count m k ≡ known_count (holdings_of m) (rows_of_caches m) k
   unfolding model.taken_blocks holdings_of
   taken_seen_by_order k = ap length (filter-append (is_order k) m.blocks (flat_map slab_blocks m.caches))
       ∙ (length-append (filter (is_order k) m.blocks) (filter (is_order k) (flat_map slab_blocks m.caches))
       ∙ ap (λ n. length (filter (is_order k) m.blocks) + n) (sym (slabs_seen k m.caches (λ c i. i))))
 
   -- each row is that of what is seen
-  pub rows_seen : (hides : ℕ → Bool) → ((c : Cache) (s : Slab) → IsIn c m.caches → IsIn s c.slabs → hides c.number ≡ true) → list_all (is_row hides) (zip (map told_cache m.caches) (rows_of_caches m)) ≡ true
-  rows_seen hides may = go m.caches (λ c i. i)
+  pub rows_seen : (may_have_empty : ℕ → Bool) → ((c : Cache) (s : Slab) → IsIn c m.caches → IsIn s c.slabs → may_have_empty c.number ≡ true) → list_all (is_row may_have_empty) (zip (map cache_as_known m.caches) (rows_of_caches m)) ≡ true
+  rows_seen may_have_empty may = go m.caches (λ c i. i)
     where
-      go : (cs : List Cache) → ((c : Cache) → IsIn c cs → IsIn c m.caches) → list_all (is_row hides) (zip (map told_cache cs) (map row_of_cache cs)) ≡ true
+      go : (cs : List Cache) → ((c : Cache) → IsIn c cs → IsIn c m.caches) → list_all (is_row may_have_empty) (zip (map cache_as_known cs) (map row_of_cache cs)) ≡ true
       go [] all = refl
-      go (c ∷ cs) all = and_from _ _ (row_seen order c m w (all c (inl refl)) hides (λ s j. may c s (all c (inl refl)) j)) (go cs (λ d i. all d (inr i)))
+      go (c ∷ cs) all = and_from _ _ (row_seen order c m w (all c (inl refl)) may_have_empty (λ s j. may c s (all c (inl refl)) j)) (go cs (λ d i. all d (inr i)))

@@ -10,7 +10,7 @@ use Rattle.model_core.specs.Layouts.{object_place}
 use Rattle.model_core.specs.Reach.{is_within, within_block, within_objects, in_reach}
 use Rattle.model_core.proofs.Lists.{any_map}
 use Rattle.promise_core.specs.Bytes.{Holder, object_with, holder_of}
-use Rattle.promise_kept.specs.Meets.{told_cache, holdings_of}
+use Rattle.promise_kept.specs.Meets.{cache_as_known, holdings_of}
 
 -- Empty slabs
 
@@ -28,10 +28,10 @@ live_reaped c (s ∷ ss) = go (list_any (λ live. live) s.live) refl (live_reape
     go true e rest = ap (λ ls. live_in c s ++ ls) rest
     go false e rest = rest ∙ ap (λ ls. ls ++ flat_map (live_in c) ss) (sym (none_live c s 0 s.live e))
 
-told_reaped : (cs : List Cache) → map told_cache (map without_empty cs) ≡ map told_cache cs
+told_reaped : (cs : List Cache) → map cache_as_known (map without_empty cs) ≡ map cache_as_known cs
 told_reaped [] = refl
-told_reaped (c ∷ cs) = ap (λ ls. record (told_cache c) { live = map (λ o. o.place) ls } ∷ map told_cache (map without_empty cs)) (live_reaped c c.slabs)
-    ∙ ap (λ ts. told_cache c ∷ ts) (told_reaped cs)
+told_reaped (c ∷ cs) = ap (λ ls. record (cache_as_known c) { live = map (λ o. o.place) ls } ∷ map cache_as_known (map without_empty cs)) (live_reaped c c.slabs)
+    ∙ ap (λ ts. cache_as_known c ∷ ts) (told_reaped cs)
 
 -- reaping is not seen
 pub holdings_reaped : (m : Machine) → holdings_of (reaped m) ≡ holdings_of m
@@ -50,16 +50,16 @@ some_found p f (x ∷ xs) rest = go (p x) (some_found p f xs rest)
     go true e = refl
     go false e = e
 
-objects_same : (place len : ℕ) (cs : List Cache) → is_some (object_with place len (map told_cache cs)) ≡ list_any (within_objects place len) cs
+objects_same : (place len : ℕ) (cs : List Cache) → is_some (object_with place len (map cache_as_known cs)) ≡ list_any (within_objects place len) cs
 objects_same place len [] = refl
 objects_same place len (c ∷ cs) =
-    some_found (λ first. is_within place len first c.size) (λ first. Holder.Object c.number first) (map (λ o. o.place) (live_objects c)) (object_with place len (map told_cache cs))
-    ∙ (ap (λ b. b || is_some (object_with place len (map told_cache cs))) (any_map (λ first. is_within place len first c.size) (λ o. o.place) (live_objects c))
+    some_found (λ first. is_within place len first c.size) (λ first. Holder.Object c.number first) (map (λ o. o.place) (live_objects c)) (object_with place len (map cache_as_known cs))
+    ∙ (ap (λ b. b || is_some (object_with place len (map cache_as_known cs))) (any_map (λ first. is_within place len first c.size) (λ o. o.place) (live_objects c))
     ∙ ap (λ b. within_objects place len c || b) (objects_same place len cs))
 
 pub reach_same : (m : Machine) (place len : ℕ) → is_some (holder_of (holdings_of m) place len) ≡ in_reach m place len
 unfolding holdings_of holder_of in_reach
-reach_same m place len = go (ltb 0 len) (list_any (within_block place len) m.blocks) (object_with place len (map told_cache m.caches)) (objects_same place len m.caches)
+reach_same m place len = go (ltb 0 len) (list_any (within_block place len) m.blocks) (object_with place len (map cache_as_known m.caches)) (objects_same place len m.caches)
   where
     go : (some page : Bool) (o : Option Holder) → is_some o ≡ list_any (within_objects place len) m.caches
         → is_some (if not some then None else (if page then Some Holder.Page else o)) ≡ (some && (page || list_any (within_objects place len) m.caches))

@@ -17,10 +17,10 @@ use Rattle.model_core.proofs.Laid.{laid, all_laid, laid_block, IsLaidOut, laid_o
 use Rattle.model_core.proofs.CacheSteps.{in_all_laid}
 use Rattle.model_core.proofs.Constructed.{next_unheld}
 use Rattle.model_core.proofs.ObjectsApart.{contains_in, in_contains}
-use Rattle.promise_core.specs.Holdings.{Holdings, told_blocks, is_slot_busy}
+use Rattle.promise_core.specs.Holdings.{Holdings, known_blocks, is_slot_busy}
 use Rattle.promise_core.specs.Bytes.{Holder, may_be, without}
 use Rattle.promise_core.specs.State.{State, opening_state}
-use Rattle.promise_kept.specs.Meets.{told_cache, holdings_of, is_object_live, Meets}
+use Rattle.promise_kept.specs.Meets.{cache_as_known, holdings_of, is_object_live, Meets}
 use Rattle.promise_kept.proofs.Owning.{below_missing}
 use Rattle.promise_kept.proofs.Stand.{taken_seen}
 use Rattle.promise_kept.proofs.Cells.{fresh_may, without_some, without_may}
@@ -74,7 +74,7 @@ module _ {limit : ℕ} (order : ℕ) (m : Machine) (s : State) (w : IsWellFormed
   unfolding holdings_of operations.after_grant
   grant_meets = record {
     has = ap (λ (x : Holdings). record x { slots = put_rising (λ v. v) (operations.next_slot m) x.slots }) h.has;
-    hides = h.hides;
+    may_have_empty = h.may_have_empty;
     lives = λ place cell e sure. lives_still (put_rising (λ v. v) (operations.next_slot m) s.has.slots) s.has cell.holder place (h.lives place cell e sure);
     page_bytes = λ place byte out e. page place byte out (eqb (slot_of order place) (operations.next_slot m)) refl e;
     object_bytes = λ o j byte i below e. let is : IsObject m o = record { cache_in = i.cache_in; slab_in = i.slab_in; index_in = i.index_in } in
@@ -93,7 +93,7 @@ module _ {limit : ℕ} (order : ℕ) (m : Machine) (s : State) (w : IsWellFormed
   unfolding holdings_of operations.after_take_back
   take_back_meets u = record {
     has = ap (λ (x : Holdings). record x { slots = filter (λ v. not (eqb v u)) x.slots }) h.has;
-    hides = h.hides;
+    may_have_empty = h.may_have_empty;
     lives = λ place cell e sure. let was = without_some (of_slot order u) s.cells place cell e in
         lives_still (filter (λ v. not (eqb v u)) s.has.slots) s.has cell.holder place (h.lives place cell was.0 sure);
     page_bytes = λ place byte out e. let at = there (m.bytes place) byte (eqb (slot_of order place) u) e in
@@ -112,22 +112,22 @@ module _ {limit : ℕ} (order : ℕ) (m : Machine) (s : State) (w : IsWellFormed
   -- what is seen as busy is so
   pub busy_seen : (u : ℕ) → operations.is_busy order m u ≡ false → is_slot_busy order (holdings_of m) u ≡ false
   unfolding operations.is_busy
-  busy_seen u e = ap (λ b. not (not b)) (any_none (operations.overlaps (slot_block order u)) (told_blocks (holdings_of m)) (each_from (λ t. operations.overlaps (slot_block order u) t ≡ false) (told_blocks (holdings_of m))
+  busy_seen u e = ap (λ b. not (not b)) (any_none (operations.overlaps (slot_block order u)) (known_blocks (holdings_of m)) (each_from (λ t. operations.overlaps (slot_block order u) t ≡ false) (known_blocks (holdings_of m))
       (λ t i. each_in (λ t. operations.overlaps (slot_block order u) t ≡ false) t (model.taken_blocks m) (none_any (operations.overlaps (slot_block order u)) (model.taken_blocks m) e) (taken_seen order m t w i))))
 
   -- a slot is busy only where it is seen so, or a slab may stand
-  pub busy_may : (u : ℕ) → operations.is_busy order m u ≡ true → (is_slot_busy order (holdings_of m) u || list_any (λ c. s.hides c.number) (holdings_of m).caches) ≡ true
-  unfolding operations.is_busy model.taken_blocks holdings_of told_blocks
+  pub busy_may : (u : ℕ) → operations.is_busy order m u ≡ true → (is_slot_busy order (holdings_of m) u || list_any (λ c. s.may_have_empty c.number) (holdings_of m).caches) ≡ true
+  unfolding operations.is_busy model.taken_blocks holdings_of known_blocks
   busy_may u e =
       let b : (b : Block) × IsIn b (model.taken_blocks m) × (operations.overlaps (slot_block order u) b ≡ true) = some_any (operations.overlaps (slot_block order u)) (model.taken_blocks m) e in
       ⊎_elim
-      (λ (page : IsIn b.0 m.blocks). or_left (is_slot_busy order (holdings_of m) u) (list_any (λ c. s.hides c.number) (map told_cache m.caches))
-      (ap (λ x. not (not x)) (any_in (operations.overlaps (slot_block order u)) b.0 (told_blocks (holdings_of m)) (in_left b.0 m.blocks _ page) b.2)))
+      (λ (page : IsIn b.0 m.blocks). or_left (is_slot_busy order (holdings_of m) u) (list_any (λ c. s.may_have_empty c.number) (map cache_as_known m.caches))
+      (ap (λ x. not (not x)) (any_in (operations.overlaps (slot_block order u)) b.0 (known_blocks (holdings_of m)) (in_left b.0 m.blocks _ page) b.2)))
       (λ (slab : IsIn b.0 (flat_map slab_blocks m.caches)).
       let c : (c : Cache) × IsIn c m.caches × IsIn b.0 (slab_blocks c) = flat_map_in slab_blocks b.0 m.caches slab in
       let x : (x : Slab) × IsIn x c.0.slabs × (slab_block c.0 x ≡ b.0) = map_in (slab_block c.0) b.0 c.0.slabs c.2 in
-      or_right (is_slot_busy order (holdings_of m) u) (list_any (λ c. s.hides c.number) (map told_cache m.caches))
-      (any_in (λ c. s.hides c.number) (told_cache c.0) (map told_cache m.caches) (in_map told_cache c.0 m.caches c.1) (h.hides c.0 x.0 (in_contains c.0 m.caches c.1) (in_contains x.0 c.0.slabs x.1))))
+      or_right (is_slot_busy order (holdings_of m) u) (list_any (λ c. s.may_have_empty c.number) (map cache_as_known m.caches))
+      (any_in (λ c. s.may_have_empty c.number) (cache_as_known c.0) (map cache_as_known m.caches) (in_map cache_as_known c.0 m.caches c.1) (h.may_have_empty c.0 x.0 (in_contains c.0 m.caches c.1) (in_contains x.0 c.0.slabs x.1))))
       (in_append b.0 m.blocks (flat_map slab_blocks m.caches) b.1)
 
 -- Which slots are held
@@ -172,7 +172,7 @@ pub nothing_meets : (order : ℕ) → Meets order opening_state empty_machine
 unfolding opening_state holdings_of empty_machine
 nothing_meets order = record {
   has = refl;
-  hides = λ c slab in_caches in_slabs. absurd (let low = in_caches.1 in omega (arith, low));
+  may_have_empty = λ c slab in_caches in_slabs. absurd (let low = in_caches.1 in omega (arith, low));
   lives = λ place cell e sure. absurd (cc);
   page_bytes = λ place byte outside e. absurd (cc);
   object_bytes = λ o j byte is_object below e. absurd (cc);

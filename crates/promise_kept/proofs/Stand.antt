@@ -26,9 +26,9 @@ use Rattle.model_core.proofs.PageSteps.{by_need_kept}
 use Rattle.model_core.proofs.Vacant.{IsVacant, some_choice}
 use Rattle.model_core.proofs.Room.{range_in}
 use Rattle.model_core.proofs.TakenSteps.{order_in_is}
-use Rattle.promise_core.specs.Holdings.{slab_around, told_blocks, is_vacant, can_stand, blocks_of_slot, vacant_blocks, has_room}
+use Rattle.promise_core.specs.Holdings.{slab_around, known_blocks, is_vacant, can_stand, blocks_of_slot, vacant_blocks, has_room}
 use Rattle.promise_core.proofs.Grids.{around_is}
-use Rattle.promise_kept.specs.Meets.{told_cache, holdings_of}
+use Rattle.promise_kept.specs.Meets.{cache_as_known, holdings_of}
 use Rattle.promise_kept.proofs.Seen.{holdings_reaped}
 
 -- Blocks
@@ -45,7 +45,7 @@ overlap_shares a b e apart =
 
 -- the slab that is told by the place of a live object is its slab
 pub slab_seen : {limit : ℕ} (order : ℕ) (m : Machine) (c : Cache) (o : LiveObject) → IsWellFormed limit order m → IsIn c m.caches → IsIn o (live_objects c)
-    → slab_around (told_cache c) o.place ≡ slab_block c o.slab
+    → slab_around (cache_as_known c) o.place ≡ slab_block c o.slab
 slab_seen order m c o w in_c in_o =
     let is : IsLive c o = live_is c o in_o in
     let k : Laid = laid c o.slab in
@@ -57,27 +57,27 @@ slab_seen order m c o w in_c in_o =
     around_is (slab_block c o.slab) (o.place / 4096) (each_in _ k (all_laid m.caches) l.placed_slabs i).0.1 (in_block-true o.place (laid_block k) byte.in_slab)
 
 slabs_in_use : Cache → List Block
-slabs_in_use c = map (slab_around (told_cache c)) (map (λ o. o.place) (live_objects c))
+slabs_in_use c = map (slab_around (cache_as_known c)) (map (λ o. o.place) (live_objects c))
 
-seen_caches : (cs : List Cache) → flat_map (λ c. map (slab_around c) c.live) (map told_cache cs) ≡ flat_map slabs_in_use cs
+seen_caches : (cs : List Cache) → flat_map (λ c. map (slab_around c) c.live) (map cache_as_known cs) ≡ flat_map slabs_in_use cs
 unfolding slabs_in_use
 seen_caches [] = refl
 seen_caches (c ∷ cs) = ap (λ bs. slabs_in_use c ++ bs) (seen_caches cs)
 
-seen_parts : (m : Machine) → told_blocks (holdings_of m) ≡ m.blocks ++ flat_map slabs_in_use m.caches
-unfolding told_blocks holdings_of
+seen_parts : (m : Machine) → known_blocks (holdings_of m) ≡ m.blocks ++ flat_map slabs_in_use m.caches
+unfolding known_blocks holdings_of
 seen_parts m = ap (λ bs. m.blocks ++ bs) (seen_caches m.caches)
 
 in_use_listed : {limit : ℕ} (order : ℕ) (m : Machine) (b : Block) (c : Cache) → IsWellFormed limit order m → IsIn c m.caches → IsIn b (slabs_in_use c) → IsIn b (slab_blocks c)
 unfolding slabs_in_use
 in_use_listed order m b c w in_c i =
-    let p = map_in (slab_around (told_cache c)) b (map (λ o. o.place) (live_objects c)) i in
+    let p = map_in (slab_around (cache_as_known c)) b (map (λ o. o.place) (live_objects c)) i in
     let o = map_in (λ o. o.place) p.0 (live_objects c) p.1 in
-    let is : slab_block c o.0.slab ≡ b = sym (slab_seen order m c o.0 w in_c o.1) ∙ (ap (λ x. slab_around (told_cache c) x) o.2 ∙ p.2) in
+    let is : slab_block c o.0.slab ≡ b = sym (slab_seen order m c o.0 w in_c o.1) ∙ (ap (λ x. slab_around (cache_as_known c) x) o.2 ∙ p.2) in
     subst (λ x. IsIn x (slab_blocks c)) is (in_map (slab_block c) o.0.slab c.slabs (live_is c o.0 o.1).slab_in)
 
 -- what is seen as taken is taken ..
-pub taken_seen : {limit : ℕ} (order : ℕ) (m : Machine) (b : Block) → IsWellFormed limit order m → IsIn b (told_blocks (holdings_of m)) → IsIn b (model.taken_blocks m)
+pub taken_seen : {limit : ℕ} (order : ℕ) (m : Machine) (b : Block) → IsWellFormed limit order m → IsIn b (known_blocks (holdings_of m)) → IsIn b (model.taken_blocks m)
 unfolding model.taken_blocks
 taken_seen order m b w i = elim (in_append b m.blocks (flat_map slabs_in_use m.caches) (subst (λ bs. IsIn b bs) (seen_parts m) i)) [
   | inl j ↦ in_left b m.blocks (flat_map slab_blocks m.caches) j
@@ -98,12 +98,12 @@ in_use order m b c w in_c i =
     let f = filter_in (λ s. not (is_empty s)) s.0 c.slabs s.1 in
     let o = one_live c s.0 0 s.0.live (not-false _ (not-true _ f.1)) in
     let in_o : IsIn o.0 (live_objects c) = in_flat_map (live_in c) o.0 s.0 c.slabs f.0 o.1 in
-    let is : slab_around (told_cache c) o.0.place ≡ b = slab_seen order m c o.0 w in_c in_o ∙ (ap (λ x. slab_block c x) o.2 ∙ s.2) in
-    subst (λ x. IsIn x (map (slab_around (told_cache c)) (map (λ o. o.place) (live_objects c)))) is
-    (in_map (slab_around (told_cache c)) o.0.place (map (λ o. o.place) (live_objects c)) (in_map (λ o. o.place) o.0 (live_objects c) in_o))
+    let is : slab_around (cache_as_known c) o.0.place ≡ b = slab_seen order m c o.0 w in_c in_o ∙ (ap (λ x. slab_block c x) o.2 ∙ s.2) in
+    subst (λ x. IsIn x (map (slab_around (cache_as_known c)) (map (λ o. o.place) (live_objects c)))) is
+    (in_map (slab_around (cache_as_known c)) o.0.place (map (λ o. o.place) (live_objects c)) (in_map (λ o. o.place) o.0 (live_objects c) in_o))
 
 -- .. and what is taken once all empty slabs are given back is seen so
-pub taken_is_seen : {limit : ℕ} (order : ℕ) (m : Machine) (b : Block) → IsWellFormed limit order m → IsIn b (model.taken_blocks (reaped m)) → IsIn b (told_blocks (holdings_of m))
+pub taken_is_seen : {limit : ℕ} (order : ℕ) (m : Machine) (b : Block) → IsWellFormed limit order m → IsIn b (model.taken_blocks (reaped m)) → IsIn b (known_blocks (holdings_of m))
 unfolding model.taken_blocks reaped
 taken_is_seen order m b w i = subst (λ bs. IsIn b bs) (sym (seen_parts m)) (elim (in_append b m.blocks (flat_map slab_blocks (map without_empty m.caches)) i) [
   | inl j ↦ in_left b m.blocks (flat_map slabs_in_use m.caches) j
@@ -122,7 +122,7 @@ chosen_stands order k first m w is =
     let placed = chosen_placed order k first m is in
     let apart : Each (IsApart (block first k)) (model.taken_blocks m) = chosen_apart order k first m w.apart is in
     and_from _ _ (and_from _ _ (le-leb k order placed.0.0) (eq-eqb (first % 2 ^ k) 0 placed.0.1))
-    (and_from _ _ placed.1 (not_from_false _ (any_none (overlaps (block first k)) (told_blocks (holdings_of m)) (each_from (λ b. overlaps (block first k) b ≡ false) (told_blocks (holdings_of m)) (λ b i.
+    (and_from _ _ placed.1 (not_from_false _ (any_none (overlaps (block first k)) (known_blocks (holdings_of m)) (each_from (λ b. overlaps (block first k) b ≡ false) (known_blocks (holdings_of m)) (λ b i.
     false_from_ne_true (overlaps (block first k) b) (λ e. overlap_shares (block first k) b e (each_in (IsApart (block first k)) b (model.taken_blocks m) apart (taken_seen order m b w i))))))))
 
 -- .. also where empty slabs are given back by need
@@ -152,8 +152,8 @@ module _ (order k : ℕ) (of_slot : k ≤ order) where
     slot = any_in (λ v. eqb v (i * 2 ^ k / 2 ^ order)) u m.slots in_u (eq-eqb u (i * 2 ^ k / 2 ^ order) (sym (slot_is u i low high)));
     untaken = λ x has t.
         let b : Block = block t.0 t.1 in
-        let seen : IsIn b (told_blocks (holdings_of m)) = taken_is_seen order m b w (order_in_is (model.taken_blocks (reaped m)) t.0 t.1 t.2) in
-        false≢true (sym (each_in (λ c. overlaps (block (i * 2 ^ k) k) c ≡ false) b (told_blocks (holdings_of m)) (none_any (overlaps (block (i * 2 ^ k) k)) (told_blocks (holdings_of m)) (not-true _ e)) seen)
+        let seen : IsIn b (known_blocks (holdings_of m)) = taken_is_seen order m b w (order_in_is (model.taken_blocks (reaped m)) t.0 t.1 t.2) in
+        false≢true (sym (each_in (λ c. overlaps (block (i * 2 ^ k) k) c ≡ false) b (known_blocks (holdings_of m)) (none_any (overlaps (block (i * 2 ^ k) k)) (known_blocks (holdings_of m)) (not-true _ e)) seen)
         ∙ overlap_from (block (i * 2 ^ k) k) b x has t.3);
   }
 

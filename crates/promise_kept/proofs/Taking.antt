@@ -21,10 +21,10 @@ use Rattle.words_core.specs.declared.event.Command.TheVariants as Asked
 use Rattle.words_core.specs.declared.reply.Body.TheVariants as Say
 use Rattle.words_core.specs.declared.reply.Refusal.{Refusal}
 use Rattle.world_core.specs.PrivateStep.{take_body, command_step}
-use Rattle.promise_core.specs.Holdings.{live_beside, is_slab_full as is_full_there, has_room, cache_told as cache_told}
+use Rattle.promise_core.specs.Holdings.{live_beside, is_slab_full as is_full_there, has_room, known_cache as known_cache}
 use Rattle.promise_core.specs.State.{State}
 use Rattle.promise_core.specs.Promises.{due, first_due, is_used_up, is_one}
-use Rattle.promise_kept.specs.Meets.{told_cache, holdings_of, Meets, IsKeptBy, IsPromiseKept}
+use Rattle.promise_kept.specs.Meets.{cache_as_known, holdings_of, Meets, IsKeptBy, IsPromiseKept}
 use Rattle.promise_kept.proofs.Stand.{room_served}
 use Rattle.promise_kept.proofs.Cells.{refused}
 use Rattle.promise_kept.proofs.Reaped.{untold, meets_untold, by_need_meets}
@@ -81,7 +81,7 @@ all_full c e s i = go (find is_partial c.slabs) refl e
 meets_hidden : (order number : ℕ) (s : State) (m : Machine) → Meets order (untold s) m → Meets order (hidden number s) m
 meets_hidden order number s m h = record {
   has = h.has;
-  hides = λ c slab i j. or_right _ (s.hides c.number) (h.hides c slab i j);
+  may_have_empty = λ c slab i j. or_right _ (s.may_have_empty c.number) (h.may_have_empty c slab i j);
   lives = h.lives;
   page_bytes = h.page_bytes;
   object_bytes = h.object_bytes;
@@ -110,9 +110,9 @@ grow_kept order first c m st w h in_c e =
     (none_all (new_slab c first).live (omega (arith, length-replicate {A = Bool} (layout c).count false, (l.fits 0).some)) (none_set (layout c).count))
 
 module _ (limit order number : ℕ) (m : Machine) (s : State) (w : IsWellFormed limit order m) (h : Meets order s m) where
-  told_of : (o : Option Cache) → cache_of m number ≡ o → cache_told s.has number ≡ option_map told_cache o
+  told_of : (o : Option Cache) → cache_of m number ≡ o → known_cache s.has number ≡ option_map cache_as_known o
   unfolding holdings_of
-  told_of o e = ap (λ x. cache_told x number) h.has ∙ (cache_seen number m.caches ∙ ap (option_map told_cache) e)
+  told_of o e = ap (λ x. known_cache x number) h.has ∙ (cache_seen number m.caches ∙ ap (option_map cache_as_known) e)
 
   no_cache : cache_of m number ≡ None → IsKeptBy limit order (Asked.Take number) s (Say.Refused Refusal.NoCache) m
   unfolding due
@@ -122,18 +122,18 @@ module _ (limit order number : ℕ) (m : Machine) (s : State) (w : IsWellFormed 
 
   -- all objects of its slabs are live, and there is no room for another slab
   used_up : (c : Cache) → 3 ≤ order → IsIn c m.caches → slab_to_use (find is_partial c.slabs) (find is_empty c.slabs) ≡ None → choice_by_need order (layout c).order m ≡ None
-      → is_used_up order s.has (told_cache c) ≡ true
+      → is_used_up order s.has (cache_as_known c) ≡ true
   used_up c large in_c e none =
       let k : IsCache c = each_in IsCache c m.caches w.caches in_c in
       let l : IsLayout c.size c.align (layout c) = layouts_fit c.size c.align k.sized k.aligned in
-      and_from _ _ (all_from (is_full_there (told_cache c)) (map (λ o. o.place) (live_objects c)) (λ u i. full u (live_place c u i)))
+      and_from _ _ (all_from (is_full_there (cache_as_known c)) (map (λ o. o.place) (live_objects c)) (λ u i. full u (live_place c u i)))
       (ap (λ x. not (has_room order x (layout c).order)) h.has ∙ ap not (room_served order (layout c).order m w (omega (arith, l.order)) none))
     where
-      full : (u : ℕ) → IsLivePlace c u → is_full_there (told_cache c) u ≡ true
+      full : (u : ℕ) → IsLivePlace c u → is_full_there (cache_as_known c) u ≡ true
       full u o =
           let count : length o.slab.live ≡ (layout c).count = (is_slab order c m w in_c o.slab o.slab_in).count in
-          eq-eqb (length (live_beside (told_cache c) u)) (layout c).count
-          (ap (λ p. length (live_beside (told_cache c) p)) o.at ∙ (ap length (beside_is order c m w in_c o.slab o.index o.slab_in (subst (λ n. o.index < n) count o.index_in))
+          eq-eqb (length (live_beside (cache_as_known c) u)) (layout c).count
+          (ap (λ p. length (live_beside (cache_as_known c) p)) o.at ∙ (ap length (beside_is order c m w in_c o.slab o.index o.slab_in (subst (λ n. o.index < n) count o.index_in))
           ∙ (full_count c o.slab (all_full c e o.slab o.slab_in) ∙ count)))
 
   no_frames : (c : Cache) → 3 ≤ order → cache_of m number ≡ Some c → IsIn c m.caches → slab_to_use (find is_partial c.slabs) (find is_empty c.slabs) ≡ None → choice_by_need order (layout c).order m ≡ None

@@ -244,7 +244,7 @@ module _ (limit order : ℕ) (w : World) (states : List State) where
       slot_busy u e busy = unchanged (On.Admin (Do.TakeBack t u)) (told (Say.Refused Refusal.SlotBusy)) t m s refl is (state_of t m is).1
           (all_kept (On.Admin (Do.TakeBack t u)) (told (Say.Refused Refusal.SlotBusy)) now s refl
           (ap (λ b. option_map_or (is_one Refusal.SlotBusy) (first_due ((b, Refusal.NoSlot) ∷ (seen.is_slot_busy order s.has u, Refusal.SlotBusy) ∷ [])) true) (held_slot u e) ∙ either (seen.is_slot_busy order s.has u))
-          refl (ap (λ (x : seen.Holdings). seen.is_slot_busy order x u || list_any (λ c. s.hides c.number) x.caches) met.has ∙ busy_may order m s formed met u busy)
+          refl (ap (λ (x : seen.Holdings). seen.is_slot_busy order x u || list_any (λ c. s.may_have_empty c.number) x.caches) met.has ∙ busy_may order m s formed met u busy)
           refl refl refl refl refl refl refl refl) refl refl
         where
           either : (b : Bool) → option_map_or (is_one Refusal.SlotBusy) (first_due ((b, Refusal.SlotBusy) ∷ [])) true ≡ true

@@ -14,13 +14,13 @@ use Rattle.words_core.specs.declared.report.Report.{Report}
 use Rattle.words_core.specs.declared.reply.Addressee.TheVariants as To
 use Rattle.words_core.specs.declared.reply.Body.{Body}
 use Rattle.world_core.specs.PrivateStep.{command_step}
-use Rattle.promise_core.specs.Holdings.{ToldCache, Holdings}
+use Rattle.promise_core.specs.Holdings.{KnownCache, Holdings}
 use Rattle.promise_core.specs.Bytes.{Holder, Cell, may_be}
 use Rattle.promise_core.specs.State.{State, state_after}
 use Rattle.promise_core.specs.Promises.{kept}
 
-abbrev pub told_cache : Cache → ToldCache
-told_cache c = record {
+abbrev pub cache_as_known : Cache → KnownCache
+cache_as_known c = record {
   number = c.number;
   size = c.size;
   align = c.align;
@@ -33,7 +33,7 @@ told_cache c = record {
 
 -- what the tenant of this machine has: empty slabs and colours aren't seen
 unfoldable pub holdings_of : Machine → Holdings
-holdings_of m = record { slots = m.slots; pages = m.blocks; caches = map told_cache m.caches }
+holdings_of m = record { slots = m.slots; pages = m.blocks; caches = map cache_as_known m.caches }
 
 -- the holder of a byte at this place is a live page block, or a live object
 abbrev pub is_object_live : Holdings → Holder → ℕ → Bool
@@ -44,7 +44,7 @@ is_object_live h (Holder.Object number first) place = list_any (λ c. c.number =
 pub record Meets (order : ℕ) (s : State) (m : Machine) : Type 0 where
   pub has : s.has ≡ holdings_of m
   -- a cache with a slab is one that may have an empty one
-  pub hides : (c : Cache) (slab : Slab) → Contains m.caches c → Contains c.slabs slab → s.hides c.number ≡ true
+  pub may_have_empty : (c : Cache) (slab : Slab) → Contains m.caches c → Contains c.slabs slab → s.may_have_empty c.number ≡ true
   -- what does not live is in doubt
   pub lives : (place : ℕ) (cell : Cell) → s.cells place ≡ Some cell → cell.sure ≡ true → is_object_live s.has cell.holder place ≡ true
   -- each byte outside slabs is one that a page block may have there

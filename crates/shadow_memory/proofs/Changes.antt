@@ -7,7 +7,7 @@ use Rattle.std.proofs.lemmas.Bool.{eqb-true, false≢true, and_parts, le-leb, lt
 use Rattle.model_core.specs.Blocks.{Block}
 use Rattle.model_core.specs.Machine.{in_block}
 use Rattle.promise_core.specs.Bytes.{Holder, Cell, Cells, is_object, is_same, doubted, without, with_bytes}
-use Rattle.promise_core.specs.Holdings.{ToldCache, slab_around, are_apart}
+use Rattle.promise_core.specs.Holdings.{KnownCache, slab_around, are_apart}
 use Rattle.promise_core.specs.State.{with_object}
 use Rattle.shadow_memory.specs.Left.{Left, left_slots, has_place, Becomes, left_at}
 use Rattle.shadow_memory.specs.Inside.{StaysNear, IsNear, IsHolderNear, AreSlots, AreStepped, within, doubted_of, removed_of}
@@ -34,7 +34,7 @@ doubted_none test place cells none =
 pub without_none : (test : ℕ → Holder → Bool) (place : ℕ) (cells : Cells) → cells place ≡ None → without test cells place ≡ None
 without_none test place cells none = ap (option_and_then (λ (cell : Cell). if test place cell.holder then None else Some cell)) none
 
-pub object_none : (first : ℕ) (c : ToldCache) (place : ℕ) (cells : Cells) → cells place ≡ None → with_object first (Some c) cells place ≡ None
+pub object_none : (first : ℕ) (c : KnownCache) (place : ℕ) (cells : Cells) → cells place ≡ None → with_object first (Some c) cells place ≡ None
 object_none first c = without_none (λ place holder. in_block place (slab_around c first)
     && not (is_object (λ n p. n == c.number && (p == first || are_apart c first p)) holder))
 
@@ -197,7 +197,7 @@ not_beside number first size holder =
 
 -- it is gone where the object is handed out
 pub taken : (number first size : ℕ) (slab : Block) (begin end : ℕ) → begin ≡ 4096 * slab.first → end ≡ 4096 * (slab.first + 2 ^ slab.order)
-    → (c : ToldCache) → c.number ≡ number → c.size ≡ size → slab_around c first ≡ slab → (place : ℕ) (cells : Cells)
+    → (c : KnownCache) → c.number ≡ number → c.size ≡ size → slab_around c first ≡ slab → (place : ℕ) (cells : Cells)
     → within begin end (removed_of (not_beside number first size)) place (cells place) ≡ with_object first (Some c) cells place
 taken number first size slab begin end is_begin is_end c is_number is_size is_slab place cells =
     subst (λ (n : ℕ). within begin end (removed_of (not_beside n first size)) place (cells place) ≡ with_object first (Some c) cells place) is_number
@@ -299,7 +299,7 @@ narrowed reach number first size begin end low high place (Some cell) small is_l
 pub taken_twice : (reach : List ℕ) (number first size : ℕ) (slab : Block) (begin end low high : ℕ) → begin ≡ 4096 * slab.first
     → end ≡ 4096 * (slab.first + 2 ^ slab.order) → low ≡ max begin (first - size)
     → high ≡ min end (min (first + size + slice_index reach number) (2 ^ 64 - 1))
-    → (c : ToldCache) → c.number ≡ number → c.size ≡ size → slab_around c first ≡ slab → (place : ℕ) (cells : Cells) → place < 2 ^ 32
+    → (c : KnownCache) → c.number ≡ number → c.size ≡ size → slab_around c first ≡ slab → (place : ℕ) (cells : Cells) → place < 2 ^ 32
     → IsNear reach place (cells place)
     → within low high (removed_of (not_beside number first size)) place (within begin end (removed_of (elsewhere number)) place (cells place))
     ≡ with_object first (Some c) cells place

@@ -6,16 +6,16 @@ use Rattle.std.specs.Option.{option_map_or}
 use Rattle.std.proofs.lemmas.Bool.{leb-true}
 use Rattle.std.proofs.lemmas.List.{at_drop_more}
 use Rattle.model_core.specs.Reach.{is_within, within_block}
-use Rattle.promise_core.specs.Holdings.{Holdings, ToldCache}
-use Rattle.promise_core.specs.Bytes.{Holder, Cells, may_be, may_all_be, told_fresh_byte, object_with, holder_of}
+use Rattle.promise_core.specs.Holdings.{Holdings, KnownCache}
+use Rattle.promise_core.specs.Bytes.{Holder, Cells, may_be, may_all_be, known_fresh_byte, object_with, holder_of}
 
 -- one byte more
 pub read_more : (h : Holdings) (f : Cells) (holder : Holder) (place i : ℕ) (bytes : List ℕ) (byte : ℕ) → i < length bytes → byte ≡ get_or bytes i byte
     → may_all_be h f holder (place + i) (drop i bytes)
-    ≡ (may_be holder (told_fresh_byte h holder (place + i)) (f (place + i)) byte && may_all_be h f holder (place + (i + 1)) (drop (i + 1) bytes))
+    ≡ (may_be holder (known_fresh_byte h holder (place + i)) (f (place + i)) byte && may_all_be h f holder (place + (i + 1)) (drop (i + 1) bytes))
 read_more h f holder place i bytes byte lt is = at_drop_more (may_all_be h f holder (place + i)) bytes i byte lt
-    ∙ (ap (λ (b : ℕ). may_be holder (told_fresh_byte h holder (place + i)) (f (place + i)) b && may_all_be h f holder (place + i + 1) (drop (i + 1) bytes)) (sym is)
-    ∙ ap (λ (p : ℕ). may_be holder (told_fresh_byte h holder (place + i)) (f (place + i)) byte && may_all_be h f holder p (drop (i + 1) bytes)) (omega arith))
+    ∙ (ap (λ (b : ℕ). may_be holder (known_fresh_byte h holder (place + i)) (f (place + i)) b && may_all_be h f holder (place + i + 1) (drop (i + 1) bytes)) (sym is)
+    ∙ ap (λ (p : ℕ). may_be holder (known_fresh_byte h holder (place + i)) (f (place + i)) byte && may_all_be h f holder p (drop (i + 1) bytes)) (omega arith))
 
 -- what has a range begins where it does, or before
 found_begins : (place len size : ℕ) (live : List ℕ) (p : ℕ) → find (λ first. is_within place len first size) live ≡ Some p → p ≤ place
@@ -29,7 +29,7 @@ found_begins place len size (q ∷ live) p e =
     go true false le rest e = rest e
     go false b le rest e = rest e
 
-object_with_begins : (place len number first : ℕ) (cs : List ToldCache) → object_with place len cs ≡ Some (Holder.Object number first) → first ≤ place
+object_with_begins : (place len number first : ℕ) (cs : List KnownCache) → object_with place len cs ≡ Some (Holder.Object number first) → first ≤ place
 object_with_begins place len number first [] e = cc
 object_with_begins place len number first (c ∷ cs) e =
     go (find (λ p. is_within place len p c.size) c.live) refl (object_with_begins place len number first cs) e

@@ -4,7 +4,7 @@ use Rattle.std.specs.List.{list_any, AllByRecursion}
 use Rattle.std.specs.Option.{option_and_then}
 use Rattle.model_core.specs.Machine.{slot_of}
 use Rattle.promise_core.specs.Bytes.{Holder, Cell}
-use Rattle.promise_core.specs.Holdings.{ToldCache, Holdings, cache_told}
+use Rattle.promise_core.specs.Holdings.{KnownCache, Holdings, known_cache}
 use Rattle.shadow_memory.specs.Left.{LeftSlot, Left, left_in, slots_in, slot_places}
 use Rattle.shadow_memory.specs.declared.kept.KeptByte.{KeptByte}
 use Rattle.shadow_memory.specs.declared.kept.KeptByte.TheVariants as Kept
@@ -42,9 +42,9 @@ abbrev pub removed_of : (Holder → Bool) → CellStep
 removed_of test place = option_and_then (λ (cell : Cell). if test cell.holder then None else Some cell)
 
 -- the cache of an object that has a byte
-abbrev pub cache_of : Holdings → Holder → Option ToldCache
+abbrev pub cache_of : Holdings → Holder → Option KnownCache
 cache_of h Holder.Page = None
-cache_of h (Holder.Object number first) = cache_told h number
+cache_of h (Holder.Object number first) = known_cache h number
 
 -- a byte of an object lies behind the object's first place, by less than the reach of its cache
 abbrev pub IsHolderNear : List ℕ → ℕ → Holder → Type 0

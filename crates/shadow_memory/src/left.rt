@@ -4,7 +4,7 @@ ghost use Rattle.std.specs.Prelude.{◌≡◌, ℕ, ◌+◌, ◌*◌, ◌^◌, �
 ghost use Rattle.std.specs.List.{list_any};
 ghost use Rattle.model_core.specs.declared.limits.TheConstants.{FRAME_BYTES, MOST_ORDER};
 ghost use Rattle.model_core.specs.Machine.{in_block, slot_of};
-ghost use Rattle.promise_core.specs.Holdings.{ToldCache, slab_around};
+ghost use Rattle.promise_core.specs.Holdings.{KnownCache, slab_around};
 ghost use Rattle.promise_core.specs.Bytes.{Holder, is_object, is_same, with_bytes, doubted, without};
 ghost use Rattle.promise_core.specs.State.{with_object, is_in_no_slab};
 ghost use Rattle.judge_core.specs.Holders.{shown_holder, shown_cell};
@@ -136,7 +136,7 @@ impl ShadowMemory {
     /// Follows a take of the object of `size` bytes of the cache of this number at `first`, in this slab: what was left there of
     /// all that can't lie beside it in a slab is gone.
     pub fn take(&mut self, slab: &FrameBlock, number: u8, first: u32, size: u32)
-        ensures { (c : ToldCache) → c.number ≡ number → c.size ≡ size → slab_around c first ≡ slab.now
+        ensures { (c : KnownCache) → c.number ≡ number → c.size ≡ size → slab_around c first ≡ slab.now
             → Becomes self.old (left_slots self.old) (with_object first (Some c)) self.new }
     {
         // All of other caches goes; of its own cache only an object that begins before its end and ends behind its first byte.

@@ -3,7 +3,7 @@
 ghost use Rattle.std.specs.Prelude.{◌≡◌, ℕ, ◌+◌, ◌^◌, ◌<◌, ◌≤◌, true, length, option_map};
 ghost use Rattle.std.specs.Option.{option_copied};
 ghost use Rattle.promise_core.specs.Holdings.{Holdings};
-ghost use Rattle.promise_core.specs.Bytes.{may_all_be, may_be, told_fresh_byte};
+ghost use Rattle.promise_core.specs.Bytes.{may_all_be, may_be, known_fresh_byte};
 ghost use Rattle.judge_core.specs.Holders.{shown_holder, shown_cell};
 ghost use Rattle.shadow_memory.specs.Left.{left_at, has_place};
 ghost use Rattle.shadow_memory.specs.Inside.{AreFrom, cache_of};
@@ -72,7 +72,7 @@ fn may_be_read(
     byte: u8,
 ) -> bool
     ensures { (h : Holdings) → option_copied cache.entry ≡ cache_of h (shown_holder holder)
-        → result ≡ may_be (shown_holder holder) (told_fresh_byte h (shown_holder holder) place) (option_map shown_cell left)
+        → result ≡ may_be (shown_holder holder) (known_fresh_byte h (shown_holder holder) place) (option_map shown_cell left)
         byte }
 {
     match left {
@@ -92,7 +92,7 @@ fn is_left(holder: RangeHolder, left: LeftByte, byte: u8) -> bool
 /// Returns the byte that something fresh has at a place of the holder, whose cache this is.
 fn fresh_byte(holder: RangeHolder, cache: Option<&HeldCache>, place: u32) -> u8
     ensures { (h : Holdings) → option_copied cache.entry ≡ cache_of h (shown_holder holder)
-        → result ≡ told_fresh_byte h (shown_holder holder) place }
+        → result ≡ known_fresh_byte h (shown_holder holder) place }
 {
     match holder {
         RangeHolder::Page => 0,

@@ -46,7 +46,7 @@ fn ended_by(alloc: Global, trace: &[u8], ends: [&[u8]; 2]) -> Result<Vec<u8>, Fa
 
 /// What is counted does not depend on the pieces; `only` hides the lines of others.
 #[test]
-fn counts_and_hides(rt: HostRuntime) -> Result<(), Fail> {
+fn counts_and_empty_slabs(rt: HostRuntime) -> Result<(), Fail> {
     let granted = b"admin grant 0\n0 alloc 0\n0 read 0 4\n".as_slice();
     let notes = b"# note\n\nfrob\n".as_slice();
     for (trace, only, counts, text) in [

@@ -12,7 +12,7 @@ use Rattle.judge.proofs.tenant.Tenant.add_block.Goals as goal
 
 pub invariant_of-self-2 : goal.invariant_of-self-2
 invariant_of-self-2 c =
-    let x : Seen = record { has = c.self.inside.held; left = c.self.inside.left; hides = c.self.inside.hides; told = c.self.inside.told } in
+    let x : Seen = record { has = c.self.inside.held; left = c.self.inside.left; may_have_empty = c.self.inside.may_have_empty; told = c.self.inside.told } in
     let new : Seen = changed x c.alloc.new.self c.alloc-2.new.self in
     sound_in (On.Tenant 0 (Asked.Alloc c.args.k)) (Say.Frame c.args.frame) nothing x c.args.self.now new c.self.view_is c.self.invariant (c.in_ok-block.ensures.judged 0 nothing)
     (λ kept. allocated 0 c.args.k c.args.frame nothing c.in_ok-block.block x c.alloc.new.self c.alloc-2.new.self c.in_ok-block.ensures.is kept c.in_ok-alloc.ensures.taken c.alloc-2.ensures)
@@ -20,7 +20,7 @@ invariant_of-self-2 c =
 
 pub returns : goal.returns
 returns c t w =
-    let x : Seen = record { has = c.self.inside.held; left = c.self.inside.left; hides = c.self.inside.hides; told = c.self.inside.told } in
+    let x : Seen = record { has = c.self.inside.held; left = c.self.inside.left; may_have_empty = c.self.inside.may_have_empty; told = c.self.inside.told } in
     let new : Seen = changed x c.alloc.new.self c.alloc-2.new.self in
     subst (λ (told : Option Report). IsFollowed (On.Tenant t (Asked.Alloc c.args.k)) (Say.Frame c.args.frame) w c.args.self.now (record new { told = told })) (sym c.forget.ensures)
     (followed (On.Tenant t (Asked.Alloc c.args.k)) (Say.Frame c.args.frame) w x c.args.self.now new c.self.view_is (c.in_ok-block.ensures.judged t w)

@@ -36,7 +36,7 @@ returns-in_err-on_answer-clause-judged c w = broken_off (On.Admin (Do.Grant c.ar
 
 pub returns-in_err-grant-clause-judged : goal.returns-in_err-grant-clause-judged
 returns-in_err-grant-clause-judged c w =
-    let x : Seen = record { has = c.self.inside.held; left = c.self.inside.left; hides = c.self.inside.hides; told = c.self.inside.told } in
+    let x : Seen = record { has = c.self.inside.held; left = c.self.inside.left; may_have_empty = c.self.inside.may_have_empty; told = c.self.inside.told } in
     failed_by (On.Admin (Do.Grant c.args.t)) (Say.Granted c.args.tenant c.args.slot c.args.superblock) (record w { owners = c.args.owners.now }) c.args.self.now _ _
     c.from_residual-in_err-grant.result c.from_residual-in_err-grant.ensures.1 (
       (sym (granting c.args.t c.args.tenant c.args.slot c.args.superblock w c.args.self.now c.args.owners.now _ _ _ c.due_of_grant.ensures (c.both-is_right.ensures ∙ (λ j. c.is_granted_to-is_granted.ensures j && c.is_new_slot.ensures j)) c.in_ok-on_answer.ensures), refl),
@@ -45,21 +45,21 @@ returns-in_err-grant-clause-judged c w =
 
 pub grant-requires-2-clause-new : goal.grant-requires-2-clause-new
 grant-requires-2-clause-new c =
-    let x : Seen = record { has = c.self.inside.held; left = c.self.inside.left; hides = c.self.inside.hides; told = c.self.inside.told } in
+    let x : Seen = record { has = c.self.inside.held; left = c.self.inside.left; may_have_empty = c.self.inside.may_have_empty; told = c.self.inside.told } in
     let new : IsNewSlot c.args.slot x = new_slot c.args.t c.args.tenant c.args.slot c.args.superblock (record nothing { owners = c.args.owners.now }) x
     (kept_in (On.Admin (Do.Grant c.args.t)) (Say.Granted c.args.tenant c.args.slot c.args.superblock) (record nothing { owners = c.args.owners.now }) x c.args.self.now c.self.view_is (granting c.args.t c.args.tenant c.args.slot c.args.superblock nothing c.args.self.now c.args.owners.now _ _ _ c.due_of_grant.ensures (c.both-is_right.ensures ∙ (λ j. c.is_granted_to-is_granted.ensures j && c.is_new_slot.ensures j)) c.in_ok-on_answer.ensures)) in
     c.self.invariant.slots c.args.slot ∙ new.new
 
 pub grant-requires-2-clause-low : goal.grant-requires-2-clause-low
 grant-requires-2-clause-low c =
-    let x : Seen = record { has = c.self.inside.held; left = c.self.inside.left; hides = c.self.inside.hides; told = c.self.inside.told } in
+    let x : Seen = record { has = c.self.inside.held; left = c.self.inside.left; may_have_empty = c.self.inside.may_have_empty; told = c.self.inside.told } in
     let new : IsNewSlot c.args.slot x = new_slot c.args.t c.args.tenant c.args.slot c.args.superblock (record nothing { owners = c.args.owners.now }) x
     (kept_in (On.Admin (Do.Grant c.args.t)) (Say.Granted c.args.tenant c.args.slot c.args.superblock) (record nothing { owners = c.args.owners.now }) x c.args.self.now c.self.view_is (granting c.args.t c.args.tenant c.args.slot c.args.superblock nothing c.args.self.now c.args.owners.now _ _ _ c.due_of_grant.ensures (c.both-is_right.ensures ∙ (λ j. c.is_granted_to-is_granted.ensures j && c.is_new_slot.ensures j)) c.in_ok-on_answer.ensures)) in
     new.low
 
 pub invariant_of-self-in-Err : goal.invariant_of-self-in-Err
 invariant_of-self-in-Err c =
-    let x : Seen = record { has = c.self.inside.held; left = c.self.inside.left; hides = c.self.inside.hides; told = c.self.inside.told } in
+    let x : Seen = record { has = c.self.inside.held; left = c.self.inside.left; may_have_empty = c.self.inside.may_have_empty; told = c.self.inside.told } in
     let new : IsNewSlot c.args.slot x = new_slot c.args.t c.args.tenant c.args.slot c.args.superblock (record nothing { owners = c.args.owners.now }) x
     (kept_in (On.Admin (Do.Grant c.args.t)) (Say.Granted c.args.tenant c.args.slot c.args.superblock) (record nothing { owners = c.args.owners.now }) x c.args.self.now c.self.view_is (granting c.args.t c.args.tenant c.args.slot c.args.superblock nothing c.args.self.now c.args.owners.now _ _ _ c.due_of_grant.ensures (c.both-is_right.ensures ∙ (λ j. c.is_granted_to-is_granted.ensures j && c.is_new_slot.ensures j)) c.in_ok-on_answer.ensures)) in
     let held = granted_back c.args.slot x.has c.grant.new.self c.take_back.new.self new.new c.in_ok-grant.ensures.granted
@@ -68,7 +68,7 @@ invariant_of-self-in-Err c =
 
 pub returns-in-Err-clause-judged : goal.returns-in-Err-clause-judged
 returns-in-Err-clause-judged c w =
-    let x : Seen = record { has = c.self.inside.held; left = c.self.inside.left; hides = c.self.inside.hides; told = c.self.inside.told } in
+    let x : Seen = record { has = c.self.inside.held; left = c.self.inside.left; may_have_empty = c.self.inside.may_have_empty; told = c.self.inside.told } in
     let new : IsNewSlot c.args.slot x = new_slot c.args.t c.args.tenant c.args.slot c.args.superblock (record nothing { owners = c.args.owners.now }) x
     (kept_in (On.Admin (Do.Grant c.args.t)) (Say.Granted c.args.tenant c.args.slot c.args.superblock) (record nothing { owners = c.args.owners.now }) x c.args.self.now c.self.view_is (granting c.args.t c.args.tenant c.args.slot c.args.superblock nothing c.args.self.now c.args.owners.now _ _ _ c.due_of_grant.ensures (c.both-is_right.ensures ∙ (λ j. c.is_granted_to-is_granted.ensures j && c.is_new_slot.ensures j)) c.in_ok-on_answer.ensures)) in
     let held = granted_back c.args.slot x.has c.grant.new.self c.take_back.new.self new.new c.in_ok-grant.ensures.granted
@@ -77,7 +77,7 @@ returns-in-Err-clause-judged c w =
 
 pub invariant_of-self-2 : goal.invariant_of-self-2
 invariant_of-self-2 c =
-    let x : Seen = record { has = c.self.inside.held; left = c.self.inside.left; hides = c.self.inside.hides; told = c.self.inside.told } in
+    let x : Seen = record { has = c.self.inside.held; left = c.self.inside.left; may_have_empty = c.self.inside.may_have_empty; told = c.self.inside.told } in
     let left = if_kept c.grant-2.result _ c.in_default.not-Err c.grant-2.ensures.granted in
     let new : Seen = changed x c.grant.new.self c.grant-2.new.self in
     sound_in (On.Admin (Do.Grant c.args.t)) (Say.Granted c.args.tenant c.args.slot c.args.superblock) (record nothing { owners = c.args.owners.now }) x c.args.self.now new c.self.view_is c.self.invariant (granting c.args.t c.args.tenant c.args.slot c.args.superblock nothing c.args.self.now c.args.owners.now _ _ _ c.due_of_grant.ensures (c.both-is_right.ensures ∙ (λ j. c.is_granted_to-is_granted.ensures j && c.is_new_slot.ensures j)) c.in_ok-on_answer.ensures)
@@ -85,7 +85,7 @@ invariant_of-self-2 c =
 
 pub returns-clause-judged : goal.returns-clause-judged
 returns-clause-judged c w =
-    let x : Seen = record { has = c.self.inside.held; left = c.self.inside.left; hides = c.self.inside.hides; told = c.self.inside.told } in
+    let x : Seen = record { has = c.self.inside.held; left = c.self.inside.left; may_have_empty = c.self.inside.may_have_empty; told = c.self.inside.told } in
     let left = if_kept c.grant-2.result _ c.in_default.not-Err c.grant-2.ensures.granted in
     let new : Seen = changed x c.grant.new.self c.grant-2.new.self in
     followed (On.Admin (Do.Grant c.args.t)) (Say.Granted c.args.tenant c.args.slot c.args.superblock) (record w { owners = c.args.owners.now }) x c.args.self.now new c.self.view_is (granting c.args.t c.args.tenant c.args.slot c.args.superblock w c.args.self.now c.args.owners.now _ _ _ c.due_of_grant.ensures (c.both-is_right.ensures ∙ (λ j. c.is_granted_to-is_granted.ensures j && c.is_new_slot.ensures j)) c.in_ok-on_answer.ensures) (λ kept. granted c.args.t c.args.tenant c.args.slot c.args.superblock (record w { owners = c.args.owners.now }) x c.grant.new.self c.grant-2.new.self kept c.in_ok-grant.ensures.granted left)

@@ -19,8 +19,8 @@ returns-in_err-on_answer-clause-judged c w = broken_off (On.Admin (Do.Reset c.ar
 pub returns-clause-judged : goal.returns-clause-judged
 unfolding due state_after
 returns-clause-judged c w =
-    let x : Seen = record { has = c.self.inside.held; left = c.self.inside.left; hides = c.self.inside.hides; told = c.self.inside.told } in
-    let new : Seen = record { has = c.reset.new.self; left = c.reset-2.new.self; hides = replicate 32 false; told = None } in
+    let x : Seen = record { has = c.self.inside.held; left = c.self.inside.left; may_have_empty = c.self.inside.may_have_empty; told = c.self.inside.told } in
+    let new : Seen = record { has = c.reset.new.self; left = c.reset-2.new.self; may_have_empty = replicate 32 false; told = None } in
     followed (On.Admin (Do.Reset c.args.t)) (Say.WasReset c.args.tenant c.args.superblocks) (record w { owners = c.args.owners.now }) x c.args.self.now new c.self.view_is (c.in_ok-on_answer.ensures ∙ (λ i. broken ((Promise.Refusals, true) ∷ (Promise.Owners, c.are_counted-is_counted.ensures i) ∷ [])))
     (λ kept. emptied c.args.t c.args.tenant c.args.superblocks (record w { owners = c.args.owners.now }) x new kept c.reset.ensures c.reset-2.ensures (λ n. none_marked n 32) refl)
 

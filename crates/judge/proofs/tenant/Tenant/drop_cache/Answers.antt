@@ -19,8 +19,8 @@ returns-in_err-on_still_answer c t w = broken_off (On.Tenant t (Asked.Destroy c.
 pub invariant_of-self : goal.invariant_of-self
 unfolding state_after
 invariant_of-self c =
-    let x : Seen = record { has = c.self.inside.held; left = c.self.inside.left; hides = c.self.inside.hides; told = c.self.inside.told } in
-    let new : Seen = record { has = c.destroy.new.self; left = c.destroy-2.new.self; hides = c.clear_mark.new.marks; told = None } in
+    let x : Seen = record { has = c.self.inside.held; left = c.self.inside.left; may_have_empty = c.self.inside.may_have_empty; told = c.self.inside.told } in
+    let new : Seen = record { has = c.destroy.new.self; left = c.destroy-2.new.self; may_have_empty = c.clear_mark.new.marks; told = None } in
     sound_in (On.Tenant 0 (Asked.Destroy c.args.number)) (Say.Destroyed c.args.frames) nothing x c.args.self.now new c.self.view_is c.self.invariant (c.in_ok-on_still_answer.ensures ∙ (λ i. broken ((Promise.Refusals, is_none (c.due_of_destroy-due.ensures 0 nothing i)) ∷ (Promise.Gives, c.can_come_back-can_come.ensures i) ∷ (Promise.Still, c.are_frames_told-is_still.ensures i) ∷ [])))
     (λ kept. destroyed 0 c.args.number c.args.frames nothing x c.destroy.new.self c.destroy-2.new.self c.clear_mark.new.marks kept c.destroy.ensures c.destroy-2.ensures c.clear_mark.ensures)
     (same_slots x new _ c.self.invariant c.destroy-2.ensures (ap (λ h. h.slots) c.destroy.ensures))
@@ -28,7 +28,7 @@ invariant_of-self c =
 pub returns : goal.returns
 unfolding state_after
 returns c t w =
-    let x : Seen = record { has = c.self.inside.held; left = c.self.inside.left; hides = c.self.inside.hides; told = c.self.inside.told } in
-    let new : Seen = record { has = c.destroy.new.self; left = c.destroy-2.new.self; hides = c.clear_mark.new.marks; told = None } in
+    let x : Seen = record { has = c.self.inside.held; left = c.self.inside.left; may_have_empty = c.self.inside.may_have_empty; told = c.self.inside.told } in
+    let new : Seen = record { has = c.destroy.new.self; left = c.destroy-2.new.self; may_have_empty = c.clear_mark.new.marks; told = None } in
     followed (On.Tenant t (Asked.Destroy c.args.number)) (Say.Destroyed c.args.frames) w x c.args.self.now new c.self.view_is (c.in_ok-on_still_answer.ensures ∙ (λ i. broken ((Promise.Refusals, is_none (c.due_of_destroy-due.ensures t w i)) ∷ (Promise.Gives, c.can_come_back-can_come.ensures i) ∷ (Promise.Still, c.are_frames_told-is_still.ensures i) ∷ [])))
     (λ kept. destroyed t c.args.number c.args.frames w x c.destroy.new.self c.destroy-2.new.self c.clear_mark.new.marks kept c.destroy.ensures c.destroy-2.ensures c.clear_mark.ensures)

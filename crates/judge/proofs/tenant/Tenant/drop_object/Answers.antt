@@ -20,7 +20,7 @@ returns-in_err-on_answer c t w = broken_off (On.Tenant t (Asked.Give c.args.numb
 pub invariant_of-self : goal.invariant_of-self
 unfolding state_after
 invariant_of-self c =
-    let x : Seen = record { has = c.self.inside.held; left = c.self.inside.left; hides = c.self.inside.hides; told = c.self.inside.told } in
+    let x : Seen = record { has = c.self.inside.held; left = c.self.inside.left; may_have_empty = c.self.inside.may_have_empty; told = c.self.inside.told } in
     let new : Seen = changed x c.give.new.self c.give-2.new.self in
     sound_in (On.Tenant 0 (Asked.Give c.args.number c.args.place)) Say.Given nothing x c.args.self.now new c.self.view_is c.self.invariant (c.in_ok-on_answer.ensures ∙ (λ i. broken ((Promise.Refusals, is_none (c.due_of_give.ensures 0 nothing i)) ∷ (Promise.Gives, true) ∷ [])))
     (λ kept. given 0 c.args.number c.args.place nothing x c.give.new.self c.give-2.new.self kept c.give.ensures c.give-2.ensures)
@@ -29,7 +29,7 @@ invariant_of-self c =
 pub returns : goal.returns
 unfolding state_after
 returns c t w =
-    let x : Seen = record { has = c.self.inside.held; left = c.self.inside.left; hides = c.self.inside.hides; told = c.self.inside.told } in
+    let x : Seen = record { has = c.self.inside.held; left = c.self.inside.left; may_have_empty = c.self.inside.may_have_empty; told = c.self.inside.told } in
     let new : Seen = changed x c.give.new.self c.give-2.new.self in
     subst (λ (told : Option Report). IsFollowed (On.Tenant t (Asked.Give c.args.number c.args.place)) Say.Given w c.args.self.now (record new { told = told })) (sym c.forget.ensures)
     (followed (On.Tenant t (Asked.Give c.args.number c.args.place)) Say.Given w x c.args.self.now new c.self.view_is (c.in_ok-on_answer.ensures ∙ (λ i. broken ((Promise.Refusals, is_none (c.due_of_give.ensures t w i)) ∷ (Promise.Gives, true) ∷ [])))

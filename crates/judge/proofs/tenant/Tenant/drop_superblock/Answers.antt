@@ -20,7 +20,7 @@ returns-in_err-on_answer-clause-judged c w = broken_off (On.Admin (Do.TakeBack c
 pub invariant_of-self : goal.invariant_of-self
 unfolding state_after
 invariant_of-self c =
-    let x : Seen = record { has = c.self.inside.held; left = c.self.inside.left; hides = c.self.inside.hides; told = c.self.inside.told } in
+    let x : Seen = record { has = c.self.inside.held; left = c.self.inside.left; may_have_empty = c.self.inside.may_have_empty; told = c.self.inside.told } in
     let new : Seen = changed x c.take_back.new.self c.take_back-2.new.self in
     sound_in (On.Admin (Do.TakeBack c.args.t c.args.slot)) (Say.TakenBack c.args.superblock) (record nothing { owners = c.args.owners.now }) x c.args.self.now new c.self.view_is c.self.invariant (c.in_ok-on_answer.ensures ∙ (λ i. broken ((Promise.Refusals, is_none (c.due_of_take_back.ensures c.args.t (record nothing { owners = c.args.owners.now }) i)) ∷ (Promise.Owners, c.is_owned_by-is_owned.ensures i) ∷ [])))
     (λ kept. taken_back c.args.t c.args.slot c.args.superblock (record nothing { owners = c.args.owners.now }) x c.take_back.new.self c.take_back-2.new.self kept c.take_back.ensures c.take_back-2.ensures) (slots_taken x new c.args.slot _ c.self.invariant c.take_back-2.ensures (ap (λ h. h.slots) c.take_back.ensures))
@@ -28,7 +28,7 @@ invariant_of-self c =
 pub returns-clause-judged : goal.returns-clause-judged
 unfolding state_after
 returns-clause-judged c w =
-    let x : Seen = record { has = c.self.inside.held; left = c.self.inside.left; hides = c.self.inside.hides; told = c.self.inside.told } in
+    let x : Seen = record { has = c.self.inside.held; left = c.self.inside.left; may_have_empty = c.self.inside.may_have_empty; told = c.self.inside.told } in
     let new : Seen = changed x c.take_back.new.self c.take_back-2.new.self in
     followed (On.Admin (Do.TakeBack c.args.t c.args.slot)) (Say.TakenBack c.args.superblock) (record w { owners = c.args.owners.now }) x c.args.self.now new c.self.view_is (c.in_ok-on_answer.ensures ∙ (λ i. broken ((Promise.Refusals, is_none (c.due_of_take_back.ensures c.args.t (record w { owners = c.args.owners.now }) i)) ∷ (Promise.Owners, c.is_owned_by-is_owned.ensures i) ∷ []))) (λ kept. taken_back c.args.t c.args.slot c.args.superblock (record w { owners = c.args.owners.now }) x c.take_back.new.self c.take_back-2.new.self kept c.take_back.ensures c.take_back-2.ensures)
 

@@ -11,7 +11,7 @@ use Rattle.judge.proofs.tenant.Tenant.due_of_take_back.Goals as goal
 
 pub returns-in-Some : goal.returns-in-Some
 returns-in-Some c t w =
-    let x : Seen = record { has = c.self.inside.held; left = c.self.inside.left; hides = c.self.inside.hides; told = c.self.inside.told } in
+    let x : Seen = record { has = c.self.inside.held; left = c.self.inside.left; may_have_empty = c.self.inside.may_have_empty; told = c.self.inside.told } in
     let same = c.in-Some.ensures.0 in
     let busy : c.is_slot_busy-is_busy.result ≡ is_slot_busy x.left.order x.has c.args.slot = c.is_slot_busy-is_busy.ensures ∙ (λ i. is_slot_busy (c.order.ensures.value i) x.has (same i)) in
     subst (λ (y : Seen). c.due_if.result ≡ due (On.Admin (Do.TakeBack t c.args.slot)) (known_at y w) (state_of y)) c.self.view_is
@@ -19,6 +19,6 @@ returns-in-Some c t w =
 
 pub returns-in-None : goal.returns-in-None
 returns-in-None c t w =
-    let x : Seen = record { has = c.self.inside.held; left = c.self.inside.left; hides = c.self.inside.hides; told = c.self.inside.told } in
+    let x : Seen = record { has = c.self.inside.held; left = c.self.inside.left; may_have_empty = c.self.inside.may_have_empty; told = c.self.inside.told } in
     subst (λ (y : Seen). Some Refusal.NoSlot ≡ due (On.Admin (Do.TakeBack t c.args.slot)) (known_at y w) (state_of y)) c.self.view_is
     (due_of_slot t c.args.slot w x false c.in-None.ensures)

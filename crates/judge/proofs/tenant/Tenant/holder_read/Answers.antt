@@ -22,13 +22,13 @@ use Rattle.judge.proofs.tenant.Tenant.holder_read.Goals as goal
 
 pub returns-in_default-clause-judged : goal.returns-in_default-clause-judged
 returns-in_default-clause-judged c t w =
-    let x : Seen = record { has = c.self.inside.held; left = c.self.inside.left; hides = c.self.inside.hides; told = c.self.inside.told } in
+    let x : Seen = record { has = c.self.inside.held; left = c.self.inside.left; may_have_empty = c.self.inside.may_have_empty; told = c.self.inside.told } in
     let none : holder_of x.has c.args.place c.args.len ≡ None = sym c.holder_of.ensures ∙ ap (option_map shown_holder) (none_of c.holder_of.result c.in_default.not-Some) in
     sym (subst (λ (y : Seen). tenant_verdict (On.Tenant t (Asked.Read c.args.place c.args.len)) (Say.Bytes (record { items = c.args.bytes.now })) w y ≡ Err Promise.Refusals) c.self.view_is (read_if t c.args.place c.args.len (record { items = c.args.bytes.now }) w x None none ∙ unread (nat_le 1 c.args.len && nat_le c.args.len MOST_BYTES) _))
 
 pub returns-then-not-is_length-clause-judged : goal.returns-then-not-is_length-clause-judged
 returns-then-not-is_length-clause-judged c t w =
-    let x : Seen = record { has = c.self.inside.held; left = c.self.inside.left; hides = c.self.inside.hides; told = c.self.inside.told } in
+    let x : Seen = record { has = c.self.inside.held; left = c.self.inside.left; may_have_empty = c.self.inside.may_have_empty; told = c.self.inside.told } in
     let h : Holder = shown_holder c.in-Some.holder in
     let some : holder_of x.has c.args.place c.args.len ≡ Some h = sym c.holder_of.ensures ∙ ap (option_map shown_holder) c.in-Some.is in
     let long : (nat_le 1 c.args.len && nat_le c.args.len MOST_BYTES) ≡ false = sym c.is_length.ensures ∙ c.if-not-is_length.true in
@@ -37,7 +37,7 @@ returns-then-not-is_length-clause-judged c t w =
 
 pub returns-then-bytes-len-clause-judged : goal.returns-then-bytes-len-clause-judged
 returns-then-bytes-len-clause-judged c t w =
-    let x : Seen = record { has = c.self.inside.held; left = c.self.inside.left; hides = c.self.inside.hides; told = c.self.inside.told } in
+    let x : Seen = record { has = c.self.inside.held; left = c.self.inside.left; may_have_empty = c.self.inside.may_have_empty; told = c.self.inside.told } in
     let h : Holder = shown_holder c.in-Some.holder in
     let some : holder_of x.has c.args.place c.args.len ≡ Some h = sym c.holder_of.ensures ∙ ap (option_map shown_holder) c.in-Some.is in
     let long : (nat_le 1 c.args.len && nat_le c.args.len MOST_BYTES) ≡ true = sym c.is_length.ensures ∙ c.if-not-is_length.false in
@@ -46,7 +46,7 @@ returns-then-bytes-len-clause-judged c t w =
 
 pub returns-then-not-may_read-clause-judged : goal.returns-then-not-may_read-clause-judged
 returns-then-not-may_read-clause-judged c t w =
-    let x : Seen = record { has = c.self.inside.held; left = c.self.inside.left; hides = c.self.inside.hides; told = c.self.inside.told } in
+    let x : Seen = record { has = c.self.inside.held; left = c.self.inside.left; may_have_empty = c.self.inside.may_have_empty; told = c.self.inside.told } in
     let h : Holder = shown_holder c.in-Some.holder in
     let some : holder_of x.has c.args.place c.args.len ≡ Some h = sym c.holder_of.ensures ∙ ap (option_map shown_holder) c.in-Some.is in
     let long : (nat_le 1 c.args.len && nat_le c.args.len MOST_BYTES) ≡ true = sym c.is_length.ensures ∙ c.if-not-is_length.false in
@@ -55,7 +55,7 @@ returns-then-not-may_read-clause-judged c t w =
 
 pub returns-clause-judged : goal.returns-clause-judged
 returns-clause-judged c t w =
-    let x : Seen = record { has = c.self.inside.held; left = c.self.inside.left; hides = c.self.inside.hides; told = c.self.inside.told } in
+    let x : Seen = record { has = c.self.inside.held; left = c.self.inside.left; may_have_empty = c.self.inside.may_have_empty; told = c.self.inside.told } in
     let h : Holder = shown_holder c.in-Some.holder in
     let some : holder_of x.has c.args.place c.args.len ≡ Some h = sym c.holder_of.ensures ∙ ap (option_map shown_holder) c.in-Some.is in
     let long : (nat_le 1 c.args.len && nat_le c.args.len MOST_BYTES) ≡ true = sym c.is_length.ensures ∙ c.if-not-is_length.false in
@@ -64,14 +64,14 @@ returns-clause-judged c t w =
 
 pub may_read-requires : goal.may_read-requires
 may_read-requires c j lt =
-    let x : Seen = record { has = c.self.inside.held; left = c.self.inside.left; hides = c.self.inside.hides; told = c.self.inside.told } in
+    let x : Seen = record { has = c.self.inside.held; left = c.self.inside.left; may_have_empty = c.self.inside.may_have_empty; told = c.self.inside.told } in
     let h : Holder = shown_holder c.in-Some.holder in
     let some : holder_of x.has c.args.place c.args.len ≡ Some h = sym c.holder_of.ensures ∙ ap (option_map shown_holder) c.in-Some.is in
     places_held x.has x.left c.self.invariant c.args.place c.args.len h some j (subst (λ n. j < n) (c.if-bytes-len.false) lt)
 
 pub returns-clause-is : goal.returns-clause-is
 returns-clause-is c =
-    let x : Seen = record { has = c.self.inside.held; left = c.self.inside.left; hides = c.self.inside.hides; told = c.self.inside.told } in
+    let x : Seen = record { has = c.self.inside.held; left = c.self.inside.left; may_have_empty = c.self.inside.may_have_empty; told = c.self.inside.told } in
     let h : Holder = shown_holder c.in-Some.holder in
     let some : holder_of x.has c.args.place c.args.len ≡ Some h = sym c.holder_of.ensures ∙ ap (option_map shown_holder) c.in-Some.is in
     (ap (λ (y : Seen). holder_of y.has c.args.place c.args.len) (sym c.self.view_is) ∙ some, c.if-bytes-len.false)

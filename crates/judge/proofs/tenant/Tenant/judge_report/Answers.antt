@@ -25,7 +25,7 @@ told_off event body w x promise (Err e) is broken = (sym broken ∙ ap (λ p. Er
 pub returns-in_err-on_still_answer : goal.returns-in_err-on_still_answer
 unfolding due state_after
 returns-in_err-on_still_answer c t w =
-    let x : Seen = record { has = c.self.inside.held; left = c.self.inside.left; hides = c.self.inside.hides; told = c.self.inside.told } in
+    let x : Seen = record { has = c.self.inside.held; left = c.self.inside.left; may_have_empty = c.self.inside.may_have_empty; told = c.self.inside.told } in
     let r = c.args.report.now in
     told_off (On.Tenant t Asked.Report) (Say.Report r) w c.args.self.now c.in_err-on_still_answer.field-0.0 c.from_residual.result c.from_residual.ensures.1
     (subst (λ (y : Seen). Err c.in_err-on_still_answer.field-0.0 ≡ tenant_verdict (On.Tenant t Asked.Report) (Say.Report r) w y) c.self.view_is
@@ -40,7 +40,7 @@ returns-in_err-on_still_answer c t w =
 pub returns : goal.returns
 unfolding due state_after
 returns c t w =
-    let x : Seen = record { has = c.self.inside.held; left = c.self.inside.left; hides = c.self.inside.hides; told = c.self.inside.told } in
+    let x : Seen = record { has = c.self.inside.held; left = c.self.inside.left; may_have_empty = c.self.inside.may_have_empty; told = c.self.inside.told } in
     let r = c.args.report.now in
     followed (On.Tenant t Asked.Report) (Say.Report r) w x c.args.self.now (record x { told = Some c.copy_of.result }) c.self.view_is
     (subst (λ (y : Seen). Ok tt ≡ tenant_verdict (On.Tenant t Asked.Report) (Say.Report r) w y) c.self.view_is (c.in_ok-on_still_answer.ensures ∙ (λ i. broken ((Promise.Refusals, true)

@@ -13,7 +13,7 @@ use Rattle.judge.proofs.tenant.Tenant.read_bytes.Goals as goal
 
 pub invariant_of-self : goal.invariant_of-self
 invariant_of-self c =
-    let x : Seen = record { has = c.self.inside.held; left = c.self.inside.left; hides = c.self.inside.hides; told = c.self.inside.told } in
+    let x : Seen = record { has = c.self.inside.held; left = c.self.inside.left; may_have_empty = c.self.inside.may_have_empty; told = c.self.inside.told } in
     let new : Seen = record x { left = c.put.new.self } in
     sound_in (On.Tenant 0 (Asked.Read c.args.place c.args.len)) (Say.Bytes (record { items = c.args.bytes.now })) nothing x c.args.self.now new c.self.view_is c.self.invariant (c.in_ok-holder.ensures.judged 0 nothing)
     (λ kept. read 0 c.args.place c.args.len (record { items = c.args.bytes.now }) nothing x c.put.new.self (shown_holder c.in_ok-holder.holder) (ap (λ (y : Seen). holder_of y.has c.args.place c.args.len) c.self.view_is ∙ c.in_ok-holder.ensures.is.0) c.put.ensures kept)
@@ -21,7 +21,7 @@ invariant_of-self c =
 
 pub returns : goal.returns
 returns c t w =
-    let x : Seen = record { has = c.self.inside.held; left = c.self.inside.left; hides = c.self.inside.hides; told = c.self.inside.told } in
+    let x : Seen = record { has = c.self.inside.held; left = c.self.inside.left; may_have_empty = c.self.inside.may_have_empty; told = c.self.inside.told } in
     let new : Seen = record x { left = c.put.new.self } in
     followed (On.Tenant t (Asked.Read c.args.place c.args.len)) (Say.Bytes (record { items = c.args.bytes.now })) w x c.args.self.now new c.self.view_is (c.in_ok-holder.ensures.judged t w)
     (λ kept. read t c.args.place c.args.len (record { items = c.args.bytes.now }) w x c.put.new.self (shown_holder c.in_ok-holder.holder) (ap (λ (y : Seen). holder_of y.has c.args.place c.args.len) c.self.view_is ∙ c.in_ok-holder.ensures.is.0) c.put.ensures kept)

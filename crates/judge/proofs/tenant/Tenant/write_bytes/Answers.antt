@@ -14,7 +14,7 @@ use Rattle.judge.proofs.tenant.Tenant.write_bytes.Goals as goal
 
 pub invariant_of-self : goal.invariant_of-self
 invariant_of-self c =
-    let x : Seen = record { has = c.self.inside.held; left = c.self.inside.left; hides = c.self.inside.hides; told = c.self.inside.told } in
+    let x : Seen = record { has = c.self.inside.held; left = c.self.inside.left; may_have_empty = c.self.inside.may_have_empty; told = c.self.inside.told } in
     let new : Seen = record x { left = c.put.new.self } in
     let put = subst (λ bs. Becomes x.left (left_slots x.left) (with_bytes (shown_holder c.in_ok-holder.holder) c.args.place bs) c.put.new.self) c.as_slice.ensures.value c.put.ensures in
     sound_in (On.Tenant 0 (Asked.Write c.args.place c.args.bytes.now)) (Say.Written c.args.count) nothing x c.args.self.now new c.self.view_is c.self.invariant (c.in_ok-holder.ensures.judged 0 nothing)
@@ -23,7 +23,7 @@ invariant_of-self c =
 
 pub returns : goal.returns
 returns c t w =
-    let x : Seen = record { has = c.self.inside.held; left = c.self.inside.left; hides = c.self.inside.hides; told = c.self.inside.told } in
+    let x : Seen = record { has = c.self.inside.held; left = c.self.inside.left; may_have_empty = c.self.inside.may_have_empty; told = c.self.inside.told } in
     let new : Seen = record x { left = c.put.new.self } in
     let put = subst (λ bs. Becomes x.left (left_slots x.left) (with_bytes (shown_holder c.in_ok-holder.holder) c.args.place bs) c.put.new.self) c.as_slice.ensures.value c.put.ensures in
     followed (On.Tenant t (Asked.Write c.args.place c.args.bytes.now)) (Say.Written c.args.count) w x c.args.self.now new c.self.view_is (c.in_ok-holder.ensures.judged t w)

@@ -1,6 +1,6 @@
 use Rattle.std.proofs.Common.{◌≡◌, ◌+◌, ◌*◌, ◌^◌, filter, ap, ◌∙◌}
 use Rattle.model_core.specs.Blocks.{Block}
-use Rattle.promise_core.specs.Holdings.{ToldCache, slab_around}
+use Rattle.promise_core.specs.Holdings.{KnownCache, slab_around}
 use Rattle.judge_core.proofs.Keys.{is_within}
 use Rattle.judge_core.proofs.Slabs.{in_slab}
 use Rattle.judge_core.proofs.cache.HeldCache.beside.Goals as goal
@@ -14,5 +14,5 @@ returns c =
     let is_b : b ≡ 4096 * ((slab_around told c.args.place).first + 2 ^ told.order) = c.end_byte.ensures.value
     ∙ ap (λ (x : Block). 4096 * (x.first + 2 ^ x.order)) c.slab_around-slab.ensures in
     c.all_within.ensures
-    ∙ ap (filter (is_within (λ p. p) a b)) (c.deref.ensures.value ∙ ap (λ (t : ToldCache). t.live) c.self.view_is)
+    ∙ ap (filter (is_within (λ p. p) a b)) (c.deref.ensures.value ∙ ap (λ (t : KnownCache). t.live) c.self.view_is)
     ∙ (λ i. filter (λ p. in_slab told c.args.place a b p is_a is_b i) told.live)

@@ -5,7 +5,7 @@ use Rattle.std.specs.List.Sorted.{IsNonDecreasing}
 use Rattle.std.proofs.lemmas.List.{take_all}
 use Rattle.std.proofs.lemmas.List.Sorted.{IsNonDecreasingBy-drop}
 use Rattle.model_core.specs.Blocks.{Block}
-use Rattle.promise_core.specs.Holdings.{ToldCache, slab_around}
+use Rattle.promise_core.specs.Holdings.{KnownCache, slab_around}
 use Rattle.judge_core.proofs.Marks.{has_over, has_over_block, or_false, any_from, slab_passed, goes_on, none_behind}
 use Rattle.judge_core.proofs.cache.HeldCache.mark_slabs.Goals as goal
 
@@ -15,7 +15,7 @@ slabs-init c =
     let n = c.count_below.result in
     let a = c.first_byte-begin.result in
     let xs = c.deref.result.now in
-    let live : c.self.inside.live.items ≡ told.live = ap (λ (t : ToldCache). t.live) c.self.view_is in
+    let live : c.self.inside.live.items ≡ told.live = ap (λ (t : KnownCache). t.live) c.self.view_is in
     let is_a : a ≡ 4096 * (c.args.slot.now.first / 2 ^ told.order * 2 ^ told.order) = c.first_byte-begin.ensures.value
     ∙ ap (λ (b : Block). 4096 * b.first) c.around.ensures ∙ ap (λ n. 4096 * (n / 2 ^ c.order.result * 2 ^ c.order.result)) c.first.ensures
     ∙ ap (λ k. 4096 * (c.args.slot.now.first / 2 ^ k * 2 ^ k)) c.order.ensures.value in

@@ -4,7 +4,7 @@ use Rattle.std.specs.List.{list_any}
 use Rattle.std.proofs.Math.Bool.{not-not}
 use Rattle.model_core.specs.Blocks.{block}
 use Rattle.model_core.specs.Operations.{overlaps}
-use Rattle.promise_core.specs.Holdings.{Holdings, ToldCache, slab_around}
+use Rattle.promise_core.specs.Holdings.{Holdings, KnownCache, slab_around}
 use Rattle.judge_core.proofs.Lists.{vacant_is}
 use Rattle.judge_core.proofs.Pages.{overlap_near}
 use Rattle.judge_core.proofs.held.Held.taken_in.Goals as goal
@@ -23,8 +23,8 @@ returns-clause-taken c = λ f less.
     let over = overlap_near (block x 0) b x (x + 2 ^ 0) refl refl e in
     (omega (arith, over.0, c.from.ensures, c.first.ensures), omega (arith, over.1, c.end.ensures.value, less))) in
     let caches : c.deref.result.now ≡ told.caches = c.deref.ensures.value ∙ ap (λ (h : Holdings). h.caches) c.self.view_is in
-    let slabs = λ (cs : List ToldCache). list_any (λ y. list_any (λ p. overlaps (block x 0) (slab_around y p)) y.live) cs in
+    let slabs = λ (cs : List KnownCache). list_any (λ y. list_any (λ p. overlaps (block x 0) (slab_around y p)) y.live) cs in
     c.mark_caches.ensures f less
     ∙ ap (λ v. v || slabs c.deref.result.now) (c.mark_blocks.ensures f less ∙ ap (λ v. v || list_any (overlaps (block x 0)) c.pages_near-pages.result.now) (none_marked 256 f) ∙ sym near)
-    ∙ ap (λ (cs : List ToldCache). list_any (overlaps (block x 0)) told.pages || slabs cs) caches
+    ∙ ap (λ (cs : List KnownCache). list_any (overlaps (block x 0)) told.pages || slabs cs) caches
     ∙ sym (ap not (vacant_is told (block x 0)) ∙ not-not _)
